@@ -1,0 +1,33 @@
+-- What contracts see of a board.
+use Rattle.std.specs.Prelude.{ℕ, ◌≡◌, Bool, List, Option, Some, None, length, All, ⊤}
+use Rattle.pmem_base.specs.declared.lines.Line.{Line}
+use Rattle.pmem_base.specs.declared.registers.Regs.{Regs}
+use Rattle.pmem_base.specs.Lines.{IsLine}
+
+pub record Device : Type 0 where
+  pub size : ℕ
+  -- the lines, where the board tells them
+  pub lines : Option (List Line)
+  pub regs : Regs
+  -- no call is answered by a cut
+  pub steady : Bool
+  -- power is on
+  pub live : Bool
+  pub reads : ℕ
+  pub writes : ℕ
+  pub latches : ℕ
+  pub cuts : ℕ
+
+-- so many lines, of 64 bytes each
+pub record AreLinesOf (size : ℕ) (lines : List Line) : Type 0 where
+  pub count : length lines ≡ size
+  pub each : All IsLine lines
+
+-- so many lines, where told
+abbrev pub AreToldLines : ℕ → Option (List Line) → Type 0
+AreToldLines size None = ⊤
+AreToldLines size (Some lines) = AreLinesOf size lines
+
+-- the lines that the board tells are as many as its size
+abbrev pub IsDevice : Device → Type 0
+IsDevice device = AreToldLines device.size device.lines

@@ -1,0 +1,10 @@
+//! A device of lines and a register file, whose power may be cut between two persist steps.
+#![tactic(auto)]
+
+mod device;
+mod memory;
+#[cfg(test)]
+mod tests;
+
+pub use device::Board;
+pub use memory::MemBoard;

@@ -1,0 +1,55 @@
+//! Commit groups: lines that are written as one act, by the registers of a board.
+#![tactic(auto)]
+
+ghost use Rattle.std.specs.Prelude.{◌≡◌, ◌≢◌, ◌<◌, [], All, length, IsOk, OnOk, OnErr};
+ghost use Rattle.pmem_base.specs.Registers.{IsGroup};
+ghost use Rattle.board.specs.Steps.{HasLatched, WasCut};
+ghost use Rattle.commit_regs.specs.Groups.{HasRedone, HasFinished, IsInterrupted};
+
+use board::Board;
+use pmem_base::{Cut, Line, Regs};
+
+/// Arms a group by one latch of the next registers: from then on its lines count as written. `Cut`
+/// changes nothing.
+pub fn arm<B: Board>(board: &mut B, next: &Regs) -> Result<(), Cut>
+    requires unarmed { (B.device board.old).regs.group.items ≡ [] }
+    requires armed { next.now.group.items ≢ [] }
+    requires group { IsGroup (B.device board.old).size next.now.group.items }
+    ensures ok { OnOk result (HasLatched (B.device board.old) next.now (B.device board.new)) }
+    ensures cut { OnErr result (WasCut (B.device board.old) (B.device board.new)) }
+{
+    board.latch(next)
+}
+
+/// Finishes the armed group: writes its lines in order, and empties it by one latch. Where no group
+/// is armed it does nothing. After `Cut` the group is still armed, and finishing it again makes of
+/// the lines what finishing it would have made of them.
+pub fn finish<B: Board>(board: &mut B) -> Result<(), Cut>
+    requires { IsGroup (B.device board.old).size (B.device board.old).regs.group.items }
+    ensures ok { OnOk result (HasFinished (B.device board.old) (B.device board.new)) }
+    ensures cut { OnErr result
+        (IsInterrupted (B.device board.old).regs.group.items (B.device board.old) (B.device board.new)) }
+    ensures empty { (B.device board.old).regs.group.items ≡ [] → IsOk result × (board.new ≡ board.old) }
+{
+    let regs = board.regs().same();
+    if regs.group.is_empty() {
+        return Ok(());
+    }
+    write_all(board, regs.group.as_slice())?;
+    board.latch(&regs.emptied())
+}
+
+/// Writes the lines of a group in order.
+fn write_all<B: Board>(board: &mut B, group: &[(u32, Line)]) -> Result<(), Cut>
+    requires { All (λ entry. entry.0 < (B.device board.old).size) group.now }
+    ensures ok { OnOk result (HasRedone (B.device board.old) group.now (B.device board.new)) }
+    ensures cut { OnErr result (IsInterrupted group.now (B.device board.old) (B.device board.new)) }
+{
+    for (at, line) in group {
+        board.write_line(*at, line)?;
+    }
+    Ok(())
+}
+
+#[cfg(test)]
+mod tests;

@@ -1,0 +1,9 @@
+-- The bytes copied are the key, and what is left of the block is zeros.
+use Rattle.std.proofs.Common.{◌++◌, length, ap}
+use Rattle.std.proofs.lemmas.List.{drop-replicate}
+use Rattle.mac_tags.proofs.padded.Goals as goal
+
+pub returns : goal.returns
+returns c =
+    rw c.copy_from_slice.ensures.after
+    (ap (λ rest. c.args.key.now ++ rest) (drop-replicate (length c.args.key.now) 64 0))

@@ -1,0 +1,7 @@
+pub mod ListLemmas
+pub mod SetLemmas
+pub mod WayLemmas
+pub mod FormLemmas
+pub mod CacheLemmas
+pub mod StepLemmas
+pub mod DirtyLemmas

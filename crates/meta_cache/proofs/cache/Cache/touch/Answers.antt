@@ -1,0 +1,53 @@
+-- The set of the position is changed in its bank.
+use Rattle.std.proofs.Common.{List}
+use Rattle.pmem_base.specs.Geo.{shape_of}
+use Rattle.meta_cache.specs.Banks.{Slot, set_of}
+use Rattle.meta_cache.specs.Sets.{touched}
+use Rattle.meta_cache.proofs.FormLemmas.{IsSetOf-touched}
+use Rattle.meta_cache.specs.State.{slots_of}
+use Rattle.meta_cache.proofs.WayLemmas.{KeepsWays-touched}
+use Rattle.meta_cache.proofs.StepLemmas.{IsStep, keeps_form, changes_set, is_there}
+use Rattle.meta_cache.proofs.cache.Cache.touch.Goals as goal
+
+pub invariant_of-self : goal.invariant_of-self
+invariant_of-self c =
+    let change : List Slot → List Slot = λ slots. touched slots c.args.x in
+    let g = shape_of c.self.inside.geo in
+    let banks = c.self.inside.banks.items in
+    let step : IsStep change g banks c.args.self.now c.args.bank c.args.x c.set_of-n.result c.from.result
+    c.index_mut-bank.result.now c.touch.new.self =
+    record {
+      view = c.self.view_is;
+      form = c.self.invariant;
+      low = c.requires.bank;
+      index = c.set_of-n.ensures.value;
+      within = c.set_of-n.ensures.within;
+      place = c.from.ensures;
+      read = c.index_mut-bank.ensures.value;
+      written = c.touch.ensures;
+    } in
+    keeps_form change g banks c.args.self.now c.args.bank c.args.x c.set_of-n.result c.from.result
+    c.index_mut-bank.result.now c.touch.new.self step
+    (IsSetOf-touched g c.set_of-n.result (set_of banks c.args.bank c.set_of-n.result) c.args.x
+    (is_there change g banks c.args.self.now c.args.bank c.args.x c.set_of-n.result c.from.result
+    c.index_mut-bank.result.now c.touch.new.self step c.requires.cached)
+    (c.self.invariant.each_set c.args.bank c.set_of-n.result))
+
+pub returns : goal.returns
+returns c =
+    let change : List Slot → List Slot = λ slots. touched slots c.args.x in
+    let g = shape_of c.self.inside.geo in
+    let banks = c.self.inside.banks.items in
+    changes_set change g banks c.args.self.now c.args.bank c.args.x c.set_of-n.result c.from.result
+    c.index_mut-bank.result.now c.touch.new.self
+    (record {
+      view = c.self.view_is;
+      form = c.self.invariant;
+      low = c.requires.bank;
+      index = c.set_of-n.ensures.value;
+      within = c.set_of-n.ensures.within;
+      place = c.from.ensures;
+      read = c.index_mut-bank.ensures.value;
+      written = c.touch.ensures;
+    })
+    (KeepsWays-touched (slots_of c.args.self.now c.args.bank c.args.x) c.args.x)

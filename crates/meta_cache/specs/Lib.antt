@@ -1,0 +1,4 @@
+pub mod Alone
+pub mod Banks
+pub mod Sets
+pub mod State

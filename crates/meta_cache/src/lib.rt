@@ -1,0 +1,12 @@
+//! The metadata cache: a bank for each level, of sets of ways, by recency.
+#![tactic(auto)]
+
+mod bank;
+mod cache;
+mod set;
+mod slot;
+#[cfg(test)]
+mod tests;
+
+pub use cache::Cache;
+pub use slot::Slot;

@@ -1,0 +1,4 @@
+pub mod DoneBits
+pub mod LinesLeft
+pub mod Places
+pub mod Holding

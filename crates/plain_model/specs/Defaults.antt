@@ -1,0 +1,17 @@
+-- What a run has where the command line doesn't say otherwise.
+use Rattle.std.specs.Prelude.{ℕ, List}
+use Rattle.std.specs.List.{range_with_len}
+use Rattle.pmem_base.specs.Shape.{Shape}
+use Rattle.suite.specs.Aes.{aes_formulas}
+use Rattle.suite.specs.Setup.{Setup}
+
+-- two levels of nodes, four sets of two ways in each bank, windows of four minors, major 0 at first
+unfoldable pub default_shape : Shape
+default_shape = record { levels = 2; sets = 4; ways = 2; loss = 4; major = 0 }
+
+-- the key's bytes are 00 to 0f, and the tag key's 10 to 2f
+unfoldable pub default_keys : List ℕ
+default_keys = range_with_len 0 48
+
+unfoldable pub default_setup : Setup
+default_setup = record { shape = default_shape; formulas = aes_formulas default_keys }

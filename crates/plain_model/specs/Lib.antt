@@ -1,0 +1,15 @@
+pub mod State
+pub mod View
+pub mod Asked
+pub mod After
+pub mod Answers
+pub mod Legal
+pub mod Bounds
+pub mod Fits
+pub mod Shown
+pub mod Lines
+pub mod Words
+pub mod Grammar
+pub mod Texts
+pub mod Run
+pub mod Defaults

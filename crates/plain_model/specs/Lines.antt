@@ -1,0 +1,26 @@
+-- How the bytes of a trace are cut into lines.
+use Rattle.std.specs.Prelude.{ℕ, ◌≡◌, ◌-◌, ◌==◌, Bool, false, List, [], ◌∷◌, ◌++◌, length, take, slice_index, All, if◌then◌else◌}
+use Rattle.std.specs.List.{onto_first}
+
+-- LF
+abbrev pub is_line_end : ℕ → Bool
+is_line_end byte = byte == 10
+
+-- A line ends with LF or with the end of the trace. What follows the last LF is a line where it has a byte.
+unfoldable pub lines_of : List ℕ → List (List ℕ)
+lines_of [] = []
+lines_of (byte ∷ bytes) =
+    if is_line_end byte then [] ∷ lines_of bytes else onto_first byte (lines_of bytes)
+
+-- a line with its LF
+abbrev pub ended : List ℕ → List ℕ
+ended line = line ++ 10 ∷ []
+
+-- these bytes have no LF
+abbrev pub IsWithin : List ℕ → Type 0
+IsWithin bytes = All (λ byte. is_line_end byte ≡ false) bytes
+
+-- the line without one CR at its end
+unfoldable pub without_return : List ℕ → List ℕ
+without_return line =
+    if slice_index line (length line - 1) == 13 then take (length line - 1) line else line

@@ -1,0 +1,24 @@
+//! The plain machine that a user sees, the language of its traces, and what a run prints.
+//! Definitions alone: nothing here is executed.
+#![tactic(auto)]
+
+use pmem_base::Kind;
+
+/// Why a run ends.
+#[derive(Clone, Copy, Debug, PartialEq, Eq)]
+pub enum Stop {
+    /// The trace was read to its end.
+    Finished,
+    /// Memory could not be had.
+    Memory,
+    /// The words of the command line break its rules.
+    Words,
+    /// The source failed.
+    ReadFault,
+    /// The sink failed.
+    WriteFault,
+    /// Line `number`, counted from 1, isn't in the grammar.
+    Refused { number: u32, kind: Kind },
+    /// A byte follows the greatest number of lines.
+    TooManyLines,
+}

@@ -1,0 +1,56 @@
+-- Texts that were printed one after the other.
+use Rattle.std.proofs.Common.{◌∙◌, List, ℕ, [], ◌++◌, sym, ap, append_assoc, append-nil}
+use Rattle.std.specs.Prelude.{Option, Result, Ok, Err, OnErr}
+use Rattle.std.specs.Io.KnownBytes.{Appends}
+use Rattle.std.proofs.KnownBytes.{Appends-nil, Appends-trans}
+use Rattle.pmem_cli.specs.Printed.{Output, Prints, PrintsFront, with_waiting}
+
+-- nothing was printed
+pub Prints-nil : (a : Output) → Prints a a []
+Prints-nil a = record { done = []; in_order = append-nil a.waiting; appended = Appends-nil a.put }
+
+pub Prints-trans : (a b c : Output) (s t : List ℕ) → Prints a b s → Prints b c t → Prints a c (s ++ t)
+Prints-trans a b c s t first second = record {
+  done = first.done ++ second.done;
+  in_order =
+      sym (append_assoc a.waiting s t) ∙ ap (λ l. l ++ t) first.in_order ∙ append_assoc first.done b.waiting t
+      ∙ ap (λ l. first.done ++ l) second.in_order ∙ sym (append_assoc first.done second.done c.waiting);
+  appended = Appends-trans a.put b.put c.put first.done second.done first.appended second.appended;
+}
+
+-- what was printed is put in part
+pub Prints-front : (a b : Output) (s : List ℕ) → Prints a b s → PrintsFront a b s
+Prints-front a b s printed = record { done = printed.done; rest = b.waiting; cut = printed.in_order; appended = printed.appended }
+
+pub PrintsFront-trans : (a b c : Output) (s t : List ℕ) → Prints a b s → PrintsFront b c t → PrintsFront a c (s ++ t)
+PrintsFront-trans a b c s t first second = record {
+  done = first.done ++ second.done;
+  rest = second.rest;
+  cut =
+      sym (append_assoc a.waiting s t) ∙ ap (λ l. l ++ t) first.in_order ∙ append_assoc first.done b.waiting t
+      ∙ ap (λ l. first.done ++ l) second.cut ∙ sym (append_assoc first.done second.done second.rest);
+  appended = Appends-trans a.put b.put c.put first.done second.done first.appended second.appended;
+}
+
+-- more text may follow
+pub PrintsFront-more : (a b : Output) (s t : List ℕ) → PrintsFront a b s → PrintsFront a b (s ++ t)
+PrintsFront-more a b s t front = record {
+  done = front.done;
+  rest = front.rest ++ t;
+  cut = sym (append_assoc a.waiting s t) ∙ ap (λ l. l ++ t) front.cut ∙ append_assoc front.done front.rest t;
+  appended = front.appended;
+}
+
+-- where nothing waited, and nothing waits, all was put
+pub Prints-whole : (p q : Option (List ℕ)) (s : List ℕ) → Prints (with_waiting p []) (with_waiting q []) s → Appends p q s
+Prints-whole p q s printed = rw (printed.in_order ∙ append-nil printed.done) printed.appended
+
+-- what holds at a failure, by a fact that holds there
+pub OnErr-map : {T E : Type 0} (result : Result T E) (P Q : Type 0) → (P → Q) → OnErr result P → OnErr result Q
+OnErr-map (Ok value) P Q follows holds = tt
+OnErr-map (Err error) P Q follows holds = follows holds
+
+-- a fact holds at a failure, if it holds
+pub OnErr-fact : {T E : Type 0} (result : Result T E) (P : Type 0) → P → OnErr result P
+OnErr-fact (Ok value) P holds = tt
+OnErr-fact (Err error) P holds = holds

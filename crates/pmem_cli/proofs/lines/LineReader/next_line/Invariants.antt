@@ -1,0 +1,20 @@
+use Rattle.std.proofs.Common.{◌≡◌, ◌≤◌, ◌-◌, length}
+use Rattle.std.specs.Prelude.{Contains}
+use Rattle.std.specs.Io.KnownBytes.{Consumes, prepend_known}
+use Rattle.plain_model.specs.Lines.{IsWithin}
+use Rattle.pmem_cli.proofs.lines.LineReader.next_line.Given as goal
+
+abbrev pub invariant-pieces : goal.invariant-pieces
+invariant-pieces g l =
+    record {
+      taken :
+          Consumes (prepend_known l.initial.self (g.S.Source.left l.initial.source)) (prepend_known l.self (g.S.Source.left l.source)) l.line.items;
+      within : IsWithin l.line.items;
+      short : length l.line.items ≤ 1024;
+      later : g.S.Source.faults l.initial.source ≤ g.S.Source.faults l.source;
+      at_hand : Contains l.initial.self 10 → l.self ≡ l.initial.self;
+      unpulled : Contains l.initial.self 10 → l.source ≡ l.initial.source;
+    }
+
+abbrev pub decreases-pieces : goal.decreases-pieces
+decreases-pieces g l = 1025 - length l.line.items

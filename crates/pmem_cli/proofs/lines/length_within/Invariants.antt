@@ -1,0 +1,6 @@
+use Rattle.std.proofs.Common.{◌≡◌, ℕ, ◌<◌, get_or, false}
+use Rattle.plain_model.specs.Lines.{is_line_end}
+use Rattle.pmem_cli.proofs.lines.length_within.Given as goal
+
+abbrev pub invariant-loop-i : goal.invariant-loop-i
+invariant-loop-i l = (k : ℕ) → k < l.i → is_line_end (get_or l.bytes k 0) ≡ false

@@ -1,0 +1,11 @@
+pub mod Causes
+pub mod Memory
+pub mod StdParts
+pub mod Printed
+pub mod Pieces
+pub mod Options
+pub mod Running
+pub mod Standing
+pub mod World
+pub mod Served
+pub mod HasRun

@@ -1,0 +1,66 @@
+-- What one call leaves of a run: the lines that it took, the replies that it printed, and how it stopped.
+use Rattle.std.specs.Prelude.{◌≡◌, ◌≢◌, ◌≤◌, ℕ, List, [], ◌∷◌, All, IfSome, Option, Some, None, Err}
+use Rattle.std.specs.List.{flat_map}
+use Rattle.std.specs.Io.KnownBytes.{Consumes}
+use Rattle.plain_model.specs.declared.Stop.{Stop}
+use Rattle.plain_model.specs.declared.Stop.TheVariants.{Finished, Memory, Words, ReadFault, WriteFault, Refused, TooManyLines}
+use Rattle.plain_model.specs.Lines.{IsWithin, ended}
+use Rattle.plain_model.specs.Grammar.{reading_of}
+use Rattle.plain_model.specs.Run.{Step, steps_text, machine_after_all, IsRunFrom, EndsFrom}
+use Rattle.pmem_cli.specs.Causes.{Rose}
+use Rattle.pmem_cli.specs.Printed.{Output, Prints, PrintsFront}
+use Rattle.pmem_cli.specs.Standing.{Standing}
+
+-- These lines were answered by these replies, which were printed.
+pub record HasAnswered (before after : Standing) (from to : Output) (lines : List (List ℕ)) (steps : List Step) : Type 0 where
+  pub run : IsRunFrom before.setup before.machine lines steps
+  pub setup : after.setup ≡ before.setup
+  pub machine : after.machine ≡ machine_after_all before.setup before.machine steps
+  pub printed : Prints from to (steps_text steps)
+
+-- These lines were taken from what was ahead, and answered.
+pub record HasServed (ahead behind : Option (List ℕ)) (before after : Standing) (from to : Output) (lines : List (List ℕ))
+    (steps : List Step) : Type 0 where
+  pub taken : Consumes ahead behind (flat_map ended lines)
+  pub within : All IsWithin lines
+  pub answered : HasAnswered before after from to lines steps
+
+-- The run stops here, after so many lines, and so much is left of the source. Where the sink didn't
+-- fail, all replies were printed.
+pub record HasStopped (stop : Stop) (ahead left : Option (List ℕ)) (before : Standing) (from to : Output) (served : ℕ) : Type 0 where
+  pub steps : List Step
+  pub ends : IfSome ahead (λ bytes. EndsFrom before.setup before.machine served stop bytes left steps)
+  pub front : PrintsFront from to (steps_text steps)
+  pub whole : stop ≢ WriteFault → Prints from to (steps_text steps)
+
+-- the sink failed at the reply to this line
+pub record IsUntold (before : Standing) (from to : Output) (line : List ℕ) : Type 0 where
+  pub steps : List Step
+  pub run : IsRunFrom before.setup before.machine (line ∷ []) steps
+  pub front : PrintsFront from to (steps_text steps)
+
+-- how one line was answered, or why the run stops at it
+abbrev pub AnswersLine : Option Stop → List ℕ → ℕ → Standing → Standing → Output → Output → Type 0
+AnswersLine None line number before after from to = (steps : List Step) × HasAnswered before after from to (line ∷ []) steps
+AnswersLine (Some (Refused n kind)) line number before after from to = (n ≡ number) × (reading_of line ≡ Err kind) × (to ≡ from)
+AnswersLine (Some WriteFault) line number before after from to = IsUntold before from to line
+AnswersLine (Some Finished) line number before after from to = ⊥
+AnswersLine (Some Memory) line number before after from to = ⊥
+AnswersLine (Some Words) line number before after from to = ⊥
+AnswersLine (Some ReadFault) line number before after from to = ⊥
+AnswersLine (Some TooManyLines) line number before after from to = ⊥
+
+-- one turn: a line was served, or the run stopped
+abbrev pub Turns : Option Stop → Option (List ℕ) → Option (List ℕ) → Option (List ℕ) → Standing → Standing → Output → Output → ℕ → Type 0
+Turns None ahead behind left before after from to served =
+    (line : List ℕ) × (steps : List Step) × HasServed ahead behind before after from to (line ∷ []) steps
+Turns (Some stop) ahead behind left before after from to served = HasStopped stop ahead left before from to served
+
+-- The stops that a fault causes come only where its count rose, and neither words nor memory are at fault.
+pub record StopsByCause (stop : Option Stop) (reads_before reads_now writes_before writes_now : ℕ) : Type 0 where
+  pub reads : reads_before ≤ reads_now
+  pub writes : writes_before ≤ writes_now
+  pub read : stop ≡ Some ReadFault → Rose reads_before reads_now
+  pub write : stop ≡ Some WriteFault → Rose writes_before writes_now
+  pub words : stop ≡ Some Words → ⊥
+  pub memory : stop ≡ Some Memory → ⊥

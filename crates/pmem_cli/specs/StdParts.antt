@@ -1,0 +1,18 @@
+-- What a clause reads of a source over a reader, and of a sink over a writer.
+use Rattle.std.specs.Prelude.{ℕ}
+use Rattle.pmem_cli.specs.declared.source.StdSource.{StdSource}
+use Rattle.pmem_cli.specs.declared.sink.StdSink.{StdSink}
+
+abbrev pub reader_of : {R : Type 0} → StdSource R → R
+reader_of source = source.inner
+
+-- how often a pull failed
+abbrev pub pull_faults : {R : Type 0} → StdSource R → ℕ
+pull_faults source = source.faults
+
+abbrev pub writer_of : {W : Type 0} → StdSink W → W
+writer_of sink = sink.inner
+
+-- how often a push failed
+abbrev pub push_faults : {W : Type 0} → StdSink W → ℕ
+push_faults sink = sink.faults

@@ -1,0 +1,190 @@
+//! The lines of a source, pulled in chunks.
+ghost use Rattle.std.specs.Prelude.{◌≡◌, ◌<◌, ◌≤◌, ◌+◌, ◌++◌, ◌↔◌, [], length, IfOk, OnErr, IsTrue, Contains, false};
+ghost use Rattle.std.specs.List.{position_or_len};
+ghost use Rattle.std.specs.Io.KnownBytes.{Keeps, IsAtEnd, prepend_known};
+ghost use Rattle.plain_model.specs.Lines.{is_line_end};
+ghost use Rattle.pmem_cli.specs.Causes.{HasCause};
+
+use crate::source::{Failed, Source};
+use arrayvec::ArrayVec;
+use std::marker::Model;
+
+/// The bytes that a line may have before its LF.
+pub(crate) const LINE_BYTES: usize = 1024;
+
+/// The bytes that one pull may bring.
+const CHUNK_BYTES: usize = 16_384;
+
+/// What ended a piece of a line.
+#[derive(Clone, Copy, Debug, PartialEq, Eq)]
+enum Piece {
+    /// Its LF.
+    Ended,
+    /// The end of what is at hand.
+    Part,
+    /// The greatest length.
+    TooLong,
+}
+
+/// What stands ahead.
+#[derive(Clone, Copy, Debug, PartialEq, Eq)]
+pub(crate) enum Found {
+    /// A line with its LF.
+    Line,
+    /// A line that the trace's end ends.
+    Last,
+    /// A line of more bytes than a line may have.
+    Long,
+    /// No byte.
+    End,
+}
+
+/// The bytes that were pulled and aren't read yet.
+#[derive(Drop)]
+pub(crate) struct LineReader {
+    chunk: [u8; CHUNK_BYTES],
+    at: usize,
+    end: usize,
+}
+
+impl Model for LineReader {
+    ghost use Rattle.std.specs.Prelude.{◌-◌, ◌≤◌, ℕ, List, take, drop};
+
+    ghost Value = { List ℕ };
+
+    ghost view = { λ reader. take (reader.end - reader.at) (drop reader.at reader.chunk) };
+
+    ghost invariant = { λ reader. (reader.at ≤ reader.end) × (reader.end ≤ 16384) };
+}
+
+/// The number of bytes before the first LF.
+fn length_within(bytes: &[u8]) -> usize
+    ensures count { result ≡ position_or_len is_line_end bytes.now }
+    ensures within { result ≤ length bytes.now }
+{
+    for (i, byte) in bytes.iter().enumerate() {
+        if *byte == b'\n' {
+            return i;
+        }
+    }
+    bytes.len()
+}
+
+/// Appends bytes that have room.
+fn append(line: &mut ArrayVec<u8, LINE_BYTES>, bytes: &[u8])
+    requires { length line.old.items + length bytes.now ≤ 1024 }
+    ensures items { line.new.items ≡ line.old.items ++ bytes.now }
+    ensures fits { length line.new.items ≤ 1024 }
+{
+    let _ = line.try_extend_from_slice(bytes);
+}
+
+impl LineReader {
+    ghost use Rattle.pmem_cli.specs.Pieces.{Takes, Finds, IsUnfinished};
+
+    /// Nothing was pulled yet.
+    pub fn new() -> Self
+        ensures { result ≡ [] }
+    {
+        LineReader {
+            chunk: [0; CHUNK_BYTES],
+            at: 0,
+            end: 0,
+        }
+    }
+
+    /// Whether no byte is at hand.
+    fn is_empty(&self) -> bool
+        ensures { IsTrue result ↔ (self.now ≡ []) }
+    {
+        self.at == self.end
+    }
+
+    /// Whether a whole line is at hand, so that the next line takes no pull.
+    pub fn has_line(&self) -> bool
+        ensures { IsTrue result ↔ Contains self.now 10 }
+    {
+        self.chunk[self.at..self.end].contains(&b'\n')
+    }
+
+    /// Pulls a chunk, and answers its length.
+    fn refill<S: Source>(&mut self, source: &mut S) -> Result<usize, Failed>
+        requires { self.old ≡ [] }
+        ensures ahead { Keeps (S.left source.old) (prepend_known self.new (S.left source.new)) }
+        ensures count { IfOk result (λ count. length self.new ≡ count) }
+        ensures end { IfOk result (λ count. count ≡ 0 → IsAtEnd (S.left source.new)) }
+        ensures err { OnErr result (self.new ≡ []) }
+        ensures cause { HasCause (S.faults source.old) (S.faults source.new) result }
+    {
+        self.at = 0;
+        self.end = 0;
+        let count = source.pull(&mut self.chunk)?;
+        self.end = count;
+        Ok(count)
+    }
+
+    /// Whether no byte is ahead. Where one is, it is at hand then.
+    pub fn is_ended<S: Source>(&mut self, source: &mut S) -> Result<bool, Failed>
+        ensures ahead { Keeps (prepend_known self.old (S.left source.old)) (prepend_known self.new (S.left source.new)) }
+        ensures at_hand { 0 < length self.old → self.new ≡ self.old }
+        ensures unpulled { 0 < length self.old → source.new ≡ source.old }
+        ensures end { IfOk result (λ ended. IsTrue ended → IsAtEnd (prepend_known self.new (S.left source.new))) }
+        ensures more { IfOk result (λ ended. ended ≡ false → 0 < length self.new) }
+        ensures fault { OnErr result (Keeps (prepend_known self.old (S.left source.old)) (S.left source.new)) }
+        ensures cause { HasCause (S.faults source.old) (S.faults source.new) result }
+    {
+        if !self.is_empty() {
+            return Ok(false);
+        }
+        let count = self.refill(source)?;
+        Ok(count == 0)
+    }
+
+    /// Takes what there is of a line.
+    fn take_piece(&mut self, line: &mut ArrayVec<u8, LINE_BYTES>) -> Piece
+        ensures { Takes result self.old self.new line.old.items line.new.items }
+    {
+        let unread = &self.chunk[self.at..self.end];
+        let length = length_within(unread);
+        if line.len() + length > LINE_BYTES {
+            self.at += length;
+            return Piece::TooLong;
+        }
+        append(line, unread.split_at(length).0);
+        self.at += length;
+        if self.at == self.end {
+            return Piece::Part;
+        }
+        self.at += 1;
+        Piece::Ended
+    }
+
+    /// Takes the next line. A line that is too long is taken as far as it was pulled.
+    pub fn next_line<S: Source>(
+        &mut self,
+        source: &mut S,
+        line: &mut ArrayVec<u8, LINE_BYTES>,
+    ) -> Result<Found, Failed>
+        ensures found { IfOk result (λ found. Finds found (prepend_known self.old (S.left source.old))
+            (prepend_known self.new (S.left source.new)) line.new.items) }
+        ensures fault { OnErr result (IsUnfinished (prepend_known self.old (S.left source.old)) (S.left source.new) line.new.items) }
+        ensures unpulled { Contains self.old 10 → source.new ≡ source.old }
+        ensures cause { HasCause (S.faults source.old) (S.faults source.new) result }
+    {
+        line.clear();
+        'pieces: loop {
+            if self.is_ended(source)? {
+                return Ok(if line.is_empty() {
+                    Found::End
+                } else {
+                    Found::Last
+                });
+            }
+            match self.take_piece(line) {
+                Piece::Ended => return Ok(Found::Line),
+                Piece::TooLong => return Ok(Found::Long),
+                Piece::Part => {}
+            }
+        }
+    }
+}

@@ -1,0 +1,114 @@
+//! Replies on their way to a sink, held back so that many go in one push.
+ghost use Rattle.std.specs.Prelude.{◌≡◌, ◌≤◌, [], length, false, OnOk, OnErr};
+ghost use Rattle.pmem_cli.specs.Causes.{HasCause};
+ghost use Rattle.plain_model.specs.Answers.{is_shown};
+ghost use Rattle.plain_model.specs.Texts.{answer_text, as_line};
+ghost use Rattle.pmem_cli.specs.Printed.{Prints, PrintsFront, with_waiting};
+
+use crate::sink::{Sink, push_all};
+use crate::source::Failed;
+use arrayvec::ArrayVec;
+use pmem_base::Answer;
+use std::marker::Model;
+use trace_text::{push_answer, push_bytes};
+
+/// The bytes that may wait.
+const WAITING_BYTES: usize = 65_536;
+
+/// The bytes that were printed and not pushed yet, and room for one text. Contracts see the bytes
+/// that wait.
+#[derive(Drop)]
+pub(crate) struct Printer {
+    waiting: ArrayVec<u8, WAITING_BYTES>,
+    text: ArrayVec<u8, 512>,
+}
+
+impl Model for Printer {
+    ghost use Rattle.std.specs.Prelude.{ℕ, List};
+
+    ghost Value = { List ℕ };
+
+    ghost view = { λ printer. printer.waiting.items };
+}
+
+/// Pushes all that waits. After a failed push nothing waits any more.
+fn flush_waiting<K: Sink>(
+    waiting: &mut ArrayVec<u8, WAITING_BYTES>,
+    out: &mut K,
+) -> Result<(), Failed>
+    ensures ok { OnOk result (Prints (with_waiting (K.put out.old) waiting.old.items) (with_waiting (K.put out.new) waiting.new.items) []) }
+    ensures emptied { waiting.new.items ≡ [] }
+    ensures err { OnErr result (PrintsFront (with_waiting (K.put out.old) waiting.old.items) (with_waiting (K.put out.new) waiting.new.items) []) }
+    ensures cause { HasCause (K.faults out.old) (K.faults out.new) result }
+{
+    let pushed = push_all(out, waiting.as_slice());
+    waiting.clear();
+    pushed
+}
+
+/// Prints a text, which may wait.
+fn print_text<K: Sink>(
+    waiting: &mut ArrayVec<u8, WAITING_BYTES>,
+    out: &mut K,
+    text: &[u8],
+) -> Result<(), Failed>
+    requires { length text.now ≤ 65536 }
+    ensures ok { OnOk result (Prints (with_waiting (K.put out.old) waiting.old.items) (with_waiting (K.put out.new) waiting.new.items) text.now) }
+    ensures err { OnErr result (PrintsFront (with_waiting (K.put out.old) waiting.old.items) (with_waiting (K.put out.new) waiting.new.items) text.now) }
+    ensures failed { OnErr result (waiting.new.items ≡ []) }
+    ensures cause { HasCause (K.faults out.old) (K.faults out.new) result }
+{
+    if waiting.remaining_capacity() < text.len() {
+        flush_waiting(waiting, out)?;
+    }
+    let _ = waiting.try_extend_from_slice(text);
+    Ok(())
+}
+
+impl Printer {
+    /// Nothing waits.
+    pub fn new() -> Self
+        ensures { result ≡ [] }
+    {
+        Printer {
+            waiting: ArrayVec::new(),
+            text: ArrayVec::new(),
+        }
+    }
+
+    /// Pushes all that waits. After a failed push nothing waits any more.
+    pub fn flush<K: Sink>(&mut self, out: &mut K) -> Result<(), Failed>
+        ensures ok { OnOk result (Prints (with_waiting (K.put out.old) self.old) (with_waiting (K.put out.new) self.new) []) }
+        ensures emptied { self.new ≡ [] }
+        ensures err { OnErr result (PrintsFront (with_waiting (K.put out.old) self.old) (with_waiting (K.put out.new) self.new) []) }
+        ensures cause { HasCause (K.faults out.old) (K.faults out.new) result }
+    {
+        flush_waiting(&mut self.waiting, out)
+    }
+
+    /// Prints a text, which may wait.
+    pub fn print<K: Sink>(&mut self, out: &mut K, text: &[u8]) -> Result<(), Failed>
+        requires { length text.now ≤ 65536 }
+        ensures ok { OnOk result (Prints (with_waiting (K.put out.old) self.old) (with_waiting (K.put out.new) self.new) text.now) }
+        ensures err { OnErr result (PrintsFront (with_waiting (K.put out.old) self.old) (with_waiting (K.put out.new) self.new) text.now) }
+        ensures failed { OnErr result (self.new ≡ []) }
+        ensures cause { HasCause (K.faults out.old) (K.faults out.new) result }
+    {
+        print_text(&mut self.waiting, out, text)
+    }
+
+    /// Prints the text of an answer, with its LF.
+    pub fn print_answer<K: Sink>(&mut self, out: &mut K, answer: &Answer) -> Result<(), Failed>
+        requires { is_shown answer.now ≡ false }
+        ensures ok { OnOk result (Prints (with_waiting (K.put out.old) self.old) (with_waiting (K.put out.new) self.new)
+            (as_line (answer_text answer.now))) }
+        ensures err { OnErr result (PrintsFront (with_waiting (K.put out.old) self.old) (with_waiting (K.put out.new) self.new)
+            (as_line (answer_text answer.now))) }
+        ensures cause { HasCause (K.faults out.old) (K.faults out.new) result }
+    {
+        self.text.clear();
+        push_answer(&mut self.text, answer);
+        push_bytes(&mut self.text, b"\n");
+        print_text(&mut self.waiting, out, self.text.as_slice())
+    }
+}

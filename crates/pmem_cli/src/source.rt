@@ -1,0 +1,155 @@
+//! Where a trace comes from.
+ghost use Rattle.std.specs.Prelude.{◌≡◌, ◌≤◌, ◌↔◌, ◌++◌, ℕ, List, [], Option, Some, length, min, take, drop, vec_len, IsTrue, IsErr, is_err, IfOk, Contains, if◌then◌else◌};
+ghost use Rattle.std.specs.Io.{ReadsAtMost};
+ghost use Rattle.std.specs.Io.KnownBytes.{ReadConsumes};
+ghost use Rattle.pmem_base.specs.Counts.{risen};
+ghost use Rattle.pmem_cli.specs.Causes.{HasCause};
+
+use std::io::Read;
+use std::marker::Model;
+
+/// A pull or a push failed, and moved no byte.
+#[derive(Clone, Copy, Debug, PartialEq, Eq)]
+pub struct Failed;
+
+/// Gives bytes in order, at most as many as a buffer has room for. Where it has room, 0 bytes are
+/// the end. A pull fails only where the count of faults rises or stands at 2^64 - 1.
+pub trait Source {
+    /// The bytes that are left, where they are told.
+    ghost left: { Self → Option (List ℕ) };
+
+    /// How often a pull failed.
+    ghost faults: { Self → ℕ };
+
+    /// Puts the next bytes at the front of a buffer, and answers how many.
+    fn pull(&mut self, buf: &mut [u8]) -> Result<usize, Failed>
+        ensures bound { ReadsAtMost result buf.new }
+        ensures bytes { ReadConsumes (left self.old) (left self.new) result buf.new }
+        ensures cause { HasCause (faults self.old) (faults self.new) result };
+}
+
+/// Copies as many bytes as fit, and answers how many.
+pub(crate) fn copy_front(from: &[u8], to: &mut [u8]) -> usize
+    ensures count { result ≡ min (length from.now) (length to.old) }
+    ensures copied { take result to.new ≡ take result from.now }
+    ensures kept { drop result to.new ≡ drop result to.old }
+{
+    let count = from.len().min(to.len());
+    let (front, _) = to.split_at_mut(count);
+    front.copy_from_slice(from.split_at(count).0);
+    count
+}
+
+/// Whether the call of this number is to fail.
+pub(crate) fn is_listed(failing: &[u64], call: u64) -> bool
+    ensures { IsTrue result ↔ Contains failing.now call }
+{
+    failing.contains(&call)
+}
+
+/// The bytes of a vector, in order. The calls whose numbers are listed fail, counted from 0.
+#[derive(Drop)]
+pub struct MemSource {
+    bytes: Vec<u8>,
+    at: usize,
+    failing: Vec<u64>,
+    calls: u64,
+    faults: u64,
+}
+
+impl Model for MemSource {
+    ghost use Rattle.std.specs.Prelude.{◌≤◌, drop, vec_len};
+    ghost use Rattle.pmem_cli.specs.Memory.{MemoryInput};
+
+    ghost Value = { MemoryInput };
+
+    ghost view = { λ source. record {
+      left = drop source.at source.bytes.items;
+      failing = source.failing.items;
+      calls = source.calls;
+      faults = source.faults;
+    } };
+
+    ghost invariant = { λ source. source.at ≤ vec_len source.bytes };
+}
+
+impl MemSource {
+    /// A source of all these bytes, of whose calls those listed fail.
+    pub fn new(bytes: Vec<u8>, failing: Vec<u64>) -> Self
+        ensures { result ≡ record { left = bytes.items; failing = failing.items; calls = 0; faults = 0 } }
+    {
+        MemSource {
+            bytes,
+            at: 0,
+            failing,
+            calls: 0,
+            faults: 0,
+        }
+    }
+}
+
+impl Source for MemSource {
+    ghost left = { λ source. Some source.left };
+
+    ghost faults = { λ source. source.faults };
+
+    /// Gives as many bytes as there are and as the buffer has room for.
+    fn pull(&mut self, buf: &mut [u8]) -> Result<usize, Failed>
+        ensures bound { ReadsAtMost result buf.new }
+        ensures bytes { ReadConsumes (Some self.old.left) (Some self.new.left) result buf.new }
+        ensures cause { HasCause self.old.faults self.new.faults result }
+
+        ensures failed { IsErr result ↔ Contains self.old.failing self.old.calls }
+        ensures count { IfOk result (λ count. count ≡ min (length self.old.left) (length buf.old)) }
+        ensures calls { self.new.calls ≡ risen self.old.calls }
+        ensures faults { self.new.faults ≡ (if is_err result then risen self.old.faults else self.old.faults) }
+        ensures failing { self.new.failing ≡ self.old.failing }
+    {
+        let call = self.calls;
+        self.calls = call.saturating_add(1);
+        if is_listed(self.failing.as_slice(), call) {
+            self.faults = self.faults.saturating_add(1);
+            return Err(Failed);
+        }
+        let count = copy_front(self.bytes.as_slice().split_at(self.at).1, buf);
+        self.at += count;
+        Ok(count)
+    }
+}
+
+/// Any reader. It tells what the reader tells.
+#[derive(Drop)]
+pub struct StdSource<R> {
+    inner: R,
+    faults: u64,
+}
+
+impl<R: Read> StdSource<R> {
+    ghost use Rattle.pmem_cli.specs.StdParts.{reader_of, pull_faults};
+
+    /// A source of what the reader gives. No pull has failed yet.
+    pub fn new(inner: R) -> Self
+        ensures reader { reader_of result ≡ inner }
+        ensures faults { pull_faults result ≡ 0 }
+    {
+        StdSource { inner, faults: 0 }
+    }
+}
+
+impl<R: Read> Source for StdSource<R> {
+    ghost use Rattle.pmem_cli.specs.StdParts.{reader_of, pull_faults};
+
+    ghost left = { λ source. R.remaining (reader_of source) };
+
+    ghost faults = { pull_faults };
+
+    fn pull(&mut self, buf: &mut [u8]) -> Result<usize, Failed> {
+        match self.inner.read(buf) {
+            Ok(count) => Ok(count),
+            Err(_) => {
+                self.faults = self.faults.saturating_add(1);
+                Err(Failed)
+            }
+        }
+    }
+}

@@ -1,0 +1,173 @@
+//! Whole runs over memory.
+use crate::{MemSink, MemSource, StdSink, StdSource, run};
+use std::process::Abort;
+use std::test::Fail;
+
+/// The bytes of a text in which `[aa]` stands for `aa` 64 times.
+fn spelled<R: AllocGlobal>(rt: &R, text: &str) -> Result<Vec<u8>, Fail> {
+    let mut bytes = Vec::new(rt.alloc());
+    for piece in text.split('[') {
+        let Some((digits, rest)) = piece.split_once(']') else {
+            bytes.extend_from_slice(piece.as_bytes())?;
+            continue;
+        };
+        for _ in 0..64 {
+            bytes.extend_from_slice(digits.as_bytes())?;
+        }
+        bytes.extend_from_slice(rest.as_bytes())?;
+    }
+    Ok(bytes)
+}
+
+/// Runs a trace whose calls of these numbers fail, and compares the status and what was put into
+/// 20,000 places or fewer.
+fn check_run<R: Abort + AllocGlobal>(
+    rt: &R,
+    words: &[&str],
+    trace: &[u8],
+    failing: (&[u64], &[u64]),
+    places: usize,
+    (status, output): (u8, &str),
+) -> Result<(), Fail> {
+    let alloc = rt.alloc();
+    let mut given = Vec::new(alloc);
+    for word in words {
+        given.push(String::from_str(alloc, word)?)?;
+    }
+    let mut source = MemSource::new(trace.to_vec(alloc)?, failing.0.to_vec(alloc)?);
+    let mut sink = MemSink::new(vec![in alloc; 0u8; places]?, failing.1.to_vec(alloc)?);
+    assert_eq!(rt;
+        run(alloc, given.as_slice(), &mut source, &mut sink),
+        status,
+        "the status with {output}"
+    );
+    let wanted = spelled(rt, output)?;
+    assert_eq!(rt; sink.put(), wanted.as_slice(), "the output {output}");
+    Ok(())
+}
+
+#[test]
+fn answers_traces(rt: HostRuntime) -> Result<(), Fail> {
+    for (trace, status, output) in [
+        ("", 0, ""),
+        ("read 0 0", 0, "line [00] 0\n"),
+        (
+            "post 0 3 [aa]\nread 0 3\ndrain 0\nread 0 3\ndrain 0\nread 0 1024\n",
+            0,
+            "ok\nline [aa] 0\nok 1\nline [aa] 0\nempty\nrange\n",
+        ),
+        (
+            "post 0 5 [11]\npost 0 5 [22]\nread 0 5\n",
+            0,
+            "ok\nok\nline [22] 0\n",
+        ),
+        ("turn", 5, "stop line 1 1\n"),
+        ("read 1 0", 5, "stop line 1 4\n"),
+        ("read 8 0", 5, "stop line 1 4\n"),
+        (
+            "post 0 0 0123456789abcdef0123456789abcdef0123456789abcdef0123456789abcdef0123456789abcdef0123456789abcdef0123456789abcdef0123456789abcde",
+            5,
+            "stop line 1 5\n",
+        ),
+        ("read 0 0\nreed 0 0\n", 5, "line [00] 0\nstop line 2 1\n"),
+        ("read 0 1024", 0, "range\n"),
+        ("# note\r\n\r\n  read\t0  0\r\n", 0, "line [00] 0\n"),
+        (
+            "read 0 00000000000000000003\nread 000 03\n",
+            0,
+            "line [00] 0\nline [00] 0\n",
+        ),
+        (
+            "read 0 18446744073709551615\nread 0 18446744073709551616\n",
+            5,
+            "range\nstop line 2 3\n",
+        ),
+        ("read 0 000000000000000000003\n", 5, "stop line 1 3\n"),
+        (
+            "post 0 0 [00]\npost 0 0 [00]\npost 0 0 [00]\npost 0 0 [00]\npost 0 0 [00]\npost 0 0 [00]\npost 0 0 [00]\npost 0 0 [00]\npost 0 0 [00]\npost 0 0 [00]\npost 0 0 [00]\npost 0 0 [00]\npost 0 0 [00]\npost 0 0 [00]\npost 0 0 [00]\npost 0 0 [00]\npost 0 0 [00]",
+            0,
+            "ok\nok\nok\nok\nok\nok\nok\nok\nok\nok\nok\nok\nok\nok\nok\nok\nfull\n",
+        ),
+    ] {
+        let trace = spelled(&rt, trace)?;
+        check_run(
+            &rt,
+            &["run"],
+            trace.as_slice(),
+            (&[], &[]),
+            1_000,
+            (status, output),
+        )?;
+    }
+    Ok(())
+}
+
+#[test]
+fn refuses_words(rt: HostRuntime) -> Result<(), Fail> {
+    let told = (2, "stop words\n");
+    check_run(&rt, &[], b"read 0 0", (&[0], &[]), 100, told)?;
+    check_run(&rt, &["run", "x"], b"read 0 0", (&[0], &[]), 100, told)?;
+    check_run(&rt, &["ran"], b"read 0 0", (&[0], &[]), 100, told)?;
+    check_run(&rt, &["--help"], b"read 0 0", (&[0], &[]), 100, told)?;
+    check_run(&rt, &["ran"], b"read 0 0", (&[], &[0]), 100, (2, ""))
+}
+
+#[test]
+fn tells_faults(rt: HostRuntime) -> Result<(), Fail> {
+    for (trace, failing, status, output) in [
+        ("read 0 0\n", (0, 9), 3, "stop read\n"),
+        ("read 0 0\nre", (1, 9), 3, "line [00] 0\nstop read\n"),
+        // No pull follows the end.
+        ("read 0 0", (2, 9), 0, "line [00] 0\n"),
+        ("read 0 0\n", (9, 0), 4, ""),
+        // The replies are pushed before the next pull, and no push follows.
+        ("read 0 0\nre", (9, 1), 4, "line [00] 0\n"),
+    ] {
+        let (pull, push) = failing;
+        check_run(
+            &rt,
+            &["run"],
+            trace.as_bytes(),
+            (&[pull], &[push]),
+            1_000,
+            (status, output),
+        )?;
+    }
+    check_run(&rt, &["run"], b"read 0 0\n", (&[], &[]), 8, (4, "line 000"))
+}
+
+#[test]
+fn keeps_limits(rt: HostRuntime) -> Result<(), Fail> {
+    let alloc = rt.alloc();
+    for (byte, count, pull, status, output) in [
+        (b'\n', 1_000_000, 1_000_000, 0, ""),
+        (b'\n', 1_000_001, 1_000_000, 7, "stop lines\n"),
+        (b'a', 1_024, 1_000_000, 5, "stop line 1 1\n"),
+        (b'a', 1_025, 1_000_000, 5, "stop line 1 6\n"),
+        (b'a', 1_025, 1, 5, "stop line 1 6\n"),
+        (b'a', 1_024, 1, 3, "stop read\n"),
+    ] {
+        let trace = vec![in alloc; byte; count]?;
+        check_run(
+            &rt,
+            &["run"],
+            trace.as_slice(),
+            (&[pull], &[]),
+            100,
+            (status, output),
+        )?;
+    }
+    Ok(())
+}
+
+#[test]
+fn runs_over_readers_and_writers(rt: HostRuntime) -> Result<(), Fail> {
+    let alloc = rt.alloc();
+    let words = vec![in alloc; String::from_str(alloc, "run")?]?;
+    let mut bytes = Vec::new(alloc);
+    let mut trace = StdSource::new(b"read 0 1024\n".as_slice());
+    let mut out = StdSink::new(&mut bytes);
+    assert_eq!(rt; run(alloc, words.as_slice(), &mut trace, &mut out), 0);
+    assert_eq!(rt; bytes.as_slice(), b"range\n".as_slice());
+    Ok(())
+}

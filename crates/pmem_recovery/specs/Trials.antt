@@ -1,0 +1,59 @@
+-- The trials of recovery, over a device's lines with the armed group redone.
+use Rattle.std.specs.Prelude.{ℕ, ◌+◌, ◌-◌, ◌*◌, ◌/◌, ◌==◌, Bool, not, List, [], ◌∷◌, length, filter, find, slice_index, Option, Some, None}
+use Rattle.std.specs.List.{range_with_len, flat_map}
+use Rattle.pmem_base.specs.declared.lines.Line.{Line}
+use Rattle.pmem_base.specs.declared.lines.Ctr.{Ctr}
+use Rattle.pmem_base.specs.declared.registers.Progress.{Progress}
+use Rattle.pmem_base.specs.declared.registers.Regs.{Regs}
+use Rattle.pmem_base.specs.Shape.{Shape}
+use Rattle.pmem_base.specs.Layout as layout
+use Rattle.pmem_base.specs.Layout.{page_of, index_in_page}
+use Rattle.pmem_base.specs.Lines.{line_at, tag_slot, same_bytes}
+use Rattle.split_counters.specs.declared.Block.{Block}
+use Rattle.split_counters.specs.Blocks.{unpacked}
+use Rattle.bonsai_tree.specs.Positions.{counter_position}
+use Rattle.page_reencrypt.specs.Registers.{register_held}
+use Rattle.suite.specs.Setup.{Setup}
+use Rattle.pmem_engine.specs.Invariants.{stored_meta, is_named}
+
+-- the minors that a stored one may stand for: up to the end of its window of the stop-loss number
+abbrev pub window_of : ℕ → ℕ → List ℕ
+window_of minor loss = range_with_len minor ((minor / loss) * loss + loss - minor)
+
+-- the counter block of a page as the device has it
+abbrev pub stored_block : Shape → List Line → ℕ → Block
+stored_block g lines page = unpacked (stored_meta g lines (counter_position g page))
+
+-- whether the tag of line a's device line under a counter is the one in its slot
+abbrev pub is_tag_met : Setup → List Line → ℕ → Ctr → Bool
+is_tag_met setup lines a ctr =
+    same_bytes (setup.formulas.tag_of a ctr (line_at lines a))
+    (tag_slot (line_at lines (layout.tag_line setup.shape a)) a)
+
+-- the stored minor alone for a line that a register holds, else those of its window that fit
+abbrev pub minors_tried : Setup → List Line → ℕ → ℕ → Option Progress → Block → List ℕ
+minors_tried setup lines loss a (Some register) stored =
+    slice_index stored.minors (index_in_page a) ∷ []
+minors_tried setup lines loss a None stored =
+    filter (λ minor. is_tag_met setup lines a (record { major = stored.major; minor = minor }))
+    (window_of (slice_index stored.minors (index_in_page a)) loss)
+
+-- the minors that line a may have, where its counter block is named
+abbrev pub tried_minors : Setup → List Line → Regs → ℕ → List ℕ
+tried_minors setup lines regs a =
+    minors_tried setup lines regs.loss a (register_held regs.progress.items a)
+    (stored_block setup.shape lines (page_of a))
+
+-- the pages whose counter block is named, upwards
+abbrev pub named_pages : Shape → List Line → List ℕ
+named_pages g lines =
+    filter (λ page. is_named g lines (counter_position g page)) (range_with_len 0 (layout.pages g))
+
+-- the lines that are tried, by pages and lines upwards
+abbrev pub lines_tried : Shape → List Line → List ℕ
+lines_tried g lines = flat_map (λ page. range_with_len (64 * page) 64) (named_pages g lines)
+
+-- the first of them that doesn't have exactly one minor
+abbrev pub first_undecided : Setup → List Line → Regs → Option ℕ
+first_undecided setup lines regs =
+    find (λ a. not (length (tried_minors setup lines regs a) == 1)) (lines_tried setup.shape lines)

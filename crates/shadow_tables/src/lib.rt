@@ -1,0 +1,10 @@
+//! Shadow tables: entries that name a dirty block by the slot that it lies in.
+#![tactic(auto)]
+
+mod entries;
+mod mirror;
+#[cfg(test)]
+mod tests;
+
+pub use entries::{entry, named};
+pub use mirror::Mirror;

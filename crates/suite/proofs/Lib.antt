@@ -1,0 +1,5 @@
+pub mod ByteLemmas
+pub mod BlockRanges
+pub mod AesLemmas
+pub mod WeakLemmas
+pub mod CipherLemmas

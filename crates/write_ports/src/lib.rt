@@ -1,0 +1,11 @@
+//! Posted writes waiting at eight ports.
+#![tactic(auto)]
+
+mod ports;
+mod queue;
+mod seen;
+#[cfg(test)]
+mod tests;
+
+pub use ports::Ports;
+pub use seen::{Seen, overlay};
