@@ -8,8 +8,9 @@ use Rattle.pmem_base.specs.Lines.{zero_line}
 use Rattle.hex.specs.Hex.{decode_pairs}
 use Rattle.plain_model.specs.State.{no_flags, no_writes, start_state}
 use Rattle.plain_model.specs.View.{start_view}
-use Rattle.plain_model.specs.Lines.{lines_of, without_return, is_line_end, IsWithin}
-use Rattle.plain_model.specs.Words.{words_of, number_up_to, port_of, hex_bytes}
+use Rattle.collision_witness.specs.Words.{words_of, without_return, number_up_to, hex_bytes}
+use Rattle.plain_model.specs.Lines.{lines_of, is_line_end, IsWithin}
+use Rattle.plain_model.specs.Words.{port_of}
 use Rattle.plain_model.specs.Grammar.{command_of, command_among, reading_of_words, reading_among, reading_of}
 use Rattle.plain_model.specs.Run.{start, machine_after, Step, IsRunFrom}
 use Rattle.plain_model.specs.Answers.{is_shown}

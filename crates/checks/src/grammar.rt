@@ -1,5 +1,5 @@
 //! Lines and what they are read as.
-#![tactic(auto, unfolding(plain_model::specs::Lines::lines_of, plain_model::specs::Lines::without_return, plain_model::specs::Words::words_of, plain_model::specs::Words::number_up_to, plain_model::specs::Words::port_of, plain_model::specs::Words::hex_bytes, plain_model::specs::Words::some_hex_bytes, plain_model::specs::Grammar::command_of, plain_model::specs::Grammar::command_among, plain_model::specs::Grammar::reading_of_words, plain_model::specs::Grammar::reading_among, hex::specs::Hex::decode_pairs,))]
+#![tactic(auto, unfolding(plain_model::specs::Lines::lines_of, collision_witness::specs::Words::without_return, collision_witness::specs::Words::words_of, collision_witness::specs::Words::number_up_to, plain_model::specs::Words::port_of, collision_witness::specs::Words::hex_bytes, collision_witness::specs::Words::some_hex_bytes, plain_model::specs::Grammar::command_of, plain_model::specs::Grammar::command_among, plain_model::specs::Grammar::reading_of_words, plain_model::specs::Grammar::reading_among, hex::specs::Hex::decode_pairs,))]
 
 ghost use Rattle.std.specs.Prelude.{ℕ, ◌≡◌, ◌+◌, ◌-◌, ◌^◌, List, [], ◌∷◌, ◌++◌, replicate, codes, Ok, Err, Some, None};
 ghost use Rattle.std.specs.List.{range_with_len};

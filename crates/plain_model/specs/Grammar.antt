@@ -1,17 +1,13 @@
 -- The grammar of a trace: what one line asks for.
-use Rattle.std.specs.Prelude.{ℕ, ◌-◌, ◌^◌, ◌==◌, nat_lt, nat_le, Bool, false, List, [], ◌∷◌, ◌++◌, length, replicate, find, slice_index, codes, Option, Some, None, Result, Ok, Err, if◌then◌else◌}
-use Rattle.std.specs.List.{slice_split}
+use Rattle.std.specs.Prelude.{ℕ, ◌-◌, ◌==◌, nat_lt, nat_le, Bool, false, List, [], ◌∷◌, ◌++◌, length, replicate, find, slice_index, codes, Option, Some, None, Result, Ok, Err, if◌then◌else◌}
 use Rattle.std.specs.Str.{bytes_eq}
 use Rattle.pmem_base.specs.declared.lines.Line.{Line}
 use Rattle.pmem_base.specs.declared.commands.Kind.{Kind}
 use Rattle.pmem_base.specs.declared.commands.Command.{Command}
 use Rattle.pmem_base.specs.declared.commands.Command.TheVariants as Do
-use Rattle.pmem_base.specs.declared.answers.Exhibit.{Exhibit}
-use Rattle.pmem_base.specs.declared.answers.Exhibit.TheVariants.{Clash, Forged, Twin}
-use Rattle.pmem_base.specs.declared.lines.Ctr.{Ctr}
 use Rattle.pmem_base.specs.Lines.{line_of}
-use Rattle.plain_model.specs.Lines.{without_return}
-use Rattle.plain_model.specs.Words.{Word, words_of, number_of, number_up_to, port_of, greatest_port, hex_bytes, some_hex_bytes, ◌>>=◌}
+use Rattle.collision_witness.specs.Words.{Word, words_of, without_return, no_word, one_word, two_words, three_words, four_words, number_of, some_hex_bytes, hex_line, ◌>>=◌}
+use Rattle.plain_model.specs.Words.{port_of, greatest_port}
 
 -- what a line gives: a command, nothing where it is skipped, or the kind of its fault
 abbrev pub Reading : Type 0
@@ -53,39 +49,11 @@ verbs =
 abbrev pub built_verbs : List (Word × Verb)
 built_verbs = (codes "post", post) ∷ (codes "drain", drain) ∷ (codes "read", read) ∷ []
 
--- ---- so many words, no fewer and no more
-
-abbrev pub no_word : List Word → Result (List Word) Kind
-no_word [] = Ok []
-no_word words = Err Kind.Count
-
-abbrev pub one_word : List Word → Result Word Kind
-one_word (word ∷ []) = Ok word
-one_word words = Err Kind.Count
-
-abbrev pub two_words : List Word → Result (Word × Word) Kind
-two_words (first ∷ second ∷ []) = Ok (first, second)
-two_words words = Err Kind.Count
-
-abbrev pub three_words : List Word → Result (Word × Word × Word) Kind
-three_words (first ∷ second ∷ third ∷ []) = Ok (first, second, third)
-three_words words = Err Kind.Count
-
-abbrev pub four_words : List Word → Result (Word × Word × Word × Word) Kind
-four_words (first ∷ second ∷ third ∷ fourth ∷ []) = Ok (first, second, third, fourth)
-four_words words = Err Kind.Count
-
 -- ---- the commands of these words
 
 -- the line with these bytes at the front, and zeros after them
 abbrev pub padded_line : List ℕ → Line
 padded_line bytes = line_of (bytes ++ replicate (64 - length bytes) 0)
-
--- 64 bytes in hex
-abbrev pub hex_line : Word → Result Line Kind
-hex_line word = do
-  bytes ← hex_bytes 64 word
-  Ok (line_of bytes)
 
 abbrev pub alone : Command → List Word → Result Command Kind
 alone command words = do
@@ -201,62 +169,3 @@ is_taken (Do.Post port at line) = nat_le port greatest_port
 is_taken (Do.Drain port) = nat_le port greatest_port
 is_taken (Do.Read port at) = nat_le port greatest_port
 is_taken command = false
-
--- ---- exhibit lines
-
--- a counter: two numbers with a dot between, the second at most 127
-abbrev pub counter_of_parts : List Word → Result Ctr Kind
-counter_of_parts (first ∷ second ∷ []) = do
-  major ← number_of first
-  minor ← number_up_to 127 second
-  Ok (record { major = major; minor = minor })
-counter_of_parts parts = Err Kind.Number
-
-abbrev pub counter_of_word : Word → Result Ctr Kind
-counter_of_word word = counter_of_parts (slice_split (λ byte. byte == 46) word)
-
--- a line number or a position
-abbrev pub short_number_of : Word → Result ℕ Kind
-short_number_of word = number_up_to (2 ^ 32 - 1) word
-
-abbrev pub clash_of : List Word → Result Exhibit Kind
-clash_of (x ∷ u ∷ v ∷ []) = do
-  position ← short_number_of x
-  first ← hex_line u
-  second ← hex_line v
-  Ok (Clash position first second)
-clash_of words = Err Kind.Count
-
-abbrev pub forged_of : List Word → Result Exhibit Kind
-forged_of (a ∷ c ∷ x ∷ t ∷ []) = do
-  at ← short_number_of a
-  ctr ← counter_of_word c
-  cipher ← hex_line x
-  tag ← hex_bytes 16 t
-  Ok (Forged at ctr cipher tag)
-forged_of words = Err Kind.Count
-
-abbrev pub twin_of : List Word → Result Exhibit Kind
-twin_of (a ∷ m ∷ l ∷ h ∷ x ∷ t ∷ []) = do
-  at ← short_number_of a
-  major ← number_of m
-  low ← number_up_to 127 l
-  high ← number_up_to 127 h
-  cipher ← hex_line x
-  tag ← hex_bytes 16 t
-  Ok (Twin at major low high cipher tag)
-twin_of words = Err Kind.Count
-
-unfoldable pub exhibit_of_words : List Word → Result Exhibit Kind
-exhibit_of_words [] = Err Kind.Word
-exhibit_of_words (name ∷ words) =
-    if bytes_eq name (codes "clash") then clash_of words
-    else if bytes_eq name (codes "forged") then forged_of words
-    else if bytes_eq name (codes "twin") then twin_of words
-    else Err Kind.Word
-
--- what an exhibit line shows, or the kind of its fault
-unfoldable pub exhibit_of_line : List ℕ → Result Exhibit Kind
-exhibit_of_line line =
-    if nat_lt 1024 (length line) then Err Kind.Long
-    else exhibit_of_words (words_of (without_return line))

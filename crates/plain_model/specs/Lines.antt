@@ -1,5 +1,5 @@
 -- How the bytes of a trace are cut into lines.
-use Rattle.std.specs.Prelude.{ℕ, ◌≡◌, ◌-◌, ◌==◌, Bool, false, List, [], ◌∷◌, ◌++◌, length, take, slice_index, All, if◌then◌else◌}
+use Rattle.std.specs.Prelude.{ℕ, ◌≡◌, ◌==◌, Bool, false, List, [], ◌∷◌, ◌++◌, All, if◌then◌else◌}
 use Rattle.std.specs.List.{onto_first}
 
 -- LF
@@ -19,8 +19,3 @@ ended line = line ++ 10 ∷ []
 -- these bytes have no LF
 abbrev pub IsWithin : List ℕ → Type 0
 IsWithin bytes = All (λ byte. is_line_end byte ≡ false) bytes
-
--- the line without one CR at its end
-unfoldable pub without_return : List ℕ → List ℕ
-without_return line =
-    if slice_index line (length line - 1) == 13 then take (length line - 1) line else line

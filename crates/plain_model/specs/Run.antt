@@ -16,7 +16,8 @@ use Rattle.plain_model.specs.Answers.{is_shown}
 use Rattle.plain_model.specs.Shown.{IsLegal}
 use Rattle.plain_model.specs.Lines.{lines_of, ended, IsWithin}
 use Rattle.plain_model.specs.Grammar.{Reading, reading_of}
-use Rattle.plain_model.specs.Texts.{as_line, sentence, reply_text}
+use Rattle.collision_witness.specs.Texts.{sentence}
+use Rattle.plain_model.specs.Texts.{as_line, reply_text}
 
 -- ---- a command and its reply
 

@@ -1,12 +1,18 @@
+//! The audit: the marks of a run, the true metadata lines, and the first exhibit.
 #![tactic(auto)]
-//! The audit: marks, true metadata lines, and the first exhibit.
 
-ghost use Rattle.std.specs.Prelude.{ℕ, ◌≡◌, ◌<◌, ◌≤◌, length, OnOk, OnErr, IsSome, slice_set};
+ghost use Rattle.std.specs.Prelude.{◌≡◌, ◌<◌, ◌≤◌, All, length, IsSome, OnOk, OnErr};
 ghost use Rattle.pmem_base.specs.declared.answers.Mark.TheVariants.{Begin, Seal};
+ghost use Rattle.pmem_base.specs.Lines.{IsLine};
 ghost use Rattle.pmem_base.specs.Marks.{last_seal};
-ghost use Rattle.seal_ledger.specs.Ledger.{LedgerState};
-ghost use Rattle.seal_ledger.specs.Notes.{HasRoom, with_mark, IsFetchNoted, IsUnsealNoted};
+ghost use Rattle.seal_ledger.specs.Ledger.{LedgerState, IsSealValue};
+ghost use Rattle.seal_ledger.specs.Notes.{HasRoom, HasMark, HasSameSeals, HasLastSeal, HasMeta, IsFetchNoted, IsUnsealNoted};
 
+mod ledger;
+#[cfg(test)]
+mod tests;
+
+pub use ledger::Ledger;
 use pmem_base::{Ctr, Line, MemFault, Tag};
 
 /// Whether the engine may go on.
@@ -16,33 +22,55 @@ pub enum Go {
     Stop,
 }
 
-/// What the engine tells of its work. It has no readers, so the engine takes no answer from it.
+/// What an engine tells of its work. There are no readers, so an engine can't take its answers from
+/// it. No call changes the number of true lines or of data lines.
 pub trait Audit {
+    /// The marks in order, the true metadata lines, the number of data lines, the first exhibit, and
+    /// how many marks there is room for.
     ghost ledger: { Self → LedgerState };
 
+    /// Makes room for `n` marks. The one error is want of memory, and nothing changes then.
     fn reserve(&mut self, n: u32) -> Result<(), MemFault>
         ensures ok { OnOk result (HasRoom (ledger self.old) (ledger self.new) n) }
-        ensures err { OnErr result (ledger self.new ≡ ledger self.old) };
+        ensures err { OnErr result (ledger self.new ≡ ledger self.old) }
+        ensures wanting { OnErr result ((ledger self.old).spare < n) };
 
+    /// Appends the begin of a page's re-encryption to the marks.
     fn note_begin(&mut self, page: u32)
         requires { 1 ≤ (ledger self.old).spare }
-        ensures { ledger self.new ≡ with_mark (ledger self.old) (Begin page) };
+        ensures mark { HasMark (ledger self.old) (ledger self.new) (Begin page) }
+        ensures seals { HasSameSeals (ledger self.old) (ledger self.new) };
 
+    /// Appends the seal of data line `at` to the marks.
     fn note_seal(&mut self, at: u32, ctr: Ctr, cipher: &Line, tag: &Tag)
         requires line { at < (ledger self.old).data_lines }
         requires room { 1 ≤ (ledger self.old).spare }
-        ensures { ledger self.new ≡ with_mark (ledger self.old) (Seal at ctr cipher.now tag.now) };
+        ensures mark { HasMark (ledger self.old) (ledger self.new) (Seal at ctr cipher.now tag.now) }
+        ensures seal { HasLastSeal (ledger self.old) (ledger self.new) at
+            (record { ctr = ctr; cipher = cipher.now; tag = tag.now }) }
+        ensures fits { IsSealValue ctr cipher.now tag.now };
 
+    /// Replaces the true metadata line at `x`.
     fn note_meta(&mut self, x: u32, line: &Line)
         requires { x < length (ledger self.old).truth }
-        ensures { ledger self.new ≡ record (ledger self.old) { truth = slice_set (ledger self.old).truth x line.now } };
+        ensures line { HasMeta (ledger self.old) (ledger self.new) x line.now }
+        ensures fits { IsLine line.now };
 
+    /// Stops where a fetched line, whose digest is right, isn't the true line at `x`. The exhibit is
+    /// the clash of the two.
     fn note_fetch(&mut self, x: u32, line: &Line) -> Go
         requires { x < length (ledger self.old).truth }
-        ensures { IsFetchNoted (ledger self.old) (ledger self.new) x line.now result };
+        ensures line { IsFetchNoted (ledger self.old) (ledger self.new) x line.now result }
+        ensures fits { IsLine line.now };
 
+    /// Stops where a cipher, whose tag is right, isn't that of the last seal of data line `at`. The
+    /// exhibit is the forged seal.
     fn note_unseal(&mut self, at: u32, ctr: Ctr, cipher: &Line, tag: &Tag) -> Go
         requires line { at < (ledger self.old).data_lines }
         requires sealed { IsSome (last_seal (ledger self.old).marks at) }
-        ensures { IsUnsealNoted (ledger self.old) (ledger self.new) at ctr cipher.now tag.now result };
+        ensures cipher { IsUnsealNoted (ledger self.old) (ledger self.new) at ctr cipher.now tag.now result }
+        ensures fits { IsSealValue ctr cipher.now tag.now };
+
+    /// A law: each true line has 64 bytes.
+    ghost whole: { (audit : Self) → All IsLine (ledger audit).truth };
 }

@@ -4,11 +4,9 @@
 mod reading;
 #[cfg(test)]
 mod tests;
-mod texts;
 mod values;
-mod words;
 mod writing;
 
+pub use collision_witness::{push_bytes, push_number};
 pub use reading::read_command;
-pub use texts::{push_bytes, push_number};
 pub use writing::{push_answer, write_answer, write_mark};

@@ -1,11 +1,13 @@
 //! What a line of a trace asks for.
 ghost use Rattle.std.specs.Prelude.{◌≡◌, IsTrue, IfOk, IfSome};
 ghost use Rattle.pmem_base.specs.declared.commands.Command.TheVariants as Do;
-ghost use Rattle.plain_model.specs.Words.{words_of};
+ghost use Rattle.collision_witness.specs.Words.{words_of};
 ghost use Rattle.plain_model.specs.Grammar.{reading_of, command_among, built_verbs, is_taken, post_with, with_port, read_with};
 
-use crate::values::{read_line, read_number, read_port};
-use crate::words::{before_return, next_word, one_word, three_words, two_words};
+use crate::values::read_port;
+use collision_witness::{
+    before_return, next_word, one_word, read_line, read_number, three_words, two_words,
+};
 use pmem_base::{Command, Kind};
 
 /// The command of the words behind `post`: a port, a number and a line.

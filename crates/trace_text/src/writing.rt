@@ -2,10 +2,11 @@
 ghost use Rattle.std.specs.Prelude.{◌≡◌, ◌<◌, ◌≤◌, ◌+◌, false, ◌∷◌, [], ◌++◌, length, codes, decimal, IsTrue};
 ghost use Rattle.plain_model.specs.Answers.{is_answer_to, is_shown};
 ghost use Rattle.pmem_base.specs.declared.answers.Answer.TheVariants as Say;
-ghost use Rattle.plain_model.specs.Texts.{answer_text, mark_text, sentence, drained_words, place_words, hex_text};
+ghost use Rattle.collision_witness.specs.Texts.{sentence, hex_text};
+ghost use Rattle.plain_model.specs.Texts.{answer_text, mark_text, drained_words, place_words};
 
-use crate::texts::{push_bytes, push_count, push_counts, push_line, push_number, push_tag};
 use arrayvec::ArrayVec;
+use collision_witness::{push_bytes, push_count, push_counts, push_line, push_number, push_tag};
 use pmem_base::{Answer, Command, Mark, Place, Stat, Tag};
 
 /// The text of a mark, without its LF.

@@ -1,7 +1,7 @@
 use Rattle.std.proofs.Common.{rules, refl, [], ◌∷◌}
 use Rattle.std.specs.Prelude.{codes}
-use Rattle.plain_model.specs.Lines.{lines_of, without_return}
-use Rattle.plain_model.specs.Words.{words_of}
+use Rattle.collision_witness.specs.Words.{words_of, without_return}
+use Rattle.plain_model.specs.Lines.{lines_of}
 use Rattle.plain_model.specs.Grammar.{command_among, reading_of_words, reading_among}
 use Rattle.checks.specs.Runs.{first_lines}
 use Rattle.checks.proofs.FirstRun.{first_run}

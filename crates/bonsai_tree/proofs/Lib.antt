@@ -1,0 +1,6 @@
+pub mod LineSets
+pub mod Levels
+pub mod PathPositions
+pub mod Slots
+pub mod NodeLaws
+pub mod Trees

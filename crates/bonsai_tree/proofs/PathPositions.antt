@@ -1,0 +1,360 @@
+-- Paths: one position a level from the top down to a page's counter block, and what two paths share.
+use Rattle.std.proofs.Common.{ℕ, zero, suc, ◌≡◌, ◌≢◌, ◌<◌, ◌≤◌, ◌+◌, ◌-◌, ◌*◌, ◌/◌, ◌%◌, ◌^◌, true, false, List, [], ◌∷◌, ◌++◌, length, inl, inr, refl, sym, ap, subst, ◌∙◌, arith, length-append, add-one, lit<}
+use Rattle.std.specs.Prelude.{◌==◌, All, slice_index}
+use Rattle.std.specs.List.{list_any}
+use Rattle.std.proofs.Math.Nat.{pow-suc, div-one, div-eq_of_lt, div-div-eq-div-mul}
+use Rattle.std.proofs.lemmas.Bool.{cases_Bool, cases_lt, cases_eq, eqb-true, eq-eqb, or_cases, or_left, or_right, false≢true}
+use Rattle.std.proofs.lemmas.List.{get_or_at, get_or_append_left}
+use Rattle.std.proofs.lemmas.List.Folds.{list_any-append, list_any_at}
+use Rattle.std.proofs.lemmas.List.Elements.{All-cons, All-nil, All-append, All-weaker}
+use Rattle.pmem_base.specs.Shape.{Shape}
+use Rattle.pmem_base.specs.Layout.{pages, meta_lines}
+use Rattle.bonsai_tree.specs.Positions.{parent, child_position, level_start, counter_position, path_down_to, path_of, is_on_path}
+use Rattle.bonsai_tree.proofs.Levels.{IsAtLevel, IsAtLevel-once, level_start-suc, level_start-le, parent-child, counter_position-IsAtLevel, counter_position-lt}
+
+-- ---- the position of each level
+
+-- the position at level j on a page's path
+abbrev pub path_position : Shape → ℕ → ℕ → ℕ
+path_position g page j = level_start j + page / 4 ^ (g.levels - j)
+
+pub path_position-top : (g : Shape) (page : ℕ) → page < pages g → path_position g page 0 ≡ 0
+path_position-top g page inside =
+    let all : g.levels - 0 ≡ g.levels = omega arith in
+    let none : page / 4 ^ g.levels ≡ 0 = div-eq_of_lt inside in
+    omega (arith, ap (λ n. page / 4 ^ n) all ∙ none)
+
+pub path_position-block : (g : Shape) (page : ℕ) → path_position g page g.levels ≡ counter_position g page
+path_position-block g page =
+    let none : g.levels - g.levels ≡ 0 = omega arith in
+    ap (λ n. level_start g.levels + page / 4 ^ n) none ∙ ap (λ n. level_start g.levels + n) (div-one page)
+
+-- the position one level down
+pub path_position-suc : (g : Shape) (page j : ℕ) → j < g.levels → path_position g page (suc j) ≡ child_position (path_position g page j) (page / 4 ^ (g.levels - suc j) % 4)
+path_position-suc g page j above =
+    let more : g.levels - j ≡ suc (g.levels - suc j) = omega (arith, above) in
+    let quarter : page / 4 ^ (g.levels - j) ≡ page / 4 ^ (g.levels - suc j) / 4 =
+    ap (λ n. page / 4 ^ n) more
+    ∙ (ap (λ n. page / n) (pow-suc 4 (g.levels - suc j))
+    ∙ sym (div-div-eq-div-mul page (4 ^ (g.levels - suc j)) 4)) in
+    omega (arith, quarter, level_start-suc j)
+
+pub path_position-parent : (g : Shape) (page j : ℕ) → j < g.levels → parent (path_position g page (suc j)) ≡ path_position g page j
+path_position-parent g page j above =
+    ap parent (path_position-suc g page j above)
+    ∙ parent-child (path_position g page j) (page / 4 ^ (g.levels - suc j) % 4) (omega arith)
+
+pub path_position-IsAtLevel : (g : Shape) (page j : ℕ) → page < pages g → j ≤ g.levels → IsAtLevel j (path_position g page j)
+path_position-IsAtLevel g page zero inside le =
+    subst (IsAtLevel 0) (sym (path_position-top g page inside)) (record { from = omega arith; below = lit< tt })
+path_position-IsAtLevel g page (suc j) inside le =
+    let above = path_position-IsAtLevel g page j inside (omega (arith, le)) in
+    let slot = page / 4 ^ (g.levels - suc j) % 4 in
+    subst (IsAtLevel (suc j)) (sym (path_position-suc g page j (omega (arith, le))))
+    (record {
+      from = omega (arith, above.from, level_start-suc j);
+      below = omega (arith, above.below, level_start-suc j, level_start-suc (suc j));
+    })
+
+-- ---- the path as a list
+
+pub length-path_down_to : (j x : ℕ) → length (path_down_to j x) ≡ suc j
+length-path_down_to zero x = refl
+length-path_down_to (suc j) x = length-append (path_down_to j (parent x)) (x ∷ []) ∙ omega (arith, length-path_down_to j (parent x))
+
+-- one more position at the end of a path
+pub path_down_to-suc : (g : Shape) (page j : ℕ) → j < g.levels → path_down_to (suc j) (path_position g page (suc j)) ≡ path_down_to j (path_position g page j) ++ path_position g page (suc j) ∷ []
+path_down_to-suc g page j above =
+    ap (λ x. path_down_to j x ++ path_position g page (suc j) ∷ []) (path_position-parent g page j above)
+
+path_down_to-at : (g : Shape) (page j i : ℕ) → j ≤ g.levels → i ≤ j → slice_index (path_down_to j (path_position g page j)) i ≡ path_position g page i
+path_down_to-at g page zero i le within =
+    let top : i ≡ 0 = omega (arith, within) in
+    subst (λ n. slice_index (path_down_to 0 (path_position g page 0)) n ≡ path_position g page n) (sym top) refl
+path_down_to-at g page (suc j) i le within =
+    let above : j < g.levels = omega (arith, le) in
+    let front = path_down_to j (path_position g page j) in
+    let long : length front ≡ suc j = length-path_down_to j (path_position g page j) in
+    ap (λ xs. slice_index xs i) (path_down_to-suc g page j above)
+    ∙ elim (cases_eq i (suc j)) [
+      | inl last ↦
+          subst (λ n. slice_index (front ++ path_position g page (suc j) ∷ []) n ≡ path_position g page n) (sym last)
+          (get_or_at front (path_position g page (suc j)) [] 0 (suc j) long)
+      | inr before ↦
+          get_or_append_left front (path_position g page (suc j) ∷ []) 0 i (omega (arith, within, before, long))
+          ∙ path_down_to-at g page j i (omega (arith, le)) (omega (arith, within, before))
+    ]
+
+-- the laws of a page's path
+pub length-path_of : (g : Shape) (page : ℕ) → length (path_of g page) ≡ g.levels + 1
+length-path_of g page = length-path_down_to g.levels (counter_position g page) ∙ omega arith
+
+pub path_of-at : (g : Shape) (page j : ℕ) → j ≤ g.levels → slice_index (path_of g page) j ≡ path_position g page j
+path_of-at g page j le =
+    ap (λ x. slice_index (path_down_to g.levels x) j) (sym (path_position-block g page))
+    ∙ path_down_to-at g page g.levels j (omega arith) le
+
+pub path_of-top : (g : Shape) (page : ℕ) → page < pages g → slice_index (path_of g page) 0 ≡ 0
+path_of-top g page inside = path_of-at g page 0 (omega arith) ∙ path_position-top g page inside
+
+pub path_of-block : (g : Shape) (page : ℕ) → slice_index (path_of g page) g.levels ≡ counter_position g page
+path_of-block g page = path_of-at g page g.levels (omega arith) ∙ path_position-block g page
+
+-- each position is the parent of the next
+pub path_of-parent : (g : Shape) (page j : ℕ) → j < g.levels → parent (slice_index (path_of g page) (suc j)) ≡ slice_index (path_of g page) j
+path_of-parent g page j above =
+    ap parent (path_of-at g page (suc j) (omega (arith, above)))
+    ∙ (path_position-parent g page j above ∙ sym (path_of-at g page j (omega (arith, above))))
+
+-- one position a level
+pub path_of-IsAtLevel : (g : Shape) (page j : ℕ) → page < pages g → j ≤ g.levels → IsAtLevel j (slice_index (path_of g page) j)
+path_of-IsAtLevel g page j inside le =
+    subst (IsAtLevel j) (sym (path_of-at g page j le)) (path_position-IsAtLevel g page j inside le)
+
+path_down_to-bounded : (j x : ℕ) → All (λ y. y ≤ x) (path_down_to j x)
+path_down_to-bounded zero x = All-cons (λ y. y ≤ x) x [] (omega arith) (All-nil (λ y. y ≤ x))
+path_down_to-bounded (suc j) x =
+    All-append (λ y. y ≤ x) (path_down_to j (parent x)) (x ∷ [])
+    (All-weaker (λ y. y ≤ parent x) (λ y. y ≤ x) (λ y h. omega arith) (path_down_to j (parent x))
+    (path_down_to-bounded j (parent x)))
+    (All-cons (λ y. y ≤ x) x [] (omega arith) (All-nil (λ y. y ≤ x)))
+
+-- the positions of a page's path are metadata lines
+pub path_of-within : (g : Shape) (page : ℕ) → page < pages g → All (λ x. x < meta_lines g) (path_of g page)
+path_of-within g page inside =
+    All-weaker (λ y. y ≤ counter_position g page) (λ y. y < meta_lines g)
+    (λ y l. omega (arith, l, counter_position-lt g page inside)) (path_of g page)
+    (path_down_to-bounded g.levels (counter_position g page))
+
+-- ---- a path built from the top down
+
+pub path_position-small : (g : Shape) (page j : ℕ) → page < pages g → g.levels ≤ 6 → j < g.levels → path_position g page j < 1365
+path_position-small g page j inside few above =
+    let at = path_position-IsAtLevel g page j inside (omega (arith, above)) in
+    let six : level_start 6 ≡ 1365 = refl in
+    omega (arith, at.below, level_start-le (suc j) 6 (omega (arith, few, above)), six)
+
+pub quarter-is : (levels j below : ℕ) → j < levels → below ≡ 4 ^ (levels - j) → below / 4 ≡ 4 ^ (levels - (j + 1))
+quarter-is levels j below above is =
+    let more : levels - j ≡ suc (levels - (j + 1)) = omega (arith, above) in
+    let four : below ≡ 4 ^ (levels - (j + 1)) * 4 = is ∙ (ap (λ n. 4 ^ n) more ∙ pow-suc 4 (levels - (j + 1))) in
+    omega (arith, four)
+
+pub next-is : (g : Shape) (page j x below : ℕ) → j < g.levels → x ≡ path_position g page j → below ≡ 4 ^ (g.levels - j) → 4 * x + 1 + page / (below / 4) % 4 ≡ path_position g page (j + 1)
+next-is g page j x below above last is =
+    ap (λ n. 4 * x + 1 + page / n % 4) (quarter-is g.levels j below above is)
+    ∙ (ap (λ y. 4 * y + 1 + page / 4 ^ (g.levels - (j + 1)) % 4) last
+    ∙ (ap (λ n. 4 * path_position g page j + 1 + page / 4 ^ (g.levels - n) % 4) (add-one j)
+    ∙ (sym (path_position-suc g page j above) ∙ ap (path_position g page) (sym (add-one j)))))
+
+pub path-is : (g : Shape) (page j x below : ℕ) (path new : List ℕ) → j < g.levels → x ≡ path_position g page j → below ≡ 4 ^ (g.levels - j) → path ≡ path_down_to j (path_position g page j) → new ≡ path ++ (4 * x + 1 + page / (below / 4) % 4) ∷ [] → new ≡ path_down_to (j + 1) (path_position g page (j + 1))
+path-is g page j x below path new above last is before added =
+    added
+    ∙ (ap (λ y. path ++ y ∷ []) (next-is g page j x below above last is)
+    ∙ (ap (λ ys. ys ++ path_position g page (j + 1) ∷ []) before
+    ∙ (ap (λ n. path_down_to j (path_position g page j) ++ path_position g page n ∷ []) (add-one j)
+    ∙ (sym (path_down_to-suc g page j above)
+    ∙ ap (λ n. path_down_to n (path_position g page n)) (sym (add-one j))))))
+
+-- at the last level
+pub path-done : (g : Shape) (page j : ℕ) (path : List ℕ) → j ≡ g.levels → path ≡ path_down_to j (path_position g page j) → path ≡ path_of g page
+path-done g page j path end built =
+    built
+    ∙ (ap (λ n. path_down_to n (path_position g page n)) end
+    ∙ ap (path_down_to g.levels) (path_position-block g page))
+
+-- ---- what two paths share
+
+-- they share their first n positions, and nowhere else the same position
+pub record SharesFront (n : ℕ) (xs ys : List ℕ) : Type 0 where
+  pub same : (i : ℕ) → i < n → slice_index xs i ≡ slice_index ys i
+  pub apart : (i k : ℕ) → i < length xs → k < length ys → slice_index xs i ≡ slice_index ys k → (i ≡ k) × (i < n)
+
+-- below a common position at level j the paths are one
+path_position-front : (g : Shape) (p q j i : ℕ) → j ≤ g.levels → path_position g p j ≡ path_position g q j → i ≤ j → path_position g p i ≡ path_position g q i
+path_position-front g p q zero i le same within =
+    let top : i ≡ 0 = omega (arith, within) in
+    subst (λ n. path_position g p n ≡ path_position g q n) (sym top) same
+path_position-front g p q (suc j) i le same within =
+    elim (cases_eq i (suc j)) [
+      | inl last ↦ subst (λ n. path_position g p n ≡ path_position g q n) (sym last) same
+      | inr before ↦
+          path_position-front g p q j i (omega (arith, le))
+          (sym (path_position-parent g p j (omega (arith, le))) ∙ (ap parent same ∙ path_position-parent g q j (omega (arith, le))))
+          (omega (arith, within, before))
+    ]
+
+-- how many levels the paths share down to level j
+record SharesTo (g : Shape) (p q j n : ℕ) : Type 0 where
+  pub some : 1 ≤ n
+  pub most : n ≤ suc j
+  pub same : (i : ℕ) → i < n → path_position g p i ≡ path_position g q i
+  pub differ : (i : ℕ) → n ≤ i → i ≤ j → path_position g p i ≢ path_position g q i
+
+shares_to : (g : Shape) (p q j : ℕ) → p < pages g → q < pages g → j ≤ g.levels → (n : ℕ) × SharesTo g p q j n
+shares_to g p q zero one two le = (
+  1,
+  record {
+    some = omega arith;
+    most = omega arith;
+    same =
+        λ i below.
+        path_position-front g p q 0 i le (path_position-top g p one ∙ sym (path_position-top g q two)) (omega (arith, below));
+    differ = λ i low high. absurd (omega (arith, low, high));
+  },
+)
+shares_to g p q (suc j) one two le =
+    elim (cases_eq (path_position g p (suc j)) (path_position g q (suc j))) [
+      | inl same ↦ (
+        suc (suc j),
+        record {
+          some = omega arith;
+          most = omega arith;
+          same = λ i below. path_position-front g p q (suc j) i le same (omega (arith, below));
+          differ = λ i low high. absurd (omega (arith, low, high));
+        },
+      )
+      | inr apart ↦ go apart (shares_to g p q j one two (omega (arith, le)))
+    ]
+  where
+    go : path_position g p (suc j) ≢ path_position g q (suc j) → (n : ℕ) × SharesTo g p q j n → (n : ℕ) × SharesTo g p q (suc j) n
+    go apart (n, shares) = (
+      n,
+      record {
+        some = shares.some;
+        most = omega (arith, shares.most);
+        same = shares.same;
+        differ =
+            λ i low high.
+            elim (cases_eq i (suc j)) [
+              | inl last ↦ subst (λ k. path_position g p k ≢ path_position g q k) (sym last) apart
+              | inr before ↦ shares.differ i low (omega (arith, high, before))
+            ];
+      },
+    )
+
+-- two pages' paths share exactly a front, with the top at least
+pub paths-SharesFront : (g : Shape) (p q : ℕ) → p < pages g → q < pages g → (n : ℕ) × (1 ≤ n) × (n ≤ g.levels + 1) × SharesFront n (path_of g p) (path_of g q)
+paths-SharesFront g p q one two = go (shares_to g p q g.levels one two (omega arith))
+  where
+    go : (n : ℕ) × SharesTo g p q g.levels n → (n : ℕ) × (1 ≤ n) × (n ≤ g.levels + 1) × SharesFront n (path_of g p) (path_of g q)
+    go (n, shares) = (
+      n,
+      shares.some,
+      omega (arith, shares.most),
+      record {
+        same =
+            λ i below.
+            path_of-at g p i (omega (arith, below, shares.most))
+            ∙ (shares.same i below ∙ sym (path_of-at g q i (omega (arith, below, shares.most))));
+        apart =
+            λ i k first second same.
+            let i-level : i ≤ g.levels = omega (arith, first, length-path_of g p) in
+            let k-level : k ≤ g.levels = omega (arith, second, length-path_of g q) in
+            let level : i ≡ k =
+            IsAtLevel-once i k (slice_index (path_of g p) i) (path_of-IsAtLevel g p i one i-level)
+            (subst (IsAtLevel k) (sym same) (path_of-IsAtLevel g q k two k-level)) in
+            let here : path_position g p i ≡ path_position g q i =
+            sym (path_of-at g p i i-level)
+            ∙ (same ∙ (path_of-at g q k k-level ∙ ap (path_position g q) (sym level))) in (
+              level,
+              elim (cases_lt i n) [ inl below ↦ below | inr above ↦ absurd (shares.differ i above i-level here) ],
+            );
+      },
+    )
+
+-- the paths of two pages part above their counter blocks
+pub SharesFront-parts : (g : Shape) (p q n : ℕ) → p ≢ q → SharesFront n (path_of g p) (path_of g q) → n ≤ g.levels
+SharesFront-parts g p q n apart shares =
+    elim (cases_lt g.levels n) [
+      | inl all ↦
+          absurd
+          (apart
+          (omega (arith, sym (path_of-block g p) ∙ (shares.same g.levels all ∙ path_of-block g q))))
+      | inr fine ↦ fine
+    ]
+
+-- ---- which positions are on a page's path
+
+path_down_to-last : (j x : ℕ) → list_any (λ z. z == x) (path_down_to j x) ≡ true
+path_down_to-last zero x = or_left (x == x) false (eq-eqb x x refl)
+path_down_to-last (suc j) x =
+    list_any-append (λ z. z == x) (path_down_to j (parent x)) (x ∷ [])
+    ∙ or_right (list_any (λ z. z == x) (path_down_to j (parent x))) (list_any (λ z. z == x) (x ∷ []))
+    (or_left (x == x) false (eq-eqb x x refl))
+
+-- the page's own counter block is on its path
+pub own_block_on_path : (g : Shape) (page : ℕ) → is_on_path g page (counter_position g page) ≡ true
+own_block_on_path g page = path_down_to-last g.levels (counter_position g page)
+
+-- the position of each level is on the path
+pub path_position-on_path : (g : Shape) (page j : ℕ) → j ≤ g.levels → is_on_path g page (path_position g page j) ≡ true
+path_position-on_path g page j le =
+    list_any_at (λ y. y == path_position g page j) (path_of g page) j 0 (omega (arith, le, length-path_of g page))
+    (eq-eqb (slice_index (path_of g page) j) (path_position g page j) (path_of-at g page j le))
+
+on_path_down_to : (g : Shape) (page j x : ℕ) → j ≤ g.levels → list_any (λ z. z == x) (path_down_to j (path_position g page j)) ≡ true → (i : ℕ) × (i ≤ j) × (x ≡ path_position g page i)
+on_path_down_to g page zero x le on =
+    elim (or_cases (path_position g page 0 == x) false on) [
+      | inl same ↦ (0, omega arith, sym (eqb-true (path_position g page 0) x same))
+      | inr none ↦ absurd (false≢true none)
+    ]
+on_path_down_to g page (suc j) x le on =
+    let here = path_position g page (suc j) in
+    let front = path_down_to j (path_position g page j) in
+    elim (or_cases (list_any (λ z. z == x) front) (list_any (λ z. z == x) (here ∷ []))
+    (sym (list_any-append (λ z. z == x) front (here ∷ []))
+    ∙ (sym (ap (list_any (λ z. z == x)) (path_down_to-suc g page j (omega (arith, le)))) ∙ on))) [
+      | inl above ↦ deeper (on_path_down_to g page j x (omega (arith, le)) above)
+      | inr last ↦ elim (or_cases (here == x) false last) [
+        | inl same ↦ (suc j, omega arith, sym (eqb-true here x same))
+        | inr none ↦ absurd (false≢true none)
+      ]
+    ]
+  where
+    deeper : (i : ℕ) × (i ≤ j) × (x ≡ path_position g page i) → (i : ℕ) × (i ≤ suc j) × (x ≡ path_position g page i)
+    deeper (i, within, is) = (i, omega (arith, within), is)
+
+-- what is on the path is the position of some level
+pub on_path-position : (g : Shape) (page x : ℕ) → is_on_path g page x ≡ true → (j : ℕ) × (j ≤ g.levels) × (x ≡ path_position g page j)
+on_path-position g page x on =
+    on_path_down_to g page g.levels x (omega arith)
+    (ap (λ y. list_any (λ z. z == x) (path_down_to g.levels y)) (path_position-block g page) ∙ on)
+
+-- at level j that is the path's position there
+pub on_path-at : (g : Shape) (page j x : ℕ) → page < pages g → IsAtLevel j x → is_on_path g page x ≡ true → x ≡ path_position g page j
+on_path-at g page j x inside at on = go (on_path-position g page x on)
+  where
+    go : (i : ℕ) × (i ≤ g.levels) × (x ≡ path_position g page i) → x ≡ path_position g page j
+    go (i, within, is) =
+        is
+        ∙ ap (path_position g page)
+        (IsAtLevel-once i j x (subst (IsAtLevel i) (sym is) (path_position-IsAtLevel g page i inside within)) at)
+
+-- the only counter block on a page's path is the page's own
+pub counter_position-on_path : (g : Shape) (page other : ℕ) → page < pages g → other < pages g → is_on_path g page (counter_position g other) ≡ true → other ≡ page
+counter_position-on_path g page other inside within on =
+    omega
+    (arith, on_path-at g page g.levels (counter_position g other) inside (counter_position-IsAtLevel g other within) on ∙ path_position-block g page)
+
+pub other_block_off_path : (g : Shape) (page other : ℕ) → page < pages g → other < pages g → other ≢ page → is_on_path g page (counter_position g other) ≡ false
+other_block_off_path g page other inside within apart =
+    elim (cases_Bool (is_on_path g page (counter_position g other))) [
+      | inl on ↦ absurd (apart (counter_position-on_path g page other inside within on))
+      | inr off ↦ off
+    ]
+
+-- what isn't on the path isn't the page's counter block
+pub off_path-other_block : (g : Shape) (page x : ℕ) → is_on_path g page x ≡ false → x ≢ counter_position g page
+off_path-other_block g page x off same =
+    false≢true (sym off ∙ ap (is_on_path g page) same ∙ own_block_on_path g page)
+
+-- the parent of a position on the path is on it
+pub parent-on_path : (g : Shape) (page x : ℕ) → 1 ≤ x → page < pages g → is_on_path g page x ≡ true → is_on_path g page (parent x) ≡ true
+parent-on_path g page x below inside on = go (on_path-position g page x on)
+  where
+    go : (j : ℕ) × (j ≤ g.levels) × (x ≡ path_position g page j) → is_on_path g page (parent x) ≡ true
+    go (zero, within, is) = absurd (omega (arith, below, is, path_position-top g page inside))
+    go (suc j, within, is) =
+        ap (is_on_path g page) (ap parent is ∙ path_position-parent g page j (omega (arith, within)))
+        ∙ path_position-on_path g page j (omega (arith, within))

@@ -1,0 +1,164 @@
+-- A node's slots: what a digest put into one of them changes.
+use Rattle.std.proofs.Common.{ℕ, ◌≡◌, ◌≢◌, ◌<◌, ◌≤◌, ◌+◌, ◌-◌, ◌*◌, List, [], ◌∷◌, ◌++◌, length, take, drop, get_or, refl, sym, ap, subst, inl, inr, ◌∙◌, arith, append_assoc, append-nil, length-append}
+use Rattle.std.specs.Prelude.{slice_range}
+use Rattle.std.specs.List.{concat}
+use Rattle.std.proofs.lemmas.Bool.{cases_lt}
+use Rattle.std.proofs.lemmas.Grind.{take_at_read}
+use Rattle.std.proofs.lemmas.List.{take_at, drop_at, take-take, take-append-le, drop-drop, length-drop, length-take-le}
+use Rattle.std.proofs.lemmas.List.Elements.{All-append, All-nil}
+use Rattle.std.proofs.lemmas.List.Folds.{concat-append}
+use Rattle.std.proofs.lemmas.Slice.{between_is}
+use Rattle.pmem_base.specs.declared.lines.Line.{Line}
+use Rattle.pmem_base.specs.Lines.{IsLine, IsTag, line_of, put_bytes}
+use Rattle.bonsai_tree.specs.Nodes.{node_of, child_digest}
+use Rattle.bonsai_tree.specs.Paths.{with_child_digest}
+
+-- ---- a part of a list with bytes put into it
+
+rest_at : (o : ℕ) (d xs : List ℕ) → take o xs ++ d ++ drop (o + length d) xs ≡ take o xs ++ (d ++ drop (o + length d) xs)
+rest_at o d xs = append_assoc (take o xs) d (drop (o + length d) xs)
+
+part_here : (o : ℕ) (d xs : List ℕ) → o ≤ length xs → slice_range (take o xs ++ d ++ drop (o + length d) xs) o (o + length d) ≡ d
+part_here o d xs inside =
+    let rest = drop (o + length d) xs in
+    let count : o + length d - o ≡ length d = omega arith in
+    ap (λ n. take n (drop o (take o xs ++ d ++ rest))) count
+    ∙ (ap (λ t. take (length d) (drop o t)) (rest_at o d xs)
+    ∙ (ap (λ t. take (length d) t) (drop_at (take o xs) (d ++ rest) o (length-take-le o xs inside))
+    ∙ take_at d rest (length d) refl))
+
+part_before : (o i j : ℕ) (d xs : List ℕ) → o ≤ length xs → j ≤ o → slice_range (take o xs ++ d ++ drop (o + length d) xs) i j ≡ slice_range xs i j
+part_before o i j d xs inside before =
+    let rest = drop (o + length d) xs in
+    ap (λ t. slice_range t i j) (rest_at o d xs)
+    ∙ (between_is (take o xs ++ (d ++ rest)) i j
+    ∙ (ap (λ t. drop i t)
+    (take-append-le j (take o xs) (d ++ rest) (omega (arith, before, length-take-le o xs inside)) ∙ take-take j o xs before)
+    ∙ sym (between_is xs i j)))
+
+part_after : (o i j : ℕ) (d xs : List ℕ) → o ≤ length xs → o + length d ≤ i → slice_range (take o xs ++ d ++ drop (o + length d) xs) i j ≡ slice_range xs i j
+part_after o i j d xs inside after =
+    let end = o + length d in
+    let place : end + (i - end) ≡ i = omega (arith, after) in
+    let front : length (take o xs ++ d) ≡ end = omega (arith, length-append (take o xs) d, length-take-le o xs inside) in
+    ap (λ t. take (j - i) t)
+    (ap (λ n. drop n (take o xs ++ d ++ drop end xs)) (sym place)
+    ∙ (sym (drop-drop (i - end) end (take o xs ++ d ++ drop end xs))
+    ∙ (ap (λ t. drop (i - end) t) (drop_at (take o xs ++ d) (drop end xs) end front)
+    ∙ (drop-drop (i - end) end xs ∙ ap (λ n. drop n xs) place))))
+
+-- ---- the digest of a slot
+
+pub child_digest-with_same : (node : Line) (slot : ℕ) (digest : List ℕ) → length node.0 ≡ 64 → slot < 4 → length digest ≡ 16 → child_digest (with_child_digest node slot digest) slot ≡ digest
+child_digest-with_same node slot digest whole small long =
+    ap (λ n. slice_range (with_child_digest node slot digest).0 (16 * slot) (16 * slot + n)) (sym long)
+    ∙ part_here (16 * slot) digest node.0 (omega (arith, whole, small))
+
+pub child_digest-with_other : (node : Line) (slot other : ℕ) (digest : List ℕ) → length node.0 ≡ 64 → slot < 4 → length digest ≡ 16 → other ≢ slot → child_digest (with_child_digest node slot digest) other ≡ child_digest node other
+child_digest-with_other node slot other digest whole small long apart =
+    elim (cases_lt other slot) [
+      | inl before ↦
+          part_before (16 * slot) (16 * other) (16 * other + 16) digest node.0 (omega (arith, whole, small)) (omega (arith, before))
+      | inr after ↦
+          part_after (16 * slot) (16 * other) (16 * other + 16) digest node.0 (omega (arith, whole, small)) (omega (arith, after, apart, long))
+    ]
+
+-- ---- four digests
+
+-- the node with these four digests
+abbrev pub four : List ℕ → List ℕ → List ℕ → List ℕ → Line
+four a b c d = node_of (a ∷ b ∷ c ∷ d ∷ [])
+
+-- the middle of three parts replaced by as many bytes
+put_middle : (p m s d : List ℕ) (o : ℕ) → length p ≡ o → length d ≡ length m → put_bytes (line_of (p ++ (m ++ s))) o d ≡ line_of (p ++ (d ++ s))
+put_middle p m s d o e l =
+    let front : take o (p ++ (m ++ s)) ≡ p = take_at p (m ++ s) o e in
+    let whole : length (p ++ m) ≡ o + length d = length-append p m ∙ omega (arith, e, l) in
+    let back : drop (o + length d) (p ++ (m ++ s)) ≡ s = subst (λ ys. drop (o + length d) ys ≡ s) (append_assoc p m s) (drop_at (p ++ m) s (o + length d) whole) in
+    ap (λ xs. line_of ((xs ++ d) ++ drop (o + length d) (p ++ (m ++ s)))) front ∙ (ap (λ xs. line_of ((p ++ d) ++ xs)) back ∙ ap line_of (append_assoc p d s))
+
+pub put_first : (a b c d e : List ℕ) → length e ≡ length a → with_child_digest (four a b c d) 0 e ≡ four e b c d
+put_first a b c d e l = put_middle [] a (b ++ (c ++ (d ++ []))) e 0 refl l
+
+pub put_second : (a b c d e : List ℕ) → length a ≡ 16 → length e ≡ length b → with_child_digest (four a b c d) 1 e ≡ four a e c d
+put_second a b c d e la l = put_middle a b (c ++ (d ++ [])) e 16 la l
+
+pub put_third : (a b c d e : List ℕ) → length a ≡ 16 → length b ≡ 16 → length e ≡ length c → with_child_digest (four a b c d) 2 e ≡ four a b e d
+put_third a b c d e la lb l =
+    let front : length (a ++ b) ≡ 32 = length-append a b ∙ omega (arith, la, lb) in
+    ap (λ xs. with_child_digest (line_of xs) 2 e) (sym (append_assoc a b (c ++ (d ++ []))))
+    ∙ (put_middle (a ++ b) c (d ++ []) e 32 front l ∙ ap line_of (append_assoc a b (e ++ (d ++ []))))
+
+pub put_fourth : (a b c d e : List ℕ) → length a ≡ 16 → length b ≡ 16 → length c ≡ 16 → length e ≡ length d → with_child_digest (four a b c d) 3 e ≡ four a b c e
+put_fourth a b c d e la lb lc l =
+    let front : length (a ++ (b ++ c)) ≡ 48 = length-append a (b ++ c) ∙ omega (arith, la, length-append b c, lb, lc) in
+    let split : (x : List ℕ) → a ++ (b ++ (c ++ x)) ≡ (a ++ (b ++ c)) ++ x = λ x. ap (λ xs. a ++ xs) (sym (append_assoc b c x)) ∙ sym (append_assoc a (b ++ c) x) in
+    ap (λ xs. with_child_digest (line_of xs) 3 e) (split (d ++ []))
+    ∙ (put_middle (a ++ (b ++ c)) d [] e 48 front l ∙ ap line_of (sym (split (e ++ []))))
+
+pub four-same : (a b c d a' b' c' d' : List ℕ) → a ≡ a' → b ≡ b' → c ≡ c' → d ≡ d' → four a b c d ≡ four a' b' c' d'
+four-same a b c d a' b' c' d' ea eb ec ed = cc
+
+-- the digest in each slot
+middle_is : (p m s : List ℕ) (o : ℕ) → length p ≡ o → length m ≡ 16 → take 16 (drop o (p ++ (m ++ s))) ≡ m
+middle_is p m s o e l = ap (take 16) (drop_at p (m ++ s) o e) ∙ take_at m s 16 l
+
+pub first_of_four : (a b c d : List ℕ) → length a ≡ 16 → child_digest (four a b c d) 0 ≡ a
+first_of_four a b c d la = middle_is [] a (b ++ (c ++ (d ++ []))) 0 refl la
+
+pub second_of_four : (a b c d : List ℕ) → length a ≡ 16 → length b ≡ 16 → child_digest (four a b c d) 1 ≡ b
+second_of_four a b c d la lb = middle_is a b (c ++ (d ++ [])) 16 la lb
+
+pub third_of_four : (a b c d : List ℕ) → length a ≡ 16 → length b ≡ 16 → length c ≡ 16 → child_digest (four a b c d) 2 ≡ c
+third_of_four a b c d la lb lc =
+    let front : length (a ++ b) ≡ 32 = length-append a b ∙ omega (arith, la, lb) in
+    ap (λ xs. child_digest (line_of xs) 2) (sym (append_assoc a b (c ++ (d ++ []))))
+    ∙ middle_is (a ++ b) c (d ++ []) 32 front lc
+
+pub fourth_of_four : (a b c d : List ℕ) → length a ≡ 16 → length b ≡ 16 → length c ≡ 16 → length d ≡ 16 → child_digest (four a b c d) 3 ≡ d
+fourth_of_four a b c d la lb lc ld =
+    let front : length (a ++ (b ++ c)) ≡ 48 = length-append a (b ++ c) ∙ omega (arith, la, length-append b c, lb, lc) in
+    let split : a ++ (b ++ (c ++ (d ++ []))) ≡ (a ++ (b ++ c)) ++ (d ++ []) =
+    ap (λ xs. a ++ xs) (sym (append_assoc b c (d ++ []))) ∙ sym (append_assoc a (b ++ c) (d ++ [])) in
+    ap (λ xs. child_digest (line_of xs) 3) split
+    ∙ middle_is (a ++ (b ++ c)) d [] 48 front ld
+
+-- four digests are a line
+pub four-IsLine : (a b c d : List ℕ) → IsTag a → IsTag b → IsTag c → IsTag d → IsLine (four a b c d)
+four-IsLine a b c d ta tb tc td =
+    let long0 = length-append a (b ++ (c ++ (d ++ []))) in
+    let long1 = length-append b (c ++ (d ++ [])) in
+    let long2 = length-append c (d ++ []) in
+    let long3 = length-append d [] in
+    let none : length {A = ℕ} [] ≡ 0 = refl in
+    record {
+      long = omega (arith, ta.long, tb.long, tc.long, td.long);
+      bytes =
+          All-append (λ b. b < 256) a (b ++ (c ++ (d ++ []))) ta.bytes
+          (All-append (λ b. b < 256) b (c ++ (d ++ [])) tb.bytes
+          (All-append (λ b. b < 256) c (d ++ []) tc.bytes
+          (All-append (λ b. b < 256) d [] td.bytes (All-nil (λ b. b < 256)))));
+    }
+
+-- ---- a node filled slot by slot
+
+-- one digest more copied in
+pub digests_copied : (digests : List (List ℕ)) (line new : List ℕ) (slot : ℕ) → length digests ≡ 4 → length line ≡ 64 → slot < 4 →
+    length new ≡ 64 → take (16 * slot) line ≡ concat (take slot digests) →
+    new ≡ take (16 * slot) line ++ get_or digests slot [] ++ drop (16 * slot + 16) line →
+    take (16 * (slot + 1)) new ≡ concat (take (slot + 1) digests)
+digests_copied digests line new slot count long small new-long before is-new =
+    let digest = get_or digests slot [] in
+    let digest-long : length digest ≡ 16 =
+    omega
+    (arith, ap length is-new, length-append (take (16 * slot) line ++ digest) (drop (16 * slot + 16) line), length-append (take (16 * slot) line) digest, length-take-le (16 * slot) line (omega (arith, long, small)), length-drop (16 * slot + 16) line, long, small, new-long) in
+    let front : length (take (16 * slot) line ++ digest) ≡ 16 * (slot + 1) =
+    omega (arith, length-append (take (16 * slot) line) digest, length-take-le (16 * slot) line (omega (arith, long, small)), digest-long) in
+    let more : take (slot + 1) digests ≡ take slot digests ++ digest ∷ [] =
+    (take_at_read digests slot [] (omega (arith, count, small))).1 in
+    ap (take (16 * (slot + 1))) is-new
+    ∙ (take_at (take (16 * slot) line ++ digest) (drop (16 * slot + 16) line) (16 * (slot + 1)) front
+    ∙ (ap (λ t. t ++ digest) before
+    ∙ sym (ap concat more
+    ∙ (concat-append (take slot digests) (digest ∷ [])
+    ∙ ap (λ t. concat (take slot digests) ++ t) (append-nil digest)))))

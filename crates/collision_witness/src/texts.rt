@@ -1,0 +1,82 @@
+//! Bytes, numbers and hex digits appended to a text.
+ghost use Rattle.std.specs.Prelude.{◌≡◌, ◌+◌, ◌*◌, ◌≤◌, ◌∷◌, ◌++◌, length, map, decimal};
+ghost use Rattle.collision_witness.specs.Texts.{sentence, line_text, hex_text};
+
+use arrayvec::ArrayVec;
+use pmem_base::{Line, Tag};
+
+/// Appends bytes that have room.
+pub fn push_bytes(text: &mut ArrayVec<u8, 512>, bytes: &[u8])
+    requires { length text.old.items + length bytes.now ≤ 512 }
+    ensures text { text.new.items ≡ text.old.items ++ bytes.now }
+    ensures length { length text.new.items ≡ length text.old.items + length bytes.now }
+{
+    let _ = text.try_extend_from_slice(bytes);
+}
+
+/// Appends the digits of a number.
+fn push_digits(text: &mut ArrayVec<u8, 512>, number: u64)
+    requires { length text.old.items + length (decimal number) ≤ 512 }
+    ensures { text.new.items ≡ text.old.items ++ decimal number }
+{
+    if number < 10 {
+        text.push(b'0' + number as u8);
+        return;
+    }
+    push_digits(text, number / 10);
+    text.push(b'0' + (number % 10) as u8);
+}
+
+/// Appends a number in decimal.
+#[tactic(auto, using(crate::proofs::NumberLemmas::digits_of_word))]
+pub fn push_number(text: &mut ArrayVec<u8, 512>, number: u64)
+    requires { length text.old.items + 20 ≤ 512 }
+    ensures text { text.new.items ≡ text.old.items ++ decimal number }
+    ensures length { length text.new.items ≤ length text.old.items + 20 }
+{
+    push_digits(text, number);
+}
+
+/// Appends a space and a number.
+pub fn push_count(text: &mut ArrayVec<u8, 512>, number: u64)
+    requires { length text.old.items + 21 ≤ 512 }
+    ensures text { text.new.items ≡ text.old.items ++ 32 ∷ decimal number }
+    ensures length { length text.new.items ≤ length text.old.items + 21 }
+{
+    push_bytes(text, b" ");
+    push_number(text, number);
+}
+
+/// Appends words and numbers, with a space before each number.
+pub fn push_counts(text: &mut ArrayVec<u8, 512>, words: &[u8], numbers: &[u64])
+    requires { length text.old.items + length words.now + 21 * length numbers.now ≤ 512 }
+    ensures text { text.new.items ≡ text.old.items ++ sentence (words.now ∷ map decimal numbers.now) }
+    ensures length { length text.new.items ≤ length text.old.items + length words.now + 21 * length numbers.now }
+{
+    push_bytes(text, words);
+    for number in numbers {
+        push_count(text, *number);
+    }
+}
+
+/// Appends a line in hex.
+pub fn push_line(text: &mut ArrayVec<u8, 512>, line: &Line)
+    requires { length text.old.items + 128 ≤ 512 }
+    ensures text { text.new.items ≡ text.old.items ++ line_text line.now }
+    ensures length { length text.new.items ≡ length text.old.items + 128 }
+{
+    let mut digits = [0; 128];
+    let _ = hex::encode_to_slice(line.0.as_slice(), &mut digits);
+    push_bytes(text, &digits);
+}
+
+/// Appends a tag in hex.
+pub fn push_tag(text: &mut ArrayVec<u8, 512>, tag: &Tag)
+    requires { length text.old.items + 32 ≤ 512 }
+    ensures text { text.new.items ≡ text.old.items ++ hex_text tag.now }
+    ensures length { length text.new.items ≡ length text.old.items + 32 }
+{
+    let mut digits = [0; 32];
+    let _ = hex::encode_to_slice(tag.as_slice(), &mut digits);
+    push_bytes(text, &digits);
+}

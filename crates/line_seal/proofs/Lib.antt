@@ -1,0 +1,2 @@
+pub mod TagSlots
+pub mod SealLaws

@@ -1,0 +1,135 @@
+//! A ledger in memory, which finds the last seal of a line without going over the marks.
+ghost use Rattle.std.specs.Prelude.{◌≡◌, ◌<◌, All, length, IsSome, IfOk, IfSome};
+ghost use Rattle.std.specs.Option.{option_map};
+ghost use Rattle.pmem_base.specs.Geo.{shape_of};
+ghost use Rattle.pmem_base.specs.Lines.{IsLine};
+ghost use Rattle.pmem_base.specs.Marks.{last_seal};
+ghost use Rattle.seal_ledger.specs.Ledger.{new_ledger, IsOfShape};
+ghost use Rattle.seal_ledger.specs.Numbers.{AreLastNumbers};
+
+use crate::{Audit, Go};
+use pmem_base::{Ctr, Exhibit, Geo, Line, Mark, MemFault, Tag};
+use std::alloc::Global;
+
+/// An audit that keeps all it is told. `last` has for each data line the number of its last seal
+/// among the marks, counted from 1, and 0 where it has none.
+#[derive(Drop)]
+pub struct Ledger {
+    marks: Vec<Mark>,
+    last: Vec<usize>,
+    truth: Vec<Line>,
+    exhibit: Option<Exhibit>,
+    ghost last_numbers: { AreLastNumbers marks.items last.items },
+    ghost each_line: { All IsLine truth.items },
+}
+
+impl Ledger {
+    ghost use Rattle.seal_ledger.specs.View.{ledger_of};
+
+    /// The ledger of a geometry: no marks, zero lines and no exhibit. The one error is want of
+    /// memory.
+    #[tactic(auto, using(crate::proofs::NumberLemmas::new_ledgers))]
+    pub fn new(alloc: Global, geo: &Geo) -> Result<Ledger, MemFault>
+        ensures value { IfOk result (λ ledger. ledger_of ledger ≡ new_ledger (shape_of geo.now)) }
+        ensures shape { IfOk result (λ ledger. IsOfShape (shape_of geo.now) (ledger_of ledger)) }
+    {
+        let last = vec![in alloc; 0_usize; geo.lines() as usize]?;
+        let truth = vec![in alloc; Line::default(); geo.metas() as usize]?;
+        Ok(Ledger {
+            marks: Vec::new(alloc),
+            last,
+            truth,
+            exhibit: None,
+        })
+    }
+
+    /// The marks in order.
+    pub fn marks(&self) -> &[Mark]
+        ensures { result.now ≡ (ledger_of self.now).marks }
+    {
+        &self.marks
+    }
+
+    /// The first exhibit.
+    pub fn exhibit(&self) -> Option<&Exhibit>
+        ensures { option_map (λ exhibit. exhibit.now) result ≡ (ledger_of self.now).exhibit }
+    {
+        self.exhibit.as_ref()
+    }
+
+    /// The cipher of the last seal of a data line.
+    fn last_cipher(&self, at: u32) -> &Line
+        requires line { at < (ledger_of self.now).data_lines }
+        requires sealed { IsSome (last_seal (ledger_of self.now).marks at) }
+        ensures { IfSome (last_seal (ledger_of self.now).marks at) (λ seal. result.now ≡ seal.cipher) }
+    {
+        match &self.marks[self.last[at as usize] - 1] {
+            Mark::Seal { cipher, .. } => cipher,
+            Mark::Begin { .. } => unreachable!(),
+        }
+    }
+}
+
+impl Audit for Ledger {
+    ghost use Rattle.seal_ledger.specs.View.{ledger_of};
+
+    ghost ledger = { ledger_of };
+
+    fn reserve(&mut self, n: u32) -> Result<(), MemFault> {
+        self.marks.reserve(n as usize)?;
+        Ok(())
+    }
+
+    #[tactic(auto, using(crate::proofs::NumberLemmas::begun_marks))]
+    fn note_begin(&mut self, page: u32) {
+        self.marks.push_reserved(Mark::Begin { page });
+    }
+
+    #[tactic(auto, using(crate::proofs::NumberLemmas::sealed_marks))]
+    fn note_seal(&mut self, at: u32, ctr: Ctr, cipher: &Line, tag: &Tag) {
+        cipher.is_whole();
+        let seal = Mark::Seal {
+            at,
+            ctr,
+            cipher: *cipher,
+            tag: *tag,
+        };
+        self.marks.push_reserved(seal);
+        self.last[at as usize] = self.marks.len();
+    }
+
+    fn note_meta(&mut self, x: u32, line: &Line) {
+        line.is_whole();
+        self.truth[x as usize] = *line;
+    }
+
+    fn note_fetch(&mut self, x: u32, line: &Line) -> Go {
+        line.is_whole();
+        let truth = self.truth[x as usize];
+        if *line == truth {
+            return Go::On;
+        }
+        self.exhibit.get_or_insert(Exhibit::Clash {
+            x,
+            first: *line,
+            second: truth,
+        });
+        Go::Stop
+    }
+
+    fn note_unseal(&mut self, at: u32, ctr: Ctr, cipher: &Line, tag: &Tag) -> Go {
+        cipher.is_whole();
+        if cipher == self.last_cipher(at) {
+            return Go::On;
+        }
+        self.exhibit.get_or_insert(Exhibit::Forged {
+            at,
+            ctr,
+            cipher: *cipher,
+            tag: *tag,
+        });
+        Go::Stop
+    }
+
+    ghost whole = { λ ledger. ledger.each_line };
+}

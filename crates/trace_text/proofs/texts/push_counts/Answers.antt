@@ -1,8 +1,0 @@
-use Rattle.std.proofs.Common.{arith}
-use Rattle.trace_text.proofs.TextLemmas.{sentence-more_number}
-use Rattle.trace_text.proofs.texts.push_counts.Goals as goal
-
-pub loop-number-preserved : goal.loop-number-preserved
-loop-number-preserved c =
-    let more = sentence-more_number c.args.text.now.items c.args.words.now c.args.numbers.now c.loop-number.number-index c.loop-number-test.true in
-    (cc, omega arith)

@@ -1,6 +1,0 @@
-use Rattle.std.proofs.Common.{arith, length-append}
-use Rattle.trace_text.proofs.NumberLemmas.{digits_of_word}
-use Rattle.trace_text.proofs.texts.push_number.Goals as goal
-
-pub returns-clause-length : goal.returns-clause-length
-returns-clause-length c = rw (c.push_digits.ensures, length-append) (omega (arith, digits_of_word c.args.number c.ranges.number.fits))
