@@ -1,4 +1,3 @@
-pub mod LineSets
 pub mod Levels
 pub mod PathPositions
 pub mod Slots

@@ -9,8 +9,8 @@ use Rattle.std.proofs.lemmas.List.Folds.{list_any-append, list_any_at}
 use Rattle.std.proofs.lemmas.List.Elements.{All-cons, All-nil, All-append, All-weaker}
 use Rattle.pmem_base.specs.Shape.{Shape}
 use Rattle.pmem_base.specs.Layout.{pages, meta_lines}
-use Rattle.bonsai_tree.specs.Positions.{parent, child_position, level_start, counter_position, path_down_to, path_of, is_on_path}
-use Rattle.bonsai_tree.proofs.Levels.{IsAtLevel, IsAtLevel-once, level_start-suc, level_start-le, parent-child, counter_position-IsAtLevel, counter_position-lt}
+use Rattle.bonsai_tree.specs.Positions.{parent, child_position, level_start, level_of, counter_position, path_down_to, path_of, is_on_path}
+use Rattle.bonsai_tree.proofs.Levels.{IsAtLevel, IsAtLevel-once, level_of-at, level_start-suc, level_start-le, parent-child, counter_position-IsAtLevel, counter_position-lt}
 
 -- ---- the position of each level
 
@@ -358,3 +358,24 @@ parent-on_path g page x below inside on = go (on_path-position g page x on)
     go (suc j, within, is) =
         ap (is_on_path g page) (ap parent is ∙ path_position-parent g page j (omega (arith, within)))
         ∙ path_position-on_path g page j (omega (arith, within))
+
+-- ---- positions of a path by their levels
+
+-- a position of the path stands in it at its level
+pub on_path-level : (g : Shape) (page x : ℕ) → g.levels ≤ 6 → page < pages g → is_on_path g page x ≡ true → (level_of x ≤ g.levels) × (slice_index (path_of g page) (level_of x) ≡ x)
+on_path-level g page x few inside on = go (on_path-position g page x on)
+  where
+    go : (j : ℕ) × (j ≤ g.levels) × (x ≡ path_position g page j) → (level_of x ≤ g.levels) × (slice_index (path_of g page) (level_of x) ≡ x)
+    go (j, within, is) =
+        let at : IsAtLevel j x = subst (IsAtLevel j) (sym is) (path_position-IsAtLevel g page j inside within) in
+        let level : level_of x ≡ j = level_of-at j x (omega (arith, within, few)) at in (
+          omega (arith, level, within),
+          ap (slice_index (path_of g page)) level ∙ (path_of-at g page j within ∙ sym is),
+        )
+
+-- and what stands at a level of it is on it, and of that level
+pub path_of-on_path : (g : Shape) (page j : ℕ) → j ≤ g.levels → is_on_path g page (slice_index (path_of g page) j) ≡ true
+path_of-on_path g page j le = ap (is_on_path g page) (path_of-at g page j le) ∙ path_position-on_path g page j le
+
+pub path_of-level : (g : Shape) (page j : ℕ) → g.levels ≤ 6 → page < pages g → j ≤ g.levels → level_of (slice_index (path_of g page) j) ≡ j
+path_of-level g page j few inside le = level_of-at j (slice_index (path_of g page) j) (omega (arith, le, few)) (path_of-IsAtLevel g page j inside le)

@@ -10,7 +10,7 @@ use Rattle.std.proofs.lemmas.Bool.{cases_lt, cases_eq, or_parts, or_left, or_rig
 use Rattle.pmem_base.specs.declared.lines.Line.{Line}
 use Rattle.pmem_base.specs.Lines.{IsLine, line_at, put_lines}
 use Rattle.pmem_base.proofs.LineLemmas.{IsLine-line_at}
-use Rattle.bonsai_tree.proofs.LineSets.{put_lines-append, length-put_lines, line_at-set_same, line_at-set_other, put_bytes-IsLine}
+use Rattle.pmem_base.proofs.LineSets.{put_lines-append, length-put_lines, line_at-set_same, line_at-set_other, put_bytes-IsLine}
 use Rattle.pmem_base.specs.Shape.{Shape}
 use Rattle.pmem_base.specs.Layout.{pages, meta_lines}
 use Rattle.suite.specs.Formulas.{Formulas, AreInRange}

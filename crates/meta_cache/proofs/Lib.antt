@@ -5,3 +5,4 @@ pub mod FormLemmas
 pub mod CacheLemmas
 pub mod StepLemmas
 pub mod DirtyLemmas
+pub mod SlotLemmas

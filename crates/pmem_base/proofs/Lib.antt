@@ -1,3 +1,5 @@
 pub mod LayoutLemmas
 pub mod LineLemmas
+pub mod LineSets
 pub mod OneToOne
+pub mod Regions

@@ -2,3 +2,4 @@ pub mod Digits
 pub mod Packing
 pub mod Groups
 pub mod MinorBits
+pub mod StoredBlocks

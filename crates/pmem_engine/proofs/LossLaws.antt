@@ -1,0 +1,105 @@
+-- The latch of a new stop-loss number.
+use Rattle.std.proofs.Common.{◌≡◌, ℕ, ◌*◌, ◌<◌, false, List, inl, inr, sym, subst, ◌∙◌}
+use Rattle.std.proofs.lemmas.Bool.{false≢true}
+use Rattle.pmem_base.specs.declared.lines.Line.{Line}
+use Rattle.pmem_base.specs.declared.registers.Regs.{Regs}
+use Rattle.pmem_base.specs.Layout.{device_lines, pages}
+use Rattle.pmem_base.specs.Registers.{IsGroup}
+use Rattle.bonsai_tree.specs.Positions.{level_of, counter_position}
+use Rattle.bonsai_tree.proofs.Levels.{counter_position-lt}
+use Rattle.seal_ledger.specs.Ledger.{LedgerState}
+use Rattle.meta_cache.specs.Banks.{is_cached_dirty}
+use Rattle.suite.specs.Setup.{Setup}
+use Rattle.pmem_engine.specs.Engine.{EngineState}
+use Rattle.pmem_engine.specs.Invariants.{IsAnchored, IsTrusted, IsCounterStored, IsSound}
+use Rattle.pmem_engine.specs.Steps.{HasLossSet}
+use Rattle.pmem_engine.specs.Recached.{IsTrueOrDirty}
+use Rattle.pmem_engine.proofs.CounterBlocks.{IsCounterStored-true, IsCounterStored-coarser}
+use Rattle.pmem_engine.proofs.GroupLaws.{IsMendable-unarmed, IsDurable-unarmed}
+use Rattle.pmem_engine.proofs.Latches.{anchored-latched}
+
+pub anchored-loss_set : (setup : Setup) (old new : Regs) (ledger : LedgerState) → IsAnchored setup old ledger
+    → HasLossSet old new → IsAnchored setup new ledger
+anchored-loss_set setup old new ledger anchored set =
+    anchored-latched setup old new ledger anchored set.same_root set.same_progress
+    (subst (IsGroup (device_lines setup.shape)) (sym set.same_group) anchored.valid_regs.group) set.known_loss
+
+-- the engine stays trusted, whatever the device holds
+pub IsTrusted-loss_set : (setup : Setup) (engine : EngineState) (old new : Regs) (ledger : LedgerState)
+    → IsTrusted setup engine old ledger → HasLossSet old new → IsTrusted setup engine new ledger
+IsTrusted-loss_set setup engine old new ledger trusted set =
+    record {
+      its_shape = trusted.its_shape;
+      anchored = anchored-loss_set setup old new ledger trusted.anchored set;
+      no_group = set.same_group ∙ trusted.no_group;
+      not_down = trusted.not_down;
+      cached_true = trusted.cached_true;
+    }
+
+-- A new number is latched where each counter block on the device serves it: Sound stays.
+pub IsSound-loss_set : (setup : Setup) (engine : EngineState) (lines : List Line) (old new : Regs)
+    (ledger : LedgerState) → IsSound setup engine lines old ledger → HasLossSet old new
+    → ((page : ℕ) → page < pages setup.shape → IsCounterStored setup lines new.loss ledger.truth page)
+    → IsSound setup engine lines new ledger
+IsSound-loss_set setup engine lines old new ledger sound set counters =
+    let mendable = IsMendable-unarmed setup lines old ledger sound.durable sound.trusted.no_group in
+    record {
+      trusted = IsTrusted-loss_set setup engine old new ledger sound.trusted set;
+      durable =
+          IsDurable-unarmed setup lines new ledger sound.durable.device_whole
+          (set.same_group ∙ sound.trusted.no_group)
+          (record {
+            anchored = anchored-loss_set setup old new ledger sound.trusted.anchored set;
+            seals_stored = mendable.seals_stored;
+            true_or_named = mendable.true_or_named;
+            counters_stored = counters;
+          });
+      true_unless_dirty = sound.true_unless_dirty;
+      dirty_named = sound.dirty_named;
+      mirror_true = sound.mirror_true;
+    }
+
+-- each page's counter block serves a greater number, which is some times the old one, ..
+pub IsCounterStored-loss_raised : (setup : Setup) (lines : List Line) (old new times : ℕ) (truth : List Line)
+    (page : ℕ) → new ≡ old * times → IsCounterStored setup lines old truth page
+    → IsCounterStored setup lines new truth page
+IsCounterStored-loss_raised setup lines old new times truth page longer before =
+    subst (λ loss. IsCounterStored setup lines loss truth page) (sym longer)
+    (IsCounterStored-coarser setup lines old times truth page before)
+
+-- .. and Sound stays
+pub IsSound-loss_raised : (setup : Setup) (engine : EngineState) (lines : List Line) (old new : Regs)
+    (ledger : LedgerState) (times : ℕ) → IsSound setup engine lines old ledger → HasLossSet old new
+    → new.loss ≡ old.loss * times → IsSound setup engine lines new ledger
+IsSound-loss_raised setup engine lines old new ledger times sound set longer =
+    let mendable = IsMendable-unarmed setup lines old ledger sound.durable sound.trusted.no_group in
+    IsSound-loss_set setup engine lines old new ledger sound set
+    (λ page h.
+    IsCounterStored-loss_raised setup lines old.loss new.loss times ledger.truth page longer
+    (mendable.counters_stored page h))
+
+-- a counter block that is true on the device or cached dirty, and isn't dirty, serves every number
+pub IsCounterStored-clean : (setup : Setup) (engine : EngineState) (lines truth : List Line) (loss page : ℕ)
+    → is_cached_dirty setup.shape engine.cache (level_of (counter_position setup.shape page))
+    (counter_position setup.shape page)
+    ≡ false
+    → IsTrueOrDirty setup.shape engine.cache lines truth (counter_position setup.shape page)
+    → IsCounterStored setup lines loss truth page
+IsCounterStored-clean setup engine lines truth loss page clean (inl stored) =
+    IsCounterStored-true setup lines loss truth page stored
+IsCounterStored-clean setup engine lines truth loss page clean (inr dirty) = absurd (false≢true (sym clean ∙ dirty))
+
+-- a smaller number, once no counter block is dirty
+pub IsSound-loss_lowered : (setup : Setup) (engine : EngineState) (lines : List Line) (old new : Regs)
+    (ledger : LedgerState) → IsSound setup engine lines old ledger → HasLossSet old new
+    → ((page : ℕ) → page < pages setup.shape
+    → is_cached_dirty setup.shape engine.cache (level_of (counter_position setup.shape page))
+    (counter_position setup.shape page)
+    ≡ false)
+    → IsSound setup engine lines new ledger
+IsSound-loss_lowered setup engine lines old new ledger sound set clean =
+    IsSound-loss_set setup engine lines old new ledger sound set
+    (λ page h.
+    IsCounterStored-true setup lines new.loss ledger.truth page
+    (sound.true_unless_dirty (counter_position setup.shape page) (counter_position-lt setup.shape page h)
+    (clean page h)))
