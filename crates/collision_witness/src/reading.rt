@@ -2,10 +2,12 @@
 ghost use Rattle.std.specs.Prelude.{◌≡◌, ◌≤◌, ◌∷◌, [], length, Err, IfOk, IfSome, IfNone};
 ghost use Rattle.std.specs.List.{position_or_len, slice_split};
 ghost use Rattle.pmem_base.specs.declared.commands.Kind.TheVariants as Kind;
-ghost use Rattle.collision_witness.specs.Exhibits.{AreSmallMinors};
+ghost use Rattle.collision_witness.specs.Exhibits.{AreSmallMinors, HasSmallMinor};
+ghost use Rattle.pmem_base.specs.Ranges.{IsExhibitValue};
 ghost use Rattle.collision_witness.specs.Words.{words_of, number_up_to};
-ghost use Rattle.collision_witness.specs.Reading.{is_dot, counter_of_parts, counter_of_word, short_number_of, clash_of, forged_of, twin_of, exhibit_of_line};
+ghost use Rattle.collision_witness.specs.Reading.{is_dot, counter_of_parts, counter_of_word, short_number_of, clash_of, forged_of, twin_of, exhibit_of_words, exhibit_of_line};
 
+use crate::ranges::{is_tag, is_u32, is_u64};
 use crate::values::{read_line, read_number, read_number_up_to, read_tag};
 use crate::words::{before_return, four_words, next_word, six_words, three_words};
 use pmem_base::{Ctr, Exhibit, Kind};
@@ -42,7 +44,8 @@ fn parts_at_dot(word: &[u8]) -> Option<(&[u8], &[u8])>
 /// A counter: a number, a dot and a number up to 127.
 #[tactic(auto, unfolding(crate::specs::Reading::counter_of_word))]
 pub fn read_counter(word: &[u8]) -> Result<Ctr, Kind>
-    ensures { result ≡ counter_of_word word.now }
+    ensures counter { result ≡ counter_of_word word.now }
+    ensures small { IfOk result (λ ctr. ctr.minor ≤ 127) }
 {
     let Some((first, second)) = parts_at_dot(word) else {
         return Err(Kind::Number);
@@ -73,6 +76,7 @@ fn read_short_number(word: &[u8]) -> Result<u32, Kind>
 fn read_clash(text: &[u8]) -> Result<Exhibit, Kind>
     ensures exhibit { result ≡ clash_of (words_of text.now) }
     ensures minors { IfOk result AreSmallMinors }
+    ensures counter { IfOk result HasSmallMinor }
 {
     let (x, first, second) = three_words(text)?;
     let x = read_short_number(x)?;
@@ -85,6 +89,7 @@ fn read_clash(text: &[u8]) -> Result<Exhibit, Kind>
 fn read_forged(text: &[u8]) -> Result<Exhibit, Kind>
     ensures exhibit { result ≡ forged_of (words_of text.now) }
     ensures minors { IfOk result AreSmallMinors }
+    ensures counter { IfOk result HasSmallMinor }
 {
     let (at, ctr, cipher, tag) = four_words(text)?;
     let at = read_short_number(at)?;
@@ -103,6 +108,7 @@ fn read_forged(text: &[u8]) -> Result<Exhibit, Kind>
 fn read_twin(text: &[u8]) -> Result<Exhibit, Kind>
     ensures exhibit { result ≡ twin_of (words_of text.now) }
     ensures minors { IfOk result AreSmallMinors }
+    ensures counter { IfOk result HasSmallMinor }
 {
     let (at, major, low, high, cipher, tag) = six_words(text)?;
     let at = read_short_number(at)?;
@@ -121,6 +127,62 @@ fn read_twin(text: &[u8]) -> Result<Exhibit, Kind>
     })
 }
 
+/// A law: an exhibit is in its ranges where its minors are.
+fn is_in_range(shown: Exhibit)
+    requires minors { AreSmallMinors shown }
+    requires counter { HasSmallMinor shown }
+    ensures { IsExhibitValue shown }
+{
+    match shown {
+        Exhibit::Clash { x, first, second } => {
+            is_u32(x);
+            first.is_whole();
+            second.is_whole();
+        }
+        Exhibit::Forged {
+            at,
+            ctr,
+            cipher,
+            tag,
+        } => {
+            is_u32(at);
+            is_u64(ctr.major);
+            cipher.is_whole();
+            is_tag(&tag);
+        }
+        Exhibit::Twin {
+            at,
+            major,
+            cipher,
+            tag,
+            ..
+        } => {
+            is_u32(at);
+            is_u64(major);
+            cipher.is_whole();
+            is_tag(&tag);
+        }
+    }
+}
+
+/// The exhibit of a first word and the text behind it.
+#[tactic(auto, unfolding(crate::specs::Reading::exhibit_of_words))]
+fn read_named(name: &[u8], text: &[u8]) -> Result<Exhibit, Kind>
+    ensures exhibit { result ≡ exhibit_of_words (name.now ∷ words_of text.now) }
+    ensures minors { IfOk result AreSmallMinors }
+    ensures counter { IfOk result HasSmallMinor }
+{
+    if name == b"clash".as_slice() {
+        read_clash(text)
+    } else if name == b"forged".as_slice() {
+        read_forged(text)
+    } else if name == b"twin".as_slice() {
+        read_twin(text)
+    } else {
+        Err(Kind::Word)
+    }
+}
+
 /// What a line shows, which is its bytes before its LF or the end, with its CR. An error tells the
 /// first rule that the line breaks; a blank line and a comment have no exhibit, and are
 /// `Kind::Word`.
@@ -128,6 +190,7 @@ fn read_twin(text: &[u8]) -> Result<Exhibit, Kind>
 pub fn read_shown(line: &[u8]) -> Result<Exhibit, Kind>
     ensures exhibit { result ≡ exhibit_of_line line.now }
     ensures minors { IfOk result AreSmallMinors }
+    ensures range { IfOk result IsExhibitValue }
 {
     if line.len() > 1024 {
         return Err(Kind::Long);
@@ -135,13 +198,7 @@ pub fn read_shown(line: &[u8]) -> Result<Exhibit, Kind>
     let Some((name, rest)) = next_word(before_return(line)) else {
         return Err(Kind::Word);
     };
-    if name == b"clash".as_slice() {
-        read_clash(rest)
-    } else if name == b"forged".as_slice() {
-        read_forged(rest)
-    } else if name == b"twin".as_slice() {
-        read_twin(rest)
-    } else {
-        Err(Kind::Word)
-    }
+    let shown = read_named(name, rest)?;
+    is_in_range(shown);
+    Ok(shown)
 }

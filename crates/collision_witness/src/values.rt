@@ -1,5 +1,5 @@
 //! The numbers, lines and tags that words spell.
-ghost use Rattle.std.specs.Prelude.{◌≡◌, IsTrue};
+ghost use Rattle.std.specs.Prelude.{◌≡◌, ◌≤◌, IsTrue, IfOk};
 ghost use Rattle.std.specs.List.{list_all};
 ghost use Rattle.std.specs.Char.{is_ascii_digit};
 ghost use Rattle.std.specs.Str.Parse.{digits_value};
@@ -36,7 +36,8 @@ fn value_of(word: &[u8]) -> u128
 /// A number of one to twenty digits that is at most `most`, or `Kind::Number`.
 #[tactic(auto, unfolding(crate::specs::Words::number_up_to))]
 pub fn read_number_up_to(most: u64, word: &[u8]) -> Result<u64, Kind>
-    ensures { result ≡ number_up_to most word.now }
+    ensures number { result ≡ number_up_to most word.now }
+    ensures within { IfOk result (λ number. number ≤ most) }
 {
     if !is_number_form(word) {
         return Err(Kind::Number);

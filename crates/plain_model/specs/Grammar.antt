@@ -1,5 +1,6 @@
 -- The grammar of a trace: what one line asks for.
 use Rattle.std.specs.Prelude.{ℕ, ◌-◌, ◌==◌, nat_lt, nat_le, Bool, false, List, [], ◌∷◌, ◌++◌, length, replicate, find, slice_index, codes, Option, Some, None, Result, Ok, Err, if◌then◌else◌}
+use Rattle.std.specs.List.{list_any}
 use Rattle.std.specs.Str.{bytes_eq}
 use Rattle.pmem_base.specs.declared.lines.Line.{Line}
 use Rattle.pmem_base.specs.declared.commands.Kind.{Kind}
@@ -7,7 +8,7 @@ use Rattle.pmem_base.specs.declared.commands.Command.{Command}
 use Rattle.pmem_base.specs.declared.commands.Command.TheVariants as Do
 use Rattle.pmem_base.specs.Lines.{line_of}
 use Rattle.collision_witness.specs.Words.{Word, words_of, without_return, no_word, one_word, two_words, three_words, four_words, number_of, some_hex_bytes, hex_line, ◌>>=◌}
-use Rattle.plain_model.specs.Words.{port_of, greatest_port}
+use Rattle.plain_model.specs.Words.{port_of, greatest_port, last_port}
 
 -- what a line gives: a command, nothing where it is skipped, or the kind of its fault
 abbrev pub Reading : Type 0
@@ -49,11 +50,72 @@ verbs =
 abbrev pub built_verbs : List (Word × Verb)
 built_verbs = (codes "post", post) ∷ (codes "drain", drain) ∷ (codes "read", read) ∷ []
 
--- ---- the commands of these words
+-- ---- the values that these words spell, where ports go up to a greatest one
 
 -- the line with these bytes at the front, and zeros after them
 abbrev pub padded_line : List ℕ → Line
 padded_line bytes = line_of (bytes ++ replicate (64 - length bytes) 0)
+
+-- one number and nothing else
+abbrev pub one_number : List Word → Result ℕ Kind
+one_number words = do
+  word ← one_word words
+  number_of word
+
+abbrev pub two_numbers : List Word → Result (ℕ × ℕ) Kind
+two_numbers words = do
+  found ← two_words words
+  first ← number_of found.0
+  second ← number_of found.1
+  Ok (first, second)
+
+abbrev pub one_port : ℕ → List Word → Result ℕ Kind
+one_port most words = do
+  word ← one_word words
+  port_of most word
+
+-- how many bytes the digits of a part spell, and the line that has them at its front
+abbrev pub part_of : Word → Result (ℕ × Line) Kind
+part_of word = do
+  bytes ← some_hex_bytes word
+  Ok (length bytes, padded_line bytes)
+
+-- a port and a number
+abbrev pub read_values : ℕ → List Word → Result (ℕ × ℕ) Kind
+read_values most words = do
+  found ← two_words words
+  port ← port_of most found.0
+  at ← number_of found.1
+  Ok (port, at)
+
+-- a port, a number and a line
+abbrev pub post_values : ℕ → List Word → Result (ℕ × ℕ × Line) Kind
+post_values most words = do
+  found ← three_words words
+  port ← port_of most found.0
+  at ← number_of found.1
+  line ← hex_line found.2
+  Ok (port, at, line)
+
+-- a port, two numbers, and a part's count and line
+abbrev pub part_values : ℕ → List Word → Result (ℕ × ℕ × ℕ × ℕ × Line) Kind
+part_values most words = do
+  found ← four_words words
+  port ← port_of most found.0
+  at ← number_of found.1
+  from ← number_of found.2
+  bytes ← part_of found.3
+  Ok (port, at, from, bytes.0, bytes.1)
+
+-- a number and a line
+abbrev pub poke_values : List Word → Result (ℕ × Line) Kind
+poke_values words = do
+  found ← two_words words
+  at ← number_of found.0
+  line ← hex_line found.1
+  Ok (at, line)
+
+-- ---- the commands of these words
 
 abbrev pub alone : Command → List Word → Result Command Kind
 alone command words = do
@@ -62,106 +124,101 @@ alone command words = do
 
 abbrev pub with_number : (ℕ → Command) → List Word → Result Command Kind
 with_number command words = do
-  word ← one_word words
-  n ← number_of word
+  n ← one_number words
   Ok (command n)
 
-abbrev pub with_port : (ℕ → Command) → List Word → Result Command Kind
-with_port command words = do
-  word ← one_word words
-  port ← port_of word
+abbrev pub with_port : ℕ → (ℕ → Command) → List Word → Result Command Kind
+with_port most command words = do
+  port ← one_port most words
   Ok (command port)
 
 abbrev pub with_two_numbers : (ℕ → ℕ → Command) → List Word → Result Command Kind
 with_two_numbers command words = do
-  found ← two_words words
-  first ← number_of found.0
-  second ← number_of found.1
-  Ok (command first second)
+  found ← two_numbers words
+  Ok (command found.0 found.1)
 
-abbrev pub read_with : List Word → Result Command Kind
-read_with words = do
-  found ← two_words words
-  port ← port_of found.0
-  at ← number_of found.1
-  Ok (Do.Read port at)
+abbrev pub read_with : ℕ → List Word → Result Command Kind
+read_with most words = do
+  found ← read_values most words
+  Ok (Do.Read found.0 found.1)
 
-abbrev pub post_with : List Word → Result Command Kind
-post_with words = do
-  found ← three_words words
-  port ← port_of found.0
-  at ← number_of found.1
-  line ← hex_line found.2
-  Ok (Do.Post port at line)
+abbrev pub post_with : ℕ → List Word → Result Command Kind
+post_with most words = do
+  found ← post_values most words
+  Ok (Do.Post found.0 found.1 found.2)
 
-abbrev pub part_with : List Word → Result Command Kind
-part_with words = do
-  found ← four_words words
-  port ← port_of found.0
-  at ← number_of found.1
-  from ← number_of found.2
-  bytes ← some_hex_bytes found.3
-  Ok (Do.Part port at from (length bytes) (padded_line bytes))
+abbrev pub part_with : ℕ → List Word → Result Command Kind
+part_with most words = do
+  found ← part_values most words
+  Ok (Do.Part found.0 found.1 found.2 found.3 found.4)
 
 abbrev pub poke_with : List Word → Result Command Kind
 poke_with words = do
-  found ← two_words words
-  at ← number_of found.0
-  line ← hex_line found.1
-  Ok (Do.Poke at line)
+  found ← poke_values words
+  Ok (Do.Poke found.0 found.1)
 
 -- the command of a verb and its further words: the number of words first, then the first word from
 -- the left that breaks its rule
-unfoldable pub command_of : Verb → List Word → Result Command Kind
-command_of post words = post_with words
-command_of part words = part_with words
-command_of drain words = with_port Do.Drain words
-command_of fence words = with_port Do.Fence words
-command_of read words = read_with words
-command_of turn words = alone Do.Turn words
-command_of flush words = alone Do.Flush words
-command_of cut words = with_number Do.Cut words
-command_of off words = alone Do.Off words
-command_of on words = alone Do.On words
-command_of poke words = poke_with words
-command_of flip words = with_two_numbers Do.Flip words
-command_of move words = with_two_numbers Do.Move words
-command_of snap words = alone Do.Snap words
-command_of back words = with_number Do.Back words
-command_of peek words = with_number Do.Peek words
-command_of stat words = alone Do.Stat words
-command_of loss words = with_number Do.Loss words
+unfoldable pub command_of : ℕ → Verb → List Word → Result Command Kind
+command_of most post words = post_with most words
+command_of most part words = part_with most words
+command_of most drain words = with_port most Do.Drain words
+command_of most fence words = with_port most Do.Fence words
+command_of most read words = read_with most words
+command_of most turn words = alone Do.Turn words
+command_of most flush words = alone Do.Flush words
+command_of most cut words = with_number Do.Cut words
+command_of most off words = alone Do.Off words
+command_of most on words = alone Do.On words
+command_of most poke words = poke_with words
+command_of most flip words = with_two_numbers Do.Flip words
+command_of most move words = with_two_numbers Do.Move words
+command_of most snap words = alone Do.Snap words
+command_of most back words = with_number Do.Back words
+command_of most peek words = with_number Do.Peek words
+command_of most stat words = alone Do.Stat words
+command_of most loss words = with_number Do.Loss words
 
 -- ---- a line
 
-abbrev pub command_of_entry : Option (Word × Verb) → List Word → Result Command Kind
-command_of_entry None words = Err Kind.Word
-command_of_entry (Some entry) words = command_of entry.1 words
+abbrev pub command_of_entry : ℕ → Option (Word × Verb) → List Word → Result Command Kind
+command_of_entry most None words = Err Kind.Word
+command_of_entry most (Some entry) words = command_of most entry.1 words
+
+-- whether a first word is one of these
+abbrev pub has_verb : List (Word × Verb) → Word → Bool
+has_verb entries name = list_any (λ entry. bytes_eq name entry.0) entries
 
 -- the command of a first word, if it is one of these, and of those after it
-unfoldable pub command_among : List (Word × Verb) → Word → List Word → Result Command Kind
-command_among entries name words = command_of_entry (find (λ entry. bytes_eq name entry.0) entries) words
+unfoldable pub command_among : ℕ → List (Word × Verb) → Word → List Word → Result Command Kind
+command_among most entries name words =
+    command_of_entry most (find (λ entry. bytes_eq name entry.0) entries) words
 
 -- a comment's first word begins with `#`
 abbrev pub is_comment : Word → Bool
 is_comment word = slice_index word 0 == 35
 
 -- a line without words is blank; blank and comment lines are skipped
-unfoldable pub reading_of_words : List (Word × Verb) → List Word → Reading
-reading_of_words entries [] = Ok None
-reading_of_words entries (name ∷ words) =
+unfoldable pub reading_of_words : ℕ → List (Word × Verb) → List Word → Reading
+reading_of_words most entries [] = Ok None
+reading_of_words most entries (name ∷ words) =
     if is_comment name then Ok None
-    else (command_among entries name words >>= λ command. Ok (Some command))
+    else (command_among most entries name words >>= λ command. Ok (Some command))
 
--- what a line asks for among these verbs, whose bytes are those before its LF or the trace's end
-unfoldable pub reading_among : List (Word × Verb) → List ℕ → Reading
-reading_among entries line =
+-- what a line asks for among these verbs and ports up to a greatest one; its bytes are those before
+-- its LF or the trace's end
+unfoldable pub reading_among : ℕ → List (Word × Verb) → List ℕ → Reading
+reading_among most entries line =
     if nat_lt 1024 (length line) then Err Kind.Long
-    else reading_of_words entries (words_of (without_return line))
+    else reading_of_words most entries (words_of (without_return line))
 
--- what a line asks for
+-- what a line asks for in the whole language
+abbrev pub full_reading_of : List ℕ → Reading
+full_reading_of line = reading_among last_port verbs line
+
+-- what a line asks for, as far as the program takes it
 abbrev pub reading_of : List ℕ → Reading
-reading_of line = reading_among built_verbs line
+reading_of line = reading_among greatest_port built_verbs line
 
 -- whether the program takes the command so far: its verb is built, and its port isn't too great
 abbrev pub is_taken : Command → Bool

@@ -7,8 +7,12 @@ use Rattle.collision_witness.specs.Words.{Word, number_of, ◌>>=◌}
 abbrev pub greatest_port : ℕ
 greatest_port = 0
 
--- a port is a number from 0 to the greatest port
-unfoldable pub port_of : Word → Result ℕ Kind
-port_of word = do
+-- the greatest of the eight ports
+abbrev pub last_port : ℕ
+last_port = 7
+
+-- a port is a number up to a greatest one
+unfoldable pub port_of : ℕ → Word → Result ℕ Kind
+port_of most word = do
   port ← number_of word
-  if nat_le port greatest_port then Ok port else Err Kind.Port
+  if nat_le port most then Ok port else Err Kind.Port

@@ -1,70 +1,240 @@
 //! What a line of a trace asks for.
-ghost use Rattle.std.specs.Prelude.{◌≡◌, IsTrue, IfOk, IfSome};
-ghost use Rattle.pmem_base.specs.declared.commands.Command.TheVariants as Do;
-ghost use Rattle.collision_witness.specs.Words.{words_of};
-ghost use Rattle.plain_model.specs.Grammar.{reading_of, command_among, built_verbs, is_taken, post_with, with_port, read_with};
+ghost use Rattle.std.specs.Prelude.{◌≡◌, ◌≤◌, ◌∷◌, [], true, false, Ok, None, Some, Err, IsTrue, IfOk, IfSome, OnOk};
+ghost use Rattle.pmem_base.specs.declared.commands.Kind.TheVariants as Kind;
+ghost use Rattle.pmem_base.specs.Ranges.{IsCommand, IsPartLine};
+ghost use Rattle.collision_witness.specs.Words.{words_of, without_return, no_word};
+ghost use Rattle.collision_witness.specs.Views.{map_ok};
+ghost use Rattle.plain_model.specs.Grammar.{Reading, verbs, built_verbs, has_verb, command_among, reading_among, reading_of, full_reading_of, is_taken, post_values, part_values, read_values, poke_values};
+ghost use Rattle.trace_text.specs.Languages.{port_limit, verbs_in, IsSpelledIn};
+ghost use Rattle.trace_text.specs.Commands.{name_of, HasPortWithin, HasPartAtFront, IsWritable};
 
-use crate::values::read_port;
+use crate::values::{read_one_number, read_one_port, read_part, read_port, read_two_numbers};
+use collision_witness::ranges::is_u64;
 use collision_witness::{
-    before_return, next_word, one_word, read_line, read_number, three_words, two_words,
+    before_return, four_words, next_word, read_line, read_number, three_words, two_words,
 };
-use pmem_base::{Command, Kind};
+use pmem_base::{Command, Kind, Line};
 
-/// The command of the words behind `post`: a port, a number and a line.
-fn read_post(text: &[u8]) -> Result<Command, Kind>
-    ensures command { result ≡ post_with (words_of text.now) }
-    ensures taken { IfOk result (λ command. IsTrue (is_taken command)) }
+/// The greatest port that the program takes so far.
+const GREATEST_PORT: u8 = 0;
+
+/// Whether a first word begins a command that the program takes so far.
+fn is_built(verb: &[u8]) -> bool
+    ensures { result ≡ has_verb built_verbs verb.now }
+{
+    verb == b"post".as_slice() || verb == b"drain".as_slice() || verb == b"read".as_slice()
+}
+
+/// How much of the language is read.
+#[derive(Clone, Copy, Debug, PartialEq, Eq)]
+enum Language {
+    /// All commands, at all eight ports.
+    Whole,
+    /// What the program takes so far.
+    Built,
+}
+
+impl Language {
+    /// The greatest port.
+    fn greatest_port(self) -> u8
+        ensures { result ≡ port_limit self }
+    {
+        match self {
+            Language::Whole => 7,
+            Language::Built => GREATEST_PORT,
+        }
+    }
+
+    /// Whether a word of the whole language is one of this.
+    fn has_verb(self, verb: &[u8]) -> bool
+        ensures whole { self ≡ Language.Whole → result ≡ true }
+        ensures built { self ≡ Language.Built → result ≡ has_verb built_verbs verb.now }
+    {
+        match self {
+            Language::Whole => true,
+            Language::Built => is_built(verb),
+        }
+    }
+}
+
+/// Whether a text has no word.
+pub(crate) fn has_no_word(text: &[u8]) -> Result<(), Kind>
+    ensures { map_ok (λ found. []) result ≡ no_word (words_of text.now) }
+{
+    match next_word(text) {
+        None => Ok(()),
+        Some(_) => Err(Kind::Count),
+    }
+}
+
+/// The words behind `post`: a port, a number and a line.
+fn read_post(most: u8, text: &[u8]) -> Result<(u8, u64, Line), Kind>
+    ensures values { result ≡ post_values most (words_of text.now) }
+    ensures port { IfOk result (λ found. found.0 ≤ most) }
 {
     let (port, at, line) = three_words(text)?;
-    let port = read_port(port)?;
+    let port = read_port(most, port)?;
     let at = read_number(at)?;
     let line = read_line(line)?;
-    Ok(Command::Post { port, at, line })
+    Ok((port, at, line))
 }
 
-/// The command of the words behind `drain`: a port.
-fn read_drain(text: &[u8]) -> Result<Command, Kind>
-    ensures command { result ≡ with_port Do.Drain (words_of text.now) }
-    ensures taken { IfOk result (λ command. IsTrue (is_taken command)) }
+/// The words behind `part`: a port, two numbers and a part of a line.
+fn read_posted_part(most: u8, text: &[u8]) -> Result<(u8, u64, u64, u8, Line), Kind>
+    ensures values { result ≡ part_values most (words_of text.now) }
+    ensures port { IfOk result (λ found. found.0 ≤ most) }
+    ensures part { IfOk result (λ found. IsPartLine found.3 found.4) }
 {
-    let port = read_port(one_word(text)?)?;
-    Ok(Command::Drain { port })
+    let (port, at, from, part) = four_words(text)?;
+    let port = read_port(most, port)?;
+    let at = read_number(at)?;
+    let from = read_number(from)?;
+    let (count, line) = read_part(part)?;
+    Ok((port, at, from, count, line))
 }
 
-/// The command of the words behind `read`: a port and a number.
-fn read_read(text: &[u8]) -> Result<Command, Kind>
-    ensures command { result ≡ read_with (words_of text.now) }
-    ensures taken { IfOk result (λ command. IsTrue (is_taken command)) }
+/// The words behind `read`: a port and a number.
+fn read_read(most: u8, text: &[u8]) -> Result<(u8, u64), Kind>
+    ensures values { result ≡ read_values most (words_of text.now) }
+    ensures port { IfOk result (λ found. found.0 ≤ most) }
 {
     let (port, at) = two_words(text)?;
-    let port = read_port(port)?;
+    let port = read_port(most, port)?;
     let at = read_number(at)?;
-    Ok(Command::Read { port, at })
+    Ok((port, at))
 }
 
-/// The command that begins with a first word.
+/// The words behind `poke`: a number and a line.
+fn read_poke(text: &[u8]) -> Result<(u64, Line), Kind>
+    ensures { result ≡ poke_values (words_of text.now) }
+{
+    let (at, line) = two_words(text)?;
+    let at = read_number(at)?;
+    let line = read_line(line)?;
+    Ok((at, line))
+}
+
+/// The command that begins with a first word, of all that there are.
 #[tactic(auto, unfolding(plain_model::specs::Grammar::command_among, plain_model::specs::Grammar::command_of))]
-fn read_verb(verb: &[u8], text: &[u8]) -> Result<Command, Kind>
-    ensures command { result ≡ command_among built_verbs verb.now (words_of text.now) }
-    ensures taken { IfOk result (λ command. IsTrue (is_taken command)) }
+fn read_verb(most: u8, verb: &[u8], text: &[u8]) -> Result<Command, Kind>
+    ensures command { result ≡ command_among most verbs verb.now (words_of text.now) }
+    ensures named { IfOk result (λ command. name_of command ≡ verb.now) }
+    ensures port { IfOk result (HasPortWithin most) }
+    ensures part { IfOk result HasPartAtFront }
 {
     if verb == b"post".as_slice() {
-        read_post(text)
+        let (port, at, line) = read_post(most, text)?;
+        Ok(Command::Post { port, at, line })
+    } else if verb == b"part".as_slice() {
+        let (port, at, from, count, line) = read_posted_part(most, text)?;
+        Ok(Command::Part {
+            port,
+            at,
+            from,
+            count,
+            line,
+        })
     } else if verb == b"drain".as_slice() {
-        read_drain(text)
+        let port = read_one_port(most, text)?;
+        Ok(Command::Drain { port })
+    } else if verb == b"fence".as_slice() {
+        let port = read_one_port(most, text)?;
+        Ok(Command::Fence { port })
     } else if verb == b"read".as_slice() {
-        read_read(text)
+        let (port, at) = read_read(most, text)?;
+        Ok(Command::Read { port, at })
+    } else if verb == b"turn".as_slice() {
+        has_no_word(text)?;
+        Ok(Command::Turn)
+    } else if verb == b"flush".as_slice() {
+        has_no_word(text)?;
+        Ok(Command::Flush)
+    } else if verb == b"cut".as_slice() {
+        let n = read_one_number(text)?;
+        Ok(Command::Cut { n })
+    } else if verb == b"off".as_slice() {
+        has_no_word(text)?;
+        Ok(Command::Off)
+    } else if verb == b"on".as_slice() {
+        has_no_word(text)?;
+        Ok(Command::On)
+    } else if verb == b"poke".as_slice() {
+        let (at, line) = read_poke(text)?;
+        Ok(Command::Poke { at, line })
+    } else if verb == b"flip".as_slice() {
+        let (at, bit) = read_two_numbers(text)?;
+        Ok(Command::Flip { at, bit })
+    } else if verb == b"move".as_slice() {
+        let (from, to) = read_two_numbers(text)?;
+        Ok(Command::Move { from, to })
+    } else if verb == b"snap".as_slice() {
+        has_no_word(text)?;
+        Ok(Command::Snap)
+    } else if verb == b"back".as_slice() {
+        let at = read_one_number(text)?;
+        Ok(Command::Back { at })
+    } else if verb == b"peek".as_slice() {
+        let at = read_one_number(text)?;
+        Ok(Command::Peek { at })
+    } else if verb == b"stat".as_slice() {
+        has_no_word(text)?;
+        Ok(Command::Stat)
+    } else if verb == b"loss".as_slice() {
+        let n = read_one_number(text)?;
+        Ok(Command::Loss { n })
     } else {
         Err(Kind::Word)
     }
 }
 
-/// The command of a line, which is its bytes before its LF or the end of the trace, with its CR. A
-/// blank line and a comment have none. An error tells the first rule that the line breaks.
+/// A law: what a trace can spell is in its ranges.
+pub(crate) fn is_in_range(command: Command)
+    requires { IsWritable command }
+    ensures { IsCommand command }
+{
+    match command {
+        Command::Post { at, line, .. } | Command::Poke { at, line } => {
+            is_u64(at);
+            line.is_whole();
+        }
+        Command::Part { at, from, .. } => {
+            is_u64(at);
+            is_u64(from);
+        }
+        Command::Flip { at, bit } => {
+            is_u64(at);
+            is_u64(bit);
+        }
+        Command::Move { from, to } => {
+            is_u64(from);
+            is_u64(to);
+        }
+        Command::Read { at, .. } | Command::Back { at } | Command::Peek { at } => is_u64(at),
+        Command::Cut { n } | Command::Loss { n } => is_u64(n),
+        Command::Drain { .. } | Command::Fence { .. } => {}
+        Command::Turn | Command::Flush | Command::Off => {}
+        Command::On | Command::Snap | Command::Stat => {}
+    }
+}
+
+/// The command of a first word and the text behind it.
+#[tactic(auto, unfolding(plain_model::specs::Grammar::command_among))]
+fn read_words(language: Language, verb: &[u8], text: &[u8]) -> Result<Command, Kind>
+    ensures command { result ≡ command_among (port_limit language) (verbs_in language) verb.now (words_of text.now) }
+    ensures spelled { IfOk result (IsSpelledIn language) }
+{
+    if !language.has_verb(verb) {
+        return Err(Kind::Word);
+    }
+    read_verb(language.greatest_port(), verb, text)
+}
+
+/// The command of a line, as `read_command` and `read_any_command` give it.
 #[tactic(auto, unfolding(plain_model::specs::Grammar::reading_among, plain_model::specs::Grammar::reading_of_words))]
-pub fn read_command(line: &[u8]) -> Result<Option<Command>, Kind>
-    ensures reading { result ≡ reading_of line.now }
-    ensures taken { IfOk result (λ found. IfSome found (λ command. IsTrue (is_taken command))) }
+fn read_in(language: Language, line: &[u8]) -> Result<Option<Command>, Kind>
+    ensures reading { result ≡ reading_among (port_limit language) (verbs_in language) line.now }
+    ensures range { IfOk result (λ found. IfSome found IsCommand) }
+    ensures spelled { IfOk result (λ found. IfSome found (IsSpelledIn language)) }
 {
     if line.len() > 1024 {
         return Err(Kind::Long);
@@ -75,5 +245,28 @@ pub fn read_command(line: &[u8]) -> Result<Option<Command>, Kind>
     if verb.first() == Some(&b'#') {
         return Ok(None);
     }
-    Ok(Some(read_verb(verb, rest)?))
+    let command = read_words(language, verb, rest)?;
+    is_in_range(command);
+    Ok(Some(command))
+}
+
+/// The command of a line, which is its bytes before its LF or the end of the trace, with its CR. A
+/// blank line and a comment have none. An error tells the first rule that the line breaks; a command
+/// that the program doesn't take so far is no word of its.
+pub fn read_command(line: &[u8]) -> Result<Option<Command>, Kind>
+    ensures reading { result ≡ reading_of line.now }
+    ensures range { IfOk result (λ found. IfSome found IsCommand) }
+    ensures taken { IfOk result (λ found. IfSome found (λ command. IsTrue (is_taken command))) }
+{
+    read_in(Language::Built, line)
+}
+
+/// The command of a line in the whole language, whatever the program takes so far: all commands, at
+/// all eight ports. What `write_command` writes is read back by it.
+pub fn read_any_command(line: &[u8]) -> Result<Option<Command>, Kind>
+    ensures reading { result ≡ full_reading_of line.now }
+    ensures range { IfOk result (λ found. IfSome found IsCommand) }
+    ensures writable { IfOk result (λ found. IfSome found IsWritable) }
+{
+    read_in(Language::Whole, line)
 }

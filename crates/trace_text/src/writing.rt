@@ -1,12 +1,16 @@
 //! The texts of marks and answers.
-ghost use Rattle.std.specs.Prelude.{◌≡◌, ◌<◌, ◌≤◌, ◌+◌, false, ◌∷◌, [], ◌++◌, length, codes, decimal, IsTrue};
-ghost use Rattle.plain_model.specs.Answers.{is_answer_to, is_shown};
+ghost use Rattle.std.specs.Prelude.{◌≡◌, ◌<◌, ◌≤◌, ◌+◌, ◌∷◌, [], ◌++◌, length, codes, decimal, IsTrue};
+ghost use Rattle.plain_model.specs.Answers.{is_answer_to};
+ghost use Rattle.trace_text.specs.Answers.{HasSmallMinors, HasExhibitValue};
 ghost use Rattle.pmem_base.specs.declared.answers.Answer.TheVariants as Say;
 ghost use Rattle.collision_witness.specs.Texts.{sentence, hex_text};
-ghost use Rattle.plain_model.specs.Texts.{answer_text, mark_text, drained_words, place_words};
+ghost use Rattle.plain_model.specs.Texts.{IsAnswerText, answer_text, mark_text, drained_words, place_words};
 
+use crate::answers::is_in_range;
 use arrayvec::ArrayVec;
-use collision_witness::{push_bytes, push_count, push_counts, push_line, push_number, push_tag};
+use collision_witness::{
+    push_bytes, push_count, push_counts, push_line, push_number, push_shown, push_tag,
+};
 use pmem_base::{Answer, Command, Mark, Place, Stat, Tag};
 
 /// The text of a mark, without its LF.
@@ -115,11 +119,11 @@ fn push_stat(text: &mut ArrayVec<u8, 512>, stat: &Stat)
 }
 
 /// Puts the text of an answer into an empty text, without its LF, as `write_answer` does for a new
-/// one. Exhibits have no text yet.
+/// one.
 #[tactic(auto, unfolding(plain_model::specs::Texts::answer_text))]
 pub fn push_answer(text: &mut ArrayVec<u8, 512>, answer: &Answer)
     requires empty { text.old.items ≡ [] }
-    requires no_exhibit { is_shown answer.now ≡ false }
+    requires minors { HasSmallMinors answer.now }
     ensures text { text.new.items ≡ answer_text answer.now }
     ensures length { length text.new.items < 512 }
 {
@@ -176,18 +180,21 @@ pub fn push_answer(text: &mut ArrayVec<u8, 512>, answer: &Answer)
         Answer::Already => push_bytes(text, b"already"),
         Answer::Range => push_bytes(text, b"range"),
         Answer::NoSnap => push_bytes(text, b"none"),
-        Answer::Shown(_) => unreachable!(),
+        Answer::Shown(ref shown) => push_shown(text, shown),
     }
 }
 
-/// The text of an answer that the command can have, without its LF. Exhibits have no text yet.
+/// The text of an answer that the command can have, without its LF. `read_answer` reads it back,
+/// where the minor of a forged line is in its range too.
 pub fn write_answer(command: &Command, answer: &Answer) -> ArrayVec<u8, 512>
     requires listed { IsTrue (is_answer_to command.now answer.now) }
-    requires no_exhibit { is_shown answer.now ≡ false }
+    requires minors { HasSmallMinors answer.now }
     ensures text { result.items ≡ answer_text answer.now }
     ensures room { length result.items < 512 }
+    ensures read_back { HasExhibitValue answer.now → IsAnswerText command.now result.items answer.now }
 {
     let _ = command;
+    is_in_range(*answer);
     let mut text = ArrayVec::new();
     push_answer(&mut text, answer);
     text

@@ -1,0 +1,56 @@
+-- What a command's text begins with, and what it asks of the command.
+use Rattle.std.specs.Prelude.{ℕ, ◌≤◌, codes, ⊤, Result, Ok}
+use Rattle.pmem_base.specs.declared.commands.Command.{Command}
+use Rattle.pmem_base.specs.declared.commands.Command.TheVariants as Do
+use Rattle.pmem_base.specs.declared.commands.Kind.{Kind}
+use Rattle.pmem_base.specs.declared.lines.Line.{Line}
+use Rattle.pmem_base.specs.Ranges.{IsPartLine}
+use Rattle.collision_witness.specs.Words.{Word, hex_bytes, ◌>>=◌}
+use Rattle.plain_model.specs.Grammar.{padded_line}
+use Rattle.plain_model.specs.Words.{last_port}
+
+-- the first word of a command
+abbrev pub name_of : Command → Word
+name_of (Do.Post port at line) = codes "post"
+name_of (Do.Part port at from count line) = codes "part"
+name_of (Do.Drain port) = codes "drain"
+name_of (Do.Fence port) = codes "fence"
+name_of (Do.Read port at) = codes "read"
+name_of Do.Turn = codes "turn"
+name_of Do.Flush = codes "flush"
+name_of (Do.Cut n) = codes "cut"
+name_of Do.Off = codes "off"
+name_of Do.On = codes "on"
+name_of (Do.Poke at line) = codes "poke"
+name_of (Do.Flip at bit) = codes "flip"
+name_of (Do.Move from to) = codes "move"
+name_of Do.Snap = codes "snap"
+name_of (Do.Back at) = codes "back"
+name_of (Do.Peek at) = codes "peek"
+name_of Do.Stat = codes "stat"
+name_of (Do.Loss n) = codes "loss"
+
+-- its port, where it has one, is at most this one
+abbrev pub HasPortWithin : ℕ → Command → Type 0
+HasPortWithin most (Do.Post port at line) = port ≤ most
+HasPortWithin most (Do.Part port at from count line) = port ≤ most
+HasPortWithin most (Do.Drain port) = port ≤ most
+HasPortWithin most (Do.Fence port) = port ≤ most
+HasPortWithin most (Do.Read port at) = port ≤ most
+HasPortWithin most command = ⊤
+
+-- a part has 1 to 64 bytes, and they stand at the front of its line, with zeros after them
+abbrev pub HasPartAtFront : Command → Type 0
+HasPartAtFront (Do.Part port at from count line) = IsPartLine count line
+HasPartAtFront command = ⊤
+
+-- what a trace can spell: one of the eight ports, and parts of lines as they are
+pub record IsWritable (command : Command) : Type 0 where
+  pub port : HasPortWithin last_port command
+  pub part : HasPartAtFront command
+
+-- the line that has the bytes of n pairs of hex digits at its front
+abbrev pub front_of : ℕ → Word → Result Line Kind
+front_of n word = do
+  bytes ← hex_bytes n word
+  Ok (padded_line bytes)
