@@ -1,6 +1,6 @@
 #![tactic(auto)]
 //! Page re-encryption registers and the counters that they hold back.
-ghost use Rattle.std.specs.Prelude.{◌≡◌, ◌≢◌, ◌≤◌, ◌<◌, ◌-◌, ◌^◌, ◌==◌, ◌↔◌, All, IsErr, IsNone, IfErr, IfOk, IfSome, not, filter, length, position, slice_get};
+ghost use Rattle.std.specs.Prelude.{◌≡◌, ◌≢◌, ◌≤◌, ◌<◌, ◌-◌, ◌^◌, ◌==◌, ◌↔◌, All, IsErr, IsNone, IfErr, IfOk, IfSome, is_some, not, filter, length, position, slice_get};
 ghost use Rattle.std.specs.Option.{option_and_then, option_copied};
 ghost use Rattle.pmem_base.specs.Lines.{IsCtr};
 ghost use Rattle.pmem_base.specs.Layout.{index_in_page};
@@ -43,6 +43,13 @@ pub fn ctr_of(list: &ArrayVec<Progress, 4>, block: &Block, at: u32) -> Ctr
         Some(register) => counter_in(&unpack(&register.old), at),
         None => counter_in(block, at),
     }
+}
+
+/// Whether a register holds data line `at`: it has the line's page, and the line isn't done.
+pub fn is_left(list: &ArrayVec<Progress, 4>, at: u32) -> bool
+    ensures { result ≡ is_some (register_held list.now.items at) }
+{
+    holder(list, at).is_some()
 }
 
 // The register that holds the line.

@@ -3,3 +3,5 @@ pub mod LineLemmas
 pub mod LineSets
 pub mod OneToOne
 pub mod Regions
+pub mod ListLaws
+pub mod ByteLaws

@@ -3,3 +3,4 @@ pub mod PutLemmas
 pub mod EntryLemmas
 pub mod NameLemmas
 pub mod ShadowLines
+pub mod EntryLaws

@@ -3,3 +3,4 @@ pub mod Packing
 pub mod Groups
 pub mod MinorBits
 pub mod StoredBlocks
+pub mod StoredLaws
