@@ -2,6 +2,10 @@ pub mod PieceLemmas
 pub mod LineLemmas
 pub mod RunLemmas
 pub mod PrintLemmas
+pub mod MakeLemmas
 pub mod ServedLemmas
+pub mod CheckLemmas
+pub mod KeyLemmas
+pub mod WordLemmas
 pub mod StatusLemmas
 pub mod WorldLemmas

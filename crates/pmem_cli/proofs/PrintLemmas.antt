@@ -1,8 +1,10 @@
 -- Texts that were printed one after the other.
-use Rattle.std.proofs.Common.{◌∙◌, List, ℕ, [], ◌++◌, sym, ap, append_assoc, append-nil}
-use Rattle.std.specs.Prelude.{Option, Result, Ok, Err, OnErr}
+use Rattle.std.proofs.Common.{◌∙◌, ◌≤◌, arith, List, ℕ, [], ◌++◌, sym, ap, append_assoc, append-nil}
+use Rattle.std.specs.Prelude.{Option, Result, Ok, Err, OnOk, OnErr}
 use Rattle.std.specs.Io.KnownBytes.{Appends}
 use Rattle.std.proofs.KnownBytes.{Appends-nil, Appends-trans}
+use Rattle.std.proofs.lemmas.Bool.Decides.{nat_tests}
+use Rattle.pmem_cli.specs.Causes.{Rose}
 use Rattle.pmem_cli.specs.Printed.{Output, Prints, PrintsFront, with_waiting}
 
 -- nothing was printed
@@ -54,3 +56,12 @@ OnErr-map (Err error) P Q follows holds = follows holds
 pub OnErr-fact : {T E : Type 0} (result : Result T E) (P : Type 0) → P → OnErr result P
 OnErr-fact (Ok value) P holds = tt
 OnErr-fact (Err error) P holds = holds
+
+-- what holds at a success, by a fact that holds there
+pub OnOk-map : {T E : Type 0} (result : Result T E) (P Q : Type 0) → (P → Q) → OnOk result P → OnOk result Q
+OnOk-map (Ok value) P Q follows holds = follows holds
+OnOk-map (Err error) P Q follows holds = tt
+
+-- a count that rose from a later one rose from an earlier one
+pub Rose-before : (a b c : ℕ) → a ≤ b → Rose b c → Rose a c
+Rose-before a b c later rose = grind (arith, nat_tests)

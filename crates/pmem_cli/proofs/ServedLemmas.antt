@@ -19,7 +19,7 @@ use Rattle.pmem_cli.proofs.PrintLemmas.{Prints-nil, Prints-trans, Prints-front, 
 use Rattle.pmem_cli.proofs.RunLemmas.{machine_after_all-append, IsRunFrom-append, IsRunFrom-nil, IsFrontFrom-nil, EndsFrom-after, EndsFrom-refused, EndsFrom-long, EndsFrom-untold}
 
 -- what holds of all bytes that begin so holds of those that were ahead
-IfSome-ahead : (a b : Option (List ℕ)) (front : List ℕ) (P : List ℕ → Type 0) → Consumes a b front → ((rest : List ℕ) → P (front ++ rest)) → IfSome a P
+pub IfSome-ahead : (a b : Option (List ℕ)) (front : List ℕ) (P : List ℕ → Type 0) → Consumes a b front → ((rest : List ℕ) → P (front ++ rest)) → IfSome a P
 IfSome-ahead None b front P taken holds = tt
 IfSome-ahead (Some xs) None front P taken holds = absurd taken
 IfSome-ahead (Some xs) (Some ys) front P taken holds = subst P (sym taken) (holds ys)
@@ -227,7 +227,7 @@ pub HasStopped-fault : (a left : Option (List ℕ)) (s : Standing) (p : Output) 
 HasStopped-fault a left s p part served taken within short counted limit =
     HasStopped-quiet ReadFault a left s p served (unfinished_here a left s part served taken within short counted limit)
 
-all_unread : (known : Option (List ℕ)) (unread : List ℕ) → Consumes (prepend_known unread known) known unread
+pub all_unread : (known : Option (List ℕ)) (unread : List ℕ) → Consumes (prepend_known unread known) known unread
 all_unread None unread = tt
 all_unread (Some xs) unread = refl
 

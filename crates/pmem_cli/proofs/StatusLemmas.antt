@@ -1,5 +1,5 @@
 -- What a run's status says, by its stop and its last line.
-use Rattle.std.proofs.Common.{◌≡◌, ◌≢◌, ℕ, List, [], ◌++◌, refl, sym, subst, inl, inr}
+use Rattle.std.proofs.Common.{◌≡◌, ◌≢◌, ℕ, List, [], ◌++◌, refl, sym, ap, subst, inl, inr, append-nil}
 use Rattle.std.specs.Prelude.{◌⊎◌, Option, None, Some, IfSome, IsNone}
 use Rattle.suite.specs.Setup.{Setup}
 use Rattle.plain_model.specs.declared.Stop.{Stop}
@@ -8,7 +8,14 @@ use Rattle.plain_model.specs.Run.{steps_text, stop_text, status_of}
 use Rattle.pmem_cli.specs.Printed.{Output, Prints, PrintsFront, with_waiting}
 use Rattle.pmem_cli.specs.Standing.{standing_at_start}
 use Rattle.pmem_cli.specs.Served.{HasStopped}
-use Rattle.pmem_cli.specs.HasRun.{HasRun}
+use Rattle.plain_model.specs.Defaults.{default_setup}
+use Rattle.trace_text.specs.Samples.{sample_trace, commands_text}
+use Rattle.pmem_cli.specs.declared.options.Choices.{Choices}
+use Rattle.pmem_cli.specs.declared.options.Task.{Task}
+use Rattle.pmem_cli.specs.declared.ending.Ending.{Ending}
+use Rattle.pmem_cli.specs.declared.ending.Ending.TheVariants.{Stopped}
+use Rattle.pmem_cli.specs.Endings.{ending_text, ending_status}
+use Rattle.pmem_cli.specs.HasRun.{HasRun, HasPut, HasTold, HasDone, HasMade, CheckEnds, HasEnded}
 use Rattle.pmem_cli.proofs.PrintLemmas.{Prints-trans, Prints-whole, PrintsFront-trans, PrintsFront-more}
 
 -- what follows from a fact of what there is
@@ -58,3 +65,69 @@ HasRun-finished setup stop status trace left before after between stopped good i
         | inr other ↦ PrintsFront-trans first between last text (stop_text stop) (stopped.whole other) (front other)
       ];
     }
+
+-- ---- what was asked for, finished by the last line
+
+-- what was made of an ending: its status, and its line
+pub record IsFinished (ending : Ending) (status : ℕ) (between : Output) (after : Option (List ℕ)) : Type 0 where
+  pub good : status ≢ 2
+  pub its_status : status ≢ 4 → status ≡ ending_status ending
+  pub fault : ending ≡ Stopped WriteFault → status ≡ 4
+  pub kept : ending ≡ Stopped WriteFault → after ≡ between.put
+  pub whole : status ≢ 4 → status ≢ 2 → Prints between (with_waiting after []) (ending_text ending)
+  pub front : ending ≢ Stopped WriteFault → PrintsFront between (with_waiting after []) (ending_text ending)
+
+run_done : (setup : Setup) (stop : Stop) (status : ℕ) (trace left before after : Option (List ℕ)) (between : Output)
+    → HasStopped stop trace left (standing_at_start setup) (with_waiting before []) between 0
+    → IsFinished (Stopped stop) status between after → HasRun setup status trace left before after
+run_done setup stop status trace left before after between stopped finished =
+    HasRun-finished setup stop status trace left before after between stopped finished.good finished.its_status
+    (λ same. finished.fault (ap Stopped same)) (λ same. finished.kept (ap Stopped same)) finished.whole
+    (λ other. finished.front (λ same. other (cc same)))
+
+put_done : (text : List ℕ) (stop : Stop) (status : ℕ) (before after : Option (List ℕ)) (between : Output)
+    → HasMade stop (with_waiting before []) between text → IsFinished (Stopped stop) status between after → HasPut text status before after
+unfolding stop_text
+put_done text Finished status before after between made finished =
+    let first = with_waiting before [] in
+    let last = with_waiting after [] in
+    let good : Finished ≢ WriteFault = λ same. cc in
+    let told : Stopped Finished ≢ Stopped WriteFault = λ same. cc in record {
+      its_status = finished.its_status;
+      whole = λ sent. Prints-whole before after text (rw append-nil at (Prints-trans first between last text [] (made.whole good) (finished.whole sent finished.good)));
+      front = rw append-nil at (PrintsFront-trans first between last text [] (made.whole good) (finished.front told));
+    }
+put_done text WriteFault status before after between made finished = record {
+  its_status = λ sent. absurd (sent (finished.fault refl));
+  whole = λ sent. absurd (sent (finished.fault refl));
+  front = subst (λ (put : Option (List ℕ)). PrintsFront (with_waiting before []) (with_waiting put []) text) (sym (finished.kept refl)) made.front;
+}
+put_done text Memory status before after between made finished = absurd (elim made.its_stop [ inl same ↦ cc same | inr same ↦ cc same ])
+put_done text Words status before after between made finished = absurd (elim made.its_stop [ inl same ↦ cc same | inr same ↦ cc same ])
+put_done text ReadFault status before after between made finished = absurd (elim made.its_stop [ inl same ↦ cc same | inr same ↦ cc same ])
+put_done text (Refused number kind) status before after between made finished = absurd (elim made.its_stop [ inl same ↦ cc same | inr same ↦ cc same ])
+put_done text TooManyLines status before after between made finished = absurd (elim made.its_stop [ inl same ↦ cc same | inr same ↦ cc same ])
+
+told_done : (choices : Choices) (ending : Ending) (status : ℕ) (trace left before after : Option (List ℕ)) (between : Output)
+    → CheckEnds choices ending trace left (with_waiting before []) between → IsFinished ending status between after → HasTold choices status trace left before after
+told_done choices ending status trace left before after between ended finished =
+    let at_start = subst (λ (from : Output). IsFinished ending status from after) ended.kept finished in record {
+      ending = ending;
+      checked = ended.checked;
+      its_status = finished.its_status;
+      whole = λ sent. Prints-whole before after (ending_text ending) (at_start.whole sent at_start.good);
+      front = at_start.front ended.write;
+    }
+
+-- what was asked for is done
+pub HasDone-finished : (task : Task) (ending : Ending) (status : ℕ) (trace left before after : Option (List ℕ)) (between : Output)
+    → HasEnded task ending trace left (with_waiting before []) between → IsFinished ending status between after → HasDone task status trace left before after
+HasDone-finished (Task.Run c) ending status trace left before after between ended finished =
+    run_done default_setup ended.stop status trace left before after between ended.stopped
+    (subst (λ (e : Ending). IsFinished e status between after) ended.its_stop finished)
+HasDone-finished (Task.Make seed count) ending status trace left before after between ended finished =
+    put_done (commands_text (sample_trace seed count)) ended.stop status before after between ended.made
+    (subst (λ (e : Ending). IsFinished e status between after) ended.its_stop finished)
+HasDone-finished (Task.Sample seed count) ending status trace left before after between ended finished = absurd ended
+HasDone-finished (Task.Check c) ending status trace left before after between ended finished =
+    told_done c ending status trace left before after between ended finished

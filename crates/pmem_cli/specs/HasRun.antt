@@ -1,12 +1,25 @@
--- What the program's status says of a run.
+-- What the program's status says of what was asked for.
 use Rattle.std.specs.Prelude.{◌≡◌, ◌≢◌, ◌⊎◌, ℕ, List, Option, IfSome}
 use Rattle.std.specs.Io.KnownBytes.{Appends}
 use Rattle.suite.specs.Setup.{Setup}
+use Rattle.plain_model.specs.Defaults.{default_setup}
 use Rattle.plain_model.specs.declared.Stop.{Stop}
-use Rattle.plain_model.specs.declared.Stop.TheVariants.{Words}
+use Rattle.plain_model.specs.declared.Stop.TheVariants.{Finished, WriteFault, Words}
 use Rattle.plain_model.specs.Run.{Step, Ends, output_of, stop_text, status_of}
+use Rattle.trace_text.specs.Samples.{sample_trace, commands_text}
+use Rattle.pmem_cli.specs.declared.options.Choices.{Choices}
+use Rattle.pmem_cli.specs.declared.options.Task.{Task}
+use Rattle.pmem_cli.specs.declared.ending.Ending.{Ending}
+use Rattle.pmem_cli.specs.declared.ending.Ending.TheVariants.{Stopped}
 use Rattle.pmem_cli.specs.Causes.{Rose}
-use Rattle.pmem_cli.specs.Printed.{AppendsFront}
+use Rattle.pmem_cli.specs.Checked.{IsChecked}
+use Rattle.pmem_cli.specs.Endings.{ending_text, ending_status}
+use Rattle.pmem_cli.specs.Keys.{formulas_of}
+use Rattle.pmem_cli.specs.Printed.{Output, AppendsFront, Prints, PrintsFront}
+use Rattle.pmem_cli.specs.Served.{HasStopped}
+use Rattle.pmem_cli.specs.Standing.{standing_at_start}
+
+-- ---- at the end of the program
 
 -- The trace ends by a stop, and its steps and the stop's line were put: the whole of them, with the
 -- stop's own status, or a front of them, with status 4.
@@ -18,8 +31,63 @@ pub record HasRun (setup : Setup) (status : ℕ) (trace left put_before put_afte
   pub whole : status ≢ 4 → Appends put_before put_after (output_of steps stop)
   pub front : AppendsFront put_before put_after (output_of steps stop)
 
+-- A text was put: the whole of it, with status 0, or a front of it, with status 4.
+pub record HasPut (text : List ℕ) (status : ℕ) (put_before put_after : Option (List ℕ)) : Type 0 where
+  pub its_status : status ≢ 4 → status ≡ 0
+  pub whole : status ≢ 4 → Appends put_before put_after text
+  pub front : AppendsFront put_before put_after text
+
+-- The source was checked to an ending, and its line was put: the whole of it, with the ending's own
+-- status, or a front of it, with status 4.
+pub record HasTold (choices : Choices) (status : ℕ) (trace left put_before put_after : Option (List ℕ)) : Type 0 where
+  pub ending : Ending
+  pub checked : IfSome trace (λ bytes. IsChecked (formulas_of choices) ending bytes left)
+  pub its_status : status ≢ 4 → status ≡ ending_status ending
+  pub whole : status ≢ 4 → Appends put_before put_after (ending_text ending)
+  pub front : AppendsFront put_before put_after (ending_text ending)
+
+-- what the status says, by what was asked for
+abbrev pub HasDone : Task → ℕ → Option (List ℕ) → Option (List ℕ) → Option (List ℕ) → Option (List ℕ) → Type 0
+HasDone (Task.Run c) status trace left before after = HasRun default_setup status trace left before after
+HasDone (Task.Make seed count) status trace left before after = HasPut (commands_text (sample_trace seed count)) status before after
+HasDone (Task.Sample seed count) status trace left before after = ⊥
+HasDone (Task.Check c) status trace left before after = HasTold c status trace left before after
+
 -- The one line that faulty words are answered with was put, or the sink failed and a front of it was.
 abbrev pub AreRefusedWords : Option (List ℕ) → Option (List ℕ) → ℕ → ℕ → Type 0
 AreRefusedWords put_before put_after faults_before faults_after =
     Appends put_before put_after (stop_text Words)
     ⊎ (AppendsFront put_before put_after (stop_text Words) × Rose faults_before faults_after)
+
+-- ---- before the last line
+
+-- a text was printed, or the sink failed at it
+pub record HasMade (stop : Stop) (from to : Output) (text : List ℕ) : Type 0 where
+  pub its_stop : (stop ≡ Finished) ⊎ (stop ≡ WriteFault)
+  pub whole : stop ≢ WriteFault → Prints from to text
+  pub front : PrintsFront from to text
+
+-- a run came to its stop
+pub record RunEnds (setup : Setup) (ending : Ending) (trace left : Option (List ℕ)) (from to : Output) : Type 0 where
+  pub stop : Stop
+  pub its_stop : ending ≡ Stopped stop
+  pub stopped : HasStopped stop trace left (standing_at_start setup) from to 0
+
+-- a sample trace was made
+pub record MakeEnds (text : List ℕ) (ending : Ending) (from to : Output) : Type 0 where
+  pub stop : Stop
+  pub its_stop : ending ≡ Stopped stop
+  pub made : HasMade stop from to text
+
+-- a check came to its ending, with nothing printed
+pub record CheckEnds (choices : Choices) (ending : Ending) (trace left : Option (List ℕ)) (from to : Output) : Type 0 where
+  pub checked : IfSome trace (λ bytes. IsChecked (formulas_of choices) ending bytes left)
+  pub write : ending ≢ Stopped WriteFault
+  pub kept : to ≡ from
+
+-- what was asked for was done, but for the last line
+abbrev pub HasEnded : Task → Ending → Option (List ℕ) → Option (List ℕ) → Output → Output → Type 0
+HasEnded (Task.Run c) ending trace left from to = RunEnds default_setup ending trace left from to
+HasEnded (Task.Make seed count) ending trace left from to = MakeEnds (commands_text (sample_trace seed count)) ending from to
+HasEnded (Task.Sample seed count) ending trace left from to = ⊥
+HasEnded (Task.Check c) ending trace left from to = CheckEnds c ending trace left from to

@@ -3,9 +3,12 @@ pub mod Memory
 pub mod StdParts
 pub mod Printed
 pub mod Pieces
-pub mod Options
+pub mod Words
+pub mod Keys
+pub mod Endings
 pub mod Running
 pub mod Standing
 pub mod World
 pub mod Served
+pub mod Checked
 pub mod HasRun

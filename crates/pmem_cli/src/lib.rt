@@ -1,8 +1,13 @@
-//! The program's run over one trace: lines in, replies and a status out.
+//! The whole program: traces answered, sample traces made, exhibits checked.
 #![tactic(auto)]
 
+mod checking;
+mod ending;
 mod lines;
+mod making;
+mod options;
 mod printer;
+mod program;
 mod session;
 mod sink;
 mod source;
@@ -10,6 +15,6 @@ mod source;
 mod tests;
 mod world;
 
-pub use session::run;
+pub use program::run;
 pub use sink::{MemSink, Sink, StdSink};
 pub use source::{Failed, MemSource, Source, StdSource};

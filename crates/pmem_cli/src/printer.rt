@@ -1,16 +1,17 @@
 //! Replies on their way to a sink, held back so that many go in one push.
-ghost use Rattle.std.specs.Prelude.{◌≡◌, ◌≤◌, [], length, false, OnOk, OnErr};
+ghost use Rattle.std.specs.Prelude.{◌≡◌, ◌≤◌, [], length, OnOk, OnErr};
 ghost use Rattle.pmem_cli.specs.Causes.{HasCause};
-ghost use Rattle.plain_model.specs.Answers.{is_shown};
-ghost use Rattle.plain_model.specs.Texts.{answer_text, as_line};
+ghost use Rattle.plain_model.specs.Texts.{answer_text, command_text, as_line};
+ghost use Rattle.trace_text.specs.Commands.{IsWritable};
+ghost use Rattle.trace_text.specs.Answers.{HasSmallMinors};
 ghost use Rattle.pmem_cli.specs.Printed.{Prints, PrintsFront, with_waiting};
 
 use crate::sink::{Sink, push_all};
 use crate::source::Failed;
 use arrayvec::ArrayVec;
-use pmem_base::Answer;
+use pmem_base::{Answer, Command};
 use std::marker::Model;
-use trace_text::{push_answer, push_bytes};
+use trace_text::{push_answer, push_bytes, write_command};
 
 /// The bytes that may wait.
 const WAITING_BYTES: usize = 65_536;
@@ -99,7 +100,7 @@ impl Printer {
 
     /// Prints the text of an answer, with its LF.
     pub fn print_answer<K: Sink>(&mut self, out: &mut K, answer: &Answer) -> Result<(), Failed>
-        requires { is_shown answer.now ≡ false }
+        requires { HasSmallMinors answer.now }
         ensures ok { OnOk result (Prints (with_waiting (K.put out.old) self.old) (with_waiting (K.put out.new) self.new)
             (as_line (answer_text answer.now))) }
         ensures err { OnErr result (PrintsFront (with_waiting (K.put out.old) self.old) (with_waiting (K.put out.new) self.new)
@@ -110,5 +111,18 @@ impl Printer {
         push_answer(&mut self.text, answer);
         push_bytes(&mut self.text, b"\n");
         print_text(&mut self.waiting, out, self.text.as_slice())
+    }
+    /// Prints the text of a command, with its LF.
+    pub fn print_command<K: Sink>(&mut self, out: &mut K, command: &Command) -> Result<(), Failed>
+        requires { IsWritable command.now }
+        ensures ok { OnOk result (Prints (with_waiting (K.put out.old) self.old) (with_waiting (K.put out.new) self.new)
+            (as_line (command_text command.now))) }
+        ensures err { OnErr result (PrintsFront (with_waiting (K.put out.old) self.old) (with_waiting (K.put out.new) self.new)
+            (as_line (command_text command.now))) }
+        ensures cause { HasCause (K.faults out.old) (K.faults out.new) result }
+    {
+        let mut text = write_command(command);
+        push_bytes(&mut text, b"\n");
+        self.print(out, text.as_slice())
     }
 }

@@ -18,4 +18,5 @@ pub use collision_witness::{push_bytes, push_number};
 pub use reading::{read_any_command, read_command};
 pub use samples::Maker;
 pub use spelling::write_command;
+pub use values::read_part;
 pub use writing::{push_answer, write_answer, write_mark};

@@ -1,0 +1,20 @@
+-- The formulas of a named suite under chosen keys.
+use Rattle.std.proofs.Common.{◌≡◌, ℕ, true, false, List, [], ◌∷◌, ◌++◌, refl}
+use Rattle.std.specs.Prelude.{unwrap_or}
+use Rattle.suite.specs.Aes.{aes_formulas}
+use Rattle.suite.specs.Weak.{weak_formulas, blur_flag}
+use Rattle.pmem_cli.specs.declared.options.SuiteName.TheVariants.{Aes, Weak, Blur}
+use Rattle.pmem_cli.specs.declared.options.Choices.{Choices}
+use Rattle.pmem_cli.specs.Keys.{key_of, tag_key_of, formulas_of}
+
+pub formulas_aes : (c : Choices) (keys : List ℕ) → unwrap_or c.suite Aes ≡ Aes → keys ≡ key_of c ++ tag_key_of c → aes_formulas keys ≡ formulas_of c
+unfolding formulas_of
+formulas_aes c keys name same = rw (name, same) refl
+
+pub formulas_weak : (c : Choices) (keys : List ℕ) → unwrap_or c.suite Aes ≡ Weak → keys ≡ (key_of c ++ tag_key_of c) ++ blur_flag false ∷ [] → weak_formulas keys ≡ formulas_of c
+unfolding formulas_of
+formulas_weak c keys name same = rw (name, same) refl
+
+pub formulas_blur : (c : Choices) (keys : List ℕ) → unwrap_or c.suite Aes ≡ Blur → keys ≡ (key_of c ++ tag_key_of c) ++ blur_flag true ∷ [] → weak_formulas keys ≡ formulas_of c
+unfolding formulas_of
+formulas_blur c keys name same = rw (name, same) refl

@@ -1,0 +1,32 @@
+-- The formulas of the chosen suite under the chosen keys.
+use Rattle.std.specs.Prelude.{ℕ, true, false, List, [], ◌∷◌, ◌++◌, take, Option, Some, None, unwrap_or}
+use Rattle.std.specs.List.{range_with_len}
+use Rattle.pmem_base.specs.declared.lines.Line.{Line}
+use Rattle.suite.specs.Formulas.{Formulas}
+use Rattle.suite.specs.Aes.{aes_formulas}
+use Rattle.suite.specs.Weak.{weak_formulas, blur_flag}
+use Rattle.pmem_cli.specs.declared.options.SuiteName.{SuiteName}
+use Rattle.pmem_cli.specs.declared.options.SuiteName.TheVariants.{Aes, Weak, Blur}
+use Rattle.pmem_cli.specs.declared.options.Choices.{Choices}
+
+-- the key: the bytes 00 to 0f where none is chosen
+abbrev pub key_of : Choices → List ℕ
+key_of c = unwrap_or c.key (range_with_len 0 16)
+
+-- the bytes of a chosen tag key
+abbrev pub tag_key_bytes : Option (ℕ × Line) → List ℕ
+tag_key_bytes None = range_with_len 16 32
+tag_key_bytes (Some key) = take key.0 key.1.0
+
+-- the tag key: the bytes 10 to 2f where none is chosen
+abbrev pub tag_key_of : Choices → List ℕ
+tag_key_of c = tag_key_bytes c.tag_key
+
+abbrev pub formulas_named : SuiteName → List ℕ → Formulas
+formulas_named Aes keys = aes_formulas keys
+formulas_named Weak keys = weak_formulas (keys ++ blur_flag false ∷ [])
+formulas_named Blur keys = weak_formulas (keys ++ blur_flag true ∷ [])
+
+-- aes where no suite is chosen
+unfoldable pub formulas_of : Choices → Formulas
+formulas_of c = formulas_named (unwrap_or c.suite Aes) (key_of c ++ tag_key_of c)

@@ -1,0 +1,176 @@
+-- What the words of the command line ask for.
+use Rattle.std.specs.Prelude.{ℕ, ◌+◌, ◌==◌, ⊤, nat_lt, nat_le, Bool, true, false, ◌&&◌, is_none, List, [], ◌∷◌, length, take, drop, codes, Option, Some, None, IfSome, Result, Ok, Err, if◌then◌else◌}
+use Rattle.std.specs.List.{position_or_len}
+use Rattle.std.specs.Str.{bytes_eq}
+use Rattle.pmem_base.specs.declared.commands.Kind.{Kind}
+use Rattle.pmem_base.specs.Shape.{is_loss}
+use Rattle.pmem_base.specs.Ranges.{IsPartLine}
+use Rattle.collision_witness.specs.Words.{Word, number_of, number_up_to, hex_bytes}
+use Rattle.plain_model.specs.Grammar.{part_of}
+use Rattle.pmem_cli.specs.declared.options.SuiteName.{SuiteName}
+use Rattle.pmem_cli.specs.declared.options.SuiteName.TheVariants.{Aes, Weak, Blur}
+use Rattle.pmem_cli.specs.declared.options.Choices.{Choices}
+use Rattle.pmem_cli.specs.declared.options.Task.{Task}
+
+-- the value, and then what it gives, or nothing
+infixl 10 ◌>>=◌
+abbrev pub ◌>>=◌ : {A B : Type 0} → Option A → (A → Option B) → Option B
+(Some value) >>= next = next value
+None >>= next = None
+
+-- ---- values
+
+abbrev pub value_of : {A : Type 0} → Result A Kind → Option A
+value_of (Ok value) = Some value
+value_of (Err kind) = None
+
+-- a number that passes a test
+abbrev pub number_where : (ℕ → Bool) → Word → Option ℕ
+number_where test word = do
+  n ← value_of (number_of word)
+  if test n then Some n else None
+
+-- 1 up to a greatest one
+abbrev pub is_up_to : ℕ → ℕ → Bool
+is_up_to most n = nat_le 1 n && nat_le n most
+
+-- the suite of a name
+abbrev pub suite_named : Word → Option SuiteName
+suite_named word =
+    if bytes_eq word (codes "aes") then Some Aes
+    else if bytes_eq word (codes "weak") then Some Weak
+    else if bytes_eq word (codes "blur") then Some Blur
+    else None
+
+-- ---- options
+
+-- an option that wasn't chosen yet, by a value that it may have
+abbrev pub once : {A : Type 0} → Option A → Option A → (A → Choices) → Option Choices
+once (Some old) value next = None
+once None (Some value) next = Some (next value)
+once None None next = None
+
+-- nothing is chosen
+unfoldable pub no_choices : Choices
+no_choices =
+    record {
+      levels = None;
+      sets = None;
+      ways = None;
+      loss = None;
+      major = None;
+      suite = None;
+      key = None;
+      tag_key = None;
+    }
+
+-- the options of the suite
+abbrev pub choose_suite : Choices → Word → Word → Option Choices
+choose_suite c name value =
+    if bytes_eq name (codes "suite") then once c.suite (suite_named value) (λ suite. record c { suite = Some suite })
+    else if bytes_eq name (codes "key") then once c.key (value_of (hex_bytes 16 value)) (λ key. record c { key = Some key })
+    else if bytes_eq name (codes "tag-key") then once c.tag_key (value_of (part_of value)) (λ key. record c { tag_key = Some key })
+    else None
+
+-- and those of the geometry
+abbrev pub choose_any : Choices → Word → Word → Option Choices
+choose_any c name value =
+    if bytes_eq name (codes "levels") then once c.levels (number_where (is_up_to 6) value) (λ n. record c { levels = Some n })
+    else if bytes_eq name (codes "sets") then once c.sets (number_where (is_up_to 64) value) (λ n. record c { sets = Some n })
+    else if bytes_eq name (codes "ways") then once c.ways (number_where (is_up_to 8) value) (λ n. record c { ways = Some n })
+    else if bytes_eq name (codes "loss") then once c.loss (number_where is_loss value) (λ n. record c { loss = Some n })
+    else if bytes_eq name (codes "major") then once c.major (value_of (number_of value)) (λ n. record c { major = Some n })
+    else choose_suite c name value
+
+-- `check` takes the options of the suite alone
+abbrev pub choose : Bool → Choices → Word → Word → Option Choices
+choose whole c name value = if whole then choose_any c name value else choose_suite c name value
+
+-- ---- the words of options
+
+abbrev pub is_equals : ℕ → Bool
+is_equals byte = byte == 61
+
+-- the name of an option, and its value where the word has it: they stand apart at the first `=`
+abbrev pub parts_at_equals : Word → Word × Option Word
+parts_at_equals text =
+    if nat_lt (position_or_len is_equals text) (length text)
+    then (take (position_or_len is_equals text) text, Some (drop (position_or_len is_equals text + 1) text))
+    else (text, None)
+
+-- an option's word begins with two dashes
+abbrev pub option_parts : Word → Option (Word × Option Word)
+option_parts word = if bytes_eq (take 2 word) (codes "--") then Some (parts_at_equals (drop 2 word)) else None
+
+abbrev pub some_or : {A B : Type 0} → Option A → (A → B) → B → B
+some_or (Some value) next other = next value
+some_or None next other = other
+
+-- the value of an option, its own or else the next word, and the words behind it
+abbrev pub next_value : Option Word → List Word → Option (Word × List Word)
+next_value (Some value) words = Some (value, words)
+next_value None [] = None
+next_value None (next ∷ words) = Some (next, words)
+
+-- what is chosen by these words, after earlier choices: options as `--name value` or `--name=value`
+unfoldable pub take_options : Bool → Choices → List Word → Option Choices
+take_options whole c [] = Some c
+take_options whole c (word ∷ []) =
+    option_parts word >>= λ parts. some_or parts.1 (λ value. choose whole c parts.0 value) None
+take_options whole c (word ∷ next ∷ words) =
+    option_parts word
+    >>= λ parts. some_or parts.1
+    (λ value. choose whole c parts.0 value >>= λ more. take_options whole more (next ∷ words))
+    (choose whole c parts.0 next >>= λ more. take_options whole more words)
+
+-- ---- the whole command line
+
+-- a seed, and a count up to 999,999
+abbrev pub seed_and_count : List Word → Option (ℕ × ℕ)
+seed_and_count (seed ∷ count ∷ []) = do
+  its_seed ← value_of (number_of seed)
+  its_count ← value_of (number_up_to 999_999 count)
+  Some (its_seed, its_count)
+seed_and_count words = None
+
+-- what the words ask for, or nothing where they break the rules
+unfoldable pub whole_task_of : List Word → Option Task
+whole_task_of [] = None
+whole_task_of (name ∷ words) =
+    if bytes_eq name (codes "run") then (take_options true no_choices words >>= λ c. Some (Task.Run c))
+    else if bytes_eq name (codes "check") then (take_options false no_choices words >>= λ c. Some (Task.Check c))
+    else if bytes_eq name (codes "make") then (seed_and_count words >>= λ found. Some (Task.Make found.0 found.1))
+    else if bytes_eq name (codes "sample") then (seed_and_count words >>= λ found. Some (Task.Sample found.0 found.1))
+    else None
+
+-- ---- what the program does so far
+
+abbrev pub are_defaults : Choices → Bool
+are_defaults c =
+    is_none c.levels && is_none c.sets && is_none c.ways && is_none c.loss && is_none c.major && is_none c.suite
+    && is_none c.key && is_none c.tag_key
+
+-- runs have no options yet, and samples aren't run
+abbrev pub is_built : Task → Bool
+is_built (Task.Run c) = are_defaults c
+is_built (Task.Make seed count) = true
+is_built (Task.Sample seed count) = false
+is_built (Task.Check c) = true
+
+-- what the words ask for, as far as the program does it
+abbrev pub task_of : List Word → Option Task
+task_of words = whole_task_of words >>= λ task. if is_built task then Some task else None
+
+-- a chosen tag key has its bytes at the front of its line
+abbrev pub HasTagKey : Choices → Type 0
+HasTagKey c = IfSome c.tag_key (λ key. IsPartLine key.0 key.1)
+
+abbrev pub HasKeysAtFront : Task → Type 0
+HasKeysAtFront (Task.Run c) = HasTagKey c
+HasKeysAtFront (Task.Check c) = HasTagKey c
+HasKeysAtFront task = ⊤
+
+-- the value as a function sees it
+abbrev pub map_some : {A B : Type 0} → (A → B) → Option A → Option B
+map_some f None = None
+map_some f (Some x) = Some (f x)

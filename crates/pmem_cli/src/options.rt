@@ -1,0 +1,365 @@
+//! What the words of the command line ask for.
+ghost use Rattle.std.specs.Prelude.{◌≡◌, ◌<◌, ◌≤◌, ◌∷◌, length, map, string_bytes, Some, None, IfSome, IfNone, take, unwrap_or};
+ghost use Rattle.std.specs.List.{position_or_len};
+ghost use Rattle.pmem_base.specs.Ranges.{IsPartLine};
+ghost use Rattle.pmem_base.specs.Shape.{is_loss};
+ghost use Rattle.pmem_cli.specs.Keys.{key_of, tag_key_of};
+ghost use Rattle.pmem_cli.specs.Words.{suite_named, number_where, value_of, is_up_to, choose_suite, choose_any, choose, no_choices, is_equals, option_parts, next_value, take_options, seed_and_count, whole_task_of, are_defaults, is_built, task_of, HasTagKey, HasKeysAtFront, map_some};
+
+use collision_witness::{read_number, read_number_up_to, read_tag};
+use pmem_base::Line;
+use trace_text::read_part;
+
+/// The key where none is chosen: the bytes 00 to 0f.
+const DEFAULT_KEY: [u8; 16] = [0, 1, 2, 3, 4, 5, 6, 7, 8, 9, 10, 11, 12, 13, 14, 15];
+
+/// The tag key where none is chosen, the 32 bytes 10 to 2f, at the front of a line of zeros.
+const DEFAULT_TAG_KEY: [u8; 64] = [
+    16, 17, 18, 19, 20, 21, 22, 23, 24, 25, 26, 27, 28, 29, 30, 31, 32, 33, 34, 35, 36, 37, 38, 39,
+    40, 41, 42, 43, 44, 45, 46, 47, 0, 0, 0, 0, 0, 0, 0, 0, 0, 0, 0, 0, 0, 0, 0, 0, 0, 0, 0, 0, 0,
+    0, 0, 0, 0, 0, 0, 0, 0, 0, 0, 0,
+];
+
+/// Which suite is used.
+#[derive(Clone, Copy, Debug, PartialEq, Eq)]
+pub(crate) enum SuiteName {
+    Aes,
+    Weak,
+    Blur,
+}
+
+/// What was chosen by options. A tag key is a number of bytes at the front of a line.
+#[derive(Clone, Copy, Debug, PartialEq, Eq)]
+pub(crate) struct Choices {
+    pub levels: Option<u8>,
+    pub sets: Option<u8>,
+    pub ways: Option<u8>,
+    pub loss: Option<u8>,
+    pub major: Option<u64>,
+    pub suite: Option<SuiteName>,
+    pub key: Option<[u8; 16]>,
+    pub tag_key: Option<(u8, Line)>,
+}
+
+/// What the program is to do.
+#[derive(Clone, Copy, Debug, PartialEq, Eq)]
+pub(crate) enum Task {
+    /// Run a trace.
+    Run(Choices),
+    /// Print a sample trace of `count` commands.
+    Make { seed: u64, count: u32 },
+    /// Run that trace, and print its last line.
+    Sample { seed: u64, count: u32 },
+    /// Try an exhibit.
+    Check(Choices),
+}
+
+/// The suite of a name.
+fn read_suite(word: &[u8]) -> Option<SuiteName>
+    ensures { result ≡ suite_named word.now }
+{
+    if word == b"aes".as_slice() {
+        Some(SuiteName::Aes)
+    } else if word == b"weak".as_slice() {
+        Some(SuiteName::Weak)
+    } else if word == b"blur".as_slice() {
+        Some(SuiteName::Blur)
+    } else {
+        None
+    }
+}
+
+/// A number from 1 up to a greatest one.
+fn read_up_to(most: u8, word: &[u8]) -> Option<u8>
+    ensures { result ≡ number_where (is_up_to most) word.now }
+{
+    match read_number(word) {
+        Ok(number) if 1 <= number && number <= u64::from(most) => Some(number as u8),
+        _ => None,
+    }
+}
+
+/// A stop-loss number.
+fn read_loss(word: &[u8]) -> Option<u8>
+    ensures { result ≡ number_where is_loss word.now }
+{
+    match read_number(word) {
+        Ok(number) => {
+            if number == 1 || number == 2 || number == 4 || number == 8 || number == 16 {
+                Some(number as u8)
+            } else {
+                None
+            }
+        }
+        Err(_) => None,
+    }
+}
+
+impl Choices {
+    /// Nothing is chosen.
+    #[tactic(auto, unfolding(crate::specs::Words::no_choices))]
+    fn none() -> Choices
+        ensures choices { result ≡ no_choices }
+        ensures tag_key { HasTagKey result }
+    {
+        Choices {
+            levels: None,
+            sets: None,
+            ways: None,
+            loss: None,
+            major: None,
+            suite: None,
+            key: None,
+            tag_key: None,
+        }
+    }
+
+    /// The suite: aes where none is chosen.
+    pub fn suite_name(&self) -> SuiteName
+        ensures { result ≡ unwrap_or self.now.suite SuiteName.Aes }
+    {
+        self.suite.unwrap_or(SuiteName::Aes)
+    }
+
+    /// The key: the bytes 00 to 0f where none is chosen.
+    pub fn suite_key(&self) -> [u8; 16]
+        ensures { result ≡ key_of self.now }
+    {
+        match self.key {
+            Some(key) => key,
+            None => DEFAULT_KEY,
+        }
+    }
+
+    /// The tag key, as so many bytes at the front of a line: the bytes 10 to 2f where none is chosen.
+    pub fn suite_tag_key(&self) -> (u8, Line)
+        requires { HasTagKey self.now }
+        ensures bytes { take result.0 result.1.0 ≡ tag_key_of self.now }
+        ensures some { 1 ≤ result.0 }
+        ensures most { result.0 ≤ 64 }
+    {
+        match self.tag_key {
+            Some(key) => key,
+            None => (32, Line(DEFAULT_TAG_KEY)),
+        }
+    }
+
+    /// Whether nothing is chosen.
+    pub fn are_defaults(&self) -> bool
+        ensures { result ≡ are_defaults self.now }
+    {
+        let shape = self.levels.is_none() && self.sets.is_none() && self.ways.is_none();
+        let numbers = self.loss.is_none() && self.major.is_none();
+        let suite = self.suite.is_none() && self.key.is_none() && self.tag_key.is_none();
+        shape && numbers && suite
+    }
+
+    /// These choices, and an option of the suite that wasn't chosen yet.
+    fn with_suite(self, name: &[u8], value: &[u8]) -> Option<Choices>
+        requires { HasTagKey self }
+        ensures choices { result ≡ choose_suite self name.now value.now }
+        ensures tag_key { IfSome result HasTagKey }
+    {
+        let mut more = self;
+        if name == b"suite".as_slice() && self.suite.is_none() {
+            more.suite = Some(read_suite(value)?);
+        } else if name == b"key".as_slice() && self.key.is_none() {
+            more.key = Some(read_tag(value).ok()?);
+        } else if name == b"tag-key".as_slice() && self.tag_key.is_none() {
+            more.tag_key = Some(read_part(value).ok()?);
+        } else {
+            return None;
+        }
+        Some(more)
+    }
+
+    /// These choices, and an option that wasn't chosen yet.
+    fn with_any(self, name: &[u8], value: &[u8]) -> Option<Choices>
+        requires { HasTagKey self }
+        ensures choices { result ≡ choose_any self name.now value.now }
+        ensures tag_key { IfSome result HasTagKey }
+    {
+        let mut more = self;
+        if name == b"levels".as_slice() {
+            if self.levels.is_some() {
+                return None;
+            }
+            more.levels = Some(read_up_to(6, value)?);
+        } else if name == b"sets".as_slice() {
+            if self.sets.is_some() {
+                return None;
+            }
+            more.sets = Some(read_up_to(64, value)?);
+        } else if name == b"ways".as_slice() {
+            if self.ways.is_some() {
+                return None;
+            }
+            more.ways = Some(read_up_to(8, value)?);
+        } else if name == b"loss".as_slice() {
+            if self.loss.is_some() {
+                return None;
+            }
+            more.loss = Some(read_loss(value)?);
+        } else if name == b"major".as_slice() {
+            if self.major.is_some() {
+                return None;
+            }
+            more.major = Some(read_number(value).ok()?);
+        } else {
+            return self.with_suite(name, value);
+        }
+        Some(more)
+    }
+
+    /// These choices, and one more. `check` takes the options of the suite alone.
+    fn with(self, whole: bool, name: &[u8], value: &[u8]) -> Option<Choices>
+        requires { HasTagKey self }
+        ensures choices { result ≡ choose whole self name.now value.now }
+        ensures tag_key { IfSome result HasTagKey }
+    {
+        if whole {
+            self.with_any(name, value)
+        } else {
+            self.with_suite(name, value)
+        }
+    }
+}
+
+/// The number of bytes before the first `=`.
+fn equals_index(text: &[u8]) -> usize
+    ensures count { result ≡ position_or_len is_equals text.now }
+    ensures within { result ≤ length text.now }
+{
+    for (i, byte) in text.iter().enumerate() {
+        if *byte == b'=' {
+            return i;
+        }
+    }
+    text.len()
+}
+
+/// The name of an option, and its value where the word has it.
+fn split_option(word: &[u8]) -> Option<(&[u8], Option<&[u8]>)>
+    ensures { map_some (λ found. (found.0.now, map_some (λ value. value.now) found.1)) result ≡ option_parts word.now }
+{
+    let text = word.strip_prefix(b"--".as_slice())?;
+    let at = equals_index(text);
+    if at == text.len() {
+        return Some((text, None));
+    }
+    let (name, rest) = text.split_at(at);
+    Some((name, Some(rest.split_at(1).1)))
+}
+
+/// The value of an option whose word is read, and the words behind it: its own, or the next word.
+fn take_value<'a>(own: Option<&'a [u8]>, words: &'a [String]) -> Option<(&'a [u8], &'a [String])>
+    ensures value { map_some (λ found. (found.0.now, map string_bytes found.1.now)) result
+        ≡ next_value (map_some (λ value. value.now) own.entry) (map string_bytes words.now) }
+    ensures fewer { IfSome result (λ found. length found.1.now ≤ length words.now) }
+{
+    if let Some(value) = own {
+        return Some((value, words));
+    }
+    match words {
+        [] => None,
+        [next, rest @ ..] => Some((next.as_bytes(), rest)),
+    }
+}
+
+/// Takes an option after earlier choices: its word, and the value that may stand behind it. Gives
+/// the words behind them.
+fn take_option<'a>(
+    whole: bool,
+    choices: Choices,
+    word: &'a str,
+    words: &'a [String],
+) -> Option<(Choices, &'a [String])>
+    requires tag_key { HasTagKey choices }
+    ensures none { IfNone result (take_options whole choices (word.now ∷ map string_bytes words.now) ≡ None) }
+    ensures more { IfSome result (λ found. take_options whole choices (word.now ∷ map string_bytes words.now)
+        ≡ take_options whole found.0 (map string_bytes found.1.now)) }
+    ensures fewer { IfSome result (λ found. length found.1.now ≤ length words.now) }
+    ensures key { IfSome result (λ found. HasTagKey found.0) }
+{
+    let (name, own) = split_option(word.as_bytes())?;
+    let (value, rest) = take_value(own, words)?;
+    let more = choices.with(whole, name, value)?;
+    Some((more, rest))
+}
+
+/// What is chosen by words.
+#[tactic(auto, unfolding(crate::specs::Words::take_options))]
+fn read_options(whole: bool, words: &[String]) -> Option<Choices>
+    ensures choices { result ≡ take_options whole no_choices (map string_bytes words.now) }
+    ensures tag_key { IfSome result HasTagKey }
+{
+    let mut choices = Choices::none();
+    let mut rest = words;
+    'options: while let [word, words @ ..] = rest {
+        match take_option(whole, choices, word.as_str(), words) {
+            None => return None,
+            Some((more, behind)) => {
+                choices = more;
+                rest = behind;
+            }
+        }
+    }
+    Some(choices)
+}
+
+/// A seed and a count up to 999,999.
+fn read_seed_and_count(words: &[String]) -> Option<(u64, u32)>
+    ensures { result ≡ seed_and_count (map string_bytes words.now) }
+{
+    let [seed, count] = words else {
+        return None;
+    };
+    let seed = read_number(seed.as_bytes()).ok()?;
+    let count = read_number_up_to(999_999, count.as_bytes()).ok()?;
+    Some((seed, count as u32))
+}
+
+/// What the words ask for, or nothing where they break the rules.
+#[tactic(auto, unfolding(crate::specs::Words::whole_task_of))]
+fn read_whole_task(words: &[String]) -> Option<Task>
+    ensures task { result ≡ whole_task_of (map string_bytes words.now) }
+    ensures tag_key { IfSome result HasKeysAtFront }
+{
+    let [name, words @ ..] = words else {
+        return None;
+    };
+    match name.as_str() {
+        "run" => Some(Task::Run(read_options(true, words)?)),
+        "check" => Some(Task::Check(read_options(false, words)?)),
+        "make" => {
+            let (seed, count) = read_seed_and_count(words)?;
+            Some(Task::Make { seed, count })
+        }
+        "sample" => {
+            let (seed, count) = read_seed_and_count(words)?;
+            Some(Task::Sample { seed, count })
+        }
+        _ => None,
+    }
+}
+
+/// Whether the program does it so far: runs have no options yet, and samples aren't run.
+fn is_built(task: &Task) -> bool
+    ensures { result ≡ is_built task.now }
+{
+    match task {
+        Task::Run(choices) => choices.are_defaults(),
+        Task::Make { .. } => true,
+        Task::Sample { .. } => false,
+        Task::Check(_) => true,
+    }
+}
+
+/// What the words ask for, as far as the program does it.
+pub(crate) fn read_task(words: &[String]) -> Option<Task>
+    ensures task { result ≡ task_of (map string_bytes words.now) }
+    ensures tag_key { IfSome result HasKeysAtFront }
+{
+    let task = read_whole_task(words)?;
+    if is_built(&task) { Some(task) } else { None }
+}
