@@ -113,6 +113,92 @@ fn refuses_words(rt: HostRuntime) -> Result<(), Fail> {
 }
 
 #[test]
+fn refuses_faulty_words(rt: HostRuntime) -> Result<(), Fail> {
+    for words in [
+        ["run", "--loss", "3", "", ""].as_slice(),
+        ["run", "--loss", "3"].as_slice(),
+        ["run", "--levels", "7"].as_slice(),
+        ["run", "--ways", "2", "--ways", "2"].as_slice(),
+        ["make", "1"].as_slice(),
+        ["make", "1", "1000000"].as_slice(),
+        ["sample", "0", "5"].as_slice(),
+        ["check", "--levels", "2"].as_slice(),
+        ["check", "--suite"].as_slice(),
+        ["check", "--suite=weak", "--suite", "weak"].as_slice(),
+        ["check", "-suite", "weak"].as_slice(),
+        ["check", "--"].as_slice(),
+        ["check", "--key", "0g"].as_slice(),
+    ] {
+        check_run(&rt, words, b"", (&[0], &[]), 100, (2, "stop words\n"))?;
+    }
+    Ok(())
+}
+
+#[test]
+fn makes_and_checks(rt: HostRuntime) -> Result<(), Fail> {
+    let made = "flush\npost 7 357 [78]\nflush\nread 6 129\ndrain 1\nstat\n";
+    check_run(&rt, &["make", "0", "5"], b"", (&[0], &[]), 1_000, (0, made))?;
+    check_run(&rt, &["make", "0", "5"], b"", (&[], &[0]), 1_000, (4, ""))?;
+    check_run(
+        &rt,
+        &["make", "0", "1"],
+        b"",
+        (&[], &[]),
+        8,
+        (4, "flush\nst"),
+    )?;
+    let clash =
+        "clash 5 01000000000000000000000000000000000000000000000000000000000000000000000000000000000000000000000000000000000000000000000000000000 00000000000000010000000000000000000000000000000000000000000000000000000000000000000000000000000000000000000000000000000000000000\n";
+    let fails =
+        "clash 5 00000000000000000000000000000000000000000000000000000000000000000000000000000000000000000000000000000000000000000000000000000000 01000000000000000000000000000000000000000000000000000000000000000000000000000000000000000000000000000000000000000000000000000000";
+    let weak = ["check", "--suite", "weak"].as_slice();
+    let keyed = [
+        "check",
+        "--tag-key=FF",
+        "--suite=weak",
+        "--key",
+        "000102030405060708090A0b0c0d0e0f",
+    ];
+    for (words, first, trace, failing, status, output) in [
+        (weak, "", clash, (9, 9), 0, "holds\n"),
+        (
+            keyed.as_slice(),
+            "# note\r\n \n",
+            clash,
+            (9, 9),
+            0,
+            "holds\n",
+        ),
+        (["check"].as_slice(), "", clash, (9, 9), 8, "fails\n"),
+        (weak, "", fails, (9, 9), 8, "fails\n"),
+        (weak, "", "", (9, 9), 5, "stop line 0 2\n"),
+        (weak, "\n#\n", "", (9, 9), 5, "stop line 0 2\n"),
+        (weak, clash, fails, (9, 9), 5, "stop line 2 2\n"),
+        (weak, clash, "\nclash 5\n", (9, 9), 5, "stop line 3 2\n"),
+        (weak, clash, "clash x 0 0\n", (9, 9), 5, "stop line 2 3\n"),
+        (weak, "read 0 0\n", "", (9, 9), 5, "stop line 1 1\n"),
+        (weak, "", clash, (0, 9), 3, "stop read\n"),
+        (weak, "", clash, (1, 9), 3, "stop read\n"),
+        (weak, "", clash, (2, 9), 0, "holds\n"),
+        (weak, "", clash, (9, 0), 4, ""),
+        (weak, "", clash, (0, 0), 4, ""),
+    ] {
+        let mut text = spelled(&rt, first)?;
+        text.extend_from_slice(trace.as_bytes())?;
+        let (pull, push) = failing;
+        check_run(
+            &rt,
+            words,
+            text.as_slice(),
+            (&[pull], &[push]),
+            1_000,
+            (status, output),
+        )?;
+    }
+    Ok(())
+}
+
+#[test]
 fn tells_faults(rt: HostRuntime) -> Result<(), Fail> {
     for (trace, failing, status, output) in [
         ("read 0 0\n", (0, 9), 3, "stop read\n"),
