@@ -1,0 +1,11 @@
+pub mod FetchLemmas
+pub mod KeepLemmas
+pub mod KeepLaws
+pub mod LevelLemmas
+pub mod NameLemmas
+pub mod PathFacts
+pub mod SetFacts
+pub mod RenewalLemmas
+pub mod StoreLemmas
+pub mod WorkLemmas
+pub mod WriteLemmas

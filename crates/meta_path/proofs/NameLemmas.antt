@@ -1,0 +1,240 @@
+-- Blocks of a path are named, level by level.
+use Rattle.std.proofs.Common.{◌≡◌, ℕ, zero, suc, ◌+◌, ◌<◌, ◌≤◌, Bool, true, false, cond, List, [], ◌∷◌, ◌++◌, length, refl, sym, ap, ap₂, subst, ◌∙◌, ◌⊎◌, inl, inr, arith, mod-lt, Option, Some, None, Result, Ok, Err}
+use Rattle.std.specs.Prelude.{◌↔◌, IsNone, OnErr, option_map, unwrap_or, is_some}
+use Rattle.std.proofs.lemmas.Bool.{cases_eq, cond-true, cond-false, eq-eqb, ne_eqb, false≢true, both_ways}
+use Rattle.std.proofs.lemmas.Option.{none-some}
+use Rattle.std.proofs.lemmas.List.{length-append}
+use Rattle.pmem_base.specs.declared.lines.Line.{Line}
+use Rattle.pmem_base.specs.Counts.{HasRisen}
+use Rattle.pmem_base.specs.Shape.{Shape}
+use Rattle.pmem_base.specs.Layout.{slots, shadow_line}
+use Rattle.board.specs.Counts.{RisesBy}
+use Rattle.board.specs.Device.{Device}
+use Rattle.board.specs.Steps.{HasWritten, WasCut}
+use Rattle.shadow_tables.specs.Entries.{slot_entry}
+use Rattle.shadow_tables.specs.Naming.{entry_line, naming_line, with_named, Names}
+use Rattle.meta_cache.specs.declared.slot.Slot.{Slot}
+use Rattle.meta_cache.specs.Banks.{Banks, set_index, slot_number, is_cached}
+use Rattle.meta_cache.specs.Sets.{slot_with, IsSetOf}
+use Rattle.meta_cache.specs.State.{CacheState, slots_of, IsCacheOf}
+use Rattle.meta_cache.proofs.SetLemmas.{is_some-slot_with}
+use Rattle.meta_cache.proofs.FormLemmas.{way_low, number_low}
+use Rattle.meta_path.specs.Blocks.{path_at, slots_at, number_in, IsPathCached}
+use Rattle.meta_path.specs.Work.{HasWorked}
+use Rattle.meta_path.specs.Naming.{path_number, is_slot_named, named_slot, naming_write, named_path, naming_writes, IsSlotNamed, IsSlotCut, ArePathEntries, IsNamedTo, IsNamingCut}
+use Rattle.meta_path.proofs.WorkLemmas.{HasWorked-none, HasWorked-written, HasWorked-then}
+
+-- ---- one slot
+
+-- an answer that is there names an entry that didn't name the position
+some_not_none : {W : Type 0} (answer : Option W) (write : W) → answer ≡ Some write → IsNone answer → ⊥
+some_not_none None write is none = none-some write is
+some_not_none (Some other) write is none = false≢true (sym none)
+
+pub unnamed : {W : Type 0} (g : Shape) (shadow : List Line) (bank n x : ℕ) (answer : Option W) (write : W) → answer ≡ Some write
+    → (IsNone answer ↔ (slot_entry g shadow bank n ≡ x + 1)) → is_slot_named g shadow bank n x ≡ false
+unnamed g shadow bank n x answer write is already =
+    ne_eqb (slot_entry g shadow bank n) (x + 1) (λ e. some_not_none answer write is (already.1 e))
+
+-- the shadow line was written
+pub IsSlotNamed-written : (g : Shape) (bank n x : ℕ) (old_mirror new_mirror : List Line) (old new : Device) (at : ℕ) (line : Line)
+    → is_slot_named g old_mirror bank n x ≡ false → new_mirror ≡ with_named g old_mirror bank n x
+    → at ≡ shadow_line g (entry_line g bank n) → line ≡ naming_line g old_mirror bank n x
+    → HasWritten old at line new → IsSlotNamed g bank n x old_mirror new_mirror old new
+IsSlotNamed-written g bank n x old_mirror new_mirror old new at line not_named written place bytes done =
+    record {
+      mirror = written ∙ sym (cond-false (is_slot_named g old_mirror bank n x) old_mirror (with_named g old_mirror bank n x) not_named);
+      work =
+          subst (λ entries. HasWorked 0 entries old new)
+          (ap₂ (λ (a : ℕ) (l : Line). (a, l) ∷ []) place bytes
+          ∙ sym (cond-false (is_slot_named g old_mirror bank n x) []
+          ((shadow_line g (entry_line g bank n), naming_line g old_mirror bank n x) ∷ []) not_named))
+          (HasWorked-written old at line new done);
+    }
+
+-- the entry named the position already
+pub IsSlotNamed-already : (g : Shape) (bank n x : ℕ) (old_mirror new_mirror : List Line) (device : Device)
+    → slot_entry g old_mirror bank n ≡ x + 1 → new_mirror ≡ old_mirror
+    → IsSlotNamed g bank n x old_mirror new_mirror device device
+IsSlotNamed-already g bank n x old_mirror new_mirror device named same =
+    record {
+      mirror =
+          same ∙ sym (cond-true (is_slot_named g old_mirror bank n x) old_mirror (with_named g old_mirror bank n x)
+          (eq-eqb (slot_entry g old_mirror bank n) (x + 1) named));
+      work =
+          subst (λ entries. HasWorked 0 entries device device)
+          (sym (cond-true (is_slot_named g old_mirror bank n x) []
+          ((shadow_line g (entry_line g bank n), naming_line g old_mirror bank n x) ∷ [])
+          (eq-eqb (slot_entry g old_mirror bank n) (x + 1) named)))
+          (HasWorked-none device);
+    }
+
+-- the write was cut
+pub IsSlotCut-from : (g : Shape) (bank n x : ℕ) (old_mirror new_mirror : List Line) (old new : Device)
+    → is_slot_named g old_mirror bank n x ≡ false → new_mirror ≡ with_named g old_mirror bank n x → WasCut old new
+    → IsSlotCut g bank n x old_mirror new_mirror old new
+IsSlotCut-from g bank n x old_mirror new_mirror old new not_named written cut =
+    record {
+      mirror = written ∙ sym (cond-false (is_slot_named g old_mirror bank n x) old_mirror (with_named g old_mirror bank n x) not_named);
+      unnamed = not_named;
+      unsteady = cut.unsteady;
+      off = cut.off;
+      never_falls = cut.never_falls;
+      rose = cut.rose;
+      size = cut.size;
+      lines = cut.lines;
+      regs = cut.regs;
+      reads = cut.reads;
+      writes = cut.writes;
+      latches = cut.latches;
+    }
+
+-- what an answer that is an error has
+pub on_err : {X E : Type 0} (answer : Result X E) (P : Type 0) → P → OnErr answer P
+on_err (Ok value) P holds = tt
+on_err (Err e) P holds = holds
+
+-- ---- the path's slots, level by level
+
+pub IsNamedTo-none : (g : Shape) (banks : Banks) (page : ℕ) (mirror : List Line) (device : Device)
+    → IsNamedTo g banks page 0 mirror mirror device device
+IsNamedTo-none g banks page mirror device =
+    record {
+      mirror = refl;
+      entries = record { named = λ j h. absurd (omega arith); others = λ bank m h apart. refl };
+      work = HasWorked-none device;
+    }
+
+-- one entry more
+entries_more : (g : Shape) (banks : Banks) (page n : ℕ) (old mid new : List Line)
+    → ((j : ℕ) → j ≤ n → path_number g banks page j < slots g)
+    → ArePathEntries g banks page n old mid → Names g mid new n (path_number g banks page n) (path_at g page n)
+    → ArePathEntries g banks page (suc n) old new
+entries_more g banks page n old mid new low before names =
+    record {
+      named = λ j h. named j h (cases_eq j n);
+      others =
+          λ bank m h apart.
+          names.others bank m h
+          (λ e. apart (omega (arith, e.0), e.1 ∙ ap (path_number g banks page) (sym e.0)))
+          ∙ before.others bank m h (λ e. apart (omega (arith, e.0), e.1));
+    }
+  where
+    named : (j : ℕ) → j < suc n → (j ≡ n) ⊎ (j ≡ n → ⊥) → slot_entry g new j (path_number g banks page j) ≡ path_at g page j + 1
+    named j h (inl same) =
+        subst (λ k. slot_entry g new k (path_number g banks page k) ≡ path_at g page k + 1) (sym same) names.entry
+    named j h (inr other) =
+        names.others j (path_number g banks page j) (low j (omega arith)) (λ e. other e.0) ∙ before.named j (omega arith)
+
+pub IsNamedTo-more : (g : Shape) (banks : Banks) (page n : ℕ) (old_mirror mid_mirror new_mirror : List Line) (old mid new : Device)
+    → ((j : ℕ) → j ≤ n → path_number g banks page j < slots g)
+    → IsNamedTo g banks page n old_mirror mid_mirror old mid
+    → Names g mid_mirror new_mirror n (path_number g banks page n) (path_at g page n)
+    → IsSlotNamed g n (path_number g banks page n) (path_at g page n) mid_mirror new_mirror mid new
+    → IsNamedTo g banks page (suc n) old_mirror new_mirror old new
+IsNamedTo-more g banks page n old_mirror mid_mirror new_mirror old mid new low before names level =
+    record {
+      mirror =
+          level.mirror ∙ ap (λ shadow. named_slot g shadow n (path_number g banks page n) (path_at g page n)) before.mirror;
+      entries = entries_more g banks page n old_mirror mid_mirror new_mirror low before.entries names;
+      work =
+          subst (λ shadow. HasWorked 0
+          (naming_writes g banks page old_mirror n ++ naming_write g shadow n (path_number g banks page n) (path_at g page n))
+          old new) before.mirror
+          (HasWorked-then 0 0 (naming_writes g banks page old_mirror n)
+          (naming_write g mid_mirror n (path_number g banks page n) (path_at g page n)) old mid new before.work level.work);
+    }
+
+pub IsNamingCut-at : (g : Shape) (banks : Banks) (page n : ℕ) (old_mirror mid_mirror new_mirror : List Line) (old mid new : Device)
+    → n ≤ g.levels → ((j : ℕ) → j ≤ n → path_number g banks page j < slots g)
+    → IsNamedTo g banks page n old_mirror mid_mirror old mid
+    → Names g mid_mirror new_mirror n (path_number g banks page n) (path_at g page n)
+    → IsSlotCut g n (path_number g banks page n) (path_at g page n) mid_mirror new_mirror mid new
+    → IsNamingCut g banks page old_mirror new_mirror old new
+IsNamingCut-at g banks page n old_mirror mid_mirror new_mirror old mid new le low before names cut =
+    record {
+      n = n;
+      on_path = le;
+      mirror =
+          cut.mirror ∙ ap (λ shadow. named_slot g shadow n (path_number g banks page n) (path_at g page n)) before.mirror
+          ∙ ap (named_path g banks page old_mirror) next;
+      entries =
+          subst (λ k. ArePathEntries g banks page k old_mirror new_mirror) next
+          (entries_more g banks page n old_mirror mid_mirror new_mirror low before.entries names);
+      unnamed = λ e.
+          both_ways (is_slot_named g mid_mirror n (path_number g banks page n) (path_at g page n)) cut.unnamed
+          (eq-eqb (slot_entry g mid_mirror n (path_number g banks page n)) (path_at g page n + 1)
+          (before.entries.others n (path_number g banks page n) (low n (omega arith)) (λ h. omega (arith, h.0)) ∙ e));
+      lines = cut.lines ∙ before.work.lines;
+      writes =
+          subst (RisesBy (length (naming_writes g banks page old_mirror n)) old.writes) (sym cut.writes) before.work.writes;
+      unsteady = not_steady (λ s. before.work.steady s) cut.unsteady;
+      off = cut.off;
+      never_falls = omega (arith, cut.never_falls, before.work.cuts);
+      rose = subst (λ count. HasRisen count new.cuts) before.work.cuts cut.rose;
+      size = cut.size ∙ before.work.size;
+      regs = cut.regs ∙ before.work.regs;
+      reads = cut.reads ∙ before.work.no_read refl;
+      latches = cut.latches ∙ before.work.latches;
+    }
+  where
+    next : suc n ≡ n + 1
+    next = omega arith
+
+    not_steady : {a b : Bool} → (a ≡ true → b ≡ true) → b ≡ false → a ≡ false
+    not_steady {a} {b} keeps unsteady = by a refl
+      where
+        by : (test : Bool) → a ≡ test → a ≡ false
+        by true is = absurd (both_ways b unsteady (keeps is))
+        by false is = is
+
+-- at most one write a level
+pub length-naming_writes : (g : Shape) (banks : Banks) (page : ℕ) (shadow : List Line) (n : ℕ)
+    → length (naming_writes g banks page shadow n) ≤ n
+length-naming_writes g banks page shadow zero = omega arith
+length-naming_writes g banks page shadow (suc n) =
+    omega (
+      arith,
+      length-append (naming_writes g banks page shadow n)
+          (naming_write g (named_path g banks page shadow n) n (path_number g banks page n) (path_at g page n)),
+      length-naming_writes g banks page shadow n,
+      at_most_one (is_slot_named g (named_path g banks page shadow n) n (path_number g banks page n) (path_at g page n))
+          (shadow_line g (entry_line g n (path_number g banks page n)))
+          (naming_line g (named_path g banks page shadow n) n (path_number g banks page n) (path_at g page n)),
+    )
+  where
+    at_most_one : (test : Bool) (at : ℕ) (line : Line) → length {A = ℕ × Line} (cond test [] ((at, line) ∷ [])) ≤ 1
+    at_most_one true at line = omega arith
+    at_most_one false at line = omega arith
+
+-- ---- the number of a slot
+
+pub number_is : (g : Shape) (cache : CacheState) (bank x n : ℕ) → cache.shape ≡ g
+    → option_map (slot_number cache.shape (set_index cache.shape x)) (slot_with (slots_of cache bank x) x) ≡ Some n
+    → number_in g cache.banks bank x ≡ n
+number_is g cache bank x n its is =
+    ap (λ o. unwrap_or o 0)
+    (subst (λ (k : Shape). option_map (slot_number k (set_index k x)) (slot_with (slots_at k cache.banks bank x) x) ≡ Some n) its is)
+
+pub number_in_low : (g : Shape) (banks : Banks) (bank x : ℕ) → 1 ≤ g.sets → IsSetOf g (set_index g x) (slots_at g banks bank x)
+    → is_cached g banks bank x ≡ true → number_in g banks bank x < slots g
+number_in_low g banks bank x some form cached =
+    by (slot_with (slots_at g banks bank x) x) refl
+    (is_some-slot_with (slots_at g banks bank x) x ∙ cached)
+  where
+    by : (found : Option Slot) → slot_with (slots_at g banks bank x) x ≡ found → is_some found ≡ true
+        → unwrap_or (option_map (slot_number g (set_index g x)) found) 0 < slots g
+    by None is there = absurd (false≢true there)
+    by (Some slot) is there =
+        number_low g.sets g.ways (set_index g x) slot.way (mod-lt x (omega (arith, some)))
+        (way_low g (set_index g x) (slots_at g banks bank x) x slot.way form
+        (ap (λ found. option_map (λ (s : Slot). s.way) found) is))
+
+pub path_number_low : (g : Shape) (cache : CacheState) (page : ℕ) → 1 ≤ g.sets → cache.shape ≡ g
+    → IsCacheOf cache.shape cache.banks → IsPathCached g cache.banks page
+    → (j : ℕ) → j ≤ g.levels → path_number g cache.banks page j < slots g
+path_number_low g cache page some its form cached j le =
+    number_in_low g cache.banks j (path_at g page j) some
+    (subst (λ (k : Shape). IsSetOf k (set_index g (path_at g page j)) (slots_at g cache.banks j (path_at g page j))) its
+    (form.each_set j (set_index g (path_at g page j))))
+    (cached.each j le)

@@ -1,0 +1,131 @@
+-- A path is made anew over the cached lines, from the counter block up.
+use Rattle.std.proofs.Common.{◌≡◌, ℕ, suc, ◌+◌, ◌<◌, ◌≤◌, List, [], ◌∷◌, ◌++◌, length, map, true, refl, sym, ap, ◌∙◌, arith}
+use Rattle.std.specs.Prelude.{All}
+use Rattle.std.proofs.lemmas.List.{append_assoc}
+use Rattle.std.proofs.lemmas.List.Elements.{All-cons, All-nil}
+use Rattle.pmem_base.specs.declared.lines.Line.{Line}
+use Rattle.pmem_base.specs.Shape.{Shape}
+use Rattle.pmem_base.specs.Layout.{pages}
+use Rattle.pmem_base.specs.Lines.{IsLine, line_at}
+use Rattle.suite.specs.Formulas.{Formulas}
+use Rattle.bonsai_tree.specs.Positions.{parent, child_slot, level_of, is_on_path}
+use Rattle.bonsai_tree.specs.Paths.{with_child_digest, node_above, new_path, new_root, path_with, root_with}
+use Rattle.bonsai_tree.proofs.PathPositions.{path_of-block, on_path-position, path_of-at}
+use Rattle.bonsai_tree.proofs.Trees.{path_with-positions, path_with-same}
+use Rattle.meta_cache.specs.Banks.{Banks, is_cached}
+use Rattle.meta_path.specs.Blocks.{path_at, line_in, cached_line, IsPathCached, AreCachedTrue}
+use Rattle.meta_path.specs.Storing.{IsPathOf, IsRenewed}
+use Rattle.meta_path.proofs.PathFacts.{path_at-level, path_at-parent}
+use Rattle.meta_path.proofs.KeepLaws.{line_in-true}
+
+-- i levels are made, and j are left: their lines stand behind those that the rest will make
+pub record IsRenewedTo (g : Shape) (f : Formulas) (old : ℕ → Line) (page : ℕ) (block : Line) (i j x : ℕ) (line : Line)
+    (lines : List (ℕ × Line)) : Type 0 where
+  pub levels : i + j ≡ g.levels
+  pub count : length lines ≡ i
+  pub position : x ≡ path_at g page j
+  pub whole : IsLine line
+  pub rest : new_path f old j x line ++ lines ≡ path_with g f old page block
+  pub top : new_root f old j x line ≡ root_with g f old page block
+  pub each : All (λ entry. IsLine entry.1) lines
+
+pub IsRenewedTo-none : (g : Shape) (f : Formulas) (old : ℕ → Line) (page : ℕ) (block : Line) (x : ℕ)
+    → x ≡ path_at g page g.levels → IsLine block → IsRenewedTo g f old page block 0 g.levels x block []
+unfolding path_with root_with
+IsRenewedTo-none g f old page block x is whole =
+    record {
+      levels = omega arith;
+      count = refl;
+      position = is;
+      whole = whole;
+      rest = append_nil (new_path f old g.levels x block) ∙ ap (λ y. new_path f old g.levels y block) (is ∙ path_of-block g page);
+      top = ap (λ y. new_root f old g.levels y block) (is ∙ path_of-block g page);
+      each = All-nil (λ entry. IsLine entry.1);
+    }
+  where
+    append_nil : (xs : List (ℕ × Line)) → xs ++ [] ≡ xs
+    append_nil [] = refl
+    append_nil (x ∷ xs) = ap (λ rest. x ∷ rest) (append_nil xs)
+
+-- one level more
+pub IsRenewedTo-more : (g : Shape) (f : Formulas) (old : ℕ → Line) (page : ℕ) (block : Line) (i j x : ℕ) (line next : Line)
+    (lines : List (ℕ × Line)) → IsRenewedTo g f old page block i (suc j) x line lines
+    → next ≡ node_above f old x line → IsLine next
+    → IsRenewedTo g f old page block (suc i) j (parent x) next ((x, line) ∷ lines)
+IsRenewedTo-more g f old page block i j x line next lines before is whole =
+    record {
+      levels = omega (arith, before.levels);
+      count = omega (arith, before.count);
+      position =
+          ap parent before.position ∙ path_at-parent g page j (omega (arith, before.levels));
+      whole = whole;
+      rest =
+          ap (λ l. new_path f old j (parent x) l ++ ((x, line) ∷ lines)) is
+          ∙ sym (append_assoc (new_path f old j (parent x) (node_above f old x line)) ((x, line) ∷ []) lines)
+          ∙ before.rest;
+      top = ap (new_root f old j (parent x)) is ∙ before.top;
+      each = All-cons (λ entry. IsLine entry.1) (x, line) lines before.whole before.each;
+    }
+
+-- all levels
+pub lines_renewed : (g : Shape) (f : Formulas) (old : ℕ → Line) (page : ℕ) (block : Line) (i x : ℕ) (line : Line)
+    (lines : List (ℕ × Line)) → IsRenewedTo g f old page block i 0 x line lines
+    → (x, line) ∷ lines ≡ path_with g f old page block
+lines_renewed g f old page block i x line lines done = done.rest
+
+pub root_renewed : (g : Shape) (f : Formulas) (old : ℕ → Line) (page : ℕ) (block : Line) (i x : ℕ) (line : Line)
+    (lines : List (ℕ × Line)) → IsRenewedTo g f old page block i 0 x line lines
+    → f.digest_of x line ≡ root_with g f old page block
+root_renewed g f old page block i x line lines done = done.top
+
+-- the cached parent
+pub parent_line : (g : Shape) (banks : Banks) (page j x : ℕ) → page < pages g → g.levels ≤ 6 → suc j ≤ g.levels
+    → x ≡ path_at g page (suc j) → line_in g banks j (parent x) ≡ cached_line g banks (parent x)
+parent_line g banks page j x inside few le is =
+    ap (λ bank. line_in g banks bank (parent x))
+    (sym (ap level_of (ap parent is ∙ path_at-parent g page j le) ∙ path_at-level g page j inside few (omega arith)))
+
+pub parent_cached : (g : Shape) (banks : Banks) (page j x : ℕ) → suc j ≤ g.levels → x ≡ path_at g page (suc j)
+    → IsPathCached g banks page → is_cached g banks j (parent x) ≡ true
+parent_cached g banks page j x le is cached =
+    ap (is_cached g banks j) (ap parent is ∙ path_at-parent g page j le) ∙ cached.each j (omega arith)
+
+-- its positions are the path
+pub IsPathOf-path_with : (g : Shape) (f : Formulas) (old : ℕ → Line) (page : ℕ) (block : Line) (lines : List (ℕ × Line))
+    → page < pages g → lines ≡ path_with g f old page block → IsPathOf g page lines
+IsPathOf-path_with g f old page block lines inside is =
+    record {
+      its_page = inside;
+      positions = ap (λ entries. map (λ (entry : ℕ × Line). entry.0) entries) is ∙ path_with-positions g f old page block;
+    }
+
+-- over cached lines that are true it is that over the true lines
+pub IsRenewed-true : (g : Shape) (f : Formulas) (banks : Banks) (truth : List Line) (page : ℕ) (block : Line)
+    (lines : List (ℕ × Line)) (root : List ℕ) → page < pages g → g.levels ≤ 6 → IsPathCached g banks page
+    → AreCachedTrue banks truth → lines ≡ path_with g f (cached_line g banks) page block
+    → root ≡ root_with g f (cached_line g banks) page block → IsRenewed g f truth page block lines root
+IsRenewed-true g f banks truth page block lines root inside few cached is_true lines_are root_is =
+    record { lines = lines_are ∙ same.0; root = root_is ∙ same.1 }
+  where
+    on : (x : ℕ) → is_on_path g page x ≡ true → cached_line g banks x ≡ line_at truth x
+    on x here =
+        let at = on_path-position g page x here in
+        let is : x ≡ path_at g page at.0 = at.2 ∙ sym (path_of-at g page at.0 at.1) in
+        ap (λ bank. line_in g banks bank x) (ap level_of is ∙ path_at-level g page at.0 inside few at.1)
+        ∙ line_in-true g banks truth at.0 x is_true (ap (is_cached g banks at.0) is ∙ cached.each at.0 at.1)
+
+    same : (path_with g f (cached_line g banks) page block ≡ path_with g f (line_at truth) page block)
+        × (root_with g f (cached_line g banks) page block ≡ root_with g f (line_at truth) page block)
+    same = path_with-same g f (cached_line g banks) (line_at truth) page block on
+
+-- the node that the code makes
+pub node_is : (g k : Shape) (f other : Formulas) (banks : Banks) (page left x bank : ℕ) (line node : Line)
+    → page < pages g → g.levels ≤ 6 → suc left ≤ g.levels → x ≡ path_at g page (suc left) → k ≡ g → bank ≡ left → other ≡ f
+    → node ≡ with_child_digest (line_in k banks bank (parent x)) (child_slot x) (other.digest_of x line)
+    → node ≡ node_above f (cached_line g banks) x line
+node_is g k f other banks page left x bank line node inside few le position its bank_is formulas is =
+    is
+    ∙ ap (λ (h : Formulas). with_child_digest (line_in k banks bank (parent x)) (child_slot x) (h.digest_of x line)) formulas
+    ∙ ap (λ (h : Shape). with_child_digest (line_in h banks bank (parent x)) (child_slot x) (f.digest_of x line)) its
+    ∙ ap (λ b. with_child_digest (line_in g banks b (parent x)) (child_slot x) (f.digest_of x line)) bank_is
+    ∙ ap (λ (l : Line). with_child_digest l (child_slot x) (f.digest_of x line)) (parent_line g banks page left x inside few le position)

@@ -1,0 +1,380 @@
+-- New lines are stored, level by level.
+use Rattle.std.proofs.Common.{◌≡◌, ◌≢◌, ℕ, suc, ◌+◌, ◌<◌, ◌≤◌, Bool, true, false, cond, List, [], ◌∷◌, ◌++◌, length, get_or, take, map, set, refl, sym, ap, subst, subst₂, ◌∙◌, ◌⊎◌, inl, inr, arith}
+use Rattle.std.specs.Prelude.{◌==◌, ◌||◌, nat_lt, not, Contains}
+use Rattle.std.proofs.lemmas.Bool.{cases_eq, cases_lt, cases_Bool, cond-true, cond-false, eq-eqb, eqb-true, false≢true}
+use Rattle.std.proofs.lemmas.List.{length-map, take_more, get_or-map, get_or_default}
+use Rattle.std.proofs.lemmas.List.Elements.{All-contains}
+use Rattle.pmem_base.specs.declared.lines.Line.{Line}
+use Rattle.pmem_base.specs.Shape.{Shape}
+use Rattle.pmem_base.specs.Layout.{meta_lines}
+use Rattle.pmem_base.specs.Lines.{put_lines, zero_line}
+use Rattle.bonsai_tree.specs.Positions.{level_of}
+use Rattle.pmem_base.proofs.LineSets.{put_lines-append}
+use Rattle.bonsai_tree.proofs.PathPositions.{length-path_of}
+use Rattle.seal_ledger.specs.Ledger.{LedgerState}
+use Rattle.seal_ledger.specs.Notes.{HasMeta}
+use Rattle.meta_cache.specs.declared.slot.Slot.{Slot}
+use Rattle.meta_cache.specs.Banks.{Banks, set_of, set_index, is_cached}
+use Rattle.meta_cache.specs.Sets.{holds, lined, marked, with_line, with_mark}
+use Rattle.meta_cache.specs.State.{CacheState, ChangesSet}
+use Rattle.meta_cache.proofs.WayLemmas.{KeepsWays-with_line, KeepsWays-with_mark}
+use Rattle.meta_path.specs.Blocks.{path_at, slots_at, IsPathCached, IsOfItsBank, AreInTheirBanks}
+use Rattle.meta_path.specs.Storing.{new_line, IsPathOf, stored_set, stored_mark, IsStoredTo, AreTold, IsStoredSlot, KeepsSlots}
+use Rattle.meta_path.proofs.SetFacts.{map_contains, contains_map, holds-with_line, holds-with_mark}
+use Rattle.meta_path.proofs.PathFacts.{AreSets, its_bank_of, path_at-lt}
+use Rattle.meta_path.proofs.WriteLemmas.{mark_at}
+use Rattle.meta_path.proofs.KeepLaws.{all_of}
+
+-- ---- one level
+
+-- a line and a mark are one change
+pub stored_twice : (old mid new : CacheState) (bank x : ℕ) (line : Line) (dirty : Bool)
+    → ChangesSet old mid bank (set_index old.shape x) (with_line (slots_at old.shape old.banks bank x) x line)
+    → ChangesSet mid new bank (set_index mid.shape x) (with_mark (slots_at mid.shape mid.banks bank x) x dirty)
+    → ChangesSet old new bank (set_index old.shape x) (stored_set (slots_at old.shape old.banks bank x) x line dirty)
+stored_twice old mid new bank x line dirty one two =
+    record {
+      shape = two.shape ∙ one.shape;
+      here =
+          ap (λ (k : Shape). set_of new.banks bank (set_index k x)) (sym one.shape) ∙ two.here ∙ same;
+      ways = λ y before after.
+          KeepsWays-with_mark (with_line slots x line) x dirty y
+          (holds-with_line slots x line y ∙ before) after
+          ∙ KeepsWays-with_line slots x line y before (holds-with_line slots x line y ∙ before);
+      elsewhere =
+          λ bank' set' apart.
+          two.elsewhere bank' set' (λ e. apart (e.0, e.1 ∙ ap (λ (k : Shape). set_index k x) one.shape))
+          ∙ one.elsewhere bank' set' apart;
+    }
+  where
+    slots : List Slot
+    slots = slots_at old.shape old.banks bank x
+
+    same : with_mark (slots_at mid.shape mid.banks bank x) x dirty ≡ stored_set slots x line dirty
+    same =
+        ap (λ set. with_mark set x dirty)
+        (ap (λ (k : Shape). set_of mid.banks bank (set_index k x)) one.shape ∙ one.here)
+
+-- the position is still cached
+pub lined_cached : (old mid : CacheState) (bank x : ℕ) (line : Line)
+    → ChangesSet old mid bank (set_index old.shape x) (with_line (slots_at old.shape old.banks bank x) x line)
+    → is_cached old.shape old.banks bank x ≡ true → is_cached mid.shape mid.banks bank x ≡ true
+lined_cached old mid bank x line one cached =
+    ap (λ (k : Shape). is_cached k mid.banks bank x) one.shape
+    ∙ ap (λ slots. holds slots x) one.here
+    ∙ holds-with_line (slots_at old.shape old.banks bank x) x line x ∙ cached
+
+-- ---- the path's lines
+
+pub length-path_lines : (g : Shape) (page : ℕ) (lines : List (ℕ × Line)) → IsPathOf g page lines → length lines ≡ g.levels + 1
+length-path_lines g page lines path =
+    sym (length-map lines (λ (entry : ℕ × Line). entry.0)) ∙ ap (λ (xs : List ℕ). length xs) path.positions ∙ length-path_of g page
+
+pub position_of : (g : Shape) (page : ℕ) (lines : List (ℕ × Line)) (j : ℕ) (d : ℕ × Line) → IsPathOf g page lines
+    → j < length lines → (get_or lines j d).0 ≡ path_at g page j
+position_of g page lines j d path h =
+    sym (get_or-map (λ (entry : ℕ × Line). entry.0) lines j d 0 h) ∙ ap (λ (xs : List ℕ). get_or xs j 0) path.positions
+
+-- ---- level by level
+
+pub IsStoredTo-none : (g : Shape) (page : ℕ) (persisted : Bool) (lines : List (ℕ × Line)) (cache : CacheState)
+    → IsStoredTo g page persisted lines 0 cache cache
+IsStoredTo-none g page persisted lines cache =
+    record { shape = refl; stored = λ j h. absurd (omega arith); elsewhere = λ bank set apart. refl }
+
+pub IsStoredTo-more : (g : Shape) (page : ℕ) (persisted : Bool) (lines : List (ℕ × Line)) (n : ℕ) (old mid new : CacheState)
+    → IsStoredTo g page persisted lines n old mid
+    → ChangesSet mid new n (set_index g (path_at g page n))
+    (stored_set (slots_at g mid.banks n (path_at g page n)) (path_at g page n) (new_line lines n) (stored_mark g persisted n))
+    → IsStoredTo g page persisted lines (suc n) old new
+IsStoredTo-more g page persisted lines n old mid new before level =
+    record {
+      shape = level.shape ∙ before.shape;
+      stored = λ j h. stored j h (cases_eq j n);
+      elsewhere =
+          λ bank set apart.
+          level.elsewhere bank set
+          (λ e. apart (omega (arith, e.0), e.1 ∙ ap (λ k. set_index g (path_at g page k)) (sym e.0)))
+          ∙ before.elsewhere bank set (λ e. apart (omega (arith, e.0), e.1));
+    }
+  where
+    stored : (j : ℕ) → j < suc n → (j ≡ n) ⊎ (j ≡ n → ⊥)
+        → slots_at g new.banks j (path_at g page j)
+        ≡ stored_set (slots_at g old.banks j (path_at g page j)) (path_at g page j) (new_line lines j) (stored_mark g persisted j)
+    stored j h (inl same) =
+        subst (λ k. slots_at g new.banks k (path_at g page k)
+        ≡ stored_set (slots_at g old.banks k (path_at g page k)) (path_at g page k) (new_line lines k) (stored_mark g persisted k))
+        (sym same)
+        (level.here
+        ∙ ap (λ slots. stored_set slots (path_at g page n) (new_line lines n) (stored_mark g persisted n))
+        (before.elsewhere n (set_index g (path_at g page n)) (λ e. omega (arith, e.0))))
+    stored j h (inr other) =
+        level.elsewhere j (set_index g (path_at g page j)) (λ e. other e.0) ∙ before.stored j (omega arith)
+
+-- the change of a level, in the path's words
+pub level_stored : (g : Shape) (page : ℕ) (persisted : Bool) (lines : List (ℕ × Line)) (n : ℕ) (entry d : ℕ × Line) (mark : Bool)
+    (mid new : CacheState) → IsPathOf g page lines → n < length lines → mid.shape ≡ g → entry ≡ get_or lines n d
+    → mark ≡ stored_mark g persisted n
+    → ChangesSet mid new n (set_index mid.shape entry.0) (stored_set (slots_at mid.shape mid.banks n entry.0) entry.0 entry.1 mark)
+    → ChangesSet mid new n (set_index g (path_at g page n))
+    (stored_set (slots_at g mid.banks n (path_at g page n)) (path_at g page n) (new_line lines n) (stored_mark g persisted n))
+level_stored g page persisted lines n entry d mark mid new path h its is mark_is changes =
+    subst (λ (b : Bool). ChangesSet mid new n (set_index g (path_at g page n))
+    (stored_set (slots_at g mid.banks n (path_at g page n)) (path_at g page n) (new_line lines n) b)) mark_is
+    (subst₂ (λ (x : ℕ) (line : Line). ChangesSet mid new n (set_index g x) (stored_set (slots_at g mid.banks n x) x line mark))
+    (ap (λ (e : ℕ × Line). e.0) is ∙ position_of g page lines n d path h)
+    (ap (λ (e : ℕ × Line). e.1) (is ∙ get_or_default lines n d (0, zero_line) h))
+    (subst (λ (k : Shape). ChangesSet mid new n (set_index k entry.0)
+    (stored_set (slots_at k mid.banks n entry.0) entry.0 entry.1 mark)) its changes))
+
+-- the next position is cached still
+pub next_cached : (g : Shape) (page : ℕ) (persisted : Bool) (lines : List (ℕ × Line)) (n : ℕ) (entry d : ℕ × Line)
+    (old mid : CacheState) → IsPathOf g page lines → n < length lines → old.shape ≡ g → entry ≡ get_or lines n d
+    → IsStoredTo g page persisted lines n old mid → IsPathCached g old.banks page
+    → is_cached mid.shape mid.banks n entry.0 ≡ true
+next_cached g page persisted lines n entry d old mid path h its is stored cached =
+    ap (λ (k : Shape). is_cached k mid.banks n entry.0) (stored.shape ∙ its)
+    ∙ ap (is_cached g mid.banks n) (ap (λ (e : ℕ × Line). e.0) is ∙ position_of g page lines n d path h)
+    ∙ ap (λ slots. holds slots (path_at g page n))
+    (stored.elsewhere n (set_index g (path_at g page n)) (λ e. omega (arith, e.0)))
+    ∙ cached.each n (omega (arith, h, length-path_lines g page lines path))
+
+-- and on the tree
+pub next_on_tree : (g : Shape) (page : ℕ) (lines : List (ℕ × Line)) (n : ℕ) (entry d : ℕ × Line)
+    → IsPathOf g page lines → n < length lines → entry ≡ get_or lines n d → entry.0 < meta_lines g
+next_on_tree g page lines n entry d path h is =
+    subst (λ x. x < meta_lines g) (sym (ap (λ (e : ℕ × Line). e.0) is ∙ position_of g page lines n d path h))
+    (path_at-lt g page n path.its_page (omega (arith, h, length-path_lines g page lines path)))
+
+-- the mark that the code computes
+pub mark_is : (levels n last : ℕ) (persisted mark : Bool) → last ≡ levels → mark ≡ (nat_lt n last || not persisted)
+    → mark ≡ (nat_lt n levels || not persisted)
+mark_is levels n last persisted mark same is = is ∙ ap (λ k. nat_lt n k || not persisted) same
+
+-- ---- the ledger
+
+pub AreTold-none : (ledger : LedgerState) → AreTold [] ledger ledger
+AreTold-none ledger =
+    record { truth = refl; count = refl; marks = refl; data_lines = refl; exhibit = refl; spare = refl }
+
+pub AreTold-more : (lines : List (ℕ × Line)) (n x : ℕ) (line : Line) (d : ℕ × Line) (old mid new : LedgerState)
+    → n < length lines → get_or lines n d ≡ (x, line) → AreTold (take n lines) old mid → HasMeta mid new x line
+    → AreTold (take (n + 1) lines) old new
+AreTold-more lines n x line d old mid new h is before more =
+    record {
+      truth =
+          more.truth ∙ ap (λ truth. set truth x line) before.truth
+          ∙ sym (ap (λ entries. put_lines entries old.truth) (take_more lines n d h ∙ ap (λ (e : ℕ × Line). take n lines ++ e ∷ []) is)
+          ∙ put_lines-append (take n lines) ((x, line) ∷ []) old.truth);
+      count = more.count ∙ before.count;
+      marks = more.marks ∙ before.marks;
+      data_lines = more.data_lines ∙ before.data_lines;
+      exhibit = more.exhibit ∙ before.exhibit;
+      spare = more.spare ∙ before.spare;
+    }
+
+-- ---- what is kept
+
+-- a slot after its position got a line and a mark
+abbrev pub line_of_at : ℕ → Line → Slot → Slot
+line_of_at x line slot = cond (slot.position == x) (lined slot line) slot
+
+abbrev pub store_at : ℕ → Line → Bool → Slot → Slot
+store_at x line dirty slot = mark_at x dirty (line_of_at x line slot)
+
+-- it is the position's with the line and the mark, or is as it was
+pub record IsStoreOf (x : ℕ) (line : Line) (dirty : Bool) (before now : Slot) : Type 0 where
+  pub way : now.way ≡ before.way
+  pub position : now.position ≡ before.position
+  pub same : now.position ≢ x → now ≡ before
+  pub its_line : now.position ≡ x → now.line ≡ line
+  pub its_mark : now.position ≡ x → now.dirty ≡ dirty
+
+pub store_at-is : (x : ℕ) (line : Line) (dirty : Bool) (slot : Slot) → IsStoreOf x line dirty slot (store_at x line dirty slot)
+store_at-is x line dirty slot = by (cases_Bool (slot.position == x))
+  where
+    by : ((slot.position == x) ≡ true) ⊎ ((slot.position == x) ≡ false)
+        → IsStoreOf x line dirty slot (store_at x line dirty slot)
+    by (inl here) =
+        subst (IsStoreOf x line dirty slot)
+        (sym (ap (mark_at x dirty) (cond-true (slot.position == x) (lined slot line) slot here)
+        ∙ cond-true (slot.position == x) (marked (lined slot line) dirty) (lined slot line) here))
+        (record {
+          way = refl;
+          position = refl;
+          same = λ other. absurd (other (eqb-true slot.position x here));
+          its_line = λ e. refl;
+          its_mark = λ e. refl;
+        })
+    by (inr other) =
+        subst (IsStoreOf x line dirty slot)
+        (sym (ap (mark_at x dirty) (cond-false (slot.position == x) (lined slot line) slot other)
+        ∙ cond-false (slot.position == x) (marked slot dirty) slot other))
+        (record {
+          way = refl;
+          position = refl;
+          same = λ e. refl;
+          its_line = λ e. absurd (false≢true (sym other ∙ eq-eqb slot.position x e));
+          its_mark = λ e. absurd (false≢true (sym other ∙ eq-eqb slot.position x e));
+        })
+
+pub stored_contains : (slots : List Slot) (x : ℕ) (line : Line) (dirty : Bool) (now : Slot)
+    → Contains (stored_set slots x line dirty) now → (before : Slot) × Contains slots before × IsStoreOf x line dirty before now
+unfolding with_line with_mark
+stored_contains slots x line dirty now found =
+    let last = map_contains (mark_at x dirty) (map (line_of_at x line) slots) now found in
+    let first = map_contains (line_of_at x line) slots last.0 last.1 in (
+      first.0,
+      first.1,
+      subst (IsStoreOf x line dirty first.0) (ap (mark_at x dirty) first.2 ∙ last.2) (store_at-is x line dirty first.0),
+    )
+
+pub contains_stored : (slots : List Slot) (x : ℕ) (line : Line) (dirty : Bool) (before : Slot) → Contains slots before
+    → Contains (stored_set slots x line dirty) (store_at x line dirty before)
+unfolding with_line with_mark
+contains_stored slots x line dirty before found =
+    contains_map (mark_at x dirty) (map (line_of_at x line) slots) (line_of_at x line before)
+    (contains_map (line_of_at x line) slots before found)
+
+-- a slot of a set that is stored
+stored_slot : (g : Shape) (page : ℕ) (persisted : Bool) (lines : List (ℕ × Line)) (bank : ℕ) (before now : Slot)
+    → IsStoreOf (path_at g page bank) (new_line lines bank) (stored_mark g persisted bank) before now
+    → bank ≤ g.levels → IsStoredSlot g page persisted lines bank before now
+stored_slot g page persisted lines bank before now of low =
+    record {
+      way = of.way;
+      position = of.position;
+      off_path = λ apart. of.same (λ e. apart (low, e));
+      line = λ le e. of.its_line e;
+      mark = λ le e. of.its_mark e;
+    }
+
+-- a slot of any other set
+kept_slot : (g : Shape) (page : ℕ) (persisted : Bool) (lines : List (ℕ × Line)) (bank set : ℕ) (slot : Slot)
+    → set_index g slot.position ≡ set → ((bank < g.levels + 1) × (set ≡ set_index g (path_at g page bank)) → ⊥)
+    → IsStoredSlot g page persisted lines bank slot slot
+kept_slot g page persisted lines bank set slot its apart =
+    record {
+      way = refl;
+      position = refl;
+      off_path = λ off. refl;
+      line = λ le e. absurd (apart (omega (arith, le), sym its ∙ ap (set_index g) e));
+      mark = λ le e. absurd (apart (omega (arith, le), sym its ∙ ap (set_index g) e));
+    }
+
+pub KeepsSlots-stored : (g : Shape) (page : ℕ) (persisted : Bool) (lines : List (ℕ × Line)) (old new : CacheState)
+    → AreSets g old.banks → IsStoredTo g page persisted lines (g.levels + 1) old new
+    → KeepsSlots g page persisted lines old.banks new.banks
+KeepsSlots-stored g page persisted lines old new sets stored =
+    record {
+      slots_now = λ bank set now found. now_of bank set now found (which bank set);
+      slots_before = λ bank set before found. before_of bank set before found (which bank set);
+    }
+  where
+    Path : ℕ → ℕ → Type 0
+    Path bank set = (bank < g.levels + 1) × (set ≡ set_index g (path_at g page bank))
+
+    which : (bank set : ℕ) → Path bank set ⊎ (Path bank set → ⊥)
+    which bank set = by (cases_lt bank (g.levels + 1)) (cases_eq set (set_index g (path_at g page bank)))
+      where
+        by : (bank < g.levels + 1) ⊎ (g.levels + 1 ≤ bank)
+            → (set ≡ set_index g (path_at g page bank)) ⊎ (set ≡ set_index g (path_at g page bank) → ⊥)
+            → Path bank set ⊎ (Path bank set → ⊥)
+        by (inl less) (inl same) = inl (less, same)
+        by (inl less) (inr other) = inr (λ e. other e.1)
+        by (inr more) at = inr (λ e. omega (arith, e.0, more))
+
+    here : (bank set : ℕ) → Path bank set
+        → set_of new.banks bank set
+        ≡ stored_set (set_of old.banks bank set) (path_at g page bank) (new_line lines bank) (stored_mark g persisted bank)
+    here bank set at =
+        ap (set_of new.banks bank) at.1 ∙ stored.stored bank at.0
+        ∙ ap (λ slots. stored_set slots (path_at g page bank) (new_line lines bank) (stored_mark g persisted bank))
+        (ap (set_of old.banks bank) (sym at.1))
+
+    now_of : (bank set : ℕ) (now : Slot) → Contains (set_of new.banks bank set) now → Path bank set ⊎ (Path bank set → ⊥)
+        → (before : Slot) × Contains (set_of old.banks bank set) before × IsStoredSlot g page persisted lines bank before now
+    now_of bank set now found (inl at) =
+        let from = stored_contains (set_of old.banks bank set) (path_at g page bank) (new_line lines bank)
+        (stored_mark g persisted bank) now (subst (λ slots. Contains slots now) (here bank set at) found) in
+        (from.0, from.1, stored_slot g page persisted lines bank from.0 now from.2 (omega (arith, at.0)))
+    now_of bank set now found (inr apart) =
+        let stood : Contains (set_of old.banks bank set) now =
+        subst (λ slots. Contains slots now) (stored.elsewhere bank set apart) found in (
+          now,
+          stood,
+          kept_slot g page persisted lines bank set now
+              (All-contains (λ (s : Slot). set_index g s.position ≡ set) (set_of old.banks bank set) now
+              (sets.each bank set).its_positions stood)
+              apart,
+        )
+
+    before_of : (bank set : ℕ) (before : Slot) → Contains (set_of old.banks bank set) before
+        → Path bank set ⊎ (Path bank set → ⊥)
+        → (now : Slot) × Contains (set_of new.banks bank set) now × IsStoredSlot g page persisted lines bank before now
+    before_of bank set before found (inl at) = (
+      store_at (path_at g page bank) (new_line lines bank) (stored_mark g persisted bank) before,
+      subst (λ slots. Contains slots (store_at (path_at g page bank) (new_line lines bank) (stored_mark g persisted bank) before))
+          (sym (here bank set at))
+          (contains_stored (set_of old.banks bank set) (path_at g page bank) (new_line lines bank) (stored_mark g persisted bank)
+          before found),
+      stored_slot g page persisted lines bank before
+          (store_at (path_at g page bank) (new_line lines bank) (stored_mark g persisted bank) before)
+          (store_at-is (path_at g page bank) (new_line lines bank) (stored_mark g persisted bank) before)
+          (omega (arith, at.0)),
+    )
+    before_of bank set before found (inr apart) = (
+      before,
+      subst (λ slots. Contains slots before) (sym (stored.elsewhere bank set apart)) found,
+      kept_slot g page persisted lines bank set before
+          (All-contains (λ (s : Slot). set_index g s.position ≡ set) (set_of old.banks bank set) before
+          (sets.each bank set).its_positions found)
+          apart,
+    )
+
+-- each position is cached as it was
+pub is_cached-stored : (g : Shape) (page : ℕ) (persisted : Bool) (lines : List (ℕ × Line)) (old new : CacheState)
+    → IsStoredTo g page persisted lines (g.levels + 1) old new → (bank x : ℕ)
+    → is_cached g new.banks bank x ≡ is_cached g old.banks bank x
+is_cached-stored g page persisted lines old new stored bank x =
+    by (cases_lt bank (g.levels + 1)) (cases_eq (set_index g x) (set_index g (path_at g page bank)))
+  where
+    y : ℕ
+    y = path_at g page bank
+
+    by : (bank < g.levels + 1) ⊎ (g.levels + 1 ≤ bank) → (set_index g x ≡ set_index g y) ⊎ (set_index g x ≡ set_index g y → ⊥)
+        → holds (set_of new.banks bank (set_index g x)) x ≡ holds (set_of old.banks bank (set_index g x)) x
+    by (inl less) (inl same) =
+        ap (λ n. holds (set_of new.banks bank n) x) same
+        ∙ ap (λ slots. holds slots x) (stored.stored bank less)
+        ∙ holds-with_mark (with_line (slots_at g old.banks bank y) y (new_line lines bank)) y (stored_mark g persisted bank) x
+        ∙ holds-with_line (slots_at g old.banks bank y) y (new_line lines bank) x
+        ∙ ap (λ n. holds (set_of old.banks bank n) x) (sym same)
+    by (inl less) (inr other) = ap (λ slots. holds slots x) (stored.elsewhere bank (set_index g x) (λ e. other e.1))
+    by (inr more) at = ap (λ slots. holds slots x) (stored.elsewhere bank (set_index g x) (λ e. omega (arith, e.0, more)))
+
+pub IsPathCached-stored : (g : Shape) (page other : ℕ) (persisted : Bool) (lines : List (ℕ × Line)) (old new : CacheState)
+    → IsStoredTo g page persisted lines (g.levels + 1) old new → IsPathCached g old.banks other → IsPathCached g new.banks other
+IsPathCached-stored g page other persisted lines old new stored cached =
+    record {
+      each = λ j le. is_cached-stored g page persisted lines old new stored j (path_at g other j) ∙ cached.each j le;
+    }
+
+pub AreInTheirBanks-stored : (g : Shape) (page : ℕ) (persisted : Bool) (lines : List (ℕ × Line)) (old new : Banks)
+    → KeepsSlots g page persisted lines old new → AreInTheirBanks g old → AreInTheirBanks g new
+AreInTheirBanks-stored g page persisted lines old new keeps its =
+    record {
+      each = λ bank set.
+          all_of (IsOfItsBank g bank) (set_of new bank set)
+          (λ now found. moved bank set now (keeps.slots_now bank set now found));
+    }
+  where
+    moved : (bank set : ℕ) (now : Slot)
+        → ((before : Slot) × Contains (set_of old bank set) before × IsStoredSlot g page persisted lines bank before now)
+        → IsOfItsBank g bank now
+    moved bank set now from =
+        let was : IsOfItsBank g bank from.0 = its_bank_of g old bank set from.0 its from.1 in
+        record {
+          on_tree = subst (λ x. x < meta_lines g) (sym from.2.position) was.on_tree;
+          its_bank = ap level_of from.2.position ∙ was.its_bank;
+        }

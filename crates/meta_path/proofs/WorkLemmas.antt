@@ -1,0 +1,104 @@
+-- Reads, line writes and digests, one call after another.
+use Rattle.std.proofs.Common.{◌≡◌, ℕ, zero, suc, ◌+◌, List, [], ◌∷◌, ◌++◌, length, refl, sym, ap, subst, ◌∙◌, arith, Option, Some, None}
+use Rattle.std.proofs.lemmas.List.{length-append}
+use Rattle.pmem_base.specs.declared.lines.Line.{Line}
+use Rattle.pmem_base.specs.Counts.{risen}
+use Rattle.pmem_base.proofs.LineSets.{put_lines-append}
+use Rattle.board.specs.Counts.{RisesBy}
+use Rattle.board.specs.Device.{Device}
+use Rattle.board.specs.Steps.{with_line, HasRead, HasWritten}
+use Rattle.board.proofs.CountLemmas.{RisesBy-then}
+use Rattle.commit_regs.specs.Groups.{redone_told}
+use Rattle.commit_regs.proofs.GroupLemmas.{redone-nil}
+use Rattle.meta_path.specs.Work.{risen_times, HasWorked}
+
+pub redone_told-append : (front back : List (ℕ × Line)) (told : Option (List Line))
+    → redone_told (front ++ back) told ≡ redone_told back (redone_told front told)
+redone_told-append front back None = refl
+redone_told-append front back (Some lines) = ap Some (put_lines-append front back lines)
+
+redone_told-one : (at : ℕ) (line : Line) (told : Option (List Line))
+    → redone_told ((at, line) ∷ []) told ≡ with_line told at line
+redone_told-one at line None = refl
+redone_told-one at line (Some lines) = refl
+
+pub RisesBy-none : (before after : ℕ) → after ≡ before → RisesBy 0 before after
+RisesBy-none before after same = record { never_falls = omega arith; exact = λ below. omega arith }
+
+-- nothing done
+pub HasWorked-none : (device : Device) → HasWorked 0 [] device device
+HasWorked-none device =
+    record {
+      lines = sym (redone-nil device.lines);
+      writes = RisesBy-none device.writes device.writes refl;
+      no_write = λ none. refl;
+      reads = RisesBy-none device.reads device.reads refl;
+      no_read = λ none. refl;
+      size = refl;
+      regs = refl;
+      latches = refl;
+      cuts = refl;
+      steady = λ s. s;
+      live = λ l. l;
+    }
+
+pub HasWorked-read : (old : Device) (at : ℕ) (line : Line) (new : Device) → HasRead old at line new
+    → HasWorked 1 [] old new
+HasWorked-read old at line new read =
+    record {
+      lines = read.lines ∙ sym (redone-nil old.lines);
+      writes = RisesBy-none old.writes new.writes read.writes;
+      no_write = λ none. read.writes;
+      reads = read.reads;
+      no_read = λ none. absurd (omega arith);
+      size = read.size;
+      regs = read.regs;
+      latches = read.latches;
+      cuts = read.cuts;
+      steady = read.steady;
+      live = read.live;
+    }
+
+pub HasWorked-written : (old : Device) (at : ℕ) (line : Line) (new : Device) → HasWritten old at line new
+    → HasWorked 0 ((at, line) ∷ []) old new
+HasWorked-written old at line new written =
+    record {
+      lines = written.lines ∙ sym (redone_told-one at line old.lines);
+      writes = written.writes;
+      no_write = λ none. absurd (omega arith);
+      reads = RisesBy-none old.reads new.reads written.reads;
+      no_read = λ none. written.reads;
+      size = written.size;
+      regs = written.regs;
+      latches = written.latches;
+      cuts = written.cuts;
+      steady = written.steady;
+      live = written.live;
+    }
+
+-- two calls are one
+pub HasWorked-then : (m n : ℕ) (front back : List (ℕ × Line)) (old mid new : Device) → HasWorked m front old mid
+    → HasWorked n back mid new → HasWorked (m + n) (front ++ back) old new
+HasWorked-then m n front back old mid new first second =
+    let both : length (front ++ back) ≡ length front + length back = length-append front back in
+    record {
+      lines = second.lines ∙ ap (redone_told back) first.lines ∙ sym (redone_told-append front back old.lines);
+      writes =
+          subst (λ times. RisesBy times old.writes new.writes) (sym both)
+          (RisesBy-then (length front) (length back) old.writes mid.writes new.writes first.writes second.writes);
+      no_write = λ none. second.no_write (omega arith) ∙ first.no_write (omega arith);
+      reads = RisesBy-then m n old.reads mid.reads new.reads first.reads second.reads;
+      no_read = λ none. second.no_read (omega arith) ∙ first.no_read (omega arith);
+      size = second.size ∙ first.size;
+      regs = second.regs ∙ first.regs;
+      latches = second.latches ∙ first.latches;
+      cuts = second.cuts ∙ first.cuts;
+      steady = λ s. second.steady (first.steady s);
+      live = λ l. second.live (first.live l);
+    }
+
+pub risen_times-add : (m n count : ℕ) → risen_times (m + n) count ≡ risen_times n (risen_times m count)
+risen_times-add m zero count = let none : m + 0 ≡ m = omega arith in ap (λ k. risen_times k count) none
+risen_times-add m (suc n) count =
+    let more : m + suc n ≡ suc (m + n) = omega arith in
+    ap (λ k. risen_times k count) more ∙ ap risen (risen_times-add m n count)

@@ -1,0 +1,75 @@
+-- The levels so far and the next one, whether its entry is written or cut.
+use Rattle.std.proofs.Common.{◌≡◌, suc, ◌+◌, ◌≤◌, subst, ◌∙◌, arith}
+use Rattle.pmem_base.specs.Geo.{shape_of}
+use Rattle.shadow_tables.specs.Naming.{Names}
+use Rattle.meta_path.specs.Blocks.{number_in}
+use Rattle.meta_path.specs.Naming.{IsSlotNamed, IsSlotCut, IsNamedTo}
+use Rattle.meta_path.proofs.PathFacts.{position_is, all_levels}
+use Rattle.meta_path.proofs.NameLemmas.{IsNamedTo-more, IsNamingCut-at, on_err, path_number_low, length-naming_writes}
+use Rattle.meta_path.proofs.naming.make_dirty.Goals as goal
+
+pub returns-in_err-name_level-clause-cut : goal.returns-in_err-name_level-clause-cut
+returns-in_err-name_level-clause-cut g c =
+    let shape = shape_of c.args.geo.now in
+    let banks = c.args.cache.now.banks in
+    let le : c.levels.bank ≤ shape.levels = omega (arith, c.levels-test.true, c.levels-bank-end.ensures) in
+    let at = position_is _ c.as_slice.result.now c.from.result c.levels.bank
+    (c.as_slice.ensures.value ∙ c.path-path.ensures.value) c.from.ensures in
+    on_err c.from_residual.result _
+    (IsNamingCut-at shape banks c.args.page c.levels.bank c.args.mirror.now c.levels.mirror c.name_level.new.mirror
+    (g.B.Board.device c.args.board.now) (g.B.Board.device c.levels.board) (g.B.Board.device c.name_level.new.board) le
+    (λ j h. path_number_low shape c.args.cache.now c.args.page c.args.geo.now.has_sets.0 c.requires.shape c.are_banks.ensures.cache
+    c.requires.cached j (omega (arith, h, le)))
+    c.levels.invariant.named
+    (subst (λ x. Names shape c.levels.mirror c.name_level.new.mirror c.levels.bank (number_in shape banks c.levels.bank x) x) at
+    c.name_level.ensures.names)
+    (subst (λ x. IsSlotCut shape c.levels.bank (number_in shape banks c.levels.bank x) x c.levels.mirror c.name_level.new.mirror
+    (g.B.Board.device c.levels.board) (g.B.Board.device c.name_level.new.board)) at c.in_err-name_level.ensures.cut))
+
+pub returns-in_err-name_level-clause-one_a_level :
+    goal.returns-in_err-name_level-clause-one_a_level
+returns-in_err-name_level-clause-one_a_level g c =
+    length-naming_writes (shape_of c.args.geo.now) c.args.cache.now.banks c.args.page c.args.mirror.now
+    ((shape_of c.args.geo.now).levels + 1)
+
+pub levels-preserved : goal.levels-preserved
+levels-preserved g c =
+    let shape = shape_of c.args.geo.now in
+    let banks = c.args.cache.now.banks in
+    let le : c.levels.bank ≤ shape.levels = omega (arith, c.levels-test.true, c.levels-bank-end.ensures) in
+    let at = position_is _ c.as_slice.result.now c.from.result c.levels.bank
+    (c.as_slice.ensures.value ∙ c.path-path.ensures.value) c.from.ensures in
+    let next : suc c.levels.bank ≡ c.levels.bank + 1 = omega arith in
+    record {
+      named =
+          subst (λ n. IsNamedTo shape banks c.args.page n c.args.mirror.now c.name_level.new.mirror
+          (g.B.Board.device c.args.board.now) (g.B.Board.device c.name_level.new.board)) next
+          (IsNamedTo-more shape banks c.args.page c.levels.bank c.args.mirror.now c.levels.mirror c.name_level.new.mirror
+          (g.B.Board.device c.args.board.now) (g.B.Board.device c.levels.board) (g.B.Board.device c.name_level.new.board)
+          (λ j h. path_number_low shape c.args.cache.now c.args.page c.args.geo.now.has_sets.0 c.requires.shape
+          c.are_banks.ensures.cache c.requires.cached j (omega (arith, h, le)))
+          c.levels.invariant.named
+          (subst (λ x. Names shape c.levels.mirror c.name_level.new.mirror c.levels.bank (number_in shape banks c.levels.bank x) x) at
+          c.name_level.ensures.names)
+          (subst (λ x. IsSlotNamed shape c.levels.bank (number_in shape banks c.levels.bank x) x c.levels.mirror
+          c.name_level.new.mirror (g.B.Board.device c.levels.board) (g.B.Board.device c.name_level.new.board)) at
+          c.in_ok-name_level.ensures.ok));
+      long = c.name_level.ensures.long;
+    }
+
+pub returns-clause-ok : goal.returns-clause-ok
+returns-clause-ok g c =
+    subst (λ n. IsNamedTo (shape_of c.args.geo.now) c.args.cache.now.banks c.args.page n c.args.mirror.now c.levels.mirror
+    (g.B.Board.device c.args.board.now) (g.B.Board.device c.levels.board))
+    (all_levels (shape_of c.args.geo.now).levels c.levels.bank c.levels-bank-end.result c.levels-bank-end.ensures
+    c.levels.auto.bank-end c.levels-test.false) c.levels.invariant.named
+
+pub returns-clause-others : goal.returns-clause-others
+returns-clause-others g c bank n h apart =
+    c.levels.invariant.named.entries.others bank n h
+    (λ e. apart (omega (arith, e.0, c.levels.auto.bank-end, c.levels-bank-end.ensures), e.1))
+
+pub returns-clause-one_a_level : goal.returns-clause-one_a_level
+returns-clause-one_a_level g c =
+    length-naming_writes (shape_of c.args.geo.now) c.args.cache.now.banks c.args.page c.args.mirror.now
+    ((shape_of c.args.geo.now).levels + 1)

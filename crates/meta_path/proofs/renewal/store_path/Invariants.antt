@@ -1,0 +1,13 @@
+use Rattle.std.proofs.Common.{ℕ, take}
+use Rattle.meta_path.specs.Storing.{IsPathOf, IsStoredTo, AreTold}
+use Rattle.meta_path.proofs.renewal.store_path.Given as goal
+
+abbrev pub invariant-levels : goal.invariant-levels
+invariant-levels g l =
+    let shape = l.fn.cache.shape in
+    let lines = l.fn.path.lines.items in
+    record {
+      stored :
+          (page : ℕ) → IsPathOf shape page lines → IsStoredTo shape page l.fn.persisted lines l.bank l.fn.cache l.cache;
+      told : AreTold (take l.bank lines) (g.A.Audit.ledger l.fn.audit) (g.A.Audit.ledger l.audit);
+    }

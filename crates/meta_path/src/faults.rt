@@ -1,0 +1,25 @@
+//! Why a path isn't fetched.
+ghost use Rattle.std.specs.Prelude.{◌≡◌};
+
+use pmem_base::Cut;
+
+/// What a fetch answers in place of its path.
+#[derive(Clone, Copy, Debug, PartialEq, Eq)]
+pub enum PathFault {
+    /// Power was cut.
+    Cut,
+    /// The line read at position `x` hasn't the digest that it has to have.
+    Meta { x: u32 },
+    /// The audit shows a line with the right digest that isn't the true one.
+    Shown,
+}
+
+impl From<Cut> for PathFault {
+    ghost use Rattle.meta_path.specs.declared.faults.PathFault.TheVariants as Fault;
+
+    ghost from_gives = { λ _ fault. fault ≡ Fault.Cut };
+
+    fn from(_: Cut) -> Self {
+        PathFault::Cut
+    }
+}

@@ -1,0 +1,80 @@
+//! The blocks of a path are named in the shadow tables.
+ghost use Rattle.std.specs.Prelude.{◌≡◌, ◌<◌, ◌≤◌, ◌+◌, ℕ, length, IsTrue, OnOk, OnErr};
+ghost use Rattle.pmem_base.specs.Geo.{shape_of};
+ghost use Rattle.pmem_base.specs.Layout.{pages, slots, meta_lines, shadow_lines, device_lines};
+ghost use Rattle.shadow_tables.specs.Entries.{slot_entry};
+ghost use Rattle.shadow_tables.specs.Naming.{Names};
+ghost use Rattle.meta_cache.specs.Banks.{is_cached};
+ghost use Rattle.meta_path.specs.Blocks.{number_in, IsPathCached};
+ghost use Rattle.meta_path.specs.Naming.{path_number, naming_writes, IsSlotNamed, IsSlotCut, IsNamedTo, IsNamingCut};
+
+use board::Board;
+use bonsai_tree::path;
+use meta_cache::Cache;
+use pmem_base::{Cut, Geo};
+use shadow_tables::Mirror;
+
+/// Names the blocks of a page's path, which are cached, from the top down: where the entry of a
+/// block's slot doesn't name it, the entry is changed and its shadow line written. `Cut` comes before
+/// such a write; the mirror has that entry already.
+pub fn make_dirty<B: Board>(
+    geo: &Geo,
+    cache: &Cache,
+    mirror: &mut Mirror,
+    board: &mut B,
+    page: u32,
+) -> Result<(), Cut>
+    requires page { page < pages (shape_of geo.now) }
+    requires shape { cache.now.shape ≡ shape_of geo.now }
+    requires cached { IsPathCached (shape_of geo.now) cache.now.banks page }
+    requires mirror { length mirror.old ≡ shadow_lines (shape_of geo.now) }
+    requires size { (B.device board.old).size ≡ device_lines (shape_of geo.now) }
+    ensures ok { OnOk result (IsNamedTo (shape_of geo.now) cache.now.banks page ((shape_of geo.now).levels + 1)
+        mirror.old mirror.new (B.device board.old) (B.device board.new)) }
+    ensures cut { OnErr result (IsNamingCut (shape_of geo.now) cache.now.banks page
+        mirror.old mirror.new (B.device board.old) (B.device board.new)) }
+    ensures others { (bank n : ℕ) → n < slots (shape_of geo.now)
+        → ((bank ≤ (shape_of geo.now).levels) × (n ≡ path_number (shape_of geo.now) cache.now.banks page bank) → ⊥)
+        → slot_entry (shape_of geo.now) mirror.new bank n ≡ slot_entry (shape_of geo.now) mirror.old bank n }
+    ensures one_a_level { length (naming_writes (shape_of geo.now) cache.now.banks page mirror.old
+        ((shape_of geo.now).levels + 1)) ≤ (shape_of geo.now).levels + 1 }
+    ensures long { length mirror.new ≡ shadow_lines (shape_of geo.now) }
+{
+    cache.are_banks();
+    let path = path(geo, page);
+    'levels: for bank in 0..geo.levels() + 1 {
+        let x = path.as_slice()[usize::from(bank)];
+        name_level(geo, cache, mirror, board, bank, x)?;
+    }
+    Ok(())
+}
+
+/// Names position `x` of a bank, which is cached.
+fn name_level<B: Board>(
+    geo: &Geo,
+    cache: &Cache,
+    mirror: &mut Mirror,
+    board: &mut B,
+    bank: u8,
+    x: u32,
+) -> Result<(), Cut>
+    requires shape { cache.now.shape ≡ shape_of geo.now }
+    requires mirror { length mirror.old ≡ shadow_lines (shape_of geo.now) }
+    requires size { (B.device board.old).size ≡ device_lines (shape_of geo.now) }
+    requires bank { bank ≤ (shape_of geo.now).levels }
+    requires position { x < meta_lines (shape_of geo.now) }
+    requires cached { IsTrue (is_cached (shape_of geo.now) cache.now.banks bank x) }
+    ensures ok { OnOk result (IsSlotNamed (shape_of geo.now) bank (number_in (shape_of geo.now) cache.now.banks bank x) x
+        mirror.old mirror.new (B.device board.old) (B.device board.new)) }
+    ensures cut { OnErr result (IsSlotCut (shape_of geo.now) bank (number_in (shape_of geo.now) cache.now.banks bank x) x
+        mirror.old mirror.new (B.device board.old) (B.device board.new)) }
+    ensures names { Names (shape_of geo.now) mirror.old mirror.new bank
+        (number_in (shape_of geo.now) cache.now.banks bank x) x }
+    ensures long { length mirror.new ≡ shadow_lines (shape_of geo.now) }
+{
+    let slot = cache.slot_of(bank, x);
+    if let Some((at, line)) = mirror.name_slot(geo, bank, slot, x) {
+        board.write_line(at, &line)?;
+    }
+    Ok(())
+}
