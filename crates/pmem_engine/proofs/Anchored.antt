@@ -14,7 +14,7 @@ use Rattle.pmem_base.specs.declared.registers.Regs.{Regs}
 use Rattle.pmem_base.specs.declared.answers.Mark.TheVariants.{Seal}
 use Rattle.pmem_base.specs.Shape.{Shape, is_loss}
 use Rattle.pmem_base.specs.Layout.{data_lines, pages, page_of, index_in_page}
-use Rattle.pmem_base.specs.Lines.{IsCtr, line_at, put_lines}
+use Rattle.pmem_base.specs.Lines.{IsCtr, line_at}
 use Rattle.pmem_base.specs.Marks.{SealOf, last_seal, is_below, IsFresh}
 use Rattle.pmem_base.specs.Registers.{not_done, with_done, IsValidRegs, IsProgress}
 use Rattle.pmem_base.proofs.LineLemmas.{IsLine-line_at}
@@ -25,7 +25,7 @@ use Rattle.split_counters.specs.declared.Block.{Block}
 use Rattle.split_counters.specs.Blocks.{IsBlock, packed, unpacked, block_counter}
 use Rattle.split_counters.proofs.Packing.{packed-IsLine, unpacked-IsBlock, unpacked-packed, with_minor-IsBlock, with_minor-same, with_minor-other}
 use Rattle.bonsai_tree.specs.Positions.{counter_position}
-use Rattle.bonsai_tree.specs.Paths.{IsTreeWith, lines_with, path_with, root_with}
+use Rattle.bonsai_tree.specs.Paths.{IsTreeWith, lines_with, root_with}
 use Rattle.bonsai_tree.proofs.Trees.{lines_with-IsTreeWith}
 use Rattle.page_reencrypt.specs.Registers.{register_held, counter_of, counter_under}
 use Rattle.page_reencrypt.proofs.Holding.{counter_of-other, counter_of-done, registers_with_done-IsProgress, registers_with_done-distinct, All-registers_with_done, old_major-same}
@@ -237,13 +237,3 @@ anchored-new_path setup regs ledger page block root truth in_range anchored insi
     subst (λ r. IsTreeWith setup.shape setup.formulas page (packed block) r ledger.truth truth) (sym top)
     (subst (λ t. IsTreeWith setup.shape setup.formulas page (packed block) (root_with setup.shape setup.formulas (line_at ledger.truth) page (packed block)) ledger.truth t) (sym stored)
     (lines_with-IsTreeWith setup.shape setup.formulas ledger.truth page (packed block) in_range anchored.truth_is_tree anchored.of_shape.truth_lines inside (packed-IsLine block)))
-
-put_path_with : (setup : Setup) (lines : List Line) (page : ℕ) (block : Line) → lines_with setup.shape setup.formulas lines page block ≡ put_lines (path_with setup.shape setup.formulas (line_at lines) page block) lines
-unfolding lines_with
-put_path_with setup lines page block = refl
-
--- the same of a path that was made over the true lines and put into them
-pub anchored-renewed : (setup : Setup) (regs : Regs) (ledger : LedgerState) (page : ℕ) (block : Block) (path : List (ℕ × Line)) (root : List ℕ) (truth : List Line) → AreInRange setup.formulas → IsAnchored setup regs ledger → page < pages setup.shape → path ≡ path_with setup.shape setup.formulas (line_at ledger.truth) page (packed block) → truth ≡ put_lines path ledger.truth → root ≡ root_with setup.shape setup.formulas (line_at ledger.truth) page (packed block) → IsTreeWith setup.shape setup.formulas page (packed block) root ledger.truth truth
-anchored-renewed setup regs ledger page block path root truth in_range anchored inside made stored top =
-    anchored-new_path setup regs ledger page block root truth in_range anchored inside
-    (stored ∙ (ap (λ entries. put_lines entries ledger.truth) made ∙ sym (put_path_with setup ledger.truth page (packed block)))) top

@@ -1,31 +1,25 @@
 -- The counters and lines that the view asks for are those of the registers and the true blocks.
-use Rattle.std.proofs.Common.{ℕ, ◌≡◌, ◌<◌, ◌+◌, ◌*◌, Bool, true, false, cond, List, [], ◌∷◌, length, map, Some, None, refl, sym, ap, ◌∙◌, arith}
+use Rattle.std.proofs.Common.{ℕ, ◌≡◌, ◌<◌, ◌+◌, Bool, true, false, cond, List, [], ◌∷◌, length, map, Some, None, refl, sym, ap, ◌∙◌, arith}
 use Rattle.std.specs.Prelude.{not, ◌==◌, ◌&&◌, ◌||◌}
 use Rattle.std.specs.List.{list_any, slice_get}
-use Rattle.std.specs.Option.{option_map, option_and_then, is_some}
+use Rattle.std.specs.Option.{option_map, is_some}
 use Rattle.std.proofs.lemmas.List.{length-map}
 use Rattle.pmem_base.specs.declared.lines.Ctr.{Ctr}
 use Rattle.pmem_base.specs.declared.registers.Progress.{Progress}
 use Rattle.pmem_base.specs.declared.registers.Regs.{Regs}
 use Rattle.pmem_base.specs.Layout.{data_lines, page_of, index_in_page}
-use Rattle.pmem_base.specs.Lines.{line_at}
-use Rattle.pmem_base.specs.Registers.{is_done, not_done}
-use Rattle.suite.specs.Formulas.{Formulas}
+use Rattle.pmem_base.specs.Registers.{is_done}
 use Rattle.page_reencrypt.proofs.DoneBits.{is_left-not_done}
-use Rattle.split_counters.specs.declared.Block.{Block}
-use Rattle.split_counters.specs.Blocks.{block_counter, minor_of, next_block}
-use Rattle.split_counters.proofs.Packing.{next_block-IsBlock}
+use Rattle.split_counters.specs.Blocks.{block_counter}
 use Rattle.page_reencrypt.specs.Registers.{is_holding, register_held}
 use Rattle.page_reencrypt.proofs.Holding.{is_some-held, old_major-unpacked}
 use Rattle.seal_ledger.specs.Ledger.{LedgerState}
 use Rattle.suite.specs.Setup.{Setup}
 use Rattle.plain_model.specs.View.{view_of, counter_at, is_left, is_left_in}
-use Rattle.plain_model.specs.State.{Memory}
-use Rattle.plain_model.specs.Asked.{Moment, next_major, first_of, mark_of_turn, mark_of_page_turn, reseal_mark, seal_mark}
+use Rattle.plain_model.specs.Asked.{next_major, first_of}
 use Rattle.pmem_engine.specs.Truth.{true_block}
 use Rattle.pmem_engine.specs.Invariants.{register_page, IsAnchored}
-use Rattle.pmem_engine.specs.Sealed.{sealed_counter, IsBegun}
-use Rattle.pmem_engine.proofs.Anchored.{true_block-new}
+use Rattle.pmem_engine.specs.Sealed.{sealed_counter}
 use Rattle.pmem_engine.proofs.Writes.{free-true_counter, held-true_counter, held-next_major}
 use Rattle.pmem_engine.proofs.TrueLines.{view-counter}
 
@@ -73,27 +67,3 @@ module _ (setup : Setup) (regs : Regs) (ledger : LedgerState) (anchored : IsAnch
   asked-held a minor register inside held =
       ap (λ (ctr : Ctr). next_major ctr minor) (view-counter setup regs ledger anchored a inside ∙ held-true_counter setup regs ledger a register anchored held)
       ∙ ap (λ (n : ℕ). record { major = n; minor = minor }) (ap (λ n. n + 1) (sym (old_major-unpacked register)) ∙ held-next_major setup regs ledger a register anchored held)
-
-  -- so a free line's next counter has the true major and its minor one greater
-  pub asked-raised : (a : ℕ) → a < data_lines setup.shape → register_held regs.progress.items a ≡ None → record (counter_at (view_of setup.shape ledger.marks) a) { minor = (counter_at (view_of setup.shape ledger.marks) a).minor + 1 } ≡ sealed_counter setup.shape ledger.truth a (minor_of (true_block setup.shape ledger.truth (page_of a)) (index_in_page a) + 1)
-  asked-raised a inside free =
-      ap (λ (ctr : Ctr). record ctr { minor = ctr.minor + 1 }) (asked-free a inside free)
-
-  -- the mark of a turn: a reseal of the first register's lowest line not done, under the true major and 0
-  pub asked-turn : (f : Formulas) (memory : Memory) (register : Progress) (i : ℕ) → slice_get regs.progress.items 0 ≡ Some register → slice_get (not_done register) 0 ≡ Some i → 64 * register.page + i < data_lines setup.shape → register_held regs.progress.items (64 * register.page + i) ≡ Some register → mark_of_turn f (record { memory = memory; view = view_of setup.shape ledger.marks }) ≡ Some (seal_mark f (64 * register.page + i) (sealed_counter setup.shape ledger.truth (64 * register.page + i) 0) (line_at memory (64 * register.page + i)))
-  asked-turn f memory register i first lowest inside held =
-      let now : Moment = record { memory = memory; view = view_of setup.shape ledger.marks } in
-      ap (option_and_then (mark_of_page_turn f now)) (view-first_page ∙ ap (option_map register_page) first)
-      ∙ (ap (option_map (reseal_mark f now register.page)) lowest
-      ∙ ap (λ (ctr : Ctr). Some (seal_mark f (64 * register.page + i) ctr (line_at memory (64 * register.page + i))))
-      (asked-held (64 * register.page + i) 0 register inside held))
-
-  -- the counter of the write behind a begin of a free line's page: the next major, which is the true one then, and 1
-  pub asked-begun : (a : ℕ) (new_regs : Regs) (new : LedgerState) → a < data_lines setup.shape → register_held regs.progress.items a ≡ None → IsBegun setup (page_of a) regs new_regs ledger new → next_major (counter_at (view_of setup.shape ledger.marks) a) 1 ≡ sealed_counter setup.shape new.truth a 1
-  asked-begun a new_regs new inside free it =
-      ap (λ (ctr : Ctr). next_major ctr 1) (asked-free a inside free)
-      ∙ ap (λ (block : Block). record { major = block.major; minor = 1 })
-      (sym
-      (true_block-new setup.shape setup.formulas (page_of a) (next_block (true_block setup.shape ledger.truth (page_of a)))
-      new_regs.root ledger.truth new.truth
-      (next_block-IsBlock (true_block setup.shape ledger.truth (page_of a)) it.can_roll) it.truth))

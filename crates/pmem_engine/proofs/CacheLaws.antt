@@ -13,7 +13,7 @@ use Rattle.pmem_base.proofs.LineLemmas.{IsLine-line_at}
 use Rattle.bonsai_tree.specs.Positions.{level_of}
 use Rattle.board.proofs.LineLemmas.{AreLinesOf-set}
 use Rattle.seal_ledger.specs.Ledger.{LedgerState}
-use Rattle.shadow_tables.specs.Entries.{slot_entry, shadow_of}
+use Rattle.shadow_tables.specs.Entries.{slot_entry}
 use Rattle.shadow_tables.proofs.ShadowLines.{shadow_of-set_before}
 use Rattle.meta_cache.specs.declared.slot.Slot.{Slot}
 use Rattle.meta_cache.specs.KeptSlots.{IsFromBefore, IsStillDirty}
@@ -47,12 +47,6 @@ stays_true-true_line g lines truth x y size h stored = at (cases_eq y x)
         ap (stored_meta g (with_true_line g lines truth x)) same
         ∙ stored_meta-true_line g lines truth x size h ∙ ap (line_at truth) (sym same)
     at (inr apart) = stored_meta-set_other g lines x (line_at truth x) y apart ∙ stored
-
--- the shadow lines stay
-pub shadow_of-true_line : (g : Shape) (lines truth : List Line) (x : ℕ) → x < meta_lines g
-    → shadow_of g (with_true_line g lines truth x) ≡ shadow_of g lines
-shadow_of-true_line g lines truth x h =
-    shadow_of-set_before g lines (meta_line g x) (line_at truth x) (meta_before_shadow g x h)
 
 pub IsMendable-true_line_written : (setup : Setup) (lines : List Line) (regs : Regs) (ledger : LedgerState) (x : ℕ)
     → length lines ≡ device_lines setup.shape → x < meta_lines setup.shape → IsMendable setup lines regs ledger
@@ -108,7 +102,8 @@ IsSound-written_back setup engine lines regs ledger x sound h =
       dirty_named = sound.dirty_named;
       mirror_true =
           sound.mirror_true
-          ∙ sym (shadow_of-true_line setup.shape lines ledger.truth x h);
+          ∙ sym (shadow_of-set_before setup.shape lines (meta_line setup.shape x) (line_at ledger.truth x)
+          (meta_before_shadow setup.shape x h));
     }
 
 -- ---- the cache changes

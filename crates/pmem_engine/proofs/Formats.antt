@@ -58,7 +58,7 @@ module _ (setup : Setup) where
       ap (λ o. later_of o (last_seal (map (first_seal setup) (range_with_len (b + 1) n)) a)) (seal_elsewhere b a (omega (arith, before)))
       ∙ ap (later_of None) (none_before (b + 1) n a (omega (arith, before)))
 
-  last_first : (b n a : ℕ) → b ≤ a → a < b + n → last_seal (map (first_seal setup) (range_with_len b n)) a ≡ Some (first_sealed a)
+  pub last_first : (b n a : ℕ) → b ≤ a → a < b + n → last_seal (map (first_seal setup) (range_with_len b n)) a ≡ Some (first_sealed a)
   last_first b zero a from below = absurd (omega (arith, from, below))
   last_first b (suc n) a from below =
       elim (cases_eq a b) [

@@ -1,6 +1,5 @@
 -- The latch of a new stop-loss number.
-use Rattle.std.proofs.Common.{◌≡◌, ℕ, ◌*◌, ◌<◌, false, List, inl, inr, sym, subst, ◌∙◌}
-use Rattle.std.proofs.lemmas.Bool.{false≢true}
+use Rattle.std.proofs.Common.{◌≡◌, ℕ, ◌*◌, ◌<◌, false, List, sym, subst, ◌∙◌}
 use Rattle.pmem_base.specs.declared.lines.Line.{Line}
 use Rattle.pmem_base.specs.declared.registers.Regs.{Regs}
 use Rattle.pmem_base.specs.Layout.{device_lines, pages}
@@ -13,7 +12,6 @@ use Rattle.suite.specs.Setup.{Setup}
 use Rattle.pmem_engine.specs.Engine.{EngineState}
 use Rattle.pmem_engine.specs.Invariants.{IsAnchored, IsTrusted, IsCounterStored, IsSound}
 use Rattle.pmem_engine.specs.Steps.{HasLossSet}
-use Rattle.pmem_engine.specs.Recached.{IsTrueOrDirty}
 use Rattle.pmem_engine.proofs.CounterBlocks.{IsCounterStored-true, IsCounterStored-coarser}
 use Rattle.pmem_engine.proofs.GroupLaws.{IsMendable-unarmed, IsDurable-unarmed}
 use Rattle.pmem_engine.proofs.Latches.{anchored-latched}
@@ -77,17 +75,6 @@ IsSound-loss_raised setup engine lines old new ledger times sound set longer =
     (λ page h.
     IsCounterStored-loss_raised setup lines old.loss new.loss times ledger.truth page longer
     (mendable.counters_stored page h))
-
--- a counter block that is true on the device or cached dirty, and isn't dirty, serves every number
-pub IsCounterStored-clean : (setup : Setup) (engine : EngineState) (lines truth : List Line) (loss page : ℕ)
-    → is_cached_dirty setup.shape engine.cache (level_of (counter_position setup.shape page))
-    (counter_position setup.shape page)
-    ≡ false
-    → IsTrueOrDirty setup.shape engine.cache lines truth (counter_position setup.shape page)
-    → IsCounterStored setup lines loss truth page
-IsCounterStored-clean setup engine lines truth loss page clean (inl stored) =
-    IsCounterStored-true setup lines loss truth page stored
-IsCounterStored-clean setup engine lines truth loss page clean (inr dirty) = absurd (false≢true (sym clean ∙ dirty))
 
 -- a smaller number, once no counter block is dirty
 pub IsSound-loss_lowered : (setup : Setup) (engine : EngineState) (lines : List Line) (old new : Regs)

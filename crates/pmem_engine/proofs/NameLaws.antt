@@ -1,5 +1,5 @@
 -- Shadow entries and dirty blocks: what a sound engine's mirror names, and a shadow line is written.
-use Rattle.std.proofs.Common.{◌≡◌, ◌≢◌, ℕ, ◌+◌, ◌*◌, ◌<◌, true, false, List, sym, ap, subst, subst₂, ◌∙◌, ◌⊎◌, inl, inr}
+use Rattle.std.proofs.Common.{◌≡◌, ◌≢◌, ℕ, ◌+◌, ◌<◌, true, false, List, sym, ap, subst, subst₂, ◌∙◌, ◌⊎◌, inl, inr}
 use Rattle.std.specs.Prelude.{IsTrue, slice_set}
 use Rattle.std.specs.List.{All, Contains}
 use Rattle.std.proofs.lemmas.Bool.{cases_eq, cases_Bool}
@@ -22,7 +22,7 @@ use Rattle.suite.specs.Setup.{Setup}
 use Rattle.pmem_engine.specs.Engine.{EngineState}
 use Rattle.pmem_engine.specs.Invariants.{IsTrueSlot, IsTrusted, stored_meta, is_named, IsMendable, IsDirtyNamed, IsSound}
 use Rattle.pmem_engine.specs.Steps.{IsPathNamed, ArePathNodesNamed}
-use Rattle.pmem_engine.specs.Recached.{IsMirrorWritten, IsPathCached, IsStoredSlot, IsPathStored}
+use Rattle.pmem_engine.specs.Recached.{IsMirrorWritten, IsPathCached}
 use Rattle.pmem_engine.specs.Named.{slot_line, IsSlotNamed, ArePathSlotsNamed, AreNodeSlotsNamed}
 use Rattle.pmem_engine.proofs.RegionLemmas.{stored_meta-set_shadow, IsSealStored-set_shadow}
 use Rattle.pmem_engine.proofs.CounterBlocks.{IsCounterStored-set_shadow}
@@ -252,33 +252,3 @@ ArePathNodesNamed_from_slots g cache lines page form cached named =
         ∙ is_named-slot g cache (shadow_of g lines) (level_of x) (set_index g x) s.0 form s.1
         (named.each (level_of x) (set_index g x) s.0 s.1 (ap (is_on_path g page) s.2 ∙ on)
         (λ e. node (sym s.2 ∙ e)))
-
--- ---- names stay
-
--- names are read from the shadow lines alone
-pub IsPathNamed-same_shadow : (g : Shape) (old new : List Line) (page : ℕ) → shadow_of g new ≡ shadow_of g old
-    → IsPathNamed g old page → IsPathNamed g new page
-IsPathNamed-same_shadow g old new page same named =
-    record {
-      each = λ x h on. ap (λ shadow. is_named_in g shadow (level_of x) x) same ∙ named.each x h on;
-    }
-
-pub ArePathNodesNamed-same_shadow : (g : Shape) (old new : List Line) (page : ℕ) → shadow_of g new ≡ shadow_of g old
-    → ArePathNodesNamed g old page → ArePathNodesNamed g new page
-ArePathNodesNamed-same_shadow g old new page same named =
-    record {
-      each = λ x h on node. ap (λ shadow. is_named_in g shadow (level_of x) x) same ∙ named.each x h on node;
-    }
-
--- slots keep their ways and positions where a path is stored, so named ones stay named
-pub ArePathSlotsNamed-stored : (g : Shape) (old new : EngineState) (truth shadow : List Line) (page other : ℕ)
-    → IsPathStored g old new truth page → ArePathSlotsNamed g old.cache shadow other
-    → ArePathSlotsNamed g new.cache shadow other
-ArePathSlotsNamed-stored g old new truth shadow page other stored named =
-    record { each = λ bank set slot stands on. at bank set slot on (stored.slots bank set slot stands) }
-  where
-    at : (bank set : ℕ) (slot : Slot) → is_on_path g other slot.position ≡ true
-        → IsStoredSlot g truth page (set_of old.cache bank set) slot → IsSlotNamed g shadow bank set slot
-    at bank set slot on from =
-        subst₂ (λ way x. slot_entry g shadow bank (set * g.ways + way) ≡ x + 1) from.way from.position
-        (named.each bank set from.before from.stands (ap (is_on_path g other) from.position ∙ on))

@@ -27,7 +27,7 @@ sealed_counter g truth a minor = record { major = (true_block g truth (page_of a
 abbrev pub sealed_block : Shape → List Line → ℕ → ℕ → Block
 sealed_block g truth a minor = with_minor (true_block g truth (page_of a)) (index_in_page a) minor
 
--- the seal of line a under that counter
+-- that seal
 abbrev pub made_seal : Shape → List Line → ℕ → ℕ → Line → List ℕ → SealOf
 made_seal g truth a minor cipher tag =
     record { ctr = sealed_counter g truth a minor; cipher = cipher; tag = tag }

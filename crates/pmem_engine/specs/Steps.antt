@@ -58,18 +58,13 @@ seal_entries g a seal tags = (a, seal.cipher) ∷ (tag_line g a, with_tag tags a
 abbrev pub block_entry : Shape → ℕ → Line → ℕ × Line
 block_entry g page block = (meta_line g (counter_position g page), block)
 
--- the same with its page's counter block
-abbrev pub seal_entries_with_block : Shape → ℕ → SealOf → Line → ℕ → Line → List (ℕ × Line)
-seal_entries_with_block g a seal tags page block = seal_entries g a seal tags ++ block_entry g page block ∷ []
-
--- the group of a seal over these device lines
+-- the group of a seal alone, and of one with its page's true counter block, over these device lines
 abbrev pub sealing_group : Shape → List Line → ℕ → SealOf → List (ℕ × Line)
 sealing_group g lines a seal = seal_entries g a seal (line_at lines (tag_line g a))
 
--- the same with its page's true counter block
 abbrev pub sealing_group_with_block : Shape → List Line → List Line → ℕ → ℕ → SealOf → List (ℕ × Line)
 sealing_group_with_block g lines truth a page seal =
-    seal_entries_with_block g a seal (line_at lines (tag_line g a)) page (line_at truth (counter_position g page))
+    sealing_group g lines a seal ++ block_entry g page (line_at truth (counter_position g page)) ∷ []
 
 -- the group of a page's begin
 abbrev pub beginning_group : Shape → List Line → ℕ → List (ℕ × Line)

@@ -1,0 +1,196 @@
+-- Two parts of a call, one after the other, are one part: what holds of each holds of both.
+use Rattle.std.proofs.Common.{ℕ, zero, suc, ◌≡◌, ◌≢◌, ◌<◌, ◌≤◌, ◌+◌, ◌++◌, ◌⊎◌, inl, inr, Bool, true, false, ◌||◌, List, [], ◌∷◌, length, IsTrue, refl, sym, ap, subst, ◌∙◌, arith}
+use Rattle.std.specs.List.{list_any}
+use Rattle.std.proofs.lemmas.Bool.{or_cases, or_parts, or_left, or_right, true≢false}
+use Rattle.std.proofs.lemmas.List.{append_assoc, length-append}
+use Rattle.std.proofs.lemmas.List.Folds.{list_any-append}
+use Rattle.pmem_base.specs.declared.answers.Mark.{Mark}
+use Rattle.pmem_base.specs.Shape.{Shape}
+use Rattle.pmem_base.specs.Layout as layout
+use Rattle.pmem_base.specs.Counts.{last_count, HasRisen}
+use Rattle.bonsai_tree.specs.Positions.{is_on_path}
+use Rattle.board.specs.Device.{Device}
+use Rattle.suite.specs.Setup.{Setup}
+use Rattle.pmem_engine.specs.Parts.{Parts, HoldsSeal, HoldsMeta}
+use Rattle.pmem_engine.specs.Outcomes.{Outcome, going, cut, shown, is_going, is_sealed_by, is_seal_of, is_touching, IsTouchedBy, LeavesTrusted, LeavesSound, KeepsPlaces, KeepsPlacesWhere, KeepsMeta, KeepsMetaWhere, HasPower, HasGone, HasDone, KeepsCounters, NeverFalls}
+
+-- ---- marks of both
+
+sealed_by_first : (made more : List Mark) (a : ℕ) → IsTrue (is_sealed_by made a) → IsTrue (is_sealed_by (made ++ more) a)
+sealed_by_first made more a it =
+    list_any-append (is_seal_of a) made more ∙ or_left (is_sealed_by made a) (is_sealed_by more a) it
+
+sealed_by_second : (made more : List Mark) (a : ℕ) → IsTrue (is_sealed_by more a) → IsTrue (is_sealed_by (made ++ more) a)
+sealed_by_second made more a it =
+    list_any-append (is_seal_of a) made more ∙ or_right (is_sealed_by made a) (is_sealed_by more a) it
+
+sealed_by_either : (made more : List Mark) (a : ℕ) → IsTrue (is_sealed_by (made ++ more) a)
+    → IsTrue (is_sealed_by made a) ⊎ IsTrue (is_sealed_by more a)
+sealed_by_either made more a it =
+    or_cases (is_sealed_by made a) (is_sealed_by more a) (sym (list_any-append (is_seal_of a) made more) ∙ it)
+
+sealed_by_neither : (made more : List Mark) (a : ℕ) → is_sealed_by (made ++ more) a ≡ false
+    → (is_sealed_by made a ≡ false) × (is_sealed_by more a ≡ false)
+sealed_by_neither made more a it =
+    or_parts (is_sealed_by made a) (is_sealed_by more a) (sym (list_any-append (is_seal_of a) made more) ∙ it)
+
+touched_by_first : (g : Shape) (made more : List Mark) (x : ℕ) → IsTouchedBy g made x → IsTouchedBy g (made ++ more) x
+touched_by_first g made more x (page, touches, on_path) = (
+  page,
+  list_any-append (is_touching page) made more
+      ∙ or_left (list_any (is_touching page) made) (list_any (is_touching page) more) touches,
+  on_path,
+)
+
+touched_by_second : (g : Shape) (made more : List Mark) (x : ℕ) → IsTouchedBy g more x → IsTouchedBy g (made ++ more) x
+touched_by_second g made more x (page, touches, on_path) = (
+  page,
+  list_any-append (is_touching page) made more
+      ∙ or_right (list_any (is_touching page) made) (list_any (is_touching page) more) touches,
+  on_path,
+)
+
+-- ---- places
+
+places_chained : (setup : Setup) (made more : List Mark) (old mid new : Parts)
+    → KeepsPlaces setup made old mid → KeepsPlaces setup more mid new → KeepsPlaces setup (made ++ more) old new
+places_chained setup made more old mid new first second =
+    record {
+      seals = λ a within stored. second.seals a within (seal_at a within stored);
+      data_lines =
+          λ a within unsealed.
+          let apart = sealed_by_neither made more a unsealed in
+          second.data_lines a within apart.1 ∙ first.data_lines a within apart.0;
+      tag_slots =
+          λ a within unsealed.
+          let apart = sealed_by_neither made more a unsealed in
+          second.tag_slots a within apart.1 ∙ first.tag_slots a within apart.0;
+    }
+  where
+    seal_at : (a : ℕ) → a < layout.data_lines setup.shape → HoldsSeal setup.shape old a ⊎ IsTrue (is_sealed_by (made ++ more) a)
+        → HoldsSeal setup.shape mid a ⊎ IsTrue (is_sealed_by more a)
+    seal_at a within (inl held) = inl (first.seals a within (inl held))
+    seal_at a within (inr sealed) =
+        elim (sealed_by_either made more a sealed) [
+          | inl by_first ↦ inl (first.seals a within (inr by_first))
+          | inr by_second ↦ inr by_second
+        ]
+
+metadata_chained : (setup : Setup) (made more : List Mark) (old mid new : Parts)
+    → KeepsMeta setup made old mid → KeepsMeta setup more mid new → KeepsMeta setup (made ++ more) old new
+metadata_chained setup made more old mid new first second =
+    record {
+      true_or_dirty = λ x within it. second.true_or_dirty x within (first.true_or_dirty x within it);
+      changed =
+          λ x within.
+          elim (second.changed x within) [
+            | inr now ↦ inr now
+            | inl same ↦
+                elim (first.changed x within) [
+                  | inl before ↦ inl (same ∙ before)
+                  | inr mid_true ↦ inr (second.true_or_dirty x within mid_true)
+                ]
+          ];
+      dirty =
+          λ bank x now.
+          elim (second.dirty bank x now) [
+            | inr touched ↦ inr (touched_by_second setup.shape made more x touched)
+            | inl mid_dirty ↦
+                elim (first.dirty bank x mid_dirty) [
+                  | inl before ↦ inl before
+                  | inr touched ↦ inr (touched_by_first setup.shape made more x touched)
+                ]
+          ];
+    }
+
+places_where : (setup : Setup) (outcome : Outcome) (made more : List Mark) (old mid new : Parts)
+    → KeepsPlaces setup made old mid → KeepsPlacesWhere setup outcome more mid new
+    → KeepsPlacesWhere setup outcome (made ++ more) old new
+places_where setup going made more old mid new first second = places_chained setup made more old mid new first second
+places_where setup cut made more old mid new first second = places_chained setup made more old mid new first second
+places_where setup shown made more old mid new first second = second
+
+metadata_where : (setup : Setup) (outcome : Outcome) (made more : List Mark) (old mid new : Parts)
+    → KeepsMeta setup made old mid → KeepsMetaWhere setup outcome more mid new
+    → KeepsMetaWhere setup outcome (made ++ more) old new
+metadata_where setup going made more old mid new first second =
+    metadata_chained setup made more old mid new first second
+metadata_where setup cut made more old mid new first second = second
+metadata_where setup shown made more old mid new first second = second
+
+power_chained : (outcome : Outcome) (old mid new : Device) → HasPower going old mid → HasPower outcome mid new
+    → HasPower outcome old new
+power_chained going old mid new first second =
+    (λ was. second.0 (first.0 was), λ was. second.1 (first.1 was), second.2 ∙ first.2)
+power_chained shown old mid new first second =
+    (λ was. second.0 (first.0 was), λ was. second.1 (first.1 was), second.2 ∙ first.2)
+power_chained cut old mid new first second =
+    (unsteady old.steady refl, second.1, subst (λ n. HasRisen n new.cuts) first.2 second.2)
+  where
+    unsteady : (b : Bool) → old.steady ≡ b → old.steady ≡ false
+    unsteady false it = it
+    unsteady true it = absurd (true≢false (sym (first.0 it) ∙ second.0))
+
+going_uncut : going ≢ cut
+going_uncut e = absurd (true≢false (ap is_going e))
+
+going_unshown : going ≢ shown
+going_unshown e = absurd (true≢false (ap is_going e))
+
+-- ---- counts
+
+never_falls : (old mid new : ℕ) → NeverFalls old mid → NeverFalls mid new → NeverFalls old new
+never_falls old mid new first second within =
+    let one = first within in
+    let two = second one.1 in
+    (omega (arith, one.0, two.0), two.1)
+
+-- ---- parts of a call
+
+pub gone_chained : (setup : Setup) (outcome : Outcome) (made more : List Mark) (old mid new : Parts)
+    → HasGone setup going made old mid → HasGone setup outcome more mid new
+    → HasGone setup outcome (made ++ more) old new
+gone_chained setup outcome made more old mid new first second =
+    record {
+      shape = second.shape ∙ first.shape;
+      size = second.size ∙ first.size;
+      told = second.told ∙ first.told;
+      valid = λ was. second.valid (first.valid was);
+      group = λ uncut. second.group uncut ∙ first.group going_uncut;
+      small_group = λ none. second.small_group (ap (λ group. group.items) (first.group going_uncut) ∙ none);
+      power = power_chained outcome old.device mid.device new.device first.power second.power;
+      reads = omega (arith, first.reads, second.reads);
+      tags = never_falls old.tags mid.tags new.tags first.tags second.tags;
+      digests = never_falls old.digests mid.digests new.digests first.digests second.digests;
+      marks = second.marks ∙ ap (λ marks. marks ++ more) first.marks ∙ append_assoc old.ledger.marks made more;
+      spare =
+          ap (λ n. new.ledger.spare + n) (length-append made more)
+          ∙ omega (arith, first.spare, second.spare);
+      true_lines = second.true_lines ∙ first.true_lines;
+      data_lines = second.data_lines ∙ first.data_lines;
+      exhibit = λ unshown. second.exhibit unshown ∙ first.exhibit going_unshown;
+      trusted = λ was. second.trusted (first.trusted was);
+      sound = λ was. second.sound (first.sound was);
+      places =
+          λ was. places_where setup outcome made more old mid new (first.places was) (second.places (first.trusted was));
+      metadata =
+          λ was. metadata_where setup outcome made more old mid new (first.metadata was) (second.metadata (first.trusted was));
+    }
+
+counters_chained : (setup : Setup) (outcome : Outcome) (old mid new : Parts)
+    → KeepsCounters setup going old mid → KeepsCounters setup outcome mid new → KeepsCounters setup outcome old new
+counters_chained setup going old mid new first second = λ page within it. second page within (first page within it)
+counters_chained setup cut old mid new first second = λ page within it. second page within (first page within it)
+counters_chained setup shown old mid new first second = second
+
+-- a part that goes on, and then another
+pub done_chained : (setup : Setup) (outcome : Outcome) (made more : List Mark) (old mid new : Parts)
+    → HasDone setup going made old mid → HasDone setup outcome more mid new
+    → HasDone setup outcome (made ++ more) old new
+done_chained setup outcome made more old mid new first second =
+    record {
+      gone = gone_chained setup outcome made more old mid new first.gone second.gone;
+      loss = second.loss ∙ first.loss;
+      counters =
+          λ was. counters_chained setup outcome old mid new (first.counters was) (second.counters (first.gone.trusted was));
+    }

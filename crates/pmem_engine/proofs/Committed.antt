@@ -1,0 +1,354 @@
+-- A group that was armed, and finished or cut: what the device comes to, and what is left to show of a part of a
+-- call that commits one mark.
+use Rattle.std.proofs.Common.{ℕ, ◌≡◌, ◌<◌, ◌≤◌, ◌+◌, ◌++◌, ◌⊎◌, inl, inr, true, false, List, [], ◌∷◌, length, IsTrue, Option, Some, None, refl, sym, ap, ap₂, subst, subst₂, ◌∙◌, arith}
+use Rattle.std.specs.Prelude.{MatchOption, IfSome, is_some, option_map}
+use Rattle.std.proofs.lemmas.Option.{none-some, same_Some}
+use Rattle.pmem_base.specs.declared.lines.Line.{Line}
+use Rattle.pmem_base.specs.declared.registers.Regs.{Regs}
+use Rattle.pmem_base.specs.declared.answers.Mark.{Mark}
+use Rattle.pmem_base.specs.Counts.{last_count}
+use Rattle.pmem_base.specs.Shape.{Shape}
+use Rattle.pmem_base.specs.Layout as layout
+use Rattle.pmem_base.specs.Lines.{line_at, tag_slot}
+use Rattle.pmem_base.specs.Registers.{IsValidRegs}
+use Rattle.board.specs.Counts.{RisesBy}
+use Rattle.board.specs.Device.{Device, IsDevice, AreToldLines, AreLinesOf}
+use Rattle.board.specs.Steps.{HasLatched}
+use Rattle.meta_cache.specs.Banks.{Banks, is_cached_dirty}
+use Rattle.commit_regs.specs.Groups.{redone, redone_told, finishing_latches, HasFinished}
+use Rattle.suite.specs.Setup.{Setup}
+use Rattle.pmem_engine.specs.Invariants.{IsAnchored, IsSound, IsDurable, IsSealStored, IsCounterStored, stored_meta}
+use Rattle.pmem_engine.specs.Steps.{IsPlaceKept}
+use Rattle.pmem_engine.specs.Recached.{IsTrueOrDirty}
+use Rattle.pmem_engine.specs.Parts.{Parts, regs_of, lines_redone, AreTrusted, AreSound, AreDurable, HoldsCounters}
+use Rattle.pmem_engine.specs.Outcomes.{going, cut, is_sealed_by, IsTouchedBy, NeverFalls, KeepsPlaces, KeepsMeta, HasDone}
+use Rattle.pmem_engine.specs.Committing.{HasCommitted, IsCutArmed}
+use Rattle.pmem_engine.proofs.GroupLaws.{IsDurable-again}
+
+-- ---- what the lines come to
+
+-- the same told lines are told
+redone_is_some : (group : List (ℕ × Line)) (told : Option (List Line)) → is_some (redone_told group told) ≡ is_some told
+redone_is_some group None = refl
+redone_is_some group (Some lines) = refl
+
+pub redone_none : (told : Option (List Line)) → redone_told [] told ≡ told
+redone_none None = refl
+redone_none (Some lines) = refl
+
+-- of one mark, before and after a commit
+pub record IsCommit (setup : Setup) (group : List (ℕ × Line)) (mark : Mark) (old new : Parts) : Type 0 where
+  pub unarmed : (regs_of old).group.items ≡ []
+  pub short : length group ≤ 3
+  pub whole : IsDevice old.device
+  pub size : old.device.size ≡ layout.device_lines setup.shape
+  pub shape : new.engine.shape ≡ old.engine.shape
+  pub marks : new.ledger.marks ≡ old.ledger.marks ++ mark ∷ []
+  pub spare : new.ledger.spare + 1 ≡ old.ledger.spare
+  pub true_lines : length new.ledger.truth ≡ length old.ledger.truth
+  pub data_lines : new.ledger.data_lines ≡ old.ledger.data_lines
+  pub exhibit : new.ledger.exhibit ≡ old.ledger.exhibit
+  pub loss : (regs_of new).loss ≡ (regs_of old).loss
+  pub valid : IsValidRegs setup.shape (regs_of old) → IsValidRegs setup.shape (regs_of new)
+  pub tags : NeverFalls old.tags new.tags
+  pub digests : NeverFalls old.digests new.digests
+
+-- each data line and its tag slot, over lines and what they come to
+pub record KeepsSeals (g : Shape) (mark : Mark) (old_marks new_marks : List Mark) (lines after : List Line) : Type 0 where
+  pub seals :
+      (a : ℕ) → a < layout.data_lines g → IsSealStored g lines old_marks a ⊎ IsTrue (is_sealed_by (mark ∷ []) a)
+      → IsSealStored g after new_marks a
+  pub places : (a : ℕ) → a < layout.data_lines g → is_sealed_by (mark ∷ []) a ≡ false → IsPlaceKept g lines after a
+
+-- and each metadata line
+pub record KeepsTrue (g : Shape) (old new : Banks) (old_truth new_truth lines after : List Line) : Type 0 where
+  pub held :
+      (x : ℕ) → x < layout.meta_lines g → IsTrueOrDirty g old lines old_truth x → IsTrueOrDirty g new after new_truth x
+  pub changed :
+      (x : ℕ) → x < layout.meta_lines g
+      → (stored_meta g after x ≡ stored_meta g lines x) ⊎ IsTrueOrDirty g new after new_truth x
+
+module _ (setup : Setup) (group : List (ℕ × Line)) (mark : Mark) (old new : Parts) (it : IsCommit setup group mark old new) (comes : lines_redone new ≡ redone_told group old.device.lines) where
+  stood : lines_redone old ≡ old.device.lines
+  stood = ap (λ items. redone_told items old.device.lines) it.unarmed ∙ redone_none old.device.lines
+
+  -- the told lines are whole
+  pub whole_lines : (lines : List Line) → old.device.lines ≡ Some lines → AreLinesOf (layout.device_lines setup.shape) lines
+  whole_lines lines told =
+      subst (λ size. AreLinesOf size lines) it.size (subst (λ o. AreToldLines old.device.size o) told it.whole)
+
+  abbrev Kept : List Line → Type 0
+  Kept lines = KeepsSeals setup.shape mark old.ledger.marks new.ledger.marks lines (redone group lines)
+
+  seals_kept : (a : ℕ) → a < layout.data_lines setup.shape → (told : Option (List Line))
+      → ((lines : List Line) → told ≡ Some lines → Kept lines)
+      → IfSome told (λ lines. IsSealStored setup.shape lines old.ledger.marks a) ⊎ IsTrue (is_sealed_by (mark ∷ []) a)
+      → IfSome (redone_told group told) (λ lines. IsSealStored setup.shape lines new.ledger.marks a)
+  seals_kept a within None each before = tt
+  seals_kept a within (Some lines) each before = (each lines refl).seals a within before
+
+  lines_kept : (a : ℕ) → a < layout.data_lines setup.shape → is_sealed_by (mark ∷ []) a ≡ false → (told : Option (List Line))
+      → ((lines : List Line) → told ≡ Some lines → Kept lines)
+      → option_map (λ lines. line_at lines a) (redone_told group told) ≡ option_map (λ lines. line_at lines a) told
+  lines_kept a within unsealed None each = refl
+  lines_kept a within unsealed (Some lines) each = ap Some ((each lines refl).places a within unsealed).its_line
+
+  slots_kept : (a : ℕ) → a < layout.data_lines setup.shape → is_sealed_by (mark ∷ []) a ≡ false → (told : Option (List Line))
+      → ((lines : List Line) → told ≡ Some lines → Kept lines)
+      → option_map (λ lines. tag_slot (line_at lines (layout.tag_line setup.shape a)) a) (redone_told group told)
+      ≡ option_map (λ lines. tag_slot (line_at lines (layout.tag_line setup.shape a)) a) told
+  slots_kept a within unsealed None each = refl
+  slots_kept a within unsealed (Some lines) each = ap Some ((each lines refl).places a within unsealed).slot
+
+  -- place by place
+  pub committed_places : ((lines : List Line) → old.device.lines ≡ Some lines → Kept lines)
+      → KeepsPlaces setup (mark ∷ []) old new
+  committed_places each =
+      record {
+        seals =
+            λ a within before.
+            subst (λ told. IfSome told (λ lines. IsSealStored setup.shape lines new.ledger.marks a)) (sym comes)
+            (seals_kept a within old.device.lines each
+            (elim before [
+              | inl held ↦ inl (subst (λ told. IfSome told (λ lines. IsSealStored setup.shape lines old.ledger.marks a)) stood held)
+              | inr made ↦ inr made
+            ]));
+        data_lines =
+            λ a within unsealed.
+            ap (λ told. option_map (λ lines. line_at lines a) told) comes
+            ∙ lines_kept a within unsealed old.device.lines each
+            ∙ ap (λ told. option_map (λ lines. line_at lines a) told) (sym stood);
+        tag_slots =
+            λ a within unsealed.
+            ap (λ told. option_map (λ lines. tag_slot (line_at lines (layout.tag_line setup.shape a)) a) told) comes
+            ∙ slots_kept a within unsealed old.device.lines each
+            ∙ ap (λ told. option_map (λ lines. tag_slot (line_at lines (layout.tag_line setup.shape a)) a) told) (sym stood);
+      }
+
+  abbrev KeptCounters : ℕ → List Line → Type 0
+  KeptCounters page lines =
+      IsCounterStored setup lines (regs_of old).loss old.ledger.truth page
+      → IsCounterStored setup (redone group lines) (regs_of old).loss new.ledger.truth page
+
+  counters_kept : (page : ℕ) → (told : Option (List Line)) → ((lines : List Line) → told ≡ Some lines → KeptCounters page lines)
+      → IfSome told (λ lines. IsCounterStored setup lines (regs_of old).loss old.ledger.truth page)
+      → IfSome (redone_told group told) (λ lines. IsCounterStored setup lines (regs_of old).loss new.ledger.truth page)
+  counters_kept page None each before = tt
+  counters_kept page (Some lines) each before = each lines refl before
+
+  -- what is stored of a counter block
+  pub committed_counters : (page : ℕ) → ((lines : List Line) → old.device.lines ≡ Some lines → KeptCounters page lines)
+      → HoldsCounters setup old page → HoldsCounters setup new page
+  committed_counters page each before =
+      subst₂ (λ told loss. IfSome told (λ lines. IsCounterStored setup lines loss new.ledger.truth page)) (sym comes) (sym it.loss)
+      (counters_kept page old.device.lines each
+      (subst (λ told. IfSome told (λ lines. IsCounterStored setup lines (regs_of old).loss old.ledger.truth page)) stood before))
+
+  abbrev KeptTrue : List Line → Type 0
+  KeptTrue lines =
+      KeepsTrue setup.shape old.engine.cache new.engine.cache old.ledger.truth new.ledger.truth lines (redone group lines)
+
+  held_kept : (x : ℕ) → x < layout.meta_lines setup.shape → (told : Option (List Line))
+      → ((lines : List Line) → told ≡ Some lines → KeptTrue lines)
+      → IfSome told (λ lines. IsTrueOrDirty setup.shape old.engine.cache lines old.ledger.truth x)
+      → IfSome (redone_told group told) (λ lines. IsTrueOrDirty setup.shape new.engine.cache lines new.ledger.truth x)
+  held_kept x within None each before = tt
+  held_kept x within (Some lines) each before = (each lines refl).held x within before
+
+  changed_held : (x : ℕ) → x < layout.meta_lines setup.shape → (told : Option (List Line))
+      → ((lines : List Line) → told ≡ Some lines → KeptTrue lines)
+      → (option_map (λ lines. stored_meta setup.shape lines x) (redone_told group told)
+      ≡ option_map (λ lines. stored_meta setup.shape lines x) told)
+      ⊎ IfSome (redone_told group told) (λ lines. IsTrueOrDirty setup.shape new.engine.cache lines new.ledger.truth x)
+  changed_held x within None each = inl refl
+  changed_held x within (Some lines) each =
+      elim ((each lines refl).changed x within) [ inl same ↦ inl (ap Some same) | inr held ↦ inr held ]
+
+  -- the metadata lines
+  pub committed_metadata : ((lines : List Line) → old.device.lines ≡ Some lines → KeptTrue lines)
+      → ((bank x : ℕ) → is_cached_dirty setup.shape new.engine.cache bank x ≡ true
+      → (is_cached_dirty setup.shape old.engine.cache bank x ≡ true) ⊎ IsTouchedBy setup.shape (mark ∷ []) x)
+      → KeepsMeta setup (mark ∷ []) old new
+  committed_metadata each dirty =
+      record {
+        true_or_dirty =
+            λ x within before.
+            subst (λ told. IfSome told (λ lines. IsTrueOrDirty setup.shape new.engine.cache lines new.ledger.truth x)) (sym comes)
+            (held_kept x within old.device.lines each
+            (subst (λ told. IfSome told (λ lines. IsTrueOrDirty setup.shape old.engine.cache lines old.ledger.truth x)) stood before));
+        changed =
+            λ x within.
+            elim (changed_held x within old.device.lines each) [
+              | inl same ↦
+                  inl (ap (λ told. option_map (λ lines. stored_meta setup.shape lines x) told) comes ∙ same
+                  ∙ ap (λ told. option_map (λ lines. stored_meta setup.shape lines x) told) (sym stood))
+              | inr held ↦
+                  inr (subst (λ told. IfSome told (λ lines. IsTrueOrDirty setup.shape new.engine.cache lines new.ledger.truth x)) (sym comes) held)
+            ];
+        dirty = dirty;
+      }
+
+-- what is sound is trusted
+pub sound_trusted : (setup : Setup) (parts : Parts) → AreSound setup parts → AreTrusted setup parts
+sound_trusted setup parts sound = at parts.device.lines sound
+  where
+    at : (told : Option (List Line))
+        → MatchOption told ⊥ (λ lines. IsSound setup parts.engine lines (regs_of parts) parts.ledger) → AreTrusted setup parts
+    at None it = absurd it
+    at (Some lines) it = it.trusted
+
+-- ---- a group finished
+
+-- one latch arms a group, and the finish empties it
+pub committed_from : (group : List (ℕ × Line)) (old mid new : Device) (armed : Regs) → armed.group.items ≡ group
+    → finishing_latches group ≡ 1 → HasLatched old armed mid → HasFinished mid new → HasCommitted group old new
+committed_from group old mid new armed its_group one latched finished =
+    let same : mid.regs.group.items ≡ group = ap (λ regs. regs.group.items) latched.regs ∙ its_group in
+    record {
+      lines = finished.lines ∙ ap₂ redone_told same latched.lines;
+      no_group = ap (λ regs. regs.group.items) finished.regs;
+      writes =
+          subst₂ (λ items n. RisesBy (length items) n new.writes) same latched.writes finished.writes;
+      latches =
+          record {
+            never_falls = omega (arith, latched.latches.never_falls, finished.latches.never_falls);
+            exact = λ below. exact same below;
+          };
+      size = finished.size ∙ latched.size;
+      reads = finished.reads ∙ latched.reads;
+      cuts = finished.cuts ∙ latched.cuts;
+      steady = λ was. finished.steady (latched.steady was);
+      live = λ was. finished.live (latched.live was);
+    }
+  where
+    exact : mid.regs.group.items ≡ group → new.latches < last_count → new.latches ≡ old.latches + 2
+    exact same below =
+        let second : new.latches ≡ mid.latches + finishing_latches mid.regs.group.items = finished.latches.exact below in
+        let first : mid.latches ≡ old.latches + 1 =
+        latched.latches.exact (omega (arith, below, finished.latches.never_falls)) in
+        omega (arith, first, second, ap finishing_latches same, one)
+
+-- ---- the part of a call
+
+module _ (setup : Setup) (group : List (ℕ × Line)) (mark : Mark) (old new : Parts) (it : IsCommit setup group mark old new) where
+  -- finished, it comes to the lines with the group redone
+  pub comes_committed : HasCommitted group old.device new.device → lines_redone new ≡ redone_told group old.device.lines
+  comes_committed done =
+      ap₂ redone_told done.no_group done.lines ∙ redone_none (redone_told group old.device.lines)
+
+  -- armed, it comes to the same
+  pub comes_armed : IsCutArmed group old.device new.device → lines_redone new ≡ redone_told group old.device.lines
+  comes_armed armed = ap (λ items. redone_told items new.device.lines) armed.armed ∙ armed.again
+
+  told_again : IsCutArmed group old.device new.device → is_some new.device.lines ≡ is_some old.device.lines
+  told_again armed =
+      sym (redone_is_some group new.device.lines) ∙ ap is_some armed.again ∙ redone_is_some group old.device.lines
+
+  -- it went on
+  pub done_committed : HasCommitted group old.device new.device → (AreTrusted setup old → AreTrusted setup new)
+      → (AreSound setup old → AreSound setup new) → (AreTrusted setup old → KeepsPlaces setup (mark ∷ []) old new)
+      → (AreTrusted setup old → KeepsMeta setup (mark ∷ []) old new)
+      → (AreTrusted setup old → (page : ℕ) → page < layout.pages setup.shape → HoldsCounters setup old page → HoldsCounters setup new page)
+      → HasDone setup going (mark ∷ []) old new
+  done_committed done trusted sound places metadata counters =
+      record {
+        gone =
+            record {
+              shape = it.shape;
+              size = done.size;
+              told = ap is_some done.lines ∙ redone_is_some group old.device.lines;
+              valid = it.valid;
+              group = λ uncut. ap (λ items. record { items = items }) (done.no_group ∙ sym it.unarmed);
+              small_group = λ none. tt;
+              power = (done.steady, done.live, done.cuts);
+              reads = omega (arith, done.reads);
+              tags = it.tags;
+              digests = it.digests;
+              marks = it.marks;
+              spare = it.spare;
+              true_lines = it.true_lines;
+              data_lines = it.data_lines;
+              exhibit = λ unshown. it.exhibit;
+              trusted = trusted;
+              sound = sound;
+              places = places;
+              metadata = metadata;
+            };
+        loss = it.loss;
+        counters = counters;
+      }
+
+  -- or was cut while the group was armed
+  pub done_cut_armed : IsCutArmed group old.device new.device
+      → (AreTrusted setup old → IsAnchored setup (regs_of new) new.ledger)
+      → (AreSound setup old → AreDurable setup new) → (AreTrusted setup old → KeepsPlaces setup (mark ∷ []) old new)
+      → (AreTrusted setup old → (page : ℕ) → page < layout.pages setup.shape → HoldsCounters setup old page → HoldsCounters setup new page)
+      → HasDone setup cut (mark ∷ []) old new
+  done_cut_armed armed anchored durable places counters =
+      record {
+        gone =
+            record {
+              shape = it.shape;
+              size = armed.size;
+              told = told_again armed;
+              valid = it.valid;
+              group = λ uncut. absurd (uncut refl);
+              small_group = λ none. subst (λ items. length items ≤ 3) (sym armed.armed) it.short;
+              power = (armed.unsteady, armed.off, armed.rose);
+              reads = omega (arith, armed.reads);
+              tags = it.tags;
+              digests = it.digests;
+              marks = it.marks;
+              spare = it.spare;
+              true_lines = it.true_lines;
+              data_lines = it.data_lines;
+              exhibit = λ unshown. it.exhibit;
+              trusted = anchored;
+              sound = durable;
+              places = places;
+              metadata = λ was. tt;
+            };
+        loss = it.loss;
+        counters = counters;
+      }
+
+  -- sound of the told lines, once the group is finished
+  pub sound_committed : HasCommitted group old.device new.device
+      → ((lines : List Line) → old.device.lines ≡ Some lines → IsSound setup old.engine lines (regs_of old) old.ledger
+      → IsSound setup new.engine (redone group lines) (regs_of new) new.ledger)
+      → AreSound setup old → AreSound setup new
+  sound_committed done each sound =
+      subst (λ told. MatchOption told ⊥ (λ lines. IsSound setup new.engine lines (regs_of new) new.ledger)) (sym done.lines)
+      (at old.device.lines each sound)
+    where
+      at : (told : Option (List Line))
+          → ((lines : List Line) → told ≡ Some lines → IsSound setup old.engine lines (regs_of old) old.ledger
+          → IsSound setup new.engine (redone group lines) (regs_of new) new.ledger)
+          → MatchOption told ⊥ (λ lines. IsSound setup old.engine lines (regs_of old) old.ledger)
+          → MatchOption (redone_told group told) ⊥ (λ lines. IsSound setup new.engine lines (regs_of new) new.ledger)
+      at None each it = it
+      at (Some lines) each it = each lines refl it
+
+  -- durable of the told lines, while it is armed
+  pub durable_armed : IsCutArmed group old.device new.device → IsDevice new.device
+      → ((lines : List Line) → old.device.lines ≡ Some lines → IsSound setup old.engine lines (regs_of old) old.ledger
+      → IsDurable setup lines (regs_of new) new.ledger)
+      → AreSound setup old → AreDurable setup new
+  durable_armed armed whole each sound =
+      at old.device.lines new.device.lines armed.again
+      (subst (λ size. AreToldLines size new.device.lines) (armed.size ∙ it.size) whole) each sound
+    where
+      at : (told told' : Option (List Line)) → redone_told group told' ≡ redone_told group told
+          → AreToldLines (layout.device_lines setup.shape) told'
+          → ((lines : List Line) → told ≡ Some lines → IsSound setup old.engine lines (regs_of old) old.ledger
+          → IsDurable setup lines (regs_of new) new.ledger)
+          → MatchOption told ⊥ (λ lines. IsSound setup old.engine lines (regs_of old) old.ledger)
+          → MatchOption told' ⊥ (λ lines. IsDurable setup lines (regs_of new) new.ledger)
+      at None told' again lines each it = absurd it
+      at (Some before) None again lines each it = absurd (none-some (redone group before) again)
+      at (Some before) (Some after) again lines each it =
+          IsDurable-again setup before after (regs_of new) new.ledger lines
+          (ap (λ items. redone items after) armed.armed
+          ∙ same_Some (redone group after) (redone group before) again
+          ∙ ap (λ items. redone items before) (sym armed.armed))
+          (each before refl it)

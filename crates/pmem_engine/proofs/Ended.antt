@@ -1,0 +1,216 @@
+-- A call that ended: its engine is down where it was cut or shown.
+use Rattle.std.proofs.Common.{ℕ, ◌≡◌, ◌≢◌, ◌⊎◌, inl, inr, Bool, true, false, ◌||◌, not, List, [], Result, Ok, Err, refl, sym, ap, subst, ◌∙◌}
+use Rattle.std.proofs.lemmas.Bool.{false≢true}
+use Rattle.pmem_base.specs.declared.lines.Line.{Line}
+use Rattle.pmem_base.specs.declared.lines.Ctr.{Ctr}
+use Rattle.pmem_base.specs.declared.answers.Mark.{Mark}
+use Rattle.pmem_base.specs.Layout.{page_of}
+use Rattle.suite.specs.Setup.{Setup}
+use Rattle.pmem_engine.specs.declared.fault.Fault.{Fault}
+use Rattle.pmem_engine.specs.declared.fault.Fault.TheVariants as Fail
+use Rattle.pmem_engine.specs.Engine.{EngineState}
+use Rattle.pmem_engine.specs.Parts.{Parts, parts_of}
+use Rattle.pmem_engine.specs.Outcomes.{Outcome, going, cut, shown, is_going, outcome_of, HasGone, HasDone}
+use Rattle.pmem_engine.specs.Faults.{IsFetchedLine, IsMetaRefused, IsClashShown, IsUnsealedLine, IsTagRefused, IsForgedShown}
+use Rattle.pmem_engine.specs.Calls.{IsDownAnswer, AnswersDown, TakesWithin, TakesWithinOfLive, AnswersRead, IsReadOfCached, HasReadLine}
+use Rattle.pmem_engine.specs.Inner.{ended_by, HasReadUnder}
+
+-- the parts afterwards
+abbrev pub ended_parts : Parts → Outcome → Parts
+ended_parts parts outcome = parts_of (ended_by parts.engine outcome) parts.device parts.ledger parts.tags parts.digests
+
+-- a call that goes on leaves the engine as it is
+pub ended_going : (engine : EngineState) → ended_by engine going ≡ engine
+ended_going engine = ap (λ down. record { shape = engine.shape; cache = engine.cache; mirror = engine.mirror; down = down }) (same engine.down)
+  where
+    same : (down : Bool) → (down || false) ≡ down
+    same true = refl
+    same false = refl
+
+pub ended_parts_going : (parts : Parts) → ended_parts parts going ≡ parts
+ended_parts_going parts =
+    ap (λ engine. parts_of engine parts.device parts.ledger parts.tags parts.digests) (ended_going parts.engine)
+
+pub gone_ended : (setup : Setup) (outcome : Outcome) (made : List Mark) (old new : Parts) → HasGone setup outcome made old new
+    → HasGone setup outcome made old (ended_parts new outcome)
+gone_ended setup going made old new it =
+    subst (λ parts. HasGone setup going made old parts) (sym (ended_parts_going new)) it
+gone_ended setup cut made old new it =
+    record {
+      shape = it.shape;
+      size = it.size;
+      told = it.told;
+      valid = it.valid;
+      group = it.group;
+      small_group = it.small_group;
+      power = it.power;
+      reads = it.reads;
+      tags = it.tags;
+      digests = it.digests;
+      marks = it.marks;
+      spare = it.spare;
+      true_lines = it.true_lines;
+      data_lines = it.data_lines;
+      exhibit = it.exhibit;
+      trusted = it.trusted;
+      sound = it.sound;
+      places =
+          λ was.
+          record {
+            seals = (it.places was).seals;
+            data_lines = (it.places was).data_lines;
+            tag_slots = (it.places was).tag_slots;
+          };
+      metadata = it.metadata;
+    }
+gone_ended setup shown made old new it =
+    record {
+      shape = it.shape;
+      size = it.size;
+      told = it.told;
+      valid = it.valid;
+      group = it.group;
+      small_group = it.small_group;
+      power = it.power;
+      reads = it.reads;
+      tags = it.tags;
+      digests = it.digests;
+      marks = it.marks;
+      spare = it.spare;
+      true_lines = it.true_lines;
+      data_lines = it.data_lines;
+      exhibit = it.exhibit;
+      trusted = it.trusted;
+      sound = it.sound;
+      places = it.places;
+      metadata = it.metadata;
+    }
+
+pub done_ended : (setup : Setup) (outcome : Outcome) (made : List Mark) (old new : Parts) → HasDone setup outcome made old new
+    → HasDone setup outcome made old (ended_parts new outcome)
+done_ended setup going made old new it =
+    subst (λ parts. HasDone setup going made old parts) (sym (ended_parts_going new)) it
+done_ended setup cut made old new it =
+    record { gone = gone_ended setup cut made old new it.gone; loss = it.loss; counters = it.counters }
+done_ended setup shown made old new it =
+    record { gone = gone_ended setup shown made old new it.gone; loss = it.loss; counters = it.counters }
+
+-- an engine that isn't down answers Down nowhere
+pub answers_down : {T : Type 0} (answer : Result T Fault) (old new : Parts) → old.engine.down ≡ false
+    → new.engine.down ≡ old.engine.down → (IsDownAnswer answer → ⊥)
+    → AnswersDown old (ended_parts new (outcome_of answer)) answer
+answers_down answer old new was same never =
+    record {
+      exactly = (λ it. absurd (never it) , λ down. absurd (false≢true (sym was ∙ down)));
+      still = λ it. absurd (never it);
+      after = ap (λ down. down || not (is_going (outcome_of answer))) same;
+    }
+
+-- ---- what was seen doesn't depend on the engine afterwards
+
+fetched_line_ended : (setup : Setup) (page x : ℕ) (line : Line) (old new : Parts) (outcome : Outcome)
+    → IsFetchedLine setup page x line old new → IsFetchedLine setup page x line old (ended_parts new outcome)
+fetched_line_ended setup page x line old new outcome it =
+    record { on_path = it.on_path; uncached = it.uncached; read = it.read }
+
+pub meta_refused_ended : (setup : Setup) (page x : ℕ) (old new : Parts) (outcome : Outcome)
+    → IsMetaRefused setup page x old new → IsMetaRefused setup page x old (ended_parts new outcome)
+meta_refused_ended setup page x old new outcome it =
+    record {
+      line = it.line;
+      fetched = fetched_line_ended setup page x it.line old new outcome it.fetched;
+      other_digest = it.other_digest;
+    }
+
+pub clash_shown_ended : (setup : Setup) (page : ℕ) (old new : Parts) (outcome : Outcome)
+    → IsClashShown setup page old new → IsClashShown setup page old (ended_parts new outcome)
+clash_shown_ended setup page old new outcome it =
+    record {
+      x = it.x;
+      line = it.line;
+      fetched = fetched_line_ended setup page it.x it.line old new outcome it.fetched;
+      exhibit = it.exhibit;
+      same_digest = it.same_digest;
+      other_line = it.other_line;
+    }
+
+unsealed_line_ended : (setup : Setup) (a : ℕ) (ctr : Ctr) (cipher : Line) (tag : List ℕ) (new : Parts) (outcome : Outcome)
+    → IsUnsealedLine setup a ctr cipher tag new → IsUnsealedLine setup a ctr cipher tag (ended_parts new outcome)
+unsealed_line_ended setup a ctr cipher tag new outcome it =
+    record {
+      counter = it.counter;
+      cipher_read = it.cipher_read;
+      tag_line = it.tag_line;
+      tag_read = it.tag_read;
+      its_slot = it.its_slot;
+    }
+
+pub tag_refused_ended : (setup : Setup) (a : ℕ) (new : Parts) (outcome : Outcome)
+    → IsTagRefused setup a new → IsTagRefused setup a (ended_parts new outcome)
+tag_refused_ended setup a new outcome it =
+    record {
+      ctr = it.ctr;
+      cipher = it.cipher;
+      tag = it.tag;
+      unsealed = unsealed_line_ended setup a it.ctr it.cipher it.tag new outcome it.unsealed;
+      other_tag = it.other_tag;
+    }
+
+pub forged_shown_ended : (setup : Setup) (a : ℕ) (new : Parts) (outcome : Outcome)
+    → IsForgedShown setup a new → IsForgedShown setup a (ended_parts new outcome)
+forged_shown_ended setup a new outcome it =
+    record {
+      ctr = it.ctr;
+      cipher = it.cipher;
+      tag = it.tag;
+      unsealed = unsealed_line_ended setup a it.ctr it.cipher it.tag new outcome it.unsealed;
+      exhibit = it.exhibit;
+      right_tag = it.right_tag;
+      other_cipher = it.other_cipher;
+    }
+
+pub within_ended : (outcome end : Outcome) (n : ℕ) (old new : Parts) → TakesWithin outcome n old new
+    → TakesWithin outcome n old (ended_parts new end)
+within_ended going end n old new it = it
+within_ended cut end n old new it = it
+within_ended shown end n old new it = it
+
+pub within_live_ended : (outcome end : Outcome) (n : ℕ) (old new : Parts) → TakesWithinOfLive outcome n old new
+    → TakesWithinOfLive outcome n old (ended_parts new end)
+within_live_ended outcome end n old new it = (it.0 , λ live. within_ended outcome end n old new (it.1 live))
+
+-- ---- a read
+
+answers_read_ended : (setup : Setup) (a : ℕ) (old new : Parts) (answer : Result Line Fault) (outcome : Outcome)
+    → AnswersRead setup a old new answer → AnswersRead setup a old (ended_parts new outcome) answer
+answers_read_ended setup a old new (Ok line) outcome it = it
+answers_read_ended setup a old new (Err Fail.Cut) outcome it = it
+answers_read_ended setup a old new (Err Fail.Down) outcome it = it
+answers_read_ended setup a old new (Err (Fail.Meta x)) outcome it = meta_refused_ended setup (page_of a) x old new outcome it
+answers_read_ended setup a old new (Err (Fail.Tag b)) outcome it = (it.0 , tag_refused_ended setup a new outcome it.1)
+answers_read_ended setup a old new (Err (Fail.Spent page)) outcome it = it
+answers_read_ended setup a old new (Err Fail.Shown) outcome (inl clash) =
+    inl (clash_shown_ended setup (page_of a) old new outcome clash)
+answers_read_ended setup a old new (Err Fail.Shown) outcome (inr forged) = inr (forged_shown_ended setup a new outcome forged)
+
+pub read_ended : (setup : Setup) (a : ℕ) (old new : Parts) (answer : Result Line Fault) → old.engine.down ≡ false
+    → HasReadUnder setup a old new answer → HasReadLine setup a old (ended_parts new (outcome_of answer)) answer
+read_ended setup a old new answer was it =
+    record {
+      down = answers_down answer old new was it.down it.not_down;
+      done = λ up. done_ended setup (outcome_of answer) [] old new it.done;
+      answered = λ up trusted. answers_read_ended setup a old new answer (outcome_of answer) (it.answered trusted);
+      unrefused = λ up sound. it.unrefused sound;
+      path_cached = it.path_cached;
+      of_cached =
+          λ up cached.
+          let seen = it.of_cached cached in
+          record {
+            no_steps = seen.no_steps;
+            no_digests = seen.no_digests;
+            two_reads = seen.two_reads;
+            one_tag = seen.one_tag;
+          };
+      steps_of_path = λ up. within_live_ended (outcome_of answer) (outcome_of answer) _ old new it.steps_of_path;
+      steps_of_dirty = λ up. within_live_ended (outcome_of answer) (outcome_of answer) _ old new it.steps_of_dirty;
+    }

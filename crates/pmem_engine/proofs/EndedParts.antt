@@ -1,0 +1,86 @@
+-- A call's last act: an engine that was cut or stopped is down.
+use Rattle.std.proofs.Common.{◌≡◌, ◌≢◌, Bool, true, false, List, refl, sym, ap, subst, ◌∙◌}
+use Rattle.pmem_base.specs.declared.answers.Mark.{Mark}
+use Rattle.suite.specs.Setup.{Setup}
+use Rattle.pmem_engine.specs.Engine.{EngineState}
+use Rattle.pmem_engine.specs.Parts.{Parts}
+use Rattle.pmem_engine.specs.Outcomes.{Outcome, going, cut, shown, HasDone}
+
+-- engines are equal part by part
+pub engine_is : (a b : EngineState) → a.shape ≡ b.shape → a.cache ≡ b.cache → a.mirror ≡ b.mirror → a.down ≡ b.down → a ≡ b
+engine_is a b shape cache mirror down =
+    ap (λ x. record { shape = x; cache = a.cache; mirror = a.mirror; down = a.down }) shape
+    ∙ ap (λ x. record { shape = b.shape; cache = x; mirror = a.mirror; down = a.down }) cache
+    ∙ ap (λ x. record { shape = b.shape; cache = b.cache; mirror = x; down = a.down }) mirror
+    ∙ ap (λ x. record { shape = b.shape; cache = b.cache; mirror = b.mirror; down = x }) down
+
+-- the parts with another engine
+abbrev pub with_engine : Parts → EngineState → Parts
+with_engine parts engine = record parts { engine = engine }
+
+-- what was done stays done where only the engine's being down is new
+pub done_ended : (setup : Setup) (outcome : Outcome) (made : List Mark) (old new : Parts) (engine : EngineState)
+    → engine.shape ≡ new.engine.shape → (outcome ≡ going → engine ≡ new.engine) → HasDone setup outcome made old new
+    → HasDone setup outcome made old (with_engine new engine)
+done_ended setup going made old new engine shape same it =
+    subst (λ e. HasDone setup going made old (with_engine new e)) (sym (same refl)) it
+done_ended setup cut made old new engine shape same it =
+    record {
+      gone =
+          record {
+            shape = shape ∙ it.gone.shape;
+            size = it.gone.size;
+            told = it.gone.told;
+            valid = it.gone.valid;
+            group = it.gone.group;
+            small_group = it.gone.small_group;
+            power = it.gone.power;
+            reads = it.gone.reads;
+            tags = it.gone.tags;
+            digests = it.gone.digests;
+            marks = it.gone.marks;
+            spare = it.gone.spare;
+            true_lines = it.gone.true_lines;
+            data_lines = it.gone.data_lines;
+            exhibit = it.gone.exhibit;
+            trusted = it.gone.trusted;
+            sound = it.gone.sound;
+            places =
+                λ was.
+                record {
+                  seals = (it.gone.places was).seals;
+                  data_lines = (it.gone.places was).data_lines;
+                  tag_slots = (it.gone.places was).tag_slots;
+                };
+            metadata = λ was. tt;
+          };
+      loss = it.loss;
+      counters = it.counters;
+    }
+done_ended setup shown made old new engine shape same it =
+    record {
+      gone =
+          record {
+            shape = shape ∙ it.gone.shape;
+            size = it.gone.size;
+            told = it.gone.told;
+            valid = it.gone.valid;
+            group = it.gone.group;
+            small_group = it.gone.small_group;
+            power = it.gone.power;
+            reads = it.gone.reads;
+            tags = it.gone.tags;
+            digests = it.gone.digests;
+            marks = it.gone.marks;
+            spare = it.gone.spare;
+            true_lines = it.gone.true_lines;
+            data_lines = it.gone.data_lines;
+            exhibit = it.gone.exhibit;
+            trusted = it.gone.trusted;
+            sound = it.gone.sound;
+            places = λ was. tt;
+            metadata = λ was. tt;
+          };
+      loss = it.loss;
+      counters = it.counters;
+    }

@@ -1,0 +1,321 @@
+-- Laws of a device that can be mended: what redoing the group gives, and which line writes keep it.
+use Rattle.std.proofs.Common.{ℕ, ◌≡◌, ◌≢◌, ◌<◌, ◌≤◌, ◌+◌, ◌-◌, ◌*◌, false, Some, List, [], length, get_or, take, drop, replicate, map, All, ap, sym, ◌∙◌, subst, inl, inr, ◌⊎◌, IsTrue, arith}
+use Rattle.std.specs.Prelude.{slice_set}
+use Rattle.std.specs.List.{AllPairs}
+use Rattle.std.proofs.lemmas.Bool.{cases_eq, cases_lt}
+use Rattle.std.proofs.lemmas.List.{length-set, drop-set-lt, get_or-take, get_or-drop, get_or_past, length-take, length-drop, length-replicate, get_or-replicate, ext_get_or}
+use Rattle.std.proofs.lemmas.List.Elements.{All-nil, All-same, All-set}
+use Rattle.pmem_base.specs.declared.lines.Line.{Line}
+use Rattle.pmem_base.specs.declared.registers.Regs.{Regs}
+use Rattle.pmem_base.specs.Shape.{Shape, is_loss}
+use Rattle.pmem_base.specs.Registers.{IsGroup, IsProgress, IsValidRegs}
+use Rattle.pmem_base.specs.declared.answers.Mark.{Mark}
+use Rattle.pmem_base.specs.Layout as layout
+use Rattle.pmem_base.specs.Lines.{IsLine, line_at, zero_line, tag_slot}
+use Rattle.pmem_base.proofs.LineLemmas.{IsLine-zero_line}
+use Rattle.split_counters.specs.Blocks.{IsStoredBlock, unpacked}
+use Rattle.split_counters.proofs.StoredBlocks.{IsStoredBlock-same}
+use Rattle.bonsai_tree.specs.Positions.{level_of, counter_position}
+use Rattle.bonsai_tree.proofs.Levels.{counter_position-lt}
+use Rattle.pmem_base.proofs.LineSets.{line_at-set_same, line_at-set_other, length-put_lines, put_lines-AreLines}
+use Rattle.board.specs.Device.{AreLinesOf}
+use Rattle.commit_regs.specs.Groups.{redone}
+use Rattle.seal_ledger.specs.Ledger.{LedgerState}
+use Rattle.shadow_tables.specs.Entries.{is_named_in, shadow_of}
+use Rattle.shadow_tables.proofs.EntryLaws.{AreAllZero, is_named_in-zero}
+use Rattle.meta_cache.specs.Banks.{set_of}
+use Rattle.suite.specs.Setup.{Setup}
+use Rattle.pmem_engine.specs.Engine.{EngineState}
+use Rattle.pmem_engine.specs.Truth.{true_block, true_counter}
+use Rattle.pmem_engine.specs.Invariants.{IsAnchored, IsHeldBack, register_page, IsSealStored, IsCounterStored, IsTrueSlot, IsDirtyNamed, IsMendable, IsDurable, IsTrusted, IsSound, stored_meta, is_named}
+use Rattle.pmem_engine.specs.Mendable.{IsAllTrue, IsShadowZero}
+use Rattle.pmem_engine.specs.Steps.{IsEmptied}
+use Rattle.pmem_engine.specs.Recached.{IsNewEngine}
+
+-- ---- lists of lines
+
+pub AreLinesOf-set : (size : ℕ) (lines : List Line) (n : ℕ) (y : Line) → IsLine y → AreLinesOf size lines → AreLinesOf size (slice_set lines n y)
+AreLinesOf-set size lines n y h all =
+    record { count = length-set lines n y ∙ all.count; each = All-set IsLine lines n y h all.each }
+
+pub AreLinesOf-redone : (size : ℕ) (group : List (ℕ × Line)) (lines : List Line) → All (λ entry. IsLine entry.1) group → AreLinesOf size lines → AreLinesOf size (redone group lines)
+AreLinesOf-redone size group lines all h =
+    record { count = length-put_lines group lines ∙ h.count; each = put_lines-AreLines group lines all h.each }
+
+-- ---- durable, and mendable
+
+-- with no group the two are one
+pub IsDurable-no_group : (setup : Setup) (lines : List Line) (regs : Regs) (ledger : LedgerState) → regs.group.items ≡ [] → AreLinesOf (layout.device_lines setup.shape) lines → IsMendable setup lines regs ledger → IsDurable setup lines regs ledger
+IsDurable-no_group setup lines regs ledger e whole d =
+    record {
+      device_whole = whole;
+      mendable = subst (λ items. IsMendable setup (redone items lines) regs ledger) (sym e) d;
+    }
+
+pub IsMendable-no_group : (setup : Setup) (lines : List Line) (regs : Regs) (ledger : LedgerState) → regs.group.items ≡ [] → IsDurable setup lines regs ledger → IsMendable setup lines regs ledger
+IsMendable-no_group setup lines regs ledger e d =
+    subst (λ items. IsMendable setup (redone items lines) regs ledger) e d.mendable
+
+-- ---- a change of metadata and shadow lines
+
+-- lines that differ from a device's in metadata lines that are now true, and in shadow lines only where
+-- every metadata line is true
+pub record IsMendingOf (setup : Setup) (old new : List Line) (ledger : LedgerState) : Type 0 where
+  pub same_data : (n : ℕ) → n < 80 * layout.pages setup.shape → line_at new n ≡ line_at old n
+  pub same_or_true :
+      (x : ℕ) → x < layout.meta_lines setup.shape
+      → (stored_meta setup.shape new x ≡ stored_meta setup.shape old x)
+      ⊎ (stored_meta setup.shape new x ≡ line_at ledger.truth x)
+  pub same_names_or_true :
+      (shadow_of setup.shape new ≡ shadow_of setup.shape old) ⊎ IsAllTrue setup new ledger
+
+pub IsMendable-mending : (setup : Setup) (old new : List Line) (regs : Regs) (ledger : LedgerState) → IsMendingOf setup old new ledger → IsMendable setup old regs ledger → IsMendable setup new regs ledger
+IsMendable-mending setup old new regs ledger m d =
+    record {
+      anchored = d.anchored;
+      seals_stored = seals;
+      true_or_named = λ x h. meta x h m.same_names_or_true (m.same_or_true x h) (d.true_or_named x h);
+      counters_stored = λ page h. counter page (m.same_or_true (counter_position setup.shape page) (counter_position-lt setup.shape page h)) (d.counters_stored page h);
+    }
+  where
+    seals : (a : ℕ) → a < layout.data_lines setup.shape → IsSealStored setup.shape new ledger.marks a
+    seals a h =
+        let old_seal = d.seals_stored a h in
+        record {
+          cipher = old_seal.cipher ∙ ap (λ l. Some l) (sym (m.same_data a (omega arith)));
+          tag = old_seal.tag ∙ ap (λ l. Some (tag_slot l a)) (sym (m.same_data (layout.tag_line setup.shape a) (omega arith)));
+        }
+
+    meta : (x : ℕ) → x < layout.meta_lines setup.shape → (shadow_of setup.shape new ≡ shadow_of setup.shape old) ⊎ IsAllTrue setup new ledger → (stored_meta setup.shape new x ≡ stored_meta setup.shape old x) ⊎ (stored_meta setup.shape new x ≡ line_at ledger.truth x) → (stored_meta setup.shape old x ≡ line_at ledger.truth x) ⊎ IsTrue (is_named setup.shape old x) → (stored_meta setup.shape new x ≡ line_at ledger.truth x) ⊎ IsTrue (is_named setup.shape new x)
+    meta x h (inr all) same was = inl (all.true_lines x h)
+    meta x h (inl names) (inr same) was = inl same
+    meta x h (inl names) (inl same) (inl was) = inl (same ∙ was)
+    meta x h (inl names) (inl same) (inr named) = inr (subst (λ s. IsTrue (is_named_in setup.shape s (level_of x) x)) (sym names) named)
+
+    counter : (page : ℕ) → (stored_meta setup.shape new (counter_position setup.shape page) ≡ stored_meta setup.shape old (counter_position setup.shape page)) ⊎ (stored_meta setup.shape new (counter_position setup.shape page) ≡ line_at ledger.truth (counter_position setup.shape page)) → IsCounterStored setup old regs.loss ledger.truth page → IsCounterStored setup new regs.loss ledger.truth page
+    counter page (inl same) was = subst (λ l. IsStoredBlock regs.loss (unpacked l) (true_block setup.shape ledger.truth page)) (sym same) was
+    counter page (inr same) was = subst (λ l. IsStoredBlock regs.loss (unpacked l) (true_block setup.shape ledger.truth page)) (sym same) (IsStoredBlock-same regs.loss (true_block setup.shape ledger.truth page))
+
+-- ---- a fixed line is written
+
+-- shadow lines are not read below their start
+pub shadow_of-set : (g : Shape) (lines : List Line) (n : ℕ) (y : Line) → n < layout.shadow_line g 0 → shadow_of g (slice_set lines n y) ≡ shadow_of g lines
+shadow_of-set g lines n y h =
+    ap (take (layout.device_lines g - layout.shadow_line g 0)) (drop-set-lt (layout.shadow_line g 0) lines n y h)
+
+-- the shadow lines are the same where each line from their start on is
+pub shadow_of-same : (g : Shape) (old new : List Line) → length new ≡ length old → ((n : ℕ) → layout.shadow_line g 0 ≤ n → line_at new n ≡ line_at old n) → shadow_of g new ≡ shadow_of g old
+shadow_of-same g old new long same =
+    ap (take (layout.device_lines g - layout.shadow_line g 0))
+    (ext_get_or zero_line (drop (layout.shadow_line g 0) new) (drop (layout.shadow_line g 0) old)
+    (length-drop (layout.shadow_line g 0) new ∙ ap (λ n. n - layout.shadow_line g 0) long ∙ sym (length-drop (layout.shadow_line g 0) old))
+    (λ i h.
+    get_or-drop (layout.shadow_line g 0) new i zero_line
+    ∙ same (layout.shadow_line g 0 + i) (omega arith)
+    ∙ sym (get_or-drop (layout.shadow_line g 0) old i zero_line)))
+
+-- the true line of x written at its place
+pub IsMendable-true_line : (setup : Setup) (lines : List Line) (regs : Regs) (ledger : LedgerState) (x : ℕ) (line : Line) → AreLinesOf (layout.device_lines setup.shape) lines → IsMendable setup lines regs ledger → x < layout.meta_lines setup.shape → line ≡ line_at ledger.truth x → IsMendable setup (slice_set lines (layout.meta_line setup.shape x) line) regs ledger
+IsMendable-true_line setup lines regs ledger x line whole d h same =
+    IsMendable-mending setup lines (slice_set lines (layout.meta_line setup.shape x) line) regs ledger
+    (record {
+      same_data = λ n low. line_at-set_other lines (layout.meta_line setup.shape x) n line (λ e. omega arith);
+      same_or_true = λ y hy. at y (cases_eq y x);
+      same_names_or_true = inl (shadow_of-set setup.shape lines (layout.meta_line setup.shape x) line (omega arith));
+    })
+    d
+  where
+    at : (y : ℕ) → (y ≡ x) ⊎ (y ≡ x → ⊥) → (stored_meta setup.shape (slice_set lines (layout.meta_line setup.shape x) line) y ≡ stored_meta setup.shape lines y) ⊎ (stored_meta setup.shape (slice_set lines (layout.meta_line setup.shape x) line) y ≡ line_at ledger.truth y)
+    at y (inl e) =
+        let on_device : layout.meta_line setup.shape x < length lines = subst (λ k. layout.meta_line setup.shape x < k) (sym whole.count) (omega arith) in
+        inr (ap (λ z. stored_meta setup.shape (slice_set lines (layout.meta_line setup.shape x) line) z) e
+        ∙ line_at-set_same lines (layout.meta_line setup.shape x) line on_device
+        ∙ same
+        ∙ ap (line_at ledger.truth) (sym e))
+    at y (inr ne) = inl (line_at-set_other lines (layout.meta_line setup.shape x) (layout.meta_line setup.shape y) line (λ e. ne (omega arith)))
+
+-- the place written, and the other ones
+pub stored_meta-set_same : (setup : Setup) (lines : List Line) (x : ℕ) (line : Line) → AreLinesOf (layout.device_lines setup.shape) lines → x < layout.meta_lines setup.shape → stored_meta setup.shape (slice_set lines (layout.meta_line setup.shape x) line) x ≡ line
+stored_meta-set_same setup lines x line whole h =
+    line_at-set_same lines (layout.meta_line setup.shape x) line
+    (subst (λ k. layout.meta_line setup.shape x < k) (sym whole.count) (omega arith))
+
+pub stored_meta-set_other : (setup : Setup) (lines : List Line) (x y : ℕ) (line : Line) → y ≢ x → stored_meta setup.shape (slice_set lines (layout.meta_line setup.shape x) line) y ≡ stored_meta setup.shape lines y
+stored_meta-set_other setup lines x y line ne =
+    line_at-set_other lines (layout.meta_line setup.shape x) (layout.meta_line setup.shape y) line (λ e. ne (omega arith))
+
+-- ---- a shadow line is zeroed
+
+pub IsAllTrue-zeroed : (setup : Setup) (lines : List Line) (ledger : LedgerState) (n : ℕ) (y : Line) → IsAllTrue setup lines ledger → IsAllTrue setup (slice_set lines (layout.shadow_line setup.shape n) y) ledger
+IsAllTrue-zeroed setup lines ledger n y all =
+    record { true_lines = λ x h. line_at-set_other lines (layout.shadow_line setup.shape n) (layout.meta_line setup.shape x) y (λ e. omega arith) ∙ all.true_lines x h }
+
+-- once every metadata line is true, a shadow line can be zeroed
+pub IsMendable-zeroed : (setup : Setup) (lines : List Line) (regs : Regs) (ledger : LedgerState) (n : ℕ) → IsMendable setup lines regs ledger → IsAllTrue setup lines ledger → IsMendable setup (slice_set lines (layout.shadow_line setup.shape n) zero_line) regs ledger
+IsMendable-zeroed setup lines regs ledger n d all =
+    let after = IsAllTrue-zeroed setup lines ledger n zero_line all in
+    IsMendable-mending setup lines (slice_set lines (layout.shadow_line setup.shape n) zero_line) regs ledger
+    (record {
+      same_data = λ m low. line_at-set_other lines (layout.shadow_line setup.shape n) m zero_line (λ e. omega arith);
+      same_or_true = λ x h. inr (after.true_lines x h);
+      same_names_or_true = inr after;
+    })
+    d
+
+-- ---- the end
+
+-- line n of the shadow lines
+pub line_at-shadow_of : (g : Shape) (lines : List Line) (n : ℕ) → n < layout.shadow_lines g → line_at (shadow_of g lines) n ≡ line_at lines (layout.shadow_line g n)
+line_at-shadow_of g lines n h =
+    let low = layout.shadow_line g 0 in
+    let count = layout.device_lines g - layout.shadow_line g 0 in
+    get_or-take count (drop low lines) n zero_line (omega arith)
+    ∙ get_or-drop low lines n zero_line
+    ∙ ap (λ k. get_or lines k zero_line) (omega arith)
+
+-- past them there is the zero line
+line_at-shadow_past : (g : Shape) (lines : List Line) (n : ℕ) → layout.shadow_lines g ≤ n → line_at (shadow_of g lines) n ≡ zero_line
+line_at-shadow_past g lines n h =
+    let low = layout.shadow_line g 0 in
+    let count = layout.device_lines g - layout.shadow_line g 0 in
+    let short = length-take count (drop low lines) in
+    get_or_past (shadow_of g lines) n zero_line (omega (arith, short))
+
+pub AreAllZero-shadow_of : (setup : Setup) (lines : List Line) → IsShadowZero setup lines → AreAllZero (shadow_of setup.shape lines)
+AreAllZero-shadow_of setup lines z = record { zero_lines = λ n. at n (cases_lt n (layout.shadow_lines setup.shape)) }
+  where
+    at : (n : ℕ) → (n < layout.shadow_lines setup.shape) ⊎ (layout.shadow_lines setup.shape ≤ n) → line_at (shadow_of setup.shape lines) n ≡ zero_line
+    at n (inl h) = line_at-shadow_of setup.shape lines n h ∙ z.zero_lines n h
+    at n (inr h) = line_at-shadow_past setup.shape lines n h
+
+-- zero shadow lines name nothing
+pub is_named-zero : (setup : Setup) (lines : List Line) (x : ℕ) → IsShadowZero setup lines → is_named setup.shape lines x ≡ false
+is_named-zero setup lines x z = is_named_in-zero setup.shape (shadow_of setup.shape lines) (level_of x) x (AreAllZero-shadow_of setup lines z)
+
+pub IsSound-new_engine : (setup : Setup) (engine : EngineState) (lines : List Line) (regs : Regs) (ledger : LedgerState) → IsNewEngine setup engine lines → AreLinesOf (layout.device_lines setup.shape) lines → IsMendable setup lines regs ledger → IsAllTrue setup lines ledger → regs.group.items ≡ [] → IsSound setup engine lines regs ledger
+IsSound-new_engine setup engine lines regs ledger new whole d all none =
+    record {
+      trusted = record {
+        its_shape = new.its_shape;
+        anchored = d.anchored;
+        no_group = none;
+        not_down = new.not_down;
+        cached_true = λ bank set. All-same (IsTrueSlot setup.shape ledger.truth bank set) (set_of engine.cache bank set) [] (new.empty_cache bank set) (All-nil (IsTrueSlot setup.shape ledger.truth bank set));
+      };
+      durable = IsDurable-no_group setup lines regs ledger none whole d;
+      true_unless_dirty = λ x h clean. all.true_lines x h;
+      dirty_named = λ bank set. All-same (IsDirtyNamed setup.shape engine.mirror bank set) (set_of engine.cache bank set) [] (new.empty_cache bank set) (All-nil (IsDirtyNamed setup.shape engine.mirror bank set));
+      mirror_true = new.its_mirror;
+    }
+
+-- zero shadow lines as a list, as a new engine's copy of them is made
+pub shadow_of-zero : (setup : Setup) (lines : List Line) → AreLinesOf (layout.device_lines setup.shape) lines → IsShadowZero setup lines → shadow_of setup.shape lines ≡ replicate (layout.shadow_lines setup.shape) zero_line
+shadow_of-zero setup lines whole z =
+    ext_get_or zero_line (shadow_of setup.shape lines) (replicate (layout.shadow_lines setup.shape) zero_line) (long ∙ sym count)
+    (λ i h. (AreAllZero-shadow_of setup lines z).zero_lines i
+    ∙ sym (get_or-replicate (layout.shadow_lines setup.shape) i zero_line zero_line (within i h)))
+  where
+    low : ℕ
+    low = layout.shadow_line setup.shape 0
+
+    count : length (replicate (layout.shadow_lines setup.shape) zero_line) ≡ layout.shadow_lines setup.shape
+    count = length-replicate {A = Line} (layout.shadow_lines setup.shape) zero_line
+
+    long : length (shadow_of setup.shape lines) ≡ layout.shadow_lines setup.shape
+    long =
+        let taken = length-take (layout.device_lines setup.shape - low) (drop low lines) in
+        let rest = length-drop low lines in
+        let size = whole.count in
+        omega arith
+
+    within : (i : ℕ) → i < length (shadow_of setup.shape lines) → i < layout.shadow_lines setup.shape
+    within i h = subst (λ n. i < n) long h
+
+-- ---- the group is emptied
+
+pub IsValidRegs-emptied : (g : Shape) (old new : Regs) → IsEmptied old new → IsValidRegs g old → IsValidRegs g new
+IsValidRegs-emptied g old new e valid =
+    record {
+      group =
+          subst (IsGroup (layout.device_lines g)) (sym e.no_group)
+          (record {
+            distinct = λ i j x less within. absurd (omega arith);
+            on_device = All-nil (λ entry. entry.0 < layout.device_lines g);
+            lines_range = All-nil (λ entry. IsLine entry.1);
+          });
+      each_page = subst (λ items. All (IsProgress g) items) (sym e.same_progress) valid.each_page;
+      distinct_pages = subst (λ items. AllPairs (λ a b. a.page ≢ b.page) items) (sym e.same_progress) valid.distinct_pages;
+      known_loss = subst (λ n. IsTrue (is_loss n)) (sym e.same_loss) valid.known_loss;
+    }
+
+pub IsAnchored-emptied : (setup : Setup) (old new : Regs) (ledger : LedgerState) → IsEmptied old new → IsAnchored setup old ledger → IsAnchored setup new ledger
+IsAnchored-emptied setup old new ledger e d =
+    record {
+      of_shape = d.of_shape;
+      truth_is_tree = d.truth_is_tree;
+      root = e.same_root ∙ d.root;
+      last_counters = λ a h. d.last_counters a h ∙ ap (λ items. Some (true_counter setup.shape items ledger.truth a)) (sym e.same_progress);
+      seals_tagged = d.seals_tagged;
+      valid_regs = IsValidRegs-emptied setup.shape old new e d.valid_regs;
+      held_back = subst (λ items. All (IsHeldBack setup.shape ledger.truth) items) (sym e.same_progress) d.held_back;
+      fresh = d.fresh;
+      open_pages = d.open_pages ∙ ap (map register_page) (sym e.same_progress);
+      no_exhibit = d.no_exhibit;
+    }
+
+pub IsMendable-emptied : (setup : Setup) (lines : List Line) (old new : Regs) (ledger : LedgerState) → IsEmptied old new → IsMendable setup lines old ledger → IsMendable setup lines new ledger
+IsMendable-emptied setup lines old new ledger e d =
+    record {
+      anchored = IsAnchored-emptied setup old new ledger e d.anchored;
+      seals_stored = d.seals_stored;
+      true_or_named = d.true_or_named;
+      counters_stored = λ page h. subst (λ n. IsCounterStored setup lines n ledger.truth page) (sym e.same_loss) (d.counters_stored page h);
+    }
+
+-- so a durable device whose group is redone and emptied is durable, with its lines as they are
+pub IsDurable-emptied : (setup : Setup) (lines : List Line) (old new : Regs) (ledger : LedgerState) → IsEmptied old new → IsDurable setup lines old ledger → IsDurable setup (redone old.group.items lines) new ledger
+IsDurable-emptied setup lines old new ledger e d =
+    IsDurable-no_group setup (redone old.group.items lines) new ledger e.no_group
+    (AreLinesOf-redone (layout.device_lines setup.shape) old.group.items lines d.mendable.anchored.valid_regs.group.lines_range d.device_whole)
+    (IsMendable-emptied setup (redone old.group.items lines) old new ledger e d.mendable)
+
+-- ---- the writes of recovery, where no group is armed
+
+pub IsDurable-true_line : (setup : Setup) (lines : List Line) (regs : Regs) (ledger : LedgerState) (x : ℕ) (line : Line) → regs.group.items ≡ [] → IsDurable setup lines regs ledger → x < layout.meta_lines setup.shape → IsLine line → line ≡ line_at ledger.truth x → IsDurable setup (slice_set lines (layout.meta_line setup.shape x) line) regs ledger
+IsDurable-true_line setup lines regs ledger x line none d h range same =
+    IsDurable-no_group setup (slice_set lines (layout.meta_line setup.shape x) line) regs ledger none
+    (AreLinesOf-set (layout.device_lines setup.shape) lines (layout.meta_line setup.shape x) line range d.device_whole)
+    (IsMendable-true_line setup lines regs ledger x line d.device_whole (IsMendable-no_group setup lines regs ledger none d) h same)
+
+pub IsDurable-zeroed : (setup : Setup) (lines : List Line) (regs : Regs) (ledger : LedgerState) (n : ℕ) → regs.group.items ≡ [] → IsDurable setup lines regs ledger → IsAllTrue setup lines ledger → IsDurable setup (slice_set lines (layout.shadow_line setup.shape n) zero_line) regs ledger
+IsDurable-zeroed setup lines regs ledger n none d all =
+    IsDurable-no_group setup (slice_set lines (layout.shadow_line setup.shape n) zero_line) regs ledger none
+    (AreLinesOf-set (layout.device_lines setup.shape) lines (layout.shadow_line setup.shape n) zero_line IsLine-zero_line d.device_whole)
+    (IsMendable-zeroed setup lines regs ledger n (IsMendable-no_group setup lines regs ledger none d) all)
+
+-- a seal on the device stays where data and tag lines stay, tampered with or not
+pub IsSealStored-same : (g : Shape) (old new : List Line) (marks : List Mark) (a : ℕ) → a < layout.data_lines g → ((n : ℕ) → n < 80 * layout.pages g → line_at new n ≡ line_at old n) → IsSealStored g old marks a → IsSealStored g new marks a
+IsSealStored-same g old new marks a h same stored =
+    record {
+      cipher = stored.cipher ∙ ap (λ l. Some l) (sym (same a (omega arith)));
+      tag = stored.tag ∙ ap (λ l. Some (tag_slot l a)) (sym (same (layout.tag_line g a) (omega arith)));
+    }
+
+-- a cut while the group is redone: what counts are the lines with the group redone
+pub IsDurable-same_redone : (setup : Setup) (old new : List Line) (regs : Regs) (ledger : LedgerState) → redone regs.group.items new ≡ redone regs.group.items old → AreLinesOf (layout.device_lines setup.shape) new → IsDurable setup old regs ledger → IsDurable setup new regs ledger
+IsDurable-same_redone setup old new regs ledger same whole d =
+    record {
+      device_whole = whole;
+      mendable = subst (λ lines. IsMendable setup lines regs ledger) (sym same) d.mendable;
+    }
+
+-- the engine that starts anew is trusted, whatever the device holds
+pub IsTrusted-new_engine : (setup : Setup) (engine : EngineState) (lines : List Line) (regs : Regs) (ledger : LedgerState) → IsNewEngine setup engine lines → IsAnchored setup regs ledger → regs.group.items ≡ [] → IsTrusted setup engine regs ledger
+IsTrusted-new_engine setup engine lines regs ledger new anchored none =
+    record {
+      its_shape = new.its_shape;
+      anchored = anchored;
+      no_group = none;
+      not_down = new.not_down;
+      cached_true = λ bank set. All-same (IsTrueSlot setup.shape ledger.truth bank set) (set_of engine.cache bank set) [] (new.empty_cache bank set) (All-nil (IsTrueSlot setup.shape ledger.truth bank set));
+    }

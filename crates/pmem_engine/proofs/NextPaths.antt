@@ -1,0 +1,25 @@
+-- What a page's next block and its path come to.
+use Rattle.std.proofs.Common.{ℕ, zero, suc, ◌≡◌, ◌-◌, ◌^◌, ◌==◌, Bool, true, false, Some, None, refl, sym, ◌∙◌, arith}
+use Rattle.std.proofs.lemmas.Bool.{cond-true, cond-false}
+use Rattle.std.proofs.lemmas.Option.{none-some, same_Some}
+use Rattle.split_counters.specs.declared.Block.{Block}
+use Rattle.split_counters.specs.Blocks.{rolled, next_block}
+use Rattle.meta_path.specs.Work.{risen_times}
+use Rattle.pmem_engine.specs.Outcomes.{NeverFalls}
+
+-- a block that rolls over comes to the next one
+pub rolled-next : (old new : Block) → rolled old ≡ Some new → new ≡ next_block old
+rolled-next old new it = at (old.major == 2 ^ 64 - 1) refl
+  where
+    at : (b : Bool) → (old.major == 2 ^ 64 - 1) ≡ b → new ≡ next_block old
+    at true end =
+        absurd (none-some new (sym (cond-true (old.major == 2 ^ 64 - 1) None (Some (next_block old)) end) ∙ it))
+    at false more =
+        sym (same_Some (next_block old) new (sym (cond-false (old.major == 2 ^ 64 - 1) None (Some (next_block old)) more) ∙ it))
+
+-- a count that rises some times doesn't fall
+pub times_never_fall : (n count : ℕ) → NeverFalls count (risen_times n count)
+times_never_fall zero count within = (omega (arith, within), within)
+times_never_fall (suc n) count within =
+    let before = times_never_fall n count within in
+    (omega (arith, before.0, before.1), omega arith)

@@ -1,0 +1,393 @@
+-- A data line and its tag line are read, and the line is unsealed or refused.
+use Rattle.std.proofs.Common.{ℕ, ◌≡◌, ◌≢◌, ◌<◌, ◌≤◌, ◌+◌, ◌⊎◌, inl, inr, Bool, true, false, List, [], Option, Some, None, Ok, Err, refl, sym, ap, ap₂, subst, subst₂, ◌∙◌, arith, min}
+use Rattle.std.specs.Prelude.{MatchOption, IfSome, IsSome, IsNone, option_map, is_some}
+use Rattle.std.specs.Prelude.{length, All, ◌∷◌, ◌==◌}
+use Rattle.std.proofs.lemmas.Bool.{true≢false, cond-true, cond-false, and_parts, eqb-true}
+use Rattle.std.proofs.lemmas.List.{append-nil}
+use Rattle.std.proofs.lemmas.Option.{none-some, same_Some}
+use Rattle.pmem_base.specs.declared.lines.Line.{Line}
+use Rattle.pmem_base.specs.declared.lines.Ctr.{Ctr}
+use Rattle.pmem_base.specs.declared.answers.Mark.{Mark}
+use Rattle.pmem_base.specs.declared.answers.Exhibit.TheVariants.{Forged}
+use Rattle.pmem_base.specs.Counts.{risen, last_count}
+use Rattle.pmem_base.specs.Lines.{line_at, tag_slot, same_bytes, xor_lines, put_lines}
+use Rattle.pmem_base.specs.Registers.{IsValidRegs}
+use Rattle.pmem_base.specs.Layout as layout
+use Rattle.pmem_base.specs.Marks.{SealOf, last_seal, IsFresh}
+use Rattle.suite.specs.Formulas.{Formulas}
+use Rattle.commit_regs.specs.Groups.{redone_told}
+use Rattle.suite.specs.Setup.{Setup}
+use Rattle.board.specs.Counts.{RisesBy}
+use Rattle.board.specs.Device.{Device}
+use Rattle.board.specs.Steps.{HasRead, WasCut, Tells}
+use Rattle.seal_ledger.specs.Ledger.{LedgerState}
+use Rattle.seal_ledger.specs.Notes.{HasExhibit, first_exhibit}
+use Rattle.seal_ledger.proofs.MarkLemmas.{last_seal_has}
+use Rattle.line_seal.specs.Seals.{unsealed}
+use Rattle.plain_model.specs.View.{plain_line, plain_of_seal}
+use Rattle.pmem_engine.specs.declared.reading.Unsealed.{Unsealed}
+use Rattle.pmem_engine.specs.declared.fault.Fault.TheVariants as Fail
+use Rattle.pmem_engine.specs.Engine.{EngineState}
+use Rattle.pmem_engine.specs.Invariants.{IsAnchored, IsTrusted, IsSound, IsSealStored, IsSealTagged}
+use Rattle.pmem_engine.specs.Parts.{Parts, parts_of, AreTrusted, AreSound, HoldsSeal}
+use Rattle.pmem_engine.specs.Outcomes.{going, cut, shown, NeverFalls, HasGone, HasDone, TakesSteps}
+use Rattle.pmem_engine.specs.Faults.{IsUnsealedLine, IsTagRefused, IsForgedShown}
+use Rattle.pmem_engine.specs.Still.{HasOnlyRead, HasOnlyCut}
+use Rattle.pmem_engine.specs.Inner.{HasUnsealed, IsLastCounter}
+use Rattle.pmem_engine.proofs.StillLaws.{done_reading, done_cut}
+
+-- a count that rose by one, or stands still, doesn't fall
+pub risen_never_falls : (n : ℕ) → NeverFalls n (risen n)
+risen_never_falls n within = (omega arith , omega arith)
+
+pub same_never_falls : (n m : ℕ) → m ≡ n → NeverFalls n m
+same_never_falls n m same within = (omega (arith, same, within) , omega (arith, same, within))
+
+-- both lines were read
+pub record HasReadBoth (setup : Setup) (a : ℕ) (cipher tag_line : Line) (old new : Device) : Type 0 where
+  pub size : new.size ≡ old.size
+  pub lines : new.lines ≡ old.lines
+  pub regs : new.regs ≡ old.regs
+  pub writes : new.writes ≡ old.writes
+  pub latches : new.latches ≡ old.latches
+  pub cuts : new.cuts ≡ old.cuts
+  pub steady : old.steady ≡ true → new.steady ≡ true
+  pub live : old.live ≡ true → new.live ≡ true
+  pub reads : RisesBy 2 old.reads new.reads
+  pub tells_cipher : Tells new.lines a cipher
+  pub tells_tag_line : Tells new.lines (layout.tag_line setup.shape a) tag_line
+
+pub read_both : (setup : Setup) (a : ℕ) (cipher tag_line : Line) (old mid new : Device)
+    → HasRead old a cipher mid → HasRead mid (layout.tag_line setup.shape a) tag_line new
+    → HasReadBoth setup a cipher tag_line old new
+read_both setup a cipher tag_line old mid new first second =
+    record {
+      size = second.size ∙ first.size;
+      lines = second.lines ∙ first.lines;
+      regs = second.regs ∙ first.regs;
+      writes = second.writes ∙ first.writes;
+      latches = second.latches ∙ first.latches;
+      cuts = second.cuts ∙ first.cuts;
+      steady = λ was. second.steady (first.steady was);
+      live = λ was. second.live (first.live was);
+      reads =
+          record {
+            never_falls = omega (arith, first.reads.never_falls, second.reads.never_falls);
+            exact = λ below. exact below;
+          };
+      tells_cipher = subst (λ lines. Tells lines a cipher) (sym (second.lines ∙ first.lines)) first.tells;
+      tells_tag_line = subst (λ lines. Tells lines (layout.tag_line setup.shape a) tag_line) (sym second.lines) second.tells;
+    }
+  where
+    exact : new.reads < last_count → new.reads ≡ old.reads + 2
+    exact below =
+        let two : new.reads ≡ mid.reads + 1 = second.reads.exact below in
+        let one : mid.reads ≡ old.reads + 1 =
+        first.reads.exact (omega (arith, below, second.reads.never_falls)) in
+        omega (arith, one, two)
+
+-- what a told device with a stored seal gives: that seal's cipher, and its tag
+record IsReadSeal (marks : List Mark) (a : ℕ) (cipher : Line) (tag : List ℕ) : Type 0 where
+  seal : SealOf
+  last : last_seal marks a ≡ Some seal
+  its_cipher : cipher ≡ seal.cipher
+  its_tag : tag ≡ seal.tag
+
+none_of : {A : Type 0} (o : Option A) → is_some o ≡ false → o ≡ None
+none_of None it = refl
+none_of (Some x) it = absurd (true≢false it)
+
+same_bytes-equal : (xs ys : List ℕ) → same_bytes xs ys ≡ true → xs ≡ ys
+same_bytes-equal [] [] it = refl
+same_bytes-equal [] (y ∷ ys) it = absurd (true≢false (sym it))
+same_bytes-equal (x ∷ xs) [] it = absurd (true≢false (sym it))
+same_bytes-equal (x ∷ xs) (y ∷ ys) it =
+    let both = and_parts (x == y) (same_bytes xs ys) it in
+    ap₂ (λ z zs. z ∷ zs) (eqb-true x y both.0) (same_bytes-equal xs ys both.1)
+
+of_option : {A B : Type 0} (f : A → B) (o : Option A) (b : B) → option_map f o ≡ Some b → (x : A) × (o ≡ Some x) × (f x ≡ b)
+of_option f None b e = absurd (none-some b e)
+of_option f (Some x) b e = (x , refl , same_Some (f x) b e)
+
+read_seal : (setup : Setup) (lines : List Line) (marks : List Mark) (a : ℕ) (cipher tag_line : Line)
+    → IsSealStored setup.shape lines marks a → cipher ≡ line_at lines a
+    → tag_line ≡ line_at lines (layout.tag_line setup.shape a) → IsReadSeal marks a cipher (tag_slot tag_line a)
+read_seal setup lines marks a cipher tag_line stored reads tag_reads =
+    let found = of_option (λ s. s.cipher) (last_seal marks a) (line_at lines a) stored.cipher in
+    let tagged : Some found.0.tag ≡ Some (tag_slot (line_at lines (layout.tag_line setup.shape a)) a) =
+    ap (option_map (λ s. s.tag)) (sym found.1) ∙ stored.tag in
+    record {
+      seal = found.0;
+      last = found.1;
+      its_cipher = reads ∙ sym found.2;
+      its_tag =
+          ap (λ line. tag_slot line a) tag_reads
+          ∙ sym (same_Some found.0.tag (tag_slot (line_at lines (layout.tag_line setup.shape a)) a) tagged);
+    }
+
+-- what a sound device gives, where no group is armed
+sound_seal : (setup : Setup) (parts : Parts) (told : Option (List Line)) (a : ℕ) (cipher tag_line : Line) → AreSound setup parts
+    → told ≡ parts.device.lines → Tells told a cipher → Tells told (layout.tag_line setup.shape a) tag_line
+    → a < layout.data_lines setup.shape → IsReadSeal parts.ledger.marks a cipher (tag_slot tag_line a)
+sound_seal setup parts told a cipher tag_line sound same reads tag_reads within = go parts.device.lines told sound same reads tag_reads
+  where
+    go : (lines told : Option (List Line))
+        → MatchOption lines ⊥ (λ lines. IsSound setup parts.engine lines parts.device.regs parts.ledger) → told ≡ lines
+        → Tells told a cipher → Tells told (layout.tag_line setup.shape a) tag_line
+        → IsReadSeal parts.ledger.marks a cipher (tag_slot tag_line a)
+    go None told it same reads tag_reads = absurd it
+    go (Some lines) None it same reads tag_reads = absurd (none-some lines same)
+    go (Some lines) (Some others) it same reads tag_reads =
+        read_seal setup lines parts.ledger.marks a cipher tag_line
+        (subst (λ group. IsSealStored setup.shape (put_lines group lines) parts.ledger.marks a) it.trusted.no_group
+        (it.durable.mendable.seals_stored a within))
+        (subst (λ z. cipher ≡ line_at z a) (same_Some others lines same) reads)
+        (subst (λ z. tag_line ≡ line_at z (layout.tag_line setup.shape a)) (same_Some others lines same) tag_reads)
+
+-- the seal read has its own tag under its own counter
+tag_of_read : (setup : Setup) (parts : Parts) (a : ℕ) (ctr : Ctr) (cipher : Line) (tag : List ℕ)
+    → All (IsSealTagged setup.formulas) parts.ledger.marks → IsLastCounter parts a ctr
+    → IsReadSeal parts.ledger.marks a cipher tag → setup.formulas.tag_of a ctr cipher ≡ tag
+tag_of_read setup parts a ctr cipher tag tagged counter it =
+    let same : Some it.seal.ctr ≡ Some ctr = ap (option_map (λ s. s.ctr)) (sym it.last) ∙ counter in
+    ap₂ (λ c line. setup.formulas.tag_of a c line) (sym (same_Some it.seal.ctr ctr same)) it.its_cipher
+    ∙ last_seal_has (IsSealTagged setup.formulas) parts.ledger.marks a it.seal tagged it.last
+    ∙ sym it.its_tag
+
+-- an unsealed line is the cipher xor its pad, under the right tag
+unsealed_some : (f : Formulas) (a : ℕ) (ctr : Ctr) (cipher : Line) (tag : List ℕ) (plain : Line)
+    → unsealed f a ctr cipher tag ≡ Some plain → xor_lines cipher (f.pad_of a ctr) ≡ plain
+unsealed_some f a ctr cipher tag plain it = go (same_bytes (f.tag_of a ctr cipher) tag) refl
+  where
+    go : (b : Bool) → same_bytes (f.tag_of a ctr cipher) tag ≡ b → xor_lines cipher (f.pad_of a ctr) ≡ plain
+    go true same =
+        same_Some (xor_lines cipher (f.pad_of a ctr)) plain
+        (sym (cond-true (same_bytes (f.tag_of a ctr cipher) tag) (Some (xor_lines cipher (f.pad_of a ctr))) None same) ∙ it)
+    go false same =
+        absurd (none-some plain
+        (sym (cond-false (same_bytes (f.tag_of a ctr cipher) tag) (Some (xor_lines cipher (f.pad_of a ctr))) None same) ∙ it))
+
+-- a line that was unsealed has its right tag
+pub right_tag : (f : Formulas) (a : ℕ) (ctr : Ctr) (cipher : Line) (tag slot : List ℕ) (plain : Line) → tag ≡ slot
+    → unsealed f a ctr cipher tag ≡ Some plain → (f.tag_of a ctr cipher ≡ slot) × (unsealed f a ctr cipher slot ≡ Some plain)
+right_tag f a ctr cipher tag slot plain same it =
+    (go (same_bytes (f.tag_of a ctr cipher) tag) refl , subst (λ z. unsealed f a ctr cipher z ≡ Some plain) same it)
+  where
+    go : (b : Bool) → same_bytes (f.tag_of a ctr cipher) tag ≡ b → f.tag_of a ctr cipher ≡ slot
+    go true equal = same_bytes-equal (f.tag_of a ctr cipher) tag equal ∙ same
+    go false other =
+        absurd (none-some plain
+        (sym (cond-false (same_bytes (f.tag_of a ctr cipher) tag) (Some (xor_lines cipher (f.pad_of a ctr))) None other) ∙ it))
+
+module _ (setup : Setup) (engine : EngineState) (ledger : LedgerState) (a : ℕ) (ctr : Ctr) (cipher tag_line : Line)
+    (old new : Device) (tags digests tags_now digests_now : ℕ)
+    (both : HasReadBoth setup a cipher tag_line old new) (one_tag : tags_now ≡ risen tags) (same : digests_now ≡ digests) where
+  abbrev before : Parts
+  before = parts_of engine old ledger tags digests
+
+  abbrev after : LedgerState → Parts
+  after noted = parts_of engine new noted tags_now digests_now
+
+  only_read : HasOnlyRead before (after ledger)
+  only_read =
+      record {
+        engine = refl;
+        ledger = refl;
+        size = both.size;
+        lines = both.lines;
+        regs = both.regs;
+        writes = both.writes;
+        latches = both.latches;
+        cuts = both.cuts;
+        steady = both.steady;
+        live = both.live;
+        reads = both.reads.never_falls;
+        tags = subst (λ n. NeverFalls tags n) (sym one_tag) (risen_never_falls tags);
+        digests = same_never_falls digests digests_now same;
+      }
+
+  no_steps : TakesSteps 0 old new
+  no_steps =
+      record {
+        writes = omega (arith, both.writes);
+        latches = omega (arith, both.latches);
+        sum = λ one two. omega (arith, both.writes, both.latches);
+      }
+
+  read_line : (noted : LedgerState) → last_seal noted.marks a ≡ last_seal ledger.marks a → IsLastCounter before a ctr
+      → IsUnsealedLine setup a ctr cipher (tag_slot tag_line a) (after noted)
+  read_line noted marks counter =
+      record {
+        counter = ap (λ seal. option_map (λ s. s.ctr) seal) marks ∙ counter;
+        cipher_read = both.tells_cipher;
+        tag_line = tag_line;
+        tag_read = both.tells_tag_line;
+        its_slot = refl;
+      }
+
+
+  -- an error is no answer
+  no_answer : {T : Type 0} → false ≡ true → T
+  no_answer it = absurd (true≢false (sym it))
+
+  -- the tag isn't the one in its slot
+  pub refused : a < layout.data_lines setup.shape → setup.formulas.tag_of a ctr cipher ≢ tag_slot tag_line a
+      → HasUnsealed setup a ctr before (after ledger) (Err (Fail.Tag a))
+  refused within other =
+      record {
+        done = done_reading setup before (after ledger) only_read;
+        answered =
+            λ trusted counter.
+            (refl , record {
+              ctr = ctr; cipher = cipher; tag = tag_slot tag_line a;
+              unsealed = read_line ledger refl counter; other_tag = other;
+            });
+        unrefused = λ sound counter. other (tag_of_read setup before a ctr cipher (tag_slot tag_line a)
+            (sound_tagged sound) counter
+            (sound_seal setup before new.lines a cipher tag_line sound both.lines both.tells_cipher both.tells_tag_line within));
+        engine = refl;
+        lines = both.lines;
+        regs = both.regs;
+        digests = same;
+        same_ledger = λ unshown. refl;
+        tells_tag_line = tt;
+        no_steps = no_steps;
+        two_reads = λ ok. no_answer ok;
+        one_tag = λ ok. no_answer ok;
+        cut_unpowered = λ is_cut. cc;
+        not_down = λ it. it;
+      }
+    where
+      sound_tagged : AreSound setup before → All (IsSealTagged setup.formulas) ledger.marks
+      sound_tagged sound = go old.lines sound
+        where
+          go : (lines : Option (List Line)) → MatchOption lines ⊥ (λ lines. IsSound setup engine lines old.regs ledger)
+              → All (IsSealTagged setup.formulas) ledger.marks
+          go None it = absurd it
+          go (Some lines) it = it.trusted.anchored.seals_tagged
+
+  -- the audit has another cipher for the line's last seal
+  pub stopped : (noted : LedgerState) → a < layout.data_lines setup.shape → IsSome (last_seal ledger.marks a)
+      → setup.formulas.tag_of a ctr cipher ≡ tag_slot tag_line a
+      → IfSome (last_seal ledger.marks a) (λ seal. cipher ≢ seal.cipher)
+      → HasExhibit ledger noted (Forged a ctr cipher (tag_slot tag_line a))
+      → HasUnsealed setup a ctr before (after noted) (Err Fail.Shown)
+  stopped noted within known right other shows =
+      record {
+        done =
+            record {
+              gone =
+                  record {
+                    shape = refl;
+                    size = both.size;
+                    told = ap is_some both.lines;
+                    valid = λ was. subst (λ regs. IsValidRegs setup.shape regs) (sym both.regs) was;
+                    group = λ uncut. ap (λ regs. regs.group) both.regs;
+                    small_group = λ none. tt;
+                    power = (both.steady , both.live , both.cuts);
+                    reads = both.reads.never_falls;
+                    tags = only_read.tags;
+                    digests = only_read.digests;
+                    marks = shows.marks ∙ sym (append-nil ledger.marks);
+                    spare = omega (arith, shows.spare);
+                    true_lines = ap length shows.truth;
+                    data_lines = shows.data_lines;
+                    exhibit = λ unshown. absurd (unshown refl);
+                    trusted = λ was. subst (λ marks. IsFresh marks) (sym shows.marks) was.anchored.fresh;
+                    sound = λ was. never was;
+                    places = λ was. tt;
+                    metadata = λ was. tt;
+                  };
+              loss = ap (λ regs. regs.loss) both.regs;
+              counters = λ was. tt;
+            };
+        answered =
+            λ trusted counter.
+            record {
+              ctr = ctr;
+              cipher = cipher;
+              tag = tag_slot tag_line a;
+              unsealed = read_line noted (ap (λ marks. last_seal marks a) shows.marks) counter;
+              exhibit = shows.exhibit ∙ ap (λ kept. first_exhibit kept (Forged a ctr cipher (tag_slot tag_line a))) (none_kept trusted);
+              right_tag = right;
+              other_cipher = subst (λ marks. IfSome (last_seal marks a) (λ seal. cipher ≢ seal.cipher)) (sym shows.marks) other;
+            };
+        unrefused = λ sound counter. never sound;
+        engine = refl;
+        lines = both.lines;
+        regs = both.regs;
+        digests = same;
+        same_ledger = λ unshown. absurd (unshown refl);
+        tells_tag_line = tt;
+        no_steps = no_steps;
+        two_reads = λ ok. no_answer ok;
+        one_tag = λ ok. no_answer ok;
+        cut_unpowered = λ is_cut. cc;
+        not_down = λ it. it;
+      }
+    where
+      none_kept : AreTrusted setup before → ledger.exhibit ≡ None
+      none_kept trusted = none_of ledger.exhibit trusted.anchored.no_exhibit
+
+      never : AreSound setup before → ⊥
+      never sound =
+          let it =
+          sound_seal setup before new.lines a cipher tag_line sound both.lines both.tells_cipher both.tells_tag_line within in
+          (subst (λ o. IfSome o (λ seal. cipher ≢ seal.cipher)) it.last other) it.its_cipher
+
+  -- the line is unsealed, and it is the last seal's
+  pub opened : (plain : Line) → a < layout.data_lines setup.shape
+      → unsealed setup.formulas a ctr cipher (tag_slot tag_line a) ≡ Some plain
+      → setup.formulas.tag_of a ctr cipher ≡ tag_slot tag_line a → IsSome (last_seal ledger.marks a)
+      → IfSome (last_seal ledger.marks a) (λ seal. cipher ≡ seal.cipher)
+      → HasUnsealed setup a ctr before (after ledger) (Ok (record { plain = plain; tag_line = tag_line }))
+  opened plain within it right known its_cipher =
+      record {
+        done = done_reading setup before (after ledger) only_read;
+        answered = λ trusted counter. (plain_is counter (last_seal ledger.marks a) refl , stored trusted counter);
+        unrefused = λ sound counter. tt;
+        engine = refl;
+        lines = both.lines;
+        regs = both.regs;
+        digests = same;
+        same_ledger = λ unshown. refl;
+        tells_tag_line = both.tells_tag_line;
+        no_steps = no_steps;
+        two_reads = λ ok. both.reads;
+        one_tag = λ ok. one_tag;
+        cut_unpowered = λ is_cut. cc;
+        not_down = λ it. it;
+      }
+    where
+      seal_read : IsLastCounter before a ctr → (seal : SealOf) × (last_seal ledger.marks a ≡ Some seal) × (seal.ctr ≡ ctr) × (cipher ≡ seal.cipher)
+      seal_read counter =
+          let found = of_option (λ s. s.ctr) (last_seal ledger.marks a) ctr counter in
+          (found.0 , found.1 , found.2 , subst (λ o. IfSome o (λ seal. cipher ≡ seal.cipher)) found.1 its_cipher)
+
+      plain_is : IsLastCounter before a ctr → (o : Option SealOf) → last_seal ledger.marks a ≡ o
+          → plain_line setup.formulas ledger.marks a ≡ Some plain
+      plain_is counter o same_o =
+          let found = seal_read counter in
+          ap (option_map (plain_of_seal setup.formulas a)) found.1
+          ∙ ap Some (ap₂ (λ line c. xor_lines line (setup.formulas.pad_of a c)) (sym found.3) found.2
+          ∙ unsealed_some setup.formulas a ctr cipher (tag_slot tag_line a) plain it)
+
+      stored : AreTrusted setup before → IsLastCounter before a ctr → HoldsSeal setup.shape (after ledger) a
+      stored trusted counter =
+          subst (λ group. IfSome (redone_told group new.lines) (λ lines. IsSealStored setup.shape lines ledger.marks a))
+          (sym (ap (λ regs. regs.group.items) both.regs ∙ trusted.no_group)) (told new.lines both.tells_cipher both.tells_tag_line)
+        where
+          told : (lines : Option (List Line)) → Tells lines a cipher → Tells lines (layout.tag_line setup.shape a) tag_line
+              → IfSome (redone_told [] lines) (λ lines. IsSealStored setup.shape lines ledger.marks a)
+          told None reads tag_reads = tt
+          told (Some lines) reads tag_reads =
+              let found = seal_read counter in
+              record {
+                cipher = ap (option_map (λ s. s.cipher)) found.1 ∙ ap Some (sym found.3 ∙ reads);
+                tag =
+                    ap (option_map (λ s. s.tag)) found.1
+                    ∙ ap Some
+                    (sym (last_seal_has (IsSealTagged setup.formulas) ledger.marks a found.0 trusted.anchored.seals_tagged found.1)
+                    ∙ ap₂ (λ c line. setup.formulas.tag_of a c line) found.2 (sym found.3)
+                    ∙ right ∙ ap (λ line. tag_slot line a) tag_reads);
+              }

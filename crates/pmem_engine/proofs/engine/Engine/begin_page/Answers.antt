@@ -1,0 +1,94 @@
+-- The begin is cut, or done.
+use Rattle.std.proofs.Common.{ℕ, ◌≡◌, ◌≤◌, sym, ap, subst, subst₂, ◌∙◌}
+use Rattle.suite.specs.Setup.{Setup}
+use Rattle.board.specs.Device.{Device}
+use Rattle.seal_ledger.specs.Ledger.{LedgerState}
+use Rattle.split_counters.specs.declared.Block.{Block}
+use Rattle.split_counters.specs.Blocks.{packed, next_block, IsBlock}
+use Rattle.page_reencrypt.specs.Registers.{begun}
+use Rattle.meta_path.specs.Blocks.{AreCachedTrue}
+use Rattle.meta_path.specs.Storing.{IsRenewed}
+use Rattle.pmem_engine.specs.declared.fault.Fault.TheVariants as Fail
+use Rattle.pmem_engine.specs.Engine.{EngineState}
+use Rattle.pmem_engine.specs.Outcomes.{NeverFalls}
+use Rattle.pmem_engine.specs.Parts.{parts_of}
+use Rattle.pmem_engine.specs.Sealing.{cached_block, HasBeginCommitted, IsBeginCut, HasBegunPage}
+use Rattle.pmem_engine.proofs.Exits.{is_err_of}
+use Rattle.pmem_engine.proofs.NextPaths.{rolled-next, times_never_fall}
+use Rattle.pmem_engine.proofs.PageBegun.{page_cut, page_begun}
+use Rattle.pmem_engine.proofs.engine.Engine.begin_page.Goals as goal
+
+pub returns-in_err-commit_begin-clause-begun : goal.returns-in_err-commit_begin-clause-begun
+returns-in_err-commit_begin-clause-begun g c =
+    let setup : Setup = record { shape = c.args.self.now.shape; formulas = g.S.Suite.formulas_of (g.S.Suite.keys c.args.suite.now) } in
+    let old : Device = g.B.Board.device c.args.board.now in
+    let new : Device = g.B.Board.device c.commit_begin.new.board in
+    let before : LedgerState = g.A.Audit.ledger c.args.audit.now in
+    let after : LedgerState = g.A.Audit.ledger c.commit_begin.new.audit in
+    let cached : Block = cached_block setup.shape c.args.self.now c.args.page in
+    let register : c.in_ok-block.register ≡ begun c.args.page (packed cached) =
+    c.in_ok-block.ensures.register ∙ ap (λ b. begun c.args.page (packed b)) c.block.ensures.cached in
+    let block : c.pack-block.result ≡ packed (next_block cached) =
+    c.pack-block.ensures
+    ∙ ap packed (rolled-next c.block.result c.in_ok-block.block c.in_ok-block.ensures.block ∙ ap next_block c.block.ensures.cached) in
+    subst
+    (HasBegunPage setup c.args.page
+    (parts_of c.args.self.now old before (g.S.Suite.tags c.args.suite.now) (g.S.Suite.digests c.args.suite.now))
+    (parts_of c.commit_begin.new.self new after (g.S.Suite.tags c.next_path-path.new.suite) (g.S.Suite.digests c.next_path-path.new.suite)))
+    (sym (is_err_of c.from_residual-in_err-commit_begin.result Fail.Cut c.from_residual-in_err-commit_begin.ensures.1))
+    (page_cut setup c.args.page c.args.self.now c.commit_begin.new.self old new before after (g.S.Suite.tags c.args.suite.now)
+    (g.S.Suite.digests c.args.suite.now) (g.S.Suite.tags c.next_path-path.new.suite) (g.S.Suite.digests c.next_path-path.new.suite)
+    c.next_path-path.result.lines.items c.next_path-path.result.root c.requires.usable c.requires.up
+    (subst (λ (e : EngineState). e.shape.levels ≤ 6) c.self.view_is c.self.inside.geo.has_levels.1)
+    (g.met.S.Suite.in_range c.args.suite.now) c.requires.page c.requires.cached c.requires.named c.requires.closed c.requires.major
+    (subst IsBlock c.block.ensures.cached c.block.ensures.valid)
+    (λ truth is.
+    subst (λ line. IsRenewed setup.shape setup.formulas truth c.args.page line c.next_path-path.result.lines.items c.next_path-path.result.root)
+    block
+    (subst
+    (λ (e : EngineState). AreCachedTrue e.cache truth → IsRenewed e.shape setup.formulas truth c.args.page c.pack-block.result
+    c.next_path-path.result.lines.items c.next_path-path.result.root)
+    c.self.view_is (c.next_path-path.ensures.on_truth truth) is))
+    c.next_path-path.ensures.tags
+    (subst (λ (n : ℕ). NeverFalls (g.S.Suite.digests c.args.suite.now) n) (sym c.next_path-path.ensures.digests)
+    (times_never_fall _ (g.S.Suite.digests c.args.suite.now)))
+    (g.met.B.Board.whole c.args.board.now) (g.met.B.Board.whole c.commit_begin.new.board)
+    (subst₂
+    (λ r line. IsBeginCut setup.shape c.args.page r line c.next_path-path.result.lines.items c.next_path-path.result.root
+    c.args.self.now c.commit_begin.new.self old new before after)
+    register block c.in_err-commit_begin.ensures.cut))
+
+pub returns-clause-begun : goal.returns-clause-begun
+returns-clause-begun g c =
+    let setup : Setup = record { shape = c.args.self.now.shape; formulas = g.S.Suite.formulas_of (g.S.Suite.keys c.args.suite.now) } in
+    let old : Device = g.B.Board.device c.args.board.now in
+    let new : Device = g.B.Board.device c.commit_begin.new.board in
+    let before : LedgerState = g.A.Audit.ledger c.args.audit.now in
+    let after : LedgerState = g.A.Audit.ledger c.commit_begin.new.audit in
+    let cached : Block = cached_block setup.shape c.args.self.now c.args.page in
+    let register : c.in_ok-block.register ≡ begun c.args.page (packed cached) =
+    c.in_ok-block.ensures.register ∙ ap (λ b. begun c.args.page (packed b)) c.block.ensures.cached in
+    let block : c.pack-block.result ≡ packed (next_block cached) =
+    c.pack-block.ensures
+    ∙ ap packed (rolled-next c.block.result c.in_ok-block.block c.in_ok-block.ensures.block ∙ ap next_block c.block.ensures.cached) in
+    page_begun setup c.args.page c.args.self.now c.commit_begin.new.self old new before after (g.S.Suite.tags c.args.suite.now)
+    (g.S.Suite.digests c.args.suite.now) (g.S.Suite.tags c.next_path-path.new.suite) (g.S.Suite.digests c.next_path-path.new.suite)
+    c.next_path-path.result.lines.items c.next_path-path.result.root c.requires.usable c.requires.up
+    (subst (λ (e : EngineState). e.shape.levels ≤ 6) c.self.view_is c.self.inside.geo.has_levels.1)
+    (g.met.S.Suite.in_range c.args.suite.now) c.requires.page c.requires.cached c.requires.named c.requires.closed c.requires.major
+    (subst IsBlock c.block.ensures.cached c.block.ensures.valid)
+    (λ truth is.
+    subst (λ line. IsRenewed setup.shape setup.formulas truth c.args.page line c.next_path-path.result.lines.items c.next_path-path.result.root)
+    block
+    (subst
+    (λ (e : EngineState). AreCachedTrue e.cache truth → IsRenewed e.shape setup.formulas truth c.args.page c.pack-block.result
+    c.next_path-path.result.lines.items c.next_path-path.result.root)
+    c.self.view_is (c.next_path-path.ensures.on_truth truth) is))
+    c.next_path-path.ensures.tags
+    (subst (λ (n : ℕ). NeverFalls (g.S.Suite.digests c.args.suite.now) n) (sym c.next_path-path.ensures.digests)
+    (times_never_fall _ (g.S.Suite.digests c.args.suite.now)))
+    (g.met.B.Board.whole c.args.board.now)
+    (subst₂
+    (λ r line. HasBeginCommitted setup.shape c.args.page r line c.next_path-path.result.lines.items c.next_path-path.result.root
+    c.args.self.now c.commit_begin.new.self old new before after)
+    register block c.in_ok-commit_begin.ensures.ok)

@@ -1,0 +1,48 @@
+-- The oldest dirty block was written back, or a cut came before its write.
+use Rattle.std.proofs.Common.{◌≡◌, ◌∙◌, Option, Result, Ok, Err, ℕ, refl, sym, ap, subst, subst₂}
+use Rattle.std.proofs.lemmas.Result.{err_from_is_err_and}
+use Rattle.pmem_base.specs.Shape.{Shape}
+use Rattle.pmem_base.specs.Geo.{shape_of}
+use Rattle.board.specs.Device.{Device}
+use Rattle.meta_cache.specs.State.{CacheState, IsCacheOf, oldest_dirty}
+use Rattle.meta_path.specs.Blocks.{AreInTheirBanks}
+use Rattle.meta_path.specs.Storing.{IsOneWrittenBack}
+use Rattle.pmem_engine.specs.declared.fault.Fault.{Fault}
+use Rattle.pmem_engine.specs.declared.fault.Fault.TheVariants as Fail
+use Rattle.pmem_engine.specs.Engine.{EngineState}
+use Rattle.pmem_engine.specs.Flushed.{HasWrittenOldest}
+use Rattle.pmem_engine.proofs.FetchCalls.{of_states}
+use Rattle.pmem_engine.proofs.Flushes.{oldest_written, oldest_cut}
+use Rattle.pmem_engine.proofs.engine.Engine.write_back.Goals as goal
+
+pub returns-clause-written : goal.returns-clause-written
+returns-clause-written g c =
+    let shape : Shape = shape_of c.self.inside.geo in
+    let old : EngineState = record { shape = shape; cache = c.self.inside.cache.banks; mirror = c.self.inside.mirror; down = c.self.inside.down } in
+    let new : EngineState = record { shape = shape; cache = c.write_back_one.new.cache.banks; mirror = c.self.inside.mirror; down = c.self.inside.down } in
+    let before : Device = g.B.Board.device c.args.board.now in
+    let after : Device = g.B.Board.device c.write_back_one.new.board in
+    let form : IsCacheOf shape old.cache = subst (λ (s : Shape). IsCacheOf s old.cache) c.self.invariant.0 c.are_banks.ensures.cache in
+    subst₂ (λ (e : EngineState) (x : Option ℕ). HasWrittenOldest e new before after (Ok x)) c.self.view_is
+    (sym c.in_ok-x.ensures.answer)
+    (oldest_written old new before after refl refl form c.self.invariant.1 (oldest_dirty old.cache) refl
+    (of_states shape c.self.inside.cache c.write_back_one.new.cache
+    (λ (was now : CacheState). IsOneWrittenBack shape (oldest_dirty old.cache) was now before after)
+    c.self.invariant.0 (c.write_back_one.ensures.shape ∙ c.self.invariant.0) c.in_ok-x.ensures.ok))
+
+pub returns-in_err-x-clause-written : goal.returns-in_err-x-clause-written
+returns-in_err-x-clause-written g c =
+    let shape : Shape = shape_of c.self.inside.geo in
+    let old : EngineState = record { shape = shape; cache = c.self.inside.cache.banks; mirror = c.self.inside.mirror; down = c.self.inside.down } in
+    let new : EngineState = record { shape = shape; cache = c.write_back_one.new.cache.banks; mirror = c.self.inside.mirror; down = c.self.inside.down } in
+    let before : Device = g.B.Board.device c.args.board.now in
+    let after : Device = g.B.Board.device c.write_back_one.new.board in
+    let form : IsCacheOf shape old.cache = subst (λ (s : Shape). IsCacheOf s old.cache) c.self.invariant.0 c.are_banks.ensures.cache in
+    let answer = err_from_is_err_and c.from_residual.result c.from_residual.ensures.1 in
+    let same : c.from_residual.result ≡ Err Fail.Cut = answer.1 ∙ ap (λ (f : Fault). Err f) answer.2 in
+    subst₂ (λ (e : EngineState) (answer : Result (Option ℕ) Fault). HasWrittenOldest e new before after answer) c.self.view_is (sym same)
+    (oldest_cut old new before after refl refl form c.self.invariant.1 (oldest_dirty old.cache) refl
+    (of_states shape c.self.inside.cache c.write_back_one.new.cache
+    (λ (was now : CacheState). now ≡ was)
+    c.self.invariant.0 (c.write_back_one.ensures.shape ∙ c.self.invariant.0) c.in_err-x.ensures.same)
+    c.in_err-x.ensures.cut c.in_err-x.ensures.some_dirty)

@@ -1,0 +1,100 @@
+-- A dirty counter block is cached on the tree; its line is written, and then its mark cleared.
+use Rattle.std.proofs.Common.{◌≡◌, ◌<◌, ◌≤◌, ◌+◌, ◌∙◌, ℕ, true, false, refl, sym, ap, ap₂, subst, subst₂, arith}
+use Rattle.std.specs.Prelude.{IsTrue}
+use Rattle.pmem_base.specs.Shape.{Shape}
+use Rattle.pmem_base.specs.Geo.{shape_of}
+use Rattle.pmem_base.specs.Layout.{meta_line, meta_lines}
+use Rattle.board.specs.Device.{Device}
+use Rattle.board.specs.Steps.{HasWritten}
+use Rattle.meta_cache.specs.Banks.{set_of, set_index, is_cached, is_cached_dirty}
+use Rattle.meta_cache.specs.Sets.{with_mark, IsSetOf}
+use Rattle.meta_cache.specs.State.{CacheState, IsCacheOf, ChangesSet, slots_of}
+use Rattle.meta_path.specs.Blocks.{line_in, slots_at, dirty_in_bank, AreInTheirBanks}
+use Rattle.meta_path.specs.Storing.{IsCleaned}
+use Rattle.meta_path.proofs.PathFacts.{AreSets}
+use Rattle.meta_path.proofs.WriteLemmas.{dirty_is_cached, dirty_on_tree, IsMarkedSet-with_mark, AreInTheirBanks-marked}
+use Rattle.pmem_engine.specs.Engine.{EngineState}
+use Rattle.pmem_engine.specs.Flushed.{HasWrittenBack}
+use Rattle.pmem_engine.proofs.Flushes.{written_block}
+use Rattle.pmem_engine.proofs.DirtyCounts.{dirty_in_bank-cleaned}
+use Rattle.pmem_engine.proofs.LossCalls.{cleaned_block}
+use Rattle.pmem_engine.proofs.engine.Engine.write_back_block.Goals as goal
+
+pub meta_line-requires : goal.meta_line-requires
+meta_line-requires g c =
+    let shape : Shape = shape_of c.self.inside.geo in
+    dirty_on_tree shape c.self.inside.cache.banks shape.levels c.args.x c.self.invariant.1
+    (subst (λ (e : EngineState). is_cached_dirty e.shape e.cache e.shape.levels c.args.x ≡ true) (sym c.self.view_is) c.requires.dirty)
+
+pub block_line-requires : goal.block_line-requires
+block_line-requires g c =
+    record {
+      cached =
+          dirty_is_cached c.args.self.now.shape c.args.self.now.cache c.args.self.now.shape.levels c.args.x c.requires.dirty;
+    }
+
+pub set_clean-requires-clause-cached : goal.set_clean-requires-clause-cached
+set_clean-requires-clause-cached g c =
+    let shape : Shape = shape_of c.self.inside.geo in
+    subst₂ (λ (s : Shape) (bank : ℕ). is_cached s c.self.inside.cache.banks bank c.args.x ≡ true) (sym c.self.invariant.0)
+    (sym c.levels.ensures)
+    (dirty_is_cached shape c.self.inside.cache.banks shape.levels c.args.x
+    (subst (λ (e : EngineState). is_cached_dirty e.shape e.cache e.shape.levels c.args.x ≡ true) (sym c.self.view_is) c.requires.dirty))
+
+pub invariant_of-self : goal.invariant_of-self
+invariant_of-self g c =
+    let shape : Shape = shape_of c.self.inside.geo in (
+      c.set_clean.ensures.shape ∙ c.self.invariant.0,
+      AreInTheirBanks-marked shape c.self.inside.cache c.set_clean.new.self c.levels.result (set_index c.self.inside.cache.shape c.args.x)
+      (with_mark (slots_of c.self.inside.cache c.levels.result c.args.x) c.args.x false)
+      (IsMarkedSet-with_mark c.self.inside.cache c.set_clean.new.self c.levels.result (set_index c.self.inside.cache.shape c.args.x)
+      c.args.x false c.set_clean.ensures)
+      c.self.invariant.1,
+      c.self.invariant.2,
+      c.self.invariant.3,
+    )
+
+pub returns-clause-ok : goal.returns-clause-ok
+returns-clause-ok g c =
+    let shape : Shape = shape_of c.self.inside.geo in
+    let old : EngineState = record { shape = shape; cache = c.self.inside.cache.banks; mirror = c.self.inside.mirror; down = c.self.inside.down } in
+    let new : EngineState = record { shape = shape; cache = c.set_clean.new.self.banks; mirror = c.self.inside.mirror; down = c.self.inside.down } in
+    let before : Device = g.B.Board.device c.args.board.now in
+    let after : Device = g.B.Board.device c.write_line.new.self in
+    let form : IsCacheOf shape old.cache = subst (λ (s : Shape). IsCacheOf s old.cache) c.self.invariant.0 c.are_banks.ensures.cache in
+    let dirty : is_cached_dirty shape old.cache shape.levels c.args.x ≡ true =
+    subst (λ (e : EngineState). is_cached_dirty e.shape e.cache e.shape.levels c.args.x ≡ true) (sym c.self.view_is) c.requires.dirty in
+    let line : c.block_line.result.now ≡ line_in shape old.cache shape.levels c.args.x =
+    c.block_line.ensures ∙ ap (λ (e : EngineState). line_in e.shape e.cache e.shape.levels c.args.x) (sym c.self.view_is) in
+    let changes : ChangesSet c.self.inside.cache c.set_clean.new.self shape.levels (set_index c.self.inside.cache.shape c.args.x)
+    (with_mark (slots_of c.self.inside.cache shape.levels c.args.x) c.args.x false) =
+    subst (λ (bank : ℕ). ChangesSet c.self.inside.cache c.set_clean.new.self bank (set_index c.self.inside.cache.shape c.args.x)
+    (with_mark (slots_of c.self.inside.cache bank c.args.x) c.args.x false)) c.levels.ensures c.set_clean.ensures in
+    let board : HasWritten before (meta_line shape c.args.x) (line_in shape old.cache shape.levels c.args.x) after =
+    subst₂ (λ at line. HasWritten before at line after) c.meta_line.ensures.value line c.in_ok-write_line.ensures.ok in
+    subst (λ (e : EngineState). HasWrittenBack e.shape.levels c.args.x e new before after) c.self.view_is
+    (written_block old new before after refl refl form c.self.invariant.1 shape.levels c.args.x (omega arith) dirty
+    (cleaned_block shape c.self.inside.cache c.set_clean.new.self shape.levels c.args.x before after c.self.invariant.0 changes board))
+
+pub returns-clause-fewer : goal.returns-clause-fewer
+returns-clause-fewer g c =
+    let shape : Shape = shape_of c.self.inside.geo in
+    let dirty : is_cached_dirty shape c.self.inside.cache.banks shape.levels c.args.x ≡ true =
+    subst (λ (e : EngineState). is_cached_dirty e.shape e.cache e.shape.levels c.args.x ≡ true) (sym c.self.view_is) c.requires.dirty in
+    let changes : ChangesSet c.self.inside.cache c.set_clean.new.self shape.levels (set_index shape c.args.x)
+    (with_mark (slots_at shape c.self.inside.cache.banks shape.levels c.args.x) c.args.x false) =
+    subst₂ (λ (bank : ℕ) (s : Shape). ChangesSet c.self.inside.cache c.set_clean.new.self bank (set_index s c.args.x)
+    (with_mark (slots_at s c.self.inside.cache.banks bank c.args.x) c.args.x false)) c.levels.ensures c.self.invariant.0
+    c.set_clean.ensures in
+    let sets : AreSets shape c.self.inside.cache.banks =
+    record {
+      each =
+          λ bank set.
+          subst (λ (s : Shape). IsSetOf s set (set_of c.self.inside.cache.banks bank set)) c.self.invariant.0
+          (c.are_banks.ensures.cache.each_set bank set);
+    } in
+    subst
+    (λ (e : EngineState). dirty_in_bank e.shape c.set_clean.new.self.banks e.shape.levels + 1 ≡ dirty_in_bank e.shape e.cache e.shape.levels)
+    c.self.view_is
+    (dirty_in_bank-cleaned shape c.self.inside.cache c.set_clean.new.self shape.levels c.args.x sets c.self.inside.geo.has_sets.0
+    dirty changes)

@@ -1,0 +1,41 @@
+-- One block more was written back.
+use Rattle.std.proofs.Common.{◌≡◌, ◌≤◌, ◌∙◌, refl, sym, ap, subst}
+use Rattle.pmem_base.specs.Shape.{Shape}
+use Rattle.pmem_base.specs.Geo.{shape_of}
+use Rattle.pmem_base.specs.Layout.{device_lines}
+use Rattle.meta_cache.specs.Banks.{set_of}
+use Rattle.meta_cache.specs.Sets.{IsSetOf}
+use Rattle.meta_path.specs.Blocks.{dirty_in_bank}
+use Rattle.meta_path.proofs.PathFacts.{AreSets}
+use Rattle.pmem_engine.specs.Engine.{EngineState}
+use Rattle.pmem_engine.proofs.DirtyCounts.{dirty_in_bank-few}
+use Rattle.pmem_engine.proofs.LossCalls.{blocks_none, blocks_more}
+use Rattle.pmem_engine.proofs.engine.Engine.write_back_blocks.Goals as goal
+
+pub blocks-2-init : goal.blocks-2-init
+blocks-2-init g c =
+    let shape : Shape = shape_of c.self.inside.geo in
+    let sets : AreSets shape c.self.inside.cache.banks =
+    record {
+      each =
+          λ bank set.
+          subst (λ (s : Shape). IsSetOf s set (set_of c.self.inside.cache.banks bank set)) c.self.invariant.0
+          (c.are_banks.ensures.cache.each_set bank set);
+    } in
+    record {
+      written = blocks_none c.args.self.now (g.B.Board.device c.args.board.now);
+      few =
+          subst (λ (e : EngineState). dirty_in_bank e.shape e.cache e.shape.levels ≤ 512) c.self.view_is
+          (dirty_in_bank-few shape c.self.inside.cache.banks shape.levels sets c.self.inside.geo.has_sets.1 c.self.inside.geo.has_ways.1);
+    }
+
+pub blocks-2-preserved : goal.blocks-2-preserved
+blocks-2-preserved g c =
+    record {
+      written =
+          blocks_more c.blocks-2.written c.in-Some.x c.args.self.now c.blocks-2.self c.write_back_block.new.self
+          (g.B.Board.device c.args.board.now) (g.B.Board.device c.blocks-2.board) (g.B.Board.device c.write_back_block.new.board)
+          c.requires.size (g.met.B.Board.whole c.blocks-2.board) c.blocks-2.invariant.written c.in_ok-write_back_block.ensures.ok
+          c.in_ok-write_back_block.ensures.fewer;
+      few = c.blocks-2.invariant.few;
+    }

@@ -1,0 +1,61 @@
+-- What arming and finishing a group makes of a device, and the registers and lines that a seal arms.
+use Rattle.std.specs.Prelude.{ℕ, ◌≡◌, ◌≤◌, true, false, List, [], ◌∷◌, length}
+use Rattle.pmem_base.specs.declared.lines.Line.{Line}
+use Rattle.pmem_base.specs.declared.lines.Ctr.{Ctr}
+use Rattle.pmem_base.specs.declared.registers.Regs.{Regs}
+use Rattle.pmem_base.specs.Counts.{HasRisen}
+use Rattle.pmem_base.specs.Shape.{Shape}
+use Rattle.pmem_base.specs.Layout.{tag_line}
+use Rattle.board.specs.Counts.{RisesBy}
+use Rattle.board.specs.Device.{Device}
+use Rattle.commit_regs.specs.Groups.{RisesAtMost, redone_told}
+use Rattle.line_seal.specs.Seals.{with_tag}
+use Rattle.page_reencrypt.specs.Registers.{registers_with_done}
+use Rattle.suite.specs.Formulas.{Formulas, cipher_of}
+use Rattle.pmem_engine.specs.declared.resealing.NextSeal.{NextSeal}
+
+-- the seal of a plain line, over its tag line as it was
+abbrev pub next_seal_of : Formulas → ℕ → Ctr → Line → Line → NextSeal
+next_seal_of f at ctr plain tags =
+    let cipher = cipher_of f at ctr plain in
+    record {
+      at = at;
+      ctr = ctr;
+      cipher = cipher;
+      tag = f.tag_of at ctr cipher;
+      tag_line = with_tag tags at (f.tag_of at ctr cipher);
+    }
+
+-- what the seal's group writes
+abbrev pub entries_of : Shape → NextSeal → List (ℕ × Line)
+entries_of g next = (next.at, next.cipher) ∷ (tag_line g next.at, next.tag_line) ∷ []
+
+-- the registers with line a done
+pub record HasLineDone (a : ℕ) (old new : Regs) : Type 0 where
+  pub root : new.root ≡ old.root
+  pub progress : new.progress.items ≡ registers_with_done old.progress.items a
+  pub loss : new.loss ≡ old.loss
+
+-- a group was armed, its lines written, and emptied
+pub record HasCommitted (group : List (ℕ × Line)) (old new : Device) : Type 0 where
+  pub lines : new.lines ≡ redone_told group old.lines
+  pub no_group : new.regs.group.items ≡ []
+  pub writes : RisesBy (length group) old.writes new.writes
+  pub latches : RisesBy 2 old.latches new.latches
+  pub size : new.size ≡ old.size
+  pub reads : new.reads ≡ old.reads
+  pub cuts : new.cuts ≡ old.cuts
+  pub steady : old.steady ≡ true → new.steady ≡ true
+  pub live : old.live ≡ true → new.live ≡ true
+
+-- a cut came while the group was armed
+pub record IsCutArmed (group : List (ℕ × Line)) (old new : Device) : Type 0 where
+  pub again : redone_told group new.lines ≡ redone_told group old.lines
+  pub armed : new.regs.group.items ≡ group
+  pub writes : RisesAtMost (length group) old.writes new.writes
+  pub latches : RisesBy 1 old.latches new.latches
+  pub size : new.size ≡ old.size
+  pub reads : new.reads ≡ old.reads
+  pub unsteady : old.steady ≡ false
+  pub off : new.live ≡ false
+  pub rose : HasRisen old.cuts new.cuts

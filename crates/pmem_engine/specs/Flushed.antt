@@ -1,0 +1,106 @@
+-- Dirty blocks are written to their places, and another stop-loss number is latched.
+use Rattle.std.specs.Prelude.{ℕ, ◌≡◌, ◌≢◌, ◌<◌, ◌≤◌, ◌+◌, ◌⊎◌, true, false, [], Option, Some, None, Result, Ok, Err}
+use Rattle.pmem_base.specs.declared.registers.Regs.{Regs}
+use Rattle.pmem_base.specs.Registers.{without_group}
+use Rattle.pmem_base.specs.Layout.{meta_lines}
+use Rattle.bonsai_tree.specs.Positions.{level_of}
+use Rattle.board.specs.Counts.{RisesBy}
+use Rattle.board.specs.Device.{Device}
+use Rattle.board.specs.Steps.{WasCut, HasLatched}
+use Rattle.seal_ledger.specs.Ledger.{LedgerState}
+use Rattle.meta_cache.specs.Banks.{is_cached, is_cached_dirty}
+use Rattle.meta_cache.specs.State.{CacheState}
+use Rattle.meta_path.specs.Blocks.{dirty_in_bank}
+use Rattle.meta_path.specs.Storing.{IsCleaned}
+use Rattle.suite.specs.Setup.{Setup}
+use Rattle.pmem_engine.specs.declared.fault.Fault.{Fault}
+use Rattle.pmem_engine.specs.declared.fault.Fault.TheVariants as Fail
+use Rattle.pmem_engine.specs.Engine.{EngineState}
+use Rattle.pmem_engine.specs.Parts.{parts_of}
+use Rattle.pmem_engine.specs.Outcomes.{going, HasDone}
+
+-- the engine's cache
+abbrev pub cache_of : EngineState → CacheState
+cache_of engine = record { shape = engine.shape; banks = engine.cache }
+
+-- the block at x, which was dirty in this bank, was written to its place, and is clean
+pub record HasWrittenBack (bank x : ℕ) (old new : EngineState) (before after : Device) : Type 0 where
+  pub its_bank : bank ≤ old.shape.levels
+  pub its_level : level_of x ≡ bank
+  pub on_tree : x < meta_lines old.shape
+  pub was_dirty : is_cached_dirty old.shape old.cache bank x ≡ true
+  pub cleaned : IsCleaned old.shape bank x (cache_of old) (cache_of new) before after
+  pub mirror : new.mirror ≡ old.mirror
+  pub down : new.down ≡ old.down
+
+-- no block of a bank is dirty
+abbrev pub IsBankClean : EngineState → ℕ → Type 0
+IsBankClean engine bank = (x : ℕ) → is_cached_dirty engine.shape engine.cache bank x ≡ false
+
+-- the oldest dirty block was written back, where one is dirty
+abbrev pub HasWrittenOldest : EngineState → EngineState → Device → Device → Result (Option ℕ) Fault → Type 0
+HasWrittenOldest old new before after (Ok None) =
+    (new ≡ old) × (after ≡ before) × ((bank : ℕ) → IsBankClean old bank)
+HasWrittenOldest old new before after (Ok (Some x)) = HasWrittenBack (level_of x) x old new before after
+HasWrittenOldest old new before after (Err Fail.Cut) =
+    (new ≡ old) × WasCut before after
+    × ((bank : ℕ) × (x : ℕ) × (is_cached_dirty old.shape old.cache bank x ≡ true))
+HasWrittenOldest old new before after (Err fault) = ⊥
+
+-- ---- the stop-loss number
+
+-- so many dirty counter blocks were written back
+pub record HasWrittenBlocks (count : ℕ) (old new : EngineState) (before after : Device) : Type 0 where
+  pub shape : new.shape ≡ old.shape
+  pub mirror : new.mirror ≡ old.mirror
+  pub down : new.down ≡ old.down
+  pub dirty :
+      dirty_in_bank old.shape new.cache old.shape.levels + count
+      ≡ dirty_in_bank old.shape old.cache old.shape.levels
+  pub cached :
+      (bank x : ℕ) → is_cached old.shape new.cache bank x ≡ is_cached old.shape old.cache bank x
+  pub size : after.size ≡ before.size
+  pub regs : after.regs ≡ before.regs
+  pub reads : after.reads ≡ before.reads
+  pub latches : after.latches ≡ before.latches
+  pub writes : RisesBy count before.writes after.writes
+  pub done :
+      (setup : Setup) (ledger : LedgerState) (tags digests : ℕ) → setup.shape ≡ old.shape
+      → HasDone setup going [] (parts_of old before ledger tags digests) (parts_of new after ledger tags digests)
+
+-- what a new number asks for was written: nothing for a greater one, every dirty counter block for a
+-- smaller one
+pub record HasMadeWay (n count : ℕ) (old new : EngineState) (before after : Device) : Type 0 where
+  pub written : HasWrittenBlocks count old new before after
+  pub greater : before.regs.loss < n → count ≡ 0
+  pub smaller :
+      n < before.regs.loss
+      → IsBankClean new new.shape.levels × (count ≡ dirty_in_bank old.shape old.cache old.shape.levels)
+
+-- a cut came before one of these writes
+pub record IsCutInBlocks (n : ℕ) (old new : EngineState) (before after : Device) : Type 0 where
+  pub count : ℕ
+  pub mid : Device
+  pub written : HasWrittenBlocks count old new before mid
+  pub greater : before.regs.loss < n → count ≡ 0
+  pub cut : WasCut mid after
+
+-- the registers with another number, and no group
+abbrev pub with_loss : Regs → ℕ → Regs
+with_loss regs n = record (without_group regs) { loss = n }
+
+-- the number was latched once that was written
+pub record IsLossLatched (n steps : ℕ) (old new : EngineState) (before after : Device) : Type 0 where
+  pub count : ℕ
+  pub mid : Device
+  pub steps_are : steps ≡ count + 1
+  pub way : HasMadeWay n count old new before mid
+  pub latched : HasLatched mid (with_loss mid.regs n) after
+
+abbrev pub HasChangedLoss : ℕ → EngineState → EngineState → Device → Device → Result ℕ Fault → Type 0
+HasChangedLoss n old new before after (Ok steps) =
+    ((n ≡ before.regs.loss) × (steps ≡ 0) × (new ≡ old) × (after ≡ before))
+    ⊎ ((n ≢ before.regs.loss) × IsLossLatched n steps old new before after)
+HasChangedLoss n old new before after (Err Fail.Cut) =
+    (n ≢ before.regs.loss) × IsCutInBlocks n old new before after
+HasChangedLoss n old new before after (Err fault) = ⊥

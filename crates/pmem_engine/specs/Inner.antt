@@ -1,0 +1,166 @@
+-- What the parts of the engine's calls do: a path is fetched, a line is unsealed, a path is named.
+use Rattle.std.specs.Prelude.{ℕ, ◌≡◌, ◌<◌, ◌⊎◌, true, false, not, ◌||◌, [], Some, option_map, IsOk, Result, Ok, Err, ⊤}
+use Rattle.pmem_base.specs.declared.lines.Line.{Line}
+use Rattle.pmem_base.specs.declared.lines.Ctr.{Ctr}
+use Rattle.pmem_base.specs.Counts.{risen}
+use Rattle.pmem_base.specs.Layout as layout
+use Rattle.pmem_base.specs.Layout.{page_of}
+use Rattle.pmem_base.specs.Marks.{last_seal}
+use Rattle.bonsai_tree.specs.Positions.{counter_position}
+use Rattle.board.specs.Counts.{RisesBy}
+use Rattle.board.specs.Device.{Device}
+use Rattle.board.specs.Steps.{Tells}
+use Rattle.split_counters.specs.declared.Block.{Block}
+use Rattle.split_counters.specs.Blocks.{unpacked}
+use Rattle.meta_path.specs.Blocks.{line_in, IsPathCached, dirty_count}
+use Rattle.suite.specs.Setup.{Setup}
+use Rattle.plain_model.specs.View.{plain_line}
+use Rattle.plain_model.specs.Bounds.{path_length}
+use Rattle.pmem_engine.specs.declared.fault.Fault.{Fault}
+use Rattle.pmem_engine.specs.declared.fault.Fault.TheVariants as Fail
+use Rattle.pmem_engine.specs.declared.reading.Unsealed.{Unsealed}
+use Rattle.pmem_engine.specs.Parts.{Parts, regs_of, AreTrusted, AreSound, HoldsSeal, meta_line_in}
+use Rattle.pmem_engine.specs.Outcomes.{Outcome, shown, outcome_of, is_going, HasDone, TakesSteps}
+use Rattle.pmem_engine.specs.Faults.{IsMetaRefused, IsClashShown, IsTagRefused, IsForgedShown}
+use Rattle.pmem_engine.specs.Engine.{EngineState}
+use Rattle.pmem_engine.specs.Calls.{IsPathNamedInMirror, IsDownAnswer, IsUnrefused, TakesWithin, TakesWithinOfLive, AnswersRead, IsReadOfCached}
+
+-- the board's lines, registers and counts are as they were
+pub record StandsStill (old new : Device) : Type 0 where
+  pub lines : new.lines ≡ old.lines
+  pub regs : new.regs ≡ old.regs
+  pub reads : new.reads ≡ old.reads
+  pub writes : new.writes ≡ old.writes
+  pub latches : new.latches ≡ old.latches
+
+-- the engine once a call has ended so: it is down where the call was cut or shown
+abbrev pub ended_by : EngineState → Outcome → EngineState
+ended_by engine outcome =
+    record {
+      shape = engine.shape;
+      cache = engine.cache;
+      mirror = engine.mirror;
+      down = engine.down || not (is_going outcome);
+    }
+
+-- ---- a fetch
+
+-- what a fetch's answer says, from a trusted chip on
+abbrev pub AnswersFetch : Setup → ℕ → Parts → Parts → Result Unit Fault → Type 0
+AnswersFetch setup page old new (Ok value) = ⊤
+AnswersFetch setup page old new (Err Fail.Cut) = ⊤
+AnswersFetch setup page old new (Err (Fail.Meta x)) = IsMetaRefused setup page x old new
+AnswersFetch setup page old new (Err Fail.Shown) = IsClashShown setup page old new
+AnswersFetch setup page old new (Err (Fail.Tag at)) = ⊥
+AnswersFetch setup page old new (Err (Fail.Spent spent)) = ⊥
+AnswersFetch setup page old new (Err Fail.Down) = ⊥
+
+pub record HasFetched (setup : Setup) (page : ℕ) (old new : Parts) (answer : Result Unit Fault) : Type 0 where
+  pub done : HasDone setup (outcome_of answer) [] old new
+  pub answered : AreTrusted setup old → AnswersFetch setup page old new answer
+  pub unrefused : AreSound setup old → IsUnrefused answer
+  pub not_down : IsDownAnswer answer → ⊥
+  pub path_cached : IsOk answer → IsPathCached setup.shape new.engine.cache page
+  pub mirror : new.engine.mirror ≡ old.engine.mirror
+  pub down : new.engine.down ≡ old.engine.down
+  pub regs : regs_of new ≡ regs_of old
+  pub tags : new.tags ≡ old.tags
+  pub same_ledger : (outcome_of answer ≡ shown → ⊥) → new.ledger ≡ old.ledger
+  -- where the path is cached already, nothing is read, digested or written
+  pub still_cached :
+      IsPathCached setup.shape old.engine.cache page
+      → IsOk answer × StandsStill old.device new.device × (new.digests ≡ old.digests)
+  pub still_named :
+      IsPathCached setup.shape old.engine.cache page → IsPathNamedInMirror setup.shape old.engine page
+      → IsPathNamedInMirror setup.shape new.engine page
+  -- the counter block's own line isn't written
+  pub block_kept :
+      AreTrusted setup old
+      → meta_line_in setup.shape new (counter_position setup.shape page)
+      ≡ meta_line_in setup.shape old (counter_position setup.shape page)
+  pub latches : new.device.latches ≡ old.device.latches
+  pub steps_of_path : TakesWithin (outcome_of answer) (path_length setup.shape) old new
+  pub steps_of_dirty :
+      TakesWithinOfLive (outcome_of answer) (dirty_count setup.shape old.engine.cache) old new
+
+-- ---- a line unsealed
+
+-- what the answer says, from a trusted chip on, where the counter is that of the line's last seal
+abbrev pub AnswersUnseal : Setup → ℕ → Parts → Parts → Result Unsealed Fault → Type 0
+AnswersUnseal setup a old new (Ok unsealed) =
+    (plain_line setup.formulas old.ledger.marks a ≡ Some unsealed.plain) × HoldsSeal setup.shape new a
+AnswersUnseal setup a old new (Err Fail.Cut) = ⊤
+AnswersUnseal setup a old new (Err (Fail.Tag b)) = (b ≡ a) × IsTagRefused setup a new
+AnswersUnseal setup a old new (Err Fail.Shown) = IsForgedShown setup a new
+AnswersUnseal setup a old new (Err (Fail.Meta x)) = ⊥
+AnswersUnseal setup a old new (Err (Fail.Spent page)) = ⊥
+AnswersUnseal setup a old new (Err Fail.Down) = ⊥
+
+-- this is the counter of the line's last seal
+abbrev pub IsLastCounter : Parts → ℕ → Ctr → Type 0
+IsLastCounter parts a ctr = option_map (λ seal. seal.ctr) (last_seal parts.ledger.marks a) ≡ Some ctr
+
+-- the tag line that was read, where the board tells its lines
+abbrev pub TellsTagLine : Setup → ℕ → Parts → Result Unsealed Fault → Type 0
+TellsTagLine setup a new (Ok unsealed) =
+    Tells new.device.lines (layout.tag_line setup.shape a) unsealed.tag_line
+TellsTagLine setup a new (Err fault) = ⊤
+
+pub record HasUnsealed (setup : Setup) (a : ℕ) (ctr : Ctr) (old new : Parts) (answer : Result Unsealed Fault) :
+    Type 0 where
+  pub done : HasDone setup (outcome_of answer) [] old new
+  pub answered : AreTrusted setup old → IsLastCounter old a ctr → AnswersUnseal setup a old new answer
+  pub unrefused : AreSound setup old → IsLastCounter old a ctr → IsUnrefused answer
+  pub engine : new.engine ≡ old.engine
+  pub lines : new.device.lines ≡ old.device.lines
+  pub regs : regs_of new ≡ regs_of old
+  pub digests : new.digests ≡ old.digests
+  pub same_ledger : (outcome_of answer ≡ shown → ⊥) → new.ledger ≡ old.ledger
+  pub tells_tag_line : TellsTagLine setup a new answer
+  pub no_steps : TakesSteps 0 old.device new.device
+  pub two_reads : IsOk answer → RisesBy 2 old.device.reads new.device.reads
+  pub one_tag : IsOk answer → new.tags ≡ risen old.tags
+  pub cut_unpowered : answer ≡ Err Fail.Cut → old.device.live ≡ false
+  pub not_down : IsDownAnswer answer → ⊥
+
+-- ---- a line read
+
+-- the block of the page's counter block as it is cached
+abbrev pub cached_block : EngineState → ℕ → Block
+cached_block engine page =
+    unpacked (line_in engine.shape engine.cache engine.shape.levels (counter_position engine.shape page))
+
+-- a read of an engine that isn't down
+pub record HasReadUnder (setup : Setup) (a : ℕ) (old new : Parts) (answer : Result Line Fault) : Type 0 where
+  pub done : HasDone setup (outcome_of answer) [] old new
+  pub answered : AreTrusted setup old → AnswersRead setup a old new answer
+  pub unrefused : AreSound setup old → IsUnrefused answer
+  pub not_down : IsDownAnswer answer → ⊥
+  pub path_cached : IsOk answer → IsPathCached setup.shape new.engine.cache (page_of a)
+  pub mirror : new.engine.mirror ≡ old.engine.mirror
+  pub down : new.engine.down ≡ old.engine.down
+  pub of_cached :
+      IsPathCached setup.shape old.engine.cache (page_of a) → IsReadOfCached setup a old new answer
+  pub steps_of_path : TakesWithinOfLive (outcome_of answer) (path_length setup.shape) old new
+  pub steps_of_dirty :
+      TakesWithinOfLive (outcome_of answer) (dirty_count setup.shape old.engine.cache) old new
+
+-- ---- a path named
+
+pub record HasNamedPath (setup : Setup) (page : ℕ) (old new : Parts) (answer : Result Unit Fault) :
+    Type 0 where
+  pub done : HasDone setup (outcome_of answer) [] old new
+  pub cut_alone : IsUnrefused answer
+  pub path_named : IsOk answer → IsPathNamedInMirror setup.shape new.engine page
+  pub cache : new.engine.cache ≡ old.engine.cache
+  pub down : new.engine.down ≡ old.engine.down
+  pub regs : regs_of new ≡ regs_of old
+  pub ledger : new.ledger ≡ old.ledger
+  pub tags : new.tags ≡ old.tags
+  pub digests : new.digests ≡ old.digests
+  pub reads : new.device.reads ≡ old.device.reads
+  pub metadata :
+      AreTrusted setup old → (x : ℕ) → x < layout.meta_lines setup.shape
+      → meta_line_in setup.shape new x ≡ meta_line_in setup.shape old x
+  pub steps : TakesWithin (outcome_of answer) (path_length setup.shape) old new
+  pub still_named : IsPathNamedInMirror setup.shape old.engine page → IsOk answer × StandsStill old.device new.device

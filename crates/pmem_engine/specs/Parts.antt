@@ -1,0 +1,80 @@
+-- What a call of the engine works on, and what is seen there.
+use Rattle.std.specs.Prelude.{ℕ, List, Option, option_map, IfSome, MatchOption}
+use Rattle.pmem_base.specs.declared.lines.Line.{Line}
+use Rattle.pmem_base.specs.declared.registers.Regs.{Regs}
+use Rattle.pmem_base.specs.Shape.{Shape}
+use Rattle.pmem_base.specs.Layout as layout
+use Rattle.pmem_base.specs.Lines.{line_at, tag_slot}
+use Rattle.board.specs.Device.{Device}
+use Rattle.commit_regs.specs.Groups.{redone_told}
+use Rattle.seal_ledger.specs.Ledger.{LedgerState}
+use Rattle.suite.specs.Setup.{Setup}
+use Rattle.pmem_engine.specs.Engine.{EngineState}
+use Rattle.pmem_engine.specs.Recached.{IsTrueOrDirty}
+use Rattle.pmem_engine.specs.Invariants.{stored_meta, IsTrusted, IsSound, IsDurable, IsSealStored, IsCounterStored}
+
+-- the engine, the device, the ledger, and the suite's counts of tags and digests
+pub record Parts : Type 0 where
+  pub engine : EngineState
+  pub device : Device
+  pub ledger : LedgerState
+  pub tags : ℕ
+  pub digests : ℕ
+
+abbrev pub parts_of : EngineState → Device → LedgerState → ℕ → ℕ → Parts
+parts_of engine device ledger tags digests =
+    record { engine = engine; device = device; ledger = ledger; tags = tags; digests = digests }
+
+-- the registers
+abbrev pub regs_of : Parts → Regs
+regs_of parts = parts.device.regs
+
+-- the device's lines with the armed group redone, where they are told
+abbrev pub lines_redone : Parts → Option (List Line)
+lines_redone parts = redone_told parts.device.regs.group.items parts.device.lines
+
+-- ---- the whole
+
+abbrev pub AreTrusted : Setup → Parts → Type 0
+AreTrusted setup parts = IsTrusted setup parts.engine (regs_of parts) parts.ledger
+
+-- the lines are told, and sound
+abbrev pub AreSound : Setup → Parts → Type 0
+AreSound setup parts =
+    MatchOption parts.device.lines ⊥
+    (λ lines. IsSound setup parts.engine lines (regs_of parts) parts.ledger)
+
+-- the lines are told, and durable
+abbrev pub AreDurable : Setup → Parts → Type 0
+AreDurable setup parts =
+    MatchOption parts.device.lines ⊥ (λ lines. IsDurable setup lines (regs_of parts) parts.ledger)
+
+-- ---- place by place, where the lines are told
+
+-- the last seal of data line a is stored
+abbrev pub HoldsSeal : Shape → Parts → ℕ → Type 0
+HoldsSeal g parts a = IfSome (lines_redone parts) (λ lines. IsSealStored g lines parts.ledger.marks a)
+
+-- data line a
+abbrev pub data_line_in : Parts → ℕ → Option Line
+data_line_in parts a = option_map (λ lines. line_at lines a) (lines_redone parts)
+
+-- its slot of its tag line
+abbrev pub tag_slot_in : Shape → Parts → ℕ → Option (List ℕ)
+tag_slot_in g parts a =
+    option_map (λ lines. tag_slot (line_at lines (layout.tag_line g a)) a) (lines_redone parts)
+
+-- metadata line x
+abbrev pub meta_line_in : Shape → Parts → ℕ → Option Line
+meta_line_in g parts x = option_map (λ lines. stored_meta g lines x) (lines_redone parts)
+
+-- what is stored of a page's counter block
+abbrev pub HoldsCounters : Setup → Parts → ℕ → Type 0
+HoldsCounters setup parts page =
+    IfSome (lines_redone parts)
+    (λ lines. IsCounterStored setup lines (regs_of parts).loss parts.ledger.truth page)
+
+-- metadata line x is true on the device, or cached dirty
+abbrev pub HoldsMeta : Shape → Parts → ℕ → Type 0
+HoldsMeta g parts x =
+    IfSome (lines_redone parts) (λ lines. IsTrueOrDirty g parts.engine.cache lines parts.ledger.truth x)

@@ -1,0 +1,137 @@
+-- What sealing a held line anew makes of its parts.
+use Rattle.std.specs.Prelude.{ℕ, ◌≡◌, ◌<◌, ◌+◌, ◌*◌, ◌⊎◌, Bool, true, List, [], ◌∷◌, length, slice_get, slice_index_or, Option, Some, None, IfOk, IsTrue, Result, Ok, Err, ⊤}
+use Rattle.pmem_base.specs.declared.lines.Line.{Line}
+use Rattle.pmem_base.specs.declared.registers.Progress.{Progress}
+use Rattle.pmem_base.specs.declared.answers.Mark.{Mark}
+use Rattle.pmem_base.specs.declared.answers.Mark.TheVariants.{Seal}
+use Rattle.pmem_base.specs.Shape.{Shape}
+use Rattle.pmem_base.specs.Layout as layout
+use Rattle.pmem_base.specs.Counts.{risen}
+use Rattle.pmem_base.specs.Registers.{IsGroup, not_done, old_major, empty_progress}
+use Rattle.split_counters.specs.Blocks.{unpacked, block_counter}
+use Rattle.board.specs.Counts.{RisesBy}
+use Rattle.board.specs.Device.{Device}
+use Rattle.board.specs.Steps.{WasCut}
+use Rattle.page_reencrypt.specs.Registers.{registers_with_done}
+use Rattle.seal_ledger.specs.Ledger.{LedgerState, IsSealValue}
+use Rattle.seal_ledger.specs.Notes.{HasMark}
+use Rattle.suite.specs.Formulas.{Formulas}
+use Rattle.suite.specs.Setup.{Setup}
+use Rattle.plain_model.specs.State.{Memory}
+use Rattle.plain_model.specs.Asked.{Moment, reseal_mark}
+use Rattle.pmem_engine.specs.declared.fault.Fault.{Fault}
+use Rattle.pmem_engine.specs.declared.fault.Fault.TheVariants as Fail
+use Rattle.pmem_engine.specs.declared.resealing.HeldLine.{HeldLine}
+use Rattle.pmem_engine.specs.declared.resealing.NextSeal.{NextSeal}
+use Rattle.pmem_engine.specs.Parts.{Parts, regs_of, AreTrusted, AreSound, HoldsSeal}
+use Rattle.pmem_engine.specs.Outcomes.{shown, outcome_of, is_sealed_by, HasDone, TakesSteps, TakesFewer}
+use Rattle.pmem_engine.specs.Faults.{IsTagRefused, IsForgedShown}
+use Rattle.pmem_engine.specs.Calls.{IsMemory, IsDownAnswer, IsUnrefused, moment_in}
+use Rattle.pmem_engine.specs.Committing.{entries_of, HasLineDone, HasCommitted, IsCutArmed}
+
+-- ---- a held line
+
+-- register n
+abbrev pub register_in : Parts → ℕ → Progress
+register_in parts n = slice_index_or (regs_of parts).progress.items n empty_progress
+
+-- the line at place i of the register's page
+abbrev pub line_of_page : Progress → ℕ → ℕ
+line_of_page register i = 64 * register.page + i
+
+-- the lowest line not done of the register's page: its last counter, and the one that it gets
+pub record IsNextHeld (register : Progress) (held : HeldLine) : Type 0 where
+  pub place : ℕ
+  pub lowest : slice_get (not_done register) 0 ≡ Some place
+  pub inside : place < 64
+  pub its_line : held.at ≡ line_of_page register place
+  pub now : held.now ≡ block_counter (unpacked register.old) place
+  pub next : held.next ≡ record { major = old_major register + 1; minor = 0 }
+
+-- ---- the commit
+
+-- the seal is in the ledger, and its line done; what its group writes are lines in places of their own
+pub record HasLineSealed (g : Shape) (next : NextSeal) (old new : Device) (before after : LedgerState) :
+    Type 0 where
+  pub is_group : IsGroup (layout.device_lines g) (entries_of g next)
+  pub line_done : HasLineDone next.at old.regs new.regs
+  pub mark : HasMark before after (Seal next.at next.ctr next.cipher next.tag)
+  pub fits : IsSealValue next.ctr next.cipher next.tag
+
+-- the group was armed and finished
+pub record HasResealCommitted (g : Shape) (next : NextSeal) (old new : Device) (before after : LedgerState) :
+    Type 0 where
+  pub device : HasCommitted (entries_of g next) old new
+  pub line_sealed : HasLineSealed g next old new before after
+
+-- a cut came before the group was armed, or while it was
+pub record IsCutUnarmed (old new : Device) (before after : LedgerState) : Type 0 where
+  pub device : WasCut old new
+  pub ledger : after ≡ before
+
+pub record IsResealCutArmed (g : Shape) (next : NextSeal) (old new : Device) (before after : LedgerState) :
+    Type 0 where
+  pub device : IsCutArmed (entries_of g next) old new
+  pub line_sealed : HasLineSealed g next old new before after
+
+abbrev pub IsResealCut : Shape → NextSeal → Device → Device → LedgerState → LedgerState → Type 0
+IsResealCut g next old new before after =
+    IsCutUnarmed old new before after ⊎ IsResealCutArmed g next old new before after
+
+-- ---- the whole
+
+-- the marks, where the line at place i of the page was to be sealed
+abbrev pub HasResealMarks : Formulas → Moment → ℕ → ℕ → List Mark → Result (ℕ × ℕ) Fault → Type 0
+HasResealMarks f now page i made (Ok sealed) = made ≡ reseal_mark f now page i ∷ []
+HasResealMarks f now page i made (Err Fail.Cut) = (made ≡ []) ⊎ (made ≡ reseal_mark f now page i ∷ [])
+HasResealMarks f now page i made (Err (Fail.Tag b)) = made ≡ []
+HasResealMarks f now page i made (Err Fail.Shown) = made ≡ []
+HasResealMarks f now page i made (Err (Fail.Meta x)) = ⊥
+HasResealMarks f now page i made (Err (Fail.Spent spent)) = ⊥
+HasResealMarks f now page i made (Err Fail.Down) = ⊥
+
+-- a line was sealed: which one, how many are left, and the registers with it done
+pub record HasSealedHeld (a number : ℕ) (old new : Parts) (sealed : ℕ × ℕ) : Type 0 where
+  pub at : sealed.0 ≡ a
+  pub left : sealed.1 + 1 ≡ number
+  pub line_done : HasLineDone a (regs_of old) (regs_of new)
+
+-- what a refusal and an exhibit say, from a trusted chip on
+abbrev pub AnswersReseal : Setup → ℕ → Parts → Parts → Result (ℕ × ℕ) Fault → Type 0
+AnswersReseal setup a old new (Err (Fail.Tag b)) = (b ≡ a) × IsTagRefused setup b new
+AnswersReseal setup a old new (Err Fail.Shown) = IsForgedShown setup a new
+AnswersReseal setup a old new answer = ⊤
+
+-- steps, reads and tags
+abbrev pub CountsReseal : Parts → Parts → Result (ℕ × ℕ) Fault → Type 0
+CountsReseal old new (Ok sealed) =
+    TakesSteps 4 old.device new.device × RisesBy 2 old.device.reads new.device.reads
+    × (new.tags ≡ risen (risen old.tags))
+CountsReseal old new (Err Fail.Cut) = TakesFewer 4 old.device new.device
+CountsReseal old new (Err fault) = TakesSteps 0 old.device new.device
+
+-- the lowest line not done of register n's page was sealed anew, under the page's new major and 0, or
+-- the answer says why not
+pub record HasResealed (setup : Setup) (n : ℕ) (old new : Parts) (answer : Result (ℕ × ℕ) Fault) : Type 0 where
+  pub place : ℕ
+  pub lowest : slice_get (not_done (register_in old n)) 0 ≡ Some place
+  pub made : List Mark
+  pub done : HasDone setup (outcome_of answer) made old new
+  pub marks :
+      AreTrusted setup old → (memory : Memory) → IsMemory setup memory old
+      → HasResealMarks setup.formulas (moment_in setup memory old) (register_in old n).page place made answer
+  pub memory_kept : AreTrusted setup old → (memory : Memory) → IsMemory setup memory old → IsMemory setup memory new
+  pub line_sealed :
+      IfOk answer
+      (HasSealedHeld (line_of_page (register_in old n) place) (length (not_done (register_in old n))) old new)
+  pub answered : AreTrusted setup old → AnswersReseal setup (line_of_page (register_in old n) place) old new answer
+  pub unrefused : AreSound setup old → IsUnrefused answer
+  pub not_down : IsDownAnswer answer → ⊥
+  pub sealed_before :
+      AreTrusted setup old → (a : ℕ) → a < layout.data_lines setup.shape → IsTrue (is_sealed_by made a)
+      → HoldsSeal setup.shape old a
+  pub counts : CountsReseal old new answer
+  pub engine : new.engine ≡ old.engine
+  pub truth : (outcome_of answer ≡ shown → ⊥) → new.ledger.truth ≡ old.ledger.truth
+  pub root : (regs_of new).root ≡ (regs_of old).root
+  pub digests : new.digests ≡ old.digests

@@ -1,0 +1,231 @@
+-- What a commit with a page's new path makes: a seal of a line under its next counter, and a page's begin.
+use Rattle.std.specs.Prelude.{ℕ, ◌≡◌, ◌+◌, ◌%◌, ◌==◌, ◌⊎◌, Bool, true, false, List, [], ◌∷◌, ◌++◌, length, if◌then◌else◌, Some, IsOk, Result, Ok, Err}
+use Rattle.pmem_base.specs.declared.lines.Line.{Line}
+use Rattle.pmem_base.specs.declared.lines.Ctr.{Ctr}
+use Rattle.pmem_base.specs.declared.registers.Progress.{Progress}
+use Rattle.pmem_base.specs.declared.registers.Regs.{Regs}
+use Rattle.pmem_base.specs.declared.answers.Mark.{Mark}
+use Rattle.pmem_base.specs.declared.answers.Mark.TheVariants.{Begin, Seal}
+use Rattle.pmem_base.specs.Shape.{Shape}
+use Rattle.pmem_base.specs.Layout as layout
+use Rattle.pmem_base.specs.Layout.{page_of, index_in_page}
+use Rattle.pmem_base.specs.Lines.{put_lines}
+use Rattle.pmem_base.specs.Registers.{IsGroup}
+use Rattle.suite.specs.Formulas.{Formulas}
+use Rattle.suite.specs.Setup.{Setup}
+use Rattle.split_counters.specs.declared.Block.{Block}
+use Rattle.split_counters.specs.Blocks.{packed, unpacked, minor_of, with_minor, next_block}
+use Rattle.bonsai_tree.specs.Positions.{counter_position}
+use Rattle.board.specs.Device.{Device}
+use Rattle.board.specs.Steps.{WasCut}
+use Rattle.meta_cache.specs.Banks.{IsBanksOf}
+use Rattle.meta_path.specs.Blocks.{line_in, IsPathCached}
+use Rattle.meta_path.specs.Storing.{IsPathOf, KeepsSlots}
+use Rattle.seal_ledger.specs.Ledger.{LedgerState, IsSealValue}
+use Rattle.page_reencrypt.specs.Registers.{registers_with_done, begun}
+use Rattle.plain_model.specs.View.{plain_line}
+use Rattle.plain_model.specs.Asked.{seal_mark}
+use Rattle.pmem_engine.specs.declared.fault.Fault.{Fault}
+use Rattle.pmem_engine.specs.declared.fault.Fault.TheVariants as Fail
+use Rattle.pmem_engine.specs.declared.resealing.NextSeal.{NextSeal}
+use Rattle.pmem_engine.specs.Engine.{EngineState}
+use Rattle.pmem_engine.specs.Steps.{block_entry}
+use Rattle.pmem_engine.specs.Parts.{Parts, regs_of, AreTrusted, meta_line_in}
+use Rattle.pmem_engine.specs.Outcomes.{outcome_of, is_sealed_by, HasDone, TakesSteps, TakesFewer}
+use Rattle.pmem_engine.specs.Calls.{IsPathNamedInMirror, IsBlockTrue}
+use Rattle.pmem_engine.specs.Committing.{entries_of, HasCommitted, IsCutArmed}
+
+-- ---- parts of a commit
+
+-- the cache has the path's new lines, and the engine is else as it was
+pub record HasStoredPath (g : Shape) (page : ℕ) (persisted : Bool) (lines : List (ℕ × Line)) (old new : EngineState) :
+    Type 0 where
+  pub path : IsPathOf g page lines
+  pub shape : new.shape ≡ old.shape
+  pub mirror : new.mirror ≡ old.mirror
+  pub down : new.down ≡ old.down
+  pub slots : KeepsSlots g page persisted lines old.cache new.cache
+  pub cached : IsPathCached g new.cache page
+  pub banks_before : IsBanksOf g old.cache
+  pub banks : IsBanksOf g new.cache
+
+-- the ledger has one mark more, and the path's new lines
+pub record HasNotedPath (lines : List (ℕ × Line)) (mark : Mark) (old new : LedgerState) : Type 0 where
+  pub marks : new.marks ≡ old.marks ++ mark ∷ []
+  pub spare : new.spare + 1 ≡ old.spare
+  pub truth : new.truth ≡ put_lines lines old.truth
+  pub count : length new.truth ≡ length old.truth
+  pub data_lines : new.data_lines ≡ old.data_lines
+  pub exhibit : new.exhibit ≡ old.exhibit
+
+-- a seal's group, with its page's counter block where that is written too
+abbrev pub seal_group : Shape → NextSeal → Bool → Line → List (ℕ × Line)
+seal_group g next persisted block =
+    if persisted then entries_of g next ++ block_entry g (page_of next.at) block ∷ [] else entries_of g next
+
+-- ---- a seal
+
+-- what both a commit and a cut amid it leave of the chip
+pub record HasPathSealed (g : Shape) (next : NextSeal) (persisted : Bool) (block : Line) (lines : List (ℕ × Line))
+    (root : List ℕ) (old new : EngineState) (old_regs new_regs : Regs) (before after : LedgerState) : Type 0 where
+  pub is_group : IsGroup (layout.device_lines g) (seal_group g next persisted block)
+  pub fits : IsSealValue next.ctr next.cipher next.tag
+  pub root_now : new_regs.root ≡ root
+  pub progress : new_regs.progress.items ≡ registers_with_done old_regs.progress.items next.at
+  pub loss : new_regs.loss ≡ old_regs.loss
+  pub stored : HasStoredPath g (page_of next.at) persisted lines old new
+  pub noted : HasNotedPath lines (Seal next.at next.ctr next.cipher next.tag) before after
+
+-- ---- a begin
+
+abbrev pub begin_group : Shape → ℕ → Line → List (ℕ × Line)
+begin_group g page block = block_entry g page block ∷ []
+
+pub record HasPageBegun (g : Shape) (page : ℕ) (register : Progress) (block : Line) (lines : List (ℕ × Line))
+    (root : List ℕ) (old new : EngineState) (old_regs new_regs : Regs) (before after : LedgerState) : Type 0 where
+  pub is_group : IsGroup (layout.device_lines g) (begin_group g page block)
+  pub root_now : new_regs.root ≡ root
+  pub progress : new_regs.progress.items ≡ old_regs.progress.items ++ register ∷ []
+  pub loss : new_regs.loss ≡ old_regs.loss
+  pub stored : HasStoredPath g page true lines old new
+  pub noted : HasNotedPath lines (Begin page) before after
+
+-- ---- ends
+
+-- nothing was done before the cut
+pub record IsNothingDone (old new : EngineState) (old_device new_device : Device) (before after : LedgerState) :
+    Type 0 where
+  pub engine : new ≡ old
+  pub device : WasCut old_device new_device
+  pub ledger : after ≡ before
+
+-- the group was armed, and finished
+pub record HasSealCommitted (g : Shape) (next : NextSeal) (persisted : Bool) (block : Line) (lines : List (ℕ × Line))
+    (root : List ℕ) (old new : EngineState) (old_device new_device : Device) (before after : LedgerState) : Type 0 where
+  pub device : HasCommitted (seal_group g next persisted block) old_device new_device
+  pub path_sealed :
+      HasPathSealed g next persisted block lines root old new old_device.regs new_device.regs before after
+
+-- or cut
+pub record IsSealCutArmed (g : Shape) (next : NextSeal) (persisted : Bool) (block : Line) (lines : List (ℕ × Line))
+    (root : List ℕ) (old new : EngineState) (old_device new_device : Device) (before after : LedgerState) : Type 0 where
+  pub device : IsCutArmed (seal_group g next persisted block) old_device new_device
+  pub path_sealed :
+      HasPathSealed g next persisted block lines root old new old_device.regs new_device.regs before after
+
+abbrev pub IsSealCut :
+    Shape → NextSeal → Bool → Line → List (ℕ × Line) → List ℕ → EngineState → EngineState → Device → Device
+    → LedgerState → LedgerState → Type 0
+IsSealCut g next persisted block lines root old new old_device new_device before after =
+    IsNothingDone old new old_device new_device before after
+    ⊎ IsSealCutArmed g next persisted block lines root old new old_device new_device before after
+
+pub record HasBeginCommitted (g : Shape) (page : ℕ) (register : Progress) (block : Line) (lines : List (ℕ × Line))
+    (root : List ℕ) (old new : EngineState) (old_device new_device : Device) (before after : LedgerState) : Type 0 where
+  pub device : HasCommitted (begin_group g page block) old_device new_device
+  pub page_begun :
+      HasPageBegun g page register block lines root old new old_device.regs new_device.regs before after
+
+pub record IsBeginCutArmed (g : Shape) (page : ℕ) (register : Progress) (block : Line) (lines : List (ℕ × Line))
+    (root : List ℕ) (old new : EngineState) (old_device new_device : Device) (before after : LedgerState) : Type 0 where
+  pub device : IsCutArmed (begin_group g page block) old_device new_device
+  pub page_begun :
+      HasPageBegun g page register block lines root old new old_device.regs new_device.regs before after
+
+abbrev pub IsBeginCut :
+    Shape → ℕ → Progress → Line → List (ℕ × Line) → List ℕ → EngineState → EngineState → Device → Device
+    → LedgerState → LedgerState → Type 0
+IsBeginCut g page register block lines root old new old_device new_device before after =
+    IsNothingDone old new old_device new_device before after
+    ⊎ IsBeginCutArmed g page register block lines root old new old_device new_device before after
+
+-- ---- the whole
+
+-- the page's counter block as it is cached
+abbrev pub cached_block : Shape → EngineState → ℕ → Block
+cached_block g engine page = unpacked (line_in g engine.cache g.levels (counter_position g page))
+
+-- the next counter of line a, and its page's counter block with it
+abbrev pub next_counter_of : Shape → EngineState → ℕ → Ctr
+next_counter_of g engine a =
+    let block = cached_block g engine (page_of a) in
+    record { major = block.major; minor = minor_of block (index_in_page a) + 1 }
+
+abbrev pub raised_block : Shape → EngineState → ℕ → Block
+raised_block g engine a =
+    let block = cached_block g engine (page_of a) in
+    with_minor block (index_in_page a) (minor_of block (index_in_page a) + 1)
+
+-- the steps of a seal: five where its page's counter block is written too
+abbrev pub seal_steps : ℕ → Ctr → ℕ
+seal_steps loss ctr = if ctr.minor % loss == 0 then 5 else 4
+
+-- the marks of a seal of a plain line, by its answer
+abbrev pub HasNextMarks : Formulas → ℕ → Ctr → Line → List Mark → Result Ctr Fault → Type 0
+HasNextMarks f at next plain made (Ok ctr) = (ctr ≡ next) × (made ≡ seal_mark f at next plain ∷ [])
+HasNextMarks f at next plain made (Err Fail.Cut) = (made ≡ []) ⊎ (made ≡ seal_mark f at next plain ∷ [])
+HasNextMarks f at next plain made (Err fault) = ⊥
+
+abbrev pub TakesSealSteps : ℕ → Parts → Parts → Result Ctr Fault → Type 0
+TakesSealSteps n old new (Ok ctr) = TakesSteps n old.device new.device
+TakesSealSteps n old new (Err fault) = TakesFewer n old.device new.device
+
+-- a plain line was sealed under its line's next counter, or cut
+pub record HasSealedNext (setup : Setup) (at : ℕ) (plain : Line) (old new : Parts) (answer : Result Ctr Fault) :
+    Type 0 where
+  pub made : List Mark
+  pub done : HasDone setup (outcome_of answer) made old new
+  pub marks : HasNextMarks setup.formulas at (next_counter_of setup.shape old.engine at) plain made answer
+  -- what was sealed is the plain line, and every other one is as it was
+  pub plain_now :
+      (a : ℕ)
+      → plain_line setup.formulas new.ledger.marks a
+      ≡ (if is_sealed_by made a then Some plain else plain_line setup.formulas old.ledger.marks a)
+  pub path_cached : IsOk answer → IsPathCached setup.shape new.engine.cache (page_of at)
+  pub path_named : IsOk answer → IsPathNamedInMirror setup.shape new.engine (page_of at)
+  pub down : new.engine.down ≡ old.engine.down
+  pub steps :
+      TakesSealSteps (seal_steps (regs_of old).loss (next_counter_of setup.shape old.engine at)) old new answer
+  pub block_kept :
+      AreTrusted setup old
+      → ((next_counter_of setup.shape old.engine at).minor % (regs_of old).loss == 0) ≡ false
+      → meta_line_in setup.shape new (counter_position setup.shape (page_of at))
+      ≡ meta_line_in setup.shape old (counter_position setup.shape (page_of at))
+  pub block_written :
+      AreTrusted setup old → IsOk answer
+      → ((next_counter_of setup.shape old.engine at).minor % (regs_of old).loss == 0) ≡ true
+      → IsBlockTrue setup new (page_of at)
+
+-- ---- a page begun
+
+abbrev pub HasBeginMarks : ℕ → List Mark → Result Unit Fault → Type 0
+HasBeginMarks page made (Ok value) = made ≡ Begin page ∷ []
+HasBeginMarks page made (Err Fail.Cut) = (made ≡ []) ⊎ (made ≡ Begin page ∷ [])
+HasBeginMarks page made (Err fault) = ⊥
+
+abbrev pub TakesBeginSteps : Parts → Parts → Result Unit Fault → Type 0
+TakesBeginSteps old new (Ok value) = TakesSteps 3 old.device new.device
+TakesBeginSteps old new (Err fault) = TakesFewer 3 old.device new.device
+
+-- the page's register stands last, and its next counter block is the cached one
+pub record IsPageOpened (setup : Setup) (page : ℕ) (old new : Parts) : Type 0 where
+  pub registers :
+      (regs_of new).progress.items
+      ≡ (regs_of old).progress.items
+      ++ begun page (packed (cached_block setup.shape old.engine page)) ∷ []
+  pub block :
+      AreTrusted setup old
+      → cached_block setup.shape new.engine page ≡ next_block (cached_block setup.shape old.engine page)
+  pub block_true : AreTrusted setup old → IsBlockTrue setup new page
+  pub path_cached : IsPathCached setup.shape new.engine.cache page
+  pub path_named : IsPathNamedInMirror setup.shape new.engine page
+
+pub record HasBegunPage (setup : Setup) (page : ℕ) (old new : Parts) (answer : Result Unit Fault) : Type 0 where
+  pub made : List Mark
+  pub done : HasDone setup (outcome_of answer) made old new
+  pub marks : HasBeginMarks page made answer
+  pub opened : IsOk answer → IsPageOpened setup page old new
+  pub down : new.engine.down ≡ old.engine.down
+  pub steps : TakesBeginSteps old new answer
+  pub reads : new.device.reads ≡ old.device.reads
+  pub tags : new.tags ≡ old.tags

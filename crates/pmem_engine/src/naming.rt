@@ -1,0 +1,31 @@
+//! Naming: a page's path in the shadow tables.
+ghost use Rattle.std.specs.Prelude.{ℕ, ◌≡◌, ◌<◌};
+ghost use Rattle.pmem_base.specs.Layout.{pages, device_lines};
+ghost use Rattle.seal_ledger.specs.Ledger.{LedgerState};
+ghost use Rattle.meta_path.specs.Blocks.{IsPathCached};
+ghost use Rattle.suite.specs.Setup.{Setup};
+ghost use Rattle.pmem_engine.specs.Parts.{parts_of};
+ghost use Rattle.pmem_engine.specs.Inner.{HasNamedPath};
+
+use crate::engine::Engine;
+use crate::fault::Fault;
+use board::Board;
+use meta_path::make_dirty;
+
+impl Engine {
+    // Writes the shadow entries that don't name the path's blocks yet. The path is cached.
+    pub(crate) fn name_path<B: Board>(&mut self, board: &mut B, page: u32) -> Result<(), Fault>
+        requires page { page < pages self.old.shape }
+        requires size { (B.device board.old).size ≡ device_lines self.old.shape }
+        requires cached { IsPathCached self.old.shape self.old.cache page }
+        ensures named { (setup : Setup) (ledger : LedgerState) (tags digests : ℕ) → setup.shape ≡ self.old.shape
+            → HasNamedPath setup page (parts_of self.old (B.device board.old) ledger tags digests)
+              (parts_of self.new (B.device board.new) ledger tags digests) result }
+        ensures cache { self.new.cache ≡ self.old.cache }
+    {
+        self.cache.are_banks();
+        self.mirror.are_lines();
+        make_dirty(&self.geo, &self.cache, &mut self.mirror, board, page)?;
+        Ok(())
+    }
+}

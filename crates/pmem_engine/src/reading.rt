@@ -1,0 +1,131 @@
+//! Reading: a page's path, and a line under its counter.
+ghost use Rattle.std.specs.Prelude.{◌≡◌, ◌<◌, ◌≤◌, All, IsSome, length, option_map};
+ghost use Rattle.pmem_base.specs.Layout.{data_lines, meta_lines, device_lines, pages, page_of};
+ghost use Rattle.pmem_base.specs.Marks.{last_seal};
+ghost use Rattle.split_counters.specs.Blocks.{IsBlock};
+ghost use Rattle.page_reencrypt.specs.Registers.{counter_of};
+ghost use Rattle.seal_ledger.specs.Ledger.{LedgerState};
+ghost use Rattle.meta_path.specs.Blocks.{IsPathCached};
+ghost use Rattle.suite.specs.Setup.{Setup};
+ghost use Rattle.pmem_engine.specs.Invariants.{IsTrusted};
+ghost use Rattle.pmem_engine.specs.Parts.{parts_of};
+ghost use Rattle.pmem_engine.specs.Calls.{IsUsable};
+ghost use Rattle.pmem_engine.specs.Inner.{cached_block, HasFetched, HasUnsealed, HasReadUnder};
+
+use crate::engine::Engine;
+use crate::fault::Fault;
+use board::Board;
+use bonsai_tree::path;
+use line_seal::{tag_at, unseal};
+use meta_path::fetch_path;
+use page_reencrypt::ctr_of;
+use pmem_base::{Ctr, Line};
+use seal_ledger::{Audit, Go};
+use split_counters::{Block, unpack};
+use suite::Suite;
+
+/// A data line that was unsealed: its plain line, and its tag line as read.
+#[derive(Clone, Copy, Debug, PartialEq, Eq)]
+pub(crate) struct Unsealed {
+    pub(crate) plain: Line,
+    pub(crate) tag_line: Line,
+}
+
+impl Engine {
+    // Reads line `at`: its page's path, and the line under its counter.
+    pub(crate) fn read_line<B: Board, S: Suite, A: Audit>(
+        &mut self,
+        board: &mut B,
+        suite: &mut S,
+        audit: &mut A,
+        at: u32,
+    ) -> Result<Line, Fault>
+        requires line { at < data_lines self.old.shape }
+        requires usable { IsUsable self.old.shape self.old (B.device board.old) (A.ledger audit.old) }
+        ensures read { HasReadUnder (record { shape = self.old.shape; formulas = S.formulas_of (S.keys suite.old) }) at
+            (parts_of self.old (B.device board.old) (A.ledger audit.old) (S.tags suite.old) (S.digests suite.old))
+            (parts_of self.new (B.device board.new) (A.ledger audit.new) (S.tags suite.new) (S.digests suite.new)) result }
+        ensures keys { S.keys suite.new ≡ S.keys suite.old }
+    {
+        self.fetch(board, suite, audit, at / 64)?;
+        let ctr = self.counter(board, at);
+        let unsealed = self.unseal_line(board, suite, audit, at, ctr)?;
+        Ok(unsealed.plain)
+    }
+
+    // Every block of the page's path is cached afterwards.
+    pub(crate) fn fetch<B: Board, S: Suite, A: Audit>(
+        &mut self,
+        board: &mut B,
+        suite: &mut S,
+        audit: &mut A,
+        page: u32,
+    ) -> Result<(), Fault>
+        requires page { page < pages self.old.shape }
+        requires size { (B.device board.old).size ≡ device_lines self.old.shape }
+        requires truth { length (A.ledger audit.old).truth ≡ meta_lines self.old.shape }
+        ensures fetched { HasFetched (record { shape = self.old.shape; formulas = S.formulas_of (S.keys suite.old) }) page
+            (parts_of self.old (B.device board.old) (A.ledger audit.old) (S.tags suite.old) (S.digests suite.old))
+            (parts_of self.new (B.device board.new) (A.ledger audit.new) (S.tags suite.new) (S.digests suite.new)) result }
+        ensures keys { S.keys suite.new ≡ S.keys suite.old }
+    {
+        fetch_path(&self.geo, &mut self.cache, board, suite, audit, page)?;
+        Ok(())
+    }
+
+    // The counter block of a page, which is cached.
+    pub(crate) fn block(&self, page: u32) -> Block
+        requires page { page < pages self.now.shape }
+        ensures cached { result ≡ cached_block self.now page }
+        ensures range { All (λ m. m ≤ 127) result.minors }
+        ensures valid { IsBlock result }
+    {
+        let positions = path(&self.geo, page);
+        let levels = self.geo.levels();
+        match self.cache.look(levels, positions[usize::from(levels)]) {
+            Some(line) => unpack(line),
+            None => unpack(&Line::default()),
+        }
+    }
+
+    // The counter that line `at`, whose page's path is cached, is sealed under.
+    pub(crate) fn counter<B: Board>(&self, board: &B, at: u32) -> Ctr
+        requires line { at < data_lines self.now.shape }
+        ensures cached { result ≡ counter_of (B.device board.now).regs.progress.items (cached_block self.now (page_of at)) at }
+        ensures last { (setup : Setup) (ledger : LedgerState) → IsTrusted setup self.now (B.device board.now).regs ledger
+            → IsPathCached setup.shape self.now.cache (page_of at)
+            → option_map (λ seal. seal.ctr) (last_seal ledger.marks at) ≡ Some result }
+    {
+        ctr_of(&board.regs().progress, &self.block(at / 64), at)
+    }
+
+    // Reads and unseals line `at` under a counter, and tells the audit.
+    pub(crate) fn unseal_line<B: Board, S: Suite, A: Audit>(
+        &self,
+        board: &mut B,
+        suite: &mut S,
+        audit: &mut A,
+        at: u32,
+        ctr: Ctr,
+    ) -> Result<Unsealed, Fault>
+        requires line { at < data_lines self.now.shape }
+        requires size { (B.device board.old).size ≡ device_lines self.now.shape }
+        requires lines { (A.ledger audit.old).data_lines ≡ data_lines self.now.shape }
+        requires sealed { IsSome (last_seal (A.ledger audit.old).marks at) }
+        ensures unsealed { HasUnsealed (record { shape = self.now.shape; formulas = S.formulas_of (S.keys suite.old) }) at ctr
+            (parts_of self.now (B.device board.old) (A.ledger audit.old) (S.tags suite.old) (S.digests suite.old))
+            (parts_of self.now (B.device board.new) (A.ledger audit.new) (S.tags suite.new) (S.digests suite.new)) result }
+        ensures keys { S.keys suite.new ≡ S.keys suite.old }
+    {
+        let cipher = board.read_line(at)?;
+        let tag_line = board.read_line(self.geo.tag_line(at))?;
+        let tag = tag_at(&tag_line, at);
+        match unseal(suite, at, ctr, &cipher, &tag) {
+            None => Err(Fault::Tag { at }),
+            Some(plain) => match audit.note_unseal(at, ctr, &cipher, &tag) {
+                Go::Stop => Err(Fault::Shown),
+                Go::On => Ok(Unsealed { plain, tag_line }),
+            },
+        }
+    }
+}

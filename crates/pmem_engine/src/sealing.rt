@@ -1,0 +1,245 @@
+//! Sealing with a page's new path: a line under its next counter, and a page's begin. What belongs to
+//! the group is armed by one latch together with the registers.
+ghost use Rattle.std.specs.Prelude.{◌≡◌, ◌≢◌, ◌<◌, ◌≤◌, ◌-◌, ◌^◌, None, false, ◌%◌, ◌==◌, ◌++◌, ◌∷◌, [], true, ℕ, IsTrue, ◌↔◌, List, length, OnOk, OnErr};
+ghost use Rattle.pmem_base.specs.Lines.{IsCtr};
+ghost use Rattle.pmem_base.specs.Layout.{page_of, index_in_page, data_lines, device_lines, meta_lines, pages, meta_line};
+ghost use Rattle.pmem_base.specs.Registers.{IsGroup, IsValidRegs};
+ghost use Rattle.bonsai_tree.specs.Positions.{counter_position};
+ghost use Rattle.meta_path.specs.Blocks.{IsPathCached};
+ghost use Rattle.meta_path.specs.Storing.{IsPathOf, AreTold};
+ghost use Rattle.page_reencrypt.specs.Registers.{registers_with_done, register_of};
+ghost use Rattle.split_counters.specs.Blocks.{packed, minor_of};
+ghost use Rattle.pmem_engine.specs.Parts.{parts_of};
+ghost use Rattle.pmem_engine.specs.Calls.{IsUsable, IsPathNamedInMirror};
+ghost use Rattle.pmem_engine.specs.Sealing.{cached_block, next_counter_of, raised_block, HasSealedNext, HasBegunPage, HasStoredPath, seal_group, begin_group, HasSealCommitted, IsSealCut, HasBeginCommitted, IsBeginCut};
+
+use crate::engine::Engine;
+use crate::fault::Fault;
+use crate::resealing::{NextSeal, next_seal};
+use board::Board;
+use commit_regs::{arm, finish};
+use meta_path::{Path, next_path, store_path};
+use page_reencrypt::begin;
+use pmem_base::{Ctr, Cut, Line, Progress, Regs};
+use seal_ledger::Audit;
+use split_counters::pack;
+use stop_loss::due;
+use suite::Suite;
+
+impl Engine {
+    // Seals a plain line under its next counter, which isn't used up. The page's path is cached and
+    // named.
+    pub(crate) fn seal_next<B: Board, S: Suite, A: Audit>(
+        &mut self,
+        board: &mut B,
+        suite: &mut S,
+        audit: &mut A,
+        at: u32,
+        plain: &Line,
+    ) -> Result<Ctr, Fault>
+        requires line { at < data_lines self.old.shape }
+        requires usable { IsUsable self.old.shape self.old (B.device board.old) (A.ledger audit.old) }
+        requires up { self.old.down ≡ false }
+        requires room { 1 ≤ (A.ledger audit.old).spare }
+        requires cached { IsPathCached self.old.shape self.old.cache (page_of at) }
+        requires named { IsPathNamedInMirror self.old.shape self.old (page_of at) }
+        requires minor { minor_of (cached_block self.old.shape self.old (page_of at)) (index_in_page at) < 127 }
+        ensures sealed { HasSealedNext (record { shape = self.old.shape; formulas = S.formulas_of (S.keys suite.old) }) at plain.now
+            (parts_of self.old (B.device board.old) (A.ledger audit.old) (S.tags suite.old) (S.digests suite.old))
+            (parts_of self.new (B.device board.new) (A.ledger audit.new) (S.tags suite.new) (S.digests suite.new)) result }
+        ensures keys { S.keys suite.new ≡ S.keys suite.old }
+    {
+        plain.is_whole();
+        let (ctr, block) = self.next_counter(at);
+        let path = next_path(&self.geo, &self.cache, suite, at / 64, &block);
+        let tag_line = board.read_line(self.geo.tag_line(at))?;
+        let next = next_seal(suite, at, ctr, plain, &tag_line);
+        let persisted = due(ctr.minor, board.regs().loss);
+        self.commit_seal(board, audit, &next, &path, &block, persisted)?;
+        Ok(ctr)
+    }
+
+    // The next counter of line `at`, and its page's counter block with it.
+    fn next_counter(&self, at: u32) -> (Ctr, Line)
+        requires line { at < data_lines self.now.shape }
+        requires minor { minor_of (cached_block self.now.shape self.now (page_of at)) (index_in_page at) < 127 }
+        ensures ctr { result.0 ≡ next_counter_of self.now.shape self.now at }
+        ensures range { IsCtr result.0 }
+        ensures block { result.1 ≡ packed (raised_block self.now.shape self.now at) }
+    {
+        let mut block = self.block(at / 64);
+        let i = (at % 64) as usize;
+        block.minors[i] += 1;
+        let ctr = Ctr {
+            major: block.major,
+            minor: block.minors[i],
+        };
+        (ctr, pack(&block))
+    }
+
+    // Opens a page for re-encryption: its counter block rolls over, and a register keeps the old one.
+    pub(crate) fn begin_page<B: Board, S: Suite, A: Audit>(
+        &mut self,
+        board: &mut B,
+        suite: &mut S,
+        audit: &mut A,
+        page: u32,
+    ) -> Result<(), Fault>
+        requires page { page < pages self.old.shape }
+        requires usable { IsUsable self.old.shape self.old (B.device board.old) (A.ledger audit.old) }
+        requires up { self.old.down ≡ false }
+        requires room { 1 ≤ (A.ledger audit.old).spare }
+        requires cached { IsPathCached self.old.shape self.old.cache page }
+        requires named { IsPathNamedInMirror self.old.shape self.old page }
+        requires closed { register_of (B.device board.old).regs.progress.items page ≡ None }
+        requires not_full { length (B.device board.old).regs.progress.items < 4 }
+        requires major { (cached_block self.old.shape self.old page).major < 2 ^ 64 - 1 }
+        ensures begun { HasBegunPage (record { shape = self.old.shape; formulas = S.formulas_of (S.keys suite.old) }) page
+            (parts_of self.old (B.device board.old) (A.ledger audit.old) (S.tags suite.old) (S.digests suite.old))
+            (parts_of self.new (B.device board.new) (A.ledger audit.new) (S.tags suite.new) (S.digests suite.new)) result }
+        ensures keys { S.keys suite.new ≡ S.keys suite.old }
+    {
+        let (block, register) = begin(&self.block(page), page)?;
+        let block = pack(&block);
+        let path = next_path(&self.geo, &self.cache, suite, page, &block);
+        self.commit_begin(board, audit, page, &path, &block, &register)?;
+        Ok(())
+    }
+
+    // Commits a seal with its page's new path, whose counter block is in the group where it is persisted.
+    fn commit_seal<B: Board, A: Audit>(
+        &mut self,
+        board: &mut B,
+        audit: &mut A,
+        next: &NextSeal,
+        path: &Path,
+        block: &Line,
+        persisted: bool,
+    ) -> Result<(), Cut>
+        requires line { next.now.at < data_lines self.old.shape }
+        requires path { IsPathOf self.old.shape (page_of next.now.at) path.now.lines.items }
+        requires cached { IsPathCached self.old.shape self.old.cache (page_of next.now.at) }
+        requires size { (B.device board.old).size ≡ device_lines self.old.shape }
+        requires valid { IsValidRegs self.old.shape (B.device board.old).regs }
+        requires no_group { (B.device board.old).regs.group.items ≡ [] }
+        requires lines { (A.ledger audit.old).data_lines ≡ data_lines self.old.shape }
+        requires truth { length (A.ledger audit.old).truth ≡ meta_lines self.old.shape }
+        requires room { 1 ≤ (A.ledger audit.old).spare }
+        ensures ok { OnOk result (HasSealCommitted self.old.shape next.now persisted block.now path.now.lines.items path.now.root
+            self.old self.new (B.device board.old) (B.device board.new) (A.ledger audit.old) (A.ledger audit.new)) }
+        ensures cut { OnErr result (IsSealCut self.old.shape next.now persisted block.now path.now.lines.items path.now.root
+            self.old self.new (B.device board.old) (B.device board.new) (A.ledger audit.old) (A.ledger audit.new)) }
+    {
+        let regs = self.regs_with_path(board.regs(), next, path, block, persisted);
+        arm(board, &regs)?;
+        audit.note_seal(next.at, next.ctr, &next.cipher, &next.tag);
+        self.store(audit, next.at / 64, path, persisted);
+        finish(board)
+    }
+
+    // The registers that arm a seal with its page's new path.
+    fn regs_with_path(
+        &self,
+        regs: &Regs,
+        next: &NextSeal,
+        path: &Path,
+        block: &Line,
+        persisted: bool,
+    ) -> Regs
+        requires line { next.now.at < data_lines self.now.shape }
+        requires valid { IsValidRegs self.now.shape regs.now }
+        ensures root { result.root ≡ path.now.root }
+        ensures progress { result.progress.items ≡ registers_with_done regs.now.progress.items next.now.at }
+        ensures loss { result.loss ≡ regs.now.loss }
+        ensures group { result.group.items ≡ seal_group self.now.shape next.now persisted block.now }
+        ensures is_group { IsGroup (device_lines self.now.shape) (seal_group self.now.shape next.now persisted block.now) }
+        ensures armed { result.group.items ≢ [] }
+    {
+        let mut armed = self.regs_with_seal(regs, next);
+        armed.root = path.root;
+        block.is_whole();
+        if persisted {
+            armed.group.push((self.block_place(next.at / 64), *block));
+        }
+        armed
+    }
+
+    // Commits a page's begin.
+    fn commit_begin<B: Board, A: Audit>(
+        &mut self,
+        board: &mut B,
+        audit: &mut A,
+        page: u32,
+        path: &Path,
+        block: &Line,
+        register: &Progress,
+    ) -> Result<(), Cut>
+        requires page { page < pages self.old.shape }
+        requires path { IsPathOf self.old.shape page path.now.lines.items }
+        requires cached { IsPathCached self.old.shape self.old.cache page }
+        requires size { (B.device board.old).size ≡ device_lines self.old.shape }
+        requires not_full { length (B.device board.old).regs.progress.items < 4 }
+        requires no_group { (B.device board.old).regs.group.items ≡ [] }
+        requires truth { length (A.ledger audit.old).truth ≡ meta_lines self.old.shape }
+        requires room { 1 ≤ (A.ledger audit.old).spare }
+        ensures ok { OnOk result (HasBeginCommitted self.old.shape page register.now block.now path.now.lines.items path.now.root
+            self.old self.new (B.device board.old) (B.device board.new) (A.ledger audit.old) (A.ledger audit.new)) }
+        ensures cut { OnErr result (IsBeginCut self.old.shape page register.now block.now path.now.lines.items path.now.root
+            self.old self.new (B.device board.old) (B.device board.new) (A.ledger audit.old) (A.ledger audit.new)) }
+    {
+        let regs = self.regs_with_begin(board.regs(), page, path, block, register);
+        arm(board, &regs)?;
+        audit.note_begin(page);
+        self.store(audit, page, path, true);
+        finish(board)
+    }
+
+    // The registers that arm a page's begin: its register last, its counter block in the group.
+    fn regs_with_begin(
+        &self,
+        regs: &Regs,
+        page: u32,
+        path: &Path,
+        block: &Line,
+        register: &Progress,
+    ) -> Regs
+        requires page { page < pages self.now.shape }
+        requires not_full { length regs.now.progress.items < 4 }
+        ensures root { result.root ≡ path.now.root }
+        ensures progress { result.progress.items ≡ regs.now.progress.items ++ register.now ∷ [] }
+        ensures loss { result.loss ≡ regs.now.loss }
+        ensures group { result.group.items ≡ begin_group self.now.shape page block.now }
+        ensures is_group { IsGroup (device_lines self.now.shape) (begin_group self.now.shape page block.now) }
+        ensures armed { result.group.items ≢ [] }
+    {
+        let mut armed = regs.emptied();
+        armed.root = path.root;
+        armed.progress.push(*register);
+        block.is_whole();
+        armed.group.push((self.block_place(page), *block));
+        armed
+    }
+
+    // Stores a page's new path, and tells it to the audit.
+    fn store<A: Audit>(&mut self, audit: &mut A, page: u32, path: &Path, persisted: bool)
+        requires path { IsPathOf self.old.shape page path.now.lines.items }
+        requires cached { IsPathCached self.old.shape self.old.cache page }
+        requires truth { length (A.ledger audit.old).truth ≡ meta_lines self.old.shape }
+        ensures stored { HasStoredPath self.old.shape page persisted path.now.lines.items self.old self.new }
+        ensures told { AreTold path.now.lines.items (A.ledger audit.old) (A.ledger audit.new) }
+    {
+        self.cache.are_banks();
+        store_path(&mut self.cache, audit, path, persisted);
+        self.cache.are_banks();
+    }
+
+    // The device line of a page's counter block.
+    fn block_place(&self, page: u32) -> u32
+        requires { page < pages self.now.shape }
+        ensures place { result ≡ meta_line self.now.shape (counter_position self.now.shape page) }
+        ensures inside { result < device_lines self.now.shape }
+    {
+        self.geo
+            .meta_line(self.geo.metas() - self.geo.pages() + page)
+    }
+}
