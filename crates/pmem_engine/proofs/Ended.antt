@@ -101,7 +101,7 @@ pub answers_down : {T : Type 0} (answer : Result T Fault) (old new : Parts) → 
     → AnswersDown old (ended_parts new (outcome_of answer)) answer
 answers_down answer old new was same never =
     record {
-      exactly = (λ it. absurd (never it) , λ down. absurd (false≢true (sym was ∙ down)));
+      exactly = (λ it. absurd (never it), λ down. absurd (false≢true (sym was ∙ down)));
       still = λ it. absurd (never it);
       after = ap (λ down. down || not (is_going (outcome_of answer))) same;
     }
@@ -177,7 +177,7 @@ within_ended shown end n old new it = it
 
 pub within_live_ended : (outcome end : Outcome) (n : ℕ) (old new : Parts) → TakesWithinOfLive outcome n old new
     → TakesWithinOfLive outcome n old (ended_parts new end)
-within_live_ended outcome end n old new it = (it.0 , λ live. within_ended outcome end n old new (it.1 live))
+within_live_ended outcome end n old new it = (it.0, λ live. within_ended outcome end n old new (it.1 live))
 
 -- ---- a read
 
@@ -187,7 +187,7 @@ answers_read_ended setup a old new (Ok line) outcome it = it
 answers_read_ended setup a old new (Err Fail.Cut) outcome it = it
 answers_read_ended setup a old new (Err Fail.Down) outcome it = it
 answers_read_ended setup a old new (Err (Fail.Meta x)) outcome it = meta_refused_ended setup (page_of a) x old new outcome it
-answers_read_ended setup a old new (Err (Fail.Tag b)) outcome it = (it.0 , tag_refused_ended setup a new outcome it.1)
+answers_read_ended setup a old new (Err (Fail.Tag b)) outcome it = (it.0, tag_refused_ended setup a new outcome it.1)
 answers_read_ended setup a old new (Err (Fail.Spent page)) outcome it = it
 answers_read_ended setup a old new (Err Fail.Shown) outcome (inl clash) =
     inl (clash_shown_ended setup (page_of a) old new outcome clash)

@@ -67,8 +67,12 @@ length_spilled g banks page zero = omega arith
 length_spilled g banks page (suc n) =
     let one : length (level_write g banks n (path_at g page n)) ≤ 1 =
     one_write g banks n (path_at g page n) (is_cached g banks n (path_at g page n)) refl in
-    omega (arith, length_spilled g banks page n, one,
-    length-append (spilled g banks page n) (level_write g banks n (path_at g page n)))
+    omega (
+      arith,
+      length_spilled g banks page n,
+      one,
+      length-append (spilled g banks page n) (level_write g banks n (path_at g page n)),
+    )
   where
     one_victim : (g : Shape) (victim : Option Slot) → length (victim_write g victim) ≤ 1
     one_victim g None = omega arith
@@ -141,7 +145,6 @@ module _ (setup : Setup) (page : ℕ) (old new : EngineState) (ledger noted : Le
     (same_tags : tags_now ≡ tags)
     (over : IsFetchOver before after digests digests_now ledger noted)
     (keeps : KeepsBlocks setup.shape ledger.truth page old.cache new.cache before after) where
-
   abbrev start : Parts
   start = parts_of old before ledger tags digests
 
@@ -221,17 +224,18 @@ module _ (setup : Setup) (page : ℕ) (old new : EngineState) (ledger noted : Le
         tags = same_tags;
         same_ledger = λ unshown. same;
         still_cached =
-            λ was.
-            (refl ,
-            record {
-              lines = fetched.work.lines ∙ ap (λ entries. redone_told entries before.lines) (nothing was) ∙ unarmed [] before.lines refl;
-              regs = over.regs;
-              reads = fetched.work.no_read (none_absent setup.shape old.cache page was (setup.shape.levels + 1) (omega arith));
-              writes = fetched.work.no_write (ap length (nothing was));
-              latches = over.latches;
-            } ,
-            fetched.digests
-            ∙ ap (λ n. risen_times n digests) (none_absent setup.shape old.cache page was (setup.shape.levels + 1) (omega arith)));
+            λ was. (
+              refl,
+              record {
+                lines = fetched.work.lines ∙ ap (λ entries. redone_told entries before.lines) (nothing was) ∙ unarmed [] before.lines refl;
+                regs = over.regs;
+                reads = fetched.work.no_read (none_absent setup.shape old.cache page was (setup.shape.levels + 1) (omega arith));
+                writes = fetched.work.no_write (ap length (nothing was));
+                latches = over.latches;
+              },
+              fetched.digests
+                  ∙ ap (λ n. risen_times n digests) (none_absent setup.shape old.cache page was (setup.shape.levels + 1) (omega arith)),
+            );
         still_named =
             λ was named.
             record {
@@ -248,11 +252,12 @@ module _ (setup : Setup) (page : ℕ) (old new : EngineState) (ledger noted : Le
         steps_of_path =
             few_steps setup page old new ledger noted before after tags digests tags_now digests_now its_size shape mirror down
             same_tags over keeps;
-        steps_of_dirty =
-            (dirty_steps setup page old new ledger noted before after tags digests tags_now digests_now its_size shape mirror down
-            same_tags over keeps ,
-            λ live. dirty_steps setup page old new ledger noted before after tags digests tags_now digests_now its_size shape mirror
-            down same_tags over keeps);
+        steps_of_dirty = (
+          dirty_steps setup page old new ledger noted before after tags digests tags_now digests_now its_size shape mirror down
+              same_tags over keeps,
+          λ live. dirty_steps setup page old new ledger noted before after tags digests tags_now digests_now its_size shape mirror
+              down same_tags over keeps,
+        );
       }
     where
       nothing : IsPathCached setup.shape old.cache page → spilled setup.shape old.cache page (setup.shape.levels + 1) ≡ []
@@ -295,11 +300,12 @@ module _ (setup : Setup) (page : ℕ) (old new : EngineState) (ledger noted : Le
                   λ writes latches.
                   omega (arith, it.writes.exact writes, over.latches, length_spilled setup.shape old.cache page it.n, it.on_path);
             };
-        steps_of_dirty =
-            (dirty_steps setup page old new ledger noted before after tags digests tags_now digests_now its_size shape mirror down
-            same_tags over keeps ,
-            λ live. fewer_dirty_steps setup page old new ledger noted before after tags digests tags_now digests_now its_size shape
-            mirror down same_tags over keeps (left live));
+        steps_of_dirty = (
+          dirty_steps setup page old new ledger noted before after tags digests tags_now digests_now its_size shape mirror down
+              same_tags over keeps,
+          λ live. fewer_dirty_steps setup page old new ledger noted before after tags digests tags_now digests_now its_size shape
+              mirror down same_tags over keeps (left live),
+        );
       }
 
   -- the line read at this level was read, and wasn't cached before
@@ -374,11 +380,12 @@ module _ (setup : Setup) (page : ℕ) (old new : EngineState) (ledger noted : Le
         steps_of_path =
             few_steps setup page old new ledger noted before after tags digests tags_now digests_now its_size shape mirror down
             same_tags over keeps;
-        steps_of_dirty =
-            (dirty_steps setup page old new ledger noted before after tags digests tags_now digests_now its_size shape mirror down
-            same_tags over keeps ,
-            λ live. dirty_steps setup page old new ledger noted before after tags digests tags_now digests_now its_size shape mirror
-            down same_tags over keeps);
+        steps_of_dirty = (
+          dirty_steps setup page old new ledger noted before after tags digests tags_now digests_now its_size shape mirror down
+              same_tags over keeps,
+          λ live. dirty_steps setup page old new ledger noted before after tags digests tags_now digests_now its_size shape mirror
+              down same_tags over keeps,
+        );
       }
     where
       sound_trusted : AreSound setup start → AreTrusted setup start
@@ -421,11 +428,12 @@ module _ (setup : Setup) (page : ℕ) (old new : EngineState) (ledger noted : Le
         steps_of_path =
             few_steps setup page old new ledger noted before after tags digests tags_now digests_now its_size shape mirror down
             same_tags over keeps;
-        steps_of_dirty =
-            (dirty_steps setup page old new ledger noted before after tags digests tags_now digests_now its_size shape mirror down
-            same_tags over keeps ,
-            λ live. dirty_steps setup page old new ledger noted before after tags digests tags_now digests_now its_size shape mirror
-            down same_tags over keeps);
+        steps_of_dirty = (
+          dirty_steps setup page old new ledger noted before after tags digests tags_now digests_now its_size shape mirror down
+              same_tags over keeps,
+          λ live. dirty_steps setup page old new ledger noted before after tags digests tags_now digests_now its_size shape mirror
+              down same_tags over keeps,
+        );
       }
     where
       x : ℕ

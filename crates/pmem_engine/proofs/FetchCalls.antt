@@ -38,7 +38,6 @@ module _ (setup : Setup) (page : ℕ) (old new : EngineState) (ledger noted : Le
     (shape : new.shape ≡ old.shape) (mirror : new.mirror ≡ old.mirror) (down : new.down ≡ old.down)
     (same_tags : tags_now ≡ tags) (whole : IsDevice after)
     (keeps : KeepsBlocks setup.shape ledger.truth page old.cache new.cache before after) where
-
   abbrev state_before : FetchState
   state_before = record { cache = record { shape = setup.shape; banks = old.cache }; device = before; digests = digests }
 

@@ -42,10 +42,10 @@ use Rattle.pmem_engine.proofs.Fetched.{trusted_after, sound_lines, places, count
 -- ---- counts
 
 pub risen_times_never_fall : (n count : ℕ) → NeverFalls count (risen_times n count)
-risen_times_never_fall zero count within = (omega arith , within)
+risen_times_never_fall zero count within = (omega arith, within)
 risen_times_never_fall (suc n) count within =
     let before = risen_times_never_fall n count within in
-    (omega (arith, before.0, before.1) , omega arith)
+    (omega (arith, before.0, before.1), omega arith)
 
 -- ---- the device of a fetch, whatever its end
 
@@ -70,7 +70,6 @@ module _ (setup : Setup) (page : ℕ) (old new : EngineState) (ledger noted : Le
     (same_tags : tags_now ≡ tags)
     (over : IsFetchOver before after digests digests_now ledger noted)
     (keeps : KeepsBlocks setup.shape ledger.truth page old.cache new.cache before after) where
-
   abbrev parts_old : Parts
   parts_old = parts_of old before ledger tags digests
 
@@ -114,7 +113,7 @@ module _ (setup : Setup) (page : ℕ) (old new : EngineState) (ledger noted : Le
         small_group = small;
         power = power;
         reads = over.reads;
-        tags = λ within. (omega (arith, same_tags) , omega (arith, same_tags, within));
+        tags = λ within. (omega (arith, same_tags), omega (arith, same_tags, within));
         digests = over.digests_rise;
         marks = over.marks ∙ sym (append-nil ledger.marks);
         spare = omega (arith, over.spare);
@@ -139,7 +138,7 @@ module _ (setup : Setup) (page : ℕ) (old new : EngineState) (ledger noted : Le
   done_going same steady live cuts =
       record {
         gone =
-            gone going (steady , live , cuts) (λ unshown. ap (λ l. l.exhibit) same)
+            gone going (steady, live, cuts) (λ unshown. ap (λ l. l.exhibit) same)
             (λ trusted. subst (λ l. IsTrusted setup new after.regs l) (sym same)
             (trusted_after setup page old new ledger before after shape mirror down trusted keeps over.regs))
             (λ sound. subst (λ l. MatchOption after.lines ⊥ (λ lines. IsSound setup new lines after.regs l)) (sym same) (still_sound sound))
@@ -160,7 +159,7 @@ module _ (setup : Setup) (page : ℕ) (old new : EngineState) (ledger noted : Le
   done_cut same unsteady off rose =
       record {
         gone =
-            gone cut (unsteady , off , rose) (λ unshown. ap (λ l. l.exhibit) same)
+            gone cut (unsteady, off, rose) (λ unshown. ap (λ l. l.exhibit) same)
             (λ trusted. subst₂ (λ regs l. IsAnchored setup regs l) (sym over.regs) (sym same) trusted.anchored)
             (λ sound. subst (λ l. MatchOption after.lines ⊥ (λ lines. IsDurable setup lines after.regs l)) (sym same) (still_durable sound))
             (λ trusted.
@@ -178,7 +177,7 @@ module _ (setup : Setup) (page : ℕ) (old new : EngineState) (ledger noted : Le
   done_shown never steady live cuts =
       record {
         gone =
-            gone shown (steady , live , cuts) (λ unshown. absurd (unshown refl))
+            gone shown (steady, live, cuts) (λ unshown. absurd (unshown refl))
             (λ trusted. subst (λ marks. IsFresh marks) (sym over.marks) trusted.anchored.fresh) never (λ trusted. tt) (λ trusted. tt)
             (λ none. tt);
         loss = ap (λ regs. regs.loss) over.regs;

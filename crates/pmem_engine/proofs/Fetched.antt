@@ -37,7 +37,6 @@ module _ (setup : Setup) (page : ℕ) (old new : EngineState) (ledger : LedgerSt
     (shape : new.shape ≡ old.shape) (mirror : new.mirror ≡ old.mirror) (down : new.down ≡ old.down)
     (trusted : IsTrusted setup old before.regs ledger)
     (keeps : KeepsBlocks setup.shape ledger.truth page old.cache new.cache before after) where
-
   recached : IsRecached setup old new ledger
   recached =
       record {
@@ -88,7 +87,6 @@ module _ (setup : Setup) (page : ℕ) (old new : EngineState) (ledger : LedgerSt
   -- ---- the device's lines
 
   module _ (lines lines_now : List Line) (told : before.lines ≡ Some lines) (told_now : after.lines ≡ Some lines_now) where
-
     -- a line as it was, or that of a metadata line that is true now
     abbrev IsSameOrTrue : ℕ → Type 0
     IsSameOrTrue at =
@@ -109,8 +107,12 @@ module _ (setup : Setup) (page : ℕ) (old new : EngineState) (ledger : LedgerSt
             (ap (option_map (λ lines. line_at lines at)) (sym told_now) ∙ same ∙ ap (option_map (λ lines. line_at lines at)) told))
         go (inr back) =
             let own = own_slot back.bank back.set back.slot back.was_cached in
-            inr (back.slot.position , own.on_tree , back.place ,
-            sym (tells_now at back.slot.line back.line) ∙ own.true_line)
+            inr (
+              back.slot.position,
+              own.on_tree,
+              back.place,
+              sym (tells_now at back.slot.line back.line) ∙ own.true_line,
+            )
 
     pub same_unless_meta : (at : ℕ) → ((x : ℕ) → x < layout.meta_lines setup.shape → at ≢ layout.meta_line setup.shape x)
         → line_at lines_now at ≡ line_at lines at
@@ -167,7 +169,7 @@ module _ (setup : Setup) (page : ℕ) (old new : EngineState) (ledger : LedgerSt
             ∙ cleaned.1))
         go slot stands here dirty (inr gone) =
             let own = own_slot (level_of x) (set_index setup.shape x) slot
-                stands in
+            stands in
             ap (λ z. stored_meta setup.shape lines_now z) (sym here)
             ∙ sym (tells_now (layout.meta_line setup.shape slot.position) slot.line (gone.written dirty))
             ∙ own.true_line ∙ ap (line_at ledger.truth) here
@@ -183,7 +185,7 @@ module _ (setup : Setup) (page : ℕ) (old new : EngineState) (ledger : LedgerSt
     true_or_dirty x within (inr dirty) =
         elim (cases_Bool (is_cached_dirty setup.shape new.cache (level_of x) x)) [
           | inl still ↦ inr still
-          | inr clean ↦ inl (cleaned_true x within (dirty , clean))
+          | inr clean ↦ inl (cleaned_true x within (dirty, clean))
         ]
 
     pub sound_lines : AreLinesOf (layout.device_lines setup.shape) lines_now → after.regs ≡ before.regs
@@ -226,7 +228,6 @@ module _ (setup : Setup) (page : ℕ) (old new : EngineState) (ledger : LedgerSt
   module _ (tags digests tags_now digests_now : ℕ) (noted : LedgerState)
       (marks : noted.marks ≡ ledger.marks) (truth : noted.truth ≡ ledger.truth)
       (same_regs : after.regs ≡ before.regs) (same_told : is_some after.lines ≡ is_some before.lines) where
-
     abbrev parts_before : Parts
     parts_before = parts_of old before ledger tags digests
 

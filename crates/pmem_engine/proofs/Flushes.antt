@@ -34,7 +34,6 @@ same_engine old new cache mirror down =
 
 module _ (old new : EngineState) (before after : Device) (mirror : new.mirror ≡ old.mirror) (down : new.down ≡ old.down)
     (form : IsCacheOf old.shape old.cache) (its_banks : AreInTheirBanks old.shape old.cache) where
-
   -- a dirty block of a bank has its level
   pub dirty_level : (bank x : ℕ) → is_cached_dirty old.shape old.cache bank x ≡ true → level_of x ≡ bank
   dirty_level bank x dirty =
@@ -59,7 +58,7 @@ module _ (old new : EngineState) (before after : Device) (mirror : new.mirror �
       → IsOneWrittenBack old.shape found (cache_of old) (cache_of new) before after
       → HasWrittenOldest old new before after (Ok (option_map (λ f. f.1) found))
   oldest_written None none it =
-      (same_engine old new it.0 mirror down , it.1 , λ bank x. cache_clean old.shape old.cache bank x none)
+      (same_engine old new it.0 mirror down, it.1, λ bank x. cache_clean old.shape old.cache bank x none)
   oldest_written (Some found) is it =
       let dirty = oldest_cached old.shape old.cache found form is in
       let block : HasWrittenBack found.0 found.1 old new before after = written_block found.0 found.1 dirty.0 dirty.1 it.0 in
@@ -68,9 +67,11 @@ module _ (old new : EngineState) (before after : Device) (mirror : new.mirror �
   pub oldest_cut : (found : Option (ℕ × ℕ)) → oldest_dirty old.cache ≡ found → cache_of new ≡ cache_of old
       → WasCut before after → is_some found ≡ true → HasWrittenOldest old new before after (Err Fail.Cut)
   oldest_cut None is same was_cut some = absurd (true≢false (sym some))
-  oldest_cut (Some found) is same was_cut some =
-      (same_engine old new same mirror down , was_cut ,
-      (found.0 , found.1 , (oldest_cached old.shape old.cache found form is).1))
+  oldest_cut (Some found) is same was_cut some = (
+    same_engine old new same mirror down,
+    was_cut,
+    (found.0, found.1, (oldest_cached old.shape old.cache found form is).1),
+  )
 
 -- ---- the call
 
@@ -91,8 +92,8 @@ cut_still setup engine before after ledger tags digests it =
       off = it.off;
       rose = it.rose;
       reads = omega (arith, it.reads);
-      tags = λ within. (omega arith , within);
-      digests = λ within. (omega arith , within);
+      tags = λ within. (omega arith, within);
+      digests = λ within. (omega arith, within);
     })
 
 -- nothing is done
@@ -111,8 +112,8 @@ nothing_done setup parts =
       steady = λ was. was;
       live = λ was. was;
       reads = omega arith;
-      tags = λ within. (omega arith , within);
-      digests = λ within. (omega arith , within);
+      tags = λ within. (omega arith, within);
+      digests = λ within. (omega arith, within);
     })
 
 pub no_steps_of : (before after : Device) → after.writes ≡ before.writes → after.latches ≡ before.latches → TakesSteps 0 before after
@@ -125,7 +126,6 @@ no_steps_of before after writes latches =
 
 module _ (setup : Setup) (old new : EngineState) (before after : Device) (ledger : LedgerState) (tags digests : ℕ)
     (its_shape : old.shape ≡ setup.shape) (its_size : before.size ≡ device_lines setup.shape) (whole : IsDevice before) where
-
   abbrev start : Parts
   start = parts_of old before ledger tags digests
 
@@ -182,28 +182,31 @@ module _ (setup : Setup) (old new : EngineState) (before after : Device) (ledger
 
   flush_answer : (answer : Result (Option ℕ) Fault) → HasWrittenOldest old new before after answer
       → AnswersFlush setup.shape start (ended_parts finish (outcome_of answer)) answer
-  flush_answer (Ok None) it =
-      (record {
-        engine = ended_going new ∙ it.0;
-        device = it.1;
-        ledger = refl;
-        tags = refl;
-        digests = refl;
-      } ,
-      λ bank x. ap (λ g. is_cached_dirty g old.cache bank x) (sym its_shape) ∙ it.2 bank x)
-  flush_answer (Ok (Some x)) it =
-      (ap (λ g. is_cached_dirty g old.cache (level_of x) x) (sym its_shape) ∙ it.was_dirty ,
-      ap (λ g. is_cached_dirty g new.cache (level_of x) x) (sym its_shape)
-      ∙ clean_after (level_of x) x old new before after it ,
-      subst (λ g. x < meta_lines g) its_shape it.on_tree ,
-      record {
-        writes = it.cleaned.board.writes.never_falls;
-        latches = omega (arith, it.cleaned.board.latches);
-        sum = λ writes latches. omega (arith, it.cleaned.board.writes.exact writes, it.cleaned.board.latches);
-      })
-  flush_answer (Err Fail.Cut) it =
-      ((it.2.0 , it.2.1 , ap (λ g. is_cached_dirty g old.cache it.2.0 it.2.1) (sym its_shape) ∙ it.2.2) ,
-      no_steps_of before after it.1.writes it.1.latches)
+  flush_answer (Ok None) it = (
+    record {
+      engine = ended_going new ∙ it.0;
+      device = it.1;
+      ledger = refl;
+      tags = refl;
+      digests = refl;
+    },
+    λ bank x. ap (λ g. is_cached_dirty g old.cache bank x) (sym its_shape) ∙ it.2 bank x,
+  )
+  flush_answer (Ok (Some x)) it = (
+    ap (λ g. is_cached_dirty g old.cache (level_of x) x) (sym its_shape) ∙ it.was_dirty,
+    ap (λ g. is_cached_dirty g new.cache (level_of x) x) (sym its_shape)
+        ∙ clean_after (level_of x) x old new before after it,
+    subst (λ g. x < meta_lines g) its_shape it.on_tree,
+    record {
+      writes = it.cleaned.board.writes.never_falls;
+      latches = omega (arith, it.cleaned.board.latches);
+      sum = λ writes latches. omega (arith, it.cleaned.board.writes.exact writes, it.cleaned.board.latches);
+    },
+  )
+  flush_answer (Err Fail.Cut) it = (
+    (it.2.0, it.2.1, ap (λ g. is_cached_dirty g old.cache it.2.0 it.2.1) (sym its_shape) ∙ it.2.2),
+    no_steps_of before after it.1.writes it.1.latches,
+  )
   flush_answer (Err Fail.Down) it = it
   flush_answer (Err (Fail.Meta x)) it = it
   flush_answer (Err (Fail.Tag a)) it = it

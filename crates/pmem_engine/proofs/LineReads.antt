@@ -58,10 +58,11 @@ within_before shown n old mid new uncut first second = at_most_before n old.devi
 pub within_live_before : (outcome : Outcome) (n : ℕ) (old mid new : Parts)
     → (outcome ≡ cut → mid.device.live ≡ false) → (old.device.live ≡ true → mid.device.live ≡ true)
     → TakesAtMost n old.device mid.device → TakesSteps 0 mid.device new.device → TakesWithinOfLive outcome n old new
-within_live_before outcome n old mid new unpowered live first second =
-    (at_most_before n old.device mid.device new.device first second ,
-    λ was.
-    within_before outcome n old mid new (λ is_cut. true≢false (sym (live was) ∙ unpowered is_cut)) first second)
+within_live_before outcome n old mid new unpowered live first second = (
+  at_most_before n old.device mid.device new.device first second,
+  λ was.
+      within_before outcome n old mid new (λ is_cut. true≢false (sym (live was) ∙ unpowered is_cut)) first second,
+)
 
 -- a cut is answered by Cut
 pub cut_answer : {T : Type 0} (answer : Result T Fault) → outcome_of answer ≡ cut → answer ≡ Err Fail.Cut
@@ -106,14 +107,13 @@ down_before (Err fault) it = go fault it
 
 module _ (setup : Setup) (a : ℕ) (ctr : Ctr) (old mid new : Parts) (its_shape : old.engine.shape ≡ setup.shape)
     (fetched : HasFetched setup (page_of a) old mid (Ok tt)) where
-
   same_ledger : mid.ledger ≡ old.ledger
   same_ledger = fetched.same_ledger (λ it. true≢false (ap is_going it))
 
   answers_read : (answer : Result Unsealed Fault) → AnswersUnseal setup a mid new answer
       → AnswersRead setup a old new (plain_answer answer)
   answers_read (Ok unsealed) it =
-      (ap (λ ledger. plain_line setup.formulas ledger.marks a) (sym same_ledger) ∙ it.0 , it.1)
+      (ap (λ ledger. plain_line setup.formulas ledger.marks a) (sym same_ledger) ∙ it.0, it.1)
   answers_read (Err Fail.Cut) it = tt
   answers_read (Err Fail.Down) it = it
   answers_read (Err (Fail.Meta x)) it = absurd it

@@ -121,7 +121,7 @@ way_blocks n count old new before after less written clean every =
     record {
       written = written;
       greater = λ more. absurd (omega (arith, more, less));
-      smaller = λ smaller. (clean , every);
+      smaller = λ smaller. (clean, every);
     }
 
 pub blocks_cut : (n count : ℕ) (old new : EngineState) (before mid after : Device) → n < before.regs.loss

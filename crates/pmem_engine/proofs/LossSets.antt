@@ -48,7 +48,7 @@ times_of : (a b : ℕ) → IsTrue (is_loss a) → IsTrue (is_loss b) → a < b �
 times_of a b known_a known_b less = go (is_loss_cases a known_a) (is_loss_cases b known_b)
   where
     with : (k t : ℕ) → a ≡ k → b ≡ k * t → (times : ℕ) × (b ≡ a * times)
-    with k t here there = (t , there ∙ ap (λ z. z * t) (sym here))
+    with k t here there = (t, there ∙ ap (λ z. z * t) (sym here))
 
     go : (a ≡ 1) ⊎ ((a ≡ 2) ⊎ ((a ≡ 4) ⊎ ((a ≡ 8) ⊎ (a ≡ 16))))
         → (b ≡ 1) ⊎ ((b ≡ 2) ⊎ ((b ≡ 4) ⊎ ((b ≡ 8) ⊎ (b ≡ 16)))) → (times : ℕ) × (b ≡ a * times)
@@ -97,7 +97,6 @@ module _ (setup : Setup) (n : ℕ) (engine : EngineState) (mid after : Device) (
     (serves : (lines : List Line) (page : ℕ) → page < layout.pages setup.shape
     → IsTrueOrDirty setup.shape engine.cache lines ledger.truth (counter_position setup.shape page)
     → IsCounterStored setup lines mid.regs.loss ledger.truth page → IsCounterStored setup lines n ledger.truth page) where
-
   abbrev start : Parts
   start = parts_of engine mid ledger tags digests
 
@@ -179,10 +178,10 @@ module _ (setup : Setup) (n : ℕ) (engine : EngineState) (mid after : Device) (
             });
         group = λ uncut. same_group;
         small_group = λ none. tt;
-        power = (it.steady , it.live , it.cuts);
+        power = (it.steady, it.live, it.cuts);
         reads = omega (arith, it.reads);
-        tags = λ within. (omega arith , within);
-        digests = λ within. (omega arith , within);
+        tags = λ within. (omega arith, within);
+        digests = λ within. (omega arith, within);
         marks = sym (append-nil ledger.marks);
         spare = omega arith;
         true_lines = refl;
@@ -213,7 +212,6 @@ module _ (setup : Setup) (n : ℕ) (engine : EngineState) (mid after : Device) (
 module _ (setup : Setup) (n : ℕ) (old new : EngineState) (before after : Device) (ledger : LedgerState) (tags digests : ℕ)
     (its_shape : old.shape ≡ setup.shape) (few_levels : setup.shape.levels ≤ 6) (known : IsTrue (is_loss n))
     (known_before : IsTrue (is_loss before.regs.loss)) (no_group : before.regs.group.items ≡ []) where
-
   abbrev call_start : Parts
   call_start = parts_of old before ledger tags digests
 
@@ -371,17 +369,19 @@ module _ (setup : Setup) (n : ℕ) (old new : EngineState) (before after : Devic
 
   loss_answer : (answer : Result ℕ Fault) → HasChangedLoss n old new before after answer
       → AnswersLoss setup.shape n call_start (ended_parts call_finish (outcome_of answer)) answer
-  loss_answer (Ok steps) (inl it) =
-      (match_true (n == before.regs.loss) (steps ≡ 0) _ (eq-eqb n before.regs.loss it.0) it.1 ,
-      subst (λ k. TakesSteps k before after) (sym it.1)
-      (no_steps_of before after (ap (λ d. d.writes) it.3) (ap (λ d. d.latches) it.3)) ,
-      ap (λ d. d.regs.loss) it.3 ∙ sym it.0)
-  loss_answer (Ok steps) (inr it) =
-      (latched_steps steps it.0 it.1 ,
-      subst (λ k. TakesSteps k before after) (sym it.1.steps_are) (takes it.1.count it.1.mid it.1.way.written it.1.latched) ,
-      ap (λ regs. regs.loss) it.1.latched.regs)
+  loss_answer (Ok steps) (inl it) = (
+    match_true (n == before.regs.loss) (steps ≡ 0) _ (eq-eqb n before.regs.loss it.0) it.1,
+    subst (λ k. TakesSteps k before after) (sym it.1)
+        (no_steps_of before after (ap (λ d. d.writes) it.3) (ap (λ d. d.latches) it.3)),
+    ap (λ d. d.regs.loss) it.3 ∙ sym it.0,
+  )
+  loss_answer (Ok steps) (inr it) = (
+    latched_steps steps it.0 it.1,
+    subst (λ k. TakesSteps k before after) (sym it.1.steps_are) (takes it.1.count it.1.mid it.1.way.written it.1.latched),
+    ap (λ regs. regs.loss) it.1.latched.regs,
+  )
   loss_answer (Err Fail.Cut) it =
-      (cut_steps it.0 it.1 , ap (λ regs. regs.loss) it.1.cut.regs ∙ ap (λ regs. regs.loss) it.1.written.regs)
+      (cut_steps it.0 it.1, ap (λ regs. regs.loss) it.1.cut.regs ∙ ap (λ regs. regs.loss) it.1.written.regs)
   loss_answer (Err Fail.Down) it = it
   loss_answer (Err (Fail.Meta x)) it = it
   loss_answer (Err (Fail.Tag a)) it = it

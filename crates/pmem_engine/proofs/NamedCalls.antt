@@ -45,7 +45,6 @@ module _ (setup : Setup) (page n : ℕ) (old new : EngineState) (before after : 
     (its_shape : old.shape ≡ setup.shape) (shape : new.shape ≡ old.shape) (cache : new.cache ≡ old.cache) (down : new.down ≡ old.down)
     (lines : after.lines ≡ redone_told (naming_writes setup.shape old.cache page old.mirror n) before.lines)
     (same_regs : after.regs ≡ before.regs) (size : after.size ≡ before.size) (reads : after.reads ≡ before.reads) where
-
   abbrev start : Parts
   start = parts_of old before ledger tags digests
 
@@ -179,8 +178,8 @@ module _ (setup : Setup) (page n : ℕ) (old new : EngineState) (before after : 
         small_group = small;
         power = power;
         reads = omega (arith, reads);
-        tags = λ within. (omega arith , within);
-        digests = λ within. (omega arith , within);
+        tags = λ within. (omega arith, within);
+        digests = λ within. (omega arith, within);
         marks = sym (append-nil ledger.marks);
         spare = omega arith;
         true_lines = refl;
@@ -199,7 +198,7 @@ module _ (setup : Setup) (page n : ℕ) (old new : EngineState) (before after : 
   named_going steady live cuts sound =
       record {
         gone =
-            gone going (steady , live , cuts) trusted_after
+            gone going (steady, live, cuts) trusted_after
             (λ was.
             sound_gives (λ lines. IsSound setup new lines after.regs ledger)
             (λ were had. subst (λ regs. IsSound setup new (now_of were) regs ledger) (sym same_regs) (sound were had)) was)
@@ -214,7 +213,7 @@ module _ (setup : Setup) (page n : ℕ) (old new : EngineState) (before after : 
   named_cut unsteady off rose durable =
       record {
         gone =
-            gone cut (unsteady , off , rose) (λ was. (trusted_after was).anchored)
+            gone cut (unsteady, off, rose) (λ was. (trusted_after was).anchored)
             (λ was.
             sound_gives (λ lines. IsDurable setup lines after.regs ledger)
             (λ were had. subst (λ regs. IsDurable setup (now_of were) regs ledger) (sym same_regs) (durable were had)) was)
@@ -233,7 +232,6 @@ module _ (setup : Setup) (page : ℕ) (old new : EngineState) (before after : De
     (its_page : page < layout.pages setup.shape) (few_levels : setup.shape.levels ≤ 6) (some_sets : 1 ≤ setup.shape.sets)
     (cache_form : IsCacheOf setup.shape old.cache) (form : IsBanksOf setup.shape old.cache)
     (cached : IsPathCached setup.shape old.cache page) (its_mirror : IsMirror setup.shape old.mirror) where
-
   abbrev levels : ℕ
   levels = setup.shape.levels
 
@@ -276,33 +274,42 @@ module _ (setup : Setup) (page : ℕ) (old new : EngineState) (before after : De
               latches = omega (arith, it.work.latches);
               sum =
                   λ writes latches.
-                  omega (arith, it.work.writes.exact writes, it.work.latches,
-                  length-naming_writes setup.shape old.cache page old.mirror (levels + 1));
+                  omega (
+                    arith,
+                    it.work.writes.exact writes,
+                    it.work.latches,
+                    length-naming_writes setup.shape old.cache page old.mirror (levels + 1),
+                  );
             };
         still_named =
             λ named.
-            let none = none_written setup.shape old.cache page old.mirror (levels + 1) (omega arith) named.each in
-            (refl ,
-            record {
-              lines = it.work.lines ∙ ap (λ writes. redone_told writes before.lines) none.0 ∙ unarmed [] before.lines refl;
-              regs = it.work.regs;
-              reads = it.work.no_read refl;
-              writes = it.work.no_write (ap length none.0);
-              latches = it.work.latches;
-            });
+            let none = none_written setup.shape old.cache page old.mirror (levels + 1) (omega arith) named.each in (
+              refl,
+              record {
+                lines = it.work.lines ∙ ap (λ writes. redone_told writes before.lines) none.0 ∙ unarmed [] before.lines refl;
+                regs = it.work.regs;
+                reads = it.work.no_read refl;
+                writes = it.work.no_write (ap length none.0);
+                latches = it.work.latches;
+              },
+            );
       }
     where
       same_engine : new ≡ record {
-          shape = old.shape;
-          cache = old.cache;
-          mirror = named_path setup.shape old.cache page old.mirror (levels + 1);
-          down = old.down;
+        shape = old.shape;
+        cache = old.cache;
+        mirror = named_path setup.shape old.cache page old.mirror (levels + 1);
+        down = old.down;
       }
       same_engine =
           ap (λ s. record { shape = s; cache = new.cache; mirror = new.mirror; down = new.down }) shape
           ∙ ap₂ (λ banks m. record { shape = old.shape; cache = banks; mirror = m; down = new.down }) cache it.mirror
-          ∙ ap (λ d. record { shape = old.shape; cache = old.cache;
-          mirror = named_path setup.shape old.cache page old.mirror (levels + 1); down = d }) down
+          ∙ ap (λ d. record {
+            shape = old.shape;
+            cache = old.cache;
+            mirror = named_path setup.shape old.cache page old.mirror (levels + 1);
+            down = d;
+          }) down
 
   pub path_cut : IsNamingCut setup.shape old.cache page old.mirror new.mirror before after
       → HasNamedPath setup page (parts_of old before ledger tags digests) (parts_of new after ledger tags digests) (Err Fail.Cut)
@@ -333,8 +340,13 @@ module _ (setup : Setup) (page : ℕ) (old new : EngineState) (before after : De
               latches = omega (arith, it.latches);
               sum =
                   λ writes latches.
-                  omega (arith, it.writes.exact writes, it.latches, it.on_path,
-                  length-naming_writes setup.shape old.cache page old.mirror it.n);
+                  omega (
+                    arith,
+                    it.writes.exact writes,
+                    it.latches,
+                    it.on_path,
+                    length-naming_writes setup.shape old.cache page old.mirror it.n,
+                  );
             };
         still_named = λ named. absurd (it.unnamed (named.each it.n it.on_path));
       }

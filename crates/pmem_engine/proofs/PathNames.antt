@@ -103,7 +103,7 @@ place_kept g cache page mirror lines (suc n) a within =
 pub none_written : (g : Shape) (cache : Banks) (page : ℕ) (mirror : List Line) (n : ℕ) → n ≤ g.levels + 1
     → ((j : ℕ) → j ≤ g.levels → slot_entry g mirror j (path_number g cache page j) ≡ path_at g page j + 1)
     → (naming_writes g cache page mirror n ≡ []) × (named_path g cache page mirror n ≡ mirror)
-none_written g cache page mirror zero within named = (refl , refl)
+none_written g cache page mirror zero within named = (refl, refl)
 none_written g cache page mirror (suc n) within named =
     let before = none_written g cache page mirror n (omega (arith, within)) named in
     let here : is_slot_named g mirror n (path_number g cache page n) (path_at g page n) ≡ true =
@@ -159,7 +159,6 @@ module _ (setup : Setup) (page : ℕ) (engine : EngineState) (lines : List Line)
     (its_page : page < layout.pages setup.shape) (few_levels : setup.shape.levels ≤ 6) (some_sets : 1 ≤ setup.shape.sets)
     (cache_form : IsCacheOf setup.shape engine.cache) (form : IsBanksOf setup.shape engine.cache)
     (cached : IsPathCached setup.shape engine.cache page) (its_mirror : IsMirror setup.shape engine.mirror) where
-
   -- the engine and the device once the path's first n blocks are named
   abbrev engine_at : ℕ → EngineState
   engine_at n =
@@ -184,8 +183,10 @@ module _ (setup : Setup) (page : ℕ) (engine : EngineState) (lines : List Line)
 
   one_named : (n : ℕ) → n ≤ setup.shape.levels → IsSoundAt n
       → IsSoundWith n
-      ((shadow_line setup.shape (entry_line setup.shape n (path_number setup.shape engine.cache page n)),
-      naming_line setup.shape (engine_at n).mirror n (path_number setup.shape engine.cache page n) (path_at setup.shape page n)) ∷ [])
+      ((
+        shadow_line setup.shape (entry_line setup.shape n (path_number setup.shape engine.cache page n)),
+        naming_line setup.shape (engine_at n).mirror n (path_number setup.shape engine.cache page n) (path_at setup.shape page n),
+      ) ∷ [])
       (with_named setup.shape (engine_at n).mirror n (path_number setup.shape engine.cache page n) (path_at setup.shape page n))
   one_named n low sound =
       subst₂ (λ k y. IsSoundWith n ((shadow_line g (entry_line g n k), naming_line g mirror n k y) ∷ []) (with_named g mirror n k y))

@@ -38,7 +38,7 @@ turned_down setup parts down =
       made = [];
       down =
           record {
-            exactly = (λ it. down , λ it. tt);
+            exactly = (λ it. down, λ it. tt);
             still = λ it. left_alone parts;
             after = down ∙ sym (ap (λ b. b || false) down);
           };
@@ -63,7 +63,7 @@ turned_idle setup parts up none =
       made = [];
       down =
           record {
-            exactly = (λ it. absurd it , λ it. absurd (true≢false (sym it ∙ up)));
+            exactly = (λ it. absurd it, λ it. absurd (true≢false (sym it ∙ up)));
             still = λ it. absurd it;
             after = up ∙ sym (ap (λ b. b || false) up);
           };
@@ -85,8 +85,8 @@ turned_idle setup parts up none =
             tags = same_never_falls parts.tags parts.tags refl;
             digests = same_never_falls parts.digests parts.digests refl;
           });
-      marks = λ it trusted memory was. (refl , trusted.anchored.open_pages ∙ ap (map register_page) none);
-      idle = λ it. (λ idle. none , λ empty. refl);
+      marks = λ it trusted memory was. (refl, trusted.anchored.open_pages ∙ ap (map register_page) none);
+      idle = λ it. (λ idle. none, λ empty. refl);
       memory_kept = λ trusted memory was. was;
       answered = λ it trusted. tt;
       unrefused = λ it sound. tt;
@@ -172,12 +172,12 @@ module _ (setup : Setup) (old mid : Parts) (answer : Result (ℕ × ℕ) Fault) 
       → AnswersReseal setup (line_of_page register it.place) old mid reply
       → HasTurnMarks setup.formulas (moment_in setup memory old) it.made (turned_of reply)
   turn_marks (Ok sealed) trusted memory made line says =
-      (is_mark trusted memory made , is_lowest trusted memory sealed.0 line.at , is_left trusted memory sealed.1 line.left)
-  turn_marks (Err Fail.Cut) trusted memory (inl none) line says = (is_open trusted memory , inl none)
+      (is_mark trusted memory made, is_lowest trusted memory sealed.0 line.at, is_left trusted memory sealed.1 line.left)
+  turn_marks (Err Fail.Cut) trusted memory (inl none) line says = (is_open trusted memory, inl none)
   turn_marks (Err Fail.Cut) trusted memory (inr made) line says =
-      (is_open trusted memory , inr (is_mark trusted memory made))
-  turn_marks (Err (Fail.Tag b)) trusted memory made line says = (made , is_lowest trusted memory b says.0)
-  turn_marks (Err Fail.Shown) trusted memory made line says = (made , is_open trusted memory)
+      (is_open trusted memory, inr (is_mark trusted memory made))
+  turn_marks (Err (Fail.Tag b)) trusted memory made line says = (made, is_lowest trusted memory b says.0)
+  turn_marks (Err Fail.Shown) trusted memory made line says = (made, is_open trusted memory)
   turn_marks (Err (Fail.Meta x)) trusted memory made line says = made
   turn_marks (Err (Fail.Spent page)) trusted memory made line says = made
   turn_marks (Err Fail.Down) trusted memory made line says = made
@@ -277,7 +277,7 @@ module _ (setup : Setup) (old mid : Parts) (answer : Result (ℕ × ℕ) Fault) 
         down =
             record {
               exactly =
-                  (λ is. absurd (turn_not_down answer it.not_down is) , λ is. absurd (true≢false (sym is ∙ up)));
+                  (λ is. absurd (turn_not_down answer it.not_down is), λ is. absurd (true≢false (sym is ∙ up)));
               still = λ is. absurd (turn_not_down answer it.not_down is);
               after =
                   down
@@ -292,9 +292,10 @@ module _ (setup : Setup) (old mid : Parts) (answer : Result (ℕ × ℕ) Fault) 
             λ is_up trusted memory was.
             turn_marks answer trusted memory (it.marks trusted memory was) it.line_sealed (it.answered trusted);
         idle =
-            λ is_up.
-            (λ idle. absurd (turn_busy answer idle) ,
-            λ none. absurd (omega (arith, some, ap length none)));
+            λ is_up. (
+              λ idle. absurd (turn_busy answer idle),
+              λ none. absurd (omega (arith, some, ap length none)),
+            );
         memory_kept = λ trusted memory was. it.memory_kept trusted memory was;
         answered = λ is_up trusted. turn_answered answer trusted (it.answered trusted);
         unrefused = λ is_up sound. turn_unrefused answer (it.unrefused sound);

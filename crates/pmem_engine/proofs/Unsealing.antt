@@ -38,10 +38,10 @@ use Rattle.pmem_engine.proofs.StillLaws.{done_reading, done_cut}
 
 -- a count that rose by one, or stands still, doesn't fall
 pub risen_never_falls : (n : ℕ) → NeverFalls n (risen n)
-risen_never_falls n within = (omega arith , omega arith)
+risen_never_falls n within = (omega arith, omega arith)
 
 pub same_never_falls : (n m : ℕ) → m ≡ n → NeverFalls n m
-same_never_falls n m same within = (omega (arith, same, within) , omega (arith, same, within))
+same_never_falls n m same within = (omega (arith, same, within), omega (arith, same, within))
 
 -- both lines were read
 pub record HasReadBoth (setup : Setup) (a : ℕ) (cipher tag_line : Line) (old new : Device) : Type 0 where
@@ -107,7 +107,7 @@ same_bytes-equal (x ∷ xs) (y ∷ ys) it =
 
 of_option : {A B : Type 0} (f : A → B) (o : Option A) (b : B) → option_map f o ≡ Some b → (x : A) × (o ≡ Some x) × (f x ≡ b)
 of_option f None b e = absurd (none-some b e)
-of_option f (Some x) b e = (x , refl , same_Some (f x) b e)
+of_option f (Some x) b e = (x, refl, same_Some (f x) b e)
 
 read_seal : (setup : Setup) (lines : List Line) (marks : List Mark) (a : ℕ) (cipher tag_line : Line)
     → IsSealStored setup.shape lines marks a → cipher ≡ line_at lines a
@@ -171,7 +171,7 @@ unsealed_some f a ctr cipher tag plain it = go (same_bytes (f.tag_of a ctr ciphe
 pub right_tag : (f : Formulas) (a : ℕ) (ctr : Ctr) (cipher : Line) (tag slot : List ℕ) (plain : Line) → tag ≡ slot
     → unsealed f a ctr cipher tag ≡ Some plain → (f.tag_of a ctr cipher ≡ slot) × (unsealed f a ctr cipher slot ≡ Some plain)
 right_tag f a ctr cipher tag slot plain same it =
-    (go (same_bytes (f.tag_of a ctr cipher) tag) refl , subst (λ z. unsealed f a ctr cipher z ≡ Some plain) same it)
+    (go (same_bytes (f.tag_of a ctr cipher) tag) refl, subst (λ z. unsealed f a ctr cipher z ≡ Some plain) same it)
   where
     go : (b : Bool) → same_bytes (f.tag_of a ctr cipher) tag ≡ b → f.tag_of a ctr cipher ≡ slot
     go true equal = same_bytes-equal (f.tag_of a ctr cipher) tag equal ∙ same
@@ -225,7 +225,6 @@ module _ (setup : Setup) (engine : EngineState) (ledger : LedgerState) (a : ℕ)
         its_slot = refl;
       }
 
-
   -- an error is no answer
   no_answer : {T : Type 0} → false ≡ true → T
   no_answer it = absurd (true≢false (sym it))
@@ -237,11 +236,16 @@ module _ (setup : Setup) (engine : EngineState) (ledger : LedgerState) (a : ℕ)
       record {
         done = done_reading setup before (after ledger) only_read;
         answered =
-            λ trusted counter.
-            (refl , record {
-              ctr = ctr; cipher = cipher; tag = tag_slot tag_line a;
-              unsealed = read_line ledger refl counter; other_tag = other;
-            });
+            λ trusted counter. (
+              refl,
+              record {
+                ctr = ctr;
+                cipher = cipher;
+                tag = tag_slot tag_line a;
+                unsealed = read_line ledger refl counter;
+                other_tag = other;
+              },
+            );
         unrefused = λ sound counter. other (tag_of_read setup before a ctr cipher (tag_slot tag_line a)
             (sound_tagged sound) counter
             (sound_seal setup before new.lines a cipher tag_line sound both.lines both.tells_cipher both.tells_tag_line within));
@@ -284,7 +288,7 @@ module _ (setup : Setup) (engine : EngineState) (ledger : LedgerState) (a : ℕ)
                     valid = λ was. subst (λ regs. IsValidRegs setup.shape regs) (sym both.regs) was;
                     group = λ uncut. ap (λ regs. regs.group) both.regs;
                     small_group = λ none. tt;
-                    power = (both.steady , both.live , both.cuts);
+                    power = (both.steady, both.live, both.cuts);
                     reads = both.reads.never_falls;
                     tags = only_read.tags;
                     digests = only_read.digests;
@@ -344,7 +348,7 @@ module _ (setup : Setup) (engine : EngineState) (ledger : LedgerState) (a : ℕ)
   opened plain within it right known its_cipher =
       record {
         done = done_reading setup before (after ledger) only_read;
-        answered = λ trusted counter. (plain_is counter (last_seal ledger.marks a) refl , stored trusted counter);
+        answered = λ trusted counter. (plain_is counter (last_seal ledger.marks a) refl, stored trusted counter);
         unrefused = λ sound counter. tt;
         engine = refl;
         lines = both.lines;
@@ -362,7 +366,7 @@ module _ (setup : Setup) (engine : EngineState) (ledger : LedgerState) (a : ℕ)
       seal_read : IsLastCounter before a ctr → (seal : SealOf) × (last_seal ledger.marks a ≡ Some seal) × (seal.ctr ≡ ctr) × (cipher ≡ seal.cipher)
       seal_read counter =
           let found = of_option (λ s. s.ctr) (last_seal ledger.marks a) ctr counter in
-          (found.0 , found.1 , found.2 , subst (λ o. IfSome o (λ seal. cipher ≡ seal.cipher)) found.1 its_cipher)
+          (found.0, found.1, found.2, subst (λ o. IfSome o (λ seal. cipher ≡ seal.cipher)) found.1 its_cipher)
 
       plain_is : IsLastCounter before a ctr → (o : Option SealOf) → last_seal ledger.marks a ≡ o
           → plain_line setup.formulas ledger.marks a ≡ Some plain

@@ -93,7 +93,6 @@ same_parts P old new same it =
 module _ {T : Type 0} (setup : Setup) (made : List Mark) (old new : Parts) (answer : Result T Fault)
     (down : AnswersDown old new answer)
     (gone : old.engine.down ≡ false → HasGone setup (outcome_of answer) made old new) where
-
   pub usable_call : IsUsable setup.shape old.engine old.device old.ledger
       → IsUsable setup.shape new.engine new.device new.ledger
   usable_call usable = go old.engine.down refl

@@ -62,7 +62,6 @@ marked_clean (slot ∷ slots) x =
 
 -- what the cache holds once a block was written back
 module _ (bank x : ℕ) (old new : EngineState) (before after : Device) (it : HasWrittenBack bank x old new before after) where
-
   marked_set : set_of new.cache bank (set_index old.shape x) ≡ with_mark (set_of old.cache bank (set_index old.shape x)) x false
   marked_set = it.cleaned.cache.here
 
@@ -132,7 +131,6 @@ module _ (bank x : ℕ) (old new : EngineState) (before after : Device) (it : Ha
 module _ (setup : Setup) (bank x : ℕ) (old new : EngineState) (before after : Device) (ledger : LedgerState)
     (tags digests : ℕ) (its_shape : old.shape ≡ setup.shape) (its_size : before.size ≡ layout.device_lines setup.shape)
     (whole : IsDevice before) (it : HasWrittenBack bank x old new before after) where
-
   abbrev start : Parts
   start = parts_of old before ledger tags digests
 
@@ -305,10 +303,10 @@ module _ (setup : Setup) (bank x : ℕ) (old new : EngineState) (before after : 
               valid = λ was. subst (λ regs. IsValidRegs setup.shape regs) (sym it.cleaned.board.regs) was;
               group = λ uncut. same_group;
               small_group = λ none. tt;
-              power = (it.cleaned.board.steady , it.cleaned.board.live , it.cleaned.board.cuts);
+              power = (it.cleaned.board.steady, it.cleaned.board.live, it.cleaned.board.cuts);
               reads = omega (arith, it.cleaned.board.reads);
-              tags = λ within. (omega arith , within);
-              digests = λ within. (omega arith , within);
+              tags = λ within. (omega arith, within);
+              digests = λ within. (omega arith, within);
               marks = sym (append-nil ledger.marks);
               spare = omega arith;
               true_lines = refl;

@@ -336,7 +336,7 @@ pub record HasWrittenLine (setup : Setup) (write : Posted) (old new : Parts) (an
   pub answered :
       old.engine.down ≡ false → AreTrusted setup old → (memory : Memory) → IsMemory setup memory old
       → AnswersWrite setup (marks_of_write setup.formulas (moment_in setup memory old) write) made write
-          old new answer
+      old new answer
   pub unrefused : old.engine.down ≡ false → AreSound setup old → IsUnrefused answer
   -- what was stored of the lines that were sealed, the written line aside unless the write is shorter
   pub sealed_before :
@@ -347,13 +347,13 @@ pub record HasWrittenLine (setup : Setup) (write : Posted) (old new : Parts) (an
   pub steps :
       old.engine.down ≡ false → AreTrusted setup old → (memory : Memory) → IsMemory setup memory old
       → TakesOfWrite setup.shape (marks_of_write setup.formulas (moment_in setup memory old) write) made
-          old new answer
+      old new answer
   -- where the path is cached and named, one seal takes four steps, or five with the counter block
   pub steps_of_named :
       IsPathCached setup.shape old.engine.cache (page_of write.at)
       → IsPathNamedInMirror setup.shape old.engine (page_of write.at) → length made ≡ 1
       → IfOk answer (λ ctr.
-        TakesSteps (if ctr.minor % (regs_of old).loss == 0 then 5 else 4) old.device new.device)
+      TakesSteps (if ctr.minor % (regs_of old).loss == 0 then 5 else 4) old.device new.device)
   -- the counter block's line
   pub block_kept :
       AreTrusted setup old → list_any (is_persisting (regs_of old).loss write.at) made ≡ false

@@ -71,7 +71,7 @@ impl Engine {
         requires ready { IsReady self.old.shape self.old (B.device board.old) }
         ensures flushed { (setup : Setup) (ledger : LedgerState) (tags digests : ℕ) → setup.shape ≡ self.old.shape
             → HasFlushed setup (parts_of self.old (B.device board.old) ledger tags digests)
-              (parts_of self.new (B.device board.new) ledger tags digests) result }
+            (parts_of self.new (B.device board.new) ledger tags digests) result }
         ensures reads { (B.device board.new).reads ≡ (B.device board.old).reads }
         ensures ready { IsReady self.old.shape self.new (B.device board.new) }
         ensures shape { self.new.shape ≡ self.old.shape }
@@ -88,7 +88,7 @@ impl Engine {
         requires ready { IsReady self.old.shape self.old (B.device board.old) }
         ensures set { (setup : Setup) (ledger : LedgerState) (tags digests : ℕ) → setup.shape ≡ self.old.shape
             → HasSetLoss setup n (parts_of self.old (B.device board.old) ledger tags digests)
-              (parts_of self.new (B.device board.new) ledger tags digests) result }
+            (parts_of self.new (B.device board.new) ledger tags digests) result }
         ensures reads { (B.device board.new).reads ≡ (B.device board.old).reads }
         ensures ready { IsReady self.old.shape self.new (B.device board.new) }
         ensures shape { self.new.shape ≡ self.old.shape }

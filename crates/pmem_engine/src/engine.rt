@@ -33,10 +33,10 @@ impl Model for Engine {
     ghost Value = { EngineState };
 
     ghost view = { λ engine. record {
-        shape = shape_of engine.geo;
-        cache = engine.cache.banks;
-        mirror = engine.mirror;
-        down = engine.down;
+      shape = shape_of engine.geo;
+      cache = engine.cache.banks;
+      mirror = engine.mirror;
+      down = engine.down;
     } };
 
     ghost invariant = { λ engine. (engine.cache.shape ≡ shape_of engine.geo)
@@ -51,10 +51,10 @@ impl Engine {
         requires cache { cache ≡ record { shape = shape_of geo; banks = empty_banks (shape_of geo) } }
         requires mirror { mirror ≡ replicate (shadow_lines (shape_of geo)) zero_line }
         ensures { result ≡ record {
-            shape = shape_of geo;
-            cache = empty_banks (shape_of geo);
-            mirror = replicate (shadow_lines (shape_of geo)) zero_line;
-            down = false;
+          shape = shape_of geo;
+          cache = empty_banks (shape_of geo);
+          mirror = replicate (shadow_lines (shape_of geo)) zero_line;
+          down = false;
         } }
     {
         Engine {

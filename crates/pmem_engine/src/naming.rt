@@ -20,7 +20,7 @@ impl Engine {
         requires cached { IsPathCached self.old.shape self.old.cache page }
         ensures named { (setup : Setup) (ledger : LedgerState) (tags digests : ℕ) → setup.shape ≡ self.old.shape
             → HasNamedPath setup page (parts_of self.old (B.device board.old) ledger tags digests)
-              (parts_of self.new (B.device board.new) ledger tags digests) result }
+            (parts_of self.new (B.device board.new) ledger tags digests) result }
         ensures cache { self.new.cache ≡ self.old.cache }
     {
         self.cache.are_banks();

@@ -1,5 +1,5 @@
 -- The trials of recovery, over a device's lines with the armed group redone.
-use Rattle.std.specs.Prelude.{ℕ, ◌+◌, ◌-◌, ◌*◌, ◌/◌, ◌==◌, Bool, not, List, [], ◌∷◌, length, filter, find, slice_index, Option, Some, None}
+use Rattle.std.specs.Prelude.{ℕ, ◌<◌, ◌+◌, ◌-◌, ◌*◌, ◌/◌, ◌==◌, Bool, true, not, List, [], ◌∷◌, length, filter, find, slice_index, ◌≡◌, Option, Some, None, option_map}
 use Rattle.std.specs.List.{range_with_len, flat_map}
 use Rattle.pmem_base.specs.declared.lines.Line.{Line}
 use Rattle.pmem_base.specs.declared.lines.Ctr.{Ctr}
@@ -10,7 +10,10 @@ use Rattle.pmem_base.specs.Layout as layout
 use Rattle.pmem_base.specs.Layout.{page_of, index_in_page}
 use Rattle.pmem_base.specs.Lines.{line_at, tag_slot, same_bytes}
 use Rattle.split_counters.specs.declared.Block.{Block}
-use Rattle.split_counters.specs.Blocks.{unpacked}
+use Rattle.pmem_base.specs.Marks.{last_seal}
+use Rattle.split_counters.specs.Blocks.{unpacked, minor_of}
+use Rattle.seal_ledger.specs.Ledger.{LedgerState}
+use Rattle.pmem_engine.specs.Truth.{true_block}
 use Rattle.bonsai_tree.specs.Positions.{counter_position}
 use Rattle.page_reencrypt.specs.Registers.{register_held}
 use Rattle.suite.specs.Setup.{Setup}
@@ -57,3 +60,26 @@ lines_tried g lines = flat_map (λ page. range_with_len (64 * page) 64) (named_p
 abbrev pub first_undecided : Setup → List Line → Regs → Option ℕ
 first_undecided setup lines regs =
     find (λ a. not (length (tried_minors setup lines regs a) == 1)) (lines_tried setup.shape lines)
+
+-- the minor of line a in its page's counter block on the device, and in the true one
+abbrev pub stored_minor : Shape → List Line → ℕ → ℕ
+stored_minor g lines a = minor_of (stored_block g lines (page_of a)) (index_in_page a)
+
+abbrev pub true_minor : Shape → List Line → ℕ → ℕ
+true_minor g truth a = minor_of (true_block g truth (page_of a)) (index_in_page a)
+
+-- a twin is of line a's last seal: its cipher, tag and major, and both minors of its minor's window
+pub record IsTwinOfLastSeal (loss : ℕ) (ledger : LedgerState) (a major low high : ℕ) (cipher : Line) (tag : List ℕ) : Type 0 where
+  pub its_cipher : option_map (λ seal. seal.cipher) (last_seal ledger.marks a) ≡ Some cipher
+  pub its_tag : option_map (λ seal. seal.tag) (last_seal ledger.marks a) ≡ Some tag
+  pub its_major : option_map (λ seal. seal.ctr.major) (last_seal ledger.marks a) ≡ Some major
+  pub low_in_window :
+      option_map (λ seal. seal.ctr.minor / loss) (last_seal ledger.marks a) ≡ Some (low / loss)
+  pub high_in_window :
+      option_map (λ seal. seal.ctr.minor / loss) (last_seal ledger.marks a) ≡ Some (high / loss)
+
+-- each line of the named pages below this one has one minor
+pub record AreDecided (setup : Setup) (lines : List Line) (regs : Regs) (below : ℕ) : Type 0 where
+  pub each :
+      (page : ℕ) → page < below → is_named setup.shape lines (counter_position setup.shape page) ≡ true
+      → (i : ℕ) → i < 64 → length (tried_minors setup lines regs (64 * page + i)) ≡ 1

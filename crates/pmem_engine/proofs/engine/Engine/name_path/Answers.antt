@@ -36,7 +36,7 @@ invariant_of-self g c =
       c.self.invariant.1,
       c.make_dirty.ensures.long,
       whole_named shape c.self.inside.cache.banks c.args.page (c.in_err-make_dirty.ensures.cut.n + 1) c.self.inside.mirror c.make_dirty.new.mirror
-      c.self.invariant.2 c.self.invariant.3 c.in_err-make_dirty.ensures.cut.mirror,
+          c.self.invariant.2 c.self.invariant.3 c.in_err-make_dirty.ensures.cut.mirror,
     )
 
 pub invariant_of-self-2 : goal.invariant_of-self-2
@@ -46,7 +46,7 @@ invariant_of-self-2 g c =
       c.self.invariant.1,
       c.make_dirty.ensures.long,
       whole_named shape c.self.inside.cache.banks c.args.page (shape.levels + 1) c.self.inside.mirror c.make_dirty.new.mirror
-      c.self.invariant.2 c.self.invariant.3 c.in_ok-make_dirty.ensures.ok.mirror,
+          c.self.invariant.2 c.self.invariant.3 c.in_ok-make_dirty.ensures.ok.mirror,
     )
 
 pub returns-clause-named : goal.returns-clause-named

@@ -46,10 +46,10 @@ invariant_of-self g c =
     let shape : Shape = shape_of c.self.inside.geo in (
       c.set_clean.ensures.shape ∙ c.self.invariant.0,
       AreInTheirBanks-marked shape c.self.inside.cache c.set_clean.new.self c.levels.result (set_index c.self.inside.cache.shape c.args.x)
-      (with_mark (slots_of c.self.inside.cache c.levels.result c.args.x) c.args.x false)
-      (IsMarkedSet-with_mark c.self.inside.cache c.set_clean.new.self c.levels.result (set_index c.self.inside.cache.shape c.args.x)
-      c.args.x false c.set_clean.ensures)
-      c.self.invariant.1,
+          (with_mark (slots_of c.self.inside.cache c.levels.result c.args.x) c.args.x false)
+          (IsMarkedSet-with_mark c.self.inside.cache c.set_clean.new.self c.levels.result (set_index c.self.inside.cache.shape c.args.x)
+          c.args.x false c.set_clean.ensures)
+          c.self.invariant.1,
       c.self.invariant.2,
       c.self.invariant.3,
     )

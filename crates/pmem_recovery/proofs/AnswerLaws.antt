@@ -1,0 +1,175 @@
+-- Laws of recovery's answers: what each says of the device, of the registers and of the lines.
+use Rattle.std.proofs.Common.{ℕ, ◌≡◌, ◌≢◌, ◌<◌, ◌≤◌, ◌+◌, ◌*◌, true, false, List, [], ◌∷◌, length, Option, Some, None, Ok, Err, refl, ap, sym, subst, ◌∙◌, ◌⊎◌, inl, inr, arith}
+use Rattle.std.specs.Prelude.{is_some}
+use Rattle.std.proofs.lemmas.Option.{same_Some}
+use Rattle.std.proofs.lemmas.List.Elements.{All-nil, All-same}
+use Rattle.pmem_base.specs.declared.lines.Line.{Line}
+use Rattle.pmem_base.specs.declared.registers.Regs.{Regs}
+use Rattle.pmem_base.specs.Shape.{Shape, IsShape}
+use Rattle.pmem_base.specs.Layout as layout
+use Rattle.pmem_base.specs.Lines.{line_at}
+use Rattle.pmem_base.specs.Counts.{last_count}
+use Rattle.pmem_base.specs.Registers.{IsValidRegs, without_group}
+use Rattle.board.specs.Counts.{RisesBy}
+use Rattle.board.specs.Device.{Device, AreLinesOf, AreToldLines}
+use Rattle.pmem_base.proofs.LineSets.{length-put_lines}
+use Rattle.commit_regs.specs.Groups.{redone, redone_told, finishing_latches, RisesAtMost, HasFinished, IsInterrupted}
+use Rattle.suite.specs.Setup.{Setup}
+use Rattle.seal_ledger.specs.Ledger.{LedgerState}
+use Rattle.meta_cache.specs.Banks.{set_of}
+use Rattle.meta_cache.specs.State.{empty_banks}
+use Rattle.pmem_recovery.proofs.EmptyBanks.{set_of-empty_banks}
+use Rattle.pmem_engine.specs.Engine.{EngineState}
+use Rattle.pmem_engine.specs.Invariants.{IsAnchored, IsTrusted, IsSealStored, IsTrueSlot, IsMendable, IsDurable, IsSound, stored_meta}
+use Rattle.pmem_engine.specs.Mendable.{IsAllTrue, IsLineMendable, IsShadowZero, new_engine}
+use Rattle.pmem_engine.specs.Steps.{IsEmptied}
+use Rattle.pmem_engine.specs.Recached.{IsNewEngine}
+use Rattle.pmem_engine.proofs.SealLaws.{IsLineMendable-at}
+use Rattle.pmem_engine.proofs.MendableLaws.{IsValidRegs-emptied, IsAnchored-emptied, IsDurable-emptied, IsDurable-no_group, IsMendable-no_group, IsDurable-same_redone, IsSealStored-same, IsTrusted-new_engine, shadow_of-zero}
+use Rattle.pmem_recovery.specs.declared.faults.RecFault.{RecFault}
+use Rattle.pmem_recovery.specs.declared.faults.RecFault.TheVariants.{Memory, Cut, NoCounter, Root, Twin}
+use Rattle.pmem_recovery.specs.Trials.{stored_block, tried_minors, IsTwinOfLastSeal}
+use Rattle.pmem_recovery.specs.Written.{IsRecovered, differing}
+use Rattle.pmem_recovery.specs.Parts.{HasRoot, IsTwinOf, IsRefusal}
+use Rattle.pmem_recovery.specs.Mending.{IsPartlyMended}
+use Rattle.pmem_recovery.proofs.TrialLaws.{tried_minors_some, twin_of_last_seal}
+use Rattle.pmem_recovery.proofs.UndecidedLaws.{undecided_line}
+use Rattle.pmem_recovery.proofs.FixedLaws.{found_root_true}
+use Rattle.pmem_recovery.proofs.WrittenLaws.{off_tree_same, made_on_tree, all_true_written}
+use Rattle.pmem_recovery.proofs.EndLaws.{IsMendable-written, IsMendable-zeroed_to}
+
+-- ---- a partly mended device
+
+-- data lines and tag lines are as they were
+pub partly-data : (setup : Setup) (lines : List Line) (regs : Regs) (now : List Line) (n : ℕ) → IsPartlyMended setup lines regs now → n < 80 * layout.pages setup.shape → line_at now n ≡ line_at lines n
+partly-data setup lines regs now n (inl same) low = ap (λ l. line_at l n) same
+partly-data setup lines regs now n (inr (inl w)) low =
+    off_tree_same setup.shape lines w.written now n (made_on_tree setup lines regs w.written w.made) w.are_written (inl low)
+partly-data setup lines regs now n (inr (inr z)) low =
+    z.are_zeroed.others n (inl (omega (arith, low)))
+    ∙ off_tree_same setup.shape lines z.made z.between n (made_on_tree setup lines regs z.made z.all_made.each) z.all_written (inl low)
+
+-- and it can be mended still
+pub partly-mendable : (setup : Setup) (lines : List Line) (regs : Regs) (ledger : LedgerState) (now : List Line) → IsShape setup.shape → IsMendable setup lines regs ledger → IsPartlyMended setup lines regs now → IsMendable setup now regs ledger
+partly-mendable setup lines regs ledger now shape d (inl same) = subst (λ l. IsMendable setup l regs ledger) (sym same) d
+partly-mendable setup lines regs ledger now shape d (inr (inl w)) =
+    IsMendable-written setup lines regs ledger w.written now shape d w.decided w.made w.are_written
+partly-mendable setup lines regs ledger now shape d (inr (inr z)) =
+    IsMendable-zeroed_to setup z.between regs ledger z.zeroed now
+    (IsMendable-written setup lines regs ledger z.made z.between shape d z.decided z.all_made.each z.all_written)
+    (all_true_written setup lines regs ledger z.made z.between shape d z.decided z.all_made z.all_written) z.are_zeroed
+
+-- ---- refusals of a device that can be mended
+
+-- no counter never comes where the line's seal and its page's counter block are stored
+pub no_counter-caused : (setup : Setup) (lines : List Line) (regs : Regs) (ledger : LedgerState) (at : ℕ) → tried_minors setup lines regs at ≡ [] → IsLineMendable setup lines regs ledger at → ⊥
+no_counter-caused setup lines regs ledger at none d = tried_minors_some setup lines regs ledger at d (ap length none)
+
+-- nor at all on a device that can be mended, nor does a wrong root; a twin is the line's last seal's
+abbrev pub IsTrueRefusal : Regs → LedgerState → RecFault → Type 0
+IsTrueRefusal regs ledger (NoCounter at) = ⊥
+IsTrueRefusal regs ledger (Root kept found) = ⊥
+IsTrueRefusal regs ledger (Twin at major low high cipher tag) = IsTwinOfLastSeal regs.loss ledger at major low high cipher tag
+IsTrueRefusal regs ledger fault = Unit {0}
+
+pub true_refusal : (setup : Setup) (lines : List Line) (regs : Regs) (ledger : LedgerState) (fault : RecFault) → IsShape setup.shape → IsMendable setup lines regs ledger → IsRefusal setup lines regs fault → IsTrueRefusal regs ledger fault
+true_refusal setup lines regs ledger Memory shape d r = tt
+true_refusal setup lines regs ledger Cut shape d r = tt
+true_refusal setup lines regs ledger (NoCounter at) shape d r =
+    let line = undecided_line setup lines regs at r.0 in
+    no_counter-caused setup lines regs ledger at r.1 (IsLineMendable-at setup lines regs ledger at d line.0.on_device)
+true_refusal setup lines regs ledger (Root kept found) shape d r =
+    r.differ (r.its_found ∙ found_root_true setup lines regs ledger shape d r.decided ∙ sym r.its_kept)
+true_refusal setup lines regs ledger (Twin at major low high cipher tag) shape d r =
+    let line = undecided_line setup lines regs at r.0 in
+    let t = r.1 in
+    let last = twin_of_last_seal setup lines regs ledger at low high t.more (IsLineMendable-at setup lines regs ledger at d line.0.on_device) t.tried in
+    subst (λ m. IsTwinOfLastSeal regs.loss ledger at m low high cipher tag) (sym t.its_major)
+    (subst (λ c. IsTwinOfLastSeal regs.loss ledger at (stored_block setup.shape lines (layout.page_of at)).major low high c tag) (sym t.its_cipher)
+    (subst (λ z. IsTwinOfLastSeal regs.loss ledger at (stored_block setup.shape lines (layout.page_of at)).major low high (line_at lines at) z) (sym t.its_tag) last))
+
+-- ---- registers
+
+pub IsEmptied-without : (old new : Regs) → new ≡ without_group old → IsEmptied old new
+IsEmptied-without old new e =
+    record {
+      same_root = ap (λ r. r.root) e;
+      same_progress = ap (λ r. r.progress.items) e;
+      same_loss = ap (λ r. r.loss) e;
+      no_group = ap (λ r. r.group.items) e;
+    }
+
+-- answers depend on the root, the re-encryption registers and the stop-loss number alone
+pub HasRoot-without : (setup : Setup) (lines : List Line) (old new : Regs) → new ≡ without_group old → HasRoot setup lines new → HasRoot setup lines old
+HasRoot-without setup lines old new e r =
+    let h : HasRoot setup lines (without_group old) = subst (HasRoot setup lines) e r in
+    record { decided = h.decided; root = h.root }
+
+pub IsRefusal-without : (setup : Setup) (lines : List Line) (old new : Regs) (fault : RecFault) → new ≡ without_group old → IsRefusal setup lines new fault → IsRefusal setup lines old fault
+IsRefusal-without setup lines old new Memory e r = tt
+IsRefusal-without setup lines old new Cut e r = tt
+IsRefusal-without setup lines old new (NoCounter at) e r =
+    subst (λ regs. IsRefusal setup lines regs (NoCounter at)) e r
+IsRefusal-without setup lines old new (Root kept found) e r =
+    let h : IsRefusal setup lines (without_group old) (Root kept found) = subst (λ regs. IsRefusal setup lines regs (Root kept found)) e r in
+    record { decided = h.decided; its_kept = h.its_kept; its_found = h.its_found; differ = h.differ }
+IsRefusal-without setup lines old new (Twin at major low high cipher tag) e r =
+    let h : IsRefusal setup lines (without_group old) (Twin at major low high cipher tag) = subst (λ regs. IsRefusal setup lines regs (Twin at major low high cipher tag)) e r in
+    (h.0, record { more = h.1.more; tried = h.1.tried; its_major = h.1.its_major; its_cipher = h.1.its_cipher; its_tag = h.1.its_tag })
+
+-- ---- a new engine
+
+pub IsTrusted-fresh : (setup : Setup) (regs : Regs) (ledger : LedgerState) → IsAnchored setup regs ledger → regs.group.items ≡ [] → IsTrusted setup (new_engine setup.shape) regs ledger
+IsTrusted-fresh setup regs ledger anchored none =
+    record {
+      its_shape = refl;
+      anchored = anchored;
+      no_group = none;
+      not_down = refl;
+      cached_true = λ bank set. All-same (IsTrueSlot setup.shape ledger.truth bank set) (set_of (empty_banks setup.shape) bank set) [] (set_of-empty_banks setup.shape bank set) (All-nil (IsTrueSlot setup.shape ledger.truth bank set));
+    }
+
+pub IsNewEngine-fresh : (setup : Setup) (lines : List Line) → AreLinesOf (layout.device_lines setup.shape) lines → IsShadowZero setup lines → IsNewEngine setup (new_engine setup.shape) lines
+IsNewEngine-fresh setup lines whole zero =
+    record {
+      its_shape = refl;
+      empty_cache = λ bank set. set_of-empty_banks setup.shape bank set;
+      its_mirror = sym (shadow_of-zero setup lines whole zero);
+      not_down = refl;
+    }
+
+-- ---- lines that are told
+
+pub told_lines : (size : ℕ) (told : Option (List Line)) (lines : List Line) → AreToldLines size told → told ≡ Some lines → AreLinesOf size lines
+told_lines size told lines all e = subst (AreToldLines size) e all
+
+pub redone_told-told : (group : List (ℕ × Line)) (told : Option (List Line)) (lines : List Line) → told ≡ Some lines → redone_told group told ≡ Some (redone group lines)
+redone_told-told group told lines e = ap (redone_told group) e
+
+pub is_some-redone : (group : List (ℕ × Line)) (told : Option (List Line)) → is_some (redone_told group told) ≡ is_some told
+is_some-redone group None = refl
+is_some-redone group (Some lines) = refl
+
+-- ---- counts
+
+pub RisesAtMost-then : (n m k before mid after : ℕ) → m ≤ k → RisesBy n before mid → RisesBy m mid after → RisesAtMost (n + k) before after
+RisesAtMost-then n m k before mid after few a b =
+    record {
+      never_falls = omega (arith, a.never_falls, b.never_falls);
+      bound = λ below.
+          let late = b.exact below in
+          let early = a.exact (omega (arith, below, b.never_falls)) in
+          omega (arith, late, early, few);
+    }
+
+pub RisesAtMost-of : (n k before after : ℕ) → n ≤ k → RisesBy n before after → RisesAtMost k before after
+RisesAtMost-of n k before after few a =
+    record { never_falls = a.never_falls; bound = λ below. omega (arith, a.exact below, few) }
+
+pub RisesAtMost-weaker : (n k before after : ℕ) → n ≤ k → RisesAtMost n before after → RisesAtMost k before after
+RisesAtMost-weaker n k before after few a =
+    record { never_falls = a.never_falls; bound = λ below. omega (arith, a.bound below, few) }
+
+pub RisesAtMost-none : (k before after : ℕ) → after ≡ before → RisesAtMost k before after
+RisesAtMost-none k before after e =
+    record { never_falls = omega (arith, e); bound = λ below. omega (arith, e) }

@@ -1,0 +1,90 @@
+-- The steps of making the named counter blocks, upwards.
+use Rattle.std.proofs.Common.{ℕ, zero, suc, ◌≡◌, ◌≢◌, ◌<◌, ◌≤◌, ◌+◌, ◌-◌, ◌*◌, true, false, List, [], ◌∷◌, ◌++◌, length, None, Some, refl, ap, sym, subst, ◌∙◌, arith}
+use Rattle.std.proofs.lemmas.Bool.{true≢false}
+use Rattle.pmem_base.specs.declared.lines.Line.{Line}
+use Rattle.pmem_base.specs.declared.registers.Regs.{Regs}
+use Rattle.pmem_base.specs.Shape.{Shape, IsShape}
+use Rattle.pmem_base.specs.Layout.{pages, meta_lines}
+use Rattle.bonsai_tree.specs.Positions.{level_start, counter_position}
+use Rattle.bonsai_tree.proofs.Levels.{meta_lines-counters}
+use Rattle.shadow_tables.specs.Entries.{shadow_of}
+use Rattle.suite.specs.Setup.{Setup}
+use Rattle.pmem_engine.specs.Invariants.{is_named}
+use Rattle.pmem_recovery.specs.declared.entries.Made.{Made}
+use Rattle.pmem_recovery.specs.declared.faults.RecFault.{RecFault}
+use Rattle.pmem_recovery.specs.declared.faults.RecFault.TheVariants.{Memory, Cut, NoCounter, Root, Twin}
+use Rattle.pmem_recovery.specs.Named.{names, IsNextAt, IsNext}
+use Rattle.pmem_recovery.specs.Trials.{tried_minors, first_undecided, AreDecided}
+use Rattle.pmem_recovery.specs.Upward.{AreMadeTo, block_made}
+use Rattle.pmem_recovery.specs.Parts.{AreOneTried, IsTwinOf, IsPageRefusal, IsRefusal}
+use Rattle.pmem_recovery.proofs.UndecidedLaws.{AreDecided-more, first_undecided_at}
+use Rattle.pmem_recovery.proofs.UpwardSteps.{AreMadeTo-upto, AreMadeTo-block}
+
+-- so far as the counter blocks below a position
+pub record AreBlocksTo (setup : Setup) (lines : List Line) (regs : Regs) (page : ℕ) (made : List Made) : Type 0 where
+  pub decided : AreDecided setup lines regs page
+  pub blocks : AreMadeTo setup lines regs setup.shape.levels (counter_position setup.shape page) made
+
+-- pages that aren't named
+decided_gap : (setup : Setup) (lines : List Line) (regs : Regs) (page n : ℕ) → ((p : ℕ) → page ≤ p → p < page + n → is_named setup.shape lines (counter_position setup.shape p) ≡ false) → AreDecided setup lines regs page → AreDecided setup lines regs (page + n)
+decided_gap setup lines regs page zero none d =
+    let same : page ≡ page + 0 = omega arith in
+    subst (AreDecided setup lines regs) same d
+decided_gap setup lines regs page (suc n) none d =
+    let same : page + 1 + n ≡ page + suc n = omega arith in
+    subst (AreDecided setup lines regs) same
+    (decided_gap setup lines regs (page + 1) n (λ p low high. none p (omega arith) (omega arith))
+    (AreDecided-more setup lines regs page d (λ named i small. absurd (true≢false (sym named ∙ none page (omega arith) (omega arith))))))
+
+pub AreBlocksTo-gap : (setup : Setup) (lines : List Line) (regs : Regs) (page next : ℕ) (made : List Made) → page ≤ next → ((p : ℕ) → page ≤ p → p < next → is_named setup.shape lines (counter_position setup.shape p) ≡ false) → AreBlocksTo setup lines regs page made → AreBlocksTo setup lines regs next made
+AreBlocksTo-gap setup lines regs page next made low none b =
+    let g = setup.shape in
+    let same : page + (next - page) ≡ next = omega (arith, low) in
+    record {
+      decided =
+          subst (AreDecided setup lines regs) same
+          (decided_gap setup lines regs page (next - page) (λ p from to. none p from (omega (arith, same, to))) b.decided);
+      blocks =
+          AreMadeTo-upto setup lines regs g.levels (counter_position g page) (counter_position g next) made (omega arith) (omega (arith, low))
+          (λ x from to.
+          let its : level_start g.levels + (x - level_start g.levels) ≡ x = omega (arith, from) in
+          subst (λ z. is_named g lines z ≡ false) its (none (x - level_start g.levels) (omega (arith, from)) (omega (arith, from, to))))
+          b.blocks;
+    }
+
+-- the next named page, made
+pub AreBlocksTo-next : (setup : Setup) (lines : List Line) (regs : Regs) (page : ℕ) (made : List Made) → IsShape setup.shape → page < pages setup.shape → is_named setup.shape lines (counter_position setup.shape page) ≡ true → AreOneTried setup lines regs page → AreBlocksTo setup lines regs page made → AreBlocksTo setup lines regs (page + 1) (made ++ block_made setup lines regs page ∷ [])
+AreBlocksTo-next setup lines regs page made shape inside named one b =
+    let more : counter_position setup.shape page + 1 ≡ counter_position setup.shape (page + 1) = omega arith in
+    record {
+      decided = AreDecided-more setup lines regs page b.decided (λ n. one);
+      blocks =
+          subst (λ m. AreMadeTo setup lines regs setup.shape.levels m (made ++ block_made setup lines regs page ∷ [])) more
+          (AreMadeTo-block setup lines regs page made shape inside named b.blocks);
+    }
+
+no_elements : {X : Type 0} (xs : List X) → xs ≡ [] → length xs ≢ 1
+no_elements xs e one = let zero : length xs ≡ 0 = ap length e in omega (arith, zero, one)
+
+two_elements : {X : Type 0} (xs : List X) (a b : X) (more : List X) → xs ≡ a ∷ b ∷ more → length xs ≢ 1
+two_elements xs a b more e one =
+    let long : length xs ≡ suc (suc (length more)) = ap length e in
+    omega (arith, long, one)
+
+-- a stop at the next named page is the first there is
+pub stopped_at : (setup : Setup) (lines : List Line) (regs : Regs) (page : ℕ) (fault : RecFault) → page < pages setup.shape → is_named setup.shape lines (counter_position setup.shape page) ≡ true → AreDecided setup lines regs page → IsPageRefusal setup lines regs page fault → IsRefusal setup lines regs fault
+stopped_at setup lines regs page Memory inside named d r = tt
+stopped_at setup lines regs page Cut inside named d r = tt
+stopped_at setup lines regs page (NoCounter at) inside named d r =
+    let here = r.here in (
+      first_undecided_at setup lines regs page r.place inside named r.in_page d r.before (no_elements _ here.1)
+          ∙ ap Some (sym here.0),
+      ap (tried_minors setup lines regs) here.0 ∙ here.1,
+    )
+stopped_at setup lines regs page (Root kept found) inside named d r = absurd r.here
+stopped_at setup lines regs page (Twin at major low high cipher tag) inside named d r =
+    let here = r.here in (
+      first_undecided_at setup lines regs page r.place inside named r.in_page d r.before (two_elements _ low high here.1.more here.1.tried)
+          ∙ ap Some (sym here.0),
+      subst (λ a. IsTwinOf setup lines regs a major low high cipher tag) (sym here.0) here.1,
+    )

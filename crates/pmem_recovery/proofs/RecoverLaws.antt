@@ -1,0 +1,366 @@
+-- Laws of recovery as a whole: the relation that it keeps, from those of its stages.
+use Rattle.std.proofs.Common.{ℕ, ◌≡◌, ◌<◌, ◌≤◌, ◌+◌, ◌*◌, true, false, List, [], length, Option, Some, Ok, Err, refl, ap, sym, subst, ◌∙◌, inl, inr, arith}
+use Rattle.std.specs.Prelude.{is_some}
+use Rattle.std.proofs.lemmas.Option.{same_Some}
+use Rattle.pmem_base.specs.declared.lines.Line.{Line}
+use Rattle.pmem_base.specs.declared.registers.Regs.{Regs}
+use Rattle.pmem_base.specs.Shape.{Shape, IsShape}
+use Rattle.pmem_base.specs.Layout as layout
+use Rattle.pmem_base.specs.Lines.{line_at}
+use Rattle.pmem_base.specs.Registers.{IsValidRegs, without_group}
+use Rattle.board.specs.Counts.{RisesBy}
+use Rattle.board.specs.Device.{Device, AreLinesOf, AreToldLines}
+use Rattle.pmem_base.proofs.LineSets.{length-put_lines}
+use Rattle.commit_regs.specs.Groups.{redone, redone_told, finishing_latches, RisesAtMost, HasFinished, IsInterrupted}
+use Rattle.suite.specs.Formulas.{Formulas}
+use Rattle.suite.specs.Setup.{Setup}
+use Rattle.seal_ledger.specs.Ledger.{LedgerState}
+use Rattle.pmem_engine.specs.Invariants.{IsAnchored, IsSealStored, IsMendable, IsDurable, IsSound, stored_meta}
+use Rattle.pmem_engine.specs.Mendable.{IsShadowZero, new_engine}
+use Rattle.pmem_engine.specs.Steps.{IsEmptied}
+use Rattle.pmem_engine.proofs.MendableLaws.{AreLinesOf-redone, IsValidRegs-emptied, IsAnchored-emptied, IsDurable-emptied, IsDurable-no_group, IsMendable-emptied, IsDurable-same_redone, IsSealStored-same}
+use Rattle.pmem_recovery.specs.declared.faults.Work.{Work}
+use Rattle.pmem_recovery.specs.declared.faults.RecFault.{RecFault}
+use Rattle.pmem_recovery.specs.declared.faults.RecFault.TheVariants.{Memory, Cut, NoCounter, Root, Twin}
+use Rattle.pmem_recovery.specs.Trials.{IsTwinOfLastSeal}
+use Rattle.pmem_recovery.specs.Written.{IsRecovered, differing}
+use Rattle.pmem_recovery.specs.Parts.{HasOnlyRead, GoesOn, IsCutOff, StopsBy, SuiteState, HasWorked, HasWorkedAtMost, HasRoot, IsShown, IsRefusal, IsStopped}
+use Rattle.pmem_recovery.specs.Writing.{BothTold}
+use Rattle.pmem_recovery.specs.Mending.{IsPartlyMended, HasMadeWrites, IsLeftAlone}
+use Rattle.pmem_recovery.specs.Recovered.{Answer, RegsAfter, PowerAfter, HasOnlyRedone, IsUnchanged, CountsAtMost, IsFewWork, IsTwinValid, IsNoCounterCaused, IsMendedAs, IsCleared, HasMended, HasRecovered}
+use Rattle.pmem_recovery.proofs.PartLaws.{GoesOn-none, GoesOn-then, IsCutOff-after}
+use Rattle.pmem_recovery.proofs.WrittenLaws.{top_recovered, differing-none}
+use Rattle.pmem_recovery.proofs.EndLaws.{IsSound-recovered, IsShadowZero-recovered}
+use Rattle.pmem_recovery.proofs.AnswerLaws.{partly-data, partly-mendable, no_counter-caused, IsTrueRefusal, true_refusal, IsEmptied-without, HasRoot-without, IsRefusal-without, IsTrusted-fresh, IsNewEngine-fresh, told_lines, redone_told-told, is_some-redone, RisesAtMost-then, RisesAtMost-of, RisesAtMost-weaker, RisesAtMost-none}
+
+-- ---- no memory, and a cut while the group is redone
+
+pub counts-none : (most count : ℕ) → CountsAtMost most count count
+counts-none most count = record { calls = 0; few = omega arith; counted = refl }
+
+pub recovered_memory : (setup : Setup) (ledger : LedgerState) (old : Device) (suite : SuiteState) → IsValidRegs setup.shape old.regs → HasRecovered setup ledger old old suite suite (Err Memory)
+recovered_memory setup ledger old suite valid =
+    record {
+      size = refl;
+      told = refl;
+      reads = omega arith;
+      regs = refl;
+      valid = valid;
+      power = GoesOn-none old;
+      unchanged = refl;
+      writes = RisesAtMost-none _ old.writes old.writes refl;
+      latches = RisesAtMost-none _ old.latches old.latches refl;
+      keys = refl;
+      pads = refl;
+      trials = tt;
+      digests = tt;
+      few_work = tt;
+      few_trials = counts-none _ suite.tags;
+      few_digests = counts-none _ suite.digests;
+      anchored = λ a. a;
+      engine = tt;
+      trusted = λ a. tt;
+      twin = tt;
+      lines = λ lines told now after.
+          let same : now ≡ lines = same_Some now lines (sym after ∙ told) in
+          record {
+            from_durable = λ d. subst (λ l. IsDurable setup l old.regs ledger) (sym same) d;
+            data_same = λ n low. ap (λ l. line_at (redone old.regs.group.items l) n) same;
+            seals_kept = λ a inside stored. subst (λ l. IsSealStored setup.shape (redone old.regs.group.items l) ledger.marks a) (sym same) stored;
+            cleared = tt;
+            decided = tt;
+            no_counter = tt;
+            few_steps = RisesAtMost-none _ old.writes old.writes refl;
+            no_steps = λ none zero. (refl, refl);
+          };
+    }
+
+pub recovered_interrupted : (setup : Setup) (ledger : LedgerState) (old new : Device) (suite : SuiteState) → old.size ≡ layout.device_lines setup.shape → AreToldLines new.size new.lines → IsValidRegs setup.shape old.regs → (old.regs.group.items ≡ [] → ⊥) → IsInterrupted old.regs.group.items old new → HasRecovered setup ledger old new suite suite (Err Cut)
+recovered_interrupted setup ledger old new suite size whole valid armed cut =
+    let group = old.regs.group.items in
+    record {
+      size = cut.size;
+      told = sym (is_some-redone group new.lines) ∙ ap is_some cut.again ∙ is_some-redone group old.lines;
+      reads = omega (arith, cut.reads);
+      regs = inl cut.regs;
+      valid = subst (IsValidRegs setup.shape) (sym cut.regs) valid;
+      power = record { unsteady = cut.unsteady; off = cut.off; never_falls = cut.never_falls; rose = cut.rose };
+      unchanged = tt;
+      writes = RisesAtMost-weaker (length group) _ old.writes new.writes (omega arith) cut.writes;
+      latches = RisesAtMost-none _ old.latches new.latches cut.latches;
+      keys = refl;
+      pads = refl;
+      trials = tt;
+      digests = tt;
+      few_work = tt;
+      few_trials = counts-none _ suite.tags;
+      few_digests = counts-none _ suite.digests;
+      anchored = λ a. subst (λ regs. IsAnchored setup regs ledger) (sym cut.regs) a;
+      engine = tt;
+      trusted = λ a. tt;
+      twin = tt;
+      lines = λ lines told now after.
+          let same : redone group now ≡ redone group lines = same_Some (redone group now) (redone group lines) (sym (redone_told-told group new.lines now after) ∙ cut.again ∙ redone_told-told group old.lines lines told) in
+          let kept : redone new.regs.group.items now ≡ redone group lines = ap (λ r. redone r.group.items now) cut.regs ∙ same in
+          record {
+            from_durable = λ d.
+                subst (λ regs. IsDurable setup now regs ledger) (sym cut.regs)
+                (IsDurable-same_redone setup lines now old.regs ledger same
+                (subst (λ s. AreLinesOf s now) (cut.size ∙ size) (told_lines new.size new.lines now whole after)) d);
+            data_same = λ n low. ap (λ l. line_at l n) kept;
+            seals_kept = λ a inside stored. subst (λ l. IsSealStored setup.shape l ledger.marks a) (sym kept) stored;
+            cleared = tt;
+            decided = tt;
+            no_counter = tt;
+            few_steps = RisesAtMost-weaker (length group) _ old.writes new.writes (omega arith) cut.writes;
+            no_steps = λ none zero. absurd (armed none);
+          };
+    }
+
+-- ---- the group redone, and the named lines made and written
+
+-- the stages of a recovery that has its memory
+pub record IsRun (setup : Setup) (old mid new : Device) : Type 0 where
+  pub size : old.size ≡ layout.device_lines setup.shape
+  pub whole_before : AreToldLines old.size old.lines
+  pub whole_after : AreToldLines new.size new.lines
+  pub shape : IsShape setup.shape
+  pub valid : IsValidRegs setup.shape old.regs
+  pub finished : HasFinished old mid
+  pub idle : old.regs.group.items ≡ [] → mid ≡ old
+  pub written : HasMadeWrites setup mid.regs mid new
+
+module _ (setup : Setup) (ledger : LedgerState) (old mid new : Device) (run : IsRun setup old mid new) where
+  pub new_regs : new.regs ≡ without_group old.regs
+  new_regs = run.written.same_regs ∙ run.finished.regs
+
+  pub emptied : IsEmptied old.regs new.regs
+  emptied = IsEmptied-without old.regs new.regs new_regs
+
+  mid_emptied : IsEmptied old.regs mid.regs
+  mid_emptied = IsEmptied-without old.regs mid.regs run.finished.regs
+
+  pub goes_before : GoesOn old mid
+  goes_before = record { cuts = run.finished.cuts; steady = run.finished.steady; live = run.finished.live }
+
+  pub its_told : is_some new.lines ≡ is_some old.lines
+  its_told = run.written.told ∙ ap is_some run.finished.lines ∙ is_some-redone old.regs.group.items old.lines
+
+  pub its_reads : old.reads ≤ new.reads
+  its_reads = omega (arith, run.finished.reads, run.written.reads)
+
+  pub its_valid : IsValidRegs setup.shape new.regs
+  its_valid = IsValidRegs-emptied setup.shape old.regs new.regs emptied run.valid
+
+  pub its_writes : RisesAtMost (length old.regs.group.items + ((setup.shape.levels + 1) * layout.slots setup.shape + layout.shadow_lines setup.shape)) old.writes new.writes
+  its_writes = RisesAtMost-then (length old.regs.group.items) run.written.count _ old.writes mid.writes new.writes run.written.few run.finished.writes run.written.writes
+
+  pub its_latches : RisesAtMost (finishing_latches old.regs.group.items) old.latches new.latches
+  its_latches =
+      subst (RisesAtMost (finishing_latches old.regs.group.items) old.latches) (sym run.written.latches)
+      (RisesAtMost-of (finishing_latches old.regs.group.items) (finishing_latches old.regs.group.items) old.latches mid.latches (omega arith) run.finished.latches)
+
+  pub its_anchored : IsAnchored setup old.regs ledger → IsAnchored setup new.regs ledger
+  its_anchored = IsAnchored-emptied setup old.regs new.regs ledger emptied
+
+  -- where the lines are told
+  pub record AreItsLines (lines now : List Line) : Type 0 where
+    pub long : length (redone old.regs.group.items lines) ≡ layout.device_lines setup.shape
+    pub whole : AreLinesOf (layout.device_lines setup.shape) now
+    pub mid_told : mid.lines ≡ Some (redone old.regs.group.items lines)
+    pub partly : IsPartlyMended setup (redone old.regs.group.items lines) mid.regs now
+    pub kept : redone new.regs.group.items now ≡ now
+    pub count : differing (redone old.regs.group.items lines) now ≡ run.written.count
+    pub no_count : IsShadowZero setup (redone old.regs.group.items lines) → run.written.count ≡ 0
+
+  pub its_lines : (lines now : List Line) → old.lines ≡ Some lines → new.lines ≡ Some now → AreItsLines lines now
+  its_lines lines now told after =
+      let before : AreLinesOf (layout.device_lines setup.shape) lines = subst (λ s. AreLinesOf s lines) run.size (told_lines old.size old.lines lines run.whole_before told) in
+      let long : length (redone old.regs.group.items lines) ≡ layout.device_lines setup.shape = length-put_lines old.regs.group.items lines ∙ before.count in
+      let mid_told : mid.lines ≡ Some (redone old.regs.group.items lines) = run.finished.lines ∙ redone_told-told old.regs.group.items old.lines lines told in
+      let w = run.written.lines (redone old.regs.group.items lines) mid_told now after long in
+      record {
+        long = long;
+        whole = subst (λ s. AreLinesOf s now) (run.written.size ∙ run.finished.size ∙ run.size) (told_lines new.size new.lines now run.whole_after after);
+        mid_told = mid_told;
+        partly = w.0;
+        kept = ap (λ items. redone items now) emptied.no_group;
+        count = w.1;
+        no_count = w.2;
+      }
+
+  pub its_data : (lines now : List Line) → AreItsLines lines now → (n : ℕ) → n < 80 * layout.pages setup.shape → line_at (redone new.regs.group.items now) n ≡ line_at (redone old.regs.group.items lines) n
+  its_data lines now m n low =
+      ap (λ l. line_at l n) m.kept ∙ partly-data setup (redone old.regs.group.items lines) mid.regs now n m.partly low
+
+  pub its_seals : (lines now : List Line) → AreItsLines lines now → (a : ℕ) → a < layout.data_lines setup.shape → IsSealStored setup.shape (redone old.regs.group.items lines) ledger.marks a → IsSealStored setup.shape (redone new.regs.group.items now) ledger.marks a
+  its_seals lines now m a inside stored =
+      IsSealStored-same setup.shape (redone old.regs.group.items lines) (redone new.regs.group.items now) ledger.marks a inside (its_data lines now m) stored
+
+  pub its_steps : (lines now : List Line) → AreItsLines lines now → RisesAtMost (length old.regs.group.items + differing (redone old.regs.group.items lines) now) old.writes new.writes
+  its_steps lines now m =
+      RisesAtMost-then (length old.regs.group.items) run.written.count _ old.writes mid.writes new.writes (omega (arith, m.count)) run.finished.writes run.written.writes
+
+  pub its_no_steps : (lines now : List Line) → AreItsLines lines now → old.regs.group.items ≡ [] → IsShadowZero setup lines → (new.writes ≡ old.writes) × (new.latches ≡ old.latches)
+  its_no_steps lines now m none zero =
+      let same = run.idle none in
+      let again : redone old.regs.group.items lines ≡ lines = ap (λ items. redone items lines) none in
+      let idle = m.no_count (subst (IsShadowZero setup) (sym again) zero) in (
+        run.written.none idle ∙ ap (λ (d : Device). d.writes) same,
+        run.written.latches ∙ ap (λ (d : Device). d.latches) same,
+      )
+
+  -- a durable device is durable still, with its group redone and with some lines written
+  pub mid_durable : (lines : List Line) → IsDurable setup lines old.regs ledger → IsDurable setup (redone old.regs.group.items lines) mid.regs ledger
+  mid_durable lines d = IsDurable-emptied setup lines old.regs mid.regs ledger mid_emptied d
+
+  mid_mendable : (lines : List Line) → IsDurable setup lines old.regs ledger → IsMendable setup (redone old.regs.group.items lines) mid.regs ledger
+  mid_mendable lines d = IsMendable-emptied setup (redone old.regs.group.items lines) old.regs mid.regs ledger mid_emptied d.mendable
+
+  pub its_durable : (lines now : List Line) → AreItsLines lines now → IsDurable setup lines old.regs ledger → IsDurable setup now new.regs ledger
+  its_durable lines now m d =
+      IsDurable-no_group setup now new.regs ledger emptied.no_group m.whole
+      (subst (λ regs. IsMendable setup now regs ledger) (sym run.written.same_regs)
+      (partly-mendable setup (redone old.regs.group.items lines) mid.regs ledger now run.shape (mid_mendable lines d) m.partly))
+
+  -- ---- a fault
+
+  regs_after : (fault : RecFault) → IsShown setup.formulas fault → RegsAfter (Err fault) old.regs new.regs
+  regs_after Memory shown = absurd shown
+  regs_after Cut shown = inr new_regs
+  regs_after (NoCounter at) shown = new_regs
+  regs_after (Root kept found) shown = new_regs
+  regs_after (Twin at major low high cipher tag) shown = new_regs
+
+  power_after : (fault : RecFault) → StopsBy fault mid new → PowerAfter (Err fault) old new
+  power_after Memory s = GoesOn-then old mid new goes_before s
+  power_after Cut s = IsCutOff-after old mid new goes_before s
+  power_after (NoCounter at) s = GoesOn-then old mid new goes_before s
+  power_after (Root kept found) s = GoesOn-then old mid new goes_before s
+  power_after (Twin at major low high cipher tag) s = GoesOn-then old mid new goes_before s
+
+  only_redone : HasOnlyRead mid new → HasOnlyRedone old new
+  only_redone r =
+      record {
+        lines = r.lines ∙ run.finished.lines;
+        writes = subst (RisesBy (length old.regs.group.items) old.writes) (sym r.writes) run.finished.writes;
+        latches = subst (RisesBy (finishing_latches old.regs.group.items) old.latches) (sym r.latches) run.finished.latches;
+      }
+
+  unchanged_after : (fault : RecFault) → IsShown setup.formulas fault → IsLeftAlone fault mid new → IsUnchanged (Err fault) old new
+  unchanged_after Memory shown left = absurd shown
+  unchanged_after Cut shown left = tt
+  unchanged_after (NoCounter at) shown left = only_redone left
+  unchanged_after (Root kept found) shown left = only_redone left
+  unchanged_after (Twin at major low high cipher tag) shown left = only_redone left
+
+  twin_valid : (fault : RecFault) → IsShown setup.formulas fault → IsTwinValid setup.formulas fault
+  twin_valid Memory shown = tt
+  twin_valid Cut shown = tt
+  twin_valid (NoCounter at) shown = tt
+  twin_valid (Root kept found) shown = tt
+  twin_valid (Twin at major low high cipher tag) shown = shown
+
+  no_counter_after : (lines : List Line) (fault : RecFault) → IsRefusal setup lines old.regs fault → IsNoCounterCaused setup lines old.regs ledger (Err fault)
+  no_counter_after lines Memory r = tt
+  no_counter_after lines Cut r = tt
+  no_counter_after lines (NoCounter at) r = no_counter-caused setup lines old.regs ledger at r.1
+  no_counter_after lines (Root kept found) r = tt
+  no_counter_after lines (Twin at major low high cipher tag) r = tt
+
+  mended_after : (now : List Line) (fault : RecFault) → IsTrueRefusal mid.regs ledger fault → IsDurable setup now new.regs ledger → IsMendedAs setup old.regs new.regs ledger now (Err fault)
+  mended_after now Memory r d = d
+  mended_after now Cut r d = d
+  mended_after now (NoCounter at) r d = r
+  mended_after now (Root kept found) r d = r
+  mended_after now (Twin at major low high cipher tag) r d =
+      (subst (λ n. IsTwinOfLastSeal n ledger at major low high cipher tag) mid_emptied.same_loss r, d)
+
+  pub recovered_fault : (suite_old suite_new : SuiteState) (fault : RecFault) → IsStopped setup.formulas fault (λ lines. length lines ≡ layout.device_lines setup.shape → IsRefusal setup lines mid.regs fault) mid new → IsLeftAlone fault mid new → HasWorkedAtMost (64 * mid.regs.loss * layout.slots setup.shape) (4 * setup.shape.levels * layout.slots setup.shape + 1) suite_old suite_new → HasRecovered setup ledger old new suite_old suite_new (Err fault)
+  recovered_fault suite_old suite_new fault s left work =
+      record {
+        size = run.written.size ∙ run.finished.size;
+        told = its_told;
+        reads = its_reads;
+        regs = regs_after fault s.shown;
+        valid = its_valid;
+        power = power_after fault s.device;
+        unchanged = unchanged_after fault s.shown left;
+        writes = its_writes;
+        latches = its_latches;
+        keys = work.worked.keys;
+        pads = work.worked.pads;
+        trials = tt;
+        digests = tt;
+        few_work = tt;
+        few_trials =
+            subst (λ n. CountsAtMost (64 * n * layout.slots setup.shape) suite_old.tags suite_new.tags) mid_emptied.same_loss
+            (record { calls = work.trials; few = work.few_trials; counted = work.worked.tags });
+        few_digests = record { calls = work.digests; few = work.few_digests; counted = work.worked.digests };
+        anchored = its_anchored;
+        engine = tt;
+        trusted = λ a. tt;
+        twin = twin_valid fault s.shown;
+        lines = λ lines told now after.
+            let m = its_lines lines now told after in
+            let refused = s.reason (redone old.regs.group.items lines) m.mid_told m.long in
+            let as_asked = IsRefusal-without setup (redone old.regs.group.items lines) old.regs mid.regs fault run.finished.regs refused in
+            record {
+              from_durable = λ d. mended_after now fault (true_refusal setup (redone old.regs.group.items lines) mid.regs ledger fault run.shape (mid_mendable lines d) refused) (its_durable lines now m d);
+              data_same = its_data lines now m;
+              seals_kept = its_seals lines now m;
+              cleared = tt;
+              decided = as_asked;
+              no_counter = no_counter_after (redone old.regs.group.items lines) fault as_asked;
+              few_steps = its_steps lines now m;
+              no_steps = its_no_steps lines now m;
+            };
+      }
+
+  -- ---- a new engine
+
+  pub recovered_ok : (suite_old suite_new : SuiteState) (work : Work) → GoesOn mid new → BothTold mid new (λ lines now. length lines ≡ layout.device_lines setup.shape → IsRecovered setup lines mid.regs now × HasRoot setup lines mid.regs) → HasWorked work.trials work.digests suite_old suite_new → work.trials ≤ 64 * mid.regs.loss * layout.slots setup.shape → work.digests ≤ 4 * setup.shape.levels * layout.slots setup.shape + 1 → HasRecovered setup ledger old new suite_old suite_new (Ok (new_engine setup.shape, work))
+  recovered_ok suite_old suite_new work goes recovered worked few_trials few_digests =
+      let few : work.trials ≤ 64 * old.regs.loss * layout.slots setup.shape = subst (λ n. work.trials ≤ 64 * n * layout.slots setup.shape) mid_emptied.same_loss few_trials in
+      record {
+        size = run.written.size ∙ run.finished.size;
+        told = its_told;
+        reads = its_reads;
+        regs = new_regs;
+        valid = its_valid;
+        power = GoesOn-then old mid new goes_before goes;
+        unchanged = tt;
+        writes = its_writes;
+        latches = its_latches;
+        keys = worked.keys;
+        pads = worked.pads;
+        trials = worked.tags;
+        digests = worked.digests;
+        few_work = record { trials = few; digests = few_digests };
+        few_trials = record { calls = work.trials; few = few; counted = worked.tags };
+        few_digests = record { calls = work.digests; few = few_digests; counted = worked.digests };
+        anchored = its_anchored;
+        engine = refl;
+        trusted = λ a. IsTrusted-fresh setup new.regs ledger (its_anchored a) emptied.no_group;
+        twin = tt;
+        lines = λ lines told now after.
+            let m = its_lines lines now told after in
+            let r = recovered (redone old.regs.group.items lines) m.mid_told now after m.long in
+            let zero = IsShadowZero-recovered setup (redone old.regs.group.items lines) mid.regs now r.0 in
+            record {
+              from_durable = λ d.
+                  subst (λ regs. IsSound setup (new_engine setup.shape) now regs ledger) (sym run.written.same_regs)
+                  (IsSound-recovered setup (new_engine setup.shape) (redone old.regs.group.items lines) mid.regs ledger now run.shape mid_emptied.no_group (mid_durable lines d) r.0 m.whole (IsNewEngine-fresh setup now m.whole zero));
+              data_same = its_data lines now m;
+              seals_kept = its_seals lines now m;
+              cleared =
+                  record {
+                    shadow_zero = zero;
+                    top = top_recovered setup (redone old.regs.group.items lines) mid.regs now r.0 ∙ r.1.root ∙ ap (λ regs. regs.root) (sym run.written.same_regs);
+                  };
+              decided = HasRoot-without setup (redone old.regs.group.items lines) old.regs mid.regs run.finished.regs r.1;
+              no_counter = tt;
+              few_steps = its_steps lines now m;
+              no_steps = its_no_steps lines now m;
+            };
+      }

@@ -1,0 +1,78 @@
+use Rattle.std.proofs.Common.{ℕ, ◌≡◌, ◌<◌, ◌≤◌, ◌+◌, ◌-◌, ◌*◌, ◌/◌, ◌^◌, ◌++◌, ◌∷◌, [], Bool, List, sym, ap, subst, refl, ◌∙◌, lit<, arith}
+use Rattle.std.proofs.lemmas.Result.{err_from_is_err_and}
+use Rattle.pmem_base.specs.declared.lines.Line.{Line}
+use Rattle.pmem_base.specs.Geo.{shape_of}
+use Rattle.pmem_base.specs.Layout.{pages, meta_line}
+use Rattle.pmem_base.specs.Lines.{line_at}
+use Rattle.bonsai_tree.specs.Positions.{counter_position}
+use Rattle.split_counters.specs.Blocks.{packed, unpacked}
+use Rattle.pmem_engine.specs.Invariants.{stored_meta}
+use Rattle.pmem_recovery.specs.declared.entries.Made.{Made}
+use Rattle.pmem_recovery.specs.declared.faults.RecFault.TheVariants.{Cut}
+use Rattle.pmem_recovery.specs.Trials.{stored_block}
+use Rattle.pmem_recovery.specs.Fixed.{fixed_block}
+use Rattle.pmem_recovery.specs.Upward.{is_other}
+use Rattle.pmem_recovery.specs.Parts.{setup_of, IsPageRefusal, AreOneTried}
+use Rattle.pmem_recovery.proofs.PartLaws.{HasOnlyRead-read, GoesOn-read, IsCutOff-cut, told-read, told_before, HasWorked-none, HasWorkedAtMost-of, IsStopped-after, IfErr-exit}
+use Rattle.pmem_recovery.proofs.counters.fix_counter.Goals as goal
+
+pub returns-in_err-read-clause-at_most : goal.returns-in_err-read-clause-at_most
+returns-in_err-read-clause-at_most g c = HasWorkedAtMost-of 0 0 (64 * c.args.regs.now.loss) 0 _ _ (omega arith) (omega arith) (HasWorked-none _)
+
+pub returns-in_err-read-clause-stopped : goal.returns-in_err-read-clause-stopped
+returns-in_err-read-clause-stopped g c =
+    IfErr-exit c.from_residual.result Cut _ (err_from_is_err_and c.from_residual.result c.from_residual.ensures.1)
+    (record {
+      device = IsCutOff-cut _ _ c.in_err-read.ensures.cut;
+      shown = tt;
+      reason = λ lines told page inside at. record { place = 0; in_page = lit< tt; before = λ j low. absurd (omega arith); here = tt };
+    })
+
+-- the page of a counter block's position
+page_is : (levels count x page : ℕ) → count ≡ 4 ^ levels → x ≡ (4 ^ levels - 1) / 3 + page → x - (count - 1) / 3 ≡ page
+page_is levels count x page e at = rw e (omega (arith, at))
+
+pub returns-in_err-fixed-clause-stopped : goal.returns-in_err-fixed-clause-stopped
+returns-in_err-fixed-clause-stopped g c =
+    let g' = shape_of c.args.geo.now in
+    let f = g.S.Suite.formulas_of (g.S.Suite.keys c.args.suite.now) in
+    let fault = c.in_err-fixed.field-0.0 in
+    let read = c.in_ok-read.ensures.ok in
+    IfErr-exit c.from_residual-in_err-fixed.result fault _ (err_from_is_err_and c.from_residual-in_err-fixed.result c.from_residual-in_err-fixed.ensures.1)
+    (IsStopped-after f f fault _ _ _ _ _ refl (HasOnlyRead-read _ _ _ _ read) (GoesOn-read _ _ _ _ read)
+    (λ lines told w page inside at.
+    let its_page = page_is g'.levels c.pages.result c.args.x page c.pages.ensures.value at in
+    let its_line : c.in_ok-read.read ≡ stored_meta g' lines c.args.x = told-read _ _ _ _ read lines told ∙ ap (line_at lines) c.meta_line.ensures.value in
+    let its_block : c.unpack.result ≡ stored_block g' lines page = c.unpack.ensures.value ∙ ap unpacked its_line ∙ ap (λ z. unpacked (stored_meta g' lines z)) at in
+    subst (λ p. IsPageRefusal (setup_of c.args.geo.now f) lines c.args.regs.now p fault) its_page
+    (w (its_block ∙ ap (stored_block g' lines) (sym its_page))))
+    c.in_err-fixed.ensures.stopped)
+
+abbrev entry : ℕ → Line → Bool → Made
+entry x line changed = record { at = x; line = line; changed = changed }
+
+entry_is : (x y : ℕ) (line other : Line) (changed same : Bool) → x ≡ y → line ≡ other → changed ≡ same → entry x line changed ≡ entry y other same
+entry_is x y line other changed same e l b =
+    ap (λ z. entry z line changed) e ∙ ap (λ z. entry y z changed) l ∙ ap (entry y other) b
+
+made_more : (made : List Made) {a b : Made} → a ≡ b → made ++ a ∷ [] ≡ made ++ b ∷ []
+made_more made e = ap (λ entry. made ++ entry ∷ []) e
+
+pub returns-clause-told : goal.returns-clause-told
+returns-clause-told g c = λ lines told page inside at.
+    let g' = shape_of c.args.geo.now in
+    let f = g.S.Suite.formulas_of (g.S.Suite.keys c.args.suite.now) in
+    let setup = setup_of c.args.geo.now f in
+    let read = c.in_ok-read.ensures.ok in
+    let its_page = page_is g'.levels c.pages.result c.args.x page c.pages.ensures.value at in
+    let its_line : c.in_ok-read.read ≡ stored_meta g' lines c.args.x = told-read _ _ _ _ read lines told ∙ ap (line_at lines) c.meta_line.ensures.value in
+    let its_block : c.unpack.result ≡ stored_block g' lines page = c.unpack.ensures.value ∙ ap unpacked its_line ∙ ap (λ z. unpacked (stored_meta g' lines z)) at in
+    let fixed = c.in_ok-fixed.ensures.told lines (told_before _ _ (HasOnlyRead-read _ _ _ _ read) lines told) (its_block ∙ ap (stored_block g' lines) (sym its_page)) in
+    let line : c.pack-line.result ≡ packed (fixed_block setup lines c.args.regs.now page) =
+    c.pack-line.ensures ∙ ap packed (fixed.0 ∙ ap (fixed_block setup lines c.args.regs.now) its_page) in
+    let other : c.is_other.result ≡ is_other (stored_meta g' lines (counter_position g' page)) (packed (fixed_block setup lines c.args.regs.now page)) =
+    c.is_other.ensures ∙ ap (λ l. is_other l c.pack-line.result) (its_line ∙ ap (stored_meta g' lines) at) ∙ ap (is_other (stored_meta g' lines (counter_position g' page))) line in (
+      c.push_reserved.ensures.items
+          ∙ made_more c.args.made.now.items (entry_is c.args.x (counter_position g' page) c.pack-line.result (packed (fixed_block setup lines c.args.regs.now page)) c.is_other.result (is_other (stored_meta g' lines (counter_position g' page)) (packed (fixed_block setup lines c.args.regs.now page))) at line other),
+      subst (AreOneTried setup lines c.args.regs.now) its_page fixed.1,
+    )

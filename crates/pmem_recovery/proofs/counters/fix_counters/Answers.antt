@@ -1,0 +1,172 @@
+use Rattle.std.proofs.Common.{ℕ, ◌≡◌, ◌<◌, ◌≤◌, ◌+◌, ◌-◌, ◌*◌, ◌^◌, ◌++◌, ◌∷◌, [], true, false, IsTrue, All, List, length, vec_capacity, sym, ap, subst, refl, ◌∙◌, arith}
+use Rattle.std.proofs.lemmas.Result.{err_from_is_err_and}
+use Rattle.std.proofs.lemmas.List.{length-append}
+use Rattle.std.proofs.lemmas.List.Elements.{All-append, All-cons, All-nil}
+use Rattle.std.proofs.lemmas.Nat.{mul-le}
+use Rattle.pmem_base.specs.declared.lines.Line.{Line}
+use Rattle.pmem_base.specs.Geo.{shape_of}
+use Rattle.pmem_base.specs.Shape.{Shape}
+use Rattle.pmem_base.specs.Layout.{pages, meta_lines, slots}
+use Rattle.bonsai_tree.specs.Positions.{level_start, counter_position}
+use Rattle.bonsai_tree.proofs.Levels.{meta_lines-counters}
+use Rattle.pmem_base.specs.Shape.{is_loss}
+use Rattle.stop_loss.proofs.Windows.{is_loss_cases}
+use Rattle.shadow_tables.specs.Entries.{shadow_of}
+use Rattle.pmem_engine.specs.Invariants.{is_named}
+use Rattle.pmem_recovery.specs.declared.entries.Made.{Made}
+use Rattle.pmem_recovery.specs.Named.{names, count_named, IsNextAt}
+use Rattle.pmem_recovery.specs.Upward.{AreMadeTo, block_made}
+use Rattle.pmem_recovery.specs.Parts.{setup_of, HasMade, IsPageRefusal, AreOneTried}
+use Rattle.pmem_recovery.proofs.PartLaws.{HasOnlyRead-then, GoesOn-then, HasWorked-then, HasWorkedAtMost-of, HasWorkedAtMost-after, IsStopped-after, IfErr-exit, IsShape-geo, slots-small, few_in_all, few_and_one, told_before}
+use Rattle.pmem_recovery.proofs.NamedLaws.{count_named-next, count_named-last, count_named-le, count_named-counters}
+use Rattle.pmem_recovery.proofs.CounterSteps.{AreBlocksTo, AreBlocksTo-gap, AreBlocksTo-next, stopped_at}
+use Rattle.pmem_recovery.proofs.counters.fix_counters.Goals as goal
+
+-- the next one has room
+next_fits : (g : Shape) (shadow : List Line) (n from x : ℕ) → n ≡ count_named g shadow (level_start g.levels) from → level_start g.levels ≤ from → IsNextAt (names g shadow) from (meta_lines g) x → count_named g shadow (level_start g.levels) (meta_lines g) ≤ slots g → n < slots g
+next_fits g shadow n from x e low next most =
+    let more = count_named-next g shadow (level_start g.levels) from (meta_lines g) x low next in
+    let up = count_named-le g shadow (level_start g.levels) (x + 1) (meta_lines g) (omega (arith, low, next.low)) (omega (arith, next.high)) in
+    omega (arith, e, more, up, most)
+
+longer : {n : ℕ} {old new : List Made} → HasMade n old new → length new ≡ length old + 1
+longer {n} {old} {new} m = ap length m.items ∙ length-append old (m.entry ∷ [])
+
+pub fix_counter-requires-clause-room : goal.fix_counter-requires-clause-room
+fix_counter-requires-clause-room g c =
+    let shape = shape_of c.args.geo.now in
+    let inv = c.positions.invariant in
+    let next : IsNextAt (names shape c.args.shadow.now) c.positions.from (meta_lines shape) c.in-Some.x =
+    subst (λ n. IsNextAt (names shape c.args.shadow.now) c.positions.from n c.in-Some.x) c.metas.ensures.value c.in-Some.ensures in
+    let room = next_fits shape c.args.shadow.now (length c.positions.made.items) c.positions.from c.in-Some.x inv.counted inv.low next (count_named-counters shape c.args.shadow.now (IsShape-geo c.args.geo.now)) in
+    omega (arith, room, c.positions.made.ok, inv.capacity, c.requires.room)
+
+loss_small : (n : ℕ) → IsTrue (is_loss n) → n ≤ 16
+loss_small n h = let cases = is_loss_cases n h in omega arith
+
+fits : (n loss slots : ℕ) → n ≤ 64 * loss * slots → loss ≤ 16 → slots ≤ 512 → n < 2 ^ 64
+fits n loss slots h low small =
+    let m = mul-le (64 * loss) slots 1024 512 (omega arith) small in
+    omega arith
+
+pub overflow_add-trials : goal.overflow_add-trials
+overflow_add-trials g c =
+    let shape = shape_of c.args.geo.now in
+    let inv = c.positions.invariant in
+    let next : IsNextAt (names shape c.args.shadow.now) c.positions.from (meta_lines shape) c.in-Some.x =
+    subst (λ n. IsNextAt (names shape c.args.shadow.now) c.positions.from n c.in-Some.x) c.metas.ensures.value c.in-Some.ensures in
+    let room = next_fits shape c.args.shadow.now (length c.positions.made.items) c.positions.from c.in-Some.x inv.counted inv.low next (count_named-counters shape c.args.shadow.now (IsShape-geo c.args.geo.now)) in
+    let small = fits (c.positions.trials + c.in_ok-trials.field-0) c.args.regs.now.loss (slots shape)
+    (few_and_one c.positions.trials c.in_ok-trials.field-0 (64 * c.args.regs.now.loss) (length c.positions.made.items) (slots shape) inv.few c.in_ok-trials.ensures.few room)
+    (loss_small c.args.regs.now.loss c.requires.loss) (slots-small shape (IsShape-geo c.args.geo.now)) in
+    omega (arith, small)
+
+pub returns-in_err-trials-clause-at_most : goal.returns-in_err-trials-clause-at_most
+returns-in_err-trials-clause-at_most g c =
+    let shape = shape_of c.args.geo.now in
+    let inv = c.positions.invariant in
+    let next : IsNextAt (names shape c.args.shadow.now) c.positions.from (meta_lines shape) c.in-Some.x =
+    subst (λ n. IsNextAt (names shape c.args.shadow.now) c.positions.from n c.in-Some.x) c.metas.ensures.value c.in-Some.ensures in
+    let room = next_fits shape c.args.shadow.now (length c.positions.made.items) c.positions.from c.in-Some.x inv.counted inv.low next (count_named-counters shape c.args.shadow.now (IsShape-geo c.args.geo.now)) in
+    HasWorkedAtMost-after c.positions.trials 0 (64 * c.args.regs.now.loss) 0 (64 * c.args.regs.now.loss * slots shape) 0 _ _ _
+    (few_and_one c.positions.trials (64 * c.args.regs.now.loss) (64 * c.args.regs.now.loss) (length c.positions.made.items) (slots shape) inv.few (omega arith) room)
+    (omega arith) inv.worked c.in_err-trials.ensures.at_most
+
+pub returns-in_err-trials-clause-stopped : goal.returns-in_err-trials-clause-stopped
+returns-in_err-trials-clause-stopped g c =
+    let shape = shape_of c.args.geo.now in
+    let inv = c.positions.invariant in
+    let fault = c.in_err-trials.field-0.0 in
+    let start = level_start shape.levels in
+    let next : IsNextAt (names shape c.args.shadow.now) c.positions.from (meta_lines shape) c.in-Some.x =
+    subst (λ n. IsNextAt (names shape c.args.shadow.now) c.positions.from n c.in-Some.x) c.metas.ensures.value c.in-Some.ensures in
+    IfErr-exit c.from_residual.result fault _ (err_from_is_err_and c.from_residual.result c.from_residual.ensures.1)
+    (IsStopped-after _ (g.S.Suite.formulas_of (g.S.Suite.keys c.args.suite.now)) fault _ _ _ _ _ (ap (λ keys. g.S.Suite.formulas_of keys) inv.worked.keys) inv.read inv.goes
+    (λ lines told w shadow.
+    let setup = setup_of c.args.geo.now (g.S.Suite.formulas_of (g.S.Suite.keys c.args.suite.now)) in
+    let page : ℕ = c.in-Some.x - start in
+    let at : c.in-Some.x ≡ counter_position shape page = omega (arith, inv.low, next.low) in
+    let inside : page < pages shape = omega (arith, next.high, meta_lines-counters shape, inv.low, next.low) in
+    let named : is_named shape lines (counter_position shape page) ≡ true =
+    subst (λ z. is_named shape lines z ≡ true) at (subst (λ s. names shape s c.in-Some.x ≡ true) shadow next.passes) in
+    let before = AreBlocksTo-gap setup lines c.args.regs.now (c.positions.from - start) page c.positions.made.items (omega (arith, next.low))
+    (λ p from to. subst (λ s. names shape s (counter_position shape p) ≡ false) shadow (next.before (counter_position shape p) (omega (arith, from, inv.low)) (omega (arith, to, at))))
+    (inv.told lines told shadow) in
+    stopped_at setup lines c.args.regs.now page fault inside named before.decided
+    (subst (λ keys. IsPageRefusal (setup_of c.args.geo.now (g.S.Suite.formulas_of keys)) lines c.args.regs.now page fault) inv.worked.keys (w page inside at)))
+    c.in_err-trials.ensures.stopped)
+
+pub positions-preserved : goal.positions-preserved
+positions-preserved g c =
+    let shape = shape_of c.args.geo.now in
+    let inv = c.positions.invariant in
+    let ok = c.in_ok-trials.ensures in
+    let start = level_start shape.levels in
+    let next : IsNextAt (names shape c.args.shadow.now) c.positions.from (meta_lines shape) c.in-Some.x =
+    subst (λ n. IsNextAt (names shape c.args.shadow.now) c.positions.from n c.in-Some.x) c.metas.ensures.value c.in-Some.ensures in
+    record {
+      read = HasOnlyRead-then _ _ _ inv.read ok.read;
+      goes = GoesOn-then _ _ _ inv.goes ok.goes;
+      low = omega (arith, inv.low, next.low);
+      high = omega (arith, next.high);
+      counted = longer ok.made ∙ ap (λ n. n + 1) inv.counted ∙ sym (count_named-next shape c.args.shadow.now start c.positions.from (meta_lines shape) c.in-Some.x inv.low next);
+      worked = HasWorked-then c.positions.trials 0 c.in_ok-trials.field-0 0 _ _ _ inv.worked ok.worked;
+      few = subst (λ n. c.positions.trials + c.in_ok-trials.field-0 ≤ n * (64 * c.args.regs.now.loss)) (sym (longer ok.made)) (one_more c.positions.trials c.in_ok-trials.field-0 (64 * c.args.regs.now.loss) (length c.positions.made.items) inv.few ok.few);
+      on_tree =
+          subst (λ made. All (λ entry. entry.at < meta_lines shape) made) (sym ok.made.items)
+          (All-append (λ entry. entry.at < meta_lines shape) c.positions.made.items (ok.made.entry ∷ []) inv.on_tree
+          (All-cons (λ entry. entry.at < meta_lines shape) ok.made.entry [] (omega (arith, ok.made.at, next.high)) (All-nil (λ entry. entry.at < meta_lines shape))));
+      capacity = ok.capacity ∙ inv.capacity;
+      told = λ lines told shadow.
+          let setup = setup_of c.args.geo.now (g.S.Suite.formulas_of (g.S.Suite.keys c.args.suite.now)) in
+          let page : ℕ = c.in-Some.x - start in
+          let at : c.in-Some.x ≡ counter_position shape page = omega (arith, inv.low, next.low) in
+          let inside : page < pages shape = omega (arith, next.high, meta_lines-counters shape, inv.low, next.low) in
+          let named : is_named shape lines (counter_position shape page) ≡ true =
+          subst (λ z. is_named shape lines z ≡ true) at (subst (λ s. names shape s c.in-Some.x ≡ true) shadow next.passes) in
+          let before = AreBlocksTo-gap setup lines c.args.regs.now (c.positions.from - start) page c.positions.made.items (omega (arith, next.low))
+          (λ p from to. subst (λ s. names shape s (counter_position shape p) ≡ false) shadow (next.before (counter_position shape p) (omega (arith, from, inv.low)) (omega (arith, to, at))))
+          (inv.told lines told shadow) in
+          let made : (c.fix_counter.new.made.items ≡ c.positions.made.items ++ block_made setup lines c.args.regs.now page ∷ []) × AreOneTried setup lines c.args.regs.now page =
+          subst (λ keys. (c.fix_counter.new.made.items ≡ c.positions.made.items ++ block_made (setup_of c.args.geo.now (g.S.Suite.formulas_of keys)) lines c.args.regs.now page ∷ []) × AreOneTried (setup_of c.args.geo.now (g.S.Suite.formulas_of keys)) lines c.args.regs.now page) inv.worked.keys
+          (ok.told lines (told_before _ _ inv.read lines told) page inside at) in
+          let up : page + 1 ≡ c.in-Some.x + 1 - start = omega (arith, inv.low, next.low) in
+          subst (λ p. AreBlocksTo setup lines c.args.regs.now p c.fix_counter.new.made.items) up
+          (subst (AreBlocksTo setup lines c.args.regs.now (page + 1)) (sym made.0)
+          (AreBlocksTo-next setup lines c.args.regs.now page c.positions.made.items (IsShape-geo c.args.geo.now) inside named made.1 before));
+    }
+  where
+    one_more : (done more each few : ℕ) → done ≤ few * each → more ≤ each → done + more ≤ (few + 1) * each
+    one_more done more each few h less = omega arith
+
+-- at the end
+few_at_end : (g : Shape) (shadow : List Line) (n from : ℕ) → n ≡ count_named g shadow (level_start g.levels) from → level_start g.levels ≤ from → from ≤ meta_lines g → count_named g shadow (level_start g.levels) (meta_lines g) ≤ slots g → n ≤ slots g
+few_at_end g shadow n from e low high most =
+    omega (arith, e, count_named-le g shadow (level_start g.levels) from (meta_lines g) low high, most)
+
+pub returns-clause-few_made : goal.returns-clause-few_made
+returns-clause-few_made g c =
+    let shape = shape_of c.args.geo.now in
+    few_at_end shape c.args.shadow.now (length c.positions.made.items) c.positions.from c.positions.invariant.counted c.positions.invariant.low c.positions.invariant.high (count_named-counters shape c.args.shadow.now (IsShape-geo c.args.geo.now))
+
+pub returns-clause-few_trials : goal.returns-clause-few_trials
+returns-clause-few_trials g c =
+    few_in_all c.positions.trials (64 * c.args.regs.now.loss) (length c.positions.made.items) (slots (shape_of c.args.geo.now)) c.positions.invariant.few (returns-clause-few_made g c)
+
+pub returns-clause-at_most : goal.returns-clause-at_most
+returns-clause-at_most g c =
+    HasWorkedAtMost-of c.positions.trials 0 (64 * c.args.regs.now.loss * slots (shape_of c.args.geo.now)) 0 _ _ (returns-clause-few_trials g c) (omega arith) c.positions.invariant.worked
+
+pub returns-clause-told : goal.returns-clause-told
+returns-clause-told g c = λ lines told shadow.
+    let shape = shape_of c.args.geo.now in
+    let inv = c.positions.invariant in
+    let start = level_start shape.levels in
+    let setup = setup_of c.args.geo.now (g.S.Suite.formulas_of (g.S.Suite.keys c.args.suite.now)) in
+    let count = meta_lines-counters shape in
+    let all = AreBlocksTo-gap setup lines c.args.regs.now (c.positions.from - start) (pages shape) c.positions.made.items (omega (arith, inv.high, count))
+    (λ p from to. subst (λ s. names shape s (counter_position shape p) ≡ false) shadow
+    (c.in_default.ensures (counter_position shape p) (omega (arith, from, inv.low)) (omega (arith, to, count, c.metas.ensures.value))))
+    (inv.told lines told shadow) in
+    let end : counter_position shape (pages shape) ≡ meta_lines shape = omega (arith, count) in
+    (all.decided, subst (λ m. AreMadeTo setup lines c.args.regs.now shape.levels m c.positions.made.items) end all.blocks)

@@ -1,0 +1,33 @@
+use Rattle.std.proofs.Common.{◌≡◌, ◌<◌, ◌≤◌, ◌-◌, ◌*◌, All, length, vec_capacity}
+use Rattle.pmem_base.specs.Geo.{shape_of}
+use Rattle.pmem_base.specs.Layout.{meta_lines}
+use Rattle.bonsai_tree.specs.Positions.{level_start}
+use Rattle.shadow_tables.specs.Entries.{shadow_of}
+use Rattle.pmem_recovery.specs.Named.{count_named}
+use Rattle.pmem_recovery.specs.Parts.{setup_of, Told, HasOnlyRead, GoesOn, suite_state, HasWorked}
+use Rattle.pmem_recovery.proofs.CounterSteps.{AreBlocksTo}
+use Rattle.pmem_recovery.proofs.counters.fix_counters.Given as goal
+
+abbrev pub invariant-positions : goal.invariant-positions
+invariant-positions g l =
+    let start = g.B.Board.device l.initial.board in
+    let now = g.B.Board.device l.board in
+    let shape = shape_of l.geo in
+    record {
+      read : HasOnlyRead start now;
+      goes : GoesOn start now;
+      low : level_start shape.levels ≤ l.from;
+      high : l.from ≤ meta_lines shape;
+      counted : length l.made.items ≡ count_named shape l.shadow (level_start shape.levels) l.from;
+      worked : HasWorked l.trials 0
+          (suite_state (g.S.Suite.keys l.initial.suite) (g.S.Suite.pads l.initial.suite) (g.S.Suite.tags l.initial.suite) (g.S.Suite.digests l.initial.suite))
+          (suite_state (g.S.Suite.keys l.suite) (g.S.Suite.pads l.suite) (g.S.Suite.tags l.suite) (g.S.Suite.digests l.suite));
+      few : l.trials ≤ length l.made.items * (64 * l.regs.loss);
+      on_tree : All (λ entry. entry.at < meta_lines shape) l.made.items;
+      capacity : vec_capacity l.made ≡ vec_capacity l.initial.made;
+      told : Told start.lines (λ lines. l.shadow ≡ shadow_of shape lines
+          → AreBlocksTo (setup_of l.geo (g.S.Suite.formulas_of (g.S.Suite.keys l.initial.suite))) lines l.regs (l.from - level_start shape.levels) l.made.items);
+    }
+
+abbrev pub decreases-positions : goal.decreases-positions
+decreases-positions g l = meta_lines (shape_of l.geo) - l.from

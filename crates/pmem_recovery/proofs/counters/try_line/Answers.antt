@@ -1,0 +1,62 @@
+use Rattle.std.proofs.Common.{ℕ, ◌≡◌, ◌≤◌, ◌+◌, ◌-◌, length, sym, subst, ◌∙◌, arith}
+use Rattle.std.proofs.lemmas.List.FromFn.{length-range_with_len}
+use Rattle.std.proofs.lemmas.Result.{err_from_is_err_and}
+use Rattle.page_reencrypt.specs.Registers.{register_held}
+use Rattle.stop_loss.specs.Windows.{minors_within, window_minors}
+use Rattle.pmem_recovery.specs.Parts.{setup_of, suite_state, HasWorked}
+use Rattle.pmem_recovery.proofs.PartLaws.{HasWorked-none, HasWorkedAtMost-of, IfErr-exit}
+use Rattle.pmem_recovery.proofs.TryLaws.{tried_is, refusal_is, shown_undecided, stops_undecided, none_left, length-window_minors}
+use Rattle.pmem_recovery.proofs.counters.try_line.Goals as goal
+
+pub returns-then-is_left-clause-at_most : goal.returns-then-is_left-clause-at_most
+returns-then-is_left-clause-at_most g c = HasWorkedAtMost-of 0 0 c.args.regs.now.loss 0 _ _ (omega arith) (omega arith) (HasWorked-none _)
+
+pub returns-in_err-cipher-clause-at_most : goal.returns-in_err-cipher-clause-at_most
+returns-in_err-cipher-clause-at_most g c = HasWorkedAtMost-of 0 0 c.args.regs.now.loss 0 _ _ (omega arith) (omega arith) (HasWorked-none _)
+
+few : (stored loss first last : ℕ) → minors_within first last ≡ window_minors stored loss → length (minors_within first last) ≤ loss
+few stored loss first last e = subst (λ l. length l ≤ loss) (sym e) (length-window_minors stored loss)
+
+pub returns-in_err-found-clause-at_most : goal.returns-in_err-found-clause-at_most
+returns-in_err-found-clause-at_most g c =
+    HasWorkedAtMost-of _ 0 c.args.regs.now.loss 0 _ _ (few _ c.args.regs.now.loss _ _ c.window-ends.ensures.minors) (omega arith) c.in_err-found.ensures.worked
+
+pub returns-in_err-found-clause-stopped : goal.returns-in_err-found-clause-stopped
+returns-in_err-found-clause-stopped g c =
+    let f = g.S.Suite.formulas_of (g.S.Suite.keys c.args.suite.now) in
+    let fault = c.in_err-found.field-0.0 in
+    let stored = c.args.stored.now in
+    let u = c.in_err-found.ensures.decided in
+    let free = none_left (register_held c.args.regs.now.progress.items c.args.at) (sym c.is_left.ensures ∙ c.if-is_left.false) in
+    IfErr-exit c.from_residual-in_err-found.result fault _ (err_from_is_err_and c.from_residual-in_err-found.result c.from_residual-in_err-found.ensures.1)
+    (record {
+      device = stops_undecided f c.args.at stored.major c.in_ok-cipher.cipher c.in_ok-cipher.tag _ fault _ _ u c.in_ok-cipher.ensures.ok;
+      shown = shown_undecided f c.args.at stored.major c.in_ok-cipher.cipher c.in_ok-cipher.tag _ fault u;
+      reason = λ lines told its_block.
+          let read = c.in_ok-cipher.ensures.told lines told in
+          refusal_is (setup_of c.args.geo.now f) lines c.args.regs.now c.args.at stored c.in_ok-cipher.cipher c.in_ok-cipher.tag _ fault
+          (tried_is (setup_of c.args.geo.now f) lines c.args.regs.now c.args.at stored c.in_ok-cipher.cipher c.in_ok-cipher.tag (minors_within c.window-ends.result.0 c.window-ends.result.1) free its_block read.0 read.1 c.window-ends.ensures.minors)
+          its_block read.0 read.1 u;
+    })
+
+-- the window has as many minors
+width : (first last : ℕ) → length (minors_within first last) ≡ last + 1 - first
+width first last = length-range_with_len first (last + 1 - first)
+
+pub returns-clause-worked : goal.returns-clause-worked
+returns-clause-worked g c =
+    let same : length (minors_within c.window-ends.result.0 c.window-ends.result.1) ≡ c.from.result + 1 - c.from-2.result =
+    width c.window-ends.result.0 c.window-ends.result.1 ∙ omega (arith, c.from.ensures, c.from-2.ensures) in
+    subst (λ n. HasWorked n 0 (suite_state (g.S.Suite.keys c.args.suite.now) (g.S.Suite.pads c.args.suite.now) (g.S.Suite.tags c.args.suite.now) (g.S.Suite.digests c.args.suite.now)) (suite_state (g.S.Suite.keys c.try_window.new.suite) (g.S.Suite.pads c.try_window.new.suite) (g.S.Suite.tags c.try_window.new.suite) (g.S.Suite.digests c.try_window.new.suite))) same c.in_ok-found.ensures.worked
+
+pub returns-clause-at_most : goal.returns-clause-at_most
+returns-clause-at_most g c =
+    HasWorkedAtMost-of _ 0 c.args.regs.now.loss 0 _ _ (few _ c.args.regs.now.loss _ _ c.window-ends.ensures.minors) (omega arith) c.in_ok-found.ensures.worked
+
+pub returns-clause-told : goal.returns-clause-told
+returns-clause-told g c = λ lines told its_block.
+    let f = g.S.Suite.formulas_of (g.S.Suite.keys c.args.suite.now) in
+    let free = none_left (register_held c.args.regs.now.progress.items c.args.at) (sym c.is_left.ensures ∙ c.if-is_left.false) in
+    let read = c.in_ok-cipher.ensures.told lines told in
+    tried_is (setup_of c.args.geo.now f) lines c.args.regs.now c.args.at c.args.stored.now c.in_ok-cipher.cipher c.in_ok-cipher.tag (minors_within c.window-ends.result.0 c.window-ends.result.1) free its_block read.0 read.1 c.window-ends.ensures.minors
+    ∙ c.in_ok-found.ensures.decided.0

@@ -1,0 +1,29 @@
+use Rattle.std.proofs.Common.{ℕ, ◌≡◌, ◌<◌, ◌-◌, ◌/◌, List, sym, subst, ◌∙◌, arith}
+use Rattle.std.proofs.lemmas.List.Elements.{All-set}
+use Rattle.pmem_base.specs.Geo.{shape_of}
+use Rattle.pmem_base.specs.Lines.{IsLine, line_at}
+use Rattle.bonsai_tree.specs.Positions.{level_start}
+use Rattle.bonsai_tree.specs.Nodes.{node_over}
+use Rattle.bonsai_tree.proofs.Levels.{meta_lines-counters}
+use Rattle.pmem_base.proofs.LineSets.{line_at-set_other}
+use Rattle.suite.specs.Formulas.{Formulas}
+use Rattle.pmem_recovery.proofs.FormatSteps.{nodes_more}
+use Rattle.pmem_recovery.proofs.formatting.grow_nodes.Goals as goal
+
+pub nodes-preserved : goal.nodes-preserved
+nodes-preserved g c =
+    let formulas : List ℕ → Formulas = λ keys. g.S.Suite.formulas_of keys in
+    let at : ℕ = (c.pages.result - 1) / 3 - 1 - c.nodes.done in
+    let first : ℕ = level_start (shape_of c.args.geo.now).levels in
+    let line = c.node_above-line.result in
+    let value : line ≡ node_over (formulas (g.S.Suite.keys c.args.suite.now)) at (line_at c.nodes.truth) =
+    subst (λ k. line ≡ node_over (formulas k) at (line_at c.nodes.truth)) c.nodes.invariant.keys c.node_above-line.ensures.value in
+    record {
+      keys = c.node_above-line.ensures.keys ∙ c.nodes.invariant.keys;
+      whole = All-set IsLine c.nodes.truth at line c.is_whole.ensures c.nodes.invariant.whole;
+      blocks = λ x from. line_at-set_other c.nodes.truth at x line (λ e. omega (arith, e, from, c.pages.ensures.value, c.nodes-test)) ∙ c.nodes.invariant.blocks x from;
+      nodes =
+          nodes_more (formulas (g.S.Suite.keys c.args.suite.now)) first c.nodes.done at line c.nodes.truth
+          (omega (arith, c.nodes-test, c.pages.ensures.value)) (omega (arith, c.pages.ensures.value))
+          (subst (λ n. at < n) (sym (c.nodes.auto.truth ∙ c.requires.long)) (omega (arith, c.nodes-test, c.pages.ensures.value, meta_lines-counters (shape_of c.args.geo.now)))) value c.nodes.invariant.nodes;
+    }

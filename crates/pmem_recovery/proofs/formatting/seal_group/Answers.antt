@@ -1,0 +1,51 @@
+use Rattle.std.proofs.Common.{ℕ, ◌≡◌, ◌<◌, ◌+◌, ◌*◌, List, refl, subst, ◌∙◌, arith}
+use Rattle.pmem_base.specs.Geo.{shape_of}
+use Rattle.pmem_base.proofs.LayoutLemmas.{pages-most}
+use Rattle.pmem_base.specs.Lines.{tag_slot}
+use Rattle.board.specs.Steps.{HasWritten}
+use Rattle.suite.specs.Formulas.{Formulas}
+use Rattle.pmem_recovery.specs.Parts.{setup_of}
+use Rattle.pmem_recovery.specs.Formatting.{first_cipher, first_tag, HasSealedFrom}
+use Rattle.pmem_recovery.proofs.FormatSteps.{IsGroupTo, StaysSteady-then, StaysSteady-written, HasSealedFrom-then, IsGroupTo-more, HasSealedGroup-written, slots-more}
+use Rattle.pmem_recovery.proofs.formatting.seal_group.Goals as goal
+
+pub overflow_mul-group : goal.overflow_mul-group
+overflow_mul-group g c = omega (arith, c.requires.group, pages-most (shape_of c.args.geo.now).levels c.args.geo.now.has_levels.1)
+
+pub overflow_add-group : goal.overflow_add-group
+overflow_add-group g c = omega (arith, c.requires.group, c.lines-test, pages-most (shape_of c.args.geo.now).levels c.args.geo.now.has_levels.1)
+
+pub lines-preserved : goal.lines-preserved
+lines-preserved g c =
+    let formulas : List ℕ → Formulas = λ keys. g.S.Suite.formulas_of keys in
+    let setup = setup_of c.args.geo.now (formulas (g.S.Suite.keys c.args.suite.now)) in
+    let at : ℕ = 4 * c.args.group + c.lines.i in
+    let start = g.B.Board.device c.args.board.now in
+    let mid = g.B.Board.device c.lines.board in
+    let new = g.B.Board.device c.seal_one.new.board in
+    let written : HasWritten mid at (first_cipher setup at) new =
+    subst (λ k. HasWritten mid at (first_cipher (setup_of c.args.geo.now (formulas k)) at) new) c.lines.invariant.keys c.seal_one.ensures.written in
+    let sealed : HasSealedFrom setup at 1 (g.A.Audit.ledger c.lines.audit) (g.A.Audit.ledger c.seal_one.new.audit) =
+    subst (λ k. HasSealedFrom (setup_of c.args.geo.now (formulas k)) at 1 (g.A.Audit.ledger c.lines.audit) (g.A.Audit.ledger c.seal_one.new.audit)) c.lines.invariant.keys c.seal_one.ensures.ledger in
+    let here : tag_slot c.seal_one.new.tags at ≡ first_tag setup at =
+    subst (λ k. tag_slot c.seal_one.new.tags at ≡ first_tag (setup_of c.args.geo.now (formulas k)) at) c.lines.invariant.keys c.seal_one.ensures.here in
+    record {
+      keys = c.seal_one.ensures.keys ∙ c.lines.invariant.keys;
+      steady = StaysSteady-then start mid new c.lines.invariant.steady (StaysSteady-written mid at (first_cipher setup at) new written);
+      ledger = HasSealedFrom-then setup (4 * c.args.group) c.lines.i at 1 _ _ _ refl c.lines.invariant.ledger sealed;
+      slots = slots-more setup c.args.group c.lines.i c.lines.tags c.seal_one.new.tags (omega (arith, c.lines-test)) c.lines.invariant.slots here c.seal_one.ensures.others;
+      lines = IsGroupTo-more setup c.args.group c.lines.i at start mid new c.requires.group (omega (arith, c.lines-test)) refl c.lines.invariant.lines written;
+    }
+
+pub overflow_mul-group-2 : goal.overflow_mul-group-2
+overflow_mul-group-2 g c = omega (arith, c.requires.group, pages-most (shape_of c.args.geo.now).levels c.args.geo.now.has_levels.1)
+
+pub returns-clause-lines : goal.returns-clause-lines
+returns-clause-lines g c =
+    let formulas : List ℕ → Formulas = λ keys. g.S.Suite.formulas_of keys in
+    let setup = setup_of c.args.geo.now (formulas (g.S.Suite.keys c.args.suite.now)) in
+    let four : c.lines.i ≡ 4 = omega (arith, c.lines-test, c.lines.auto.i-end) in
+    HasSealedGroup-written setup c.args.group c.tag_line.result c.lines.tags _ _ _ c.requires.group c.tag_line.ensures.value
+    (subst (λ n. (j : ℕ) → j < n → tag_slot c.lines.tags (4 * c.args.group + j) ≡ first_tag setup (4 * c.args.group + j)) four c.lines.invariant.slots)
+    (subst (λ n. IsGroupTo setup c.args.group n (g.B.Board.device c.args.board.now) (g.B.Board.device c.lines.board)) four c.lines.invariant.lines)
+    c.write_steady.ensures

@@ -1,0 +1,19 @@
+use Rattle.std.proofs.Common.{ℕ, ◌≡◌, ◌<◌, ◌+◌, ◌*◌}
+use Rattle.pmem_base.specs.Lines.{tag_slot}
+use Rattle.pmem_recovery.specs.Parts.{setup_of}
+use Rattle.pmem_recovery.specs.Formatting.{first_tag, HasSealedFrom, StaysSteady}
+use Rattle.pmem_recovery.proofs.FormatSteps.{IsGroupTo}
+use Rattle.pmem_recovery.proofs.formatting.seal_group.Given as goal
+
+abbrev pub invariant-lines : goal.invariant-lines
+invariant-lines g l =
+    let setup = setup_of l.geo (g.S.Suite.formulas_of (g.S.Suite.keys l.initial.suite)) in
+    let start = g.B.Board.device l.initial.board in
+    let now = g.B.Board.device l.board in
+    record {
+      keys : g.S.Suite.keys l.suite ≡ g.S.Suite.keys l.initial.suite;
+      steady : StaysSteady start now;
+      ledger : HasSealedFrom setup (4 * l.group) l.i (g.A.Audit.ledger l.initial.audit) (g.A.Audit.ledger l.audit);
+      slots : (j : ℕ) → j < l.i → tag_slot l.tags (4 * l.group + j) ≡ first_tag setup (4 * l.group + j);
+      lines : IsGroupTo setup l.group l.i start now;
+    }

@@ -1,0 +1,34 @@
+use Rattle.std.proofs.Common.{ℕ, ◌≡◌, ◌+◌, ◌*◌, List, Some, length, sym, subst, ◌∙◌, arith}
+use Rattle.pmem_base.specs.Geo.{shape_of}
+use Rattle.pmem_base.proofs.LayoutLemmas.{pages-most}
+use Rattle.suite.specs.Formulas.{Formulas}
+use Rattle.pmem_recovery.specs.Parts.{setup_of}
+use Rattle.pmem_recovery.specs.Formatting.{HasSealedFrom, HasSealedGroup, HasSealedAll}
+use Rattle.pmem_recovery.proofs.FormatSteps.{told_long, StaysSteady-then, HasSealedFrom-then, HasSealedAll-more}
+use Rattle.pmem_recovery.proofs.formatting.seal_lines.Goals as goal
+
+pub groups-preserved : goal.groups-preserved
+groups-preserved g c =
+    let formulas : List ℕ → Formulas = λ keys. g.S.Suite.formulas_of keys in
+    let setup = setup_of c.args.geo.now (formulas (g.S.Suite.keys c.args.suite.now)) in
+    let start = g.B.Board.device c.args.board.now in
+    let mid = g.B.Board.device c.groups.board in
+    let new = g.B.Board.device c.seal_group.new.board in
+    let first = g.A.Audit.ledger c.args.audit.now in
+    let before = g.A.Audit.ledger c.groups.audit in
+    let after = g.A.Audit.ledger c.seal_group.new.audit in
+    let n = c.groups.group in
+    let sealed : HasSealedFrom setup (4 * n) 4 before after =
+    subst (λ k. HasSealedFrom (setup_of c.args.geo.now (formulas k)) (4 * n) 4 before after) c.groups.invariant.keys c.seal_group.ensures.ledger in
+    let lines : HasSealedGroup setup n mid new =
+    subst (λ k. HasSealedGroup (setup_of c.args.geo.now (formulas k)) n mid new) c.groups.invariant.keys c.seal_group.ensures.lines in
+    let next : 4 * n + 4 ≡ 4 * (n + 1) = omega arith in
+    record {
+      keys = c.seal_group.ensures.keys ∙ c.groups.invariant.keys;
+      steady = StaysSteady-then start mid new c.groups.invariant.steady c.seal_group.ensures.steady;
+      ledger = subst (λ k. HasSealedFrom setup 0 k first after) next (HasSealedFrom-then setup 0 (4 * n) (4 * n) 4 first before after (omega arith) c.groups.invariant.ledger sealed);
+      lines =
+          HasSealedAll-more setup n mid new (omega (arith, c.groups-test))
+          (told_long mid _ (g.met.B.Board.whole c.groups.board) (c.groups.invariant.steady.size ∙ c.requires.size))
+          c.seal_group.ensures.steady.told c.groups.invariant.lines lines;
+    }

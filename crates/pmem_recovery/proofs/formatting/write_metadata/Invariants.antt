@@ -1,0 +1,13 @@
+use Rattle.pmem_base.specs.Geo.{shape_of}
+use Rattle.pmem_recovery.specs.Formatting.{StaysSteady, HasToldMeta, HasWrittenMeta}
+use Rattle.pmem_recovery.proofs.formatting.write_metadata.Given as goal
+
+abbrev pub invariant-lines : goal.invariant-lines
+invariant-lines g l =
+    let start = g.B.Board.device l.initial.board in
+    let now = g.B.Board.device l.board in
+    record {
+      steady : StaysSteady start now;
+      ledger : HasToldMeta (shape_of l.geo) l.truth l.x (g.A.Audit.ledger l.initial.audit) (g.A.Audit.ledger l.audit);
+      lines : HasWrittenMeta (shape_of l.geo) l.truth l.x start now;
+    }

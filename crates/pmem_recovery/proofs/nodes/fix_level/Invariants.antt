@@ -1,0 +1,37 @@
+use Rattle.std.proofs.Common.{◌≡◌, suc, ◌<◌, ◌≤◌, ◌+◌, ◌-◌, ◌*◌, All, length, vec_capacity}
+use Rattle.pmem_base.specs.declared.registers.Regs.{Regs}
+use Rattle.pmem_base.specs.Geo.{shape_of}
+use Rattle.pmem_base.specs.Layout.{meta_lines}
+use Rattle.bonsai_tree.specs.Positions.{level_start}
+use Rattle.shadow_tables.specs.Entries.{shadow_of}
+use Rattle.pmem_recovery.specs.Named.{count_named}
+use Rattle.pmem_recovery.specs.Upward.{AreMadeTo}
+use Rattle.pmem_recovery.specs.Parts.{setup_of, Told, HasOnlyRead, GoesOn, suite_state, HasWorked}
+use Rattle.pmem_recovery.proofs.nodes.fix_level.Given as goal
+
+abbrev pub invariant-positions : goal.invariant-positions
+invariant-positions g l =
+    let start = g.B.Board.device l.initial.board in
+    let now = g.B.Board.device l.board in
+    let shape = shape_of l.geo in
+    let setup = setup_of l.geo (g.S.Suite.formulas_of (g.S.Suite.keys l.initial.suite)) in
+    record {
+      read : HasOnlyRead start now;
+      goes : GoesOn start now;
+      low : level_start l.level ≤ l.from;
+      high : l.from ≤ level_start (suc l.level);
+      counted : length l.made.items ≡ length l.initial.made.items + count_named shape l.shadow (level_start l.level) l.from;
+      done : l.digests ≡ 4 * count_named shape l.shadow (level_start l.level) l.from;
+      worked : HasWorked 0 l.digests
+          (suite_state (g.S.Suite.keys l.initial.suite) (g.S.Suite.pads l.initial.suite) (g.S.Suite.tags l.initial.suite) (g.S.Suite.digests l.initial.suite))
+          (suite_state (g.S.Suite.keys l.suite) (g.S.Suite.pads l.suite) (g.S.Suite.tags l.suite) (g.S.Suite.digests l.suite));
+      on_tree : All (λ entry. entry.at < meta_lines shape) l.initial.made.items
+          → All (λ entry. entry.at < meta_lines shape) l.made.items;
+      capacity : vec_capacity l.made ≡ vec_capacity l.initial.made;
+      told : Told start.lines (λ lines. (regs : Regs) → l.shadow ≡ shadow_of shape lines
+          → AreMadeTo setup lines regs l.level (level_start l.level) l.initial.made.items
+          → AreMadeTo setup lines regs l.level l.from l.made.items);
+    }
+
+abbrev pub decreases-positions : goal.decreases-positions
+decreases-positions g l = level_start (suc l.level) - l.from

@@ -1,0 +1,101 @@
+use Rattle.std.proofs.Common.{ℕ, zero, suc, ◌≡◌, ◌<◌, ◌≤◌, ◌+◌, ◌-◌, ◌*◌, List, length, sym, ap, subst, ◌∙◌, arith}
+use Rattle.pmem_base.specs.declared.lines.Line.{Line}
+use Rattle.pmem_base.specs.declared.geometry.Geo.{Geo}
+use Rattle.pmem_base.specs.Geo.{shape_of}
+use Rattle.pmem_base.specs.Shape.{Shape}
+use Rattle.pmem_base.specs.Layout.{meta_lines}
+use Rattle.bonsai_tree.specs.Positions.{level_start}
+use Rattle.bonsai_tree.proofs.Levels.{level_start-le, meta_lines-level}
+use Rattle.pmem_recovery.specs.Named.{count_named}
+use Rattle.pmem_recovery.specs.Upward.{AreMadeTo}
+use Rattle.pmem_recovery.specs.Parts.{setup_of}
+use Rattle.pmem_recovery.proofs.PartLaws.{HasOnlyRead-none, HasOnlyRead-then, GoesOn-none, GoesOn-then, HasWorked-none, HasWorked-then, HasWorkedAtMost-of, HasWorkedAtMost-after, IsShape-geo, told_before}
+use Rattle.pmem_recovery.proofs.NamedLaws.{count_named-none, count_named-parts, count_named-within, count_named-small}
+use Rattle.pmem_recovery.proofs.UpwardSteps.{AreMadeTo-next}
+use Rattle.pmem_recovery.proofs.nodes.fix_nodes.Goals as goal
+
+-- the level that is next, and how many nodes are named from it on
+record IsNextLevel (g : Shape) (shadow : List Line) (above level : ℕ) : Type 0 where
+  pub below : suc level ≡ g.levels - above
+  pub again : g.levels - (above + 1) ≡ level
+  pub inside : level < g.levels
+  pub parts :
+      count_named g shadow (level_start level) (level_start g.levels)
+      ≡ count_named g shadow (level_start level) (level_start (suc level))
+      + count_named g shadow (level_start (g.levels - above)) (level_start g.levels)
+  pub within :
+      count_named g shadow (level_start level) (level_start g.levels)
+      ≤ count_named g shadow 0 (level_start g.levels)
+  pub few : count_named g shadow (level_start level) (level_start g.levels) ≤ 3072
+
+next_level : (geo : Geo) (shadow : List Line) (above levels level : ℕ) → levels ≡ (shape_of geo).levels → above < levels → level ≡ levels - 1 - above → IsNextLevel (shape_of geo) shadow above level
+next_level geo shadow above levels level e low l =
+    let g = shape_of geo in
+    let up : suc level ≡ g.levels - above = omega (arith, e, low, l) in
+    let inside : level < g.levels = omega (arith, e, low, l) in
+    let first = level_start-le level (suc level) (omega arith) in
+    let rest = level_start-le (suc level) g.levels inside in
+    let all = level_start-le level g.levels (omega (arith, inside)) in
+    record {
+      below = up;
+      again = omega (arith, e, low, l);
+      inside = inside;
+      parts =
+          subst (λ n. count_named g shadow (level_start level) (level_start g.levels) ≡ count_named g shadow (level_start level) (level_start (suc level)) + count_named g shadow (level_start n) (level_start g.levels)) up
+          (count_named-parts g shadow (level_start level) (level_start (suc level)) (level_start g.levels) first rest);
+      within = count_named-within g shadow (level_start level) (level_start g.levels) (level_start g.levels) all (omega arith);
+      few = count_named-small g shadow (level_start level) (level_start g.levels) (IsShape-geo geo) all (omega arith);
+    }
+
+pub fix_level-requires-clause-room : goal.fix_level-requires-clause-room
+fix_level-requires-clause-room g c =
+    let n = next_level c.args.geo.now c.args.shadow.now c.upward.above c.levels.result (c.levels.result - 1 - c.upward.above) c.levels.ensures (omega (arith, c.upward-test.true, c.levels.ensures, c.levels-above-end.ensures)) (omega arith) in
+    omega (arith, n.parts, n.within, c.upward.invariant.counted, c.upward.invariant.capacity, c.requires.room)
+
+pub returns-in_err-digests-clause-at_most : goal.returns-in_err-digests-clause-at_most
+returns-in_err-digests-clause-at_most g c =
+    let n = next_level c.args.geo.now c.args.shadow.now c.upward.above c.levels.result (c.levels.result - 1 - c.upward.above) c.levels.ensures (omega (arith, c.upward-test.true, c.levels.ensures, c.levels-above-end.ensures)) (omega arith) in
+    HasWorkedAtMost-after 0 c.upward.digests 0 _ 0 _ _ _ _ (omega arith) (omega (arith, n.parts, n.within, c.upward.invariant.done)) c.upward.invariant.worked c.in_err-digests.ensures.at_most
+
+pub overflow_add-digests : goal.overflow_add-digests
+overflow_add-digests g c =
+    let n = next_level c.args.geo.now c.args.shadow.now c.upward.above c.levels.result (c.levels.result - 1 - c.upward.above) c.levels.ensures (omega (arith, c.upward-test.true, c.levels.ensures, c.levels-above-end.ensures)) (omega arith) in
+    omega (arith, n.parts, n.few, c.upward.invariant.done, c.in_ok-digests.ensures.digests)
+
+pub upward-preserved : goal.upward-preserved
+upward-preserved g c =
+    let shape = shape_of c.args.geo.now in
+    let shadow = c.args.shadow.now in
+    let level : ℕ = c.levels.result - 1 - c.upward.above in
+    let inv = c.upward.invariant in
+    let ok = c.in_ok-digests.ensures in
+    let n = next_level c.args.geo.now shadow c.upward.above c.levels.result level c.levels.ensures (omega (arith, c.upward-test.true, c.levels.ensures, c.levels-above-end.ensures)) (omega arith) in
+    let count : count_named shape shadow (level_start (shape.levels - (c.upward.above + 1))) (level_start shape.levels) ≡ count_named shape shadow (level_start level) (level_start shape.levels) =
+    ap (λ i. count_named shape shadow (level_start i) (level_start shape.levels)) n.again in
+    record {
+      few = omega (arith, n.below);
+      read = HasOnlyRead-then _ _ _ inv.read ok.read;
+      goes = GoesOn-then _ _ _ inv.goes ok.goes;
+      counted = omega (arith, ok.counted, inv.counted, n.parts, count);
+      done = omega (arith, ok.digests, inv.done, n.parts, count);
+      worked = HasWorked-then 0 c.upward.digests 0 c.in_ok-digests.field-0 _ _ _ inv.worked ok.worked;
+      on_tree = λ all. ok.on_tree (inv.on_tree all);
+      capacity = ok.capacity ∙ inv.capacity;
+      told = λ lines told regs its_shadow before.
+          let setup = setup_of c.args.geo.now (g.S.Suite.formulas_of (g.S.Suite.keys c.args.suite.now)) in
+          let below : AreMadeTo setup lines regs (suc level) (level_start (suc (suc level))) c.upward.made.items =
+          subst (λ i. AreMadeTo setup lines regs i (level_start (suc i)) c.upward.made.items) (sym n.below) (inv.told lines told regs its_shadow before) in
+          let start : AreMadeTo (setup_of c.args.geo.now (g.S.Suite.formulas_of (g.S.Suite.keys c.upward.suite))) lines regs level (level_start level) c.upward.made.items =
+          subst (λ keys. AreMadeTo (setup_of c.args.geo.now (g.S.Suite.formulas_of keys)) lines regs level (level_start level) c.upward.made.items) (sym inv.worked.keys)
+          (AreMadeTo-next setup lines regs level c.upward.made.items below) in
+          subst (λ i. AreMadeTo setup lines regs i (level_start (suc i)) c.fix_level.new.made.items) (sym n.again)
+          (subst (λ keys. AreMadeTo (setup_of c.args.geo.now (g.S.Suite.formulas_of keys)) lines regs level (level_start (suc level)) c.fix_level.new.made.items) inv.worked.keys
+          (ok.told lines (told_before _ _ inv.read lines told) regs its_shadow start));
+    }
+
+pub returns-clause-told : goal.returns-clause-told
+returns-clause-told g c = λ lines told regs its_shadow before.
+    let setup = setup_of c.args.geo.now (g.S.Suite.formulas_of (g.S.Suite.keys c.args.suite.now)) in
+    let top : (shape_of c.args.geo.now).levels - c.upward.above ≡ 0 = omega (arith, c.upward-test.false, c.levels-above-end.ensures) in
+    subst (λ i. AreMadeTo setup lines regs i (level_start (suc i)) c.upward.made.items) top
+    (c.upward.invariant.told lines told regs its_shadow before)

@@ -1,0 +1,33 @@
+use Rattle.std.proofs.Common.{◌≡◌, suc, ◌<◌, ◌≤◌, ◌+◌, ◌-◌, ◌*◌, All, length, vec_capacity}
+use Rattle.pmem_base.specs.declared.registers.Regs.{Regs}
+use Rattle.pmem_base.specs.Geo.{shape_of}
+use Rattle.pmem_base.specs.Layout.{meta_lines}
+use Rattle.bonsai_tree.specs.Positions.{level_start}
+use Rattle.shadow_tables.specs.Entries.{shadow_of}
+use Rattle.pmem_recovery.specs.Named.{count_named}
+use Rattle.pmem_recovery.specs.Upward.{AreMadeTo}
+use Rattle.pmem_recovery.specs.Parts.{setup_of, Told, HasOnlyRead, GoesOn, suite_state, HasWorked}
+use Rattle.pmem_recovery.proofs.nodes.fix_nodes.Given as goal
+
+abbrev pub invariant-upward : goal.invariant-upward
+invariant-upward g l =
+    let start = g.B.Board.device l.initial.board in
+    let now = g.B.Board.device l.board in
+    let shape = shape_of l.geo in
+    let setup = setup_of l.geo (g.S.Suite.formulas_of (g.S.Suite.keys l.initial.suite)) in
+    record {
+      few : l.above ≤ shape.levels;
+      read : HasOnlyRead start now;
+      goes : GoesOn start now;
+      counted : length l.made.items ≡ length l.initial.made.items + count_named shape l.shadow (level_start (shape.levels - l.above)) (level_start shape.levels);
+      done : l.digests ≡ 4 * count_named shape l.shadow (level_start (shape.levels - l.above)) (level_start shape.levels);
+      worked : HasWorked 0 l.digests
+          (suite_state (g.S.Suite.keys l.initial.suite) (g.S.Suite.pads l.initial.suite) (g.S.Suite.tags l.initial.suite) (g.S.Suite.digests l.initial.suite))
+          (suite_state (g.S.Suite.keys l.suite) (g.S.Suite.pads l.suite) (g.S.Suite.tags l.suite) (g.S.Suite.digests l.suite));
+      on_tree : All (λ entry. entry.at < meta_lines shape) l.initial.made.items
+          → All (λ entry. entry.at < meta_lines shape) l.made.items;
+      capacity : vec_capacity l.made ≡ vec_capacity l.initial.made;
+      told : Told start.lines (λ lines. (regs : Regs) → l.shadow ≡ shadow_of shape lines
+          → AreMadeTo setup lines regs shape.levels (meta_lines shape) l.initial.made.items
+          → AreMadeTo setup lines regs (shape.levels - l.above) (level_start (suc (shape.levels - l.above))) l.made.items);
+    }

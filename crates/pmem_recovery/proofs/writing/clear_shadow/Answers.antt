@@ -1,0 +1,33 @@
+use Rattle.std.proofs.Common.{◌≡◌, ◌<◌, ◌≤◌, [], get_or, ap, ◌∙◌, arith}
+use Rattle.std.proofs.lemmas.List.{get_or_default}
+use Rattle.pmem_base.specs.declared.lines.Line.{Line}
+use Rattle.pmem_base.specs.Geo.{shape_of}
+use Rattle.pmem_base.specs.Layout.{shadow_lines}
+use Rattle.pmem_base.specs.Lines.{line_at, zero_line}
+use Rattle.pmem_recovery.specs.Upward.{is_other}
+use Rattle.pmem_recovery.proofs.PartLaws.{GoesOn-then}
+use Rattle.pmem_recovery.proofs.WriteSteps.{HasZeroedTo-cut, HasZeroedTo-more, GoesOn-written_if}
+use Rattle.pmem_recovery.proofs.writing.clear_shadow.Goals as goal
+
+pub returns-in_err-write_changed-clause-some : goal.returns-in_err-write_changed-clause-some
+returns-in_err-write_changed-clause-some g c =
+    record {
+      place = c.lines.n;
+      within = omega (arith, c.lines-test.true, c.shadows-n-end.ensures.value);
+      zeroed = HasZeroedTo-cut _ _ c.lines.n _ _ _ c.lines.invariant.zeroed c.in_err-write_changed.ensures.cut;
+    }
+
+pub lines-preserved : goal.lines-preserved
+lines-preserved g c =
+    let none : Line = record { 0 = [] } in
+    let inside : c.lines.n < shadow_lines (shape_of c.args.geo.now) = omega (arith, c.lines-test.true, c.shadows-n-end.ensures.value) in
+    let read : get_or c.args.shadow.now c.lines.n none ≡ line_at c.args.shadow.now c.lines.n =
+    get_or_default c.args.shadow.now c.lines.n none zero_line (omega (arith, inside, c.requires.shadow)) in
+    record {
+      zeroed =
+          HasZeroedTo-more (shape_of c.args.geo.now) c.args.shadow.now c.lines.n c.shadow_line.result c.default-zero.result c.is_other-changed.result _ _ _ c.requires.shadow inside
+          c.shadow_line.ensures.value c.default-zero.ensures
+          (c.is_other-changed.ensures ∙ ap (λ l. is_other l c.default-zero.result) read ∙ ap (is_other (line_at c.args.shadow.now c.lines.n)) c.default-zero.ensures)
+          c.lines.invariant.zeroed c.in_ok-write_changed.ensures.ok;
+      goes = GoesOn-then _ _ _ c.lines.invariant.goes (GoesOn-written_if _ _ _ _ _ c.in_ok-write_changed.ensures.ok);
+    }

@@ -1,0 +1,33 @@
+use Rattle.std.proofs.Common.{◌≡◌, ◌≤◌, [], false, length, refl, subst, arith}
+use Rattle.pmem_base.specs.Geo.{shape_of}
+use Rattle.pmem_recovery.specs.declared.entries.Made.{Made}
+use Rattle.pmem_recovery.specs.Writing.{HasWrittenTo}
+use Rattle.pmem_recovery.proofs.PartLaws.{GoesOn-none, GoesOn-then}
+use Rattle.pmem_recovery.proofs.WriteSteps.{HasWrittenTo-none, HasWrittenTo-cut, HasWrittenTo-more, GoesOn-written_if}
+use Rattle.pmem_recovery.proofs.writing.write_made.Goals as goal
+
+pub entries-init : goal.entries-init
+entries-init g c = record { written = HasWrittenTo-none _ _ _; goes = GoesOn-none _ }
+
+pub returns-in_err-write_changed-clause-some : goal.returns-in_err-write_changed-clause-some
+returns-in_err-write_changed-clause-some g c =
+    record {
+      place = c.entries.entry-index;
+      within = omega (arith, c.entries-test.true);
+      written = HasWrittenTo-cut _ _ c.entries.entry-index _ _ _ c.entries.invariant.written c.in_err-write_changed.ensures.cut;
+    }
+
+pub entries-preserved : goal.entries-preserved
+entries-preserved g c =
+    let none : Made = record { at = 0; line = record { 0 = [] }; changed = false } in
+    record {
+      written =
+          HasWrittenTo-more (shape_of c.args.geo.now) c.args.made.now c.entries.entry-index none c.meta_line.result _ _ _ _ _ c.entries-test.true
+          (c.requires.on_tree c.entries.entry-index none c.entries-test.true) c.meta_line.ensures.value refl refl c.entries.invariant.written c.in_ok-write_changed.ensures.ok;
+      goes = GoesOn-then _ _ _ c.entries.invariant.goes (GoesOn-written_if _ _ _ _ _ c.in_ok-write_changed.ensures.ok);
+    }
+
+pub returns-clause-ok : goal.returns-clause-ok
+returns-clause-ok g c =
+    let whole : c.entries.entry-index ≡ length c.args.made.now = omega (arith, c.entries-test.false) in
+    subst (λ i. HasWrittenTo (shape_of c.args.geo.now) c.args.made.now i (g.B.Board.device c.args.board.now) (g.B.Board.device c.entries.board)) whole c.entries.invariant.written

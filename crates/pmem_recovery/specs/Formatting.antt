@@ -1,0 +1,124 @@
+-- What formatting does to the device and to the ledger, and how it leaves them.
+use Rattle.std.specs.Prelude.{ℕ, ◌≡◌, ◌≢◌, ◌≤◌, ◌<◌, ◌+◌, ◌*◌, ◌/◌, ◌⊎◌, true, List, [], ◌++◌, map, length, is_some, Some, option_map}
+use Rattle.std.specs.List.{range_with_len}
+use Rattle.pmem_base.specs.declared.lines.Line.{Line}
+use Rattle.pmem_base.specs.declared.lines.Ctr.{Ctr}
+use Rattle.pmem_base.specs.declared.registers.Regs.{Regs}
+use Rattle.pmem_base.specs.Shape.{Shape}
+use Rattle.pmem_base.specs.Layout as layout
+use Rattle.pmem_base.specs.Lines.{line_at, tag_slot, zero_line}
+use Rattle.pmem_base.specs.Marks.{last_seal}
+use Rattle.pmem_base.specs.Registers.{empty_regs}
+use Rattle.board.specs.Device.{Device}
+use Rattle.suite.specs.Formulas.{cipher_of}
+use Rattle.suite.specs.Setup.{Setup}
+use Rattle.seal_ledger.specs.Ledger.{LedgerState}
+use Rattle.plain_model.specs.View.{plain_line}
+use Rattle.pmem_engine.specs.Engine.{EngineState}
+use Rattle.pmem_engine.specs.Invariants.{IsAnchored, IsTrusted, IsSound, stored_meta}
+use Rattle.pmem_engine.specs.Mendable.{new_engine}
+use Rattle.pmem_engine.specs.Formatted.{first_seal}
+use Rattle.pmem_recovery.specs.Parts.{Told}
+use Rattle.pmem_recovery.specs.Writing.{BothTold}
+
+-- ---- the first seals
+
+abbrev pub first_counter : Setup → Ctr
+first_counter setup = record { major = setup.shape.major; minor = 0 }
+
+-- zeros under the first major and 0, and the tag
+abbrev pub first_cipher : Setup → ℕ → Line
+first_cipher setup a = cipher_of setup.formulas a (first_counter setup) zero_line
+
+abbrev pub first_tag : Setup → ℕ → List ℕ
+first_tag setup a = setup.formulas.tag_of a (first_counter setup) (first_cipher setup a)
+
+-- line a and its tag on the device
+pub record IsFirstSealed (setup : Setup) (lines : List Line) (a : ℕ) : Type 0 where
+  pub cipher : line_at lines a ≡ first_cipher setup a
+  pub tag : tag_slot (line_at lines (layout.tag_line setup.shape a)) a ≡ first_tag setup a
+
+-- k lines from a on are sealed, in order
+pub record HasSealedFrom (setup : Setup) (a k : ℕ) (old new : LedgerState) : Type 0 where
+  pub marks : new.marks ≡ old.marks ++ map (first_seal setup) (range_with_len a k)
+  pub spare : new.spare + k ≡ old.spare
+  pub truth : new.truth ≡ old.truth
+  pub data_lines : new.data_lines ≡ old.data_lines
+  pub exhibit : new.exhibit ≡ old.exhibit
+
+-- ---- the device
+
+-- a steady device stays steady, with its registers
+pub record StaysSteady (old new : Device) : Type 0 where
+  pub size : new.size ≡ old.size
+  pub regs : new.regs ≡ old.regs
+  pub steady : old.steady ≡ true → new.steady ≡ true
+  pub told : is_some new.lines ≡ is_some old.lines
+
+-- four lines are sealed, and all others but their tag line are as they were
+pub record HasSealedGroup (setup : Setup) (group : ℕ) (old new : Device) : Type 0 where
+  pub sealed :
+      Told new.lines (λ now. length now ≡ layout.device_lines setup.shape
+      → (a : ℕ) → 4 * group ≤ a → a < 4 * group + 4 → IsFirstSealed setup now a)
+  pub others :
+      BothTold old new (λ lines now. (d : ℕ) → (d < 4 * group) ⊎ (4 * group + 4 ≤ d)
+      → d ≢ layout.data_lines setup.shape + group → line_at now d ≡ line_at lines d)
+
+-- the first n lines are sealed
+abbrev pub HasSealedAll : Setup → ℕ → Device → Type 0
+HasSealedAll setup n new =
+    Told new.lines (λ now. length now ≡ layout.device_lines setup.shape
+    → (a : ℕ) → a < n → IsFirstSealed setup now a)
+
+-- the first n metadata lines are told
+pub record HasToldMeta (g : Shape) (truth : List Line) (n : ℕ) (old new : LedgerState) : Type 0 where
+  pub lines : (x : ℕ) → x < n → line_at new.truth x ≡ line_at truth x
+  pub count : length new.truth ≡ length old.truth
+  pub marks : new.marks ≡ old.marks
+  pub data_lines : new.data_lines ≡ old.data_lines
+  pub exhibit : new.exhibit ≡ old.exhibit
+
+-- and written; data lines and tag lines are as they were
+pub record HasWrittenMeta (g : Shape) (truth : List Line) (n : ℕ) (old new : Device) : Type 0 where
+  pub meta :
+      Told new.lines (λ now. length now ≡ layout.device_lines g
+      → (x : ℕ) → x < n → stored_meta g now x ≡ line_at truth x)
+  pub others :
+      BothTold old new (λ lines now. (d : ℕ) → d < 80 * layout.pages g
+      → line_at now d ≡ line_at lines d)
+
+-- the first n shadow lines are zero; all lines before the shadow lines are as they were
+pub record HasClearedTables (g : Shape) (n : ℕ) (old new : Device) : Type 0 where
+  pub zero :
+      Told new.lines (λ now. length now ≡ layout.device_lines g
+      → (m : ℕ) → m < n → line_at now (layout.shadow_line g m) ≡ zero_line)
+  pub others :
+      BothTold old new (λ lines now. (d : ℕ) → d < layout.shadow_line g 0
+      → line_at now d ≡ line_at lines d)
+
+-- the root of a top line, and the geometry's stop-loss number
+abbrev pub first_regs : Setup → Line → Regs
+first_regs setup top =
+    record empty_regs { root = setup.formulas.digest_of 0 top; loss = setup.shape.loss }
+
+-- ---- the whole
+
+-- what formatting leaves: a sound memory of zero lines, each sealed once, with an engine that has nothing
+-- cached
+pub record HasFormatted (setup : Setup) (ledger : LedgerState) (old new : Device) (engine : EngineState) :
+    Type 0 where
+  pub engine_new : engine ≡ new_engine setup.shape
+  pub anchored : IsAnchored setup new.regs ledger
+  pub trusted : IsTrusted setup engine new.regs ledger
+  pub sound : Told new.lines (λ now. IsSound setup engine now new.regs ledger)
+  pub seals : length ledger.marks ≡ layout.data_lines setup.shape
+  pub last_counters :
+      (a : ℕ) → a < layout.data_lines setup.shape
+      → option_map (λ seal. seal.ctr) (last_seal ledger.marks a) ≡ Some (first_counter setup)
+  pub plain :
+      (a : ℕ) → a < layout.data_lines setup.shape
+      → plain_line setup.formulas ledger.marks a ≡ Some zero_line
+  pub regs : new.regs ≡ first_regs setup (line_at ledger.truth 0)
+  pub size : new.size ≡ old.size
+  pub told : is_some new.lines ≡ is_some old.lines
+  pub steady : new.steady ≡ true

@@ -1,0 +1,72 @@
+-- What making and writing the named lines does to the device, so far as it comes.
+use Rattle.std.specs.Prelude.{ℕ, ◌≡◌, ◌≤◌, ◌+◌, ◌*◌, ◌⊎◌, None, List, length, is_some, All, ⊤}
+use Rattle.pmem_base.specs.declared.lines.Line.{Line}
+use Rattle.pmem_base.specs.declared.registers.Regs.{Regs}
+use Rattle.pmem_base.specs.Layout as layout
+use Rattle.board.specs.Counts.{RisesBy}
+use Rattle.board.specs.Device.{Device}
+use Rattle.shadow_tables.specs.Entries.{shadow_of}
+use Rattle.suite.specs.Setup.{Setup}
+use Rattle.pmem_engine.specs.Mendable.{IsShadowZero}
+use Rattle.pmem_recovery.specs.declared.entries.Made.{Made}
+use Rattle.pmem_recovery.specs.declared.faults.RecFault.{RecFault}
+use Rattle.pmem_recovery.specs.declared.faults.RecFault.TheVariants.{Cut}
+use Rattle.pmem_recovery.specs.Trials.{first_undecided}
+use Rattle.pmem_recovery.specs.Upward.{IsMadeLine, AreAllMade}
+use Rattle.pmem_recovery.specs.Written.{AreWritten, AreZeroed, differing}
+use Rattle.pmem_recovery.specs.Parts.{HasOnlyRead, HasRoot}
+use Rattle.pmem_recovery.specs.Writing.{BothTold}
+
+-- all named lines are made, and the root is right
+pub record HasMadeAll (setup : Setup) (lines : List Line) (regs : Regs) (shadow : List Line)
+    (made : List Made) : Type 0 where
+  pub its_shadow : shadow ≡ shadow_of setup.shape lines
+  pub all_made : AreAllMade setup lines regs made
+  pub has_root : HasRoot setup lines regs
+
+-- some of the lines made are written
+pub record IsPartlyWritten (setup : Setup) (lines : List Line) (regs : Regs) (now : List Line) :
+    Type 0 where
+  pub decided : first_undecided setup lines regs ≡ None
+  pub written : List Made
+  pub made : All (IsMadeLine setup lines regs) written
+  pub are_written : AreWritten setup.shape lines written now
+
+-- all of them are, and some shadow lines are zeroed
+pub record IsPartlyZeroed (setup : Setup) (lines : List Line) (regs : Regs) (now : List Line) :
+    Type 0 where
+  pub decided : first_undecided setup lines regs ≡ None
+  pub made : List Made
+  pub between : List Line
+  pub zeroed : ℕ
+  pub all_made : AreAllMade setup lines regs made
+  pub all_written : AreWritten setup.shape lines made between
+  pub are_zeroed : AreZeroed setup.shape between zeroed now
+
+abbrev pub IsPartlyMended : Setup → List Line → Regs → List Line → Type 0
+IsPartlyMended setup lines regs now =
+    (now ≡ lines) ⊎ (IsPartlyWritten setup lines regs now ⊎ IsPartlyZeroed setup lines regs now)
+
+-- so many lines are written, each another one than before
+pub record HasMadeWrites (setup : Setup) (regs : Regs) (old new : Device) : Type 0 where
+  pub size : new.size ≡ old.size
+  pub same_regs : new.regs ≡ old.regs
+  pub latches : new.latches ≡ old.latches
+  pub reads : old.reads ≤ new.reads
+  pub told : is_some new.lines ≡ is_some old.lines
+  pub count : ℕ
+  pub few :
+      count ≤ (setup.shape.levels + 1) * layout.slots setup.shape + layout.shadow_lines setup.shape
+  pub writes : RisesBy count old.writes new.writes
+  pub none : count ≡ 0 → new.writes ≡ old.writes
+  pub lines :
+      BothTold old new
+      (λ lines now.
+      length lines ≡ layout.device_lines setup.shape
+      → IsPartlyMended setup lines regs now × (differing lines now ≡ count)
+      × (IsShadowZero setup lines → count ≡ 0))
+
+-- a refusal leaves the device alone
+abbrev pub IsLeftAlone : RecFault → Device → Device → Type 0
+IsLeftAlone Cut old new = ⊤
+IsLeftAlone fault old new = HasOnlyRead old new

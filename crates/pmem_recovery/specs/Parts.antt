@@ -1,0 +1,209 @@
+-- What the stages of recovery do to the device, to the suite's counts, and why they stop.
+use Rattle.std.specs.Prelude.{ℕ, ◌≡◌, ◌≢◌, ◌≤◌, ◌<◌, ◌+◌, ◌*◌, true, false, List, [], ◌∷◌, ◌++◌, Option, Some, None, length, Result, Ok, Err, ⊤}
+use Rattle.pmem_base.specs.declared.geometry.Geo.{Geo}
+use Rattle.pmem_base.specs.Geo.{shape_of}
+use Rattle.pmem_base.specs.declared.lines.Line.{Line}
+use Rattle.pmem_base.specs.declared.registers.Regs.{Regs}
+use Rattle.pmem_base.specs.declared.answers.Exhibit.TheVariants as Exhibit
+use Rattle.pmem_base.specs.Counts.{HasRisen}
+use Rattle.pmem_base.specs.Layout as layout
+use Rattle.pmem_base.specs.Layout.{page_of}
+use Rattle.pmem_base.specs.Lines.{line_at, tag_slot}
+use Rattle.board.specs.Device.{Device}
+use Rattle.suite.specs.Formulas.{Formulas}
+use Rattle.suite.specs.Setup.{Setup}
+use Rattle.stop_loss.specs.declared.Found.{Found}
+use Rattle.stop_loss.specs.declared.Found.TheVariants as Found
+use Rattle.stop_loss.specs.Trials.{risen_times}
+use Rattle.collision_witness.specs.Exhibits.{IsExhibit}
+use Rattle.pmem_recovery.specs.declared.entries.Made.{Made}
+use Rattle.pmem_recovery.specs.declared.faults.RecFault.{RecFault}
+use Rattle.pmem_recovery.specs.declared.faults.RecFault.TheVariants.{Memory, Cut, NoCounter, Root, Twin}
+use Rattle.pmem_recovery.specs.Trials.{stored_block, tried_minors, first_undecided}
+use Rattle.pmem_recovery.specs.Fixed.{found_root}
+
+abbrev pub setup_of : Geo → Formulas → Setup
+setup_of geo formulas = record { shape = shape_of geo; formulas = formulas }
+
+-- what holds of the lines, where they are told
+abbrev pub Told : Option (List Line) → (List Line → Type 0) → Type 0
+Told told P = (lines : List Line) → told ≡ Some lines → P lines
+
+-- ---- the device
+
+-- lines are read, and nothing else is changed
+pub record HasOnlyRead (old new : Device) : Type 0 where
+  pub size : new.size ≡ old.size
+  pub lines : new.lines ≡ old.lines
+  pub regs : new.regs ≡ old.regs
+  pub writes : new.writes ≡ old.writes
+  pub latches : new.latches ≡ old.latches
+  pub reads : old.reads ≤ new.reads
+
+-- no cut came
+pub record GoesOn (old new : Device) : Type 0 where
+  pub cuts : new.cuts ≡ old.cuts
+  pub steady : old.steady ≡ true → new.steady ≡ true
+  pub live : old.live ≡ true → new.live ≡ true
+
+-- a cut came, on a device that wasn't steady
+pub record IsCutOff (old new : Device) : Type 0 where
+  pub unsteady : old.steady ≡ false
+  pub off : new.live ≡ false
+  pub never_falls : old.cuts ≤ new.cuts
+  pub rose : HasRisen old.cuts new.cuts
+
+-- a stage that stops goes on but where power is cut
+abbrev pub StopsBy : RecFault → Device → Device → Type 0
+StopsBy Cut old new = IsCutOff old new
+StopsBy fault old new = GoesOn old new
+
+-- ---- the suite
+
+-- the keys and the counts of a suite
+pub record SuiteState : Type 0 where
+  pub keys : List ℕ
+  pub pads : ℕ
+  pub tags : ℕ
+  pub digests : ℕ
+
+abbrev pub suite_state : List ℕ → ℕ → ℕ → ℕ → SuiteState
+suite_state keys pads tags digests =
+    record { keys = keys; pads = pads; tags = tags; digests = digests }
+
+-- so many tags and digests are made, and no pad
+pub record HasWorked (n m : ℕ) (old new : SuiteState) : Type 0 where
+  pub keys : new.keys ≡ old.keys
+  pub pads : new.pads ≡ old.pads
+  pub tags : new.tags ≡ risen_times n old.tags
+  pub digests : new.digests ≡ risen_times m old.digests
+
+-- so many at most
+pub record HasWorkedAtMost (n m : ℕ) (old new : SuiteState) : Type 0 where
+  pub trials : ℕ
+  pub digests : ℕ
+  pub few_trials : trials ≤ n
+  pub few_digests : digests ≤ m
+  pub worked : HasWorked trials digests old new
+
+-- ---- what the trials of a line find
+
+-- the one minor found, or why there is none
+abbrev pub decided_of : Found → ℕ → ℕ → Line → List ℕ → Result ℕ RecFault
+decided_of (Found.One minor) at major cipher tag = Ok minor
+decided_of Found.Nothing at major cipher tag = Err (NoCounter at)
+decided_of (Found.Twin low high) at major cipher tag = Err (Twin at major low high cipher tag)
+
+-- of the minors that fit there are two or more: the least two, which are a twin of this cipher and tag
+pub record IsTwinAmong (f : Formulas) (at major low high : ℕ) (cipher : Line) (tag matching : List ℕ) :
+    Type 0 where
+  pub more : List ℕ
+  pub least : matching ≡ low ∷ high ∷ more
+  pub holds : IsExhibit f (Exhibit.Twin at major low high cipher tag)
+
+-- no minor fits, or more than one
+abbrev pub IsUndecided : Formulas → ℕ → ℕ → Line → List ℕ → List ℕ → RecFault → Type 0
+IsUndecided f at major cipher tag matching (NoCounter a) = (a ≡ at) × (matching ≡ [])
+IsUndecided f at major cipher tag matching (Twin a m low high c t) =
+    (a ≡ at) × (m ≡ major) × (c ≡ cipher) × (t ≡ tag) × IsTwinAmong f a m low high c t matching
+IsUndecided f at major cipher tag matching fault = ⊥
+
+-- exactly one minor fits, or why not
+abbrev pub IsDecided : Formulas → ℕ → ℕ → Line → List ℕ → List ℕ → Result ℕ RecFault → Type 0
+IsDecided f at major cipher tag matching (Ok minor) = (matching ≡ minor ∷ []) × (minor ≤ 127)
+IsDecided f at major cipher tag matching (Err fault) = IsUndecided f at major cipher tag matching fault
+
+-- each line of a page has one minor
+abbrev pub AreOneTried : Setup → List Line → Regs → ℕ → Type 0
+AreOneTried setup lines regs page =
+    (i : ℕ) → i < 64 → length (tried_minors setup lines regs (64 * page + i)) ≡ 1
+
+-- the found root is the kept one, or both are answered
+abbrev pub IsCompared : List ℕ → List ℕ → Result Unit RecFault → Type 0
+IsCompared kept found (Ok done) = found ≡ kept
+IsCompared kept found (Err (Root k f)) = (k ≡ kept) × (f ≡ found) × (found ≢ kept)
+IsCompared kept found (Err fault) = ⊥
+
+-- the same of the digest of a top line, unless power is cut
+abbrev pub IsRootAnswer : Formulas → Line → List ℕ → Result Unit RecFault → Type 0
+IsRootAnswer f top kept (Err Cut) = ⊤
+IsRootAnswer f top kept answer = IsCompared kept (f.digest_of 0 top) answer
+
+-- the root is wrong, or power is cut
+abbrev pub IsRootFault : RecFault → Type 0
+IsRootFault Cut = ⊤
+IsRootFault (Root kept found) = ⊤
+IsRootFault fault = ⊥
+
+-- one more line is made, for position x
+pub record HasMade (x : ℕ) (old new : List Made) : Type 0 where
+  pub entry : Made
+  pub items : new ≡ old ++ entry ∷ []
+  pub at : entry.at ≡ x
+
+-- ---- why it stops
+
+-- two minors or more fit line a: the least two, with the device's cipher and slot
+pub record IsTwinOf (setup : Setup) (lines : List Line) (regs : Regs) (a major low high : ℕ)
+    (cipher : Line) (tag : List ℕ) : Type 0 where
+  pub more : List ℕ
+  pub tried : tried_minors setup lines regs a ≡ low ∷ high ∷ more
+  pub its_major : major ≡ (stored_block setup.shape lines (page_of a)).major
+  pub its_cipher : cipher ≡ line_at lines a
+  pub its_tag : tag ≡ tag_slot (line_at lines (layout.tag_line setup.shape a)) a
+
+-- at line a, which hasn't one minor
+abbrev pub IsLineRefusal : Setup → List Line → Regs → ℕ → RecFault → Type 0
+IsLineRefusal setup lines regs a Memory = ⊥
+IsLineRefusal setup lines regs a Cut = ⊤
+IsLineRefusal setup lines regs a (NoCounter at) =
+    (at ≡ a) × (tried_minors setup lines regs a ≡ [])
+IsLineRefusal setup lines regs a (Root kept found) = ⊥
+IsLineRefusal setup lines regs a (Twin at major low high cipher tag) =
+    (at ≡ a) × IsTwinOf setup lines regs a major low high cipher tag
+
+-- at a line of a page behind lines that have one minor each
+pub record IsPageRefusal (setup : Setup) (lines : List Line) (regs : Regs) (page : ℕ)
+    (fault : RecFault) : Type 0 where
+  pub place : ℕ
+  pub in_page : place < 64
+  pub before :
+      (j : ℕ) → j < place → length (tried_minors setup lines regs (64 * page + j)) ≡ 1
+  pub here : IsLineRefusal setup lines regs (64 * page + place) fault
+
+-- the found root is another one than the register's
+pub record HasOtherRoot (setup : Setup) (lines : List Line) (regs : Regs) (kept found : List ℕ) :
+    Type 0 where
+  pub decided : first_undecided setup lines regs ≡ None
+  pub its_kept : kept ≡ regs.root
+  pub its_found : found ≡ found_root setup lines regs
+  pub differ : found ≢ kept
+
+-- every line that is tried has one minor, and the found root is the register's
+pub record HasRoot (setup : Setup) (lines : List Line) (regs : Regs) : Type 0 where
+  pub decided : first_undecided setup lines regs ≡ None
+  pub root : found_root setup lines regs ≡ regs.root
+
+-- where recovery stops: at the first line that hasn't one minor, else at the root
+abbrev pub IsRefusal : Setup → List Line → Regs → RecFault → Type 0
+IsRefusal setup lines regs Memory = ⊤
+IsRefusal setup lines regs Cut = ⊤
+IsRefusal setup lines regs (NoCounter at) =
+    (first_undecided setup lines regs ≡ Some at) × (tried_minors setup lines regs at ≡ [])
+IsRefusal setup lines regs (Root kept found) = HasOtherRoot setup lines regs kept found
+IsRefusal setup lines regs (Twin at major low high cipher tag) =
+    (first_undecided setup lines regs ≡ Some at)
+    × IsTwinOf setup lines regs at major low high cipher tag
+
+-- a twin holds, and there is memory
+abbrev pub IsShown : Formulas → RecFault → Type 0
+IsShown f Memory = ⊥
+IsShown f (Twin at major low high cipher tag) = IsExhibit f (Exhibit.Twin at major low high cipher tag)
+IsShown f fault = ⊤
+
+-- a stage stops
+pub record IsStopped (f : Formulas) (fault : RecFault) (why : List Line → Type 0)
+    (old new : Device) : Type 0 where
+  pub device : StopsBy fault old new
+  pub shown : IsShown f fault
+  pub reason : Told old.lines why

@@ -1,0 +1,173 @@
+-- What recovery answers, and what it has done then: to the device, to the suite's counts, and to the lines.
+use Rattle.std.specs.Prelude.{ℕ, ◌≡◌, ◌≤◌, ◌<◌, ◌+◌, ◌*◌, ◌⊎◌, List, [], Result, Ok, Err, IfOk, OnOk, IfErr, length, is_some, ⊤}
+use Rattle.pmem_base.specs.declared.lines.Line.{Line}
+use Rattle.pmem_base.specs.declared.registers.Regs.{Regs}
+use Rattle.pmem_base.specs.declared.answers.Exhibit.TheVariants as Exhibit
+use Rattle.pmem_base.specs.Layout as layout
+use Rattle.pmem_base.specs.Lines.{line_at}
+use Rattle.pmem_base.specs.Registers.{IsValidRegs, without_group}
+use Rattle.board.specs.Counts.{RisesBy}
+use Rattle.board.specs.Device.{Device}
+use Rattle.commit_regs.specs.Groups.{redone, redone_told, finishing_latches, RisesAtMost}
+use Rattle.suite.specs.Formulas.{Formulas}
+use Rattle.suite.specs.Setup.{Setup}
+use Rattle.stop_loss.specs.Trials.{risen_times}
+use Rattle.seal_ledger.specs.Ledger.{LedgerState}
+use Rattle.collision_witness.specs.Exhibits.{IsExhibit}
+use Rattle.pmem_engine.specs.Engine.{EngineState}
+use Rattle.pmem_engine.specs.Invariants.{IsAnchored, IsTrusted, IsSealStored, IsDurable, IsSound, stored_meta}
+use Rattle.pmem_engine.specs.Mendable.{IsLineMendable, IsShadowZero, new_engine}
+use Rattle.pmem_recovery.specs.declared.faults.Work.{Work}
+use Rattle.pmem_recovery.specs.declared.faults.RecFault.{RecFault}
+use Rattle.pmem_recovery.specs.declared.faults.RecFault.TheVariants.{Memory, Cut, NoCounter, Root, Twin}
+use Rattle.pmem_recovery.specs.Trials.{IsTwinOfLastSeal}
+use Rattle.pmem_recovery.specs.Written.{differing}
+use Rattle.pmem_recovery.specs.Parts.{GoesOn, IsCutOff, SuiteState, HasRoot, IsRefusal}
+use Rattle.pmem_recovery.specs.Writing.{BothTold}
+
+-- a new engine with the work, or why recovery stopped
+abbrev pub Answer : Type 0
+Answer = Result (EngineState × Work) RecFault
+
+-- ---- the device
+
+-- The group is redone and empty but after a cut, which may have come before, and where there was no
+-- memory. No other register changes.
+abbrev pub RegsAfter : Answer → Regs → Regs → Type 0
+RegsAfter (Err Memory) old new = new ≡ old
+RegsAfter (Err Cut) old new = (new ≡ old) ⊎ (new ≡ without_group old)
+RegsAfter answer old new = new ≡ without_group old
+
+-- a cut comes on a device that isn't steady and turns it off; any other answer leaves steady steady, and
+-- live live
+abbrev pub PowerAfter : Answer → Device → Device → Type 0
+PowerAfter (Err Cut) old new = IsCutOff old new
+PowerAfter answer old new = GoesOn old new
+
+-- nothing but the redo of the armed group, and reads
+pub record HasOnlyRedone (old new : Device) : Type 0 where
+  pub lines : new.lines ≡ redone_told old.regs.group.items old.lines
+  pub writes : RisesBy (length old.regs.group.items) old.writes new.writes
+  pub latches : RisesBy (finishing_latches old.regs.group.items) old.latches new.latches
+
+-- what a refusal has changed
+abbrev pub IsUnchanged : Answer → Device → Device → Type 0
+IsUnchanged (Ok done) old new = ⊤
+IsUnchanged (Err Memory) old new = new ≡ old
+IsUnchanged (Err Cut) old new = ⊤
+IsUnchanged (Err fault) old new = HasOnlyRedone old new
+
+-- ---- the suite
+
+-- so many calls at most were counted
+pub record CountsAtMost (most old new : ℕ) : Type 0 where
+  pub calls : ℕ
+  pub few : calls ≤ most
+  pub counted : new ≡ risen_times calls old
+
+-- the trials answered are those counted, and the digests are
+abbrev pub TrialsCounted : Answer → ℕ → ℕ → Type 0
+TrialsCounted (Ok done) old new = new ≡ risen_times done.1.trials old
+TrialsCounted (Err fault) old new = ⊤
+
+abbrev pub DigestsCounted : Answer → ℕ → ℕ → Type 0
+DigestsCounted (Ok done) old new = new ≡ risen_times done.1.digests old
+DigestsCounted (Err fault) old new = ⊤
+
+-- the work is bounded by the number of slots and by the stop-loss number, and not by that of lines
+pub record IsFewWork (setup : Setup) (loss : ℕ) (work : Work) : Type 0 where
+  pub trials : work.trials ≤ 64 * loss * layout.slots setup.shape
+  pub digests : work.digests ≤ 4 * setup.shape.levels * layout.slots setup.shape + 1
+
+-- ---- the answers
+
+-- a twin holds of the cipher and the tag that it shows
+abbrev pub IsTwinValid : Formulas → RecFault → Type 0
+IsTwinValid f (Twin at major low high cipher tag) =
+    IsExhibit f (Exhibit.Twin at major low high cipher tag)
+IsTwinValid f fault = ⊤
+
+-- which answer comes, over the lines with the group redone
+abbrev pub IsDecidedAs : Setup → List Line → Regs → Answer → Type 0
+IsDecidedAs setup lines regs (Ok done) = HasRoot setup lines regs
+IsDecidedAs setup lines regs (Err fault) = IsRefusal setup lines regs fault
+
+-- no counter comes only of a line whose seal isn't stored, or whose page's counter block isn't
+abbrev pub IsNoCounterCaused : Setup → List Line → Regs → LedgerState → Answer → Type 0
+IsNoCounterCaused setup lines regs ledger (Err (NoCounter at)) =
+    IsLineMendable setup lines regs ledger at → ⊥
+IsNoCounterCaused setup lines regs ledger answer = ⊤
+
+-- what recovery makes of a durable device
+abbrev pub IsMendedAs : Setup → Regs → Regs → LedgerState → List Line → Answer → Type 0
+IsMendedAs setup old new ledger now (Ok done) = IsSound setup done.0 now new ledger
+IsMendedAs setup old new ledger now (Err Memory) = IsDurable setup now new ledger
+IsMendedAs setup old new ledger now (Err Cut) = IsDurable setup now new ledger
+IsMendedAs setup old new ledger now (Err (NoCounter at)) = ⊥
+IsMendedAs setup old new ledger now (Err (Root kept found)) = ⊥
+IsMendedAs setup old new ledger now (Err (Twin at major low high cipher tag)) =
+    IsTwinOfLastSeal old.loss ledger at major low high cipher tag × IsDurable setup now new ledger
+
+-- zero shadow lines, and a top line whose digest is the root register
+pub record IsCleared (setup : Setup) (now : List Line) (regs : Regs) : Type 0 where
+  pub shadow_zero : IsShadowZero setup now
+  pub top : setup.formulas.digest_of 0 (stored_meta setup.shape now 0) ≡ regs.root
+
+-- what has become of the lines, where they are told
+pub record HasMended (setup : Setup) (ledger : LedgerState) (old new : Device) (lines now : List Line)
+    (answer : Answer) : Type 0 where
+  pub from_durable :
+      IsDurable setup lines old.regs ledger → IsMendedAs setup old.regs new.regs ledger now answer
+  pub data_same :
+      (n : ℕ) → n < 80 * layout.pages setup.shape
+      → line_at (redone new.regs.group.items now) n ≡ line_at (redone old.regs.group.items lines) n
+  pub seals_kept :
+      (a : ℕ) → a < layout.data_lines setup.shape
+      → IsSealStored setup.shape (redone old.regs.group.items lines) ledger.marks a
+      → IsSealStored setup.shape (redone new.regs.group.items now) ledger.marks a
+  pub cleared : OnOk answer (IsCleared setup now new.regs)
+  pub decided : IsDecidedAs setup (redone old.regs.group.items lines) old.regs answer
+  pub no_counter :
+      IsNoCounterCaused setup (redone old.regs.group.items lines) old.regs ledger answer
+  pub few_steps :
+      RisesAtMost
+      (length old.regs.group.items + differing (redone old.regs.group.items lines) now)
+      old.writes new.writes
+  pub no_steps :
+      old.regs.group.items ≡ [] → IsShadowZero setup lines
+      → (new.writes ≡ old.writes) × (new.latches ≡ old.latches)
+
+-- ---- the whole
+
+-- what recovery does: the parts before and after, and the answer
+pub record HasRecovered (setup : Setup) (ledger : LedgerState) (old new : Device)
+    (suite_old suite_new : SuiteState) (answer : Answer) : Type 0 where
+  pub size : new.size ≡ old.size
+  pub told : is_some new.lines ≡ is_some old.lines
+  pub reads : old.reads ≤ new.reads
+  pub regs : RegsAfter answer old.regs new.regs
+  pub valid : IsValidRegs setup.shape new.regs
+  pub power : PowerAfter answer old new
+  pub unchanged : IsUnchanged answer old new
+  pub writes :
+      RisesAtMost
+      (length old.regs.group.items
+      + ((setup.shape.levels + 1) * layout.slots setup.shape + layout.shadow_lines setup.shape))
+      old.writes new.writes
+  pub latches : RisesAtMost (finishing_latches old.regs.group.items) old.latches new.latches
+  pub keys : suite_new.keys ≡ suite_old.keys
+  pub pads : suite_new.pads ≡ suite_old.pads
+  pub trials : TrialsCounted answer suite_old.tags suite_new.tags
+  pub digests : DigestsCounted answer suite_old.digests suite_new.digests
+  pub few_work : IfOk answer (λ done. IsFewWork setup old.regs.loss done.1)
+  pub few_trials :
+      CountsAtMost (64 * old.regs.loss * layout.slots setup.shape) suite_old.tags suite_new.tags
+  pub few_digests :
+      CountsAtMost (4 * setup.shape.levels * layout.slots setup.shape + 1)
+      suite_old.digests suite_new.digests
+  pub anchored : IsAnchored setup old.regs ledger → IsAnchored setup new.regs ledger
+  pub engine : IfOk answer (λ done. done.0 ≡ new_engine setup.shape)
+  pub trusted :
+      IsAnchored setup old.regs ledger → IfOk answer (λ done. IsTrusted setup done.0 new.regs ledger)
+  pub twin : IfErr answer (IsTwinValid setup.formulas)
+  pub lines : BothTold old new (λ lines now. HasMended setup ledger old new lines now answer)

@@ -1,0 +1,233 @@
+//! The trials: the minors of the lines whose counter block is named.
+ghost use Rattle.std.specs.Prelude.{ℕ, ◌≡◌, ◌+◌, ◌*◌, ◌<◌, ◌≤◌, ◌++◌, [], ◌∷◌, List, All, IsTrue, IfOk, OnOk, OnErr, IfErr, length, slice_index, vec_len, vec_capacity};
+ghost use Rattle.pmem_base.specs.Geo.{shape_of};
+ghost use Rattle.pmem_base.specs.Shape.{is_loss};
+ghost use Rattle.pmem_base.specs.Layout.{data_lines, meta_lines, pages, slots, device_lines, tag_line, shadow_lines, page_of};
+ghost use Rattle.pmem_base.specs.Lines.{line_at, tag_slot};
+ghost use Rattle.shadow_tables.specs.Entries.{shadow_of};
+ghost use Rattle.bonsai_tree.specs.Positions.{counter_position};
+ghost use Rattle.split_counters.specs.Blocks.{IsBlock};
+ghost use Rattle.stop_loss.specs.Trials.{matching_minors};
+ghost use Rattle.stop_loss.specs.Windows.{minors_within};
+ghost use Rattle.pmem_recovery.specs.Trials.{stored_block, tried_minors, AreDecided};
+ghost use Rattle.pmem_recovery.specs.Fixed.{fixed_block};
+ghost use Rattle.pmem_recovery.specs.Upward.{block_made, AreMadeTo};
+ghost use Rattle.pmem_recovery.specs.Parts.{setup_of, Told, HasOnlyRead, GoesOn, IsCutOff, suite_state, HasWorked, HasWorkedAtMost, decided_of, IsDecided, AreOneTried, IsLineRefusal, IsPageRefusal, IsRefusal, IsStopped, HasMade};
+
+use crate::RecFault;
+use crate::entries::{Made, is_other};
+use crate::tables::next_named;
+use board::Board;
+use line_seal::tag_at;
+use page_reencrypt::is_left;
+use pmem_base::{Cut, Geo, Line, Regs, Tag};
+use split_counters::{Block, pack, unpack};
+use stop_loss::{Found, find, window};
+use suite::Suite;
+
+/// Makes the lines of all named counter blocks, upwards. The answer is the number of trials.
+pub(crate) fn fix_counters<B: Board, S: Suite>(
+    board: &mut B,
+    suite: &mut S,
+    geo: &Geo,
+    regs: &Regs,
+    shadow: &[Line],
+    made: &mut Vec<Made>,
+) -> Result<u64, RecFault>
+    requires size { (B.device board.old).size ≡ device_lines (shape_of geo.now) }
+    requires loss { IsTrue (is_loss regs.now.loss) }
+    requires shadow { length shadow.now ≡ shadow_lines (shape_of geo.now) }
+    requires empty { made.old.items ≡ [] }
+    requires room { slots (shape_of geo.now) ≤ vec_capacity made.old }
+    ensures read { HasOnlyRead (B.device board.old) (B.device board.new) }
+    ensures goes { OnOk result (GoesOn (B.device board.old) (B.device board.new)) }
+    ensures worked { IfOk result (λ trials. HasWorked trials 0 (suite_state (S.keys suite.old) (S.pads suite.old) (S.tags suite.old) (S.digests suite.old))
+        (suite_state (S.keys suite.new) (S.pads suite.new) (S.tags suite.new) (S.digests suite.new))) }
+    ensures at_most { HasWorkedAtMost (64 * regs.now.loss * slots (shape_of geo.now)) 0 (suite_state (S.keys suite.old) (S.pads suite.old) (S.tags suite.old) (S.digests suite.old))
+        (suite_state (S.keys suite.new) (S.pads suite.new) (S.tags suite.new) (S.digests suite.new)) }
+    ensures few_trials { IfOk result (λ trials. trials ≤ 64 * regs.now.loss * slots (shape_of geo.now)) }
+    ensures few_made { OnOk result (length made.new.items ≤ slots (shape_of geo.now)) }
+    ensures on_tree { OnOk result (All (λ entry. entry.at < meta_lines (shape_of geo.now)) made.new.items) }
+    ensures capacity { vec_capacity made.new ≡ vec_capacity made.old }
+    ensures told { OnOk result (Told (B.device board.old).lines (λ lines. shadow.now ≡ shadow_of (shape_of geo.now) lines
+        → AreDecided (setup_of geo.now (S.formulas_of (S.keys suite.old))) lines regs.now (pages (shape_of geo.now))
+        × AreMadeTo (setup_of geo.now (S.formulas_of (S.keys suite.old))) lines regs.now (shape_of geo.now).levels (meta_lines (shape_of geo.now)) made.new.items)) }
+    ensures stopped { IfErr result (λ fault. IsStopped (S.formulas_of (S.keys suite.old)) fault
+        (λ lines. shadow.now ≡ shadow_of (shape_of geo.now) lines → IsRefusal (setup_of geo.now (S.formulas_of (S.keys suite.old))) lines regs.now fault) (B.device board.old) (B.device board.new)) }
+{
+    let mut from = (geo.pages() - 1) / 3;
+    let mut trials = 0;
+    'positions: while let Some(x) = next_named(geo, shadow, geo.levels(), from, geo.metas()) {
+        trials += fix_counter(board, suite, geo, regs, x, made)?;
+        from = x + 1;
+    }
+    Ok(trials)
+}
+
+/// Makes the line of a named counter block. The answer is the number of trials.
+fn fix_counter<B: Board, S: Suite>(
+    board: &mut B,
+    suite: &mut S,
+    geo: &Geo,
+    regs: &Regs,
+    x: u32,
+    made: &mut Vec<Made>,
+) -> Result<u64, RecFault>
+    requires size { (B.device board.old).size ≡ device_lines (shape_of geo.now) }
+    requires loss { IsTrue (is_loss regs.now.loss) }
+    requires block { counter_position (shape_of geo.now) 0 ≤ x }
+    requires position { x < meta_lines (shape_of geo.now) }
+    requires room { vec_len made.old < vec_capacity made.old }
+    ensures read { HasOnlyRead (B.device board.old) (B.device board.new) }
+    ensures goes { OnOk result (GoesOn (B.device board.old) (B.device board.new)) }
+    ensures worked { IfOk result (λ trials. HasWorked trials 0 (suite_state (S.keys suite.old) (S.pads suite.old) (S.tags suite.old) (S.digests suite.old))
+        (suite_state (S.keys suite.new) (S.pads suite.new) (S.tags suite.new) (S.digests suite.new))) }
+    ensures at_most { HasWorkedAtMost (64 * regs.now.loss) 0 (suite_state (S.keys suite.old) (S.pads suite.old) (S.tags suite.old) (S.digests suite.old))
+        (suite_state (S.keys suite.new) (S.pads suite.new) (S.tags suite.new) (S.digests suite.new)) }
+    ensures few { IfOk result (λ trials. trials ≤ 64 * regs.now.loss) }
+    ensures made { OnOk result (HasMade x made.old.items made.new.items) }
+    ensures capacity { vec_capacity made.new ≡ vec_capacity made.old }
+    ensures told { OnOk result (Told (B.device board.old).lines (λ lines. (page : ℕ) → page < pages (shape_of geo.now) → x ≡ counter_position (shape_of geo.now) page
+        → (made.new.items ≡ made.old.items ++ block_made (setup_of geo.now (S.formulas_of (S.keys suite.old))) lines regs.now page ∷ [])
+        × AreOneTried (setup_of geo.now (S.formulas_of (S.keys suite.old))) lines regs.now page)) }
+    ensures stopped { IfErr result (λ fault. IsStopped (S.formulas_of (S.keys suite.old)) fault
+        (λ lines. (page : ℕ) → page < pages (shape_of geo.now) → x ≡ counter_position (shape_of geo.now) page
+        → IsPageRefusal (setup_of geo.now (S.formulas_of (S.keys suite.old))) lines regs.now page fault) (B.device board.old) (B.device board.new)) }
+{
+    let read = board.read_line(geo.meta_line(x))?;
+    let page = x - (geo.pages() - 1) / 3;
+    let (fixed, trials) = fix_minors(board, suite, geo, regs, page, &unpack(&read))?;
+    let line = pack(&fixed);
+    made.push_reserved(Made {
+        at: x,
+        line,
+        changed: is_other(&read, &line),
+    });
+    Ok(trials)
+}
+
+/// A page's block with each minor replaced by the one that the trials find, and the number of trials.
+fn fix_minors<B: Board, S: Suite>(
+    board: &mut B,
+    suite: &mut S,
+    geo: &Geo,
+    regs: &Regs,
+    page: u32,
+    stored: &Block,
+) -> Result<(Block, u64), RecFault>
+    requires size { (B.device board.old).size ≡ device_lines (shape_of geo.now) }
+    requires loss { IsTrue (is_loss regs.now.loss) }
+    requires page { page < pages (shape_of geo.now) }
+    requires block { IsBlock stored.now }
+    ensures read { HasOnlyRead (B.device board.old) (B.device board.new) }
+    ensures goes { OnOk result (GoesOn (B.device board.old) (B.device board.new)) }
+    ensures worked { IfOk result (λ fixed. HasWorked fixed.1 0 (suite_state (S.keys suite.old) (S.pads suite.old) (S.tags suite.old) (S.digests suite.old))
+        (suite_state (S.keys suite.new) (S.pads suite.new) (S.tags suite.new) (S.digests suite.new))) }
+    ensures at_most { HasWorkedAtMost (64 * regs.now.loss) 0 (suite_state (S.keys suite.old) (S.pads suite.old) (S.tags suite.old) (S.digests suite.old))
+        (suite_state (S.keys suite.new) (S.pads suite.new) (S.tags suite.new) (S.digests suite.new)) }
+    ensures few { IfOk result (λ fixed. fixed.1 ≤ 64 * regs.now.loss) }
+    ensures small { IfOk result (λ fixed. All (λ m. m ≤ 127) fixed.0.minors) }
+    ensures told { IfOk result (λ fixed. Told (B.device board.old).lines (λ lines. stored.now ≡ stored_block (shape_of geo.now) lines page
+        → (fixed.0 ≡ fixed_block (setup_of geo.now (S.formulas_of (S.keys suite.old))) lines regs.now page) × AreOneTried (setup_of geo.now (S.formulas_of (S.keys suite.old))) lines regs.now page)) }
+    ensures stopped { IfErr result (λ fault. IsStopped (S.formulas_of (S.keys suite.old)) fault
+        (λ lines. stored.now ≡ stored_block (shape_of geo.now) lines page → IsPageRefusal (setup_of geo.now (S.formulas_of (S.keys suite.old))) lines regs.now page fault) (B.device board.old) (B.device board.new)) }
+{
+    let mut fixed = *stored;
+    let mut trials = 0;
+    'lines: for i in 0..64_u8 {
+        let at = 64 * page + u32::from(i);
+        let (minor, tries) = try_line(board, suite, geo, regs, stored, at)?;
+        fixed.minors[usize::from(i)] = minor;
+        trials += tries;
+    }
+    Ok((fixed, trials))
+}
+
+/// The minor of a line, and the number of trials: the stored one where a register holds the line, else
+/// the one of its window that fits.
+fn try_line<B: Board, S: Suite>(
+    board: &mut B,
+    suite: &mut S,
+    geo: &Geo,
+    regs: &Regs,
+    stored: &Block,
+    at: u32,
+) -> Result<(u8, u64), RecFault>
+    requires size { (B.device board.old).size ≡ device_lines (shape_of geo.now) }
+    requires loss { IsTrue (is_loss regs.now.loss) }
+    requires line { at < data_lines (shape_of geo.now) }
+    requires minors { All (λ m. m ≤ 127) stored.now.minors }
+    ensures read { HasOnlyRead (B.device board.old) (B.device board.new) }
+    ensures goes { OnOk result (GoesOn (B.device board.old) (B.device board.new)) }
+    ensures worked { IfOk result (λ tried. HasWorked tried.1 0 (suite_state (S.keys suite.old) (S.pads suite.old) (S.tags suite.old) (S.digests suite.old))
+        (suite_state (S.keys suite.new) (S.pads suite.new) (S.tags suite.new) (S.digests suite.new))) }
+    ensures at_most { HasWorkedAtMost regs.now.loss 0 (suite_state (S.keys suite.old) (S.pads suite.old) (S.tags suite.old) (S.digests suite.old))
+        (suite_state (S.keys suite.new) (S.pads suite.new) (S.tags suite.new) (S.digests suite.new)) }
+    ensures few { IfOk result (λ tried. tried.1 ≤ regs.now.loss) }
+    ensures small { IfOk result (λ tried. tried.0 ≤ 127) }
+    ensures told { IfOk result (λ tried. Told (B.device board.old).lines (λ lines. stored.now ≡ stored_block (shape_of geo.now) lines (page_of at)
+        → tried_minors (setup_of geo.now (S.formulas_of (S.keys suite.old))) lines regs.now at ≡ tried.0 ∷ [])) }
+    ensures stopped { IfErr result (λ fault. IsStopped (S.formulas_of (S.keys suite.old)) fault
+        (λ lines. stored.now ≡ stored_block (shape_of geo.now) lines (page_of at) → IsLineRefusal (setup_of geo.now (S.formulas_of (S.keys suite.old))) lines regs.now at fault) (B.device board.old) (B.device board.new)) }
+{
+    let minor = stored.minors[(at % 64) as usize];
+    if is_left(&regs.progress, at) {
+        return Ok((minor, 0));
+    }
+    let (cipher, tag) = read_sealed(board, geo, at)?;
+    let ends = window(minor, regs.loss);
+    let found = try_window(suite, at, stored.major, ends, &cipher, &tag)?;
+    Ok((found, u64::from(ends.1) + 1 - u64::from(ends.0)))
+}
+
+/// The cipher of a data line, and its tag.
+fn read_sealed<B: Board>(board: &mut B, geo: &Geo, at: u32) -> Result<(Line, Tag), Cut>
+    requires size { (B.device board.old).size ≡ device_lines (shape_of geo.now) }
+    requires line { at < data_lines (shape_of geo.now) }
+    ensures read { HasOnlyRead (B.device board.old) (B.device board.new) }
+    ensures ok { OnOk result (GoesOn (B.device board.old) (B.device board.new)) }
+    ensures cut { OnErr result (IsCutOff (B.device board.old) (B.device board.new)) }
+    ensures told { IfOk result (λ sealed. Told (B.device board.old).lines (λ lines. (sealed.0 ≡ line_at lines at)
+        × (sealed.1 ≡ tag_slot (line_at lines (tag_line (shape_of geo.now) at)) at))) }
+{
+    let cipher = board.read_line(at)?;
+    let tags = board.read_line(geo.tag_line(at))?;
+    Ok((cipher, tag_at(&tags, at)))
+}
+
+/// The one minor of a window that fits a data line's cipher and tag.
+fn try_window<S: Suite>(
+    suite: &mut S,
+    at: u32,
+    major: u64,
+    ends: (u8, u8),
+    cipher: &Line,
+    tag: &Tag,
+) -> Result<u8, RecFault>
+    requires { ends.1 ≤ 127 }
+    ensures worked { HasWorked (length (minors_within ends.0 ends.1)) 0 (suite_state (S.keys suite.old) (S.pads suite.old) (S.tags suite.old) (S.digests suite.old))
+        (suite_state (S.keys suite.new) (S.pads suite.new) (S.tags suite.new) (S.digests suite.new)) }
+    ensures decided { IsDecided (S.formulas_of (S.keys suite.old)) at major cipher.now tag.now
+        (matching_minors (S.formulas_of (S.keys suite.old)) at major cipher.now tag.now (minors_within ends.0 ends.1)) result }
+{
+    let found = find(suite, at, major, ends, cipher, tag);
+    decided(found, at, major, cipher, tag)
+}
+
+/// The one minor found, or why there is none.
+fn decided(found: Found, at: u32, major: u64, cipher: &Line, tag: &Tag) -> Result<u8, RecFault>
+    ensures { result ≡ decided_of found at major cipher.now tag.now }
+{
+    match found {
+        Found::One(minor) => Ok(minor),
+        Found::Nothing => Err(RecFault::NoCounter { at }),
+        Found::Twin(low, high) => Err(RecFault::Twin {
+            at,
+            major,
+            low,
+            high,
+            cipher: *cipher,
+            tag: *tag,
+        }),
+    }
+}

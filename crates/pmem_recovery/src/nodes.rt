@@ -1,0 +1,221 @@
+//! The named nodes, from the lowest level up, and the root.
+ghost use Rattle.std.specs.Prelude.{ℕ, suc, ◌≡◌, ◌+◌, ◌*◌, ◌<◌, ◌≤◌, ◌++◌, [], ◌∷◌, List, All, IsTrue, IfOk, OnOk, OnErr, IfErr, length, vec_len, vec_capacity, ◌↔◌};
+ghost use Rattle.pmem_base.specs.declared.registers.Regs.{Regs};
+ghost use Rattle.pmem_base.specs.Geo.{shape_of};
+ghost use Rattle.pmem_base.specs.Layout.{meta_lines, device_lines, shadow_lines};
+ghost use Rattle.shadow_tables.specs.Entries.{shadow_of};
+ghost use Rattle.bonsai_tree.specs.Positions.{level_start};
+ghost use Rattle.bonsai_tree.specs.Nodes.{node_over};
+ghost use Rattle.pmem_recovery.specs.Named.{count_named};
+ghost use Rattle.pmem_recovery.specs.Upward.{made_or_stored, node_made, AreMadeTo};
+ghost use Rattle.pmem_recovery.specs.Parts.{setup_of, Told, HasOnlyRead, GoesOn, IsCutOff, suite_state, HasWorked, HasWorkedAtMost, IsCompared, IsRootAnswer, IsRootFault, StopsBy, HasMade};
+
+use crate::RecFault;
+use crate::entries::{Made, is_other, line_made};
+use crate::tables::next_named;
+use board::Board;
+use bonsai_tree::node_of;
+use pmem_base::{Cut, Geo, Line, Regs, Tag};
+use suite::Suite;
+
+/// Makes the lines of all named nodes, over the counter blocks made. The answer is the number of
+/// digests.
+pub(crate) fn fix_nodes<B: Board, S: Suite>(
+    board: &mut B,
+    suite: &mut S,
+    geo: &Geo,
+    shadow: &[Line],
+    made: &mut Vec<Made>,
+) -> Result<u64, Cut>
+    requires size { (B.device board.old).size ≡ device_lines (shape_of geo.now) }
+    requires shadow { length shadow.now ≡ shadow_lines (shape_of geo.now) }
+    requires room { length made.old.items + count_named (shape_of geo.now) shadow.now 0 (level_start (shape_of geo.now).levels) ≤ vec_capacity made.old }
+    ensures read { HasOnlyRead (B.device board.old) (B.device board.new) }
+    ensures goes { OnOk result (GoesOn (B.device board.old) (B.device board.new)) }
+    ensures cut { OnErr result (IsCutOff (B.device board.old) (B.device board.new)) }
+    ensures worked { IfOk result (λ digests. HasWorked 0 digests (suite_state (S.keys suite.old) (S.pads suite.old) (S.tags suite.old) (S.digests suite.old))
+        (suite_state (S.keys suite.new) (S.pads suite.new) (S.tags suite.new) (S.digests suite.new))) }
+    ensures at_most { HasWorkedAtMost 0 (4 * count_named (shape_of geo.now) shadow.now 0 (level_start (shape_of geo.now).levels)) (suite_state (S.keys suite.old) (S.pads suite.old) (S.tags suite.old) (S.digests suite.old))
+        (suite_state (S.keys suite.new) (S.pads suite.new) (S.tags suite.new) (S.digests suite.new)) }
+    ensures digests { IfOk result (λ digests. digests ≡ 4 * count_named (shape_of geo.now) shadow.now 0 (level_start (shape_of geo.now).levels)) }
+    ensures counted { OnOk result (length made.new.items
+        ≡ length made.old.items + count_named (shape_of geo.now) shadow.now 0 (level_start (shape_of geo.now).levels)) }
+    ensures on_tree { OnOk result (All (λ entry. entry.at < meta_lines (shape_of geo.now)) made.old.items
+        → All (λ entry. entry.at < meta_lines (shape_of geo.now)) made.new.items) }
+    ensures told { OnOk result (Told (B.device board.old).lines (λ lines. (regs : Regs) → shadow.now ≡ shadow_of (shape_of geo.now) lines
+        → AreMadeTo (setup_of geo.now (S.formulas_of (S.keys suite.old))) lines regs (shape_of geo.now).levels (meta_lines (shape_of geo.now)) made.old.items
+        → AreMadeTo (setup_of geo.now (S.formulas_of (S.keys suite.old))) lines regs 0 1 made.new.items)) }
+{
+    let mut digests = 0;
+    'upward: for above in 0..geo.levels() {
+        let level = geo.levels() - 1 - above;
+        digests += fix_level(board, suite, geo, shadow, level, made)?;
+    }
+    Ok(digests)
+}
+
+/// Makes the lines of the named nodes of a level, upwards. The answer is the number of digests.
+fn fix_level<B: Board, S: Suite>(
+    board: &mut B,
+    suite: &mut S,
+    geo: &Geo,
+    shadow: &[Line],
+    level: u8,
+    made: &mut Vec<Made>,
+) -> Result<u64, Cut>
+    requires size { (B.device board.old).size ≡ device_lines (shape_of geo.now) }
+    requires shadow { length shadow.now ≡ shadow_lines (shape_of geo.now) }
+    requires level { level < (shape_of geo.now).levels }
+    requires room { length made.old.items + count_named (shape_of geo.now) shadow.now (level_start level) (level_start (suc level)) ≤ vec_capacity made.old }
+    ensures read { HasOnlyRead (B.device board.old) (B.device board.new) }
+    ensures goes { OnOk result (GoesOn (B.device board.old) (B.device board.new)) }
+    ensures cut { OnErr result (IsCutOff (B.device board.old) (B.device board.new)) }
+    ensures worked { IfOk result (λ digests. HasWorked 0 digests (suite_state (S.keys suite.old) (S.pads suite.old) (S.tags suite.old) (S.digests suite.old))
+        (suite_state (S.keys suite.new) (S.pads suite.new) (S.tags suite.new) (S.digests suite.new))) }
+    ensures at_most { HasWorkedAtMost 0 (4 * count_named (shape_of geo.now) shadow.now (level_start level) (level_start (suc level))) (suite_state (S.keys suite.old) (S.pads suite.old) (S.tags suite.old) (S.digests suite.old))
+        (suite_state (S.keys suite.new) (S.pads suite.new) (S.tags suite.new) (S.digests suite.new)) }
+    ensures digests { IfOk result (λ digests. digests ≡ 4 * count_named (shape_of geo.now) shadow.now (level_start level) (level_start (suc level))) }
+    ensures counted { OnOk result (length made.new.items
+        ≡ length made.old.items + count_named (shape_of geo.now) shadow.now (level_start level) (level_start (suc level))) }
+    ensures on_tree { OnOk result (All (λ entry. entry.at < meta_lines (shape_of geo.now)) made.old.items
+        → All (λ entry. entry.at < meta_lines (shape_of geo.now)) made.new.items) }
+    ensures capacity { vec_capacity made.new ≡ vec_capacity made.old }
+    ensures told { OnOk result (Told (B.device board.old).lines (λ lines. (regs : Regs) → shadow.now ≡ shadow_of (shape_of geo.now) lines
+        → AreMadeTo (setup_of geo.now (S.formulas_of (S.keys suite.old))) lines regs level (level_start level) made.old.items
+        → AreMadeTo (setup_of geo.now (S.formulas_of (S.keys suite.old))) lines regs level (level_start (suc level)) made.new.items)) }
+{
+    let start = first_of_level(level);
+    let end = first_of_level(level + 1);
+    let mut from = start;
+    let mut digests = 0;
+    'positions: while let Some(x) = next_named(geo, shadow, level, from, end) {
+        fix_node(board, suite, geo, x, made)?;
+        digests += 4;
+        from = x + 1;
+    }
+    Ok(digests)
+}
+
+/// The first position of a level.
+fn first_of_level(level: u8) -> u32
+    requires { level ≤ 6 }
+    ensures value { result ≡ level_start level }
+    ensures bound { result ≤ 1365 }
+{
+    (4_u32.pow(u32::from(level)) - 1) / 3
+}
+
+/// Makes the line of a named node.
+fn fix_node<B: Board, S: Suite>(
+    board: &mut B,
+    suite: &mut S,
+    geo: &Geo,
+    x: u32,
+    made: &mut Vec<Made>,
+) -> Result<(), Cut>
+    requires size { (B.device board.old).size ≡ device_lines (shape_of geo.now) }
+    requires node { x < level_start (shape_of geo.now).levels }
+    requires room { length made.old.items < vec_capacity made.old }
+    ensures read { HasOnlyRead (B.device board.old) (B.device board.new) }
+    ensures goes { OnOk result (GoesOn (B.device board.old) (B.device board.new)) }
+    ensures cut { OnErr result (IsCutOff (B.device board.old) (B.device board.new)) }
+    ensures worked { OnOk result (HasWorked 0 4 (suite_state (S.keys suite.old) (S.pads suite.old) (S.tags suite.old) (S.digests suite.old))
+        (suite_state (S.keys suite.new) (S.pads suite.new) (S.tags suite.new) (S.digests suite.new))) }
+    ensures at_most { HasWorkedAtMost 0 4 (suite_state (S.keys suite.old) (S.pads suite.old) (S.tags suite.old) (S.digests suite.old))
+        (suite_state (S.keys suite.new) (S.pads suite.new) (S.tags suite.new) (S.digests suite.new)) }
+    ensures made { OnOk result (HasMade x made.old.items made.new.items) }
+    ensures capacity { vec_capacity made.new ≡ vec_capacity made.old }
+    ensures told { OnOk result (Told (B.device board.old).lines (λ lines.
+        made.new.items ≡ made.old.items ++ node_made (setup_of geo.now (S.formulas_of (S.keys suite.old))) lines made.old.items x ∷ [])) }
+{
+    let read = board.read_line(geo.meta_line(x))?;
+    let line = node_line(board, suite, geo, x, made)?;
+    made.push_reserved(Made {
+        at: x,
+        line,
+        changed: is_other(&read, &line),
+    });
+    Ok(())
+}
+
+/// The node over the children of a position, as they were made or are read.
+fn node_line<B: Board, S: Suite>(
+    board: &mut B,
+    suite: &mut S,
+    geo: &Geo,
+    x: u32,
+    made: &[Made],
+) -> Result<Line, Cut>
+    requires size { (B.device board.old).size ≡ device_lines (shape_of geo.now) }
+    requires node { x < level_start (shape_of geo.now).levels }
+    ensures read { HasOnlyRead (B.device board.old) (B.device board.new) }
+    ensures goes { OnOk result (GoesOn (B.device board.old) (B.device board.new)) }
+    ensures cut { OnErr result (IsCutOff (B.device board.old) (B.device board.new)) }
+    ensures worked { OnOk result (HasWorked 0 4 (suite_state (S.keys suite.old) (S.pads suite.old) (S.tags suite.old) (S.digests suite.old))
+        (suite_state (S.keys suite.new) (S.pads suite.new) (S.tags suite.new) (S.digests suite.new))) }
+    ensures at_most { HasWorkedAtMost 0 4 (suite_state (S.keys suite.old) (S.pads suite.old) (S.tags suite.old) (S.digests suite.old))
+        (suite_state (S.keys suite.new) (S.pads suite.new) (S.tags suite.new) (S.digests suite.new)) }
+    ensures told { IfOk result (λ line. Told (B.device board.old).lines (λ lines.
+        line ≡ node_over (S.formulas_of (S.keys suite.old)) x (made_or_stored (shape_of geo.now) lines made.now))) }
+{
+    let mut digests = [[0; 16]; 4];
+    'children: for i in 0..4_u8 {
+        let child = 4 * x + 1 + u32::from(i);
+        let line = made_or_read(board, geo, child, made)?;
+        digests[usize::from(i)] = suite.digest(child, &line);
+    }
+    Ok(node_of(&digests))
+}
+
+/// The line made for a position, or the device's where none was.
+fn made_or_read<B: Board>(board: &mut B, geo: &Geo, x: u32, made: &[Made]) -> Result<Line, Cut>
+    requires size { (B.device board.old).size ≡ device_lines (shape_of geo.now) }
+    requires position { x < meta_lines (shape_of geo.now) }
+    ensures read { HasOnlyRead (B.device board.old) (B.device board.new) }
+    ensures goes { OnOk result (GoesOn (B.device board.old) (B.device board.new)) }
+    ensures cut { OnErr result (IsCutOff (B.device board.old) (B.device board.new)) }
+    ensures told { IfOk result (λ line. Told (B.device board.old).lines (λ lines. line ≡ made_or_stored (shape_of geo.now) lines made.now x)) }
+{
+    match line_made(made, x) {
+        Some(line) => Ok(line),
+        None => board.read_line(geo.meta_line(x)),
+    }
+}
+
+/// Compares the digest of the top with the root register.
+pub(crate) fn check_root<B: Board, S: Suite>(
+    board: &mut B,
+    suite: &mut S,
+    geo: &Geo,
+    regs: &Regs,
+    made: &[Made],
+) -> Result<(), RecFault>
+    requires size { (B.device board.old).size ≡ device_lines (shape_of geo.now) }
+    ensures read { HasOnlyRead (B.device board.old) (B.device board.new) }
+    ensures goes { OnOk result (GoesOn (B.device board.old) (B.device board.new)) }
+    ensures kind { IfErr result IsRootFault }
+    ensures stops { IfErr result (λ fault. StopsBy fault (B.device board.old) (B.device board.new)) }
+    ensures worked { OnOk result (HasWorked 0 1 (suite_state (S.keys suite.old) (S.pads suite.old) (S.tags suite.old) (S.digests suite.old))
+        (suite_state (S.keys suite.new) (S.pads suite.new) (S.tags suite.new) (S.digests suite.new))) }
+    ensures at_most { HasWorkedAtMost 0 1 (suite_state (S.keys suite.old) (S.pads suite.old) (S.tags suite.old) (S.digests suite.old))
+        (suite_state (S.keys suite.new) (S.pads suite.new) (S.tags suite.new) (S.digests suite.new)) }
+    ensures told { Told (B.device board.old).lines (λ lines.
+        IsRootAnswer (S.formulas_of (S.keys suite.old)) (made_or_stored (shape_of geo.now) lines made.now 0) regs.now.root result) }
+{
+    let top = made_or_read(board, geo, 0, made)?;
+    let found = suite.digest(0, &top);
+    compared(&regs.root, &found)
+}
+
+/// Whether the found root is the kept one.
+fn compared(kept: &Tag, found: &Tag) -> Result<(), RecFault>
+    ensures { IsCompared kept.now found.now result }
+{
+    if kept == found {
+        return Ok(());
+    }
+    Err(RecFault::Root {
+        kept: *kept,
+        found: *found,
+    })
+}

@@ -1,0 +1,173 @@
+//! Recovery after a cut.
+ghost use Rattle.std.specs.Prelude.{◌≡◌, ◌<◌, ◌≤◌, ◌+◌, ◌*◌, [], All, IsTrue, IfOk, IfErr, OnOk, OnErr, length, vec_capacity};
+ghost use Rattle.pmem_base.specs.Geo.{shape_of};
+ghost use Rattle.pmem_base.specs.Shape.{is_loss};
+ghost use Rattle.pmem_base.specs.Layout.{slots, meta_lines, shadow_lines, device_lines};
+ghost use Rattle.pmem_base.specs.Registers.{IsValidRegs};
+ghost use Rattle.shadow_tables.specs.Entries.{shadow_of};
+ghost use Rattle.seal_ledger.specs.Ledger.{IsOfShape};
+ghost use Rattle.pmem_recovery.specs.Parts.{setup_of, Told, HasOnlyRead, GoesOn, IsCutOff, StopsBy, suite_state, HasWorked, HasWorkedAtMost, HasRoot, IsRefusal, IsStopped};
+ghost use Rattle.pmem_recovery.specs.Writing.{BothTold};
+ghost use Rattle.pmem_recovery.specs.Written.{IsRecovered};
+ghost use Rattle.pmem_recovery.specs.Mending.{HasMadeAll, HasMadeWrites, IsLeftAlone};
+ghost use Rattle.pmem_recovery.specs.Recovered.{HasRecovered};
+
+use crate::counters::fix_counters;
+use crate::entries::Made;
+use crate::nodes::{check_root, fix_nodes};
+use crate::writing::{clear_shadow, write_made};
+use crate::{RecFault, Work};
+use board::Board;
+use commit_regs::finish;
+use meta_cache::Cache;
+use pmem_base::{Cut, Geo, Line, MemFault, Regs};
+use pmem_engine::Engine;
+use seal_ledger::Audit;
+use shadow_tables::Mirror;
+use std::alloc::Global;
+use suite::Suite;
+
+/// Recovers a device after power went off: redoes the armed group, finds the minors of the named
+/// counter blocks by trials, makes the named nodes anew, compares the root, writes what changed, and
+/// clears the shadow lines. The answer is an engine with nothing cached, and how much was tried.
+///
+/// It takes all its memory first, so `Memory` changes nothing. `NoCounter` and `Twin` come at the first
+/// line that hasn't exactly one minor, `Root` where each has one and the found root isn't the register.
+/// These change nothing but the redo. `Cut` comes as the board says. The audit isn't told anything.
+pub fn recover<B: Board, S: Suite, A: Audit>(
+    alloc: Global,
+    geo: &Geo,
+    board: &mut B,
+    suite: &mut S,
+    audit: &A,
+) -> Result<(Engine, Work), RecFault>
+    requires size { (B.device board.old).size ≡ device_lines (shape_of geo.now) }
+    requires regs { IsValidRegs (shape_of geo.now) (B.device board.old).regs }
+    requires audit { IsOfShape (shape_of geo.now) (A.ledger audit.now) }
+    ensures { HasRecovered (setup_of geo.now (S.formulas_of (S.keys suite.old))) (A.ledger audit.now) (B.device board.old) (B.device board.new)
+        (suite_state (S.keys suite.old) (S.pads suite.old) (S.tags suite.old) (S.digests suite.old))
+        (suite_state (S.keys suite.new) (S.pads suite.new) (S.tags suite.new) (S.digests suite.new)) result }
+{
+    let _audit = audit;
+    let cache = Cache::new(alloc, geo)?;
+    let mirror = Mirror::new(alloc, geo)?;
+    let mut room = Room::new(alloc, geo)?;
+    finish(board)?;
+    let work = mend(board, suite, geo, &mut room)?;
+    Ok((Engine::new(*geo, cache, mirror), work))
+}
+
+/// The memory that a recovery needs: for the shadow lines as read, and for the lines made.
+#[derive(Drop)]
+struct Room {
+    shadow: Vec<Line>,
+    made: Vec<Made>,
+}
+
+impl Room {
+    /// Room for all shadow lines, and for a line of each slot. An error is want of memory.
+    fn new(alloc: Global, geo: &Geo) -> Result<Room, MemFault>
+        ensures shadow { IfOk result (λ room. room.shadow.items ≡ []) }
+        ensures made { IfOk result (λ room. room.made.items ≡ []) }
+        ensures shadow_room { IfOk result (λ room. shadow_lines (shape_of geo.now) ≤ vec_capacity room.shadow) }
+        ensures made_room { IfOk result (λ room. ((shape_of geo.now).levels + 1) * slots (shape_of geo.now) ≤ vec_capacity room.made) }
+    {
+        let slots = geo.slots() as usize;
+        let shadow = Vec::with_capacity(alloc, geo.shadows() as usize)?;
+        let made = Vec::with_capacity(alloc, (usize::from(geo.levels()) + 1) * slots)?;
+        Ok(Room { shadow, made })
+    }
+}
+
+/// Makes the named lines, compares the root, and writes what changed. No group is armed.
+fn mend<B: Board, S: Suite>(
+    board: &mut B,
+    suite: &mut S,
+    geo: &Geo,
+    room: &mut Room,
+) -> Result<Work, RecFault>
+    requires size { (B.device board.old).size ≡ device_lines (shape_of geo.now) }
+    requires loss { IsTrue (is_loss (B.device board.old).regs.loss) }
+    requires shadow { room.old.shadow.items ≡ [] }
+    requires made { room.old.made.items ≡ [] }
+    requires shadow_room { shadow_lines (shape_of geo.now) ≤ vec_capacity room.old.shadow }
+    requires made_room { ((shape_of geo.now).levels + 1) * slots (shape_of geo.now) ≤ vec_capacity room.old.made }
+    ensures written { HasMadeWrites (setup_of geo.now (S.formulas_of (S.keys suite.old))) (B.device board.old).regs (B.device board.old) (B.device board.new) }
+    ensures goes { OnOk result (GoesOn (B.device board.old) (B.device board.new)) }
+    ensures worked { IfOk result (λ work. HasWorked work.trials work.digests (suite_state (S.keys suite.old) (S.pads suite.old) (S.tags suite.old) (S.digests suite.old))
+        (suite_state (S.keys suite.new) (S.pads suite.new) (S.tags suite.new) (S.digests suite.new))) }
+    ensures at_most { HasWorkedAtMost (64 * (B.device board.old).regs.loss * slots (shape_of geo.now)) (4 * (shape_of geo.now).levels * slots (shape_of geo.now) + 1) (suite_state (S.keys suite.old) (S.pads suite.old) (S.tags suite.old) (S.digests suite.old))
+        (suite_state (S.keys suite.new) (S.pads suite.new) (S.tags suite.new) (S.digests suite.new)) }
+    ensures few_trials { IfOk result (λ work. work.trials ≤ 64 * (B.device board.old).regs.loss * slots (shape_of geo.now)) }
+    ensures few_digests { IfOk result (λ work. work.digests ≤ 4 * (shape_of geo.now).levels * slots (shape_of geo.now) + 1) }
+    ensures recovered { OnOk result (BothTold (B.device board.old) (B.device board.new) (λ lines now. length lines ≡ device_lines (shape_of geo.now)
+        → IsRecovered (setup_of geo.now (S.formulas_of (S.keys suite.old))) lines (B.device board.old).regs now
+        × HasRoot (setup_of geo.now (S.formulas_of (S.keys suite.old))) lines (B.device board.old).regs)) }
+    ensures stopped { IfErr result (λ fault. IsStopped (S.formulas_of (S.keys suite.old)) fault (λ lines. length lines ≡ device_lines (shape_of geo.now)
+        → IsRefusal (setup_of geo.now (S.formulas_of (S.keys suite.old))) lines (B.device board.old).regs fault) (B.device board.old) (B.device board.new)) }
+    ensures left { IfErr result (λ fault. IsLeftAlone fault (B.device board.old) (B.device board.new)) }
+{
+    let regs = board.regs().same();
+    let work = make_lines(board, suite, geo, &regs, room)?;
+    write_made(board, geo, &room.made)?;
+    clear_shadow(board, geo, &room.shadow)?;
+    Ok(work)
+}
+
+/// Reads the shadow lines, makes the named lines and compares the root.
+fn make_lines<B: Board, S: Suite>(
+    board: &mut B,
+    suite: &mut S,
+    geo: &Geo,
+    regs: &Regs,
+    room: &mut Room,
+) -> Result<Work, RecFault>
+    requires size { (B.device board.old).size ≡ device_lines (shape_of geo.now) }
+    requires loss { IsTrue (is_loss regs.now.loss) }
+    requires shadow { room.old.shadow.items ≡ [] }
+    requires made { room.old.made.items ≡ [] }
+    requires shadow_room { shadow_lines (shape_of geo.now) ≤ vec_capacity room.old.shadow }
+    requires made_room { ((shape_of geo.now).levels + 1) * slots (shape_of geo.now) ≤ vec_capacity room.old.made }
+    ensures read { HasOnlyRead (B.device board.old) (B.device board.new) }
+    ensures goes { OnOk result (GoesOn (B.device board.old) (B.device board.new)) }
+    ensures worked { IfOk result (λ work. HasWorked work.trials work.digests (suite_state (S.keys suite.old) (S.pads suite.old) (S.tags suite.old) (S.digests suite.old))
+        (suite_state (S.keys suite.new) (S.pads suite.new) (S.tags suite.new) (S.digests suite.new))) }
+    ensures at_most { HasWorkedAtMost (64 * regs.now.loss * slots (shape_of geo.now)) (4 * (shape_of geo.now).levels * slots (shape_of geo.now) + 1) (suite_state (S.keys suite.old) (S.pads suite.old) (S.tags suite.old) (S.digests suite.old))
+        (suite_state (S.keys suite.new) (S.pads suite.new) (S.tags suite.new) (S.digests suite.new)) }
+    ensures few_trials { IfOk result (λ work. work.trials ≤ 64 * regs.now.loss * slots (shape_of geo.now)) }
+    ensures few_digests { IfOk result (λ work. work.digests ≤ 4 * (shape_of geo.now).levels * slots (shape_of geo.now) + 1) }
+    ensures shadow { OnOk result (length room.new.shadow.items ≡ shadow_lines (shape_of geo.now)) }
+    ensures few_made { OnOk result (length room.new.made.items ≤ ((shape_of geo.now).levels + 1) * slots (shape_of geo.now)) }
+    ensures on_tree { OnOk result (All (λ entry. entry.at < meta_lines (shape_of geo.now)) room.new.made.items) }
+    ensures told { OnOk result (Told (B.device board.old).lines (λ lines. length lines ≡ device_lines (shape_of geo.now)
+        → HasMadeAll (setup_of geo.now (S.formulas_of (S.keys suite.old))) lines regs.now room.new.shadow.items room.new.made.items)) }
+    ensures stopped { IfErr result (λ fault. IsStopped (S.formulas_of (S.keys suite.old)) fault (λ lines. length lines ≡ device_lines (shape_of geo.now)
+        → IsRefusal (setup_of geo.now (S.formulas_of (S.keys suite.old))) lines regs.now fault) (B.device board.old) (B.device board.new)) }
+{
+    read_shadow(board, geo, &mut room.shadow)?;
+    let trials = fix_counters(board, suite, geo, regs, &room.shadow, &mut room.made)?;
+    let digests = fix_nodes(board, suite, geo, &room.shadow, &mut room.made)?;
+    check_root(board, suite, geo, regs, &room.made)?;
+    Ok(Work {
+        trials,
+        digests: digests + 1,
+    })
+}
+
+/// Reads all shadow lines.
+fn read_shadow<B: Board>(board: &mut B, geo: &Geo, shadow: &mut Vec<Line>) -> Result<(), Cut>
+    requires size { (B.device board.old).size ≡ device_lines (shape_of geo.now) }
+    requires empty { shadow.old.items ≡ [] }
+    requires room { shadow_lines (shape_of geo.now) ≤ vec_capacity shadow.old }
+    ensures read { HasOnlyRead (B.device board.old) (B.device board.new) }
+    ensures goes { OnOk result (GoesOn (B.device board.old) (B.device board.new)) }
+    ensures cut { OnErr result (IsCutOff (B.device board.old) (B.device board.new)) }
+    ensures long { OnOk result (length shadow.new.items ≡ shadow_lines (shape_of geo.now)) }
+    ensures told { OnOk result (Told (B.device board.old).lines (λ lines. length lines ≡ device_lines (shape_of geo.now)
+        → shadow.new.items ≡ shadow_of (shape_of geo.now) lines)) }
+{
+    'lines: for n in 0..geo.shadows() {
+        shadow.push_reserved(board.read_line(geo.shadow_line(n))?);
+    }
+    Ok(())
+}
