@@ -186,6 +186,7 @@ module _ (setup : Setup) (n : ℕ) (engine : EngineState) (old : Device) (before
         answered = λ trusted. says final fault it trusted;
         unrefused = λ sound. unrefused_by final fault it sound;
         not_down = λ down. not_down_by final fault it down;
+        few = omega arith;
         sealed_before = λ trusted a within made. absurd (true≢false (sym made));
         counts = counted_none final fault it.no_steps;
         engine = refl;
@@ -316,6 +317,7 @@ module _ (setup : Setup) (n : ℕ) (engine : EngineState) (old : Device) (before
           answered = λ trusted. tt;
           unrefused = λ sound. tt;
           not_down = λ it. it;
+          few = omega arith;
           sealed_before = λ trusted a within made. absurd (true≢false (sym made));
           counts =
               record {
@@ -379,6 +381,7 @@ module _ (setup : Setup) (n : ℕ) (engine : EngineState) (old : Device) (before
             answered = λ trusted. tt;
             unrefused = λ sound. tt;
             not_down = λ it. it;
+            few = omega arith;
             sealed_before = λ trusted a within made. stored_sealed trusted a made;
             counts =
                 record {
@@ -436,6 +439,7 @@ module _ (setup : Setup) (n : ℕ) (engine : EngineState) (old : Device) (before
             answered = λ trusted. tt;
             unrefused = λ sound. tt;
             not_down = λ it. it;
+            few = omega arith;
             sealed_before = λ trusted a within made. stored_sealed trusted a made;
             counts = (
               record {
