@@ -52,3 +52,5 @@ pub mod LossCalls
 pub mod LossSets
 pub mod PathNames
 pub mod NamedCalls
+pub mod LeftPlaces
+pub mod PageFinished
