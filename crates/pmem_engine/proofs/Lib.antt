@@ -52,3 +52,4 @@ pub mod LossCalls
 pub mod LossSets
 pub mod PathNames
 pub mod NamedCalls
+pub mod WriteAsks
