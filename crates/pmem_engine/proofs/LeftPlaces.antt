@@ -40,15 +40,15 @@ above_kept test k s (suc n) below =
           ∙ sym (ap (λ t. cond t (s ∷ rest) rest) fails)
     ]
 
-tail_of : List ℕ → List ℕ
+abbrev tail_of : List ℕ → List ℕ
 tail_of [] = []
 tail_of (x ∷ xs) = xs
 
-head_of : List ℕ → ℕ
+abbrev head_of : List ℕ → ℕ
 head_of [] = 0
 head_of (x ∷ xs) = x
 
-is_empty : List ℕ → Bool
+abbrev is_empty : List ℕ → Bool
 is_empty [] = true
 is_empty (x ∷ xs) = false
 

@@ -54,3 +54,4 @@ pub mod PathNames
 pub mod NamedCalls
 pub mod LeftPlaces
 pub mod PageFinished
+pub mod WriteAsks

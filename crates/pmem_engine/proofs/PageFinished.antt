@@ -30,7 +30,7 @@ use Rattle.pmem_engine.specs.Invariants.{IsSealStored}
 use Rattle.pmem_engine.specs.Parts.{Parts, regs_of, lines_redone, AreTrusted, AreSound, HoldsSeal}
 use Rattle.pmem_engine.specs.Outcomes.{going, cut, shown, outcome_of, outcome_of_fault, is_seal_of, is_sealed_by, HasGone, HasDone, TakesSteps, TakesFewer}
 use Rattle.pmem_engine.specs.Faults.{IsTagRefused, IsForgedShown}
-use Rattle.pmem_engine.specs.Calls.{IsMemory, IsDownAnswer, IsUnrefused, moment_in}
+use Rattle.pmem_engine.specs.Calls.{IsUsable, IsMemory, IsDownAnswer, IsUnrefused, moment_in}
 use Rattle.pmem_engine.specs.Still.{HasOnlyRead}
 use Rattle.pmem_engine.specs.Resealing.{register_in, line_of_page, HasResealMarks, AnswersReseal, CountsReseal, HasSealedHeld, HasResealed}
 use Rattle.pmem_engine.specs.Writing.{reseals_of, IsFrontOf, IsStoppedAt, HasFinishMarks, IsForgedInFinish, AnswersFinish, CountsFinish, HasFinishedPage}
@@ -39,6 +39,7 @@ use Rattle.pmem_engine.proofs.Chained.{done_chained, sealed_by_either, going_uns
 use Rattle.pmem_engine.proofs.StillLaws.{done_reading}
 use Rattle.pmem_engine.proofs.Unsealing.{same_never_falls}
 use Rattle.pmem_engine.proofs.Asked.{asked-held}
+use Rattle.pmem_engine.proofs.Usable.{usable_after}
 use Rattle.pmem_engine.proofs.LeftPlaces.{in_middle, first_and_rest, line_held, others_kept, one_less, page_closed, as_many, page_stays, places_left, place_small}
 
 -- ---- a line that no mark seals
@@ -139,6 +140,7 @@ first_none setup n old valid inside =
       registers =
           left_at_first old n (not_done (register_in old n)) refl (valid.each_page n empty_progress inside).some_left;
       others = λ page none. none;
+      metadata = λ trusted x within. refl;
       steps = record { writes = omega arith; latches = omega arith; sum = λ one two. omega arith };
       engine = refl;
       truth = refl;
@@ -207,10 +209,10 @@ module _ (setup : Setup) (n number : ℕ) (old mid : Parts) (valid : IsValidRegs
 
   -- the next one was done or not
   module _ (new : Parts) (answer : Result (ℕ × ℕ) Fault) (it : HasResealed setup n mid new answer) where
-    next_left : (rest : List ℕ) × (first.left ≡ it.place ∷ rest)
+    abbrev next_left : (rest : List ℕ) × (first.left ≡ it.place ∷ rest)
     next_left = first_and_rest first.left it.place (ap (λ places. slice_get places 0) (sym still_open.places) ∙ it.lowest)
 
-    rest : List ℕ
+    abbrev rest : List ℕ
     rest = next_left.0
 
     left_is : first.left ≡ it.place ∷ rest
@@ -265,11 +267,19 @@ module _ (setup : Setup) (n number : ℕ) (old mid : Parts) (valid : IsValidRegs
         let two = it.few in
         omega (arith, both, one, two)
 
+-- the parts are usable still
+pub still_usable : (setup : Setup) (n number : ℕ) (old mid : Parts) → HasResealedFirst setup n number old mid
+    → old.engine.down ≡ false → IsUsable setup.shape old.engine old.device old.ledger
+    → IsUsable setup.shape mid.engine mid.device mid.ledger
+still_usable setup n number old mid first up usable =
+    usable_after setup going first.made old mid first.done.gone
+    (ap (λ engine. engine.down) first.engine ∙ up ∙ sym (ap (λ b. b || false) up)) usable
+
 -- the next line was sealed anew
 module _ (setup : Setup) (n number : ℕ) (old mid new : Parts) (valid : IsValidRegs setup.shape (regs_of old))
     (inside : n < length (regs_of old).progress.items) (first : HasResealedFirst setup n number old mid)
     (some : number < length (not_done (register_in old n))) (sealed : ℕ × ℕ) (it : HasResealed setup n mid new (Ok sealed)) where
-  after : List ℕ
+  abbrev after : List ℕ
   after = rest setup n number old mid valid inside first some new (Ok sealed) it
 
   mid_valid : IsValidRegs setup.shape (regs_of mid)
@@ -353,6 +363,9 @@ module _ (setup : Setup) (n number : ℕ) (old mid new : Parts) (valid : IsValid
             λ page none.
             ap (λ items. register_of items page) line_done
             ∙ others_kept (regs_of mid).progress.items (line_of_page (register_in mid n) it.place) page (first.others page none);
+        metadata =
+            λ trusted x within.
+            it.metadata (first.done.gone.trusted trusted) x within ∙ first.metadata trusted x within;
         steps =
             subst (λ k. TakesSteps k old.device new.device) (omega arith)
             (steps_more (4 * number) 4 old.device mid.device new.device first.steps it.counts.0);
@@ -520,6 +533,7 @@ module _ (setup : Setup) (n number : ℕ) (old mid new : Parts) (valid : IsValid
         closed = λ ok. absurd (false≢true ok);
         one_less = λ ok. absurd (false≢true ok);
         others = λ ok. absurd (false≢true ok);
+        metadata = λ trusted x within. it.metadata (mid_trusted trusted) x within ∙ first.metadata trusted x within;
         counts = λ trusted memory was. counts_so fault trusted memory was (step_marks trusted memory was) it.counts;
         engine = it.engine ∙ first.engine;
         truth = λ unshown. it.truth unshown ∙ first.truth;
@@ -549,6 +563,7 @@ finished setup n number old new first whole =
       closed = λ ok. closed.gone;
       one_less = λ ok. closed.one_less;
       others = λ ok page none. first.others page none;
+      metadata = first.metadata;
       counts =
           λ trusted memory was.
           subst (λ k. TakesSteps k old.device new.device)
