@@ -331,7 +331,7 @@ pub record HasWrittenLine (setup : Setup) (write : Posted) (old new : Parts) (an
       old.engine.down ≡ false → AreTrusted setup old → (memory : Memory) → IsMemory setup memory old
       → HasWriteMarks (marks_of_write setup.formulas (moment_in setup memory old) write) made write answer
   pub memory :
-      AreTrusted setup old → (memory : Memory) → IsMemory setup memory old
+      AreTrusted setup old → (memory : Memory) → write.at < length memory → IsMemory setup memory old
       → IsMemory setup (memory_after memory write made) new
   pub answered :
       old.engine.down ≡ false → AreTrusted setup old → (memory : Memory) → IsMemory setup memory old
