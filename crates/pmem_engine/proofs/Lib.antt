@@ -55,3 +55,5 @@ pub mod NamedCalls
 pub mod LeftPlaces
 pub mod PageFinished
 pub mod WriteAsks
+
+pub mod PlainMade
