@@ -57,3 +57,5 @@ pub mod PageFinished
 pub mod WriteAsks
 
 pub mod PlainMade
+pub mod FinishedFor
+pub mod BegunBlock

@@ -145,16 +145,17 @@ impl Engine {
 
 // The place of the register whose page is finished before `page` begins: its own where it is open,
 // else the oldest where four are.
-fn to_finish(open: &ArrayVec<Progress, 4>, page: u32) -> Option<usize>
-    ensures found { result ≡ register_to_finish open.now.items page }
-    ensures inside { IfSome result (λ n. n < length open.now.items) }
-    ensures few { length open.now.items ≤ 4 }
-    ensures closed { IsNone result → register_of open.now.items page ≡ None }
-    ensures not_full { IsNone result → length open.now.items < 4 }
+fn to_finish(registers: &ArrayVec<Progress, 4>, page: u32) -> Option<usize>
+    ensures found { result ≡ register_to_finish registers.now.items page }
+    ensures inside { IfSome result (λ n. n < length registers.now.items) }
+    ensures few { length registers.now.items ≤ 4 }
+    ensures closed { IsNone result → register_of registers.now.items page ≡ None }
+    ensures not_full { IsNone result → length registers.now.items < 4 }
 {
-    match find_open(open, page) {
+    let is_full = registers.is_full();
+    match find_open(registers, page) {
         Some(n) => Some(usize::from(n)),
-        None if open.is_full() => Some(0),
+        None if is_full => Some(0),
         None => None,
     }
 }
