@@ -59,3 +59,4 @@ pub mod WriteAsks
 pub mod PlainMade
 pub mod FinishedFor
 pub mod BegunBlock
+pub mod WriteCalls
