@@ -53,3 +53,4 @@ pub mod LossSets
 pub mod PathNames
 pub mod NamedCalls
 pub mod WriteAsks
+pub mod WriteParts
