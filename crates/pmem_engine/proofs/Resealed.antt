@@ -192,6 +192,7 @@ module _ (setup : Setup) (n : ℕ) (engine : EngineState) (old : Device) (before
         answered = λ trusted. says final fault it trusted;
         unrefused = λ sound. unrefused_by final fault it sound;
         not_down = λ down. not_down_by final fault it down;
+        few = omega arith;
         sealed_before = λ trusted a within made. absurd (true≢false (sym made));
         counts = counted_none final fault it.no_steps;
         engine = refl;
@@ -323,6 +324,7 @@ module _ (setup : Setup) (n : ℕ) (engine : EngineState) (old : Device) (before
           answered = λ trusted. tt;
           unrefused = λ sound. tt;
           not_down = λ it. it;
+          few = omega arith;
           sealed_before = λ trusted a within made. absurd (true≢false (sym made));
           counts =
               record {
@@ -400,6 +402,7 @@ module _ (setup : Setup) (n : ℕ) (engine : EngineState) (old : Device) (before
             answered = λ trusted. tt;
             unrefused = λ sound. tt;
             not_down = λ it. it;
+            few = omega arith;
             sealed_before = λ trusted a within made. stored_sealed trusted a made;
             counts =
                 record {
@@ -461,6 +464,7 @@ module _ (setup : Setup) (n : ℕ) (engine : EngineState) (old : Device) (before
             answered = λ trusted. tt;
             unrefused = λ sound. tt;
             not_down = λ it. it;
+            few = omega arith;
             sealed_before = λ trusted a within made. stored_sealed trusted a made;
             counts = (
               record {

@@ -1,5 +1,5 @@
 -- What sealing a held line anew makes of its parts.
-use Rattle.std.specs.Prelude.{ℕ, ◌≡◌, ◌<◌, ◌+◌, ◌*◌, ◌⊎◌, Bool, true, List, [], ◌∷◌, length, slice_get, slice_index_or, Option, Some, None, IfOk, IsTrue, Result, Ok, Err, ⊤}
+use Rattle.std.specs.Prelude.{ℕ, ◌≡◌, ◌<◌, ◌≤◌, ◌+◌, ◌*◌, ◌⊎◌, Bool, true, List, [], ◌∷◌, length, slice_get, slice_index_or, Option, Some, None, IfOk, IsTrue, Result, Ok, Err, ⊤}
 use Rattle.pmem_base.specs.declared.lines.Line.{Line}
 use Rattle.pmem_base.specs.declared.registers.Progress.{Progress}
 use Rattle.pmem_base.specs.declared.answers.Mark.{Mark}
@@ -116,6 +116,7 @@ pub record HasResealed (setup : Setup) (n : ℕ) (old new : Parts) (answer : Res
   pub place : ℕ
   pub lowest : slice_get (not_done (register_in old n)) 0 ≡ Some place
   pub made : List Mark
+  pub few : length made ≤ 1
   pub done : HasDone setup (outcome_of answer) made old new
   pub marks :
       AreTrusted setup old → (memory : Memory) → IsMemory setup memory old
