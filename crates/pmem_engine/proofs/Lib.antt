@@ -54,3 +54,4 @@ pub mod PathNames
 pub mod NamedCalls
 pub mod WriteAsks
 pub mod WriteParts
+pub mod WriteFinish
