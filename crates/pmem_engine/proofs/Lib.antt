@@ -55,3 +55,5 @@ pub mod NamedCalls
 pub mod WriteAsks
 pub mod WriteParts
 pub mod WriteFinish
+pub mod WriteSteps
+pub mod WriteBegun
