@@ -57,3 +57,4 @@ pub mod WriteParts
 pub mod WriteFinish
 pub mod WriteSteps
 pub mod WriteBegun
+pub mod WriteExits
