@@ -58,3 +58,4 @@ pub mod WriteFinish
 pub mod WriteSteps
 pub mod WriteBegun
 pub mod WriteExits
+pub mod Written

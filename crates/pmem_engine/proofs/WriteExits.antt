@@ -36,7 +36,7 @@ use Rattle.pmem_engine.proofs.WriteBegun.{HasBegunMarks, CountsBegun}
 -- ---- marks left
 
 -- something is left of marks that end in a seal
-some_after : (front : List Mark) (mark : Mark) (rest : List Mark) → IsTrue (nat_lt 0 (length (front ++ mark ∷ rest)))
+pub some_after : (front : List Mark) (mark : Mark) (rest : List Mark) → IsTrue (nat_lt 0 (length (front ++ mark ∷ rest)))
 some_after front mark rest = lt-ltb 0 (length (front ++ mark ∷ rest)) (omega (arith, length-append front (mark ∷ rest)))
 
 -- no asked marks, or some
