@@ -59,3 +59,4 @@ pub mod WriteSteps
 pub mod WriteBegun
 pub mod WriteExits
 pub mod Written
+pub mod WriteEnded

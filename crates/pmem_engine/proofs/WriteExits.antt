@@ -100,8 +100,11 @@ pub stopped : (setup : Setup) (write : Posted) (old new : Parts) (made : List Ma
     → (AreSound setup old → IsUnrefused {T = Ctr} (Err fault)) → (IsDownAnswer {T = Ctr} (Err fault) → ⊥)
     → (AreTrusted setup old → (memory : Memory) → IsMemory setup memory old
     → TakesOfWrite setup.shape (marks_of_write setup.formulas (moment_in setup memory old) write) made old new (Err fault))
+    → (AreTrusted setup old → (memory : Memory) → IsMemory setup memory old
+    → marks_of_write setup.formulas (moment_in setup memory old) write ≡ None
+    → TakesSpent setup.shape (outcome_of_fault fault) old new)
     → HasWrittenUnder setup write old new (Err fault)
-stopped setup write old new made fault part marks answered unrefused not_down steps =
+stopped setup write old new made fault part marks answered unrefused not_down steps steps_of_spent =
     record {
       made = made;
       done = part.done;
@@ -119,6 +122,7 @@ stopped setup write old new made fault part marks answered unrefused not_down st
       path_named = λ ok. absurd (true≢false (sym ok));
       down = part.down;
       steps = steps;
+      steps_of_spent = steps_of_spent;
       steps_of_named = λ cached named one. tt;
       block_kept = part.block_kept;
       block_written = λ trusted. tt;

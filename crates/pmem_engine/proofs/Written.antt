@@ -32,8 +32,8 @@ use Rattle.plain_model.specs.Bounds.{path_length, seal_count}
 use Rattle.pmem_engine.specs.declared.fault.Fault.{Fault}
 use Rattle.pmem_engine.specs.declared.fault.Fault.TheVariants as Fail
 use Rattle.pmem_engine.specs.Parts.{Parts, regs_of, AreTrusted, AreSound, HoldsSeal, meta_line_in}
-use Rattle.pmem_engine.specs.Outcomes.{going, is_going, outcome_of, outcome_of_fault, is_seal_of, is_sealed_by, HasDone, TakesSteps, TakesAtMost, TakesFewer}
-use Rattle.pmem_engine.specs.Calls.{IsMemory, IsDownAnswer, IsUnrefused, IsPathNamedInMirror, IsBlockTrue, TakesWithin, TakesWithinOfLive, moment_in, memory_after, is_persisting, IsPartOf, HasWriteMarks, AnswersWrite, write_bound, TakesOfWrite}
+use Rattle.pmem_engine.specs.Outcomes.{going, cut, is_going, outcome_of, outcome_of_fault, is_seal_of, is_sealed_by, HasDone, TakesSteps, TakesAtMost, TakesFewer}
+use Rattle.pmem_engine.specs.Calls.{IsMemory, IsDownAnswer, IsUnrefused, IsPathNamedInMirror, IsBlockTrue, TakesWithin, TakesWithinOfLive, moment_in, memory_after, is_persisting, IsPartOf, HasWriteMarks, AnswersWrite, write_bound, TakesSpent, TakesOfWrite}
 use Rattle.pmem_engine.specs.Inner.{StandsStill, HasFetched, HasNamedPath}
 use Rattle.pmem_engine.specs.Sealing.{cached_block, next_counter_of, seal_steps, HasNextMarks, TakesSealSteps, HasSealedNext}
 use Rattle.pmem_engine.specs.Writing.{overflow_of, IsFrontOf, HasLeftOut, HasFinishMarks, HasMadePlain, HasFinishedFor, HasBegunFor, HasWrittenUnder}
@@ -75,6 +75,7 @@ module _ (setup : Setup) (write : Posted) (within : write.at < layout.data_lines
       (λ is. it.not_down (fault_down Ctr Unit fault is))
       (λ trusted memory was.
       unfetched_steps setup write old new (asked memory old) fault (it.answered trusted) it.steps_of_path it.steps_of_dirty)
+      (λ trusted memory was none. (it.steps_of_path, it.steps_of_dirty))
 
   module _ (p1 : Parts) (fetched : HasFetched setup page old p1 (Ok tt)) where
     trusted1 : AreTrusted setup old → AreTrusted setup p1
@@ -109,7 +110,8 @@ module _ (setup : Setup) (write : Posted) (within : write.at < layout.data_lines
           refl,
         ))
         (λ trusted memory was. tt) (λ sound. tt) (λ is. is)
-        (λ trusted memory was. spent_steps (asked memory old) page))
+        (λ trusted memory was. spent_steps (asked memory old) page)
+        (λ trusted memory was none. (fetched.steps_of_path, fetched.steps_of_dirty)))
 
     module _ (overflows : Bool)
         (over : overflow_of (cached_block setup.shape p1.engine page) page (index_in_page write.at) ≡ Ok overflows) where
@@ -121,6 +123,9 @@ module _ (setup : Setup) (write : Posted) (within : write.at < layout.data_lines
               → IsSome (asked memory p1)
           go true is = ap is_some (asked_begin setup memory write p1 within (trusted1 trusted) cached1 is)
           go false is = ap is_some (asked_seal setup memory write p1 within (trusted1 trusted) cached1 is)
+
+      spent_not : (T : Type 0) → AreTrusted setup old → (memory : Memory) → asked memory old ≡ None → T
+      spent_not T trusted memory none = absurd (true≢false (sym (unspent trusted memory) ∙ ap is_some none))
 
       -- the steps of the path, and none more
       path_alone : (new : Parts) → TakesSteps 0 p1.device new.device → TakesAtMost path old.device new.device
@@ -147,6 +152,7 @@ module _ (setup : Setup) (write : Posted) (within : write.at < layout.data_lines
           (λ trusted memory was.
           unplain_steps setup write old p1 new (asked memory old) fault (unspent trusted memory)
           (it.answered (trusted1 trusted) cached1) (path_alone new it.no_steps))
+          (λ trusted memory was none. spent_not (TakesSpent setup.shape (outcome_of_fault fault) old new) trusted memory none)
 
       module _ (p2 : Parts) (plain : Line) (made_plain : HasMadePlain setup write p1 p2 (Ok plain)) where
         trusted2 : AreTrusted setup old → AreTrusted setup p2
@@ -224,6 +230,7 @@ module _ (setup : Setup) (write : Posted) (within : write.at < layout.data_lines
             (unfinished_steps setup old p2 new (front memory) (rest memory) it.made fault (it.seals memory)
             (omega (arith, bound memory (it.seals memory))) (marks trusted memory was) steps2
             (it.counts (trusted2 trusted) memory (part2.memory_kept trusted memory was))))
+            (λ trusted memory was none. spent_not (TakesSpent setup.shape (outcome_of_fault fault) old new) trusted memory none)
           where
             it : HasFinishedSome setup write.at front p2 new (Err fault)
             it = finished_for setup write.at p2 new (Err fault) within overflows free finished
@@ -272,6 +279,7 @@ module _ (setup : Setup) (write : Posted) (within : write.at < layout.data_lines
               (more_fewer (path + 4 * length (front memory) + path) (write_bound setup.shape (front memory ++ rest memory)) old.device new.device
               (omega (arith, bound memory (some3.seals memory)))
               (fewer_then (path + 4 * length (front memory)) path old.device p3.device new.device (steps3 trusted memory was) it.steps)))
+              (λ trusted memory was none. spent_not (TakesSpent setup.shape cut old new) trusted memory none)
 
           pub written_unnamed : (new : Parts) (fault : Fault) → HasNamedPath setup page p3 new (Err fault)
               → HasWrittenUnder setup write old new (Err fault)
@@ -337,6 +345,7 @@ module _ (setup : Setup) (write : Posted) (within : write.at < layout.data_lines
                 (omega (arith, bound memory (some3.seals memory)))
                 (fewer_then (path + 4 * length (front memory) + path) (3 * length (begin_asked overflows page)) old.device p4.device new.device
                 (steps4 trusted memory was) it.counts)))
+                (λ trusted memory was none. spent_not (TakesSpent setup.shape cut old new) trusted memory none)
 
             unbegun_by : (new : Parts) (fault : Fault)
                 → HasBegunSome setup write.at (begin_asked overflows page) (begin_counter overflows setup write.at p4) p4 new (Err fault)
@@ -719,6 +728,8 @@ module _ (setup : Setup) (write : Posted) (within : write.at < layout.data_lines
                           λ trusted memory was.
                           subst (λ marks. TakesOfWrite setup.shape marks (before ++ it.made) old new answer) (sym (asked2 trusted memory))
                           (sealed_steps trusted memory was answer it.marks it.steps);
+                      steps_of_spent =
+                          λ trusted memory was none. spent_not (TakesSpent setup.shape (outcome_of answer) old new) trusted memory none;
                       steps_of_named = λ cached was_named one. named_steps cached was_named one answer it.marks it.steps;
                       block_kept = kept_before;
                       block_written = λ trusted. written_by answer it.marks (it.block_written (trusted5 trusted));
