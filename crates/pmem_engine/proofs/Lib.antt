@@ -52,6 +52,8 @@ pub mod LossCalls
 pub mod LossSets
 pub mod PathNames
 pub mod NamedCalls
+pub mod LeftPlaces
+pub mod PageFinished
 pub mod WriteAsks
 pub mod WriteParts
 pub mod WriteFinish
@@ -60,3 +62,7 @@ pub mod WriteBegun
 pub mod WriteExits
 pub mod Written
 pub mod WriteEnded
+
+pub mod PlainMade
+pub mod FinishedFor
+pub mod BegunBlock

@@ -1,5 +1,5 @@
 //! Writing: the steps of a write, in their order.
-ghost use Rattle.std.specs.Prelude.{◌≡◌, ◌<◌, ◌≤◌, ◌-◌, ◌^◌, None, false, true, length, IfOk};
+ghost use Rattle.std.specs.Prelude.{◌≡◌, ◌<◌, ◌≤◌, ◌-◌, ◌^◌, None, false, true, length, IfOk, IfSome, IsNone, OnOk};
 ghost use Rattle.pmem_base.specs.Layout.{page_of, index_in_page, data_lines, pages};
 ghost use Rattle.pmem_base.specs.Ranges.{IsPosted};
 ghost use Rattle.page_reencrypt.specs.Registers.{register_of};
@@ -8,12 +8,14 @@ ghost use Rattle.plain_model.specs.State.{put_write};
 ghost use Rattle.pmem_engine.specs.Parts.{parts_of};
 ghost use Rattle.pmem_engine.specs.Calls.{IsUsable, IsPathNamedInMirror};
 ghost use Rattle.pmem_engine.specs.Sealing.{cached_block};
-ghost use Rattle.pmem_engine.specs.Writing.{overflow_of, HasBegunFor};
+ghost use Rattle.pmem_engine.specs.Writing.{overflow_of, HasMadePlain, register_to_finish, HasFinishedPage, HasFinishedFor, HasBegunFor};
 
 use crate::engine::Engine;
 use crate::fault::Fault;
+use arrayvec::ArrayVec;
 use board::Board;
-use pmem_base::{Line, Posted};
+use page_reencrypt::{find_open, left};
+use pmem_base::{Line, Posted, Progress};
 use seal_ledger::Audit;
 use suite::Suite;
 
@@ -33,6 +35,82 @@ impl Engine {
             return Err(Fault::Spent { page: at / 64 });
         }
         Ok(true)
+    }
+
+    // The plain line with the write's bytes in it. A write of a whole line needs nothing of the old one.
+    fn plain_after<B: Board, S: Suite, A: Audit>(
+        &self,
+        board: &mut B,
+        suite: &mut S,
+        audit: &mut A,
+        write: &Posted,
+    ) -> Result<Line, Fault>
+        requires line { write.now.at < data_lines self.now.shape }
+        requires posted { IsPosted write.now }
+        requires usable { IsUsable self.now.shape self.now (B.device board.old) (A.ledger audit.old) }
+        ensures made { HasMadePlain (record { shape = self.now.shape; formulas = S.formulas_of (S.keys suite.old) }) write.now
+            (parts_of self.now (B.device board.old) (A.ledger audit.old) (S.tags suite.old) (S.digests suite.old))
+            (parts_of self.now (B.device board.new) (A.ledger audit.new) (S.tags suite.new) (S.digests suite.new)) result }
+        ensures keys { S.keys suite.new ≡ S.keys suite.old }
+    {
+        if write.len == 64 {
+            return Ok(write.line);
+        }
+        let ctr = self.counter(board, write.at);
+        let unsealed = self.unseal_line(board, suite, audit, write.at, ctr)?;
+        Ok(line_with(&unsealed.plain, write))
+    }
+
+    // Where the page has to be re-encrypted: finishes it if it is open, or the oldest page if four are.
+    fn finish_for<B: Board, S: Suite, A: Audit>(
+        &self,
+        board: &mut B,
+        suite: &mut S,
+        audit: &mut A,
+        page: u32,
+        overflows: bool,
+    ) -> Result<(), Fault>
+        requires usable { IsUsable self.now.shape self.now (B.device board.old) (A.ledger audit.old) }
+        requires up { self.now.down ≡ false }
+        requires room { 64 ≤ (A.ledger audit.old).spare }
+        ensures finished { HasFinishedFor overflows (record { shape = self.now.shape; formulas = S.formulas_of (S.keys suite.old) }) page
+            (parts_of self.now (B.device board.old) (A.ledger audit.old) (S.tags suite.old) (S.digests suite.old))
+            (parts_of self.now (B.device board.new) (A.ledger audit.new) (S.tags suite.new) (S.digests suite.new)) result }
+        ensures closed { OnOk result (overflows ≡ true → register_of (B.device board.new).regs.progress.items page ≡ None) }
+        ensures not_full { OnOk result (overflows ≡ true → length (B.device board.new).regs.progress.items < 4) }
+        ensures keys { S.keys suite.new ≡ S.keys suite.old }
+    {
+        if !overflows {
+            return Ok(());
+        }
+        match to_finish(&board.regs().progress, page) {
+            Some(n) => self.finish_page(board, suite, audit, n),
+            None => Ok(()),
+        }
+    }
+
+    // Seals every line not done of register `n`'s page, from the lowest.
+    fn finish_page<B: Board, S: Suite, A: Audit>(
+        &self,
+        board: &mut B,
+        suite: &mut S,
+        audit: &mut A,
+        n: usize,
+    ) -> Result<(), Fault>
+        requires usable { IsUsable self.now.shape self.now (B.device board.old) (A.ledger audit.old) }
+        requires up { self.now.down ≡ false }
+        requires room { 64 ≤ (A.ledger audit.old).spare }
+        requires register { n < length (B.device board.old).regs.progress.items }
+        ensures finished { HasFinishedPage (record { shape = self.now.shape; formulas = S.formulas_of (S.keys suite.old) }) n
+            (parts_of self.now (B.device board.old) (A.ledger audit.old) (S.tags suite.old) (S.digests suite.old))
+            (parts_of self.now (B.device board.new) (A.ledger audit.new) (S.tags suite.new) (S.digests suite.new)) result }
+        ensures keys { S.keys suite.new ≡ S.keys suite.old }
+    {
+        let lines = left(&board.regs().progress[n]);
+        'lines: for _line in 0..lines {
+            self.reseal(board, suite, audit, n)?;
+        }
+        Ok(())
     }
 
     // Begins the page where it has to be re-encrypted.
@@ -62,6 +140,23 @@ impl Engine {
             return Ok(());
         }
         self.begin_page(board, suite, audit, page)
+    }
+}
+
+// The place of the register whose page is finished before `page` begins: its own where it is open,
+// else the oldest where four are.
+fn to_finish(registers: &ArrayVec<Progress, 4>, page: u32) -> Option<usize>
+    ensures found { result ≡ register_to_finish registers.now.items page }
+    ensures inside { IfSome result (λ n. n < length registers.now.items) }
+    ensures few { length registers.now.items ≤ 4 }
+    ensures closed { IsNone result → register_of registers.now.items page ≡ None }
+    ensures not_full { IsNone result → length registers.now.items < 4 }
+{
+    let is_full = registers.is_full();
+    match find_open(registers, page) {
+        Some(n) => Some(usize::from(n)),
+        None if is_full => Some(0),
+        None => None,
     }
 }
 
