@@ -55,6 +55,13 @@ pub mod NamedCalls
 pub mod LeftPlaces
 pub mod PageFinished
 pub mod WriteAsks
+pub mod WriteParts
+pub mod WriteFinish
+pub mod WriteSteps
+pub mod WriteBegun
+pub mod WriteExits
+pub mod Written
+pub mod WriteEnded
 
 pub mod PlainMade
 pub mod FinishedFor

@@ -58,7 +58,7 @@ use Rattle.pmem_engine.proofs.Committed.{sound_trusted, redone_none}
 use Rattle.pmem_engine.proofs.Reseals.{IsResealing, sealed_here, resealed_meta_kept, done_resealed, cut_resealed}
 
 -- a metadata line where lines and registers are as they were
-meta_of_same : (g : Shape) (x : ℕ) (old new : Parts) → regs_of new ≡ regs_of old → new.device.lines ≡ old.device.lines
+pub meta_of_same : (g : Shape) (x : ℕ) (old new : Parts) → regs_of new ≡ regs_of old → new.device.lines ≡ old.device.lines
     → meta_line_in g new x ≡ meta_line_in g old x
 meta_of_same g x old new regs lines =
     ap₂ (λ r told. option_map (λ ls. stored_meta g ls x) (redone_told r.group.items told)) regs lines
