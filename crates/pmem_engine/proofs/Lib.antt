@@ -67,3 +67,4 @@ pub mod PlainMade
 pub mod FinishedFor
 pub mod BegunBlock
 pub mod WriteCalls
+pub mod Benches
