@@ -195,7 +195,7 @@ fn five_pages(rt: HostRuntime) -> Result<(), Fail> {
         let counts = if page == 4 { (259, 127, 127, 6) } else { (7, 1, 1, 6) };
         assert_eq!(rt; chip.since(start), counts);
         let made = if page == 4 { 65 } else { 2 };
-        assert_eq!(rt; chip.marks() - marks, made);
+        assert_eq!(rt; chip.marks().wrapping_sub(marks), made);
         let open = chip.board.regs().progress.as_slice();
         assert_eq!(rt; open.last().map(|register| register.page), Some(page));
         assert_eq!(rt; open.first().map(|register| register.page), Some(u32::from(page == 4)));
@@ -231,7 +231,7 @@ fn cut_overflows(rt: HostRuntime) -> Result<(), Fail> {
         assert_eq!(rt; answer, if fuse < 7 { Err(Fault::Cut) } else { ctr(1, 1) });
         assert_eq!(rt; chip.since(start).0, u64::from(fuse));
         let made = if fuse == 0 { 0 } else if fuse < 4 { 1 } else { 2 };
-        assert_eq!(rt; chip.marks() - marks, made);
+        assert_eq!(rt; chip.marks().wrapping_sub(marks), made);
         let armed = if matches!(fuse, 1 | 2) { 1 } else if matches!(fuse, 4..7) { 2 } else { 0 };
         assert_eq!(rt; chip.board.regs().group.len(), armed);
         let done = chip.board.regs().progress.first().map(|register| register.done);
