@@ -38,6 +38,7 @@ pub mod Committed
 pub mod Exits
 pub mod EndedParts
 pub mod Turned
+pub mod Benches
 pub mod Stored
 pub mod PathSeals
 pub mod PathBegins
