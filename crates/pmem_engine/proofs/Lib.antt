@@ -62,7 +62,6 @@ pub mod WriteBegun
 pub mod WriteExits
 pub mod Written
 pub mod WriteEnded
-
 pub mod PlainMade
 pub mod FinishedFor
 pub mod BegunBlock
