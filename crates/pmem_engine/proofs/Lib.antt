@@ -65,3 +65,4 @@ pub mod WriteEnded
 pub mod PlainMade
 pub mod FinishedFor
 pub mod BegunBlock
+pub mod WriteCalls
