@@ -1,20 +1,36 @@
 -- A write as a call: of an engine that is down, or of one that is up and then down where it was cut or stopped.
-use Rattle.std.proofs.Common.{ℕ, ◌≡◌, ◌≢◌, ◌<◌, ◌%◌, ◌⊎◌, inl, inr, Bool, true, false, ◌||◌, List, [], Option, Some, None, Result, Ok, Err, refl, sym, ap, ◌∙◌}
+use Rattle.std.proofs.Common.{ℕ, ◌≡◌, ◌≢◌, ◌<◌, ◌%◌, ◌⊎◌, inl, inr, Bool, true, false, ◌||◌, List, [], Option, Some, None, Result, Ok, Err, refl, sym, ap, ◌∙◌, arith}
 use Rattle.std.specs.Prelude.{not, IfOk}
-use Rattle.std.proofs.lemmas.Bool.{true≢false, false≢true}
+use Rattle.std.proofs.lemmas.Bool.{true≢false}
+use Rattle.std.proofs.lemmas.List.{drop_all}
+use Rattle.pmem_base.specs.declared.lines.Line.{Line}
 use Rattle.pmem_base.specs.declared.lines.Ctr.{Ctr}
 use Rattle.pmem_base.specs.declared.commands.Posted.{Posted}
 use Rattle.pmem_base.specs.declared.answers.Mark.{Mark}
 use Rattle.pmem_base.specs.Layout.{page_of}
+use Rattle.pmem_base.specs.Lines.{IsLine}
+use Rattle.pmem_base.specs.Ranges.{IsU32, IsPosted}
 use Rattle.pmem_base.specs.Shape.{Shape}
 use Rattle.suite.specs.Setup.{Setup}
 use Rattle.pmem_engine.specs.declared.fault.Fault.{Fault}
 use Rattle.pmem_engine.specs.declared.fault.Fault.TheVariants as Fail
 use Rattle.pmem_engine.specs.Parts.{Parts, regs_of}
 use Rattle.pmem_engine.specs.Outcomes.{Outcome, going, cut, shown, is_going, outcome_of}
-use Rattle.pmem_engine.specs.Calls.{IsPathNamedInMirror, IsBlockTrue, AnswersWrite, TakesSpent, TakesOfWrite, HasWrittenLine}
+use Rattle.pmem_engine.specs.Calls.{IsPathNamedInMirror, IsBlockTrue, AnswersWrite, TakesSpent, TakesOfWrite, whole_write, HasWrittenLine}
 use Rattle.pmem_engine.specs.Writing.{HasWrittenUnder}
 use Rattle.pmem_engine.proofs.Ended.{ended_parts, done_ended, answers_down, meta_refused_ended, clash_shown_ended, tag_refused_ended, forged_shown_ended, within_ended, within_live_ended}
+
+-- a whole line is posted
+pub whole_posted : (at : ℕ) (line : Line) → IsU32 at → IsLine line → IsPosted (whole_write at line)
+whole_posted at line range whole =
+    record {
+      at_range = range;
+      some_bytes = omega arith;
+      inside = omega arith;
+      line_range = whole;
+      zero_before = refl;
+      zero_after = drop_all 64 line.0 (omega (arith, whole.long));
+    }
 
 -- ---- the engine is down
 

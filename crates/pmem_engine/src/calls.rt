@@ -2,7 +2,6 @@
 ghost use Rattle.std.specs.Prelude.{◌≡◌, ◌<◌, ◌≤◌, ◌||◌, ◌↔◌, ℕ, IsOk, true, false, not, IsTrue, IfErr, OnOk, OnErr};
 ghost use Rattle.pmem_base.specs.Shape.{is_loss};
 ghost use Rattle.pmem_base.specs.Layout.{data_lines};
-ghost use Rattle.pmem_base.specs.Lines.{IsLine};
 ghost use Rattle.pmem_base.specs.Ranges.{IsPosted};
 ghost use Rattle.suite.specs.Setup.{Setup};
 ghost use Rattle.seal_ledger.specs.Ledger.{LedgerState};
@@ -62,6 +61,7 @@ impl Engine {
         ensures usable { IsUsable self.old.shape self.new (B.device board.new) (A.ledger audit.new) }
         ensures shape { self.new.shape ≡ self.old.shape }
     {
+        line.is_whole();
         let write = Posted {
             at,
             from: 0,
