@@ -66,3 +66,4 @@ pub mod PlainMade
 pub mod FinishedFor
 pub mod BegunBlock
 pub mod WriteCalls
+pub mod Benches
