@@ -1,11 +1,9 @@
 -- The page that a write begins, or none, and the line's next counter then.
-use Rattle.std.proofs.Common.{ℕ, ◌≡◌, ◌<◌, ◌≤◌, ◌+◌, ◌*◌, ◌++◌, ◌⊎◌, inl, inr, Bool, true, false, List, [], ◌∷◌, length, Result, Ok, Err, refl, sym, ap, subst, ◌∙◌, arith}
+use Rattle.std.proofs.Common.{ℕ, ◌≡◌, ◌+◌, ◌*◌, ◌++◌, inl, inr, Bool, true, false, List, [], ◌∷◌, length, Result, Ok, Err, refl, sym, ap, subst, ◌∙◌, arith}
 use Rattle.std.specs.Prelude.{IsOk}
-use Rattle.std.proofs.lemmas.Bool.{true≢false}
 use Rattle.pmem_base.specs.declared.lines.Ctr.{Ctr}
 use Rattle.pmem_base.specs.declared.answers.Mark.{Mark}
 use Rattle.pmem_base.specs.declared.answers.Mark.TheVariants.{Begin}
-use Rattle.pmem_base.specs.Layout as layout
 use Rattle.pmem_base.specs.Layout.{page_of, index_in_page}
 use Rattle.split_counters.specs.declared.Block.{Block}
 use Rattle.split_counters.specs.Blocks.{minor_of}
@@ -15,7 +13,6 @@ use Rattle.pmem_engine.specs.declared.fault.Fault.{Fault}
 use Rattle.pmem_engine.specs.declared.fault.Fault.TheVariants as Fail
 use Rattle.pmem_engine.specs.Parts.{Parts, AreTrusted}
 use Rattle.pmem_engine.specs.Outcomes.{outcome_of, TakesSteps, TakesFewer}
-use Rattle.pmem_engine.specs.Calls.{IsDownAnswer, IsUnrefused}
 use Rattle.pmem_engine.specs.Sealing.{cached_block, next_counter_of, HasBeginMarks, TakesBeginSteps, HasBegunPage}
 use Rattle.pmem_engine.specs.Writing.{HasLeftOut, IsFrontOf, HasBegunFor}
 use Rattle.pmem_engine.proofs.WriteParts.{IsWritePart, alone_part, begin_part}

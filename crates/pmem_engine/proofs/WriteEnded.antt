@@ -1,6 +1,6 @@
 -- A write as a call: of an engine that is down, or of one that is up and then down where it was cut or stopped.
-use Rattle.std.proofs.Common.{ℕ, ◌≡◌, ◌≢◌, ◌<◌, ◌%◌, ◌⊎◌, inl, inr, Bool, true, false, ◌||◌, List, [], Option, Some, None, Result, Ok, Err, refl, sym, ap, ◌∙◌, arith}
-use Rattle.std.specs.Prelude.{not, IfOk}
+use Rattle.std.proofs.Common.{ℕ, ◌≡◌, ◌%◌, inl, inr, true, false, ◌||◌, List, [], Option, Some, None, Result, Ok, Err, refl, sym, ap, ◌∙◌, arith}
+use Rattle.std.specs.Prelude.{IfOk}
 use Rattle.std.proofs.lemmas.Bool.{true≢false}
 use Rattle.std.proofs.lemmas.List.{drop_all}
 use Rattle.pmem_base.specs.declared.lines.Line.{Line}
@@ -15,8 +15,8 @@ use Rattle.suite.specs.Setup.{Setup}
 use Rattle.pmem_engine.specs.declared.fault.Fault.{Fault}
 use Rattle.pmem_engine.specs.declared.fault.Fault.TheVariants as Fail
 use Rattle.pmem_engine.specs.Parts.{Parts, regs_of}
-use Rattle.pmem_engine.specs.Outcomes.{Outcome, going, cut, shown, is_going, outcome_of}
-use Rattle.pmem_engine.specs.Calls.{IsPathNamedInMirror, IsBlockTrue, AnswersWrite, TakesSpent, TakesOfWrite, whole_write, HasWrittenLine}
+use Rattle.pmem_engine.specs.Outcomes.{Outcome, going, cut, outcome_of}
+use Rattle.pmem_engine.specs.Calls.{IsBlockTrue, AnswersWrite, TakesSpent, TakesOfWrite, whole_write, HasWrittenLine}
 use Rattle.pmem_engine.specs.Writing.{HasWrittenUnder}
 use Rattle.pmem_engine.proofs.Ended.{ended_parts, done_ended, answers_down, meta_refused_ended, clash_shown_ended, tag_refused_ended, forged_shown_ended, within_ended, within_live_ended}
 

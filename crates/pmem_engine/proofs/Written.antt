@@ -1,28 +1,25 @@
 -- A whole write, one law an exit: each takes the parts so far, in the order in which a write does them.
 use Rattle.std.proofs.Common.{ℕ, ◌≡◌, ◌≢◌, ◌<◌, ◌≤◌, ◌+◌, ◌*◌, ◌%◌, ◌++◌, ◌⊎◌, inl, inr, Bool, true, false, cond, List, [], ◌∷◌, length, IsTrue, Option, Some, None, Result, Ok, Err, refl, sym, ap, ap₂, subst, ◌∙◌, arith}
-use Rattle.std.specs.Prelude.{◌==◌, ◌||◌, nat_lt, option_map, is_some, IsSome, IsOk, IfOk, IfSome, if◌then◌else◌}
+use Rattle.std.specs.Prelude.{◌==◌, ◌||◌, option_map, is_some, IsSome, IsOk, IfOk, IfSome}
 use Rattle.std.specs.List.{list_any}
-use Rattle.std.proofs.lemmas.Bool.{true≢false, false≢true, cond-true, cond-false, cases_eq, eqb-true, eq-eqb, ne_eqb, or_parts}
+use Rattle.std.proofs.lemmas.Bool.{true≢false, cond-true, cond-false, cases_eq, eq-eqb, ne_eqb, or_parts}
 use Rattle.std.proofs.lemmas.List.{append-nil, append_assoc, length-append}
 use Rattle.std.proofs.lemmas.List.Folds.{list_any-append}
 use Rattle.pmem_base.specs.declared.lines.Line.{Line}
 use Rattle.pmem_base.specs.declared.lines.Ctr.{Ctr}
 use Rattle.pmem_base.specs.declared.commands.Posted.{Posted}
 use Rattle.pmem_base.specs.declared.answers.Mark.{Mark}
-use Rattle.pmem_base.specs.declared.answers.Mark.TheVariants.{Seal}
 use Rattle.pmem_base.specs.Layout as layout
 use Rattle.pmem_base.specs.Layout.{page_of, index_in_page}
 use Rattle.pmem_base.specs.Lines.{line_at}
 use Rattle.pmem_base.specs.Marks.{SealOf, last_seal}
-use Rattle.pmem_base.specs.Counts.{last_count}
 use Rattle.pmem_base.proofs.LineSets.{line_at-set_same, line_at-set_other}
 use Rattle.seal_ledger.specs.Ledger.{LedgerState}
 use Rattle.seal_ledger.proofs.MarkLemmas.{last_seal-sealed}
-use Rattle.split_counters.specs.declared.Block.{Block}
 use Rattle.split_counters.specs.Blocks.{unpacked, minor_of}
 use Rattle.bonsai_tree.specs.Positions.{counter_position}
 use Rattle.page_reencrypt.specs.Registers.{register_held}
-use Rattle.meta_path.specs.Blocks.{line_in, IsPathCached, dirty_count}
+use Rattle.meta_path.specs.Blocks.{line_in, IsPathCached}
 use Rattle.suite.specs.Formulas.{cipher_of}
 use Rattle.suite.specs.Setup.{Setup}
 use Rattle.plain_model.specs.State.{Memory, put_write, memory_with}
@@ -31,12 +28,12 @@ use Rattle.plain_model.specs.Asked.{seal_mark, marks_of_write}
 use Rattle.plain_model.specs.Bounds.{path_length, seal_count}
 use Rattle.pmem_engine.specs.declared.fault.Fault.{Fault}
 use Rattle.pmem_engine.specs.declared.fault.Fault.TheVariants as Fail
-use Rattle.pmem_engine.specs.Parts.{Parts, regs_of, AreTrusted, AreSound, HoldsSeal, meta_line_in}
-use Rattle.pmem_engine.specs.Outcomes.{going, cut, is_going, outcome_of, outcome_of_fault, is_seal_of, is_sealed_by, HasDone, TakesSteps, TakesAtMost, TakesFewer}
-use Rattle.pmem_engine.specs.Calls.{IsMemory, IsDownAnswer, IsUnrefused, IsPathNamedInMirror, IsBlockTrue, TakesWithin, TakesWithinOfLive, moment_in, memory_after, is_persisting, IsPartOf, HasWriteMarks, AnswersWrite, write_bound, TakesSpent, TakesOfWrite}
+use Rattle.pmem_engine.specs.Parts.{Parts, regs_of, AreTrusted, HoldsSeal, meta_line_in}
+use Rattle.pmem_engine.specs.Outcomes.{going, cut, is_going, outcome_of, outcome_of_fault, is_seal_of, is_sealed_by, TakesSteps, TakesAtMost}
+use Rattle.pmem_engine.specs.Calls.{IsMemory, IsDownAnswer, IsUnrefused, IsPathNamedInMirror, IsBlockTrue, moment_in, memory_after, is_persisting, HasWriteMarks, AnswersWrite, write_bound, TakesSpent, TakesOfWrite}
 use Rattle.pmem_engine.specs.Inner.{StandsStill, HasFetched, HasNamedPath}
 use Rattle.pmem_engine.specs.Sealing.{cached_block, next_counter_of, seal_steps, HasNextMarks, TakesSealSteps, HasSealedNext}
-use Rattle.pmem_engine.specs.Writing.{overflow_of, IsFrontOf, HasLeftOut, HasFinishMarks, HasMadePlain, HasFinishedFor, HasBegunFor, HasWrittenUnder}
+use Rattle.pmem_engine.specs.Writing.{overflow_of, IsFrontOf, HasFinishMarks, HasMadePlain, HasFinishedFor, HasBegunFor, HasWrittenUnder}
 use Rattle.pmem_engine.proofs.Chained.{done_chained}
 use Rattle.pmem_engine.proofs.WriteAsks.{asked_seal, asked_begin, asked_none, free_at_overflow, overflow_fault}
 use Rattle.pmem_engine.proofs.WriteParts.{IsWritePart, held_back, part_chained, fetch_part, plain_part, name_part}

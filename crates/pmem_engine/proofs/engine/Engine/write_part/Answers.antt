@@ -1,5 +1,5 @@
 -- The engine is down, or it was up and wrote, and is down afterwards where it was cut or stopped.
-use Rattle.std.proofs.Common.{◌≡◌, Result, Err, sym, ap, subst, subst₂, ◌∙◌}
+use Rattle.std.proofs.Common.{Result, Err, sym, ap, subst, subst₂, ◌∙◌}
 use Rattle.pmem_base.specs.declared.lines.Ctr.{Ctr}
 use Rattle.suite.specs.Setup.{Setup}
 use Rattle.pmem_engine.specs.declared.fault.Fault.{Fault}
