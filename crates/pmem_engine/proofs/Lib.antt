@@ -52,6 +52,8 @@ pub mod LossCalls
 pub mod LossSets
 pub mod PathNames
 pub mod NamedCalls
+pub mod LeftPlaces
+pub mod PageFinished
 pub mod WriteAsks
 pub mod WriteParts
 pub mod WriteFinish

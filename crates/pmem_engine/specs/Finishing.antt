@@ -8,7 +8,7 @@ use Rattle.page_reencrypt.specs.Registers.{register_of}
 use Rattle.suite.specs.Setup.{Setup}
 use Rattle.plain_model.specs.State.{Memory}
 use Rattle.plain_model.specs.Asked.{reseal_mark}
-use Rattle.pmem_engine.specs.Parts.{Parts, regs_of, AreTrusted, HoldsSeal}
+use Rattle.pmem_engine.specs.Parts.{Parts, regs_of, AreTrusted, HoldsSeal, meta_line_in}
 use Rattle.pmem_engine.specs.Outcomes.{going, is_sealed_by, HasDone, TakesSteps}
 use Rattle.pmem_engine.specs.Calls.{IsMemory, moment_in}
 use Rattle.pmem_engine.specs.Resealing.{register_in}
@@ -48,6 +48,9 @@ pub record HasResealedFirst (setup : Setup) (n number : ℕ) (old new : Parts) :
   pub others :
       (page : ℕ) → register_of (regs_of old).progress.items page ≡ None
       → register_of (regs_of new).progress.items page ≡ None
+  pub metadata :
+      AreTrusted setup old → (x : ℕ) → x < layout.meta_lines setup.shape
+      → meta_line_in setup.shape new x ≡ meta_line_in setup.shape old x
   pub steps : TakesSteps (4 * number) old.device new.device
   pub engine : new.engine ≡ old.engine
   pub truth : new.ledger.truth ≡ old.ledger.truth

@@ -8,11 +8,12 @@ ghost use Rattle.plain_model.specs.State.{put_write};
 ghost use Rattle.pmem_engine.specs.Parts.{parts_of};
 ghost use Rattle.pmem_engine.specs.Calls.{IsUsable, IsPathNamedInMirror};
 ghost use Rattle.pmem_engine.specs.Sealing.{cached_block};
-ghost use Rattle.pmem_engine.specs.Writing.{overflow_of, HasBegunFor};
+ghost use Rattle.pmem_engine.specs.Writing.{overflow_of, HasFinishedPage, HasBegunFor};
 
 use crate::engine::Engine;
 use crate::fault::Fault;
 use board::Board;
+use page_reencrypt::left;
 use pmem_base::{Line, Posted};
 use seal_ledger::Audit;
 use suite::Suite;
@@ -33,6 +34,30 @@ impl Engine {
             return Err(Fault::Spent { page: at / 64 });
         }
         Ok(true)
+    }
+
+    // Seals every line not done of register `n`'s page, from the lowest.
+    fn finish_page<B: Board, S: Suite, A: Audit>(
+        &self,
+        board: &mut B,
+        suite: &mut S,
+        audit: &mut A,
+        n: usize,
+    ) -> Result<(), Fault>
+        requires usable { IsUsable self.now.shape self.now (B.device board.old) (A.ledger audit.old) }
+        requires up { self.now.down ≡ false }
+        requires room { 64 ≤ (A.ledger audit.old).spare }
+        requires register { n < length (B.device board.old).regs.progress.items }
+        ensures finished { HasFinishedPage (record { shape = self.now.shape; formulas = S.formulas_of (S.keys suite.old) }) n
+            (parts_of self.now (B.device board.old) (A.ledger audit.old) (S.tags suite.old) (S.digests suite.old))
+            (parts_of self.now (B.device board.new) (A.ledger audit.new) (S.tags suite.new) (S.digests suite.new)) result }
+        ensures keys { S.keys suite.new ≡ S.keys suite.old }
+    {
+        let lines = left(&board.regs().progress[n]);
+        'lines: for _line in 0..lines {
+            self.reseal(board, suite, audit, n)?;
+        }
+        Ok(())
     }
 
     // Begins the page where it has to be re-encrypted.
