@@ -57,3 +57,13 @@ pub mod PageFinished
 pub mod WriteAsks
 pub mod WriteParts
 pub mod WriteFinish
+pub mod WriteSteps
+pub mod WriteBegun
+pub mod WriteExits
+pub mod Written
+pub mod WriteEnded
+pub mod PlainMade
+pub mod FinishedFor
+pub mod BegunBlock
+pub mod WriteCalls
+pub mod Benches

@@ -105,7 +105,7 @@ left_at_first : (old : Parts) (n : ℕ) (left : List ℕ) → not_done (register
 left_at_first old n [] is some = absurd (omega (arith, some))
 left_at_first old n (i ∷ left) is some = record { same_page = refl; places = is; as_many = refl }
 
-same_parts : (setup : Setup) (old : Parts) → HasOnlyRead old old
+pub same_parts : (setup : Setup) (old : Parts) → HasOnlyRead old old
 same_parts setup old =
     record {
       engine = refl;

@@ -1,21 +1,18 @@
 -- What each part of a write keeps, up to the seal of its own line, and what two of them keep together.
-use Rattle.std.proofs.Common.{ℕ, ◌≡◌, ◌≢◌, ◌<◌, ◌≤◌, ◌+◌, ◌*◌, ◌++◌, ◌⊎◌, inl, inr, Bool, true, false, List, [], ◌∷◌, length, map, get_or, IsTrue, Option, Some, None, Result, Ok, Err, refl, sym, ap, ap₂, subst, ◌∙◌, arith}
-use Rattle.std.specs.Prelude.{◌==◌, ◌||◌, ◌&&◌, not, nat_le, nat_lt, option_map, is_some, IfSome, IsOk, position, All}
-use Rattle.std.specs.List.{list_any, position_or_len}
-use Rattle.std.proofs.lemmas.Bool.{true≢false, false≢true, cases_Bool, cases_eq, or_parts, eq-eqb, ne_eqb}
+use Rattle.std.proofs.Common.{ℕ, ◌≡◌, ◌<◌, ◌++◌, ◌⊎◌, inl, inr, Bool, true, false, List, [], ◌∷◌, IsTrue, Result, Ok, Err, refl, sym, ap, ap₂, ◌∙◌, arith}
+use Rattle.std.specs.Prelude.{◌||◌, option_map}
+use Rattle.std.specs.List.{list_any}
+use Rattle.std.proofs.lemmas.Bool.{true≢false, or_parts, eq-eqb}
 use Rattle.std.proofs.lemmas.List.{append-nil, append_assoc}
 use Rattle.std.proofs.lemmas.List.Folds.{list_any-append}
-use Rattle.std.proofs.lemmas.List.Elements.{All-head, All-tail}
 use Rattle.pmem_base.specs.declared.lines.Line.{Line}
-use Rattle.pmem_base.specs.declared.registers.Progress.{Progress}
 use Rattle.pmem_base.specs.declared.answers.Mark.{Mark}
 use Rattle.pmem_base.specs.declared.answers.Mark.TheVariants.{Begin, Seal}
 use Rattle.pmem_base.specs.declared.commands.Posted.{Posted}
-use Rattle.pmem_base.specs.Shape.{Shape}
 use Rattle.pmem_base.specs.Layout as layout
 use Rattle.pmem_base.specs.Layout.{page_of, index_in_page}
 use Rattle.pmem_base.specs.Lines.{line_at, tag_slot}
-use Rattle.pmem_base.specs.Marks.{SealOf, seal_of, last_seal}
+use Rattle.pmem_base.specs.Marks.{SealOf, last_seal}
 use Rattle.bonsai_tree.specs.Positions.{counter_position}
 use Rattle.bonsai_tree.proofs.Levels.{counter_position-lt}
 use Rattle.seal_ledger.proofs.MarkLemmas.{last_seal-other, last_seal-begun}
@@ -25,16 +22,15 @@ use Rattle.plain_model.specs.View.{plain_line, plain_of_seal}
 use Rattle.pmem_engine.specs.declared.fault.Fault.{Fault}
 use Rattle.pmem_engine.specs.declared.fault.Fault.TheVariants as Fail
 use Rattle.pmem_engine.specs.Invariants.{IsSealStored}
-use Rattle.pmem_engine.specs.Parts.{Parts, regs_of, lines_redone, AreTrusted, HoldsSeal, data_line_in, tag_slot_in, meta_line_in}
-use Rattle.pmem_engine.specs.Outcomes.{Outcome, going, cut, shown, outcome_of, is_seal_of, is_sealed_by, HasDone}
+use Rattle.pmem_engine.specs.Parts.{Parts, regs_of, lines_redone, AreTrusted, HoldsSeal, meta_line_in}
+use Rattle.pmem_engine.specs.Outcomes.{Outcome, going, outcome_of, is_seal_of, is_sealed_by, HasDone}
 use Rattle.pmem_engine.specs.Calls.{IsMemory, IsLeftAlone, is_persisting}
 use Rattle.pmem_engine.specs.Inner.{HasFetched, HasNamedPath}
 use Rattle.pmem_engine.specs.Sealing.{HasBeginMarks, HasBegunPage}
-use Rattle.pmem_engine.specs.Writing.{HasLeftOut, HasMadePlain}
+use Rattle.pmem_engine.specs.Writing.{HasMadePlain}
 use Rattle.pmem_engine.proofs.Told.{told_cases, told_redone}
 use Rattle.pmem_engine.proofs.StillLaws.{done_reading}
 use Rattle.pmem_engine.proofs.Unsealing.{same_never_falls}
-use Rattle.pmem_engine.proofs.PlainLines.{plain_line-begun}
 use Rattle.pmem_engine.proofs.Resealed.{meta_of_same}
 use Rattle.pmem_engine.proofs.Chained.{done_chained}
 

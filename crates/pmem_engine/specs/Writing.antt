@@ -25,7 +25,7 @@ use Rattle.pmem_engine.specs.declared.fault.Fault.TheVariants as Fail
 use Rattle.pmem_engine.specs.Parts.{Parts, regs_of, AreTrusted, AreSound, HoldsSeal, meta_line_in}
 use Rattle.pmem_engine.specs.Outcomes.{shown, outcome_of, is_sealed_by, HasDone, TakesSteps, TakesFewer, is_seal_of}
 use Rattle.pmem_engine.specs.Faults.{IsTagRefused, IsForgedShown}
-use Rattle.pmem_engine.specs.Calls.{IsMemory, IsDownAnswer, IsUnrefused, IsLeftAlone, moment_in, HasWriteMarks, memory_after, AnswersWrite, IsPathNamedInMirror, TakesOfWrite, is_persisting, IsBlockTrue}
+use Rattle.pmem_engine.specs.Calls.{IsMemory, IsDownAnswer, IsUnrefused, IsLeftAlone, moment_in, HasWriteMarks, memory_after, AnswersWrite, TakesSpent, IsPathNamedInMirror, TakesOfWrite, is_persisting, IsBlockTrue}
 use Rattle.pmem_engine.specs.Resealing.{register_in}
 use Rattle.pmem_engine.specs.Sealing.{HasBegunPage}
 
@@ -211,6 +211,10 @@ pub record HasWrittenUnder (setup : Setup) (write : Posted) (old new : Parts) (a
       AreTrusted setup old → (memory : Memory) → IsMemory setup memory old
       → TakesOfWrite setup.shape (marks_of_write setup.formulas (moment_in setup memory old) write) made
       old new answer
+  pub steps_of_spent :
+      AreTrusted setup old → (memory : Memory) → IsMemory setup memory old
+      → marks_of_write setup.formulas (moment_in setup memory old) write ≡ None
+      → TakesSpent setup.shape (outcome_of answer) old new
   pub steps_of_named :
       IsPathCached setup.shape old.engine.cache (page_of write.at)
       → IsPathNamedInMirror setup.shape old.engine (page_of write.at) → length made ≡ 1
