@@ -38,6 +38,7 @@ pub mod Committed
 pub mod Exits
 pub mod EndedParts
 pub mod Turned
+pub mod Benches
 pub mod Stored
 pub mod PathSeals
 pub mod PathBegins
@@ -66,4 +67,3 @@ pub mod PlainMade
 pub mod FinishedFor
 pub mod BegunBlock
 pub mod WriteCalls
-pub mod Benches

@@ -59,13 +59,7 @@ fn formatted_deep(rt: &impl Abort, alloc: Global) -> Result<Chip, Fail> {
 impl Chip {
     fn write(&mut self, rt: &impl Abort, at: u32, line: &Line) -> Result<Ctr, Fault> {
         assert!(rt; at < self.engine.geo.lines() && self.ledger.reserve(66).is_ok());
-        self.engine.write(
-            &mut self.board,
-            &mut self.suite,
-            &mut self.ledger,
-            at,
-            line,
-        )
+        self.engine.write(&mut self.board, &mut self.suite, &mut self.ledger, at, line)
     }
 
     fn write_part(&mut self, rt: &impl Abort, write: &Posted) -> Result<Ctr, Fault>
@@ -158,7 +152,10 @@ fn parts(rt: HostRuntime) -> Result<(), Fail> {
     // The line's tag is checked before, and the page isn't touched by what is refused.
     chip.flip(&rt, 0, 9);
     let start = chip.counts();
-    assert_eq!(rt; chip.write_part(&rt, &part(0, 2, 2, 0xaa)), Err(Fault::Tag { at: 0 }));
+    assert_eq!(rt;
+        chip.write_part(&rt, &part(0, 2, 2, 0xaa)),
+        Err(Fault::Tag { at: 0 })
+    );
     assert_eq!(rt; chip.since(start), (0, 2, 1, 0));
     assert_eq!(rt; chip.write(&rt, 0, &FULL), ctr(0, 3));
     assert_eq!(rt; chip.read(&rt, 0), Ok(FULL));
@@ -192,13 +189,20 @@ fn five_pages(rt: HostRuntime) -> Result<(), Fail> {
         chip.wear(&rt, 64 * page, 127);
         let (start, marks) = (chip.counts(), chip.marks());
         assert_eq!(rt; chip.write(&rt, 64 * page, &Line::default()), ctr(1, 1));
-        let counts = if page == 4 { (259, 127, 127, 6) } else { (7, 1, 1, 6) };
+        let counts = if page == 4 {
+            (259, 127, 127, 6)
+        } else {
+            (7, 1, 1, 6)
+        };
         assert_eq!(rt; chip.since(start), counts);
         let made = if page == 4 { 65 } else { 2 };
-        assert_eq!(rt; chip.marks() - marks, made);
+        assert_eq!(rt; chip.marks().wrapping_sub(marks), made);
         let open = chip.board.regs().progress.as_slice();
         assert_eq!(rt; open.last().map(|register| register.page), Some(page));
-        assert_eq!(rt; open.first().map(|register| register.page), Some(u32::from(page == 4)));
+        assert_eq!(rt;
+            open.first().map(|register| register.page),
+            Some(u32::from(page == 4))
+        );
     }
     Ok(())
 }
@@ -230,14 +234,41 @@ fn cut_overflows(rt: HostRuntime) -> Result<(), Fail> {
         let answer = chip.write(&rt, 0, &FULL);
         assert_eq!(rt; answer, if fuse < 7 { Err(Fault::Cut) } else { ctr(1, 1) });
         assert_eq!(rt; chip.since(start).0, u64::from(fuse));
-        let made = if fuse == 0 { 0 } else if fuse < 4 { 1 } else { 2 };
-        assert_eq!(rt; chip.marks() - marks, made);
-        let armed = if matches!(fuse, 1 | 2) { 1 } else if matches!(fuse, 4..7) { 2 } else { 0 };
+        let made = if fuse == 0 {
+            0
+        } else if fuse < 4 {
+            1
+        } else {
+            2
+        };
+        assert_eq!(rt; chip.marks().wrapping_sub(marks), made);
+        let armed = if matches!(fuse, 1 | 2) {
+            1
+        } else if matches!(fuse, 4..7) {
+            2
+        } else {
+            0
+        };
         assert_eq!(rt; chip.board.regs().group.len(), armed);
-        let done = chip.board.regs().progress.first().map(|register| register.done);
-        assert_eq!(rt; done, if fuse == 0 { None } else { Some(u64::from(fuse > 3)) });
+        let done = chip
+            .board
+            .regs()
+            .progress
+            .first()
+            .map(|register| register.done);
+        assert_eq!(rt;
+            done,
+            if fuse == 0 {
+                None
+            } else {
+                Some(u64::from(fuse > 3))
+            }
+        );
         let last = chip.ledger.marks().last();
-        assert_eq!(rt; matches!(last, Some(Mark::Begin { page: 0 })), matches!(fuse, 1..4));
+        assert_eq!(rt;
+            matches!(last, Some(Mark::Begin { page: 0 })),
+            matches!(fuse, 1..4)
+        );
         chip.power();
         let after = if fuse < 7 { Fault::Down } else { Fault::Cut };
         assert_eq!(rt; chip.write(&rt, 0, &FULL), Err(after));
