@@ -40,58 +40,20 @@ use Rattle.pmem_engine.proofs.StillLaws.{done_reading}
 use Rattle.pmem_engine.proofs.Unsealing.{same_never_falls}
 use Rattle.pmem_engine.proofs.Asked.{asked-held}
 use Rattle.pmem_engine.proofs.Usable.{usable_after}
+use Rattle.pmem_engine.proofs.WriteParts.{held_back}
 use Rattle.pmem_engine.proofs.LeftPlaces.{in_middle, first_and_rest, line_held, others_kept, one_less, page_closed, as_many, page_stays, places_left, place_small}
 
--- ---- a line that no mark seals
-
-pub last_seal-unsealed : (marks made : List Mark) (a : ℕ) → is_sealed_by made a ≡ false
-    → last_seal (marks ++ made) a ≡ last_seal marks a
-last_seal-unsealed marks [] a never = ap (λ ms. last_seal ms a) (append-nil marks)
-last_seal-unsealed marks (mark ∷ made) a never =
-    let parts = or_parts (is_seal_of a mark) (list_any (is_seal_of a) made) never in
-    ap (λ ms. last_seal ms a) (sym (append_assoc marks (mark ∷ []) made))
-    ∙ last_seal-unsealed (marks ++ mark ∷ []) made a parts.1
-    ∙ one mark parts.0
-  where
-    one : (mark : Mark) → is_seal_of a mark ≡ false → last_seal (marks ++ mark ∷ []) a ≡ last_seal marks a
-    one (Begin page) other = last_seal-begun marks page a
-    one (Seal at ctr cipher tag) other =
-        last_seal-other marks at ctr cipher tag a (λ same. eqb-false at a other (sym same))
-
-same_stored : (g : Shape) (marks marks' : List Mark) (a : ℕ) (old new : Option (List Line))
-    → last_seal marks' a ≡ last_seal marks a
-    → option_map (λ lines. line_at lines a) new ≡ option_map (λ lines. line_at lines a) old
-    → option_map (λ lines. tag_slot (line_at lines (layout.tag_line g a)) a) new
-    ≡ option_map (λ lines. tag_slot (line_at lines (layout.tag_line g a)) a) old
-    → IfSome new (λ lines. IsSealStored g lines marks' a) → IfSome old (λ lines. IsSealStored g lines marks a)
-same_stored g marks marks' a None new last line slot it = tt
-same_stored g marks marks' a (Some lines) None last line slot it = absurd (none-some (line_at lines a) line)
-same_stored g marks marks' a (Some lines) (Some lines') last line slot it =
-    record {
-      cipher = ap (option_map (λ seal. seal.cipher)) (sym last) ∙ it.cipher ∙ line;
-      tag = ap (option_map (λ seal. seal.tag)) (sym last) ∙ it.tag ∙ slot;
-    }
-
--- a seal that is stored after marks that don't seal its line was stored before
-pub held_before : (setup : Setup) (made : List Mark) (old new : Parts) → HasGone setup going made old new
-    → AreTrusted setup old → (a : ℕ) → a < layout.data_lines setup.shape → is_sealed_by made a ≡ false
-    → HoldsSeal setup.shape new a → HoldsSeal setup.shape old a
-held_before setup made old new gone trusted a within never it =
-    same_stored setup.shape old.ledger.marks new.ledger.marks a (lines_redone old) (lines_redone new)
-    (ap (λ ms. last_seal ms a) gone.marks ∙ last_seal-unsealed old.ledger.marks made a never)
-    ((gone.places trusted).data_lines a within never) ((gone.places trusted).tag_slots a within never) it
-
 -- what the lines sealed by either part held before
-sealed_before_both : (setup : Setup) (made more : List Mark) (old mid : Parts) → HasGone setup going made old mid
+sealed_before_both : (setup : Setup) (made more : List Mark) (old mid : Parts) → HasDone setup going made old mid
     → AreTrusted setup old → (a : ℕ) → a < layout.data_lines setup.shape
     → (IsTrue (is_sealed_by made a) → HoldsSeal setup.shape old a)
     → (IsTrue (is_sealed_by more a) → HoldsSeal setup.shape mid a)
     → IsTrue (is_sealed_by (made ++ more) a) → HoldsSeal setup.shape old a
-sealed_before_both setup made more old mid gone trusted a within first second by =
+sealed_before_both setup made more old mid done trusted a within first second by =
     elim (cases_Bool (is_sealed_by made a)) [
       | inl sealed ↦ first sealed
       | inr never ↦
-          held_before setup made old mid gone trusted a within never
+          held_back setup going made old mid done trusted a within never
           (elim (sealed_by_either made more a by) [
             | inl sealed ↦ absurd (true≢false (sym sealed ∙ never))
             | inr sealed ↦ second sealed
@@ -256,7 +218,7 @@ module _ (setup : Setup) (n number : ℕ) (old mid : Parts) (valid : IsValidRegs
     sealed_of_both : AreTrusted setup old → (a : ℕ) → a < layout.data_lines setup.shape
         → IsTrue (is_sealed_by (first.made ++ it.made) a) → HoldsSeal setup.shape old a
     sealed_of_both trusted a below by =
-        sealed_before_both setup first.made it.made old mid first.done.gone trusted a below
+        sealed_before_both setup first.made it.made old mid first.done trusted a below
         (λ sealed. first.sealed_before trusted a below sealed)
         (λ sealed. it.sealed_before (first.done.gone.trusted trusted) a below sealed) by
 

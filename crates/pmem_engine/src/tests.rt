@@ -251,7 +251,7 @@ impl Chip {
 
     /// Marks a cached counter block dirty.
     fn soil(&mut self, rt: &impl Abort, x: u32) {
-        self.engine.soil(rt, x);
+        soil(&mut self.engine, rt, x);
     }
 
     fn read(&mut self, rt: &impl Abort, at: u32) -> Result<Line, Fault> {
@@ -276,17 +276,17 @@ impl Chip {
     }
 }
 
-impl Engine {
-    /// Marks a cached counter block dirty.
-    fn soil(&mut self, rt: &impl Abort, x: u32)
-        ensures shape { self.new.shape ≡ self.old.shape }
-        ensures down { self.new.down ≡ self.old.down }
-    {
-        let levels = self.geo.levels();
-        assert!(rt; self.cache.look(levels, x).is_some());
-        self.cache.set_dirty(levels, x);
-    }
+/// Marks a cached counter block dirty.
+fn soil(engine: &mut Engine, rt: &impl Abort, x: u32)
+    ensures shape { engine.new.shape ≡ engine.old.shape }
+    ensures down { engine.new.down ≡ engine.old.down }
+{
+    let levels = engine.geo.levels();
+    assert!(rt; engine.cache.look(levels, x).is_some());
+    engine.cache.set_dirty(levels, x);
+}
 
+impl Engine {
     /// The oldest dirty counter block.
     fn oldest_dirty(&self) -> Option<u32> {
         self.cache.oldest_dirty_of(self.geo.levels())
