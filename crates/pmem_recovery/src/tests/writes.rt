@@ -1,5 +1,5 @@
 //! Writes of the engine that are cut at each step, recovered, and read.
-ghost use Rattle.std.specs.Prelude.{◌≡◌, ◌<◌, ◌≤◌};
+ghost use Rattle.std.specs.Prelude.{◌≡◌, ◌≤◌, ◌+◌};
 ghost use Rattle.pmem_base.specs.Geo.{shape_of};
 ghost use Rattle.pmem_base.specs.Ranges.{IsPosted};
 ghost use Rattle.board.specs.Memory.{device_of};
@@ -66,7 +66,22 @@ fn whole(at: u32, line: &Line) -> Posted
     }
 }
 
-/// Writes zeros to line 0 so many times, and then this with so many steps before a cut.
+/// Writes zeros to line 0 so many times.
+fn wear(rt: &impl Abort, bench: &mut Bench, engine: &mut Engine, times: u8)
+    requires shape { engine.old.shape ≡ shape_of bench.old.geo }
+    requires ready { IsReady engine.old.shape engine.old (device_of (memory_of bench.old.board)) }
+    ensures geo { shape_of bench.new.geo ≡ shape_of bench.old.geo }
+    ensures shape { engine.new.shape ≡ engine.old.shape }
+    ensures ready { IsReady engine.new.shape engine.new (device_of (memory_of bench.new.board)) }
+{
+    let zeros = whole(0, &Line::default());
+    'writes: for _write in 0..times {
+        assert!(rt; put(rt, bench, engine, &zeros).is_ok());
+    }
+}
+
+/// Writes zeros to line 0 so many times, and then this with so many steps before a cut. The answer is
+/// whether it was done.
 fn cut_write(
     rt: &impl Abort,
     alloc: Global,
@@ -80,10 +95,7 @@ fn cut_write(
     let Ok(mut engine) = mended(alloc, bench) else {
         return Err(Fail::new("not recovered"));
     };
-    let zeros = whole(0, &Line::default());
-    'writes: for _write in 0..before {
-        assert!(rt; put(rt, bench, &mut engine, &zeros).is_ok());
-    }
+    wear(rt, bench, &mut engine, before);
     bench.board.arm(fuse);
     let answer = put(rt, bench, &mut engine, write);
     assert!(rt; answer.is_ok() || answer == Err(Fault::Cut), "at {fuse}");
@@ -143,15 +155,24 @@ fn writes_that_evict_are_whole_or_absent(rt: HostRuntime) -> Result<(), Fail> {
 // A part leaves the other bytes of its line.
 #[test]
 fn parts_are_whole_or_absent(rt: HostRuntime) -> Result<(), Fail> {
+    cut_each(&rt, rt.alloc(), true, 1, &part(0, 3, 2, 0x77), 4, 0)
+}
+
+/// `len` bytes of this value at place `from` of line `at`.
+fn part(at: u32, from: u8, len: u8, byte: u8) -> Posted
+    requires some { 1 ≤ len }
+    requires inside { from + len ≤ 64 }
+    ensures { IsPosted result }
+{
     let mut line = Line::default();
-    line.0[3] = 0x77;
-    line.0[4] = 0x88;
+    let start = usize::from(from);
+    let end = start + usize::from(len);
+    line.0[start..end].fill(byte);
     line.is_whole();
-    let part = Posted {
-        at: 0,
-        from: 3,
-        len: 2,
+    Posted {
+        at,
+        from,
+        len,
         line,
-    };
-    cut_each(&rt, rt.alloc(), true, 1, &part, 4, 0)
+    }
 }
