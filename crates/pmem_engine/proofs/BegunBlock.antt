@@ -1,12 +1,11 @@
 -- A begun page's counter block as it is cached: the one that follows, whether the cache is trusted or not.
-use Rattle.std.proofs.Common.{ℕ, zero, suc, ◌≡◌, ◌<◌, ◌≤◌, ◌+◌, ◌-◌, ◌^◌, ◌++◌, true, List, [], ◌∷◌, length, Bool, refl, sym, ap, ◌∙◌, arith}
+use Rattle.std.proofs.Common.{ℕ, zero, suc, ◌≡◌, ◌<◌, ◌-◌, ◌^◌, true, List, [], ◌∷◌, length, Bool, refl, sym, ap, ◌∙◌, arith}
 use Rattle.std.specs.Prelude.{option_map, unwrap_or, Contains}
 use Rattle.std.proofs.lemmas.List.{length-append, get_or_at}
 use Rattle.pmem_base.specs.declared.lines.Line.{Line}
 use Rattle.pmem_base.specs.Shape.{Shape}
 use Rattle.pmem_base.specs.Lines.{zero_line}
 use Rattle.suite.specs.Formulas.{Formulas}
-use Rattle.split_counters.specs.declared.Block.{Block}
 use Rattle.split_counters.specs.Blocks.{packed, unpacked, next_block}
 use Rattle.split_counters.proofs.Packing.{unpacked-packed, next_block-IsBlock}
 use Rattle.bonsai_tree.specs.Positions.{parent, counter_position}

@@ -1,5 +1,5 @@
 -- The device that the tests begin with: its registers are valid, and an engine over it is usable.
-use Rattle.std.proofs.Common.{ℕ, ◌≡◌, ◌≢◌, ◌<◌, ◌-◌, ◌^◌, Bool, true, false, List, [], ◌∷◌, length, IsTrue, refl, sym, subst, arith}
+use Rattle.std.proofs.Common.{ℕ, ◌≡◌, ◌≢◌, ◌<◌, Bool, true, false, [], ◌∷◌, length, IsTrue, refl, sym, subst, arith}
 use Rattle.std.specs.Prelude.{All, AllPairs, IsSome, if◌then◌else◌}
 use Rattle.std.proofs.lemmas.List.Elements.{All-nil, All-push}
 use Rattle.std.proofs.lemmas.List.Quantifiers.{all_pairs_push}
@@ -7,7 +7,7 @@ use Rattle.std.proofs.Math.Nat.{one-le-pow}
 use Rattle.pmem_base.specs.declared.registers.Regs.{Regs}
 use Rattle.pmem_base.specs.Shape.{Shape, is_loss}
 use Rattle.pmem_base.specs.Lines.{zero_line}
-use Rattle.pmem_base.specs.Layout.{pages, data_lines, device_lines, meta_lines}
+use Rattle.pmem_base.specs.Layout.{data_lines, device_lines, meta_lines}
 use Rattle.pmem_base.specs.Marks.{last_seal}
 use Rattle.pmem_base.specs.Registers.{empty_progress, IsGroup, IsProgress, IsValidRegs}
 use Rattle.split_counters.specs.Blocks.{unpacked}

@@ -1,5 +1,5 @@
 -- Two parts of a call, one after the other, are one part: what holds of each holds of both.
-use Rattle.std.proofs.Common.{ℕ, zero, suc, ◌≡◌, ◌≢◌, ◌<◌, ◌≤◌, ◌+◌, ◌++◌, ◌⊎◌, inl, inr, Bool, true, false, ◌||◌, List, [], ◌∷◌, length, IsTrue, refl, sym, ap, subst, ◌∙◌, arith}
+use Rattle.std.proofs.Common.{ℕ, ◌≡◌, ◌≢◌, ◌<◌, ◌+◌, ◌++◌, ◌⊎◌, inl, inr, Bool, true, false, List, IsTrue, refl, sym, ap, subst, ◌∙◌, arith}
 use Rattle.std.specs.List.{list_any}
 use Rattle.std.proofs.lemmas.Bool.{or_cases, or_parts, or_left, or_right, true≢false}
 use Rattle.std.proofs.lemmas.List.{append_assoc, length-append}
@@ -7,12 +7,11 @@ use Rattle.std.proofs.lemmas.List.Folds.{list_any-append}
 use Rattle.pmem_base.specs.declared.answers.Mark.{Mark}
 use Rattle.pmem_base.specs.Shape.{Shape}
 use Rattle.pmem_base.specs.Layout as layout
-use Rattle.pmem_base.specs.Counts.{last_count, HasRisen}
-use Rattle.bonsai_tree.specs.Positions.{is_on_path}
+use Rattle.pmem_base.specs.Counts.{HasRisen}
 use Rattle.board.specs.Device.{Device}
 use Rattle.suite.specs.Setup.{Setup}
-use Rattle.pmem_engine.specs.Parts.{Parts, HoldsSeal, HoldsMeta}
-use Rattle.pmem_engine.specs.Outcomes.{Outcome, going, cut, shown, is_going, is_sealed_by, is_seal_of, is_touching, IsTouchedBy, LeavesTrusted, LeavesSound, KeepsPlaces, KeepsMeta, KeepsMetaWhere, HasPower, HasGone, HasDone, KeepsCounters, NeverFalls}
+use Rattle.pmem_engine.specs.Parts.{Parts, HoldsSeal}
+use Rattle.pmem_engine.specs.Outcomes.{Outcome, going, cut, shown, is_going, is_sealed_by, is_seal_of, is_touching, IsTouchedBy, KeepsPlaces, KeepsMeta, KeepsMetaWhere, HasPower, HasGone, HasDone, KeepsCounters, NeverFalls}
 
 -- ---- marks of both
 

@@ -1,5 +1,5 @@
 -- A call's last act: an engine that was cut or stopped is down.
-use Rattle.std.proofs.Common.{ℕ, ◌≡◌, ◌≢◌, ◌⊎◌, inl, inr, Bool, true, false, List, refl, sym, ap, subst, ◌∙◌}
+use Rattle.std.proofs.Common.{ℕ, ◌≡◌, inl, inr, true, List, refl, sym, ap, subst, ◌∙◌}
 use Rattle.std.specs.Prelude.{IfSome}
 use Rattle.pmem_base.specs.declared.answers.Mark.{Mark}
 use Rattle.meta_cache.specs.Banks.{is_cached_dirty}

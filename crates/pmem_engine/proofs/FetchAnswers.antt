@@ -1,45 +1,43 @@
 -- What a fetch answers, by its end.
-use Rattle.std.proofs.Common.{ℕ, zero, suc, ◌≡◌, ◌≢◌, ◌<◌, ◌≤◌, ◌+◌, ◌++◌, ◌⊎◌, inl, inr, Bool, true, false, List, [], ◌∷◌, length, Option, Some, None, Ok, Err, IsTrue, refl, sym, ap, ap₂, subst, subst₂, ◌∙◌, arith}
-use Rattle.std.specs.Prelude.{MatchOption, IfSome, option_map, is_some, unwrap_or, ◌==◌, ◌*◌}
-use Rattle.std.proofs.lemmas.Bool.{true≢false, cases_Bool, eq-eqb, cond-true, cond-false}
+use Rattle.std.proofs.Common.{ℕ, zero, suc, ◌≡◌, ◌<◌, ◌≤◌, ◌+◌, ◌++◌, ◌⊎◌, inl, inr, Bool, true, false, List, [], ◌∷◌, length, Option, Some, None, Ok, Err, refl, sym, ap, ap₂, subst, subst₂, ◌∙◌, arith}
+use Rattle.std.specs.Prelude.{option_map, is_some, unwrap_or, ◌==◌, ◌*◌}
+use Rattle.std.proofs.lemmas.Bool.{true≢false, eq-eqb, cond-true, cond-false}
 use Rattle.std.proofs.lemmas.List.{length-append}
 use Rattle.std.proofs.lemmas.List.Elements.{All-weaker}
 use Rattle.std.proofs.lemmas.Option.{none-some, same_Some}
 use Rattle.std.proofs.lemmas.List.Folds.{list_any_at}
 use Rattle.pmem_base.specs.declared.lines.Line.{Line}
 use Rattle.pmem_base.specs.declared.answers.Exhibit.{Exhibit}
-use Rattle.pmem_base.specs.declared.answers.Exhibit.TheVariants.{Clash, Forged, Twin}
+use Rattle.pmem_base.specs.declared.answers.Exhibit.TheVariants.{Clash}
 use Rattle.pmem_base.specs.Shape.{Shape}
 use Rattle.pmem_base.specs.Layout as layout
 use Rattle.pmem_base.specs.Lines.{line_at, zero_line}
 use Rattle.bonsai_tree.specs.Positions.{level_of, is_on_path, counter_position}
-use Rattle.bonsai_tree.proofs.PathPositions.{path_position, path_of-at, path_of-block, path_position-on_path}
+use Rattle.bonsai_tree.proofs.PathPositions.{path_of-at, path_of-block, path_position-on_path}
 use Rattle.board.specs.Device.{Device}
 use Rattle.board.specs.Steps.{Tells}
 use Rattle.commit_regs.specs.Groups.{redone_told}
 use Rattle.seal_ledger.specs.Ledger.{LedgerState}
-use Rattle.seal_ledger.specs.Notes.{HasExhibit, first_exhibit}
+use Rattle.seal_ledger.specs.Notes.{first_exhibit}
 use Rattle.shadow_tables.specs.Entries.{slot_entry}
 use Rattle.meta_cache.specs.declared.slot.Slot.{Slot}
 use Rattle.meta_cache.specs.Banks.{Banks, is_cached, set_index, slot_number, set_of}
 use Rattle.meta_cache.specs.Sets.{holds, slot_with, touched, victim_of}
 use Rattle.meta_cache.proofs.WayLemmas.{KeepsWays-touched}
 use Rattle.meta_path.specs.Blocks.{path_at, slots_at, number_in, IsPathCached, AreCachedTrue, dirty_count}
-use Rattle.meta_path.specs.Work.{HasWorked, FetchState, risen_times, told_line}
+use Rattle.meta_path.specs.Work.{risen_times, told_line}
 use Rattle.std.specs.List.{Contains}
 use Rattle.std.specs.Prelude.{slice_index_or}
-use Rattle.meta_path.specs.Levels.{victim_write, room_write, level_reads, level_write, fetched_set}
-use Rattle.meta_path.specs.Fetching.{absent_count, spilled, HasFetchedSets, IsFetchedTo, IsCutAt, IsRefusedAt, IsShownAt}
+use Rattle.meta_path.specs.Levels.{victim_write, room_write, level_write}
+use Rattle.meta_path.specs.Fetching.{absent_count, spilled, IsFetchedTo, IsCutAt, IsRefusedAt, IsShownAt}
 use Rattle.meta_path.specs.Keeping.{KeepsBlocks, HasGivenWay, WasWrittenBack, IsTrueTree, HasFalseDigest, HasClash}
-use Rattle.meta_path.specs.Naming.{path_number}
 use Rattle.meta_path.proofs.PathFacts.{path_at-level, path_at-lt}
 use Rattle.suite.specs.Setup.{Setup}
 use Rattle.pmem_engine.specs.Engine.{EngineState}
-use Rattle.pmem_engine.specs.Calls.{IsPathNamedInMirror}
 use Rattle.pmem_engine.specs.declared.fault.Fault.TheVariants as Fail
 use Rattle.pmem_engine.specs.Invariants.{IsTrueSlot, IsSound, stored_meta}
 use Rattle.pmem_engine.specs.Parts.{Parts, parts_of, AreTrusted, AreSound, meta_line_in}
-use Rattle.pmem_engine.specs.Faults.{IsFetchedLine, IsMetaRefused, IsClashShown}
+use Rattle.pmem_engine.specs.Faults.{IsFetchedLine, IsClashShown}
 use Rattle.pmem_engine.specs.Inner.{HasFetched}
 use Rattle.pmem_engine.proofs.Told.{unarmed, told_gives}
 use Rattle.pmem_engine.proofs.Fetched.{redone_before, redone_after, own_slot}

@@ -1,7 +1,6 @@
 -- A fetch of the engine, from what the fetch of its path ensures.
-use Rattle.std.proofs.Common.{ℕ, ◌≡◌, ◌≢◌, ◌<◌, ◌≤◌, ◌+◌, Bool, true, false, List, [], Option, Some, None, Ok, Err, refl, sym, ap, subst, subst₂, ◌∙◌, arith}
+use Rattle.std.proofs.Common.{ℕ, ◌≡◌, ◌<◌, ◌≤◌, ◌+◌, true, Ok, Err, refl, sym, ap, subst, subst₂, ◌∙◌}
 use Rattle.std.specs.Prelude.{is_some}
-use Rattle.pmem_base.specs.declared.lines.Line.{Line}
 use Rattle.pmem_base.specs.Layout as layout
 use Rattle.board.specs.Device.{Device, IsDevice}
 use Rattle.seal_ledger.specs.Ledger.{LedgerState}
@@ -10,13 +9,13 @@ use Rattle.meta_cache.specs.State.{CacheState}
 use Rattle.meta_path.specs.declared.faults.PathFault.{PathFault}
 use Rattle.meta_path.specs.declared.faults.PathFault.TheVariants as Path
 use Rattle.meta_path.specs.Blocks.{IsPathCached, AreCachedTrue, dirty_count}
-use Rattle.meta_path.specs.Work.{HasWorked, FetchState, risen_times}
-use Rattle.meta_path.specs.Fetching.{absent_count, spilled, IsFetchedTo, IsPathFault}
+use Rattle.meta_path.specs.Work.{FetchState, risen_times}
+use Rattle.meta_path.specs.Fetching.{absent_count, IsFetchedTo, IsPathFault}
 use Rattle.meta_path.specs.Keeping.{KeepsBlocks, IsTrueTree, HasCause}
 use Rattle.suite.specs.Setup.{Setup}
 use Rattle.pmem_engine.specs.Engine.{EngineState}
 use Rattle.pmem_engine.specs.Outcomes.{NeverFalls, fault_of_path}
-use Rattle.pmem_engine.specs.Parts.{Parts, parts_of}
+use Rattle.pmem_engine.specs.Parts.{parts_of}
 use Rattle.pmem_engine.specs.Inner.{HasFetched}
 use Rattle.pmem_engine.proofs.Told.{told_redone}
 use Rattle.pmem_engine.proofs.FetchEnds.{IsFetchOver, risen_times_never_fall}

@@ -1,44 +1,33 @@
 -- The ends of a fetch: its path is cached, or it was cut, refused or stopped.
-use Rattle.std.proofs.Common.{ℕ, zero, suc, ◌≡◌, ◌≢◌, ◌<◌, ◌≤◌, ◌+◌, ◌*◌, ◌⊎◌, inl, inr, Bool, true, false, List, [], ◌∷◌, length, Option, Some, None, Ok, Err, IsTrue, refl, sym, ap, ap₂, subst, subst₂, ◌∙◌, arith}
-use Rattle.std.specs.Prelude.{MatchOption, IfSome, option_map, is_some, unwrap_or, ◌==◌}
+use Rattle.std.proofs.Common.{ℕ, zero, suc, ◌≡◌, ◌≢◌, ◌<◌, ◌≤◌, ◌+◌, ◌⊎◌, inl, inr, true, false, List, [], length, Option, Some, None, refl, sym, ap, subst, subst₂, ◌∙◌, arith}
+use Rattle.std.specs.Prelude.{MatchOption, option_map, is_some, ◌==◌}
 use Rattle.std.specs.List.{Contains, list_any}
 use Rattle.std.proofs.lemmas.Bool.{true≢false, cases_Bool, eq-eqb}
-use Rattle.std.proofs.lemmas.Option.{none-some, same_Some}
+use Rattle.std.proofs.lemmas.Option.{same_Some}
 use Rattle.std.proofs.lemmas.List.{append-nil}
 use Rattle.std.proofs.lemmas.List.Folds.{list_any_at}
 use Rattle.pmem_base.specs.declared.lines.Line.{Line}
-use Rattle.pmem_base.specs.declared.answers.Exhibit.{Exhibit}
-use Rattle.pmem_base.specs.declared.answers.Exhibit.TheVariants.{Clash, Forged, Twin}
-use Rattle.pmem_base.specs.Shape.{Shape}
-use Rattle.pmem_base.specs.Counts.{risen, last_count, HasRisen}
+use Rattle.pmem_base.specs.Counts.{HasRisen}
 use Rattle.pmem_base.specs.Layout as layout
-use Rattle.pmem_base.specs.Lines.{line_at, zero_line}
+use Rattle.pmem_base.specs.Lines.{line_at}
 use Rattle.pmem_base.specs.Marks.{IsFresh}
 use Rattle.pmem_base.specs.Registers.{IsValidRegs}
-use Rattle.bonsai_tree.specs.Positions.{level_of, is_on_path, counter_position}
-use Rattle.bonsai_tree.proofs.PathPositions.{path_position, path_of-at, path_position-on_path}
-use Rattle.board.specs.Counts.{RisesBy}
+use Rattle.bonsai_tree.specs.Positions.{level_of}
 use Rattle.board.specs.Device.{Device, IsDevice, AreLinesOf}
 use Rattle.board.specs.Steps.{Tells}
-use Rattle.commit_regs.specs.Groups.{redone_told}
 use Rattle.seal_ledger.specs.Ledger.{LedgerState}
-use Rattle.seal_ledger.specs.Notes.{HasExhibit, first_exhibit}
 use Rattle.meta_cache.specs.declared.slot.Slot.{Slot}
 use Rattle.meta_cache.specs.Banks.{is_cached, is_cached_dirty, set_index, set_of}
 use Rattle.meta_cache.proofs.SlotLemmas.{dirty_slot}
-use Rattle.meta_path.specs.declared.faults.PathFault.TheVariants as Path
-use Rattle.meta_path.specs.Blocks.{path_at, IsPathCached, dirty_count}
-use Rattle.meta_path.specs.Work.{HasWorked, FetchState, risen_times}
-use Rattle.meta_path.specs.Fetching.{IsFetchedTo, IsCutAt, IsRefusedAt, IsShownAt}
-use Rattle.meta_path.specs.Keeping.{KeepsBlocks, WasWrittenBack, HasFalseDigest, HasClash}
-use Rattle.meta_path.proofs.PathFacts.{path_at-level}
+use Rattle.meta_path.specs.Blocks.{dirty_count}
+use Rattle.meta_path.specs.Work.{risen_times}
+use Rattle.meta_path.specs.Keeping.{KeepsBlocks, WasWrittenBack}
 use Rattle.suite.specs.Setup.{Setup}
 use Rattle.pmem_engine.specs.Engine.{EngineState}
 use Rattle.pmem_engine.specs.Invariants.{IsAnchored, IsTrusted, IsDurable, IsSound, stored_meta}
-use Rattle.pmem_engine.specs.Parts.{Parts, parts_of, AreTrusted, AreSound, AreDurable, HoldsCounters}
-use Rattle.pmem_engine.specs.Outcomes.{Outcome, going, cut, shown, is_going, NeverFalls, HasPower, HasSmallGroup, LeavesTrusted, LeavesSound, KeepsPlaces, KeepsMetaWhere, KeepsCounters, HasGone, HasDone, TakesAtMost, TakesFewer}
-use Rattle.pmem_engine.specs.Faults.{IsFetchedLine, IsMetaRefused, IsClashShown}
-use Rattle.pmem_engine.proofs.Told.{told_surely, told_gives, whole_lines}
+use Rattle.pmem_engine.specs.Parts.{Parts, parts_of, AreTrusted, AreSound, HoldsCounters}
+use Rattle.pmem_engine.specs.Outcomes.{Outcome, going, cut, shown, NeverFalls, HasPower, HasSmallGroup, LeavesTrusted, LeavesSound, KeepsPlaces, KeepsMetaWhere, HasGone, HasDone, TakesAtMost, TakesFewer}
+use Rattle.pmem_engine.proofs.Told.{told_surely, whole_lines}
 use Rattle.pmem_engine.proofs.Fetched.{trusted_after, sound_lines, places, counters, metadata, meta_same_or_true, own_slot}
 
 -- ---- counts

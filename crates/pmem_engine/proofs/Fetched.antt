@@ -1,23 +1,21 @@
 -- A fetch of a page's path, whatever the device holds: what it keeps of the chip and of the device.
-use Rattle.std.proofs.Common.{ℕ, ◌≡◌, ◌≢◌, ◌<◌, ◌≤◌, ◌+◌, ◌*◌, ◌⊎◌, inl, inr, Bool, true, false, List, [], length, Option, Some, None, refl, sym, ap, ap₂, subst, subst₂, ◌∙◌, arith}
-use Rattle.std.specs.Prelude.{MatchOption, IfSome, option_map, is_some, All}
+use Rattle.std.proofs.Common.{ℕ, ◌≡◌, ◌≢◌, ◌<◌, ◌⊎◌, inl, inr, true, List, [], length, Option, Some, None, refl, sym, ap, subst, subst₂, ◌∙◌, arith}
+use Rattle.std.specs.Prelude.{IfSome, option_map, is_some}
 use Rattle.std.specs.List.{Contains}
 use Rattle.std.proofs.lemmas.Bool.{true≢false, false≢true, cases_Bool}
-use Rattle.std.proofs.lemmas.Option.{none-some, same_Some}
+use Rattle.std.proofs.lemmas.Option.{same_Some}
 use Rattle.pmem_base.specs.declared.lines.Line.{Line}
-use Rattle.pmem_base.specs.Shape.{Shape}
 use Rattle.pmem_base.specs.Layout as layout
 use Rattle.pmem_base.specs.Lines.{line_at, tag_slot}
 use Rattle.bonsai_tree.specs.Positions.{level_of, counter_position}
-use Rattle.board.specs.Device.{Device, AreLinesOf, IsDevice}
+use Rattle.board.specs.Device.{Device, AreLinesOf}
 use Rattle.board.specs.Steps.{Tells}
-use Rattle.commit_regs.specs.Groups.{redone_told}
 use Rattle.seal_ledger.specs.Ledger.{LedgerState}
 use Rattle.meta_cache.specs.declared.slot.Slot.{Slot}
-use Rattle.meta_cache.specs.Banks.{Banks, set_of, set_index, is_cached_dirty}
+use Rattle.meta_cache.specs.Banks.{set_of, set_index, is_cached_dirty}
 use Rattle.meta_cache.specs.KeptSlots.{IsFromBefore}
 use Rattle.meta_cache.proofs.SlotLemmas.{All-stands, dirty_slot, is_cached_dirty_from}
-use Rattle.meta_path.specs.Blocks.{path_at, AreInTheirBanks, IsOfItsBank}
+use Rattle.meta_path.specs.Blocks.{IsOfItsBank}
 use Rattle.meta_path.specs.Keeping.{KeepsBlocks, HasGivenWay, WasWrittenBack}
 use Rattle.meta_path.specs.Keeping as path
 use Rattle.suite.specs.Setup.{Setup}

@@ -1,10 +1,8 @@
 -- The page that was finished before another one begins: that one has no register, and four aren't in use.
-use Rattle.std.proofs.Common.{ℕ, ◌≡◌, ◌≢◌, ◌<◌, ◌≤◌, ◌+◌, List, length, get_or, cond, Option, Some, None, Result, Ok, Err, refl, sym, ap, subst, ◌∙◌, arith}
-use Rattle.std.specs.Prelude.{◌==◌, position, slice_get, All, IsOk, OnOk, nat_le, false}
+use Rattle.std.proofs.Common.{ℕ, ◌≡◌, ◌<◌, ◌≤◌, length, Option, Some, None, Result, Ok, Err, refl, sym, ap, subst, ◌∙◌, arith}
+use Rattle.std.specs.Prelude.{◌==◌, position, slice_get, IsOk, OnOk}
 use Rattle.std.specs.Option.{option_and_then}
-use Rattle.std.proofs.lemmas.Bool.{false≢true}
 use Rattle.std.proofs.lemmas.Option.{same_Some, slice_get-get_or}
-use Rattle.pmem_base.specs.declared.registers.Progress.{Progress}
 use Rattle.pmem_base.specs.Registers.{empty_progress}
 use Rattle.page_reencrypt.specs.Registers.{register_of}
 use Rattle.page_reencrypt.proofs.Holding.{registered-All}
@@ -13,7 +11,7 @@ use Rattle.suite.specs.Setup.{Setup}
 use Rattle.pmem_engine.specs.declared.fault.Fault.{Fault}
 use Rattle.pmem_engine.specs.Parts.{Parts, regs_of}
 use Rattle.pmem_engine.specs.Resealing.{register_in}
-use Rattle.pmem_engine.specs.Writing.{register_found, register_to_finish, HasLeftOut, HasFinishedPage, HasFinishedWhere}
+use Rattle.pmem_engine.specs.Writing.{register_found, register_to_finish, HasFinishedPage, HasFinishedWhere}
 
 -- what holds of an answer that is Ok
 pub on_ok : {P : Type 0} (answer : Result Unit Fault) → (IsOk answer → P) → OnOk answer P

@@ -1,5 +1,5 @@
 -- The armed group: a line of it is written, all of it is, and it is emptied. Durable stays.
-use Rattle.std.proofs.Common.{◌≡◌, ℕ, List, [], sym, ap, subst, take, ◌∙◌}
+use Rattle.std.proofs.Common.{◌≡◌, ℕ, List, [], sym, ap, subst, take}
 use Rattle.std.specs.Prelude.{slice_set}
 use Rattle.std.proofs.lemmas.List.Elements.{All-take}
 use Rattle.pmem_base.specs.declared.lines.Line.{Line}

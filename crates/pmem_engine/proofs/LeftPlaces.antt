@@ -1,5 +1,5 @@
 -- The places of a page's lines that aren't done, and the registers with the lowest of them done.
-use Rattle.std.proofs.Common.{ℕ, zero, suc, ◌≡◌, ◌≢◌, ◌<◌, ◌≤◌, ◌+◌, ◌*◌, ◌++◌, ◌⊎◌, inl, inr, Bool, true, false, List, [], ◌∷◌, length, get_or, cond, Option, Some, None, refl, sym, ap, subst, ◌∙◌, arith}
+use Rattle.std.proofs.Common.{ℕ, zero, suc, ◌≡◌, ◌≢◌, ◌<◌, ◌+◌, ◌++◌, inl, inr, Bool, true, false, List, [], ◌∷◌, length, get_or, cond, Some, None, refl, sym, ap, subst, ◌∙◌, arith}
 use Rattle.std.specs.Prelude.{◌==◌, not, nat_lt, filter, slice_get, All, AllPairs}
 use Rattle.std.specs.List.{range_with_len, remove}
 use Rattle.std.proofs.Math.ListN.{set}
@@ -12,7 +12,7 @@ use Rattle.pmem_base.specs.declared.registers.Progress.{Progress}
 use Rattle.pmem_base.specs.Shape.{Shape}
 use Rattle.pmem_base.specs.Layout.{page_of, index_in_page}
 use Rattle.pmem_base.specs.Registers.{places_of_page, is_done, not_done, with_done, empty_progress, IsProgress}
-use Rattle.page_reencrypt.specs.Registers.{register_of, register_held, register_with_done, registers_with_done, is_holding}
+use Rattle.page_reencrypt.specs.Registers.{register_of, register_held, register_with_done, registers_with_done}
 use Rattle.page_reencrypt.proofs.DoneBits.{not_done-with_done, not_done-small, not_done-not_done}
 use Rattle.page_reencrypt.proofs.Holding.{registers_with_done-at, All-registers_with_done, none_of_page, none_from_All}
 use Rattle.page_reencrypt.proofs.AtPlace.{register_held-at}

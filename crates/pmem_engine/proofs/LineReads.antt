@@ -1,11 +1,11 @@
 -- A read: its path was fetched, and its line unsealed or refused.
-use Rattle.std.proofs.Common.{ℕ, ◌≡◌, ◌≢◌, ◌<◌, ◌≤◌, ◌+◌, ◌⊎◌, inl, inr, true, false, List, [], Result, Ok, Err, refl, sym, ap, subst, subst₂, ◌∙◌, arith}
-use Rattle.std.specs.Prelude.{IsOk, is_ok}
+use Rattle.std.proofs.Common.{ℕ, ◌≡◌, inr, true, false, [], Result, Ok, Err, refl, sym, ap, subst, subst₂, ◌∙◌, arith}
+use Rattle.std.specs.Prelude.{IsOk}
 use Rattle.std.proofs.lemmas.Bool.{true≢false}
 use Rattle.pmem_base.specs.declared.lines.Line.{Line}
 use Rattle.pmem_base.specs.declared.lines.Ctr.{Ctr}
 use Rattle.pmem_base.specs.Layout.{page_of}
-use Rattle.pmem_base.specs.Counts.{risen, last_count}
+use Rattle.pmem_base.specs.Counts.{risen}
 use Rattle.board.specs.Counts.{RisesBy}
 use Rattle.board.specs.Device.{Device}
 use Rattle.suite.specs.Setup.{Setup}
@@ -18,7 +18,7 @@ use Rattle.pmem_engine.specs.declared.fault.Fault.TheVariants as Fail
 use Rattle.pmem_engine.specs.declared.reading.Unsealed.{Unsealed}
 use Rattle.pmem_engine.specs.Invariants.{IsSound}
 use Rattle.pmem_engine.specs.Parts.{Parts, AreTrusted, AreSound}
-use Rattle.pmem_engine.specs.Outcomes.{Outcome, going, cut, shown, is_going, outcome_of, HasDone, TakesSteps, TakesAtMost, TakesFewer}
+use Rattle.pmem_engine.specs.Outcomes.{Outcome, going, cut, shown, is_going, outcome_of, HasDone, TakesSteps, TakesAtMost}
 use Rattle.pmem_engine.specs.Calls.{IsDownAnswer, IsUnrefused, TakesWithin, TakesWithinOfLive, AnswersRead, IsReadOfCached}
 use Rattle.pmem_engine.specs.Inner.{HasFetched, HasUnsealed, HasReadUnder, IsLastCounter, AnswersUnseal}
 use Rattle.pmem_engine.proofs.Told.{told_gives}

@@ -1,29 +1,18 @@
 -- A new stop-loss number: the dirty counter blocks are written first where it is smaller, and the latch comes last.
-use Rattle.std.proofs.Common.{ℕ, ◌≡◌, ◌≢◌, ◌<◌, ◌≤◌, ◌+◌, ◌*◌, ◌⊎◌, inl, inr, Bool, true, false, List, [], length, Option, Some, None, Result, Ok, Err, refl, sym, ap, ap₂, subst, subst₂, ◌∙◌, arith}
-use Rattle.std.specs.Prelude.{MatchOption, IfSome, MatchBool, option_map, is_some, nat_lt, ◌==◌, IsTrue}
-use Rattle.std.proofs.lemmas.Bool.{true≢false, cases_eq}
-use Rattle.std.proofs.lemmas.List.{append-nil}
-use Rattle.pmem_base.specs.declared.lines.Line.{Line}
-use Rattle.pmem_base.specs.declared.registers.Regs.{Regs}
-use Rattle.pmem_base.specs.Shape.{Shape, is_loss}
-use Rattle.pmem_base.specs.Layout as layout
-use Rattle.pmem_base.specs.Layout.{device_lines, meta_lines, meta_line}
-use Rattle.pmem_base.specs.Registers.{IsValidRegs}
-use Rattle.bonsai_tree.specs.Positions.{level_of, counter_position}
-use Rattle.board.specs.Counts.{RisesBy}
+use Rattle.std.proofs.Common.{ℕ, ◌≡◌, ◌<◌, ◌≤◌, ◌+◌, false, [], refl, sym, ap, subst, ◌∙◌, arith}
+use Rattle.pmem_base.specs.Shape.{Shape}
+use Rattle.pmem_base.specs.Layout.{device_lines, meta_line}
 use Rattle.board.specs.Device.{Device, IsDevice}
-use Rattle.board.specs.Steps.{WasCut, HasWritten, HasLatched}
-use Rattle.seal_ledger.specs.Ledger.{LedgerState}
-use Rattle.meta_cache.specs.Banks.{set_index, is_cached, is_cached_dirty}
+use Rattle.board.specs.Steps.{WasCut, HasWritten}
+use Rattle.meta_cache.specs.Banks.{set_index, is_cached}
 use Rattle.meta_cache.specs.Sets.{with_mark}
 use Rattle.meta_cache.specs.State.{CacheState, ChangesSet, slots_of}
-use Rattle.meta_path.specs.Blocks.{slots_at, line_in, dirty_in_bank}
+use Rattle.meta_path.specs.Blocks.{line_in, dirty_in_bank}
 use Rattle.meta_path.specs.Storing.{IsCleaned}
-use Rattle.suite.specs.Setup.{Setup}
 use Rattle.pmem_engine.specs.Engine.{EngineState}
-use Rattle.pmem_engine.specs.Parts.{Parts, parts_of}
-use Rattle.pmem_engine.specs.Outcomes.{going, cut, HasDone}
-use Rattle.pmem_engine.specs.Flushed.{cache_of, HasWrittenBack, HasWrittenBlocks, HasMadeWay, IsCutInBlocks, IsLossLatched, HasChangedLoss, with_loss, IsBankClean}
+use Rattle.pmem_engine.specs.Parts.{parts_of}
+use Rattle.pmem_engine.specs.Outcomes.{going}
+use Rattle.pmem_engine.specs.Flushed.{HasWrittenBack, HasWrittenBlocks, HasMadeWay, IsCutInBlocks, IsBankClean}
 use Rattle.pmem_engine.proofs.FetchCalls.{of_states}
 use Rattle.pmem_engine.proofs.Chained.{done_chained}
 use Rattle.pmem_engine.proofs.Flushes.{nothing_done}

@@ -1,12 +1,11 @@
 -- The stop-loss number is changed: what the call keeps, and what its answers say.
-use Rattle.std.proofs.Common.{ℕ, ◌≡◌, ◌≢◌, ◌<◌, ◌≤◌, ◌+◌, ◌*◌, ◌⊎◌, inl, inr, Bool, true, false, List, [], length, Option, Some, None, Result, Ok, Err, refl, sym, ap, ap₂, subst, subst₂, ◌∙◌, arith}
-use Rattle.std.specs.Prelude.{MatchOption, IfSome, MatchBool, option_map, is_some, nat_lt, ◌==◌, IsTrue}
-use Rattle.std.proofs.lemmas.Bool.{true≢false, cases_Bool, cases_lt, ltb-true, ltb-false, lt-ltb, eqb-true, eq-eqb, ne_eqb}
+use Rattle.std.proofs.Common.{ℕ, ◌≡◌, ◌≢◌, ◌<◌, ◌≤◌, ◌+◌, ◌*◌, ◌⊎◌, inl, inr, Bool, true, false, List, [], Option, Some, None, Result, Ok, Err, refl, sym, ap, ap₂, subst, subst₂, ◌∙◌, arith}
+use Rattle.std.specs.Prelude.{IfSome, MatchBool, option_map, is_some, nat_lt, ◌==◌, IsTrue}
+use Rattle.std.proofs.lemmas.Bool.{true≢false, cases_Bool, cases_lt, ltb-true, lt-ltb, eq-eqb, ne_eqb}
 use Rattle.std.proofs.lemmas.List.{append-nil}
 use Rattle.std.proofs.lemmas.Option.{same_Some}
 use Rattle.pmem_base.specs.declared.lines.Line.{Line}
-use Rattle.pmem_base.specs.declared.registers.Regs.{Regs}
-use Rattle.pmem_base.specs.Shape.{Shape, is_loss}
+use Rattle.pmem_base.specs.Shape.{is_loss}
 use Rattle.pmem_base.specs.Layout as layout
 use Rattle.pmem_base.specs.Layout.{device_lines}
 use Rattle.pmem_base.specs.Lines.{line_at, tag_slot}
@@ -14,7 +13,7 @@ use Rattle.pmem_base.specs.Registers.{IsGroup, IsValidRegs}
 use Rattle.bonsai_tree.specs.Positions.{level_of, counter_position}
 use Rattle.bonsai_tree.proofs.Levels.{counter_position-lt}
 use Rattle.bonsai_tree.proofs.PathPositions.{path_of-block, path_of-level}
-use Rattle.board.specs.Device.{Device, IsDevice}
+use Rattle.board.specs.Device.{Device}
 use Rattle.board.specs.Steps.{WasCut, HasLatched}
 use Rattle.commit_regs.specs.Groups.{redone_told}
 use Rattle.seal_ledger.specs.Ledger.{LedgerState}
@@ -25,19 +24,19 @@ use Rattle.suite.specs.Setup.{Setup}
 use Rattle.pmem_engine.specs.declared.fault.Fault.{Fault}
 use Rattle.pmem_engine.specs.declared.fault.Fault.TheVariants as Fail
 use Rattle.pmem_engine.specs.Engine.{EngineState}
-use Rattle.pmem_engine.specs.Invariants.{IsTrusted, IsSound, IsSealStored, IsCounterStored, stored_meta}
+use Rattle.pmem_engine.specs.Invariants.{IsSound, IsSealStored, IsCounterStored, stored_meta}
 use Rattle.pmem_engine.specs.Steps.{HasLossSet}
 use Rattle.pmem_engine.specs.Recached.{IsTrueOrDirty}
-use Rattle.pmem_engine.specs.Parts.{Parts, parts_of, AreTrusted, AreSound, HoldsSeal, HoldsCounters, HoldsMeta, lines_redone}
-use Rattle.pmem_engine.specs.Outcomes.{going, cut, outcome_of, KeepsPlaces, KeepsMeta, HasGone, HasDone, TakesSteps, TakesFewer}
+use Rattle.pmem_engine.specs.Parts.{Parts, parts_of, AreTrusted, AreSound, HoldsCounters, HoldsMeta, lines_redone}
+use Rattle.pmem_engine.specs.Outcomes.{going, cut, outcome_of, KeepsPlaces, KeepsMeta, HasGone, TakesSteps, TakesFewer}
 use Rattle.pmem_engine.specs.Calls.{IsDownAnswer, IsLossSteps, IsCutInLoss, AnswersLoss, HasSetLoss}
 use Rattle.pmem_engine.specs.Flushed.{HasWrittenBlocks, HasMadeWay, IsCutInBlocks, IsLossLatched, HasChangedLoss, with_loss, IsBankClean}
-use Rattle.pmem_engine.proofs.Told.{told_surely, told_cases}
+use Rattle.pmem_engine.proofs.Told.{told_surely}
 use Rattle.pmem_engine.proofs.CounterBlocks.{IsCounterStored-true}
 use Rattle.pmem_engine.proofs.GroupLaws.{IsMendable-unarmed}
 use Rattle.pmem_engine.proofs.CacheLaws.{IsTrueOrDirty-sound}
 use Rattle.pmem_engine.proofs.LossLaws.{IsTrusted-loss_set, IsSound-loss_set, IsCounterStored-loss_raised}
-use Rattle.pmem_engine.proofs.Chained.{gone_chained, done_chained}
+use Rattle.pmem_engine.proofs.Chained.{gone_chained}
 use Rattle.pmem_engine.proofs.Ended.{ended_parts, gone_ended, answers_down}
 use Rattle.pmem_engine.proofs.Flushes.{nothing_done, cut_still, no_steps_of}
 

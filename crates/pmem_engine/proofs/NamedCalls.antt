@@ -1,11 +1,10 @@
 -- A path was named, or a cut came before one of its entries was written: what the call keeps.
-use Rattle.std.proofs.Common.{ℕ, ◌≡◌, ◌≢◌, ◌<◌, ◌≤◌, ◌+◌, ◌⊎◌, inl, inr, true, false, List, [], length, Option, Some, None, Ok, Err, refl, sym, ap, ap₂, subst, subst₂, ◌∙◌, arith}
-use Rattle.std.specs.Prelude.{MatchOption, IfSome, option_map, is_some, IsOk, is_ok, Result}
+use Rattle.std.proofs.Common.{ℕ, ◌≡◌, ◌<◌, ◌≤◌, ◌+◌, ◌⊎◌, inl, inr, true, false, List, [], length, Some, Ok, Err, refl, sym, ap, ap₂, subst, ◌∙◌, arith}
+use Rattle.std.specs.Prelude.{MatchOption, IfSome, option_map, is_some, is_ok, Result}
 use Rattle.std.proofs.lemmas.Bool.{true≢false}
 use Rattle.std.proofs.lemmas.List.{append-nil}
-use Rattle.std.proofs.lemmas.Option.{none-some, same_Some}
+use Rattle.std.proofs.lemmas.Option.{same_Some}
 use Rattle.pmem_base.specs.declared.lines.Line.{Line}
-use Rattle.pmem_base.specs.Shape.{Shape}
 use Rattle.pmem_base.specs.Counts.{HasRisen}
 use Rattle.pmem_base.specs.Layout as layout
 use Rattle.pmem_base.specs.Layout.{device_lines}
@@ -13,7 +12,6 @@ use Rattle.pmem_base.specs.Lines.{line_at, tag_slot, put_lines}
 use Rattle.pmem_base.specs.Registers.{IsValidRegs}
 use Rattle.bonsai_tree.specs.Positions.{level_of, counter_position}
 use Rattle.bonsai_tree.proofs.Levels.{counter_position-lt}
-use Rattle.board.specs.Counts.{RisesBy}
 use Rattle.board.specs.Device.{Device}
 use Rattle.commit_regs.specs.Groups.{redone_told}
 use Rattle.seal_ledger.specs.Ledger.{LedgerState}
@@ -24,16 +22,14 @@ use Rattle.meta_path.specs.Blocks.{path_at, IsPathCached}
 use Rattle.meta_path.specs.Naming.{path_number, named_path, naming_writes, IsNamedTo, IsNamingCut}
 use Rattle.meta_path.proofs.NameLemmas.{length-naming_writes}
 use Rattle.suite.specs.Setup.{Setup}
-use Rattle.plain_model.specs.Bounds.{path_length}
 use Rattle.pmem_engine.specs.declared.fault.Fault.{Fault}
 use Rattle.pmem_engine.specs.declared.fault.Fault.TheVariants as Fail
 use Rattle.pmem_engine.specs.Engine.{EngineState}
 use Rattle.pmem_engine.specs.Invariants.{IsTrusted, IsSound, IsDurable, IsSealStored, IsCounterStored, stored_meta}
 use Rattle.pmem_engine.specs.Recached.{IsTrueOrDirty}
-use Rattle.pmem_engine.specs.Parts.{Parts, parts_of, AreTrusted, AreSound, AreDurable, HoldsSeal, HoldsCounters, HoldsMeta, lines_redone, meta_line_in}
-use Rattle.pmem_engine.specs.Outcomes.{Outcome, going, cut, shown, is_going, outcome_of, KeepsPlaces, KeepsMeta, HasGone, HasDone, HasPower, HasSmallGroup, LeavesTrusted, LeavesSound, KeepsMetaWhere, KeepsCounters, TakesAtMost, TakesFewer}
-use Rattle.pmem_engine.specs.Calls.{IsPathNamedInMirror}
-use Rattle.pmem_engine.specs.Inner.{HasNamedPath, StandsStill}
+use Rattle.pmem_engine.specs.Parts.{Parts, parts_of, AreTrusted, AreSound, HoldsCounters, lines_redone, meta_line_in}
+use Rattle.pmem_engine.specs.Outcomes.{Outcome, going, cut, is_going, outcome_of, KeepsPlaces, KeepsMeta, HasGone, HasDone, HasPower, HasSmallGroup, LeavesTrusted, LeavesSound, KeepsMetaWhere}
+use Rattle.pmem_engine.specs.Inner.{HasNamedPath}
 use Rattle.pmem_engine.proofs.Told.{told_cases, told_same, told_surely, told_redone, unarmed}
 use Rattle.pmem_engine.proofs.CounterBlocks.{IsCounterStored-same}
 use Rattle.pmem_engine.proofs.RegionLemmas.{IsSealStored-kept}

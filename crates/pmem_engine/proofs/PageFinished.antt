@@ -1,39 +1,26 @@
 -- The lines of a page sealed anew one after the other: the first of them, one more, all, or not all.
-use Rattle.std.proofs.Common.{ℕ, zero, suc, ◌≡◌, ◌≢◌, ◌<◌, ◌≤◌, ◌+◌, ◌*◌, ◌++◌, ◌⊎◌, inl, inr, Bool, true, false, List, [], ◌∷◌, length, map, get_or, cond, Option, Some, None, IsTrue, Result, Ok, Err, refl, sym, ap, subst, ◌∙◌, arith}
-use Rattle.std.specs.Prelude.{◌==◌, ◌||◌, slice_get, option_map, IfSome, IsOk}
-use Rattle.std.specs.List.{list_any}
-use Rattle.std.proofs.lemmas.Bool.{cases_Bool, true≢false, false≢true, eq-eqb, eqb-false, or_parts}
-use Rattle.std.proofs.lemmas.Option.{same_Some, none-some}
+use Rattle.std.proofs.Common.{ℕ, ◌≡◌, ◌<◌, ◌≤◌, ◌+◌, ◌*◌, ◌++◌, ◌⊎◌, inl, inr, false, List, [], ◌∷◌, length, map, get_or, Some, IsTrue, Result, Ok, Err, refl, sym, ap, subst, ◌∙◌, arith}
+use Rattle.std.specs.Prelude.{◌||◌, slice_get}
+use Rattle.std.proofs.lemmas.Bool.{cases_Bool, true≢false, false≢true, eq-eqb}
 use Rattle.std.proofs.lemmas.List.{append_assoc, append-nil, map-append, length-append, length-map}
-use Rattle.pmem_base.specs.declared.lines.Line.{Line}
-use Rattle.pmem_base.specs.declared.lines.Ctr.{Ctr}
-use Rattle.pmem_base.specs.declared.registers.Progress.{Progress}
 use Rattle.pmem_base.specs.declared.answers.Mark.{Mark}
-use Rattle.pmem_base.specs.declared.answers.Mark.TheVariants.{Begin, Seal}
-use Rattle.pmem_base.specs.Shape.{Shape}
 use Rattle.pmem_base.specs.Layout as layout
-use Rattle.pmem_base.specs.Counts.{last_count}
-use Rattle.pmem_base.specs.Lines.{line_at, tag_slot}
-use Rattle.pmem_base.specs.Marks.{last_seal}
-use Rattle.pmem_base.specs.Registers.{not_done, empty_progress, IsProgress, IsValidRegs}
+use Rattle.pmem_base.specs.Lines.{line_at}
+use Rattle.pmem_base.specs.Registers.{not_done, empty_progress, IsValidRegs}
 use Rattle.board.specs.Device.{Device}
 use Rattle.page_reencrypt.specs.Registers.{register_of, register_held, registers_with_done}
-use Rattle.seal_ledger.proofs.MarkLemmas.{last_seal-other, last_seal-begun}
 use Rattle.suite.specs.Setup.{Setup}
 use Rattle.plain_model.specs.State.{Memory}
-use Rattle.plain_model.specs.View.{view_of, counter_at}
-use Rattle.plain_model.specs.Asked.{Moment, reseal_mark, seal_mark, next_major}
+use Rattle.plain_model.specs.Asked.{reseal_mark, seal_mark}
 use Rattle.pmem_engine.specs.declared.fault.Fault.{Fault}
 use Rattle.pmem_engine.specs.declared.fault.Fault.TheVariants as Fail
 use Rattle.pmem_engine.specs.Sealed.{sealed_counter}
-use Rattle.pmem_engine.specs.Invariants.{IsSealStored}
-use Rattle.pmem_engine.specs.Parts.{Parts, regs_of, lines_redone, AreTrusted, AreSound, HoldsSeal}
-use Rattle.pmem_engine.specs.Outcomes.{going, cut, shown, outcome_of, outcome_of_fault, is_seal_of, is_sealed_by, HasGone, HasDone, TakesSteps, TakesFewer}
-use Rattle.pmem_engine.specs.Faults.{IsTagRefused, IsForgedShown}
+use Rattle.pmem_engine.specs.Parts.{Parts, regs_of, AreTrusted, HoldsSeal}
+use Rattle.pmem_engine.specs.Outcomes.{going, outcome_of_fault, is_sealed_by, HasDone, TakesSteps}
 use Rattle.pmem_engine.specs.Calls.{IsUsable, IsMemory, IsDownAnswer, IsUnrefused, moment_in}
 use Rattle.pmem_engine.specs.Still.{HasOnlyRead}
-use Rattle.pmem_engine.specs.Resealing.{register_in, line_of_page, HasResealMarks, AnswersReseal, CountsReseal, HasSealedHeld, HasResealed}
-use Rattle.pmem_engine.specs.Writing.{reseals_of, IsFrontOf, IsStoppedAt, HasFinishMarks, IsForgedInFinish, AnswersFinish, CountsFinish, HasFinishedPage}
+use Rattle.pmem_engine.specs.Resealing.{register_in, line_of_page, HasResealMarks, AnswersReseal, CountsReseal, HasResealed}
+use Rattle.pmem_engine.specs.Writing.{reseals_of, IsFrontOf, IsStoppedAt, HasFinishMarks, AnswersFinish, CountsFinish, HasFinishedPage}
 use Rattle.pmem_engine.specs.Finishing.{IsStillOpen, IsClosed, HasLeft, HasResealedFirst}
 use Rattle.pmem_engine.proofs.Chained.{done_chained, sealed_by_either, going_unshown}
 use Rattle.pmem_engine.proofs.StillLaws.{done_reading}
@@ -41,7 +28,7 @@ use Rattle.pmem_engine.proofs.Unsealing.{same_never_falls}
 use Rattle.pmem_engine.proofs.Asked.{asked-held}
 use Rattle.pmem_engine.proofs.Usable.{usable_after}
 use Rattle.pmem_engine.proofs.WriteParts.{held_back}
-use Rattle.pmem_engine.proofs.LeftPlaces.{in_middle, first_and_rest, line_held, others_kept, one_less, page_closed, as_many, page_stays, places_left, place_small}
+use Rattle.pmem_engine.proofs.LeftPlaces.{first_and_rest, line_held, others_kept, one_less, page_closed, as_many, page_stays, places_left, place_small}
 
 -- what the lines sealed by either part held before
 sealed_before_both : (setup : Setup) (made more : List Mark) (old mid : Parts) → HasDone setup going made old mid

@@ -1,8 +1,7 @@
 -- A path is named in the shadow tables, from the top down: what stays sound, and which lines change.
-use Rattle.std.proofs.Common.{ℕ, zero, suc, ◌≡◌, ◌<◌, ◌≤◌, ◌+◌, ◌*◌, ◌/◌, ◌%◌, ◌^◌, Bool, true, false, List, [], ◌∷◌, ◌++◌, length, refl, sym, ap, ap₂, subst, subst₂, ◌∙◌, arith}
-use Rattle.std.specs.Prelude.{All, IsTrue, ◌==◌, slice_set}
-use Rattle.std.proofs.lemmas.Bool.{cond-true, cond-false, cases_Bool, eq-eqb}
-use Rattle.std.proofs.lemmas.List.{append-nil}
+use Rattle.std.proofs.Common.{ℕ, zero, suc, ◌≡◌, ◌<◌, ◌≤◌, ◌+◌, ◌*◌, ◌%◌, ◌^◌, Bool, true, false, List, [], ◌∷◌, ◌++◌, length, refl, sym, ap, ap₂, subst, subst₂, ◌∙◌, arith}
+use Rattle.std.specs.Prelude.{All, ◌==◌}
+use Rattle.std.proofs.lemmas.Bool.{cond-true, cond-false, eq-eqb}
 use Rattle.pmem_base.specs.declared.lines.Line.{Line}
 use Rattle.pmem_base.specs.declared.registers.Regs.{Regs}
 use Rattle.pmem_base.specs.Shape.{Shape}
@@ -15,7 +14,7 @@ use Rattle.board.proofs.LineLemmas.{AreLinesOf-set}
 use Rattle.board.specs.Device.{AreLinesOf}
 use Rattle.seal_ledger.specs.Ledger.{LedgerState}
 use Rattle.shadow_tables.specs.Entries.{slot_entry}
-use Rattle.shadow_tables.specs.Naming.{entry_line, entry_index, naming_line, with_named, Names}
+use Rattle.shadow_tables.specs.Naming.{entry_line, entry_index, naming_line, with_named}
 use Rattle.shadow_tables.proofs.ShadowLines.{IsLine-with_entry}
 use Rattle.shadow_tables.proofs.NameLemmas.{Names-with_named, meta_lines_most}
 use Rattle.meta_cache.specs.declared.slot.Slot.{Slot}
@@ -31,7 +30,6 @@ use Rattle.suite.specs.Setup.{Setup}
 use Rattle.pmem_engine.specs.Engine.{EngineState}
 use Rattle.pmem_engine.specs.Invariants.{IsSound, stored_meta}
 use Rattle.pmem_engine.specs.Steps.{IsPlaceKept}
-use Rattle.pmem_engine.specs.Recached.{IsMirrorWritten}
 use Rattle.pmem_engine.proofs.RegionLemmas.{stored_meta-set_shadow, IsPlaceKept-same, IsPlaceKept-trans, IsPlaceKept-set_shadow}
 use Rattle.pmem_engine.proofs.PathSlots.{slot_number_at-own}
 use Rattle.pmem_engine.proofs.NameLaws.{IsSound-named}

@@ -1,12 +1,11 @@
 -- What one mark more makes of the lines that were sealed.
-use Rattle.std.proofs.Common.{ℕ, ◌≡◌, ◌≢◌, List, [], ◌∷◌, ◌++◌, Option, Some, inl, inr, sym, ap, subst, ◌∙◌}
+use Rattle.std.proofs.Common.{ℕ, ◌≡◌, ◌≢◌, List, [], ◌∷◌, ◌++◌, Some, inl, inr, sym, ap, subst, ◌∙◌}
 use Rattle.std.specs.Option.{option_map}
 use Rattle.std.proofs.lemmas.Bool.{cases_eq}
 use Rattle.pmem_base.specs.declared.lines.Line.{Line}
 use Rattle.pmem_base.specs.declared.lines.Ctr.{Ctr}
 use Rattle.pmem_base.specs.declared.answers.Mark.{Mark}
 use Rattle.pmem_base.specs.declared.answers.Mark.TheVariants.{Begin, Seal}
-use Rattle.pmem_base.specs.Marks.{last_seal}
 use Rattle.pmem_base.specs.Lines.{IsLine, IsCtr}
 use Rattle.seal_ledger.proofs.MarkLemmas.{last_seal-sealed, last_seal-other, last_seal-begun}
 use Rattle.suite.specs.Formulas.{Formulas, AreInRange, cipher_of}

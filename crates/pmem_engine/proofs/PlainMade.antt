@@ -1,5 +1,5 @@
 -- A write's plain line: its own where it is a whole line, else the unsealed one with its bytes.
-use Rattle.std.proofs.Common.{ℕ, ◌≡◌, ◌<◌, ◌≤◌, ◌+◌, ◌-◌, ◌++◌, true, List, [], ◌∷◌, length, take, drop, Option, Some, None, Result, Ok, Err, refl, sym, ap, subst, ◌∙◌, arith}
+use Rattle.std.proofs.Common.{ℕ, ◌≡◌, ◌<◌, ◌≤◌, ◌+◌, ◌-◌, ◌++◌, List, [], ◌∷◌, length, take, drop, Option, Some, None, Result, Ok, Err, refl, sym, ap, subst, ◌∙◌, arith}
 use Rattle.std.specs.Prelude.{slice_range, option_map, IfSome, is_ok}
 use Rattle.std.proofs.lemmas.Bool.{true≢false}
 use Rattle.std.proofs.lemmas.List.{take_all, drop_all, length-drop, append-nil}
@@ -13,15 +13,14 @@ use Rattle.pmem_base.specs.Marks.{SealOf, last_seal}
 use Rattle.pmem_base.specs.Ranges.{IsPosted}
 use Rattle.seal_ledger.specs.Ledger.{IsMark}
 use Rattle.seal_ledger.proofs.MarkLemmas.{last_seal_has}
-use Rattle.suite.specs.Formulas.{Formulas}
 use Rattle.suite.specs.Setup.{Setup}
 use Rattle.meta_path.specs.Blocks.{IsPathCached}
 use Rattle.plain_model.specs.State.{put_write}
-use Rattle.plain_model.specs.View.{plain_line, plain_of_seal}
+use Rattle.plain_model.specs.View.{plain_of_seal}
 use Rattle.pmem_engine.specs.declared.fault.Fault.{Fault}
 use Rattle.pmem_engine.specs.declared.fault.Fault.TheVariants as Fail
 use Rattle.pmem_engine.specs.declared.reading.Unsealed.{Unsealed}
-use Rattle.pmem_engine.specs.Parts.{Parts, AreTrusted, AreSound}
+use Rattle.pmem_engine.specs.Parts.{Parts, AreTrusted}
 use Rattle.pmem_engine.specs.Outcomes.{outcome_of, HasDone}
 use Rattle.pmem_engine.specs.Calls.{IsDownAnswer, IsUnrefused}
 use Rattle.pmem_engine.specs.Inner.{HasUnsealed, IsLastCounter, AnswersUnseal}

@@ -1,38 +1,31 @@
 -- The exits of a reseal: its line isn't unsealed, its group is cut, or the line is sealed anew.
-use Rattle.std.proofs.Common.{ℕ, ◌≡◌, ◌≢◌, ◌<◌, ◌≤◌, ◌+◌, ◌*◌, ◌++◌, ◌⊎◌, inl, inr, Bool, true, false, List, [], ◌∷◌, length, get_or, IsTrue, Option, Some, None, Ok, Err, refl, sym, ap, ap₂, subst, subst₂, ◌∙◌, arith}
-use Rattle.std.specs.Prelude.{◌==◌, not, option_map, unwrap_or, slice_get, IfSome, IsSome}
+use Rattle.std.proofs.Common.{ℕ, ◌≡◌, ◌<◌, ◌≤◌, ◌+◌, ◌++◌, inl, inr, true, false, [], ◌∷◌, length, get_or, Some, Ok, Err, refl, sym, ap, ap₂, subst, subst₂, ◌∙◌, arith}
+use Rattle.std.specs.Prelude.{◌==◌, not, option_map, IfSome}
 use Rattle.std.proofs.lemmas.Bool.{true≢false, eq-eqb, and_from}
 use Rattle.std.proofs.lemmas.Option.{same_Some, get_or_from_slice_get}
 use Rattle.std.proofs.lemmas.List.{append-nil}
-use Rattle.pmem_base.specs.declared.lines.Line.{Line}
-use Rattle.pmem_base.specs.declared.lines.Ctr.{Ctr}
 use Rattle.pmem_base.specs.declared.registers.Progress.{Progress}
-use Rattle.pmem_base.specs.declared.registers.Regs.{Regs}
 use Rattle.pmem_base.specs.declared.answers.Mark.{Mark}
 use Rattle.pmem_base.specs.declared.answers.Mark.TheVariants.{Seal}
 use Rattle.pmem_base.specs.Counts.{last_count, risen}
 use Rattle.pmem_base.specs.Shape.{Shape}
 use Rattle.pmem_base.specs.Layout as layout
 use Rattle.pmem_base.specs.Layout.{page_of, index_in_page}
-use Rattle.pmem_base.specs.Lines.{IsLine, IsCtr, line_at}
-use Rattle.pmem_base.specs.Marks.{last_seal}
-use Rattle.pmem_base.specs.Registers.{IsProgress, is_done, not_done, old_major, empty_progress}
-use Rattle.suite.specs.Formulas.{Formulas, AreInRange, cipher_of}
+use Rattle.pmem_base.specs.Lines.{IsLine, line_at}
+use Rattle.pmem_base.specs.Registers.{IsProgress, is_done, not_done, empty_progress}
+use Rattle.suite.specs.Formulas.{AreInRange}
 use Rattle.suite.specs.Setup.{Setup}
 use Rattle.split_counters.specs.Blocks.{unpacked, block_counter}
-use Rattle.board.specs.Counts.{RisesBy}
 use Rattle.board.specs.Device.{Device, IsDevice}
-use Rattle.board.specs.Steps.{Tells, WasCut}
 use Rattle.commit_regs.specs.Groups.{redone_told}
-use Rattle.page_reencrypt.specs.Registers.{register_held, is_holding, counter_under, registers_with_done}
+use Rattle.page_reencrypt.specs.Registers.{register_held, counter_under}
 use Rattle.page_reencrypt.proofs.DoneBits.{not_done-not_done}
 use Rattle.page_reencrypt.proofs.Holding.{old_major-unpacked}
 use Rattle.page_reencrypt.proofs.AtPlace.{register_held-at}
 use Rattle.seal_ledger.specs.Ledger.{LedgerState, IsSealValue}
-use Rattle.line_seal.specs.Seals.{with_tag}
 use Rattle.plain_model.specs.State.{Memory}
 use Rattle.plain_model.specs.View.{view_of, counter_at, plain_line}
-use Rattle.plain_model.specs.Asked.{Moment, reseal_mark, next_major, seal_mark}
+use Rattle.plain_model.specs.Asked.{reseal_mark, next_major, seal_mark}
 use Rattle.plain_model.proofs.Views.{counter_at-last}
 use Rattle.pmem_engine.specs.declared.fault.Fault.{Fault}
 use Rattle.pmem_engine.specs.declared.fault.Fault.TheVariants as Fail
@@ -41,14 +34,13 @@ use Rattle.pmem_engine.specs.declared.resealing.HeldLine.{HeldLine}
 use Rattle.pmem_engine.specs.declared.resealing.NextSeal.{NextSeal}
 use Rattle.pmem_engine.specs.Engine.{EngineState}
 use Rattle.pmem_engine.specs.Truth.{true_block}
-use Rattle.pmem_engine.specs.Invariants.{stored_meta, IsAnchored, IsSealStored}
+use Rattle.pmem_engine.specs.Invariants.{stored_meta, IsSealStored}
 use Rattle.pmem_engine.specs.Parts.{Parts, parts_of, regs_of, lines_redone, AreTrusted, AreSound, HoldsSeal, meta_line_in}
-use Rattle.pmem_engine.specs.Outcomes.{Outcome, going, cut, shown, is_going, outcome_of, outcome_of_fault, is_sealed_by, NeverFalls, HasDone, TakesSteps, TakesFewer}
+use Rattle.pmem_engine.specs.Outcomes.{going, cut, is_going, is_sealed_by, NeverFalls, TakesSteps, TakesFewer}
 use Rattle.pmem_engine.specs.Calls.{IsUsable, IsMemory, IsDownAnswer, IsUnrefused, moment_in}
 use Rattle.pmem_engine.specs.Inner.{HasUnsealed, IsLastCounter}
-use Rattle.pmem_engine.specs.Committing.{next_seal_of, entries_of, HasLineDone, HasCommitted, IsCutArmed}
-use Rattle.pmem_engine.specs.Still.{HasOnlyCut}
-use Rattle.pmem_engine.specs.Resealing.{IsNextHeld, HasLineSealed, HasResealCommitted, IsCutUnarmed, IsResealCutArmed, IsResealCut, register_in, line_of_page, HasResealMarks, AnswersReseal, CountsReseal, HasSealedHeld, HasResealed}
+use Rattle.pmem_engine.specs.Committing.{next_seal_of, entries_of, HasLineDone}
+use Rattle.pmem_engine.specs.Resealing.{IsNextHeld, HasLineSealed, HasResealCommitted, IsCutUnarmed, IsResealCutArmed, IsResealCut, line_of_page, HasResealMarks, AnswersReseal, CountsReseal, HasResealed}
 use Rattle.pmem_engine.proofs.StillLaws.{done_cut}
 use Rattle.pmem_engine.proofs.Chained.{done_chained}
 use Rattle.pmem_engine.proofs.PlainLines.{plain_line-resealed}

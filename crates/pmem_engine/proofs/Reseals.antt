@@ -1,8 +1,7 @@
 -- A held line sealed anew: its group armed, and finished or cut.
-use Rattle.std.proofs.Common.{ℕ, ◌≡◌, ◌≢◌, ◌<◌, ◌≤◌, ◌+◌, ◌++◌, ◌⊎◌, inl, inr, Bool, true, false, List, [], ◌∷◌, length, IsTrue, Option, Some, None, refl, sym, ap, ap₂, subst, subst₂, ◌∙◌, arith}
-use Rattle.std.specs.Prelude.{◌==◌, ◌||◌, AllPairs, All, option_map}
+use Rattle.std.proofs.Common.{ℕ, ◌≡◌, ◌≢◌, ◌<◌, ◌+◌, ◌++◌, inl, inr, true, false, List, [], ◌∷◌, length, IsTrue, Option, Some, None, refl, sym, ap, subst, ◌∙◌, arith}
+use Rattle.std.specs.Prelude.{◌||◌, AllPairs, All, option_map}
 use Rattle.std.proofs.lemmas.Bool.{true≢false, false≢true, cases_eq, eq-eqb, ne_eqb}
-use Rattle.std.proofs.lemmas.Option.{same_Some}
 use Rattle.pmem_base.specs.declared.lines.Line.{Line}
 use Rattle.pmem_base.specs.declared.lines.Ctr.{Ctr}
 use Rattle.pmem_base.specs.Marks.{SealOf}
@@ -10,28 +9,27 @@ use Rattle.pmem_base.specs.declared.registers.Progress.{Progress}
 use Rattle.pmem_base.specs.declared.registers.Regs.{Regs}
 use Rattle.pmem_base.specs.declared.answers.Mark.{Mark}
 use Rattle.pmem_base.specs.declared.answers.Mark.TheVariants.{Seal}
-use Rattle.pmem_base.specs.Shape.{Shape, is_loss}
+use Rattle.pmem_base.specs.Shape.{is_loss}
 use Rattle.pmem_base.specs.Layout as layout
 use Rattle.pmem_base.specs.Layout.{page_of}
-use Rattle.pmem_base.specs.Lines.{line_at}
-use Rattle.pmem_base.specs.Registers.{IsGroup, IsProgress, IsValidRegs, old_major}
+use Rattle.pmem_base.specs.Registers.{IsGroup, IsProgress, old_major}
 use Rattle.board.specs.Device.{Device, IsDevice, AreLinesOf}
 use Rattle.board.specs.Steps.{Tells}
 use Rattle.line_seal.specs.Seals.{with_tag}
 use Rattle.commit_regs.specs.Groups.{redone, redone_told}
-use Rattle.page_reencrypt.specs.Registers.{register_held, registers_with_done}
+use Rattle.page_reencrypt.specs.Registers.{register_held}
 use Rattle.page_reencrypt.proofs.Holding.{registers_with_done-IsProgress, registers_with_done-distinct}
 use Rattle.seal_ledger.specs.Ledger.{LedgerState}
 use Rattle.suite.specs.Setup.{Setup}
 use Rattle.pmem_engine.specs.declared.resealing.NextSeal.{NextSeal}
 use Rattle.pmem_engine.specs.Engine.{EngineState}
-use Rattle.pmem_engine.specs.Invariants.{stored_meta, IsAnchored, IsSound, IsDurable, IsSealStored, IsCounterStored}
+use Rattle.pmem_engine.specs.Invariants.{stored_meta, IsAnchored, IsSealStored, IsCounterStored}
 use Rattle.pmem_engine.specs.Sealed.{made_seal, sealed_counter, IsResealed}
-use Rattle.pmem_engine.specs.Steps.{IsArmed, IsEmptied, IsPlaceKept, sealing_group, sealed_lines}
-use Rattle.pmem_engine.specs.Parts.{Parts, parts_of, regs_of, lines_redone, AreTrusted, AreSound, AreDurable, HoldsCounters}
-use Rattle.pmem_engine.specs.Outcomes.{going, cut, is_sealed_by, NeverFalls, KeepsPlaces, KeepsMeta, HasDone}
+use Rattle.pmem_engine.specs.Steps.{IsArmed, IsEmptied, sealing_group, sealed_lines}
+use Rattle.pmem_engine.specs.Parts.{Parts, parts_of, lines_redone}
+use Rattle.pmem_engine.specs.Outcomes.{going, cut, is_sealed_by, NeverFalls, HasDone}
 use Rattle.pmem_engine.specs.Committing.{entries_of, HasCommitted, IsCutArmed}
-use Rattle.pmem_engine.specs.Resealing.{HasLineSealed, HasResealCommitted, IsResealCutArmed}
+use Rattle.pmem_engine.specs.Resealing.{HasLineSealed}
 use Rattle.pmem_engine.proofs.Latches.{IsGroup-nil}
 use Rattle.pmem_engine.proofs.Writes.{anchored-resealed, held-next_major}
 use Rattle.pmem_engine.proofs.ArmLaws.{IsDurable-armed_turn}

@@ -1,5 +1,5 @@
 -- What a part of a call leaves that only read, or was cut before anything was changed.
-use Rattle.std.proofs.Common.{ℕ, ◌≡◌, ◌≢◌, ◌<◌, ◌≤◌, ◌+◌, ◌++◌, ◌⊎◌, inl, inr, Bool, true, false, List, [], length, IsTrue, Option, Some, None, refl, sym, ap, ap₂, subst, subst₂, ◌∙◌, arith}
+use Rattle.std.proofs.Common.{ℕ, ◌≡◌, ◌≤◌, ◌+◌, ◌⊎◌, inl, inr, true, List, [], length, Option, Some, None, refl, sym, ap, ap₂, subst, subst₂, ◌∙◌, arith}
 use Rattle.std.specs.Prelude.{MatchOption, IfSome, is_some, option_map}
 use Rattle.pmem_base.specs.Lines.{line_at, tag_slot}
 use Rattle.pmem_base.specs.Registers.{IsValidRegs}
@@ -9,16 +9,11 @@ use Rattle.meta_cache.specs.Banks.{is_cached_dirty}
 use Rattle.std.proofs.lemmas.Bool.{true≢false}
 use Rattle.std.proofs.lemmas.List.{append-nil}
 use Rattle.pmem_base.specs.declared.lines.Line.{Line}
-use Rattle.pmem_base.specs.declared.registers.Regs.{Regs}
-use Rattle.pmem_base.specs.declared.answers.Mark.{Mark}
 use Rattle.pmem_base.specs.Layout as layout
-use Rattle.board.specs.Device.{Device}
-use Rattle.seal_ledger.specs.Ledger.{LedgerState}
 use Rattle.suite.specs.Setup.{Setup}
-use Rattle.pmem_engine.specs.Engine.{EngineState}
 use Rattle.pmem_engine.specs.Invariants.{IsTrusted, IsSound, IsDurable, IsSealStored, IsCounterStored, stored_meta}
-use Rattle.pmem_engine.specs.Parts.{Parts, AreTrusted, AreSound, AreDurable, HoldsSeal, HoldsCounters, HoldsMeta, data_line_in, tag_slot_in, meta_line_in, lines_redone}
-use Rattle.pmem_engine.specs.Outcomes.{Outcome, going, cut, KeepsPlaces, KeepsMeta, HasGone, HasDone}
+use Rattle.pmem_engine.specs.Parts.{Parts, AreTrusted, AreSound, AreDurable, HoldsSeal, HoldsCounters, HoldsMeta, lines_redone}
+use Rattle.pmem_engine.specs.Outcomes.{going, cut, KeepsPlaces, KeepsMeta, HasDone}
 use Rattle.pmem_engine.specs.Still.{HasOnlyRead, HasOnlyCut}
 
 -- the same engine, registers, lines and ledger

@@ -1,14 +1,11 @@
 -- Lines that a board may not tell: what holds of them where they are told.
-use Rattle.std.proofs.Common.{ℕ, ◌≡◌, Bool, true, false, List, [], Option, Some, None, refl, sym, ap, subst, ◌∙◌}
+use Rattle.std.proofs.Common.{ℕ, ◌≡◌, List, [], Option, Some, None, refl, ap, subst, ◌∙◌}
 use Rattle.std.specs.Prelude.{MatchOption, IfSome, option_map, is_some}
 use Rattle.std.proofs.lemmas.Bool.{true≢false, false≢true}
 use Rattle.std.proofs.lemmas.Option.{none-some, same_Some}
 use Rattle.pmem_base.specs.declared.lines.Line.{Line}
-use Rattle.board.specs.Device.{Device, AreLinesOf, AreToldLines}
+use Rattle.board.specs.Device.{AreLinesOf, AreToldLines}
 use Rattle.commit_regs.specs.Groups.{redone_told}
-use Rattle.suite.specs.Setup.{Setup}
-use Rattle.pmem_engine.specs.Invariants.{IsSound, IsDurable}
-use Rattle.pmem_engine.specs.Parts.{Parts, AreSound, AreDurable, lines_redone}
 
 -- where both are told or neither is, what holds of the ones gives what holds of the others
 pub told_cases : (P Q : List Line → Type 0) (old new : Option (List Line)) → is_some new ≡ is_some old

@@ -1,27 +1,24 @@
 -- The exits of a turn: the engine is down, no page is open, or the oldest page's lowest line was to be sealed anew.
-use Rattle.std.proofs.Common.{ℕ, ◌≡◌, ◌≢◌, ◌<◌, ◌+◌, ◌*◌, ◌⊎◌, inl, inr, Bool, true, false, List, [], ◌∷◌, length, map, get_or, Option, Some, None, Ok, Err, refl, sym, ap, subst, ◌∙◌, arith}
-use Rattle.std.specs.Prelude.{Result, MatchOption, IfOk, slice_get, option_map, option_and_then, not, ◌||◌, ◌↔◌, IsSome, is_some}
+use Rattle.std.proofs.Common.{ℕ, ◌≡◌, ◌<◌, ◌+◌, ◌*◌, inl, inr, Bool, true, false, List, [], ◌∷◌, length, map, get_or, Option, Some, None, Ok, Err, refl, sym, ap, subst, ◌∙◌, arith}
+use Rattle.std.specs.Prelude.{Result, MatchOption, IfOk, option_map, option_and_then, not, ◌||◌, IsSome, is_some}
 use Rattle.std.proofs.lemmas.Bool.{true≢false, false≢true}
-use Rattle.std.proofs.lemmas.Option.{none-some}
 use Rattle.pmem_base.specs.declared.lines.Line.{Line}
 use Rattle.pmem_base.specs.declared.lines.Ctr.{Ctr}
 use Rattle.pmem_base.specs.declared.registers.Progress.{Progress}
-use Rattle.pmem_base.specs.declared.answers.Mark.{Mark}
 use Rattle.pmem_base.specs.declared.answers.Place.{Place}
 use Rattle.pmem_base.specs.Registers.{not_done, empty_progress}
 use Rattle.suite.specs.Setup.{Setup}
 use Rattle.plain_model.specs.State.{Memory}
-use Rattle.plain_model.specs.View.{OpenPage}
-use Rattle.plain_model.specs.Asked.{Moment, first_of, mark_of_page_turn, mark_of_turn, reseal_mark}
+use Rattle.plain_model.specs.Asked.{first_of, mark_of_page_turn, mark_of_turn, reseal_mark}
 use Rattle.plain_model.specs.Fits.{IsTurnMark, IsLowestLeft, IsLeftAfterTurn, oldest_page}
 use Rattle.pmem_engine.specs.declared.fault.Fault.{Fault}
 use Rattle.pmem_engine.specs.declared.fault.Fault.TheVariants as Fail
 use Rattle.pmem_engine.specs.Engine.{EngineState}
 use Rattle.pmem_engine.specs.Invariants.{register_page}
-use Rattle.pmem_engine.specs.Parts.{Parts, regs_of, AreTrusted, AreSound}
-use Rattle.pmem_engine.specs.Outcomes.{going, cut, shown, outcome_of, outcome_of_fault, is_going, HasDone}
+use Rattle.pmem_engine.specs.Parts.{Parts, regs_of, AreTrusted}
+use Rattle.pmem_engine.specs.Outcomes.{going, outcome_of, is_going, HasDone}
 use Rattle.pmem_engine.specs.Faults.{IsUnsealedLine, IsTagRefused, IsForgedShown}
-use Rattle.pmem_engine.specs.Calls.{IsMemory, IsDownAnswer, IsUnrefused, IsLeftAlone, AnswersDown, moment_in, HasTurnMarks, IsForgedInTurn, AnswersTurn, CountsTurn, HasTurned}
+use Rattle.pmem_engine.specs.Calls.{IsDownAnswer, IsUnrefused, IsLeftAlone, moment_in, HasTurnMarks, AnswersTurn, CountsTurn, HasTurned}
 use Rattle.pmem_engine.specs.Resealing.{HasResealMarks, HasSealedHeld, CountsReseal, AnswersReseal, HasResealed, register_in, line_of_page}
 use Rattle.pmem_engine.proofs.StillLaws.{done_reading}
 use Rattle.pmem_engine.proofs.Unsealing.{same_never_falls}

@@ -1,6 +1,6 @@
 -- A data line and its tag line are read, and the line is unsealed or refused.
-use Rattle.std.proofs.Common.{ℕ, ◌≡◌, ◌≢◌, ◌<◌, ◌≤◌, ◌+◌, ◌⊎◌, inl, inr, Bool, true, false, List, [], Option, Some, None, Ok, Err, refl, sym, ap, ap₂, subst, subst₂, ◌∙◌, arith, min}
-use Rattle.std.specs.Prelude.{MatchOption, IfSome, IsSome, IsNone, option_map, is_some}
+use Rattle.std.proofs.Common.{ℕ, ◌≡◌, ◌≢◌, ◌<◌, ◌+◌, Bool, true, false, List, [], Option, Some, None, Ok, Err, refl, sym, ap, ap₂, subst, ◌∙◌, arith}
+use Rattle.std.specs.Prelude.{MatchOption, IfSome, IsSome, option_map, is_some}
 use Rattle.std.specs.Prelude.{length, All, ◌∷◌, ◌==◌}
 use Rattle.std.proofs.lemmas.Bool.{true≢false, cond-true, cond-false, and_parts, eqb-true}
 use Rattle.std.proofs.lemmas.List.{append-nil}
@@ -19,22 +19,21 @@ use Rattle.commit_regs.specs.Groups.{redone_told}
 use Rattle.suite.specs.Setup.{Setup}
 use Rattle.board.specs.Counts.{RisesBy}
 use Rattle.board.specs.Device.{Device}
-use Rattle.board.specs.Steps.{HasRead, WasCut, Tells}
+use Rattle.board.specs.Steps.{HasRead, Tells}
 use Rattle.seal_ledger.specs.Ledger.{LedgerState}
 use Rattle.seal_ledger.specs.Notes.{HasExhibit, first_exhibit}
 use Rattle.seal_ledger.proofs.MarkLemmas.{last_seal_has}
 use Rattle.line_seal.specs.Seals.{unsealed}
 use Rattle.plain_model.specs.View.{plain_line, plain_of_seal}
-use Rattle.pmem_engine.specs.declared.reading.Unsealed.{Unsealed}
 use Rattle.pmem_engine.specs.declared.fault.Fault.TheVariants as Fail
 use Rattle.pmem_engine.specs.Engine.{EngineState}
-use Rattle.pmem_engine.specs.Invariants.{IsAnchored, IsTrusted, IsSound, IsSealStored, IsSealTagged}
+use Rattle.pmem_engine.specs.Invariants.{IsSound, IsSealStored, IsSealTagged}
 use Rattle.pmem_engine.specs.Parts.{Parts, parts_of, AreTrusted, AreSound, HoldsSeal}
-use Rattle.pmem_engine.specs.Outcomes.{going, cut, shown, NeverFalls, HasGone, HasDone, TakesSteps}
-use Rattle.pmem_engine.specs.Faults.{IsUnsealedLine, IsTagRefused, IsForgedShown}
-use Rattle.pmem_engine.specs.Still.{HasOnlyRead, HasOnlyCut}
+use Rattle.pmem_engine.specs.Outcomes.{NeverFalls, TakesSteps}
+use Rattle.pmem_engine.specs.Faults.{IsUnsealedLine}
+use Rattle.pmem_engine.specs.Still.{HasOnlyRead}
 use Rattle.pmem_engine.specs.Inner.{HasUnsealed, IsLastCounter}
-use Rattle.pmem_engine.proofs.StillLaws.{SeesSame, places_same, metadata_same, counters_same, done_reading, done_cut}
+use Rattle.pmem_engine.proofs.StillLaws.{SeesSame, places_same, metadata_same, counters_same, done_reading}
 
 -- a count that rose by one, or stands still, doesn't fall
 pub risen_never_falls : (n : ℕ) → NeverFalls n (risen n)

@@ -1,5 +1,5 @@
 -- What each call of the engine makes of its parts: one relation a call.
-use Rattle.std.specs.Prelude.{ℕ, ◌≡◌, ◌≢◌, ◌<◌, ◌≤◌, ◌+◌, ◌%◌, ◌==◌, ◌⊎◌, ◌↔◌, Bool, true, false, not, ◌&&◌, ◌||◌, nat_lt, List, [], ◌∷◌, ◌++◌, length, unwrap_or, is_none, Option, Some, None, option_map, IfOk, IsOk, IsSome, IsTrue, Result, Ok, Err, MatchBool, ⊤, if◌then◌else◌}
+use Rattle.std.specs.Prelude.{ℕ, ◌≡◌, ◌≢◌, ◌<◌, ◌≤◌, ◌+◌, ◌%◌, ◌==◌, ◌⊎◌, ◌↔◌, Bool, true, false, not, ◌&&◌, ◌||◌, nat_lt, List, [], ◌++◌, length, unwrap_or, is_none, Option, Some, None, option_map, IfOk, IsOk, IsSome, IsTrue, Result, Ok, Err, MatchBool, ⊤, if◌then◌else◌}
 use Rattle.std.specs.List.{list_any}
 use Rattle.pmem_base.specs.declared.lines.Line.{Line}
 use Rattle.pmem_base.specs.declared.lines.Ctr.{Ctr}
@@ -27,7 +27,7 @@ use Rattle.suite.specs.Setup.{Setup}
 use Rattle.suite.specs.Formulas.{Formulas}
 use Rattle.plain_model.specs.State.{Memory, memory_with}
 use Rattle.plain_model.specs.View.{view_of, plain_line}
-use Rattle.plain_model.specs.Asked.{Moment, marks_of_write, mark_of_turn}
+use Rattle.plain_model.specs.Asked.{Moment, marks_of_write}
 use Rattle.plain_model.specs.Bounds.{path_length, writing_bound}
 use Rattle.plain_model.specs.Fits.{IsResealOf, IsLeftAfterTurn, IsLowestLeft, IsTurnMark, oldest_page}
 use Rattle.pmem_engine.specs.declared.fault.Fault.{Fault}

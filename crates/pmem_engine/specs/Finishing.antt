@@ -1,9 +1,8 @@
 -- A page half finished: the first lines not done of its register were sealed anew.
 use Rattle.std.specs.Prelude.{ℕ, ◌≡◌, ◌<◌, ◌≤◌, ◌+◌, ◌*◌, List, [], ◌∷◌, ◌++◌, length, map, None, IsTrue}
-use Rattle.pmem_base.specs.declared.registers.Progress.{Progress}
 use Rattle.pmem_base.specs.declared.answers.Mark.{Mark}
 use Rattle.pmem_base.specs.Layout as layout
-use Rattle.pmem_base.specs.Registers.{not_done, empty_progress}
+use Rattle.pmem_base.specs.Registers.{not_done}
 use Rattle.page_reencrypt.specs.Registers.{register_of}
 use Rattle.suite.specs.Setup.{Setup}
 use Rattle.plain_model.specs.State.{Memory}

@@ -1,5 +1,5 @@
 -- What the parts of the engine's calls do: a path is fetched, a line is unsealed, a path is named.
-use Rattle.std.specs.Prelude.{ℕ, ◌≡◌, ◌<◌, ◌⊎◌, true, false, not, ◌||◌, [], Some, option_map, IsOk, Result, Ok, Err, ⊤}
+use Rattle.std.specs.Prelude.{ℕ, ◌≡◌, ◌<◌, false, not, ◌||◌, [], Some, option_map, IsOk, Result, Ok, Err, ⊤}
 use Rattle.pmem_base.specs.declared.lines.Line.{Line}
 use Rattle.pmem_base.specs.declared.lines.Ctr.{Ctr}
 use Rattle.pmem_base.specs.Counts.{risen}

@@ -1,14 +1,12 @@
 -- What recovery rests on and what it leaves: parts of a device that can be mended, an emptied group, and
 -- the engine that starts anew.
-use Rattle.std.specs.Prelude.{ℕ, ◌≡◌, ◌<◌, false, List, [], replicate}
+use Rattle.std.specs.Prelude.{ℕ, ◌≡◌, ◌<◌, false, List, replicate}
 use Rattle.pmem_base.specs.declared.lines.Line.{Line}
 use Rattle.pmem_base.specs.declared.registers.Regs.{Regs}
 use Rattle.pmem_base.specs.Shape.{Shape}
 use Rattle.pmem_base.specs.Layout as layout
 use Rattle.pmem_base.specs.Lines.{line_at, zero_line}
 use Rattle.seal_ledger.specs.Ledger.{LedgerState}
-use Rattle.shadow_tables.specs.Entries.{shadow_of}
-use Rattle.meta_cache.specs.Banks.{set_of}
 use Rattle.meta_cache.specs.State.{empty_banks}
 use Rattle.suite.specs.Setup.{Setup}
 use Rattle.pmem_engine.specs.Engine.{EngineState}

@@ -9,7 +9,7 @@ use Rattle.pmem_base.specs.Layout.{page_of}
 use Rattle.pmem_base.specs.Counts.{HasRisen, last_count}
 use Rattle.pmem_base.specs.Marks.{IsFresh}
 use Rattle.pmem_base.specs.Registers.{IsValidRegs}
-use Rattle.bonsai_tree.specs.Positions.{is_on_path, level_of}
+use Rattle.bonsai_tree.specs.Positions.{is_on_path}
 use Rattle.board.specs.Device.{Device}
 use Rattle.meta_cache.specs.Banks.{is_cached_dirty}
 use Rattle.meta_path.specs.declared.faults.PathFault.{PathFault}

@@ -1,6 +1,5 @@
 -- What sealing a held line anew makes of its parts.
-use Rattle.std.specs.Prelude.{ℕ, ◌≡◌, ◌<◌, ◌≤◌, ◌+◌, ◌*◌, ◌⊎◌, Bool, true, List, [], ◌∷◌, length, slice_get, slice_index_or, Option, Some, None, IfOk, IsTrue, Result, Ok, Err, ⊤}
-use Rattle.pmem_base.specs.declared.lines.Line.{Line}
+use Rattle.std.specs.Prelude.{ℕ, ◌≡◌, ◌<◌, ◌≤◌, ◌+◌, ◌*◌, ◌⊎◌, List, [], ◌∷◌, length, slice_get, slice_index_or, Some, IfOk, IsTrue, Result, Ok, Err, ⊤}
 use Rattle.pmem_base.specs.declared.registers.Progress.{Progress}
 use Rattle.pmem_base.specs.declared.answers.Mark.{Mark}
 use Rattle.pmem_base.specs.declared.answers.Mark.TheVariants.{Seal}
@@ -12,7 +11,6 @@ use Rattle.split_counters.specs.Blocks.{unpacked, block_counter}
 use Rattle.board.specs.Counts.{RisesBy}
 use Rattle.board.specs.Device.{Device}
 use Rattle.board.specs.Steps.{WasCut}
-use Rattle.page_reencrypt.specs.Registers.{registers_with_done}
 use Rattle.seal_ledger.specs.Ledger.{LedgerState, IsSealValue}
 use Rattle.seal_ledger.specs.Notes.{HasMark}
 use Rattle.suite.specs.Formulas.{Formulas}

@@ -19,7 +19,6 @@ use Rattle.meta_path.specs.Blocks.{IsPathCached}
 use Rattle.plain_model.specs.State.{Memory, put_write}
 use Rattle.plain_model.specs.View.{plain_line}
 use Rattle.plain_model.specs.Asked.{Moment, reseal_mark, marks_of_write}
-use Rattle.plain_model.specs.Fits.{IsResealOf}
 use Rattle.pmem_engine.specs.declared.fault.Fault.{Fault}
 use Rattle.pmem_engine.specs.declared.fault.Fault.TheVariants as Fail
 use Rattle.pmem_engine.specs.Parts.{Parts, regs_of, AreTrusted, AreSound, HoldsSeal, meta_line_in}

@@ -1,12 +1,12 @@
 -- The page's register is marked, or goes; where the page has none, no line is marked.
-use Rattle.std.proofs.Common.{◌≡◌, ◌≢◌, ◌<◌, refl, sym, ap, ◌∙◌, subst, length, get_or, [], Some, None}
+use Rattle.std.proofs.Common.{◌≡◌, ◌<◌, refl, sym, ap, ◌∙◌, subst, length, get_or, []}
 use Rattle.std.specs.Prelude.{slice_set, slice_get}
 use Rattle.std.specs.List.{refill}
-use Rattle.std.proofs.lemmas.List.{length-set, get_or_default}
+use Rattle.std.proofs.lemmas.List.{length-set}
 use Rattle.pmem_base.specs.declared.registers.Progress.{Progress}
 use Rattle.page_reencrypt.specs.Marked.{marked}
 use Rattle.pmem_base.specs.Layout.{page_of, index_in_page}
-use Rattle.page_reencrypt.specs.Registers.{registers_with_done, register_of}
+use Rattle.page_reencrypt.specs.Registers.{register_of}
 use Rattle.meta_cache.proofs.ListLemmas.{refill_same}
 use Rattle.page_reencrypt.proofs.AtPlace.{registers_with_done-marked, registers_with_done-removed, registers_with_done-closed}
 use Rattle.pmem_engine.proofs.resealing.done_in.Goals as goal

@@ -1,9 +1,9 @@
 -- The lowest place not done, and the counters there.
-use Rattle.std.proofs.Common.{ℕ, ◌≡◌, ◌<◌, ◌+◌, ◌*◌, sym, ap, subst, ◌∙◌, arith, length, get_or, Some}
+use Rattle.std.proofs.Common.{ℕ, ◌≡◌, ◌+◌, ◌*◌, sym, ap, ◌∙◌, arith, get_or, Some}
 use Rattle.std.specs.Prelude.{slice_get, unwrap_or}
 use Rattle.std.proofs.lemmas.Option.{slice_get-get_or}
 use Rattle.pmem_base.specs.Registers.{not_done, old_major}
-use Rattle.split_counters.specs.Blocks.{unpacked, block_counter}
+use Rattle.split_counters.specs.Blocks.{block_counter}
 use Rattle.page_reencrypt.proofs.Holding.{old_major-unpacked}
 use Rattle.page_reencrypt.proofs.DoneBits.{not_done-small}
 use Rattle.pmem_engine.proofs.resealing.held_line.Goals as goal

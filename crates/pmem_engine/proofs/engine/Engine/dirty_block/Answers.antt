@@ -1,5 +1,5 @@
 -- Where no position of the bank is dirty, no slot is.
-use Rattle.std.proofs.Common.{◌≡◌, ℕ, false, sym, subst, subst₂}
+use Rattle.std.proofs.Common.{◌≡◌, ℕ, false, subst, subst₂}
 use Rattle.pmem_base.specs.Shape.{Shape}
 use Rattle.pmem_base.specs.Geo.{shape_of}
 use Rattle.meta_cache.specs.Banks.{set_of, is_cached_dirty}

@@ -1,5 +1,5 @@
 -- One line more was sealed anew, or the page is finished, or not.
-use Rattle.std.proofs.Common.{ℕ, ◌≡◌, ◌<◌, ◌≤◌, Ok, Err, [], get_or, refl, sym, ap, subst, ◌∙◌, length, arith}
+use Rattle.std.proofs.Common.{◌≡◌, ◌<◌, Ok, Err, [], get_or, refl, sym, ap, subst, ◌∙◌, length, arith}
 use Rattle.std.proofs.lemmas.List.{get_or_default}
 use Rattle.pmem_base.specs.declared.registers.Progress.{Progress}
 use Rattle.pmem_base.specs.Registers.{not_done, empty_progress}
@@ -8,7 +8,6 @@ use Rattle.pmem_engine.specs.Parts.{Parts, parts_of}
 use Rattle.pmem_engine.specs.Resealing.{register_in, HasResealed}
 use Rattle.pmem_engine.specs.Writing.{HasFinishedPage}
 use Rattle.pmem_engine.proofs.Exits.{is_err_of}
-use Rattle.pmem_engine.proofs.Usable.{usable_after}
 use Rattle.pmem_engine.proofs.PageFinished.{first_none, first_more, unfinished, finished, still_usable}
 use Rattle.pmem_engine.proofs.engine.Engine.finish_page.Goals as goal
 

@@ -1,5 +1,5 @@
 -- The flush of an engine that is up, which is down afterwards where it was cut.
-use Rattle.std.proofs.Common.{◌≡◌, ◌∙◌, Option, ℕ, Result, refl, sym, ap, subst₂}
+use Rattle.std.proofs.Common.{◌∙◌, Option, ℕ, Result, sym, ap, subst₂}
 use Rattle.pmem_base.specs.Layout.{device_lines}
 use Rattle.pmem_engine.specs.declared.fault.Fault.{Fault}
 use Rattle.pmem_engine.specs.Engine.{EngineState}

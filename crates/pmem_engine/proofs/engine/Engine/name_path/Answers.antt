@@ -5,14 +5,13 @@ use Rattle.std.proofs.lemmas.Result.{err_from_is_err_and}
 use Rattle.pmem_base.specs.declared.lines.Line.{Line}
 use Rattle.pmem_base.specs.Shape.{Shape}
 use Rattle.pmem_base.specs.Geo.{shape_of}
-use Rattle.pmem_base.specs.Layout.{pages, device_lines, shadow_lines}
+use Rattle.pmem_base.specs.Layout.{pages, shadow_lines}
 use Rattle.pmem_base.specs.Lines.{IsLine}
 use Rattle.board.specs.Device.{Device}
 use Rattle.meta_cache.specs.Banks.{Banks, IsBanksOf}
 use Rattle.meta_cache.specs.State.{IsCacheOf}
 use Rattle.meta_path.specs.Blocks.{IsPathCached}
 use Rattle.meta_path.specs.Naming.{IsNamedTo, IsNamingCut, named_path}
-use Rattle.suite.specs.Setup.{Setup}
 use Rattle.pmem_engine.specs.declared.fault.Fault.{Fault}
 use Rattle.pmem_engine.specs.declared.fault.Fault.TheVariants as Fail
 use Rattle.pmem_engine.specs.Engine.{EngineState}

@@ -1,5 +1,5 @@
 -- The write is a whole line, or its line was unsealed or refused.
-use Rattle.std.proofs.Common.{◌≡◌, ◌<◌, ◌∙◌, Result, Ok, Err, refl, sym, ap, subst, arith}
+use Rattle.std.proofs.Common.{◌<◌, Result, Ok, Err, sym, subst, arith}
 use Rattle.pmem_base.specs.declared.lines.Line.{Line}
 use Rattle.suite.specs.Setup.{Setup}
 use Rattle.pmem_engine.specs.declared.fault.Fault.{Fault}

@@ -1,5 +1,5 @@
 -- The read of an engine that is up, which is down afterwards where it was cut or shown.
-use Rattle.std.proofs.Common.{◌≡◌, [], Result, refl, sym, ap, subst, subst₂}
+use Rattle.std.proofs.Common.{[], Result, sym, subst₂}
 use Rattle.pmem_base.specs.declared.lines.Line.{Line}
 use Rattle.suite.specs.Setup.{Setup}
 use Rattle.pmem_engine.specs.declared.fault.Fault.{Fault}

@@ -1,5 +1,5 @@
 -- The number is changed by an engine that is up, which is down afterwards where it was cut.
-use Rattle.std.proofs.Common.{◌≡◌, ◌≤◌, ◌∙◌, ℕ, [], Result, refl, sym, ap, subst, subst₂}
+use Rattle.std.proofs.Common.{◌≤◌, ℕ, [], Result, refl, sym, subst, subst₂}
 use Rattle.pmem_base.specs.Shape.{Shape}
 use Rattle.suite.specs.Setup.{Setup}
 use Rattle.pmem_engine.specs.declared.fault.Fault.{Fault}

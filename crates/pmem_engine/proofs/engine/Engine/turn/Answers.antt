@@ -1,9 +1,7 @@
 -- The engine is down, or no page is open, or the oldest page's lowest line was to be sealed anew.
-use Rattle.std.proofs.Common.{ℕ, ◌≡◌, ◌<◌, [], length, Ok, Err, Some, None, refl, sym, ap, subst, ◌∙◌, arith}
+use Rattle.std.proofs.Common.{◌<◌, length, Ok, Err, Some, sym, ap, subst, ◌∙◌, arith}
 use Rattle.std.proofs.lemmas.Bool.{eqb-true, eqb-false}
 use Rattle.suite.specs.Setup.{Setup}
-use Rattle.board.specs.Device.{Device}
-use Rattle.pmem_engine.specs.declared.fault.Fault.TheVariants as Fail
 use Rattle.pmem_engine.specs.Parts.{Parts, parts_of}
 use Rattle.pmem_engine.specs.Calls.{HasTurned}
 use Rattle.pmem_engine.proofs.Exits.{is_err_of}

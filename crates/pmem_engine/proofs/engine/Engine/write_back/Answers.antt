@@ -5,7 +5,6 @@ use Rattle.pmem_base.specs.Shape.{Shape}
 use Rattle.pmem_base.specs.Geo.{shape_of}
 use Rattle.board.specs.Device.{Device}
 use Rattle.meta_cache.specs.State.{CacheState, IsCacheOf, oldest_dirty}
-use Rattle.meta_path.specs.Blocks.{AreInTheirBanks}
 use Rattle.meta_path.specs.Storing.{IsOneWrittenBack}
 use Rattle.pmem_engine.specs.declared.fault.Fault.{Fault}
 use Rattle.pmem_engine.specs.declared.fault.Fault.TheVariants as Fail

@@ -1,16 +1,14 @@
 -- A dirty counter block is cached on the tree; its line is written, and then its mark cleared.
-use Rattle.std.proofs.Common.{◌≡◌, ◌<◌, ◌≤◌, ◌+◌, ◌∙◌, ℕ, true, false, refl, sym, ap, ap₂, subst, subst₂, arith}
-use Rattle.std.specs.Prelude.{IsTrue}
+use Rattle.std.proofs.Common.{◌≡◌, ◌+◌, ◌∙◌, ℕ, true, false, refl, sym, ap, subst, subst₂, arith}
 use Rattle.pmem_base.specs.Shape.{Shape}
 use Rattle.pmem_base.specs.Geo.{shape_of}
-use Rattle.pmem_base.specs.Layout.{meta_line, meta_lines}
+use Rattle.pmem_base.specs.Layout.{meta_line}
 use Rattle.board.specs.Device.{Device}
 use Rattle.board.specs.Steps.{HasWritten}
 use Rattle.meta_cache.specs.Banks.{set_of, set_index, is_cached, is_cached_dirty}
 use Rattle.meta_cache.specs.Sets.{with_mark, IsSetOf}
-use Rattle.meta_cache.specs.State.{CacheState, IsCacheOf, ChangesSet, slots_of}
-use Rattle.meta_path.specs.Blocks.{line_in, slots_at, dirty_in_bank, AreInTheirBanks}
-use Rattle.meta_path.specs.Storing.{IsCleaned}
+use Rattle.meta_cache.specs.State.{IsCacheOf, ChangesSet, slots_of}
+use Rattle.meta_path.specs.Blocks.{line_in, slots_at, dirty_in_bank}
 use Rattle.meta_path.proofs.PathFacts.{AreSets}
 use Rattle.meta_path.proofs.WriteLemmas.{dirty_is_cached, dirty_on_tree, IsMarkedSet-with_mark, AreInTheirBanks-marked}
 use Rattle.pmem_engine.specs.Engine.{EngineState}

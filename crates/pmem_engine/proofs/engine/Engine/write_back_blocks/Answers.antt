@@ -1,8 +1,7 @@
 -- One block more was written back.
-use Rattle.std.proofs.Common.{◌≡◌, ◌≤◌, ◌∙◌, refl, sym, ap, subst}
+use Rattle.std.proofs.Common.{◌≤◌, subst}
 use Rattle.pmem_base.specs.Shape.{Shape}
 use Rattle.pmem_base.specs.Geo.{shape_of}
-use Rattle.pmem_base.specs.Layout.{device_lines}
 use Rattle.meta_cache.specs.Banks.{set_of}
 use Rattle.meta_cache.specs.Sets.{IsSetOf}
 use Rattle.meta_path.specs.Blocks.{dirty_in_bank}

@@ -1,15 +1,13 @@
 -- Each part's premises follow from the parts before it, and each exit has its law.
-use Rattle.std.proofs.Common.{ℕ, ◌≡◌, ◌<◌, ◌≤◌, ◌+◌, ◌-◌, ◌/◌, ◌^◌, true, false, [], length, Result, Ok, Err, refl, sym, ap, subst, subst₂, ◌∙◌, arith}
-use Rattle.pmem_base.specs.declared.lines.Ctr.{Ctr}
-use Rattle.pmem_base.specs.Layout.{page_of, index_in_page, data_lines, device_lines, pages}
+use Rattle.std.proofs.Common.{◌≡◌, ◌<◌, ◌-◌, ◌/◌, ◌^◌, [], length, Ok, Err, refl, sym, ap, subst, subst₂, ◌∙◌, arith}
+use Rattle.pmem_base.specs.Layout.{page_of, index_in_page, data_lines, pages}
 use Rattle.split_counters.specs.Blocks.{unpacked, next_block}
 use Rattle.bonsai_tree.specs.Positions.{counter_position}
 use Rattle.page_reencrypt.specs.Registers.{register_of}
 use Rattle.meta_path.specs.Blocks.{line_in, IsPathCached}
 use Rattle.suite.specs.Setup.{Setup}
-use Rattle.pmem_engine.specs.declared.fault.Fault.{Fault}
 use Rattle.pmem_engine.specs.Engine.{EngineState}
-use Rattle.pmem_engine.specs.Parts.{Parts, parts_of, regs_of}
+use Rattle.pmem_engine.specs.Parts.{Parts, parts_of}
 use Rattle.pmem_engine.specs.Calls.{IsPathNamedInMirror}
 use Rattle.pmem_engine.specs.Inner.{HasFetched, HasNamedPath}
 use Rattle.pmem_engine.specs.Sealing.{cached_block, HasSealedNext}
