@@ -84,7 +84,7 @@ impl Chip {
     }
 }
 
-/// A write of 64 equal bytes.
+/// A line of 64 equal bytes.
 const FULL: Line = Line([0x99; 64]);
 
 fn ctr(major: u64, minor: u8) -> Result<Ctr, Fault> {
