@@ -1,0 +1,5 @@
+pub mod World
+pub mod During
+pub mod Flagged
+pub mod Stamps
+pub mod Stepped

@@ -1,0 +1,260 @@
+//! Calls of the engine and of recovery, over a board whose fuse and snapshot are watched.
+ghost use Rattle.std.specs.Prelude.{◌≡◌, ◌<◌, ◌≤◌, ℕ, true, length, IsTrue};
+ghost use Rattle.pmem_base.specs.Geo.{shape_of};
+ghost use Rattle.pmem_base.specs.Shape.{is_loss};
+ghost use Rattle.pmem_base.specs.Layout.{data_lines, device_lines};
+ghost use Rattle.pmem_base.specs.Registers.{IsValidRegs};
+ghost use Rattle.board.specs.MemBoard.{memory_of};
+ghost use Rattle.suite.specs.Setup.{Setup};
+ghost use Rattle.seal_ledger.specs.Ledger.{LedgerState, IsOfShape};
+ghost use Rattle.seal_ledger.specs.View.{ledger_of};
+ghost use Rattle.pmem_engine.specs.Parts.{parts_of};
+ghost use Rattle.pmem_engine.specs.Calls.{IsReady, IsUsable, HasReadLine, HasTurned, HasFlushed, HasSetLoss};
+ghost use Rattle.pmem_recovery.specs.Parts.{suite_state};
+ghost use Rattle.pmem_recovery.specs.Recovered.{HasRecovered};
+ghost use Rattle.pmem_replay.specs.During.{IsWatched, device_during, none_taken};
+
+use crate::taken::Taken;
+use crate::watched::{Left, Start, Watched};
+use board::MemBoard;
+use pmem_base::{Geo, Line};
+use pmem_engine::{Engine, Fault};
+use pmem_recovery::{RecFault, Work};
+use seal_ledger::Ledger;
+use std::alloc::Global;
+use std::marker::Brand;
+use suite::Suite;
+
+/// A call's answer, and the steps that it took.
+#[derive(Drop)]
+pub(crate) struct Done<T> {
+    pub(crate) taken: Taken,
+    pub(crate) answer: T,
+}
+
+/// Reads data line `at`.
+pub(crate) fn read<S: Suite>(
+    engine: &mut Engine,
+    board: &mut MemBoard,
+    suite: &mut S,
+    ledger: &mut Ledger,
+    at: u32,
+) -> Done<Result<Line, Fault>>
+    requires line { at < data_lines engine.old.shape }
+    requires on { (memory_of board.old).powered ≡ true }
+    requires usable { IsUsable engine.old.shape engine.old (device_during (memory_of board.old) none_taken) (ledger_of ledger.old) }
+    ensures read { HasReadLine (record { shape = engine.old.shape; formulas = S.formulas_of (S.keys suite.old) }) at
+        (parts_of engine.old (device_during (memory_of board.old) none_taken) (ledger_of ledger.old) (S.tags suite.old) (S.digests suite.old))
+        (parts_of engine.new (device_during (memory_of board.new) result.taken) (ledger_of ledger.new) (S.tags suite.new) (S.digests suite.new)) result.answer }
+    ensures watched { IsWatched (memory_of board.old) (memory_of board.new) result.taken }
+    ensures keys { S.keys suite.new ≡ S.keys suite.old }
+{
+    let left = read_watched::<Brand, S>(engine, board, suite, ledger, at);
+    let Left {
+        board: _,
+        taken,
+        answer,
+    } = left;
+    Done { taken, answer }
+}
+
+fn read_watched<'a, K: Start, S: Suite>(
+    engine: &mut Engine,
+    board: &'a mut MemBoard,
+    suite: &mut S,
+    ledger: &mut Ledger,
+    at: u32,
+) -> Left<'a, Result<Line, Fault>>
+    requires line { at < data_lines engine.old.shape }
+    requires start { memory_of board.old ≡ K.start }
+    requires name { board.ghost_name ≡ K.name }
+    requires on { (memory_of board.old).powered ≡ true }
+    requires usable { IsUsable engine.old.shape engine.old (device_during (memory_of board.old) none_taken) (ledger_of ledger.old) }
+    ensures name { result.board.ghost_name ≡ K.name }
+    ensures read { HasReadLine (record { shape = engine.old.shape; formulas = S.formulas_of (S.keys suite.old) }) at
+        (parts_of engine.old (device_during (memory_of board.old) none_taken) (ledger_of ledger.old) (S.tags suite.old) (S.digests suite.old))
+        (parts_of engine.new (device_during (memory_of result.board.now) result.taken) (ledger_of ledger.new) (S.tags suite.new) (S.digests suite.new)) result.answer }
+    ensures watched { IsWatched K.start (memory_of result.board.now) result.taken }
+    ensures keys { S.keys suite.new ≡ S.keys suite.old }
+{
+    let mut watched = Watched::<K>::new(board);
+    let answer = engine.read(&mut watched, suite, ledger, at);
+    watched.left(answer)
+}
+
+/// Seals the next line of the oldest page under re-encryption.
+pub(crate) fn turn<S: Suite>(
+    engine: &mut Engine,
+    board: &mut MemBoard,
+    suite: &mut S,
+    ledger: &mut Ledger,
+) -> Done<Result<Option<(u32, u8)>, Fault>>
+    requires room { 1 ≤ (ledger_of ledger.old).spare }
+    requires on { (memory_of board.old).powered ≡ true }
+    requires usable { IsUsable engine.old.shape engine.old (device_during (memory_of board.old) none_taken) (ledger_of ledger.old) }
+    ensures turned { HasTurned (record { shape = engine.old.shape; formulas = S.formulas_of (S.keys suite.old) })
+        (parts_of engine.old (device_during (memory_of board.old) none_taken) (ledger_of ledger.old) (S.tags suite.old) (S.digests suite.old))
+        (parts_of engine.new (device_during (memory_of board.new) result.taken) (ledger_of ledger.new) (S.tags suite.new) (S.digests suite.new)) result.answer }
+    ensures watched { IsWatched (memory_of board.old) (memory_of board.new) result.taken }
+    ensures keys { S.keys suite.new ≡ S.keys suite.old }
+{
+    let left = turn_watched::<Brand, S>(engine, board, suite, ledger);
+    let Left {
+        board: _,
+        taken,
+        answer,
+    } = left;
+    Done { taken, answer }
+}
+
+fn turn_watched<'a, K: Start, S: Suite>(
+    engine: &mut Engine,
+    board: &'a mut MemBoard,
+    suite: &mut S,
+    ledger: &mut Ledger,
+) -> Left<'a, Result<Option<(u32, u8)>, Fault>>
+    requires room { 1 ≤ (ledger_of ledger.old).spare }
+    requires start { memory_of board.old ≡ K.start }
+    requires name { board.ghost_name ≡ K.name }
+    requires on { (memory_of board.old).powered ≡ true }
+    requires usable { IsUsable engine.old.shape engine.old (device_during (memory_of board.old) none_taken) (ledger_of ledger.old) }
+    ensures name { result.board.ghost_name ≡ K.name }
+    ensures turned { HasTurned (record { shape = engine.old.shape; formulas = S.formulas_of (S.keys suite.old) })
+        (parts_of engine.old (device_during (memory_of board.old) none_taken) (ledger_of ledger.old) (S.tags suite.old) (S.digests suite.old))
+        (parts_of engine.new (device_during (memory_of result.board.now) result.taken) (ledger_of ledger.new) (S.tags suite.new) (S.digests suite.new)) result.answer }
+    ensures watched { IsWatched K.start (memory_of result.board.now) result.taken }
+    ensures keys { S.keys suite.new ≡ S.keys suite.old }
+{
+    let mut watched = Watched::<K>::new(board);
+    let answer = engine.turn(&mut watched, suite, ledger);
+    watched.left(answer)
+}
+
+/// Writes the oldest dirty block back.
+pub(crate) fn flush(engine: &mut Engine, board: &mut MemBoard) -> Done<Result<Option<u32>, Fault>>
+    requires on { (memory_of board.old).powered ≡ true }
+    requires ready { IsReady engine.old.shape engine.old (device_during (memory_of board.old) none_taken) }
+    ensures flushed { (setup : Setup) (ledger : LedgerState) (tags digests : ℕ) → setup.shape ≡ engine.old.shape
+        → HasFlushed setup (parts_of engine.old (device_during (memory_of board.old) none_taken) ledger tags digests)
+        (parts_of engine.new (device_during (memory_of board.new) result.taken) ledger tags digests) result.answer }
+    ensures watched { IsWatched (memory_of board.old) (memory_of board.new) result.taken }
+{
+    let left = flush_watched::<Brand>(engine, board);
+    let Left {
+        board: _,
+        taken,
+        answer,
+    } = left;
+    Done { taken, answer }
+}
+
+fn flush_watched<'a, K: Start>(
+    engine: &mut Engine,
+    board: &'a mut MemBoard,
+) -> Left<'a, Result<Option<u32>, Fault>>
+    requires start { memory_of board.old ≡ K.start }
+    requires name { board.ghost_name ≡ K.name }
+    requires on { (memory_of board.old).powered ≡ true }
+    requires ready { IsReady engine.old.shape engine.old (device_during (memory_of board.old) none_taken) }
+    ensures name { result.board.ghost_name ≡ K.name }
+    ensures flushed { (setup : Setup) (ledger : LedgerState) (tags digests : ℕ) → setup.shape ≡ engine.old.shape
+        → HasFlushed setup (parts_of engine.old (device_during (memory_of board.old) none_taken) ledger tags digests)
+        (parts_of engine.new (device_during (memory_of result.board.now) result.taken) ledger tags digests) result.answer }
+    ensures watched { IsWatched K.start (memory_of result.board.now) result.taken }
+{
+    let mut watched = Watched::<K>::new(board);
+    let answer = engine.flush(&mut watched);
+    watched.left(answer)
+}
+
+/// Sets the stop-loss number.
+pub(crate) fn set_loss(engine: &mut Engine, board: &mut MemBoard, n: u8) -> Done<Result<u32, Fault>>
+    requires number { IsTrue (is_loss n) }
+    requires on { (memory_of board.old).powered ≡ true }
+    requires ready { IsReady engine.old.shape engine.old (device_during (memory_of board.old) none_taken) }
+    ensures set { (setup : Setup) (ledger : LedgerState) (tags digests : ℕ) → setup.shape ≡ engine.old.shape
+        → HasSetLoss setup n (parts_of engine.old (device_during (memory_of board.old) none_taken) ledger tags digests)
+        (parts_of engine.new (device_during (memory_of board.new) result.taken) ledger tags digests) result.answer }
+    ensures watched { IsWatched (memory_of board.old) (memory_of board.new) result.taken }
+{
+    let left = set_loss_watched::<Brand>(engine, board, n);
+    let Left {
+        board: _,
+        taken,
+        answer,
+    } = left;
+    Done { taken, answer }
+}
+
+fn set_loss_watched<'a, K: Start>(
+    engine: &mut Engine,
+    board: &'a mut MemBoard,
+    n: u8,
+) -> Left<'a, Result<u32, Fault>>
+    requires number { IsTrue (is_loss n) }
+    requires start { memory_of board.old ≡ K.start }
+    requires name { board.ghost_name ≡ K.name }
+    requires on { (memory_of board.old).powered ≡ true }
+    requires ready { IsReady engine.old.shape engine.old (device_during (memory_of board.old) none_taken) }
+    ensures name { result.board.ghost_name ≡ K.name }
+    ensures set { (setup : Setup) (ledger : LedgerState) (tags digests : ℕ) → setup.shape ≡ engine.old.shape
+        → HasSetLoss setup n (parts_of engine.old (device_during (memory_of board.old) none_taken) ledger tags digests)
+        (parts_of engine.new (device_during (memory_of result.board.now) result.taken) ledger tags digests) result.answer }
+    ensures watched { IsWatched K.start (memory_of result.board.now) result.taken }
+{
+    let mut watched = Watched::<K>::new(board);
+    let answer = engine.set_loss(&mut watched, n);
+    watched.left(answer)
+}
+
+/// Recovers the device.
+pub(crate) fn recover<S: Suite>(
+    alloc: Global,
+    geo: &Geo,
+    board: &mut MemBoard,
+    suite: &mut S,
+    ledger: &Ledger,
+) -> Done<Result<(Engine, Work), RecFault>>
+    requires size { length (memory_of board.old).lines ≡ device_lines (shape_of geo.now) }
+    requires on { (memory_of board.old).powered ≡ true }
+    requires regs { IsValidRegs (shape_of geo.now) (memory_of board.old).regs }
+    requires ledger { IsOfShape (shape_of geo.now) (ledger_of ledger.now) }
+    ensures recovered { HasRecovered (record { shape = shape_of geo.now; formulas = S.formulas_of (S.keys suite.old) }) (ledger_of ledger.now)
+        (device_during (memory_of board.old) none_taken) (device_during (memory_of board.new) result.taken)
+        (suite_state (S.keys suite.old) (S.pads suite.old) (S.tags suite.old) (S.digests suite.old))
+        (suite_state (S.keys suite.new) (S.pads suite.new) (S.tags suite.new) (S.digests suite.new)) result.answer }
+    ensures watched { IsWatched (memory_of board.old) (memory_of board.new) result.taken }
+{
+    let left = recover_watched::<Brand, S>(alloc, geo, board, suite, ledger);
+    let Left {
+        board: _,
+        taken,
+        answer,
+    } = left;
+    Done { taken, answer }
+}
+
+fn recover_watched<'a, K: Start, S: Suite>(
+    alloc: Global,
+    geo: &Geo,
+    board: &'a mut MemBoard,
+    suite: &mut S,
+    ledger: &Ledger,
+) -> Left<'a, Result<(Engine, Work), RecFault>>
+    requires size { length (memory_of board.old).lines ≡ device_lines (shape_of geo.now) }
+    requires start { memory_of board.old ≡ K.start }
+    requires name { board.ghost_name ≡ K.name }
+    requires on { (memory_of board.old).powered ≡ true }
+    requires regs { IsValidRegs (shape_of geo.now) (memory_of board.old).regs }
+    requires ledger { IsOfShape (shape_of geo.now) (ledger_of ledger.now) }
+    ensures name { result.board.ghost_name ≡ K.name }
+    ensures recovered { HasRecovered (record { shape = shape_of geo.now; formulas = S.formulas_of (S.keys suite.old) }) (ledger_of ledger.now)
+        (device_during (memory_of board.old) none_taken) (device_during (memory_of result.board.now) result.taken)
+        (suite_state (S.keys suite.old) (S.pads suite.old) (S.tags suite.old) (S.digests suite.old))
+        (suite_state (S.keys suite.new) (S.pads suite.new) (S.tags suite.new) (S.digests suite.new)) result.answer }
+    ensures watched { IsWatched K.start (memory_of result.board.now) result.taken }
+{
+    let mut watched = Watched::<K>::new(board);
+    let answer = pmem_recovery::recover(alloc, geo, &mut watched, suite, ledger);
+    watched.left(answer)
+}
