@@ -12,7 +12,7 @@ use Rattle.bonsai_tree.specs.Positions.{is_on_path}
 use Rattle.board.specs.Device.{Device}
 use Rattle.suite.specs.Setup.{Setup}
 use Rattle.pmem_engine.specs.Parts.{Parts, HoldsSeal, HoldsMeta}
-use Rattle.pmem_engine.specs.Outcomes.{Outcome, going, cut, shown, is_going, is_sealed_by, is_seal_of, is_touching, IsTouchedBy, LeavesTrusted, LeavesSound, KeepsPlaces, KeepsPlacesWhere, KeepsMeta, KeepsMetaWhere, HasPower, HasGone, HasDone, KeepsCounters, NeverFalls}
+use Rattle.pmem_engine.specs.Outcomes.{Outcome, going, cut, shown, is_going, is_sealed_by, is_seal_of, is_touching, IsTouchedBy, LeavesTrusted, LeavesSound, KeepsPlaces, KeepsMeta, KeepsMetaWhere, HasPower, HasGone, HasDone, KeepsCounters, NeverFalls}
 
 -- ---- marks of both
 
@@ -103,20 +103,14 @@ metadata_chained setup made more old mid new first second =
           ];
     }
 
-places_where : (setup : Setup) (outcome : Outcome) (made more : List Mark) (old mid new : Parts)
-    → KeepsPlaces setup made old mid → KeepsPlacesWhere setup outcome more mid new
-    → KeepsPlacesWhere setup outcome (made ++ more) old new
-places_where setup going made more old mid new first second = places_chained setup made more old mid new first second
-places_where setup cut made more old mid new first second = places_chained setup made more old mid new first second
-places_where setup shown made more old mid new first second = second
-
 metadata_where : (setup : Setup) (outcome : Outcome) (made more : List Mark) (old mid new : Parts)
     → KeepsMeta setup made old mid → KeepsMetaWhere setup outcome more mid new
     → KeepsMetaWhere setup outcome (made ++ more) old new
 metadata_where setup going made more old mid new first second =
     metadata_chained setup made more old mid new first second
 metadata_where setup cut made more old mid new first second = second
-metadata_where setup shown made more old mid new first second = second
+metadata_where setup shown made more old mid new first second =
+    metadata_chained setup made more old mid new first second
 
 power_chained : (outcome : Outcome) (old mid new : Device) → HasPower going old mid → HasPower outcome mid new
     → HasPower outcome old new
@@ -172,16 +166,14 @@ gone_chained setup outcome made more old mid new first second =
       trusted = λ was. second.trusted (first.trusted was);
       sound = λ was. second.sound (first.sound was);
       places =
-          λ was. places_where setup outcome made more old mid new (first.places was) (second.places (first.trusted was));
+          λ was. places_chained setup made more old mid new (first.places was) (second.places (first.trusted was));
       metadata =
           λ was. metadata_where setup outcome made more old mid new (first.metadata was) (second.metadata (first.trusted was));
     }
 
-counters_chained : (setup : Setup) (outcome : Outcome) (old mid new : Parts)
-    → KeepsCounters setup going old mid → KeepsCounters setup outcome mid new → KeepsCounters setup outcome old new
-counters_chained setup going old mid new first second = λ page within it. second page within (first page within it)
-counters_chained setup cut old mid new first second = λ page within it. second page within (first page within it)
-counters_chained setup shown old mid new first second = second
+counters_chained : (setup : Setup) (old mid new : Parts)
+    → KeepsCounters setup old mid → KeepsCounters setup mid new → KeepsCounters setup old new
+counters_chained setup old mid new first second = λ page within it. second page within (first page within it)
 
 -- a part that goes on, and then another
 pub done_chained : (setup : Setup) (outcome : Outcome) (made more : List Mark) (old mid new : Parts)
@@ -192,5 +184,5 @@ done_chained setup outcome made more old mid new first second =
       gone = gone_chained setup outcome made more old mid new first.gone second.gone;
       loss = second.loss ∙ first.loss;
       counters =
-          λ was. counters_chained setup outcome old mid new (first.counters was) (second.counters (first.gone.trusted was));
+          λ was. counters_chained setup old mid new (first.counters was) (second.counters (first.gone.trusted was));
     }

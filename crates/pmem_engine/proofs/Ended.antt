@@ -82,8 +82,20 @@ gone_ended setup shown made old new it =
       exhibit = it.exhibit;
       trusted = it.trusted;
       sound = it.sound;
-      places = it.places;
-      metadata = it.metadata;
+      places =
+          λ was.
+          record {
+            seals = (it.places was).seals;
+            data_lines = (it.places was).data_lines;
+            tag_slots = (it.places was).tag_slots;
+          };
+      metadata =
+          λ was.
+          record {
+            true_or_dirty = (it.metadata was).true_or_dirty;
+            changed = (it.metadata was).changed;
+            dirty = (it.metadata was).dirty;
+          };
     }
 
 pub done_ended : (setup : Setup) (outcome : Outcome) (made : List Mark) (old new : Parts) → HasDone setup outcome made old new
@@ -111,7 +123,7 @@ answers_down answer old new was same never =
 fetched_line_ended : (setup : Setup) (page x : ℕ) (line : Line) (old new : Parts) (outcome : Outcome)
     → IsFetchedLine setup page x line old new → IsFetchedLine setup page x line old (ended_parts new outcome)
 fetched_line_ended setup page x line old new outcome it =
-    record { on_path = it.on_path; uncached = it.uncached; read = it.read }
+    record { on_path = it.on_path; uncached = it.uncached; before = it.before; read = it.read }
 
 pub meta_refused_ended : (setup : Setup) (page x : ℕ) (old new : Parts) (outcome : Outcome)
     → IsMetaRefused setup page x old new → IsMetaRefused setup page x old (ended_parts new outcome)

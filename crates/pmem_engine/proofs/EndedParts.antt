@@ -1,10 +1,13 @@
 -- A call's last act: an engine that was cut or stopped is down.
-use Rattle.std.proofs.Common.{◌≡◌, ◌≢◌, Bool, true, false, List, refl, sym, ap, subst, ◌∙◌}
+use Rattle.std.proofs.Common.{ℕ, ◌≡◌, ◌≢◌, ◌⊎◌, inl, inr, Bool, true, false, List, refl, sym, ap, subst, ◌∙◌}
+use Rattle.std.specs.Prelude.{IfSome}
 use Rattle.pmem_base.specs.declared.answers.Mark.{Mark}
+use Rattle.meta_cache.specs.Banks.{is_cached_dirty}
 use Rattle.suite.specs.Setup.{Setup}
 use Rattle.pmem_engine.specs.Engine.{EngineState}
-use Rattle.pmem_engine.specs.Parts.{Parts}
-use Rattle.pmem_engine.specs.Outcomes.{Outcome, going, cut, shown, HasDone}
+use Rattle.pmem_engine.specs.Recached.{IsTrueOrDirty}
+use Rattle.pmem_engine.specs.Parts.{Parts, lines_redone, HoldsMeta}
+use Rattle.pmem_engine.specs.Outcomes.{Outcome, going, cut, shown, KeepsMeta, HasDone}
 
 -- engines are equal part by part
 pub engine_is : (a b : EngineState) → a.shape ≡ b.shape → a.cache ≡ b.cache → a.mirror ≡ b.mirror → a.down ≡ b.down → a ≡ b
@@ -18,13 +21,34 @@ engine_is a b shape cache mirror down =
 abbrev pub with_engine : Parts → EngineState → Parts
 with_engine parts engine = record parts { engine = engine }
 
+metadata_ended : (setup : Setup) (made : List Mark) (old new : Parts) (engine : EngineState)
+    → engine.cache ≡ new.engine.cache → KeepsMeta setup made old new
+    → KeepsMeta setup made old (with_engine new engine)
+metadata_ended setup made old new engine cache it =
+    record {
+      true_or_dirty = λ x within held. holds_ended x (it.true_or_dirty x within held);
+      changed =
+          λ x within.
+          elim (it.changed x within) [
+            | inl same ↦ inl same
+            | inr held ↦ inr (holds_ended x held)
+          ];
+      dirty =
+          λ bank x now. it.dirty bank x (subst (λ banks. is_cached_dirty setup.shape banks bank x ≡ true) cache now);
+    }
+  where
+    holds_ended : (x : ℕ) → HoldsMeta setup.shape new x → HoldsMeta setup.shape (with_engine new engine) x
+    holds_ended x held =
+        subst (λ banks. IfSome (lines_redone new) (λ lines. IsTrueOrDirty setup.shape banks lines new.ledger.truth x))
+        (sym cache) held
+
 -- what was done stays done where only the engine's being down is new
 pub done_ended : (setup : Setup) (outcome : Outcome) (made : List Mark) (old new : Parts) (engine : EngineState)
-    → engine.shape ≡ new.engine.shape → (outcome ≡ going → engine ≡ new.engine) → HasDone setup outcome made old new
+    → engine.shape ≡ new.engine.shape → engine.cache ≡ new.engine.cache → (outcome ≡ going → engine ≡ new.engine) → HasDone setup outcome made old new
     → HasDone setup outcome made old (with_engine new engine)
-done_ended setup going made old new engine shape same it =
+done_ended setup going made old new engine shape cache same it =
     subst (λ e. HasDone setup going made old (with_engine new e)) (sym (same refl)) it
-done_ended setup cut made old new engine shape same it =
+done_ended setup cut made old new engine shape cache same it =
     record {
       gone =
           record {
@@ -57,7 +81,7 @@ done_ended setup cut made old new engine shape same it =
       loss = it.loss;
       counters = it.counters;
     }
-done_ended setup shown made old new engine shape same it =
+done_ended setup shown made old new engine shape cache same it =
     record {
       gone =
           record {
@@ -78,8 +102,14 @@ done_ended setup shown made old new engine shape same it =
             exhibit = it.gone.exhibit;
             trusted = it.gone.trusted;
             sound = it.gone.sound;
-            places = λ was. tt;
-            metadata = λ was. tt;
+            places =
+                λ was.
+                record {
+                  seals = (it.gone.places was).seals;
+                  data_lines = (it.gone.places was).data_lines;
+                  tag_slots = (it.gone.places was).tag_slots;
+                };
+            metadata = λ was. metadata_ended setup made old new engine cache (it.gone.metadata was);
           };
       loss = it.loss;
       counters = it.counters;

@@ -43,7 +43,7 @@ use Rattle.pmem_engine.specs.Faults.{IsFetchedLine, IsMetaRefused, IsClashShown}
 use Rattle.pmem_engine.specs.Inner.{HasFetched}
 use Rattle.pmem_engine.proofs.Told.{unarmed, told_gives}
 use Rattle.pmem_engine.proofs.Fetched.{redone_before, redone_after, own_slot}
-use Rattle.pmem_engine.proofs.FetchEnds.{IsFetchOver, done_going, done_cut, done_shown, few_steps, dirty_steps, fewer_dirty_steps, read_is_true}
+use Rattle.pmem_engine.proofs.FetchEnds.{IsFetchOver, done_going, done_cut, done_shown, few_steps, dirty_steps, fewer_dirty_steps, read_is_true, read_was_there}
 
 -- ---- a path that is cached already
 
@@ -308,20 +308,29 @@ module _ (setup : Setup) (page : ℕ) (old new : EngineState) (ledger noted : Le
         );
       }
 
+  -- the position of the path at this level wasn't cached before
+  absent_before : (n : ℕ) → n ≤ setup.shape.levels
+      → is_cached setup.shape old.cache n (path_at setup.shape page n) ≡ false
+      → is_cached setup.shape old.cache (level_of (path_at setup.shape page n)) (path_at setup.shape page n) ≡ false
+  absent_before n within absent =
+      ap (λ bank. is_cached setup.shape old.cache bank (path_at setup.shape page n))
+      (path_at-level setup.shape page n its_page few_levels within)
+      ∙ absent
+
   -- the line read at this level was read, and wasn't cached before
-  fetched_line : (n : ℕ) (line : Line) → n ≤ setup.shape.levels
+  fetched_line : AreTrusted setup start → (n : ℕ) (line : Line) → n ≤ setup.shape.levels
       → is_cached setup.shape old.cache n (path_at setup.shape page n) ≡ false
       → Tells after.lines (layout.meta_line setup.shape (path_at setup.shape page n)) line
       → IsFetchedLine setup page (path_at setup.shape page n) line start finish
-  fetched_line n line within absent tells =
+  fetched_line trusted n line within absent tells =
       record {
         on_path =
             ap (is_on_path setup.shape page) (path_of-at setup.shape page n within)
             ∙ path_position-on_path setup.shape page n within;
-        uncached =
-            ap (λ bank. is_cached setup.shape old.cache bank (path_at setup.shape page n))
-            (path_at-level setup.shape page n its_page few_levels within)
-            ∙ absent;
+        uncached = absent_before n within absent;
+        before =
+            read_was_there setup page old new ledger noted before after tags digests tags_now digests_now its_size shape mirror
+            down same_tags over keeps trusted (path_at setup.shape page n) line (absent_before n within absent) tells;
         read = tells;
       }
 
@@ -355,7 +364,7 @@ module _ (setup : Setup) (page : ℕ) (old new : EngineState) (ledger noted : Le
             let false_digest = cause (true_tree trusted) (cached_true trusted) in
             record {
               line = false_digest.line;
-              fetched = at_line false_digest.line false_digest.tells;
+              fetched = at_line trusted false_digest.line false_digest.tells;
               other_digest = false_digest.differs;
             };
         unrefused =
@@ -365,7 +374,7 @@ module _ (setup : Setup) (page : ℕ) (old new : EngineState) (ledger noted : Le
             (ap (setup.formulas.digest_of x)
             (read_is_true setup page old new ledger noted before after tags digests tags_now digests_now its_size shape mirror down
             same_tags over keeps sound x false_digest.line false_digest.on_tree
-            (at_line false_digest.line false_digest.tells).uncached false_digest.tells));
+            (at_line (sound_trusted sound) false_digest.line false_digest.tells).uncached false_digest.tells));
         not_down = λ it. it;
         path_cached = λ ok. no_answer ok;
         mirror = mirror;
@@ -393,10 +402,11 @@ module _ (setup : Setup) (page : ℕ) (old new : EngineState) (ledger noted : Le
           told_gives (λ lines. IsSound setup old lines before.regs ledger) (AreTrusted setup start) before.lines
           (λ lines told it. it.trusted) sound
 
-      at_line : (line : Line) → Tells after.lines (layout.meta_line setup.shape x) line → IsFetchedLine setup page x line start finish
-      at_line line tells =
+      at_line : AreTrusted setup start → (line : Line) → Tells after.lines (layout.meta_line setup.shape x) line
+          → IsFetchedLine setup page x line start finish
+      at_line trusted line tells =
           subst (λ z. IsFetchedLine setup page z line start finish) (sym it.position)
-          (fetched_line it.n line it.read.on_path it.read.absent
+          (fetched_line trusted it.n line it.read.on_path it.read.absent
           (subst (λ z. Tells after.lines (layout.meta_line setup.shape z) line) it.position tells))
 
   -- the line read at level n was shown
@@ -439,8 +449,8 @@ module _ (setup : Setup) (page : ℕ) (old new : EngineState) (ledger noted : Le
       x : ℕ
       x = path_at setup.shape page it.n
 
-      read_here : IsFetchedLine setup page x it.line start finish
-      read_here = fetched_line it.n it.line it.read.on_path it.read.absent it.read.tells
+      read_here : AreTrusted setup start → IsFetchedLine setup page x it.line start finish
+      read_here trusted = fetched_line trusted it.n it.line it.read.on_path it.read.absent it.read.tells
 
       none_kept : AreTrusted setup start → ledger.exhibit ≡ None
       none_kept trusted = none_of ledger.exhibit trusted.anchored.no_exhibit
@@ -455,7 +465,7 @@ module _ (setup : Setup) (page : ℕ) (old new : EngineState) (ledger noted : Le
           record {
             x = x;
             line = it.line;
-            fetched = read_here;
+            fetched = read_here trusted;
             exhibit =
                 it.shown.exhibit ∙ ap (λ kept. first_exhibit kept (Clash x it.line (line_at ledger.truth x))) (none_kept trusted);
             same_digest =
@@ -468,4 +478,5 @@ module _ (setup : Setup) (page : ℕ) (old new : EngineState) (ledger noted : Le
       never sound =
           it.differs
           (read_is_true setup page old new ledger noted before after tags digests tags_now digests_now its_size shape mirror down
-          same_tags over keeps sound x it.line (path_at-lt setup.shape page it.n its_page it.read.on_path) read_here.uncached it.read.tells)
+          same_tags over keeps sound x it.line (path_at-lt setup.shape page it.n its_page it.read.on_path) (absent_before it.n it.read.on_path it.read.absent)
+          it.read.tells)

@@ -1,6 +1,7 @@
 -- The ends of a fetch: its path is cached, or it was cut, refused or stopped.
 use Rattle.std.proofs.Common.{ℕ, zero, suc, ◌≡◌, ◌≢◌, ◌<◌, ◌≤◌, ◌+◌, ◌*◌, ◌⊎◌, inl, inr, Bool, true, false, List, [], ◌∷◌, length, Option, Some, None, Ok, Err, IsTrue, refl, sym, ap, ap₂, subst, subst₂, ◌∙◌, arith}
 use Rattle.std.specs.Prelude.{MatchOption, IfSome, option_map, is_some, unwrap_or, ◌==◌}
+use Rattle.std.specs.List.{Contains, list_any}
 use Rattle.std.proofs.lemmas.Bool.{true≢false, cases_Bool, eq-eqb}
 use Rattle.std.proofs.lemmas.Option.{none-some, same_Some}
 use Rattle.std.proofs.lemmas.List.{append-nil}
@@ -22,22 +23,23 @@ use Rattle.board.specs.Steps.{Tells}
 use Rattle.commit_regs.specs.Groups.{redone_told}
 use Rattle.seal_ledger.specs.Ledger.{LedgerState}
 use Rattle.seal_ledger.specs.Notes.{HasExhibit, first_exhibit}
+use Rattle.meta_cache.specs.declared.slot.Slot.{Slot}
 use Rattle.meta_cache.specs.Banks.{is_cached, is_cached_dirty, set_index, set_of}
 use Rattle.meta_cache.proofs.SlotLemmas.{dirty_slot}
 use Rattle.meta_path.specs.declared.faults.PathFault.TheVariants as Path
 use Rattle.meta_path.specs.Blocks.{path_at, IsPathCached, dirty_count}
 use Rattle.meta_path.specs.Work.{HasWorked, FetchState, risen_times}
 use Rattle.meta_path.specs.Fetching.{IsFetchedTo, IsCutAt, IsRefusedAt, IsShownAt}
-use Rattle.meta_path.specs.Keeping.{KeepsBlocks, HasFalseDigest, HasClash}
+use Rattle.meta_path.specs.Keeping.{KeepsBlocks, WasWrittenBack, HasFalseDigest, HasClash}
 use Rattle.meta_path.proofs.PathFacts.{path_at-level}
 use Rattle.suite.specs.Setup.{Setup}
 use Rattle.pmem_engine.specs.Engine.{EngineState}
 use Rattle.pmem_engine.specs.Invariants.{IsAnchored, IsTrusted, IsDurable, IsSound, stored_meta}
 use Rattle.pmem_engine.specs.Parts.{Parts, parts_of, AreTrusted, AreSound, AreDurable, HoldsCounters}
-use Rattle.pmem_engine.specs.Outcomes.{Outcome, going, cut, shown, is_going, NeverFalls, HasPower, HasSmallGroup, LeavesTrusted, LeavesSound, KeepsPlacesWhere, KeepsMetaWhere, KeepsCounters, HasGone, HasDone, TakesAtMost, TakesFewer}
+use Rattle.pmem_engine.specs.Outcomes.{Outcome, going, cut, shown, is_going, NeverFalls, HasPower, HasSmallGroup, LeavesTrusted, LeavesSound, KeepsPlaces, KeepsMetaWhere, KeepsCounters, HasGone, HasDone, TakesAtMost, TakesFewer}
 use Rattle.pmem_engine.specs.Faults.{IsFetchedLine, IsMetaRefused, IsClashShown}
 use Rattle.pmem_engine.proofs.Told.{told_surely, told_gives, whole_lines}
-use Rattle.pmem_engine.proofs.Fetched.{trusted_after, sound_lines, places, counters, metadata, meta_same_or_true}
+use Rattle.pmem_engine.proofs.Fetched.{trusted_after, sound_lines, places, counters, metadata, meta_same_or_true, own_slot}
 
 -- ---- counts
 
@@ -99,7 +101,7 @@ module _ (setup : Setup) (page : ℕ) (old new : EngineState) (ledger noted : Le
       → (outcome ≢ shown → noted.exhibit ≡ ledger.exhibit)
       → (AreTrusted setup parts_old → LeavesTrusted setup outcome parts_new)
       → (AreSound setup parts_old → LeavesSound setup outcome parts_new)
-      → (AreTrusted setup parts_old → KeepsPlacesWhere setup outcome [] parts_old parts_new)
+      → (AreTrusted setup parts_old → KeepsPlaces setup [] parts_old parts_new)
       → (AreTrusted setup parts_old → KeepsMetaWhere setup outcome [] parts_old parts_new)
       → (before.regs.group.items ≡ [] → HasSmallGroup outcome parts_new)
       → HasGone setup outcome [] parts_old parts_new
@@ -178,10 +180,16 @@ module _ (setup : Setup) (page : ℕ) (old new : EngineState) (ledger noted : Le
       record {
         gone =
             gone shown (steady, live, cuts) (λ unshown. absurd (unshown refl))
-            (λ trusted. subst (λ marks. IsFresh marks) (sym over.marks) trusted.anchored.fresh) never (λ trusted. tt) (λ trusted. tt)
+            (λ trusted. subst (λ marks. IsFresh marks) (sym over.marks) trusted.anchored.fresh) never
+            (λ trusted.
+            places setup page old new ledger before after shape mirror down trusted keeps tags digests tags_now digests_now noted
+            over.marks over.truth over.regs over.told)
+            (λ trusted.
+            metadata setup page old new ledger before after shape mirror down trusted keeps tags digests tags_now digests_now noted
+            over.marks over.truth over.regs over.told)
             (λ none. tt);
         loss = ap (λ regs. regs.loss) over.regs;
-        counters = λ trusted. tt;
+        counters = λ trusted. keeps_counters trusted;
       }
 
   -- ---- steps
@@ -224,6 +232,38 @@ module _ (setup : Setup) (page : ℕ) (old new : EngineState) (ledger noted : Le
           absurd (true≢false
           (sym (list_any_at (λ s. s.position == x) (set_of old.cache (level_of x) (set_index setup.shape x)) slot.1.0 slot.0
           slot.1.1 (ap (λ s. s.position == x) slot.1.2 ∙ eq-eqb slot.0.position x slot.2)) ∙ absent))
+
+  -- it stood there before the call: what a fetch writes back was cached
+  pub read_was_there : AreTrusted setup parts_old → (x : ℕ) (line : Line)
+      → is_cached setup.shape old.cache (level_of x) x ≡ false
+      → Tells after.lines (layout.meta_line setup.shape x) line → Tells before.lines (layout.meta_line setup.shape x) line
+  read_was_there trusted x line absent tells =
+      go before.lines after.lines over.told (keeps.line_writes (layout.meta_line setup.shape x)) tells
+    where
+      never : (bank set : ℕ) (slot : Slot) → Contains (set_of old.cache bank set) slot
+          → layout.meta_line setup.shape x ≡ layout.meta_line setup.shape slot.position → ⊥
+      never bank set slot stands here =
+          let own = own_slot setup page old new ledger before after shape mirror down trusted keeps bank set slot stands in
+          let one : slot.position ≡ x = omega (arith, here) in
+          let found : list_any (λ s. s.position == x) (set_of old.cache bank set) ≡ true =
+          list_any_at (λ s. s.position == x) (set_of old.cache bank set) stands.0 slot stands.1
+          (ap (λ s. s.position == x) stands.2 ∙ eq-eqb slot.position x one) in
+          let cached : is_cached setup.shape old.cache (level_of x) x ≡ true =
+          subst₂ (λ b i. list_any (λ s. s.position == x) (set_of old.cache b i) ≡ true) (sym own.its_bank ∙ ap level_of one)
+          (sym own.its_set ∙ ap (set_index setup.shape) one) found in
+          true≢false (sym cached ∙ absent)
+
+      go : (o o' : Option (List Line)) → is_some o' ≡ is_some o
+          → (option_map (λ lines. line_at lines (layout.meta_line setup.shape x)) o'
+          ≡ option_map (λ lines. line_at lines (layout.meta_line setup.shape x)) o)
+          ⊎ WasWrittenBack setup.shape old.cache new.cache after.lines (layout.meta_line setup.shape x)
+          → Tells o' (layout.meta_line setup.shape x) line → Tells o (layout.meta_line setup.shape x) line
+      go None o' same kept it = tt
+      go (Some lines) None same kept it = absurd (true≢false (sym same))
+      go (Some lines) (Some now) same (inl kept) it =
+          it
+          ∙ same_Some (line_at now (layout.meta_line setup.shape x)) (line_at lines (layout.meta_line setup.shape x)) kept
+      go (Some lines) (Some now) same (inr back) it = absurd (never back.bank back.set back.slot back.was_cached back.place)
 
   -- of a sound device it is the true one
   pub read_is_true : AreSound setup parts_old → (x : ℕ) (line : Line) → x < layout.meta_lines setup.shape

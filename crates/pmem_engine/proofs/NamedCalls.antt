@@ -31,7 +31,7 @@ use Rattle.pmem_engine.specs.Engine.{EngineState}
 use Rattle.pmem_engine.specs.Invariants.{IsTrusted, IsSound, IsDurable, IsSealStored, IsCounterStored, stored_meta}
 use Rattle.pmem_engine.specs.Recached.{IsTrueOrDirty}
 use Rattle.pmem_engine.specs.Parts.{Parts, parts_of, AreTrusted, AreSound, AreDurable, HoldsSeal, HoldsCounters, HoldsMeta, lines_redone, meta_line_in}
-use Rattle.pmem_engine.specs.Outcomes.{Outcome, going, cut, shown, KeepsPlaces, KeepsMeta, HasGone, HasDone, HasPower, HasSmallGroup, LeavesTrusted, LeavesSound, KeepsPlacesWhere, KeepsMetaWhere, KeepsCounters, TakesAtMost, TakesFewer}
+use Rattle.pmem_engine.specs.Outcomes.{Outcome, going, cut, shown, KeepsPlaces, KeepsMeta, HasGone, HasDone, HasPower, HasSmallGroup, LeavesTrusted, LeavesSound, KeepsMetaWhere, KeepsCounters, TakesAtMost, TakesFewer}
 use Rattle.pmem_engine.specs.Calls.{IsPathNamedInMirror}
 use Rattle.pmem_engine.specs.Inner.{HasNamedPath, StandsStill}
 use Rattle.pmem_engine.proofs.Told.{told_cases, told_same, told_surely, told_redone, unarmed}
@@ -164,7 +164,7 @@ module _ (setup : Setup) (page n : ℕ) (old new : EngineState) (before after : 
   pub gone : (outcome : Outcome) → HasPower outcome before after
       → (AreTrusted setup start → LeavesTrusted setup outcome finish)
       → (AreSound setup start → LeavesSound setup outcome finish)
-      → (AreTrusted setup start → KeepsPlacesWhere setup outcome [] start finish)
+      → (AreTrusted setup start → KeepsPlaces setup [] start finish)
       → (AreTrusted setup start → KeepsMetaWhere setup outcome [] start finish)
       → (before.regs.group.items ≡ [] → HasSmallGroup outcome finish)
       → HasGone setup outcome [] start finish

@@ -56,31 +56,49 @@ sound_durable setup parts sound = told parts.device.lines sound
     told None it = it
     told (Some lines) it = it.durable
 
-redone_same : (old new : Parts) → IsSame old new → lines_redone new ≡ lines_redone old
+-- the same cached blocks, registers and lines; of the ledger the same marks and true lines
+pub record SeesSame (old new : Parts) : Type 0 where
+  pub cache : new.engine.cache ≡ old.engine.cache
+  pub marks : new.ledger.marks ≡ old.ledger.marks
+  pub truth : new.ledger.truth ≡ old.ledger.truth
+  pub lines : new.device.lines ≡ old.device.lines
+  pub regs : new.device.regs ≡ old.device.regs
+
+sees_same : (old new : Parts) → IsSame old new → SeesSame old new
+sees_same old new same =
+    record {
+      cache = ap (λ engine. engine.cache) same.engine;
+      marks = ap (λ ledger. ledger.marks) same.ledger;
+      truth = ap (λ ledger. ledger.truth) same.ledger;
+      lines = same.lines;
+      regs = same.regs;
+    }
+
+redone_same : (old new : Parts) → SeesSame old new → lines_redone new ≡ lines_redone old
 redone_same old new same = ap₂ (λ regs lines. redone_told regs.group.items lines) same.regs same.lines
 
-seal_same : (setup : Setup) (old new : Parts) → IsSame old new → (a : ℕ) → HoldsSeal setup.shape old a → HoldsSeal setup.shape new a
+seal_same : (setup : Setup) (old new : Parts) → SeesSame old new → (a : ℕ) → HoldsSeal setup.shape old a → HoldsSeal setup.shape new a
 seal_same setup old new same a it =
-    subst₂ (λ lines ledger. IfSome lines (λ lines. IsSealStored setup.shape lines ledger.marks a))
-    (sym (redone_same old new same)) (sym same.ledger) it
+    subst₂ (λ lines marks. IfSome lines (λ lines. IsSealStored setup.shape lines marks a))
+    (sym (redone_same old new same)) (sym same.marks) it
 
-counters_same : (setup : Setup) (old new : Parts) → IsSame old new → (page : ℕ) → HoldsCounters setup old page → HoldsCounters setup new page
+pub counters_same : (setup : Setup) (old new : Parts) → SeesSame old new → (page : ℕ) → HoldsCounters setup old page → HoldsCounters setup new page
 counters_same setup old new same page it =
     subst (λ lines. IfSome lines (λ lines. IsCounterStored setup lines new.device.regs.loss new.ledger.truth page))
     (sym (redone_same old new same))
-    (subst₂ (λ regs ledger. IfSome (lines_redone old) (λ lines. IsCounterStored setup lines regs.loss ledger.truth page))
-    (sym same.regs) (sym same.ledger) it)
+    (subst₂ (λ regs truth. IfSome (lines_redone old) (λ lines. IsCounterStored setup lines regs.loss truth page))
+    (sym same.regs) (sym same.truth) it)
 
-meta_same : (setup : Setup) (old new : Parts) → IsSame old new → (x : ℕ) → HoldsMeta setup.shape old x → HoldsMeta setup.shape new x
+meta_same : (setup : Setup) (old new : Parts) → SeesSame old new → (x : ℕ) → HoldsMeta setup.shape old x → HoldsMeta setup.shape new x
 meta_same setup old new same x it =
     subst (λ lines. IfSome lines (λ lines. (stored_meta setup.shape lines x ≡ line_at new.ledger.truth x)
     ⊎ (is_cached_dirty setup.shape new.engine.cache (level_of x) x ≡ true)))
     (sym (redone_same old new same))
-    (subst₂ (λ engine ledger. IfSome (lines_redone old) (λ lines. (stored_meta setup.shape lines x ≡ line_at ledger.truth x)
-    ⊎ (is_cached_dirty setup.shape engine.cache (level_of x) x ≡ true)))
-    (sym same.engine) (sym same.ledger) it)
+    (subst₂ (λ cache truth. IfSome (lines_redone old) (λ lines. (stored_meta setup.shape lines x ≡ line_at truth x)
+    ⊎ (is_cached_dirty setup.shape cache (level_of x) x ≡ true)))
+    (sym same.cache) (sym same.truth) it)
 
-places_same : (setup : Setup) (old new : Parts) → IsSame old new → KeepsPlaces setup [] old new
+pub places_same : (setup : Setup) (old new : Parts) → SeesSame old new → KeepsPlaces setup [] old new
 places_same setup old new same =
     record {
       seals =
@@ -96,14 +114,14 @@ places_same setup old new same =
           (redone_same old new same);
     }
 
-metadata_same : (setup : Setup) (old new : Parts) → IsSame old new → KeepsMeta setup [] old new
+pub metadata_same : (setup : Setup) (old new : Parts) → SeesSame old new → KeepsMeta setup [] old new
 metadata_same setup old new same =
     record {
       true_or_dirty = λ x within it. meta_same setup old new same x it;
       changed =
           λ x within. inl (ap (λ lines. option_map (λ lines. stored_meta setup.shape lines x) lines) (redone_same old new same));
       dirty =
-          λ bank x now. inl (subst (λ engine. is_cached_dirty setup.shape engine.cache bank x ≡ true) same.engine now);
+          λ bank x now. inl (subst (λ cache. is_cached_dirty setup.shape cache bank x ≡ true) same.cache now);
     }
 
 -- a part that only read
@@ -129,11 +147,11 @@ done_reading setup old new it =
             exhibit = λ unshown. ap (λ ledger. ledger.exhibit) it.ledger;
             trusted = λ was. trusted_same setup old new same was;
             sound = λ was. sound_same setup old new same was;
-            places = λ was. places_same setup old new same;
-            metadata = λ was. metadata_same setup old new same;
+            places = λ was. places_same setup old new (sees_same old new same);
+            metadata = λ was. metadata_same setup old new (sees_same old new same);
           };
       loss = ap (λ regs. regs.loss) it.regs;
-      counters = λ was page within held. counters_same setup old new same page held;
+      counters = λ was page within held. counters_same setup old new (sees_same old new same) page held;
     }
   where
     same : IsSame old new
@@ -162,11 +180,11 @@ done_cut setup old new it =
             exhibit = λ unshown. ap (λ ledger. ledger.exhibit) it.ledger;
             trusted = λ was. (trusted_same setup old new same was).anchored;
             sound = λ was. durable_same setup old new same (sound_durable setup old was);
-            places = λ was. places_same setup old new same;
+            places = λ was. places_same setup old new (sees_same old new same);
             metadata = λ was. tt;
           };
       loss = ap (λ regs. regs.loss) it.regs;
-      counters = λ was page within held. counters_same setup old new same page held;
+      counters = λ was page within held. counters_same setup old new (sees_same old new same) page held;
     }
   where
     same : IsSame old new

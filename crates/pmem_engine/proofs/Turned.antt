@@ -287,7 +287,7 @@ module _ (setup : Setup) (old mid : Parts) (answer : Result (ℕ × ℕ) Fault) 
         done =
             λ is_up.
             subst (λ outcome. HasDone setup outcome it.made old new) (sym (same_outcome answer))
-            (done_ended setup (outcome_of answer) it.made old mid engine shape same_engine it.done);
+            (done_ended setup (outcome_of answer) it.made old mid engine shape cache same_engine it.done);
         marks =
             λ is_up trusted memory was.
             turn_marks answer trusted memory (it.marks trusted memory was) it.line_sealed (it.answered trusted);

@@ -34,7 +34,7 @@ use Rattle.pmem_engine.specs.Outcomes.{going, cut, shown, NeverFalls, HasGone, H
 use Rattle.pmem_engine.specs.Faults.{IsUnsealedLine, IsTagRefused, IsForgedShown}
 use Rattle.pmem_engine.specs.Still.{HasOnlyRead, HasOnlyCut}
 use Rattle.pmem_engine.specs.Inner.{HasUnsealed, IsLastCounter}
-use Rattle.pmem_engine.proofs.StillLaws.{done_reading, done_cut}
+use Rattle.pmem_engine.proofs.StillLaws.{SeesSame, places_same, metadata_same, counters_same, done_reading, done_cut}
 
 -- a count that rose by one, or stands still, doesn't fall
 pub risen_never_falls : (n : ℕ) → NeverFalls n (risen n)
@@ -299,11 +299,11 @@ module _ (setup : Setup) (engine : EngineState) (ledger : LedgerState) (a : ℕ)
                     exhibit = λ unshown. absurd (unshown refl);
                     trusted = λ was. subst (λ marks. IsFresh marks) (sym shows.marks) was.anchored.fresh;
                     sound = λ was. never was;
-                    places = λ was. tt;
-                    metadata = λ was. tt;
+                    places = λ was. places_same setup before (after noted) seen;
+                    metadata = λ was. metadata_same setup before (after noted) seen;
                   };
               loss = ap (λ regs. regs.loss) both.regs;
-              counters = λ was. tt;
+              counters = λ was page within held. counters_same setup before (after noted) seen page held;
             };
         answered =
             λ trusted counter.
@@ -330,6 +330,10 @@ module _ (setup : Setup) (engine : EngineState) (ledger : LedgerState) (a : ℕ)
         not_down = λ it. it;
       }
     where
+      seen : SeesSame before (after noted)
+      seen =
+          record { cache = refl; marks = shows.marks; truth = shows.truth; lines = both.lines; regs = both.regs }
+
       none_kept : AreTrusted setup before → ledger.exhibit ≡ None
       none_kept trusted = none_of ledger.exhibit trusted.anchored.no_exhibit
 

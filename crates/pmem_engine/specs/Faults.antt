@@ -13,10 +13,12 @@ use Rattle.meta_cache.specs.Banks.{is_cached}
 use Rattle.suite.specs.Setup.{Setup}
 use Rattle.pmem_engine.specs.Parts.{Parts}
 
--- a position of the page's path that wasn't cached before, and the line that was read there
+-- a position of the page's path that wasn't cached before, and the line that was read there: the
+-- device holds it now and held it before the call
 pub record IsFetchedLine (setup : Setup) (page x : ℕ) (line : Line) (old new : Parts) : Type 0 where
   pub on_path : IsTrue (is_on_path setup.shape page x)
   pub uncached : is_cached setup.shape old.engine.cache (level_of x) x ≡ false
+  pub before : Tells old.device.lines (layout.meta_line setup.shape x) line
   pub read : Tells new.device.lines (layout.meta_line setup.shape x) line
 
 -- the line read at x has another digest than the true one

@@ -83,7 +83,7 @@ LeavesSound setup shown new = ⊥
 
 -- ---- place by place
 
--- what stays stored where these marks were made, after every end but an exhibit
+-- what stays stored where these marks were made, whatever the end
 pub record KeepsPlaces (setup : Setup) (made : List Mark) (old new : Parts) : Type 0 where
   -- the last seal of each data line, and each seal made
   pub seals :
@@ -98,7 +98,7 @@ pub record KeepsPlaces (setup : Setup) (made : List Mark) (old new : Parts) : Ty
       (a : ℕ) → a < layout.data_lines setup.shape → is_sealed_by made a ≡ false
       → tag_slot_in setup.shape new a ≡ tag_slot_in setup.shape old a
 
--- what the metadata lines keep where the engine goes on
+-- what the metadata lines keep, whatever the end but a cut
 pub record KeepsMeta (setup : Setup) (made : List Mark) (old new : Parts) : Type 0 where
   pub true_or_dirty :
       (x : ℕ) → x < layout.meta_lines setup.shape → HoldsMeta setup.shape old x
@@ -114,14 +114,8 @@ pub record KeepsMeta (setup : Setup) (made : List Mark) (old new : Parts) : Type
       → (is_cached_dirty setup.shape old.engine.cache bank x ≡ true) ⊎ IsTouchedBy setup.shape made x
 
 abbrev pub KeepsMetaWhere : Setup → Outcome → List Mark → Parts → Parts → Type 0
-KeepsMetaWhere setup going made old new = KeepsMeta setup made old new
 KeepsMetaWhere setup cut made old new = ⊤
-KeepsMetaWhere setup shown made old new = ⊤
-
-abbrev pub KeepsPlacesWhere : Setup → Outcome → List Mark → Parts → Parts → Type 0
-KeepsPlacesWhere setup going made old new = KeepsPlaces setup made old new
-KeepsPlacesWhere setup cut made old new = KeepsPlaces setup made old new
-KeepsPlacesWhere setup shown made old new = ⊤
+KeepsMetaWhere setup outcome made old new = KeepsMeta setup made old new
 
 -- ---- power
 
@@ -187,13 +181,12 @@ pub record HasGone (setup : Setup) (outcome : Outcome) (made : List Mark) (old n
   pub exhibit : outcome ≢ shown → new.ledger.exhibit ≡ old.ledger.exhibit
   pub trusted : AreTrusted setup old → LeavesTrusted setup outcome new
   pub sound : AreSound setup old → LeavesSound setup outcome new
-  pub places : AreTrusted setup old → KeepsPlacesWhere setup outcome made old new
+  pub places : AreTrusted setup old → KeepsPlaces setup made old new
   pub metadata : AreTrusted setup old → KeepsMetaWhere setup outcome made old new
 
--- what can be mended of each counter block stays, whatever the end but an exhibit
-abbrev pub KeepsCounters : Setup → Outcome → Parts → Parts → Type 0
-KeepsCounters setup shown old new = ⊤
-KeepsCounters setup outcome old new =
+-- what can be mended of each counter block stays, whatever the end
+abbrev pub KeepsCounters : Setup → Parts → Parts → Type 0
+KeepsCounters setup old new =
     (page : ℕ) → page < layout.pages setup.shape → HoldsCounters setup old page
     → HoldsCounters setup new page
 
@@ -201,4 +194,4 @@ KeepsCounters setup outcome old new =
 pub record HasDone (setup : Setup) (outcome : Outcome) (made : List Mark) (old new : Parts) : Type 0 where
   pub gone : HasGone setup outcome made old new
   pub loss : (regs_of new).loss ≡ (regs_of old).loss
-  pub counters : AreTrusted setup old → KeepsCounters setup outcome old new
+  pub counters : AreTrusted setup old → KeepsCounters setup old new

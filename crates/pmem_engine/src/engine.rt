@@ -4,6 +4,7 @@ ghost use Rattle.pmem_base.specs.Shape.{IsShape};
 ghost use Rattle.pmem_base.specs.Geo.{shape_of};
 ghost use Rattle.pmem_base.specs.Layout.{shadow_lines};
 ghost use Rattle.pmem_base.specs.Lines.{IsLine, zero_line};
+ghost use Rattle.meta_cache.specs.Banks.{IsBanksOf};
 ghost use Rattle.meta_cache.specs.State.{empty_banks};
 ghost use Rattle.pmem_engine.specs.Engine.{EngineState};
 
@@ -63,6 +64,14 @@ impl Engine {
             mirror,
             down: false,
         }
+    }
+
+    /// A law: the cache's slots stand in the banks, sets and ways of the engine's shape; those of a set
+    /// differ in their ways and positions, and each has a position of its set and a line.
+    pub fn has_banks(&self)
+        ensures { IsBanksOf self.now.shape self.now.cache }
+    {
+        self.cache.are_banks();
     }
 
     // A law: the numbers of the engine's shape are in their ranges.
