@@ -53,8 +53,8 @@ counter_position-within g page within =
 pub dirty_cached : (g : Shape) (cache : Banks) (bank x : ℕ) → is_cached_dirty g cache bank x ≡ true → is_cached g cache bank x ≡ true
 dirty_cached g cache bank x dirty =
     let slot = dirty_slot g cache bank x dirty in
-    list_any_at (λ (s : Slot). s.position == x) (set_of cache bank (set_index g x)) slot.1.place slot.0 slot.1.within
-    (ap (λ (s : Slot). s.position == x) slot.1.there ∙ eq-eqb slot.0.position x slot.2)
+    list_any_at (λ (s : Slot). s.position == x) (set_of cache bank (set_index g x)) slot.1.0 slot.0 slot.1.1
+    (ap (λ (s : Slot). s.position == x) slot.1.2 ∙ eq-eqb slot.0.position x slot.2)
 
 -- with no group armed the lines are as they stand
 pub lines_unarmed : (world : WorldState) → world.board.regs.group.items ≡ [] → lines_in world ≡ world.board.lines

@@ -25,7 +25,8 @@ use Rattle.pmem_replay.specs.During.{none_taken, parts_in, steps_in}
 use Rattle.pmem_replay.proofs.Called.{on_in, IsCall, cut_at_fuse, within_fuse}
 use Rattle.pmem_replay.proofs.Quiet.{exactly, cut_state, flagged_state, flags-going, quiet-cut}
 use Rattle.pmem_replay.proofs.Causes.{zero_within}
-use Rattle.pmem_replay.proofs.Goods.{IsGood, without_marks}
+use Rattle.pmem_replay.specs.Replies.{without_marks}
+use Rattle.pmem_replay.proofs.Goods.{IsGood}
 
 -- where nothing was done no step was taken
 pub left_alone-steps : (setup : Setup) (old new : WorldState) (engine after : EngineState) (taken : Taken)

@@ -1,7 +1,5 @@
 -- Replies that are legal and fit.
-use Rattle.std.proofs.Common.{[]}
 use Rattle.pmem_base.specs.declared.commands.Command.{Command}
-use Rattle.pmem_base.specs.declared.answers.Answer.{Answer}
 use Rattle.suite.specs.Setup.{Setup}
 use Rattle.plain_model.specs.State.{Reply}
 use Rattle.plain_model.specs.Shown.{IsEngineReply}
@@ -12,6 +10,3 @@ use Rattle.pmem_replay.specs.World.{WorldState, view_in}
 pub record IsGood (setup : Setup) (world : WorldState) (command : Command) (reply : Reply) : Type 0 where
   pub legal : IsEngineReply setup world.state (view_in setup world) command reply
   pub fits : Fits setup world.state (view_in setup world) command reply
-
-abbrev pub without_marks : Answer → Reply
-without_marks answer = record { marks = []; answer = answer }

@@ -33,3 +33,8 @@ pub mod TableChanges
 pub mod Served
 pub mod Sights
 pub mod ReadSteps
+pub mod FlushSteps
+pub mod LossSteps
+pub mod Reserved
+pub mod TurnSteps
+pub mod FlagLemmas

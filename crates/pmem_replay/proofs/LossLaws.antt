@@ -25,7 +25,8 @@ use Rattle.pmem_replay.proofs.Called.{on_in, IsCall, IsHealed-same, cut_at_fuse,
 use Rattle.pmem_replay.proofs.Dirty.{dirty_blocks-le, dirty_slots-le}
 use Rattle.pmem_replay.proofs.Quiet.{fewer, exactly, cut_state, accounted_in, HasQueues-none}
 use Rattle.pmem_replay.proofs.Causes.{counter_position-within}
-use Rattle.pmem_replay.proofs.Goods.{IsGood, without_marks}
+use Rattle.pmem_replay.specs.Replies.{without_marks}
+use Rattle.pmem_replay.proofs.Goods.{IsGood}
 
 -- the state with another stop-loss number, and these steps counted
 abbrev pub loss_state : PlainState → ℕ → ℕ → PlainState

@@ -37,12 +37,13 @@ use Rattle.pmem_recovery.specs.Parts.{SuiteState}
 use Rattle.pmem_recovery.specs.Recovered.{HasRecovered, HasMended}
 use Rattle.pmem_replay.specs.World.{WorldState, AreKept, IsMemoryOf, HasSteps, IsOn, IsOff, IsWorld, IsPowered, IsOtherCipher}
 use Rattle.pmem_replay.specs.declared.taken.Taken.{Taken}
-use Rattle.pmem_replay.specs.During.{none_taken, steps_in, device_during, FollowsOn}
-use Rattle.pmem_replay.proofs.Called.{AreInCount, steps-taken}
+use Rattle.pmem_replay.specs.During.{AreInCount, none_taken, steps_in, device_during, FollowsOn}
+use Rattle.pmem_replay.proofs.Called.{steps-taken}
 use Rattle.pmem_replay.proofs.AfterMarks.{length-no_flags}
 use Rattle.pmem_replay.proofs.Quiet.{HasQueues-none}
 use Rattle.pmem_replay.proofs.SameWorld.{same_world}
-use Rattle.pmem_replay.proofs.Goods.{IsGood, without_marks}
+use Rattle.pmem_replay.specs.Replies.{without_marks}
+use Rattle.pmem_replay.proofs.Goods.{IsGood}
 
 -- ---- an empty cache
 

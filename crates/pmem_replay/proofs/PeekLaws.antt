@@ -37,7 +37,8 @@ use Rattle.pmem_replay.specs.World.{WorldState, AreExact, IsOn, IsWorld, IsPower
 use Rattle.pmem_replay.proofs.SealedLines.{last_cipher}
 use Rattle.pmem_replay.proofs.Causes.{lines_unarmed, zero_within, counter_position-within}
 use Rattle.pmem_replay.proofs.AfterMarks.{is_touched_block}
-use Rattle.pmem_replay.proofs.Goods.{IsGood, without_marks}
+use Rattle.pmem_replay.specs.Replies.{without_marks}
+use Rattle.pmem_replay.proofs.Goods.{IsGood}
 
 -- ---- a line in four slots
 

@@ -36,7 +36,8 @@ use Rattle.pmem_replay.specs.declared.taken.Taken.{Taken}
 use Rattle.pmem_replay.specs.During.{none_taken, parts_in, steps_in}
 use Rattle.pmem_replay.proofs.Called.{on_in, IsCall, cut_at_fuse, within_fuse}
 use Rattle.pmem_replay.proofs.Causes.{on_path-within, may_differ, fetched_before, stored_unspoiled, stored_before, hurt_before, tag_unstored, forged_unstored, forged_other, zero_within, shown_uncut}
-use Rattle.pmem_replay.proofs.Goods.{IsGood, without_marks}
+use Rattle.pmem_replay.specs.Replies.{without_marks}
+use Rattle.pmem_replay.proofs.Goods.{IsGood}
 use Rattle.pmem_replay.proofs.Dirty.{dirty_count-le}
 use Rattle.pmem_replay.proofs.Quiet.{at_most, fewer, counted_state, cut_state, quiet-going, quiet-cut, accounted_in}
 

@@ -40,7 +40,8 @@ use Rattle.pmem_replay.proofs.Called.{on_in, IsCall}
 use Rattle.pmem_replay.proofs.Causes.{on_path-within}
 use Rattle.pmem_replay.proofs.SealedLines.{same_truth}
 use Rattle.pmem_replay.proofs.Sights.{meta_wrong, tag_wrong, small_position, small_line}
-use Rattle.pmem_replay.proofs.Goods.{IsGood, without_marks}
+use Rattle.pmem_replay.specs.Replies.{without_marks}
+use Rattle.pmem_replay.proofs.Goods.{IsGood}
 use Rattle.pmem_replay.proofs.Quiet.{counted_state, cut_state}
 use Rattle.pmem_replay.proofs.ReadLaws as laws
 use Rattle.pmem_replay.proofs.Stepping.{stepped_by_engine}
@@ -72,7 +73,7 @@ module _ (setup : Setup) (p : WorldParts) (keys : List ℕ) (board : Memory) (le
 
   undecided : decided_answer setup.shape (state_in setup p) (Do.Read port at) ≡ None
   undecided =
-      rw lit_in setup old engine served.going.whole served.was_on
+      rw (lit_in setup old engine served.going.whole served.was_on)
       (rw (lt-ltb at (layout.data_lines setup.shape) within) (rw uncovered refl))
 
   -- ---- a call that goes on

@@ -41,7 +41,8 @@ use Rattle.pmem_replay.proofs.Causes.{zero_within, counter_position-within}
 use Rattle.pmem_replay.proofs.Quiet.{counted_state}
 use Rattle.pmem_replay.proofs.OnLaws.{IsOnCall, lit, off, mended, exact, one_latch, within_lasting, left_lines, left_steps}
 use Rattle.pmem_replay.proofs.SameWorld.{same_world}
-use Rattle.pmem_replay.proofs.Goods.{IsGood, without_marks}
+use Rattle.pmem_replay.specs.Replies.{without_marks}
+use Rattle.pmem_replay.proofs.Goods.{IsGood}
 
 -- ---- a line that recovery tries
 

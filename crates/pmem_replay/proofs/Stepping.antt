@@ -17,7 +17,8 @@ use Rattle.plain_model.specs.Fits.{Fits}
 use Rattle.plain_model.specs.Shown.{IsLegal}
 use Rattle.pmem_replay.specs.World.{WorldState, IsWorld, view_in, setup_of}
 use Rattle.pmem_replay.specs.Stepped.{IsByTable, HasWorked, IsSeen, HasStepped}
-use Rattle.pmem_replay.proofs.Goods.{IsGood, without_marks}
+use Rattle.pmem_replay.specs.Replies.{without_marks}
+use Rattle.pmem_replay.proofs.Goods.{IsGood}
 use Rattle.pmem_replay.proofs.Quiet.{legal_undecided}
 use Rattle.pmem_replay.proofs.TableLaws.{legal_decided}
 

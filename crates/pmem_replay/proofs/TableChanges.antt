@@ -25,7 +25,8 @@ use Rattle.pmem_engine.specs.Engine.{EngineState}
 use Rattle.pmem_replay.specs.Flagged.{Tampering, with_tampering}
 use Rattle.pmem_replay.specs.World.{WorldState, WorldParts, AreExact, IsWorld, state_in, world_of, view_in}
 use Rattle.pmem_replay.specs.Stepped.{HasStepped, IsCounted}
-use Rattle.pmem_replay.proofs.Goods.{IsGood, without_marks}
+use Rattle.pmem_replay.specs.Replies.{without_marks}
+use Rattle.pmem_replay.proofs.Goods.{IsGood}
 use Rattle.pmem_replay.proofs.Causes.{zero_within}
 use Rattle.pmem_replay.proofs.Quiet.{counted_state}
 use Rattle.pmem_replay.proofs.DrainChain.{fuse_none}
@@ -72,7 +73,7 @@ module _ (setup : Setup) (p : WorldParts) (going : IsGoingOn setup (world_of set
       → HasStepped setup old (Do.Post port at line) (without_marks Say.Ok) (world_of setup (record p { queues = queues }))
   post-ok engine there port at line queues small room its on_memory is =
       stepped_by_table setup old (world_of setup (record p { queues = queues })) (Do.Post port at line) Say.Ok
-      (rw lit_in setup old engine going.whole there (rw (lt-ltb at (layout.data_lines setup.shape) on_memory)
+      (rw (lit_in setup old engine going.whole there) (rw (lt-ltb at (layout.data_lines setup.shape) on_memory)
       (rw (lt-leb (length (queue_of p.queues port)) 16 room) refl)))
       refl tt
       (record { marks_asked = refl; peek_true = tt; steps_counted = tt; flush_true = tt; within_bounds = tt })
@@ -89,7 +90,7 @@ module _ (setup : Setup) (p : WorldParts) (going : IsGoingOn setup (world_of set
       → HasStepped setup old (Do.Part port at from count line) (without_marks Say.Ok) (world_of setup (record p { queues = queues }))
   part-ok engine there port at from count line queues small room its on_memory inside is =
       stepped_by_table setup old (world_of setup (record p { queues = queues })) (Do.Part port at from count line) Say.Ok
-      (rw lit_in setup old engine going.whole there (rw (lt-ltb at (layout.data_lines setup.shape) on_memory)
+      (rw (lit_in setup old engine going.whole there) (rw (lt-ltb at (layout.data_lines setup.shape) on_memory)
       (rw (le-leb (from + count) 64 inside) (rw (lt-leb (length (queue_of p.queues port)) 16 room) refl))))
       refl tt
       (record { marks_asked = refl; peek_true = tt; steps_counted = tt; flush_true = tt; within_bounds = tt })
@@ -133,7 +134,7 @@ module _ (setup : Setup) (p : WorldParts) (going : IsGoingOn setup (world_of set
       (subst (λ q. HasStepped setup old Do.Off (without_marks Say.Ok)
       (world_of setup (record p { board = record (p.board) { powered = false; fuse = None }; queues = q; engine = None }))) (sym empty)
       (stepped_by_table setup old (world_of setup (record p { board = record (p.board) { powered = false; fuse = None }; queues = no_writes; engine = None })) Do.Off Say.Ok
-      (rw lit_in setup old engine going.whole there refl) refl tt
+      (rw (lit_in setup old engine going.whole there) refl) refl tt
       (record { marks_asked = refl; peek_true = tt; steps_counted = tt; flush_true = tt; within_bounds = tt })
       (record { shape = refl; keys = refl; start = refl }) going.unshown
       (record { board = refl; engine = refl; ledger = refl; tags = refl; digests = refl })

@@ -18,7 +18,7 @@ use Rattle.plain_model.specs.Fits.{Fits}
 use Rattle.pmem_engine.specs.Engine.{EngineState}
 use Rattle.pmem_replay.specs.World.{WorldState, IsWorld, IsPowered, view_in}
 use Rattle.pmem_replay.specs.Stepped.{board_after, engine_after, IsSeen, HasStepped}
-use Rattle.pmem_replay.proofs.Goods.{without_marks}
+use Rattle.pmem_replay.specs.Replies.{without_marks}
 use Rattle.pmem_replay.proofs.Quiet.{counted_state}
 use Rattle.pmem_replay.proofs.TableLaws.{counted_none}
 use Rattle.pmem_replay.proofs.Stepping.{stepped_by_table}

@@ -34,7 +34,8 @@ use Rattle.pmem_replay.proofs.Causes.{stored_unspoiled, hurt_before, tag_unstore
 use Rattle.pmem_replay.proofs.Quiet.{fewer, exactly, counted_state, cut_state, quiet-going, HasQueues-none}
 use Rattle.pmem_replay.proofs.FlushLaws.{left_alone-steps}
 use Rattle.pmem_replay.proofs.OpenPages.{IsWholePage, whole_pages, lowest_within, turn_mark, reseal_quiet, reseal_untouching}
-use Rattle.pmem_replay.proofs.Goods.{IsGood, without_marks}
+use Rattle.pmem_replay.specs.Replies.{without_marks}
+use Rattle.pmem_replay.proofs.Goods.{IsGood}
 
 -- marks that only seal lines whose last seal was stored, with the flags as they were
 pub healed_by_stored : (setup : Setup) (old new : WorldState) (made : List Mark) → IsWorld setup old
@@ -60,7 +61,7 @@ module _ (setup : Setup) (old new : WorldState) (engine after : EngineState) (ta
   on_now : IsOn setup old engine
   on_now = on_in setup old engine call.world call.was_on
 
-  abbrev now : Moment
+  abbrev pub now : Moment
   now = moment_of old.state (view_in setup old)
 
   pages_whole : All (IsWholePage setup.shape) (view_in setup old).open_pages
@@ -248,7 +249,7 @@ module _ (setup : Setup) (old new : WorldState) (engine after : EngineState) (ta
               };
         }
 
-    cut_quiet : (state : PlainState) → after_marks setup.shape state turn.made ≡ state
+    pub cut_quiet : (state : PlainState) → after_marks setup.shape state turn.made ≡ state
     cut_quiet state =
         elim cut_marks.1 [
           | inl none ↦ ap (after_marks setup.shape state) none

@@ -1,6 +1,6 @@
 -- A call of the engine or of recovery within a command: what it works on, and what the board in memory
 -- behind it makes of fuse, snapshot and counts.
-use Rattle.std.specs.Prelude.{ℕ, ◌≡◌, ◌≤◌, ◌<◌, ◌+◌, ◌-◌, true, false, Some, None, option_map, length, min, All, IfSome}
+use Rattle.std.specs.Prelude.{ℕ, ◌≡◌, ◌≤◌, ◌<◌, ◌+◌, ◌-◌, true, false, Option, Some, None, Result, Ok, Err, option_map, length, min, All, IfSome}
 use Rattle.pmem_base.specs.Counts.{last_count}
 use Rattle.pmem_base.specs.Lines.{IsLine}
 use Rattle.board.specs.Device.{Device}
@@ -8,6 +8,12 @@ use Rattle.board.specs.Memory.{Memory}
 use Rattle.pmem_replay.specs.declared.taken.Taken.{Taken}
 use Rattle.pmem_engine.specs.Engine.{EngineState}
 use Rattle.pmem_engine.specs.Parts.{Parts, parts_of}
+use Rattle.seal_ledger.specs.Ledger.{LedgerState}
+use Rattle.suite.specs.Setup.{Setup}
+use Rattle.pmem_recovery.specs.declared.faults.Work.{Work}
+use Rattle.pmem_recovery.specs.declared.faults.RecFault.{RecFault}
+use Rattle.pmem_recovery.specs.Parts.{SuiteState}
+use Rattle.pmem_recovery.specs.Recovered.{HasRecovered}
 use Rattle.pmem_replay.specs.World.{WorldState}
 
 -- so many line writes, latches and cuts since a call began
@@ -67,6 +73,19 @@ pub record IsWatched (old new : Memory) (taken : Taken) : Type 0 where
   pub follows : FollowsOn old new taken
   pub in_count : AreInCount old
   pub each_line : All IsLine new.lines
+
+-- recovery's answer, whose engine was put in its place
+abbrev pub IsTakenApart : Result (EngineState × Work) RecFault → Option EngineState → Result Work RecFault → Type 0
+IsTakenApart (Ok done) engine (Ok work) = (engine ≡ Some done.0) × (work ≡ done.1)
+IsTakenApart (Err fault) engine (Err its) = (engine ≡ None) × (its ≡ fault)
+IsTakenApart answer engine outcome = ⊥
+
+-- what recovery does, where its engine is in its place
+pub record WasRecovered (setup : Setup) (ledger : LedgerState) (old new : Device) (suite_old suite_new : SuiteState)
+    (engine : Option EngineState) (outcome : Result Work RecFault) : Type 0 where
+  pub answer : Result (EngineState × Work) RecFault
+  pub recovered : HasRecovered setup ledger old new suite_old suite_new answer
+  pub apart : IsTakenApart answer engine outcome
 
 -- what a call of the engine works on in this world, and what it leaves
 abbrev pub parts_in : WorldState → EngineState → Taken → Parts

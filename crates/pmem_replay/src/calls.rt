@@ -1,5 +1,5 @@
 //! Calls of the engine and of recovery, over a board whose fuse and snapshot are watched.
-ghost use Rattle.std.specs.Prelude.{◌≡◌, ◌<◌, ◌≤◌, ℕ, true, length, IsTrue};
+ghost use Rattle.std.specs.Prelude.{◌≡◌, ◌<◌, ◌≤◌, ℕ, true, None, length, IsTrue};
 ghost use Rattle.pmem_base.specs.Geo.{shape_of};
 ghost use Rattle.pmem_base.specs.Shape.{is_loss};
 ghost use Rattle.pmem_base.specs.Layout.{data_lines, device_lines};
@@ -11,8 +11,7 @@ ghost use Rattle.seal_ledger.specs.View.{ledger_of};
 ghost use Rattle.pmem_engine.specs.Parts.{parts_of};
 ghost use Rattle.pmem_engine.specs.Calls.{IsReady, IsUsable, HasReadLine, HasTurned, HasFlushed, HasSetLoss};
 ghost use Rattle.pmem_recovery.specs.Parts.{suite_state};
-ghost use Rattle.pmem_recovery.specs.Recovered.{HasRecovered};
-ghost use Rattle.pmem_replay.specs.During.{IsWatched, device_during, none_taken};
+ghost use Rattle.pmem_replay.specs.During.{IsWatched, IsTakenApart, WasRecovered, device_during, none_taken};
 
 use crate::taken::Taken;
 use crate::watched::{Left, Start, Watched};
@@ -207,25 +206,27 @@ fn set_loss_watched<'a, K: Start>(
     watched.left(answer)
 }
 
-/// Recovers the device.
+/// Recovers the device. Where it is done the engine is there.
 pub(crate) fn recover<S: Suite>(
     alloc: Global,
     geo: &Geo,
     board: &mut MemBoard,
     suite: &mut S,
     ledger: &Ledger,
-) -> Done<Result<(Engine, Work), RecFault>>
+    engine: &mut Option<Engine>,
+) -> Done<Result<Work, RecFault>>
     requires size { length (memory_of board.old).lines ≡ device_lines (shape_of geo.now) }
     requires on { (memory_of board.old).powered ≡ true }
     requires regs { IsValidRegs (shape_of geo.now) (memory_of board.old).regs }
     requires ledger { IsOfShape (shape_of geo.now) (ledger_of ledger.now) }
-    ensures recovered { HasRecovered (record { shape = shape_of geo.now; formulas = S.formulas_of (S.keys suite.old) }) (ledger_of ledger.now)
+    requires engine { engine.old ≡ None }
+    ensures recovered { WasRecovered (record { shape = shape_of geo.now; formulas = S.formulas_of (S.keys suite.old) }) (ledger_of ledger.now)
         (device_during (memory_of board.old) none_taken) (device_during (memory_of board.new) result.taken)
         (suite_state (S.keys suite.old) (S.pads suite.old) (S.tags suite.old) (S.digests suite.old))
-        (suite_state (S.keys suite.new) (S.pads suite.new) (S.tags suite.new) (S.digests suite.new)) result.answer }
+        (suite_state (S.keys suite.new) (S.pads suite.new) (S.tags suite.new) (S.digests suite.new)) engine.new result.answer }
     ensures watched { IsWatched (memory_of board.old) (memory_of board.new) result.taken }
 {
-    let left = recover_watched::<Brand, S>(alloc, geo, board, suite, ledger);
+    let left = recover_watched::<Brand, S>(alloc, geo, board, suite, ledger, engine);
     let Left {
         board: _,
         taken,
@@ -240,21 +241,41 @@ fn recover_watched<'a, K: Start, S: Suite>(
     board: &'a mut MemBoard,
     suite: &mut S,
     ledger: &Ledger,
-) -> Left<'a, Result<(Engine, Work), RecFault>>
+    engine: &mut Option<Engine>,
+) -> Left<'a, Result<Work, RecFault>>
     requires size { length (memory_of board.old).lines ≡ device_lines (shape_of geo.now) }
     requires start { memory_of board.old ≡ K.start }
     requires name { board.ghost_name ≡ K.name }
     requires on { (memory_of board.old).powered ≡ true }
     requires regs { IsValidRegs (shape_of geo.now) (memory_of board.old).regs }
     requires ledger { IsOfShape (shape_of geo.now) (ledger_of ledger.now) }
+    requires engine { engine.old ≡ None }
     ensures name { result.board.ghost_name ≡ K.name }
-    ensures recovered { HasRecovered (record { shape = shape_of geo.now; formulas = S.formulas_of (S.keys suite.old) }) (ledger_of ledger.now)
+    ensures recovered { WasRecovered (record { shape = shape_of geo.now; formulas = S.formulas_of (S.keys suite.old) }) (ledger_of ledger.now)
         (device_during (memory_of board.old) none_taken) (device_during (memory_of result.board.now) result.taken)
         (suite_state (S.keys suite.old) (S.pads suite.old) (S.tags suite.old) (S.digests suite.old))
-        (suite_state (S.keys suite.new) (S.pads suite.new) (S.tags suite.new) (S.digests suite.new)) result.answer }
+        (suite_state (S.keys suite.new) (S.pads suite.new) (S.tags suite.new) (S.digests suite.new)) engine.new result.answer }
     ensures watched { IsWatched K.start (memory_of result.board.now) result.taken }
 {
     let mut watched = Watched::<K>::new(board);
     let answer = pmem_recovery::recover(alloc, geo, &mut watched, suite, ledger);
-    watched.left(answer)
+    let outcome = taken_apart(answer, engine);
+    watched.left(outcome)
+}
+
+/// Puts a recovery's engine in its place.
+fn taken_apart(
+    answer: Result<(Engine, Work), RecFault>,
+    engine: &mut Option<Engine>,
+) -> Result<Work, RecFault>
+    requires { engine.old ≡ None }
+    ensures { IsTakenApart answer engine.new result }
+{
+    match answer {
+        Ok((found, work)) => {
+            *engine = Some(found);
+            Ok(work)
+        }
+        Err(fault) => Err(fault),
+    }
 }

@@ -1,5 +1,5 @@
 //! What the attacker has changed.
-ghost use Rattle.std.specs.Prelude.{◌≡◌, ◌<◌, ◌+◌, ◌&&◌, not, length, slice_set, IfOk, false};
+ghost use Rattle.std.specs.Prelude.{◌≡◌, ◌<◌, ◌+◌, ◌^◌, ◌&&◌, not, length, slice_set, IfOk, false};
 ghost use Rattle.pmem_base.specs.Geo.{shape_of};
 ghost use Rattle.pmem_base.specs.Layout.{data_lines, device_lines};
 ghost use Rattle.plain_model.specs.State.{PlainState, is_flagged, has_flags, with_flag, without_flag};
@@ -59,7 +59,7 @@ impl Tampered {
         let lines = geo.lines();
         if d < lines {
             self.change_line(d, flipped && powered);
-        } else if d < geo.meta_line(0) {
+        } else if d < lines + lines / 4 {
             self.hurt_four(4 * (d - lines));
         }
         self.named.set(d);
@@ -81,7 +81,8 @@ impl Tampered {
 
     /// The tags of four data lines are changed.
     fn hurt_four(&mut self, at: u32)
-        requires { at + 3 < length self.old.hurt }
+        requires four { at + 3 < length self.old.hurt }
+        requires small { at + 3 < 2 ^ 32 }
         ensures { self.new ≡ record (self.old) { hurt = with_four_flags self.old.hurt at } }
     {
         self.hurt.set(at);

@@ -42,7 +42,7 @@ pub(crate) struct Watched<'a, K: Start> {
 /// What a call on a watched board leaves: the board, the steps taken, and the call's answer.
 #[derive(Drop)]
 pub(crate) struct Left<'a, T> {
-    board: &'a mut MemBoard,
+    pub(crate) board: &'a mut MemBoard,
     pub(crate) taken: Taken,
     pub(crate) answer: T,
 }
