@@ -38,3 +38,4 @@ pub mod LossSteps
 pub mod Reserved
 pub mod TurnSteps
 pub mod FlagLemmas
+pub mod Held

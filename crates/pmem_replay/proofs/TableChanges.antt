@@ -1,6 +1,6 @@
 -- Commands that the table answers and that change the world.
 use Rattle.std.proofs.Common.{ℕ, ◌≡◌, ◌≢◌, ◌<◌, ◌≤◌, ◌+◌, ◌-◌, ◌++◌, Bool, true, false, List, [], ◌∷◌, Option, Some, None, IsTrue, refl, sym, ap, ap₂, subst, ◌∙◌, arith}
-use Rattle.std.specs.Prelude.{All, length, slice_set, nat_lt, nat_le, ◌&&◌, is_some, option_map}
+use Rattle.std.specs.Prelude.{All, length, slice_set, nat_lt, nat_le, ◌&&◌, is_some, not, option_map}
 use Rattle.std.proofs.lemmas.Bool.{lt-ltb, le-ltb, le-leb, lt-leb, true≢false}
 use Rattle.std.proofs.lemmas.Option.{same_Some, none-some}
 use Rattle.std.proofs.lemmas.List.{get_or-set_same, append-nil}
@@ -74,7 +74,7 @@ module _ (setup : Setup) (p : WorldParts) (going : IsGoingOn setup (world_of set
   post-ok engine there port at line queues small room its on_memory is =
       stepped_by_table setup old (world_of setup (record p { queues = queues })) (Do.Post port at line) Say.Ok
       (rw (lit_in setup old engine going.whole there) (rw (lt-ltb at (layout.data_lines setup.shape) on_memory)
-      (rw (lt-leb (length (queue_of p.queues port)) 16 room) refl)))
+      (rw (lt-leb 16 (length (queue_of p.queues port)) room) refl)))
       refl tt
       (record { marks_asked = refl; peek_true = tt; steps_counted = tt; flush_true = tt; within_bounds = tt })
       (record { shape = refl; keys = refl; start = refl }) going.unshown
@@ -91,7 +91,7 @@ module _ (setup : Setup) (p : WorldParts) (going : IsGoingOn setup (world_of set
   part-ok engine there port at from count line queues small room its on_memory inside is =
       stepped_by_table setup old (world_of setup (record p { queues = queues })) (Do.Part port at from count line) Say.Ok
       (rw (lit_in setup old engine going.whole there) (rw (lt-ltb at (layout.data_lines setup.shape) on_memory)
-      (rw (le-leb (from + count) 64 inside) (rw (lt-leb (length (queue_of p.queues port)) 16 room) refl))))
+      (rw (le-leb (from + count) 64 inside) (rw (lt-leb 16 (length (queue_of p.queues port)) room) refl))))
       refl tt
       (record { marks_asked = refl; peek_true = tt; steps_counted = tt; flush_true = tt; within_bounds = tt })
       (record { shape = refl; keys = refl; start = refl }) going.unshown
@@ -126,21 +126,26 @@ module _ (setup : Setup) (p : WorldParts) (going : IsGoingOn setup (world_of set
       (world-snapped setup old (world_of setup (record p { board = record (p.board) { snapshot = Some p.board.lines } })) going.whole
       (record { shape = refl; start = refl; board = refl; ledger = refl; engine = refl; state = refl })) tt)
 
-  pub off-ok : (engine : EngineState) → p.engine ≡ Some engine → (board : Memory) (queues : List (List Posted))
+  pub off-ok : (there : Bool) → is_some p.engine ≡ not there → there ≡ false → (board : Memory) (queues : List (List Posted))
       → board ≡ record (p.board) { powered = false; fuse = None } → queues ≡ no_writes
       → HasStepped setup old Do.Off (without_marks Say.Ok) (world_of setup (record p { board = board; queues = queues; engine = None }))
-  off-ok engine there board queues is empty =
-      subst (λ b. HasStepped setup old Do.Off (without_marks Say.Ok) (world_of setup (record p { board = b; queues = queues; engine = None }))) (sym is)
-      (subst (λ q. HasStepped setup old Do.Off (without_marks Say.Ok)
-      (world_of setup (record p { board = record (p.board) { powered = false; fuse = None }; queues = q; engine = None }))) (sym empty)
-      (stepped_by_table setup old (world_of setup (record p { board = record (p.board) { powered = false; fuse = None }; queues = no_writes; engine = None })) Do.Off Say.Ok
-      (rw (lit_in setup old engine going.whole there) refl) refl tt
-      (record { marks_asked = refl; peek_true = tt; steps_counted = tt; flush_true = tt; within_bounds = tt })
-      (record { shape = refl; keys = refl; start = refl }) going.unshown
-      (record { board = refl; engine = refl; ledger = refl; tags = refl; digests = refl })
-      (sym (counted_zero (after_power_loss (state_in setup p)) range))
-      (world-off setup old (world_of setup (record p { board = record (p.board) { powered = false; fuse = None }; queues = no_writes; engine = None })) engine going.whole there
-      (record { shape = refl; start = refl; board = refl; ledger = refl; engine = refl; state = refl })) tt))
+  off-ok there its some board queues is empty = by_engine p.engine refl
+    where
+      by_engine : (engine : Option EngineState) → p.engine ≡ engine
+          → HasStepped setup old Do.Off (without_marks Say.Ok) (world_of setup (record p { board = board; queues = queues; engine = None }))
+      by_engine None none = absurd (true≢false (sym (its ∙ ap not some) ∙ ap is_some none))
+      by_engine (Some engine) on =
+          subst (λ b. HasStepped setup old Do.Off (without_marks Say.Ok) (world_of setup (record p { board = b; queues = queues; engine = None }))) (sym is)
+          (subst (λ q. HasStepped setup old Do.Off (without_marks Say.Ok)
+          (world_of setup (record p { board = record (p.board) { powered = false; fuse = None }; queues = q; engine = None }))) (sym empty)
+          (stepped_by_table setup old (world_of setup (record p { board = record (p.board) { powered = false; fuse = None }; queues = no_writes; engine = None })) Do.Off Say.Ok
+          (rw (lit_in setup old engine going.whole on) refl) refl tt
+          (record { marks_asked = refl; peek_true = tt; steps_counted = tt; flush_true = tt; within_bounds = tt })
+          (record { shape = refl; keys = refl; start = refl }) going.unshown
+          (record { board = refl; engine = refl; ledger = refl; tags = refl; digests = refl })
+          (sym (counted_zero (after_power_loss (state_in setup p)) range))
+          (world-off setup old (world_of setup (record p { board = record (p.board) { powered = false; fuse = None }; queues = no_writes; engine = None })) engine going.whole on
+          (record { shape = refl; start = refl; board = refl; ledger = refl; engine = refl; state = refl })) tt))
 
   -- ---- tampering
 
@@ -183,12 +188,12 @@ module _ (setup : Setup) (p : WorldParts) (going : IsGoingOn setup (world_of set
       (ap (λ (b : Memory). line_at b.lines d) is ∙ get_or-set_same p.board.lines d line zero_line within)
       (IsLine-line_at board.lines d each)
 
-  pub poke-ok : (d : ℕ) (line : Line) (board : Memory) (flags : Tampering) → d < layout.device_lines setup.shape → IsLine line
-      → board ≡ with_line_at p.board d line
+  pub poke-ok : (d : ℕ) (line : Line) (board : Memory) (flags : Tampering) → d < layout.device_lines setup.shape
+      → board ≡ with_line_at p.board d line → All IsLine board.lines
       → with_tampering (state_in setup p) flags ≡ after_tampering setup.shape (state_in setup p) false d
       → HasStepped setup old (Do.Poke d line) (without_marks Say.Ok) (world_of setup (record p { board = board; tampering = flags }))
-  poke-ok d line board flags on_device its is state =
-      let now = tampered d line false board flags on_device its (λ flip. absurd (true≢false (sym flip))) is state in
+  poke-ok d line board flags on_device is each state =
+      let now = tampered d line false board flags on_device (put_line d line board on_device is each) (λ flip. absurd (true≢false (sym flip))) is state in
       stepped_by_table setup old (world_of setup (record p { board = board; tampering = flags })) (Do.Poke d line) Say.Ok
       (rw (lt-ltb d (layout.device_lines setup.shape) on_device) refl) refl tt
       (record { marks_asked = refl; peek_true = tt; steps_counted = tt; flush_true = tt; within_bounds = tt })
@@ -259,13 +264,14 @@ module _ (setup : Setup) (p : WorldParts) (going : IsGoingOn setup (world_of set
 
   -- ---- looks
 
-  pub peek-ok : (d : ℕ) (line : Line) → d < layout.device_lines setup.shape → line ≡ line_at p.board.lines d → IsLine line
+  pub peek-ok : (d : ℕ) (line : Line) → d < layout.device_lines setup.shape → line ≡ line_at p.board.lines d
       → HasStepped setup old (Do.Peek d) (without_marks (Say.Raw line)) old
-  peek-ok d line on_device is its =
+  peek-ok d line on_device is =
       stepped_by_engine setup old old (Do.Peek d) (without_marks (Say.Raw line))
       (rw (lt-ltb d (layout.device_lines setup.shape) on_device) refl)
       (subst (λ l. IsGood setup old (Do.Peek d) (without_marks (Say.Raw l))) (sym is) (peek-good setup old d going.whole on_device))
-      its (record { shape = refl; keys = refl; start = refl }) going.unshown (sym (append-nil p.ledger.marks))
+      (subst IsLine (sym is) (IsLine-line_at p.board.lines d going.whole.whole_lines.each))
+      (record { shape = refl; keys = refl; start = refl }) going.unshown (sym (append-nil p.ledger.marks))
       (λ unshown. sym (counted_zero (state_in setup p) range)) (λ unshown. going.whole)
       (record { board = refl; engine = refl; ledger = refl; tags = refl; digests = refl }, ap (λ l. Say.Raw l) is) tt
 

@@ -4,10 +4,15 @@
 mod calls;
 mod dirtied;
 mod flags;
+mod powering;
+mod serving;
 mod taken;
 mod tampered;
+mod tampering;
 #[cfg(test)]
 mod tests;
 mod watched;
+mod world;
 
 pub use flags::Flags;
+pub use world::World;
