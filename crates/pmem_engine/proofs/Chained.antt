@@ -24,7 +24,7 @@ sealed_by_second : (made more : List Mark) (a : ℕ) → IsTrue (is_sealed_by mo
 sealed_by_second made more a it =
     list_any-append (is_seal_of a) made more ∙ or_right (is_sealed_by made a) (is_sealed_by more a) it
 
-sealed_by_either : (made more : List Mark) (a : ℕ) → IsTrue (is_sealed_by (made ++ more) a)
+pub sealed_by_either : (made more : List Mark) (a : ℕ) → IsTrue (is_sealed_by (made ++ more) a)
     → IsTrue (is_sealed_by made a) ⊎ IsTrue (is_sealed_by more a)
 sealed_by_either made more a it =
     or_cases (is_sealed_by made a) (is_sealed_by more a) (sym (list_any-append (is_seal_of a) made more) ∙ it)
@@ -128,7 +128,7 @@ power_chained cut old mid new first second =
 going_uncut : going ≢ cut
 going_uncut e = absurd (true≢false (ap is_going e))
 
-going_unshown : going ≢ shown
+pub going_unshown : going ≢ shown
 going_unshown e = absurd (true≢false (ap is_going e))
 
 -- ---- counts

@@ -1,7 +1,8 @@
 -- The exits of a seal under the next counter: its tag line isn't read, its group is cut, or the line is sealed.
 use Rattle.std.proofs.Common.{ℕ, ◌≡◌, ◌<◌, ◌≤◌, ◌+◌, ◌%◌, ◌++◌, inl, inr, Bool, true, false, List, [], ◌∷◌, length, IsTrue, Some, Ok, Err, cond, refl, sym, ap, ap₂, subst, ◌∙◌, arith}
-use Rattle.std.specs.Prelude.{option_map, ◌↔◌, ◌==◌, if◌then◌else◌}
-use Rattle.std.proofs.lemmas.Bool.{true≢false, cond-true, cond-false, eq-eqb, ne_eqb}
+use Rattle.std.specs.Prelude.{option_map, ◌↔◌, ◌==◌, ◌&&◌, if◌then◌else◌}
+use Rattle.std.specs.List.{list_any}
+use Rattle.std.proofs.lemmas.Bool.{true≢false, cond-true, cond-false, eq-eqb, ne_eqb, or_parts}
 use Rattle.pmem_base.specs.declared.lines.Line.{Line}
 use Rattle.pmem_base.specs.declared.lines.Ctr.{Ctr}
 use Rattle.pmem_base.specs.declared.answers.Mark.{Mark}
@@ -29,7 +30,7 @@ use Rattle.pmem_engine.specs.Truth.{true_block}
 use Rattle.pmem_engine.specs.Invariants.{IsTrusted, stored_meta}
 use Rattle.pmem_engine.specs.Parts.{Parts, parts_of, lines_redone, AreTrusted, meta_line_in}
 use Rattle.pmem_engine.specs.Outcomes.{going, cut, is_sealed_by, NeverFalls, HasDone}
-use Rattle.pmem_engine.specs.Calls.{IsUsable, IsPathNamedInMirror}
+use Rattle.pmem_engine.specs.Calls.{IsUsable, IsPathNamedInMirror, is_persisting}
 use Rattle.pmem_engine.specs.Committing.{next_seal_of, HasCommitted, IsCutArmed}
 use Rattle.pmem_engine.specs.Sealing.{cached_block, next_counter_of, raised_block, seal_steps, seal_group, HasPathSealed, HasSealCommitted, IsNothingDone, IsSealCut, HasSealedNext}
 use Rattle.pmem_engine.proofs.StillLaws.{done_reading, done_cut}
@@ -90,6 +91,13 @@ module _ (setup : Setup) (at : ℕ) (plain : Line) (engine : EngineState) (old :
             (redone_told regs.group.items told)) was.regs was.lines;
         block_written = λ trusted ok. absurd (true≢false (sym ok));
       }
+
+-- a seal that doesn't write the counter block
+undivided : (loss at : ℕ) (ctr : Ctr) (cipher : Line) (tag : List ℕ)
+    → list_any (is_persisting loss at) (Seal at ctr cipher tag ∷ []) ≡ false → (ctr.minor % loss == 0) ≡ false
+undivided loss at ctr cipher tag unmade =
+    ap (λ b. b && (ctr.minor % loss == 0)) (sym (eq-eqb at at refl))
+    ∙ (or_parts (at == at && ctr.minor % loss == 0) false unmade).0
 
 -- how many steps
 pub some_steps : (loss : ℕ) (ctr : Ctr) → 4 ≤ seal_steps loss ctr
@@ -243,8 +251,10 @@ module _ (setup : Setup) (at : ℕ) (plain tag_line : Line) (persisted : Bool) (
     trusted_mid trusted = was_read.gone.trusted trusted
 
     block_as_it_was : lines_redone final ≡ redone_told group mid.lines → AreTrusted setup first
-        → (ctr.minor % old.regs.loss == 0) ≡ false → meta_line_in setup.shape final position ≡ meta_line_in setup.shape first position
-    block_as_it_was comes trusted rest =
+        → list_any (is_persisting old.regs.loss at) (mark ∷ []) ≡ false
+        → meta_line_in setup.shape final position ≡ meta_line_in setup.shape first position
+    block_as_it_was comes trusted unmade =
+        let rest : (ctr.minor % old.regs.loss == 0) ≡ false = undivided old.regs.loss at ctr next.cipher next.tag unmade in
         ap (option_map (λ ls. stored_meta setup.shape ls position)) comes
         ∙ sealed_line_kept setup next ctr.minor persisted block lines root engine engine_now mid new before after tags digests tags_now
         digests_now sealing done (trusted_mid trusted) (sym is_due ∙ rest) mid.lines refl

@@ -1,6 +1,6 @@
 -- A path was named, or a cut came before one of its entries was written: what the call keeps.
 use Rattle.std.proofs.Common.{ℕ, ◌≡◌, ◌≢◌, ◌<◌, ◌≤◌, ◌+◌, ◌⊎◌, inl, inr, true, false, List, [], length, Option, Some, None, Ok, Err, refl, sym, ap, ap₂, subst, subst₂, ◌∙◌, arith}
-use Rattle.std.specs.Prelude.{MatchOption, IfSome, option_map, is_some, IsOk}
+use Rattle.std.specs.Prelude.{MatchOption, IfSome, option_map, is_some, IsOk, is_ok, Result}
 use Rattle.std.proofs.lemmas.Bool.{true≢false}
 use Rattle.std.proofs.lemmas.List.{append-nil}
 use Rattle.std.proofs.lemmas.Option.{none-some, same_Some}
@@ -31,7 +31,7 @@ use Rattle.pmem_engine.specs.Engine.{EngineState}
 use Rattle.pmem_engine.specs.Invariants.{IsTrusted, IsSound, IsDurable, IsSealStored, IsCounterStored, stored_meta}
 use Rattle.pmem_engine.specs.Recached.{IsTrueOrDirty}
 use Rattle.pmem_engine.specs.Parts.{Parts, parts_of, AreTrusted, AreSound, AreDurable, HoldsSeal, HoldsCounters, HoldsMeta, lines_redone, meta_line_in}
-use Rattle.pmem_engine.specs.Outcomes.{Outcome, going, cut, shown, KeepsPlaces, KeepsMeta, HasGone, HasDone, HasPower, HasSmallGroup, LeavesTrusted, LeavesSound, KeepsMetaWhere, KeepsCounters, TakesAtMost, TakesFewer}
+use Rattle.pmem_engine.specs.Outcomes.{Outcome, going, cut, shown, is_going, outcome_of, KeepsPlaces, KeepsMeta, HasGone, HasDone, HasPower, HasSmallGroup, LeavesTrusted, LeavesSound, KeepsMetaWhere, KeepsCounters, TakesAtMost, TakesFewer}
 use Rattle.pmem_engine.specs.Calls.{IsPathNamedInMirror}
 use Rattle.pmem_engine.specs.Inner.{HasNamedPath, StandsStill}
 use Rattle.pmem_engine.proofs.Told.{told_cases, told_same, told_surely, told_redone, unarmed}
@@ -249,6 +249,7 @@ module _ (setup : Setup) (page : ℕ) (old new : EngineState) (before after : De
             (sound_at setup page old were before.regs ledger its_page few_levels some_sets cache_form form cached its_mirror sound
             (levels + 1) (omega arith)));
         cut_alone = tt;
+        not_spent = λ spent e. absurd (true≢false (ap (λ (a : Result Unit Fault). is_ok a) e));
         path_named =
             λ ok.
             record {
@@ -322,6 +323,7 @@ module _ (setup : Setup) (page : ℕ) (old new : EngineState) (before after : De
             (sound_at setup page old were before.regs ledger its_page few_levels some_sets cache_form form cached its_mirror sound
             it.n (omega (arith, it.on_path))).durable);
         cut_alone = tt;
+        not_spent = λ spent e. absurd (true≢false (sym (ap (λ (a : Result Unit Fault). is_going (outcome_of a)) e)));
         path_named = λ ok. absurd (true≢false (sym ok));
         cache = cache;
         down = down;

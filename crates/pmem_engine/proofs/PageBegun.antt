@@ -1,5 +1,5 @@
 -- The exits of a page's begin: cut before its group was armed, or while it was, or done.
-use Rattle.std.proofs.Common.{ℕ, ◌≡◌, ◌<◌, ◌≤◌, ◌+◌, ◌-◌, ◌^◌, inl, inr, true, false, List, [], ◌∷◌, None, Ok, Err, refl, sym, ap, ap₂, subst, ◌∙◌, arith}
+use Rattle.std.proofs.Common.{ℕ, ◌≡◌, ◌<◌, ◌≤◌, ◌+◌, ◌-◌, ◌^◌, inl, inr, true, false, List, [], ◌∷◌, length, None, Ok, Err, refl, sym, ap, ap₂, subst, ◌∙◌, arith}
 use Rattle.std.specs.Prelude.{option_map}
 use Rattle.std.proofs.lemmas.Bool.{true≢false}
 use Rattle.pmem_base.specs.declared.lines.Line.{Line}
@@ -34,6 +34,9 @@ use Rattle.pmem_engine.proofs.StillLaws.{done_cut}
 use Rattle.pmem_engine.proofs.Stored.{cached_true_line, cached_lines_true, kept_named}
 use Rattle.pmem_engine.proofs.PathBegins.{IsBeginning, done_begun, cut_begun, begun_line, begun_clean, begun_block}
 use Rattle.pmem_engine.proofs.Committed.{redone_none}
+
+one_made : {page : ℕ} → Begin page ∷ [] ≡ [] → ⊥
+one_made none = omega (arith, ap length none)
 
 module _ (setup : Setup) (page : ℕ) (engine engine_now : EngineState) (old new : Device) (before after : LedgerState)
     (tags digests tags_now digests_now : ℕ) (lines : List (ℕ × Line)) (root : List ℕ)
@@ -91,6 +94,10 @@ module _ (setup : Setup) (page : ℕ) (engine engine_now : EngineState) (old new
             });
         marks = inl refl;
         opened = λ ok. absurd (true≢false (sym ok));
+        block_kept =
+            λ none.
+            ap₂ (λ regs told. option_map (λ ls. stored_meta setup.shape ls (counter_position setup.shape page))
+            (redone_told regs.group.items told)) was.device.regs was.device.lines;
         down = ap (λ e. e.down) was.engine;
         steps =
             record {
@@ -149,6 +156,7 @@ module _ (setup : Setup) (page : ℕ) (engine engine_now : EngineState) (old new
               beginning done unarmed whole whole_now usable.ready.its_size never_tags never_digests armed;
           marks = inr refl;
           opened = λ ok. absurd (true≢false (sym ok));
+          block_kept = λ none. absurd (one_made none);
           down = done.stored.down;
           steps =
               record {
@@ -205,6 +213,7 @@ module _ (setup : Setup) (page : ℕ) (engine engine_now : EngineState) (old new
                 path_cached = done.stored.cached;
                 path_named = path_named;
               };
+          block_kept = λ none. absurd (one_made none);
           down = done.stored.down;
           steps =
               record {

@@ -41,8 +41,8 @@ use Rattle.pmem_engine.specs.declared.resealing.HeldLine.{HeldLine}
 use Rattle.pmem_engine.specs.declared.resealing.NextSeal.{NextSeal}
 use Rattle.pmem_engine.specs.Engine.{EngineState}
 use Rattle.pmem_engine.specs.Truth.{true_block}
-use Rattle.pmem_engine.specs.Invariants.{IsAnchored, IsSealStored}
-use Rattle.pmem_engine.specs.Parts.{Parts, parts_of, regs_of, lines_redone, AreTrusted, AreSound, HoldsSeal}
+use Rattle.pmem_engine.specs.Invariants.{stored_meta, IsAnchored, IsSealStored}
+use Rattle.pmem_engine.specs.Parts.{Parts, parts_of, regs_of, lines_redone, AreTrusted, AreSound, HoldsSeal, meta_line_in}
 use Rattle.pmem_engine.specs.Outcomes.{Outcome, going, cut, shown, is_going, outcome_of, outcome_of_fault, is_sealed_by, NeverFalls, HasDone, TakesSteps, TakesFewer}
 use Rattle.pmem_engine.specs.Calls.{IsUsable, IsMemory, IsDownAnswer, IsUnrefused, moment_in}
 use Rattle.pmem_engine.specs.Inner.{HasUnsealed, IsLastCounter}
@@ -54,8 +54,14 @@ use Rattle.pmem_engine.proofs.Chained.{done_chained}
 use Rattle.pmem_engine.proofs.PlainLines.{plain_line-resealed}
 use Rattle.pmem_engine.proofs.Unsealing.{risen_never_falls, same_never_falls}
 use Rattle.pmem_engine.specs.Faults.{IsTagRefused, IsForgedShown}
-use Rattle.pmem_engine.proofs.Committed.{sound_trusted}
-use Rattle.pmem_engine.proofs.Reseals.{IsResealing, sealed_here, done_resealed, cut_resealed}
+use Rattle.pmem_engine.proofs.Committed.{sound_trusted, redone_none}
+use Rattle.pmem_engine.proofs.Reseals.{IsResealing, sealed_here, resealed_meta_kept, done_resealed, cut_resealed}
+
+-- a metadata line where lines and registers are as they were
+pub meta_of_same : (g : Shape) (x : ℕ) (old new : Parts) → regs_of new ≡ regs_of old → new.device.lines ≡ old.device.lines
+    → meta_line_in g new x ≡ meta_line_in g old x
+meta_of_same g x old new regs lines =
+    ap₂ (λ r told. option_map (λ ls. stored_meta g ls x) (redone_told r.group.items told)) regs lines
 
 -- what a call passed to the line that it works on
 module _ (setup : Setup) (n : ℕ) (engine : EngineState) (old : Device) (before : LedgerState) (tags digests : ℕ) (held : HeldLine)
@@ -186,12 +192,14 @@ module _ (setup : Setup) (n : ℕ) (engine : EngineState) (old : Device) (before
         answered = λ trusted. says final fault it trusted;
         unrefused = λ sound. unrefused_by final fault it sound;
         not_down = λ down. not_down_by final fault it down;
+        few = omega arith;
         sealed_before = λ trusted a within made. absurd (true≢false (sym made));
         counts = counted_none final fault it.no_steps;
         engine = refl;
         truth = λ unshown. ap (λ ledger. ledger.truth) (it.same_ledger unshown);
         root = ap (λ regs. regs.root) it.regs;
         digests = it.digests;
+        metadata = λ trusted x within. meta_of_same setup.shape x start final it.regs it.lines;
       }
     where
       final : Parts
@@ -316,6 +324,7 @@ module _ (setup : Setup) (n : ℕ) (engine : EngineState) (old : Device) (before
           answered = λ trusted. tt;
           unrefused = λ sound. tt;
           not_down = λ it. it;
+          few = omega arith;
           sealed_before = λ trusted a within made. absurd (true≢false (sym made));
           counts =
               record {
@@ -327,6 +336,9 @@ module _ (setup : Setup) (n : ℕ) (engine : EngineState) (old : Device) (before
           truth = λ unshown. ap (λ seals. seals.truth) (was_cut.ledger ∙ same_ledger);
           root = ap (λ regs. regs.root) (was_cut.device.regs ∙ it.regs);
           digests = same_digests ∙ it.digests;
+          metadata =
+              λ trusted x within.
+              meta_of_same setup.shape x start final (was_cut.device.regs ∙ it.regs) (was_cut.device.lines ∙ it.lines);
         }
       where
         final : Parts
@@ -357,6 +369,17 @@ module _ (setup : Setup) (n : ℕ) (engine : EngineState) (old : Device) (before
       root_is : HasLineSealed setup.shape sealing mid new ledger after → new.regs.root ≡ old.regs.root
       root_is done = done.line_done.root ∙ ap (λ regs. regs.root) it.regs
 
+      -- no metadata line is in its group
+      kept_meta : AreTrusted setup start → (x : ℕ) → HasLineSealed setup.shape sealing mid new ledger after
+          → lines_redone final ≡ redone_told (entries_of setup.shape sealing) mid.lines
+          → meta_line_in setup.shape final x ≡ meta_line_in setup.shape start x
+      kept_meta trusted x done comes =
+          ap (option_map (λ ls. stored_meta setup.shape ls x)) comes
+          ∙ resealed_meta_kept setup sealing register engine mid new ledger after tags_mid digests_mid tags_now digests_now
+          resealing done (it.done.gone.trusted trusted).anchored x mid.lines refl
+          ∙ ap (option_map (λ ls. stored_meta setup.shape ls x)) (sym (redone_none mid.lines) ∙ sym (ap (λ items. redone_told items mid.lines) still_unarmed))
+          ∙ meta_of_same setup.shape x start middle it.regs it.lines
+
       -- ---- or while it was armed
 
       pub cut_armed : IsDevice new → IsResealCutArmed setup.shape sealing mid new ledger after
@@ -379,6 +402,7 @@ module _ (setup : Setup) (n : ℕ) (engine : EngineState) (old : Device) (before
             answered = λ trusted. tt;
             unrefused = λ sound. tt;
             not_down = λ it. it;
+            few = omega arith;
             sealed_before = λ trusted a within made. stored_sealed trusted a made;
             counts =
                 record {
@@ -390,6 +414,10 @@ module _ (setup : Setup) (n : ℕ) (engine : EngineState) (old : Device) (before
             truth = λ unshown. truth_is was_cut.line_sealed;
             root = root_is was_cut.line_sealed;
             digests = same_digests ∙ it.digests;
+            metadata =
+                λ trusted x within.
+                kept_meta trusted x was_cut.line_sealed
+                (ap (λ items. redone_told items new.lines) was_cut.device.armed ∙ was_cut.device.again);
           }
         where
           fewer : new.writes < last_count → new.latches < last_count
@@ -436,6 +464,7 @@ module _ (setup : Setup) (n : ℕ) (engine : EngineState) (old : Device) (before
             answered = λ trusted. tt;
             unrefused = λ sound. tt;
             not_down = λ it. it;
+            few = omega arith;
             sealed_before = λ trusted a within made. stored_sealed trusted a made;
             counts = (
               record {
@@ -453,6 +482,11 @@ module _ (setup : Setup) (n : ℕ) (engine : EngineState) (old : Device) (before
             truth = λ unshown. truth_is committed.line_sealed;
             root = root_is committed.line_sealed;
             digests = same_digests ∙ it.digests;
+            metadata =
+                λ trusted x within.
+                kept_meta trusted x committed.line_sealed
+                (ap₂ redone_told committed.device.no_group committed.device.lines
+                ∙ redone_none (redone_told (entries_of setup.shape sealing) mid.lines));
           }
         where
           four : new.writes < last_count → new.latches < last_count

@@ -1,6 +1,6 @@
 -- A held line sealed anew: its group armed, and finished or cut.
 use Rattle.std.proofs.Common.{ℕ, ◌≡◌, ◌≢◌, ◌<◌, ◌≤◌, ◌+◌, ◌++◌, ◌⊎◌, inl, inr, Bool, true, false, List, [], ◌∷◌, length, IsTrue, Option, Some, None, refl, sym, ap, ap₂, subst, subst₂, ◌∙◌, arith}
-use Rattle.std.specs.Prelude.{◌==◌, ◌||◌, AllPairs, All}
+use Rattle.std.specs.Prelude.{◌==◌, ◌||◌, AllPairs, All, option_map}
 use Rattle.std.proofs.lemmas.Bool.{true≢false, false≢true, cases_eq, eq-eqb, ne_eqb}
 use Rattle.std.proofs.lemmas.Option.{same_Some}
 use Rattle.pmem_base.specs.declared.lines.Line.{Line}
@@ -25,7 +25,7 @@ use Rattle.seal_ledger.specs.Ledger.{LedgerState}
 use Rattle.suite.specs.Setup.{Setup}
 use Rattle.pmem_engine.specs.declared.resealing.NextSeal.{NextSeal}
 use Rattle.pmem_engine.specs.Engine.{EngineState}
-use Rattle.pmem_engine.specs.Invariants.{IsAnchored, IsSound, IsDurable, IsSealStored, IsCounterStored}
+use Rattle.pmem_engine.specs.Invariants.{stored_meta, IsAnchored, IsSound, IsDurable, IsSealStored, IsCounterStored}
 use Rattle.pmem_engine.specs.Sealed.{made_seal, sealed_counter, IsResealed}
 use Rattle.pmem_engine.specs.Steps.{IsArmed, IsEmptied, IsPlaceKept, sealing_group, sealed_lines}
 use Rattle.pmem_engine.specs.Parts.{Parts, parts_of, regs_of, lines_redone, AreTrusted, AreSound, AreDurable, HoldsCounters}
@@ -214,6 +214,16 @@ module _ (setup : Setup) (next : NextSeal) (register : Progress) (engine : Engin
             inl (stored_meta-sealed_lines setup.shape lines next.at
             (made_seal setup.shape before.truth next.at 0 next.cipher next.tag) x it.its_line);
       })
+
+  -- no metadata line is in the group
+  pub resealed_meta_kept : IsAnchored setup old.regs before → (x : ℕ) → (o : Option (List Line)) → old.lines ≡ o
+      → option_map (λ ls. stored_meta setup.shape ls x) (redone_told entries o) ≡ option_map (λ ls. stored_meta setup.shape ls x) o
+  resealed_meta_kept anchored x None is = refl
+  resealed_meta_kept anchored x (Some lines) is =
+      ap Some
+      (ap (λ group. stored_meta setup.shape (redone group lines) x) (its_group anchored lines is)
+      ∙ stored_meta-sealed_lines setup.shape lines next.at
+      (made_seal setup.shape before.truth next.at 0 next.cipher next.tag) x it.its_line)
 
   -- it was finished
   pub done_resealed : old.regs.group.items ≡ [] → IsDevice old → old.size ≡ layout.device_lines setup.shape

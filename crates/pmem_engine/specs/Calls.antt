@@ -331,7 +331,7 @@ pub record HasWrittenLine (setup : Setup) (write : Posted) (old new : Parts) (an
       old.engine.down ≡ false → AreTrusted setup old → (memory : Memory) → IsMemory setup memory old
       → HasWriteMarks (marks_of_write setup.formulas (moment_in setup memory old) write) made write answer
   pub memory :
-      AreTrusted setup old → (memory : Memory) → IsMemory setup memory old
+      AreTrusted setup old → (memory : Memory) → write.at < length memory → IsMemory setup memory old
       → IsMemory setup (memory_after memory write made) new
   pub answered :
       old.engine.down ≡ false → AreTrusted setup old → (memory : Memory) → IsMemory setup memory old
@@ -348,6 +348,11 @@ pub record HasWrittenLine (setup : Setup) (write : Posted) (old new : Parts) (an
       old.engine.down ≡ false → AreTrusted setup old → (memory : Memory) → IsMemory setup memory old
       → TakesOfWrite setup.shape (marks_of_write setup.formulas (moment_in setup memory old) write) made
       old new answer
+  -- a write whose counter is used up makes the steps of its path alone, whatever it answers
+  pub steps_of_spent :
+      old.engine.down ≡ false → AreTrusted setup old → (memory : Memory) → IsMemory setup memory old
+      → marks_of_write setup.formulas (moment_in setup memory old) write ≡ None
+      → TakesSpent setup.shape (outcome_of answer) old new
   -- where the path is cached and named, one seal takes four steps, or five with the counter block
   pub steps_of_named :
       IsPathCached setup.shape old.engine.cache (page_of write.at)

@@ -151,6 +151,7 @@ pub record HasNamedPath (setup : Setup) (page : ℕ) (old new : Parts) (answer :
     Type 0 where
   pub done : HasDone setup (outcome_of answer) [] old new
   pub cut_alone : IsUnrefused answer
+  pub not_spent : (spent : ℕ) → answer ≡ Err (Fail.Spent spent) → ⊥
   pub path_named : IsOk answer → IsPathNamedInMirror setup.shape new.engine page
   pub cache : new.engine.cache ≡ old.engine.cache
   pub down : new.engine.down ≡ old.engine.down

@@ -1,5 +1,5 @@
 -- What sealing a held line anew makes of its parts.
-use Rattle.std.specs.Prelude.{ℕ, ◌≡◌, ◌<◌, ◌+◌, ◌*◌, ◌⊎◌, Bool, true, List, [], ◌∷◌, length, slice_get, slice_index_or, Option, Some, None, IfOk, IsTrue, Result, Ok, Err, ⊤}
+use Rattle.std.specs.Prelude.{ℕ, ◌≡◌, ◌<◌, ◌≤◌, ◌+◌, ◌*◌, ◌⊎◌, Bool, true, List, [], ◌∷◌, length, slice_get, slice_index_or, Option, Some, None, IfOk, IsTrue, Result, Ok, Err, ⊤}
 use Rattle.pmem_base.specs.declared.lines.Line.{Line}
 use Rattle.pmem_base.specs.declared.registers.Progress.{Progress}
 use Rattle.pmem_base.specs.declared.answers.Mark.{Mark}
@@ -23,7 +23,7 @@ use Rattle.pmem_engine.specs.declared.fault.Fault.{Fault}
 use Rattle.pmem_engine.specs.declared.fault.Fault.TheVariants as Fail
 use Rattle.pmem_engine.specs.declared.resealing.HeldLine.{HeldLine}
 use Rattle.pmem_engine.specs.declared.resealing.NextSeal.{NextSeal}
-use Rattle.pmem_engine.specs.Parts.{Parts, regs_of, AreTrusted, AreSound, HoldsSeal}
+use Rattle.pmem_engine.specs.Parts.{Parts, regs_of, AreTrusted, AreSound, HoldsSeal, meta_line_in}
 use Rattle.pmem_engine.specs.Outcomes.{shown, outcome_of, is_sealed_by, HasDone, TakesSteps, TakesFewer}
 use Rattle.pmem_engine.specs.Faults.{IsTagRefused, IsForgedShown}
 use Rattle.pmem_engine.specs.Calls.{IsMemory, IsDownAnswer, IsUnrefused, moment_in}
@@ -116,6 +116,7 @@ pub record HasResealed (setup : Setup) (n : ℕ) (old new : Parts) (answer : Res
   pub place : ℕ
   pub lowest : slice_get (not_done (register_in old n)) 0 ≡ Some place
   pub made : List Mark
+  pub few : length made ≤ 1
   pub done : HasDone setup (outcome_of answer) made old new
   pub marks :
       AreTrusted setup old → (memory : Memory) → IsMemory setup memory old
@@ -135,3 +136,6 @@ pub record HasResealed (setup : Setup) (n : ℕ) (old new : Parts) (answer : Res
   pub truth : (outcome_of answer ≡ shown → ⊥) → new.ledger.truth ≡ old.ledger.truth
   pub root : (regs_of new).root ≡ (regs_of old).root
   pub digests : new.digests ≡ old.digests
+  pub metadata :
+      AreTrusted setup old → (x : ℕ) → x < layout.meta_lines setup.shape
+      → meta_line_in setup.shape new x ≡ meta_line_in setup.shape old x

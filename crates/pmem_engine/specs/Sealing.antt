@@ -1,5 +1,6 @@
 -- What a commit with a page's new path makes: a seal of a line under its next counter, and a page's begin.
 use Rattle.std.specs.Prelude.{ℕ, ◌≡◌, ◌+◌, ◌%◌, ◌==◌, ◌⊎◌, Bool, true, false, List, [], ◌∷◌, ◌++◌, length, if◌then◌else◌, Some, IsOk, Result, Ok, Err}
+use Rattle.std.specs.List.{list_any}
 use Rattle.pmem_base.specs.declared.lines.Line.{Line}
 use Rattle.pmem_base.specs.declared.lines.Ctr.{Ctr}
 use Rattle.pmem_base.specs.declared.registers.Progress.{Progress}
@@ -32,7 +33,7 @@ use Rattle.pmem_engine.specs.Engine.{EngineState}
 use Rattle.pmem_engine.specs.Steps.{block_entry}
 use Rattle.pmem_engine.specs.Parts.{Parts, regs_of, AreTrusted, meta_line_in}
 use Rattle.pmem_engine.specs.Outcomes.{outcome_of, is_sealed_by, HasDone, TakesSteps, TakesFewer}
-use Rattle.pmem_engine.specs.Calls.{IsPathNamedInMirror, IsBlockTrue}
+use Rattle.pmem_engine.specs.Calls.{IsPathNamedInMirror, IsBlockTrue, is_persisting}
 use Rattle.pmem_engine.specs.Committing.{entries_of, HasCommitted, IsCutArmed}
 
 -- ---- parts of a commit
@@ -187,8 +188,7 @@ pub record HasSealedNext (setup : Setup) (at : ℕ) (plain : Line) (old new : Pa
   pub steps :
       TakesSealSteps (seal_steps (regs_of old).loss (next_counter_of setup.shape old.engine at)) old new answer
   pub block_kept :
-      AreTrusted setup old
-      → ((next_counter_of setup.shape old.engine at).minor % (regs_of old).loss == 0) ≡ false
+      AreTrusted setup old → list_any (is_persisting (regs_of old).loss at) made ≡ false
       → meta_line_in setup.shape new (counter_position setup.shape (page_of at))
       ≡ meta_line_in setup.shape old (counter_position setup.shape (page_of at))
   pub block_written :
@@ -225,6 +225,11 @@ pub record HasBegunPage (setup : Setup) (page : ℕ) (old new : Parts) (answer :
   pub done : HasDone setup (outcome_of answer) made old new
   pub marks : HasBeginMarks page made answer
   pub opened : IsOk answer → IsPageOpened setup page old new
+  -- the counter block's line, where the page wasn't begun
+  pub block_kept :
+      made ≡ []
+      → meta_line_in setup.shape new (counter_position setup.shape page)
+      ≡ meta_line_in setup.shape old (counter_position setup.shape page)
   pub down : new.engine.down ≡ old.engine.down
   pub steps : TakesBeginSteps old new answer
   pub reads : new.device.reads ≡ old.device.reads

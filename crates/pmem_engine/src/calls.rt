@@ -2,18 +2,19 @@
 ghost use Rattle.std.specs.Prelude.{◌≡◌, ◌<◌, ◌≤◌, ◌||◌, ◌↔◌, ℕ, IsOk, true, false, not, IsTrue, IfErr, OnOk, OnErr};
 ghost use Rattle.pmem_base.specs.Shape.{is_loss};
 ghost use Rattle.pmem_base.specs.Layout.{data_lines};
+ghost use Rattle.pmem_base.specs.Ranges.{IsPosted};
 ghost use Rattle.suite.specs.Setup.{Setup};
 ghost use Rattle.seal_ledger.specs.Ledger.{LedgerState};
 ghost use Rattle.pmem_engine.specs.declared.fault.Fault.TheVariants as Fail;
 ghost use Rattle.pmem_engine.specs.Parts.{parts_of};
 ghost use Rattle.pmem_engine.specs.Outcomes.{outcome_of, is_going};
 ghost use Rattle.pmem_engine.specs.Inner.{ended_by};
-ghost use Rattle.pmem_engine.specs.Calls.{IsReady, IsUsable, HasReadLine, HasTurned, HasFlushed, HasSetLoss};
+ghost use Rattle.pmem_engine.specs.Calls.{IsReady, IsUsable, whole_write, HasReadLine, HasWrittenLine, HasTurned, HasFlushed, HasSetLoss};
 
 use crate::engine::Engine;
 use crate::fault::Fault;
 use board::Board;
-use pmem_base::Line;
+use pmem_base::{Ctr, Line, Posted};
 use seal_ledger::Audit;
 use suite::Suite;
 
@@ -37,6 +38,61 @@ impl Engine {
     {
         self.is_up()?;
         let answer = self.read_line(board, suite, audit, at);
+        self.ended(answer)
+    }
+
+    /// Writes a whole line, and answers the counter that it is sealed under.
+    pub fn write<B: Board, S: Suite, A: Audit>(
+        &mut self,
+        board: &mut B,
+        suite: &mut S,
+        audit: &mut A,
+        at: u32,
+        line: &Line,
+    ) -> Result<Ctr, Fault>
+        requires line { at < data_lines self.old.shape }
+        requires room { 66 ≤ (A.ledger audit.old).spare }
+        requires usable { IsUsable self.old.shape self.old (B.device board.old) (A.ledger audit.old) }
+        ensures written { HasWrittenLine (record { shape = self.old.shape; formulas = S.formulas_of (S.keys suite.old) })
+            (whole_write at line.now)
+            (parts_of self.old (B.device board.old) (A.ledger audit.old) (S.tags suite.old) (S.digests suite.old))
+            (parts_of self.new (B.device board.new) (A.ledger audit.new) (S.tags suite.new) (S.digests suite.new)) result }
+        ensures keys { S.keys suite.new ≡ S.keys suite.old }
+        ensures usable { IsUsable self.old.shape self.new (B.device board.new) (A.ledger audit.new) }
+        ensures shape { self.new.shape ≡ self.old.shape }
+    {
+        line.is_whole();
+        let write = Posted {
+            at,
+            from: 0,
+            len: 64,
+            line: *line,
+        };
+        self.write_part(board, suite, audit, &write)
+    }
+
+    /// Writes the bytes of a posted write into their line, and answers the counter that it is sealed
+    /// under. Where the write is shorter than a line, the line is read and unsealed before.
+    pub fn write_part<B: Board, S: Suite, A: Audit>(
+        &mut self,
+        board: &mut B,
+        suite: &mut S,
+        audit: &mut A,
+        write: &Posted,
+    ) -> Result<Ctr, Fault>
+        requires line { write.now.at < data_lines self.old.shape }
+        requires posted { IsPosted write.now }
+        requires room { 66 ≤ (A.ledger audit.old).spare }
+        requires usable { IsUsable self.old.shape self.old (B.device board.old) (A.ledger audit.old) }
+        ensures written { HasWrittenLine (record { shape = self.old.shape; formulas = S.formulas_of (S.keys suite.old) }) write.now
+            (parts_of self.old (B.device board.old) (A.ledger audit.old) (S.tags suite.old) (S.digests suite.old))
+            (parts_of self.new (B.device board.new) (A.ledger audit.new) (S.tags suite.new) (S.digests suite.new)) result }
+        ensures keys { S.keys suite.new ≡ S.keys suite.old }
+        ensures usable { IsUsable self.old.shape self.new (B.device board.new) (A.ledger audit.new) }
+        ensures shape { self.new.shape ≡ self.old.shape }
+    {
+        self.is_up()?;
+        let answer = self.write_posted(board, suite, audit, write);
         self.ended(answer)
     }
 

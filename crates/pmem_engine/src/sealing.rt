@@ -8,7 +8,7 @@ ghost use Rattle.bonsai_tree.specs.Positions.{counter_position};
 ghost use Rattle.meta_path.specs.Blocks.{IsPathCached};
 ghost use Rattle.meta_path.specs.Storing.{IsPathOf, AreTold};
 ghost use Rattle.page_reencrypt.specs.Registers.{registers_with_done, register_of};
-ghost use Rattle.split_counters.specs.Blocks.{packed, minor_of};
+ghost use Rattle.split_counters.specs.Blocks.{packed, minor_of, next_block};
 ghost use Rattle.pmem_engine.specs.Parts.{parts_of};
 ghost use Rattle.pmem_engine.specs.Calls.{IsUsable, IsPathNamedInMirror};
 ghost use Rattle.pmem_engine.specs.Sealing.{cached_block, next_counter_of, raised_block, HasSealedNext, HasBegunPage, HasStoredPath, seal_group, begin_group, HasSealCommitted, IsSealCut, HasBeginCommitted, IsBeginCut};
@@ -97,6 +97,7 @@ impl Engine {
         ensures begun { HasBegunPage (record { shape = self.old.shape; formulas = S.formulas_of (S.keys suite.old) }) page
             (parts_of self.old (B.device board.old) (A.ledger audit.old) (S.tags suite.old) (S.digests suite.old))
             (parts_of self.new (B.device board.new) (A.ledger audit.new) (S.tags suite.new) (S.digests suite.new)) result }
+        ensures rolled { OnOk result (cached_block self.old.shape self.new page ≡ next_block (cached_block self.old.shape self.old page)) }
         ensures keys { S.keys suite.new ≡ S.keys suite.old }
     {
         let (block, register) = begin(&self.block(page), page)?;

@@ -2,11 +2,13 @@
 use Rattle.std.proofs.Common.{ℕ, ◌≡◌, ◌<◌, ◌≤◌, ◌+◌, ◌*◌, Bool, true, false, cond, List, [], ◌∷◌, length, get_or, take, All, Some, refl, ap, sym, subst, ◌∙◌, inl, inr, arith}
 use Rattle.std.specs.Prelude.{filter, is_some}
 use Rattle.std.proofs.lemmas.Option.{same_Some}
+use Rattle.std.proofs.Math.Nat.{one-le-mul}
 use Rattle.std.proofs.lemmas.List.{length-take, take_all, get_or_default}
 use Rattle.std.proofs.lemmas.List.Elements.{All-take, All-head, All-tail}
 use Rattle.pmem_base.specs.declared.lines.Line.{Line}
 use Rattle.pmem_base.specs.declared.registers.Regs.{Regs}
-use Rattle.pmem_base.specs.Shape.{Shape}
+use Rattle.pmem_base.specs.Counts.{last_count}
+use Rattle.pmem_base.specs.Shape.{Shape, IsShape}
 use Rattle.pmem_base.specs.Layout as layout
 use Rattle.pmem_base.specs.Lines.{line_at, zero_line}
 use Rattle.board.specs.Counts.{RisesBy}
@@ -17,11 +19,13 @@ use Rattle.suite.specs.Setup.{Setup}
 use Rattle.pmem_engine.specs.Mendable.{IsShadowZero}
 use Rattle.pmem_engine.proofs.MendableLaws.{line_at-shadow_of, shadow_of-same}
 use Rattle.pmem_recovery.specs.declared.entries.Made.{Made}
+use Rattle.pmem_recovery.specs.declared.faults.RecFault.{RecFault}
+use Rattle.pmem_recovery.specs.declared.faults.RecFault.TheVariants.{Memory, Cut, NoCounter, Root, Twin}
 use Rattle.pmem_recovery.specs.Parts.{Told, HasOnlyRead, HasRoot}
 use Rattle.pmem_recovery.specs.Upward.{is_other, IsMadeLine}
 use Rattle.pmem_recovery.specs.Written.{AreWritten, AreZeroed, IsRecovered, count_changed, count_nonzero, differing}
 use Rattle.pmem_recovery.specs.Writing.{BothTold, HasWrittenTo, HasWrittenSome, HasZeroedTo, HasZeroedSome}
-use Rattle.pmem_recovery.specs.Mending.{HasMadeAll, IsPartlyMended, HasMadeWrites}
+use Rattle.pmem_recovery.specs.Mending.{HasMadeAll, IsPartlyMended, most_writes, HasMadeWrites, WritesFewer, IsStoppedShort}
 use Rattle.pmem_recovery.proofs.WrittenLaws.{differing-none, is_other-same, off_tree_same, made_on_tree, AreCompared-made}
 use Rattle.pmem_recovery.proofs.WriteSteps.{told_earlier}
 use Rattle.pmem_recovery.proofs.EndLaws.{nothing_made}
@@ -153,46 +157,81 @@ between_is setup regs old mid late shadow made lines between r m w told after wh
       all = all;
     }
 
-pub made_writes-zeroed : (setup : Setup) (regs : Regs) (old mid late new : Device) (shadow : List Line) (made : List Made) → HasOnlyRead old mid → IsMadeFor setup regs old shadow made → HasWrittenTo setup.shape made (length made) mid late → HasZeroedSome setup.shape shadow late new → HasMadeWrites setup regs old new
-made_writes-zeroed setup regs old mid late new shadow made r m w z =
+pub made_writes-zeroed : (setup : Setup) (regs : Regs) (old mid late new : Device) (shadow : List Line) (made : List Made) → HasOnlyRead old mid → IsMadeFor setup regs old shadow made → HasWrittenTo setup.shape made (length made) mid late → (k : ℕ) → k ≤ layout.shadow_lines setup.shape → HasZeroedTo setup.shape shadow k late new → HasMadeWrites setup regs old new
+made_writes-zeroed setup regs old mid late new shadow made r m w k within z =
     let s = w.steps in
-    let t = z.zeroed.steps in
+    let t = z.steps in
     let entire : take (length made) made ≡ made = take_all (length made) made (omega arith) in
-    let n = count_nonzero (take z.place shadow) in
+    let n = count_nonzero (take k shadow) in
     let first : RisesBy (count_changed made) mid.writes late.writes = subst (λ l. RisesBy (count_changed l) mid.writes late.writes) entire s.writes in
     let first_none : count_changed made ≡ 0 → late.writes ≡ mid.writes = λ e. s.none (ap count_changed entire ∙ e) in
     record {
       size = t.size ∙ s.size ∙ r.size;
       same_regs = t.regs ∙ s.regs ∙ r.regs;
       latches = t.latches ∙ s.latches ∙ r.latches;
-      reads = subst (λ k. old.reads ≤ k) (sym (t.reads ∙ s.reads)) r.reads;
+      reads = subst (λ c. old.reads ≤ c) (sym (t.reads ∙ s.reads)) r.reads;
       told = t.told ∙ s.told ∙ ap is_some r.lines;
       count = count_changed made + n;
-      few = omega (arith, subst (λ l. count_changed l ≤ length made) entire (few_changed made (length made)), few_nonzero shadow z.place, m.few, m.long);
-      writes = subst (λ k. RisesBy (count_changed made + n) k new.writes) r.writes (RisesBy-then (count_changed made) n mid.writes late.writes new.writes first t.writes);
+      few = omega (arith, subst (λ l. count_changed l ≤ length made) entire (few_changed made (length made)), few_nonzero shadow k, m.few, m.long);
+      writes = subst (λ c. RisesBy (count_changed made + n) c new.writes) r.writes (RisesBy-then (count_changed made) n mid.writes late.writes new.writes first t.writes);
       none = λ e. t.none (omega (arith, e)) ∙ first_none (omega (arith, e)) ∙ r.writes;
       lines = λ lines told now after whole.
           let earlier = told_earlier late new now t.told after in
           let b = between_is setup regs old mid late shadow made lines earlier.0 r m w told earlier.1 whole in
-          let zeroed = z.zeroed.lines earlier.0 earlier.1 now after b.long b.its_shadow in (
+          let zeroed = z.lines earlier.0 earlier.1 now after b.long b.its_shadow in (
             inr (inr (record {
               decided = b.all.has_root.decided;
               made = made;
               between = earlier.0;
-              zeroed = z.place;
+              zeroed = k;
               all_made = b.all.all_made;
               all_written = b.written;
               are_zeroed = zeroed.0;
             })),
-            zeroed.1 lines made whole b.on_tree b.written ∙ ap (λ k. k + n) b.count,
+            zeroed.1 lines made whole b.on_tree b.written ∙ ap (λ c. c + n) b.count,
             λ zero.
-                let none = none_nonzero setup lines shadow z.place m.long b.all.its_shadow zero in
+                let none = none_nonzero setup lines shadow k m.long b.all.its_shadow zero in
                 let empty = subst (λ l. count_changed l ≡ 0) entire (none_changed made (length made) (nothing_made setup lines regs _ made zero b.all.all_made)) in
                 omega (arith, none, empty),
           );
     }
 
--- at the end
+-- ---- a stop
+
+-- there is a shadow line
+pub most_writes-some : (g : Shape) → IsShape g → 0 < most_writes g
+most_writes-some g shape = omega (arith, one-le-mul shape.at_least_one_set shape.at_least_one_way)
+
+WritesFewer-of : (k most : ℕ) (old new : Device) → k < most → RisesBy k old.writes new.writes → WritesFewer most old new
+WritesFewer-of k most old new less w = record { fewer = λ below. omega (arith, less, w.exact below) }
+
+-- nothing is written yet
+pub stopped-read : (g : Shape) (fault : RecFault) (old new : Device) → IsShape g → HasOnlyRead old new → IsStoppedShort g fault old new
+stopped-read g Memory old new shape r = r
+stopped-read g Cut old new shape r = record { fewer = λ below. omega (arith, r.writes, most_writes-some g shape) }
+stopped-read g (NoCounter at) old new shape r = r
+stopped-read g (Root kept found) old new shape r = r
+stopped-read g (Twin at major low high cipher tag) old new shape r = r
+
+-- not all lines made are
+pub stopped-some : (setup : Setup) (regs : Regs) (old mid new : Device) (shadow : List Line) (made : List Made) → HasOnlyRead old mid → IsMadeFor setup regs old shadow made → HasWrittenSome setup.shape made mid new → WritesFewer (most_writes setup.shape) old new
+stopped-some setup regs old mid new shadow made r m w =
+    let count = count_changed (take w.place made) in
+    WritesFewer-of count (most_writes setup.shape) old new
+    (omega (arith, length-filter-le (λ (e : Made). e.changed) (take w.place made), length-take w.place made, w.within, m.few))
+    (subst (λ n. RisesBy count n new.writes) r.writes w.written.steps.writes)
+
+-- not all shadow lines are
+pub stopped-zeroed : (setup : Setup) (regs : Regs) (old mid late new : Device) (shadow : List Line) (made : List Made) → HasOnlyRead old mid → IsMadeFor setup regs old shadow made → HasWrittenTo setup.shape made (length made) mid late → HasZeroedSome setup.shape shadow late new → WritesFewer (most_writes setup.shape) old new
+stopped-zeroed setup regs old mid late new shadow made r m w z =
+    let first = count_changed (take (length made) made) in
+    let n = count_nonzero (take z.place shadow) in
+    WritesFewer-of (first + n) (most_writes setup.shape) old new
+    (omega (arith, few_changed made (length made), length-filter-le (λ (l : Line). is_other l zero_line) (take z.place shadow), length-take z.place shadow, z.within, m.few))
+    (subst (λ k. RisesBy (first + n) k new.writes) r.writes (RisesBy-then first n mid.writes late.writes new.writes w.steps.writes z.zeroed.steps.writes))
+
+-- ---- at the end
+
 pub made_writes-recovered : (setup : Setup) (regs : Regs) (old mid late new : Device) (shadow : List Line) (made : List Made) → HasOnlyRead old mid → IsMadeFor setup regs old shadow made → HasWrittenTo setup.shape made (length made) mid late → HasZeroedTo setup.shape shadow (layout.shadow_lines setup.shape) late new → BothTold old new (λ lines now. length lines ≡ layout.device_lines setup.shape → IsRecovered setup lines regs now × HasRoot setup lines regs)
 made_writes-recovered setup regs old mid late new shadow made r m w z lines told now after whole =
     let earlier = told_earlier late new now z.steps.told after in

@@ -20,16 +20,18 @@ use Rattle.pmem_engine.specs.Mendable.{IsShadowZero, new_engine}
 use Rattle.pmem_engine.specs.Steps.{IsEmptied}
 use Rattle.pmem_engine.proofs.MendableLaws.{AreLinesOf-redone, IsValidRegs-emptied, IsAnchored-emptied, IsDurable-emptied, IsDurable-no_group, IsMendable-emptied, IsDurable-same_redone, IsSealStored-same}
 use Rattle.pmem_recovery.specs.declared.faults.Work.{Work}
+use Rattle.pmem_engine.specs.Outcomes.{TakesAtMost, TakesFewer}
 use Rattle.pmem_recovery.specs.declared.faults.RecFault.{RecFault}
 use Rattle.pmem_recovery.specs.declared.faults.RecFault.TheVariants.{Memory, Cut, NoCounter, Root, Twin}
 use Rattle.pmem_recovery.specs.Trials.{IsTwinOfLastSeal}
 use Rattle.pmem_recovery.specs.Written.{IsRecovered, differing}
 use Rattle.pmem_recovery.specs.Parts.{HasOnlyRead, GoesOn, IsCutOff, StopsBy, SuiteState, HasWorked, HasWorkedAtMost, HasRoot, IsShown, IsRefusal, IsStopped}
 use Rattle.pmem_recovery.specs.Writing.{BothTold}
-use Rattle.pmem_recovery.specs.Mending.{IsPartlyMended, HasMadeWrites, IsLeftAlone}
-use Rattle.pmem_recovery.specs.Recovered.{Answer, RegsAfter, PowerAfter, HasOnlyRedone, IsUnchanged, CountsAtMost, IsFewWork, IsTwinValid, IsNoCounterCaused, IsMendedAs, IsCleared, HasMended, HasRecovered}
+use Rattle.pmem_recovery.specs.Mending.{IsPartlyMended, most_writes, HasMadeWrites, IsStoppedShort}
+use Rattle.pmem_recovery.specs.Recovered.{Answer, RegsAfter, PowerAfter, HasOnlyRedone, IsUnchanged, most_steps, StepsAfter, CountsAtMost, IsFewWork, IsTwinValid, IsNoCounterCaused, IsMendedAs, IsCleared, HasMended, HasRecovered}
 use Rattle.pmem_recovery.proofs.PartLaws.{GoesOn-none, GoesOn-then, IsCutOff-after}
 use Rattle.pmem_recovery.proofs.WrittenLaws.{top_recovered, differing-none}
+use Rattle.pmem_recovery.proofs.MendingLaws.{most_writes-some}
 use Rattle.pmem_recovery.proofs.EndLaws.{IsSound-recovered, IsShadowZero-recovered}
 use Rattle.pmem_recovery.proofs.AnswerLaws.{partly-data, partly-mendable, no_counter-caused, IsTrueRefusal, true_refusal, IsEmptied-without, HasRoot-without, IsRefusal-without, IsTrusted-fresh, IsNewEngine-fresh, told_lines, redone_told-told, is_some-redone, RisesAtMost-then, RisesAtMost-of, RisesAtMost-weaker, RisesAtMost-none}
 
@@ -50,6 +52,7 @@ recovered_memory setup ledger old suite valid =
       unchanged = refl;
       writes = RisesAtMost-none _ old.writes old.writes refl;
       latches = RisesAtMost-none _ old.latches old.latches refl;
+      steps = record { writes = omega arith; latches = omega arith; sum = λ below still. omega arith };
       keys = refl;
       pads = refl;
       trials = tt;
@@ -75,8 +78,8 @@ recovered_memory setup ledger old suite valid =
           };
     }
 
-pub recovered_interrupted : (setup : Setup) (ledger : LedgerState) (old new : Device) (suite : SuiteState) → old.size ≡ layout.device_lines setup.shape → AreToldLines new.size new.lines → IsValidRegs setup.shape old.regs → (old.regs.group.items ≡ [] → ⊥) → IsInterrupted old.regs.group.items old new → HasRecovered setup ledger old new suite suite (Err Cut)
-recovered_interrupted setup ledger old new suite size whole valid armed cut =
+pub recovered_interrupted : (setup : Setup) (ledger : LedgerState) (old new : Device) (suite : SuiteState) → IsShape setup.shape → old.size ≡ layout.device_lines setup.shape → AreToldLines new.size new.lines → IsValidRegs setup.shape old.regs → (old.regs.group.items ≡ [] → ⊥) → IsInterrupted old.regs.group.items old new → HasRecovered setup ledger old new suite suite (Err Cut)
+recovered_interrupted setup ledger old new suite shape size whole valid armed cut =
     let group = old.regs.group.items in
     record {
       size = cut.size;
@@ -88,6 +91,12 @@ recovered_interrupted setup ledger old new suite size whole valid armed cut =
       unchanged = tt;
       writes = RisesAtMost-weaker (length group) _ old.writes new.writes (omega arith) cut.writes;
       latches = RisesAtMost-none _ old.latches new.latches cut.latches;
+      steps =
+          record {
+            writes = cut.writes.never_falls;
+            latches = omega (arith, cut.latches);
+            sum = λ below still. omega (arith, cut.writes.bound below, cut.latches, most_writes-some setup.shape shape);
+          };
       keys = refl;
       pads = refl;
       trials = tt;
@@ -152,13 +161,21 @@ module _ (setup : Setup) (ledger : LedgerState) (old mid new : Device) (run : Is
   pub its_valid : IsValidRegs setup.shape new.regs
   its_valid = IsValidRegs-emptied setup.shape old.regs new.regs emptied run.valid
 
-  pub its_writes : RisesAtMost (length old.regs.group.items + ((setup.shape.levels + 1) * layout.slots setup.shape + layout.shadow_lines setup.shape)) old.writes new.writes
+  pub its_writes : RisesAtMost (length old.regs.group.items + most_writes setup.shape) old.writes new.writes
   its_writes = RisesAtMost-then (length old.regs.group.items) run.written.count _ old.writes mid.writes new.writes run.written.few run.finished.writes run.written.writes
 
   pub its_latches : RisesAtMost (finishing_latches old.regs.group.items) old.latches new.latches
   its_latches =
       subst (RisesAtMost (finishing_latches old.regs.group.items) old.latches) (sym run.written.latches)
       (RisesAtMost-of (finishing_latches old.regs.group.items) (finishing_latches old.regs.group.items) old.latches mid.latches (omega arith) run.finished.latches)
+
+  its_steps_in_all : TakesAtMost (most_steps setup old.regs) old new
+  its_steps_in_all =
+      record {
+        writes = its_writes.never_falls;
+        latches = its_latches.never_falls;
+        sum = λ below still. omega (arith, its_writes.bound below, its_latches.bound still);
+      }
 
   pub its_anchored : IsAnchored setup old.regs ledger → IsAnchored setup new.regs ledger
   its_anchored = IsAnchored-emptied setup old.regs new.regs ledger emptied
@@ -247,12 +264,27 @@ module _ (setup : Setup) (ledger : LedgerState) (old mid new : Device) (run : Is
         latches = subst (RisesBy (finishing_latches old.regs.group.items) old.latches) (sym r.latches) run.finished.latches;
       }
 
-  unchanged_after : (fault : RecFault) → IsShown setup.formulas fault → IsLeftAlone fault mid new → IsUnchanged (Err fault) old new
-  unchanged_after Memory shown left = absurd shown
-  unchanged_after Cut shown left = tt
-  unchanged_after (NoCounter at) shown left = only_redone left
-  unchanged_after (Root kept found) shown left = only_redone left
-  unchanged_after (Twin at major low high cipher tag) shown left = only_redone left
+  unchanged_after : (fault : RecFault) → IsShown setup.formulas fault → IsStoppedShort setup.shape fault mid new → IsUnchanged (Err fault) old new
+  unchanged_after Memory shown short = absurd shown
+  unchanged_after Cut shown short = tt
+  unchanged_after (NoCounter at) shown short = only_redone short
+  unchanged_after (Root kept found) shown short = only_redone short
+  unchanged_after (Twin at major low high cipher tag) shown short = only_redone short
+
+  steps_after : (fault : RecFault) → IsStoppedShort setup.shape fault mid new → StepsAfter (Err fault) (most_steps setup old.regs) old new
+  steps_after Memory short = its_steps_in_all
+  steps_after Cut short =
+      record {
+        writes = its_writes.never_falls;
+        latches = its_latches.never_falls;
+        sum = λ below still.
+            let redo = run.finished.writes.exact (omega (arith, below, run.written.writes.never_falls)) in
+            let latch = run.finished.latches.exact (omega (arith, still, run.written.latches)) in
+            omega (arith, short.fewer below, redo, latch, run.written.latches);
+      }
+  steps_after (NoCounter at) short = its_steps_in_all
+  steps_after (Root kept found) short = its_steps_in_all
+  steps_after (Twin at major low high cipher tag) short = its_steps_in_all
 
   twin_valid : (fault : RecFault) → IsShown setup.formulas fault → IsTwinValid setup.formulas fault
   twin_valid Memory shown = tt
@@ -276,8 +308,8 @@ module _ (setup : Setup) (ledger : LedgerState) (old mid new : Device) (run : Is
   mended_after now (Twin at major low high cipher tag) r d =
       (subst (λ n. IsTwinOfLastSeal n ledger at major low high cipher tag) mid_emptied.same_loss r, d)
 
-  pub recovered_fault : (suite_old suite_new : SuiteState) (fault : RecFault) → IsStopped setup.formulas fault (λ lines. length lines ≡ layout.device_lines setup.shape → IsRefusal setup lines mid.regs fault) mid new → IsLeftAlone fault mid new → HasWorkedAtMost (64 * mid.regs.loss * layout.slots setup.shape) (4 * setup.shape.levels * layout.slots setup.shape + 1) suite_old suite_new → HasRecovered setup ledger old new suite_old suite_new (Err fault)
-  recovered_fault suite_old suite_new fault s left work =
+  pub recovered_fault : (suite_old suite_new : SuiteState) (fault : RecFault) → IsStopped setup.formulas fault (λ lines. length lines ≡ layout.device_lines setup.shape → IsRefusal setup lines mid.regs fault) mid new → IsStoppedShort setup.shape fault mid new → HasWorkedAtMost (64 * mid.regs.loss * layout.slots setup.shape) (4 * setup.shape.levels * layout.slots setup.shape + 1) suite_old suite_new → HasRecovered setup ledger old new suite_old suite_new (Err fault)
+  recovered_fault suite_old suite_new fault s short work =
       record {
         size = run.written.size ∙ run.finished.size;
         told = its_told;
@@ -285,9 +317,10 @@ module _ (setup : Setup) (ledger : LedgerState) (old mid new : Device) (run : Is
         regs = regs_after fault s.shown;
         valid = its_valid;
         power = power_after fault s.device;
-        unchanged = unchanged_after fault s.shown left;
+        unchanged = unchanged_after fault s.shown short;
         writes = its_writes;
         latches = its_latches;
+        steps = steps_after fault short;
         keys = work.worked.keys;
         pads = work.worked.pads;
         trials = tt;
@@ -332,6 +365,7 @@ module _ (setup : Setup) (ledger : LedgerState) (old mid new : Device) (run : Is
         unchanged = tt;
         writes = its_writes;
         latches = its_latches;
+        steps = its_steps_in_all;
         keys = worked.keys;
         pads = worked.pads;
         trials = worked.tags;

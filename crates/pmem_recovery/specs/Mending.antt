@@ -1,7 +1,9 @@
 -- What making and writing the named lines does to the device, so far as it comes.
-use Rattle.std.specs.Prelude.{ℕ, ◌≡◌, ◌≤◌, ◌+◌, ◌*◌, ◌⊎◌, None, List, length, is_some, All, ⊤}
+use Rattle.std.specs.Prelude.{ℕ, ◌≡◌, ◌≤◌, ◌<◌, ◌+◌, ◌*◌, ◌⊎◌, None, List, length, is_some, All, ⊤}
 use Rattle.pmem_base.specs.declared.lines.Line.{Line}
 use Rattle.pmem_base.specs.declared.registers.Regs.{Regs}
+use Rattle.pmem_base.specs.Counts.{last_count}
+use Rattle.pmem_base.specs.Shape.{Shape}
 use Rattle.pmem_base.specs.Layout as layout
 use Rattle.board.specs.Counts.{RisesBy}
 use Rattle.board.specs.Device.{Device}
@@ -47,6 +49,11 @@ abbrev pub IsPartlyMended : Setup → List Line → Regs → List Line → Type 
 IsPartlyMended setup lines regs now =
     (now ≡ lines) ⊎ (IsPartlyWritten setup lines regs now ⊎ IsPartlyZeroed setup lines regs now)
 
+-- the most lines that recovery writes after the redo: one for each slot of each level, and the shadow
+-- lines
+abbrev pub most_writes : Shape → ℕ
+most_writes g = (g.levels + 1) * layout.slots g + layout.shadow_lines g
+
 -- so many lines are written, each another one than before
 pub record HasMadeWrites (setup : Setup) (regs : Regs) (old new : Device) : Type 0 where
   pub size : new.size ≡ old.size
@@ -55,8 +62,7 @@ pub record HasMadeWrites (setup : Setup) (regs : Regs) (old new : Device) : Type
   pub reads : old.reads ≤ new.reads
   pub told : is_some new.lines ≡ is_some old.lines
   pub count : ℕ
-  pub few :
-      count ≤ (setup.shape.levels + 1) * layout.slots setup.shape + layout.shadow_lines setup.shape
+  pub few : count ≤ most_writes setup.shape
   pub writes : RisesBy count old.writes new.writes
   pub none : count ≡ 0 → new.writes ≡ old.writes
   pub lines :
@@ -66,7 +72,11 @@ pub record HasMadeWrites (setup : Setup) (regs : Regs) (old new : Device) : Type
       → IsPartlyMended setup lines regs now × (differing lines now ≡ count)
       × (IsShadowZero setup lines → count ≡ 0))
 
--- a refusal leaves the device alone
-abbrev pub IsLeftAlone : RecFault → Device → Device → Type 0
-IsLeftAlone Cut old new = ⊤
-IsLeftAlone fault old new = HasOnlyRead old new
+-- fewer lines than so many are written, while their count is below its end
+pub record WritesFewer (most : ℕ) (old new : Device) : Type 0 where
+  pub fewer : new.writes < last_count → new.writes < old.writes + most
+
+-- a refusal leaves the device alone, and a cut comes before all is written
+abbrev pub IsStoppedShort : Shape → RecFault → Device → Device → Type 0
+IsStoppedShort g Cut old new = WritesFewer (most_writes g) old new
+IsStoppedShort g fault old new = HasOnlyRead old new

@@ -16,6 +16,7 @@ use Rattle.seal_ledger.specs.Ledger.{LedgerState}
 use Rattle.collision_witness.specs.Exhibits.{IsExhibit}
 use Rattle.pmem_engine.specs.Engine.{EngineState}
 use Rattle.pmem_engine.specs.Invariants.{IsAnchored, IsTrusted, IsSealStored, IsDurable, IsSound, stored_meta}
+use Rattle.pmem_engine.specs.Outcomes.{TakesAtMost, TakesFewer}
 use Rattle.pmem_engine.specs.Mendable.{IsLineMendable, IsShadowZero, new_engine}
 use Rattle.pmem_recovery.specs.declared.faults.Work.{Work}
 use Rattle.pmem_recovery.specs.declared.faults.RecFault.{RecFault}
@@ -24,6 +25,7 @@ use Rattle.pmem_recovery.specs.Trials.{IsTwinOfLastSeal}
 use Rattle.pmem_recovery.specs.Written.{differing}
 use Rattle.pmem_recovery.specs.Parts.{GoesOn, IsCutOff, SuiteState, HasRoot, IsRefusal}
 use Rattle.pmem_recovery.specs.Writing.{BothTold}
+use Rattle.pmem_recovery.specs.Mending.{most_writes}
 
 -- a new engine with the work, or why recovery stopped
 abbrev pub Answer : Type 0
@@ -56,6 +58,17 @@ IsUnchanged (Ok done) old new = ⊤
 IsUnchanged (Err Memory) old new = new ≡ old
 IsUnchanged (Err Cut) old new = ⊤
 IsUnchanged (Err fault) old new = HasOnlyRedone old new
+
+-- the most persist steps of a recovery: the armed group's lines and the latch after them, and the writes
+-- of what it makes
+abbrev pub most_steps : Setup → Regs → ℕ
+most_steps setup regs =
+    length regs.group.items + finishing_latches regs.group.items + most_writes setup.shape
+
+-- at most so many; a cut comes at a step that isn't taken, so before all of them were
+abbrev pub StepsAfter : Answer → ℕ → Device → Device → Type 0
+StepsAfter (Err Cut) most old new = TakesFewer most old new
+StepsAfter answer most old new = TakesAtMost most old new
 
 -- ---- the suite
 
@@ -150,11 +163,9 @@ pub record HasRecovered (setup : Setup) (ledger : LedgerState) (old new : Device
   pub power : PowerAfter answer old new
   pub unchanged : IsUnchanged answer old new
   pub writes :
-      RisesAtMost
-      (length old.regs.group.items
-      + ((setup.shape.levels + 1) * layout.slots setup.shape + layout.shadow_lines setup.shape))
-      old.writes new.writes
+      RisesAtMost (length old.regs.group.items + most_writes setup.shape) old.writes new.writes
   pub latches : RisesAtMost (finishing_latches old.regs.group.items) old.latches new.latches
+  pub steps : StepsAfter answer (most_steps setup old.regs) old new
   pub keys : suite_new.keys ≡ suite_old.keys
   pub pads : suite_new.pads ≡ suite_old.pads
   pub trials : TrialsCounted answer suite_old.tags suite_new.tags

@@ -39,9 +39,10 @@ pub record HasWrittenTo (g : Shape) (made : List Made) (i : ℕ) (old new : Devi
       length lines ≡ layout.device_lines g → AreCompared g lines made
       → AreWritten g lines (take i made) now × (differing lines now ≡ count_changed (take i made)))
 
+-- not all of them
 pub record HasWrittenSome (g : Shape) (made : List Made) (old new : Device) : Type 0 where
   pub place : ℕ
-  pub within : place ≤ length made
+  pub within : place < length made
   pub written : HasWrittenTo g made place old new
 
 -- the first shadow lines are zeroed, where they aren't zero
@@ -57,7 +58,8 @@ pub record HasZeroedTo (g : Shape) (shadow : List Line) (n : ℕ) (old new : Dev
       → All (λ entry. entry.at < layout.meta_lines g) made → AreWritten g first made lines
       → differing first now ≡ differing first lines + count_nonzero (take n shadow)))
 
+-- not all of them
 pub record HasZeroedSome (g : Shape) (shadow : List Line) (old new : Device) : Type 0 where
   pub place : ℕ
-  pub within : place ≤ layout.shadow_lines g
+  pub within : place < layout.shadow_lines g
   pub zeroed : HasZeroedTo g shadow place old new

@@ -5,11 +5,10 @@ ghost use Rattle.pmem_base.specs.Shape.{is_loss};
 ghost use Rattle.pmem_base.specs.Layout.{slots, meta_lines, shadow_lines, device_lines};
 ghost use Rattle.pmem_base.specs.Registers.{IsValidRegs};
 ghost use Rattle.shadow_tables.specs.Entries.{shadow_of};
-ghost use Rattle.seal_ledger.specs.Ledger.{IsOfShape};
 ghost use Rattle.pmem_recovery.specs.Parts.{setup_of, Told, HasOnlyRead, GoesOn, IsCutOff, StopsBy, suite_state, HasWorked, HasWorkedAtMost, HasRoot, IsRefusal, IsStopped};
 ghost use Rattle.pmem_recovery.specs.Writing.{BothTold};
 ghost use Rattle.pmem_recovery.specs.Written.{IsRecovered};
-ghost use Rattle.pmem_recovery.specs.Mending.{HasMadeAll, HasMadeWrites, IsLeftAlone};
+ghost use Rattle.pmem_recovery.specs.Mending.{HasMadeAll, HasMadeWrites, IsStoppedShort};
 ghost use Rattle.pmem_recovery.specs.Recovered.{HasRecovered};
 
 use crate::counters::fix_counters;
@@ -43,7 +42,6 @@ pub fn recover<B: Board, S: Suite, A: Audit>(
 ) -> Result<(Engine, Work), RecFault>
     requires size { (B.device board.old).size ≡ device_lines (shape_of geo.now) }
     requires regs { IsValidRegs (shape_of geo.now) (B.device board.old).regs }
-    requires audit { IsOfShape (shape_of geo.now) (A.ledger audit.now) }
     ensures { HasRecovered (setup_of geo.now (S.formulas_of (S.keys suite.old))) (A.ledger audit.now) (B.device board.old) (B.device board.new)
         (suite_state (S.keys suite.old) (S.pads suite.old) (S.tags suite.old) (S.digests suite.old))
         (suite_state (S.keys suite.new) (S.pads suite.new) (S.tags suite.new) (S.digests suite.new)) result }
@@ -105,7 +103,7 @@ fn mend<B: Board, S: Suite>(
         × HasRoot (setup_of geo.now (S.formulas_of (S.keys suite.old))) lines (B.device board.old).regs)) }
     ensures stopped { IfErr result (λ fault. IsStopped (S.formulas_of (S.keys suite.old)) fault (λ lines. length lines ≡ device_lines (shape_of geo.now)
         → IsRefusal (setup_of geo.now (S.formulas_of (S.keys suite.old))) lines (B.device board.old).regs fault) (B.device board.old) (B.device board.new)) }
-    ensures left { IfErr result (λ fault. IsLeftAlone fault (B.device board.old) (B.device board.new)) }
+    ensures short { IfErr result (λ fault. IsStoppedShort (shape_of geo.now) fault (B.device board.old) (B.device board.new)) }
 {
     let regs = board.regs().same();
     let work = make_lines(board, suite, geo, &regs, room)?;

@@ -16,7 +16,7 @@ pub(crate) fn write_made<B: Board>(board: &mut B, geo: &Geo, made: &[Made]) -> R
     requires on_tree { All (λ entry. entry.at < meta_lines (shape_of geo.now)) made.now }
     ensures ok { OnOk result (HasWrittenTo (shape_of geo.now) made.now (length made.now) (B.device board.old) (B.device board.new)) }
     ensures goes { OnOk result (GoesOn (B.device board.old) (B.device board.new)) }
-    ensures some { HasWrittenSome (shape_of geo.now) made.now (B.device board.old) (B.device board.new) }
+    ensures some { OnErr result (HasWrittenSome (shape_of geo.now) made.now (B.device board.old) (B.device board.new)) }
     ensures cut { OnErr result (IsCutOff (B.device board.old) (B.device board.new)) }
 {
     'entries: for entry in made {
@@ -31,7 +31,7 @@ pub(crate) fn clear_shadow<B: Board>(board: &mut B, geo: &Geo, shadow: &[Line]) 
     requires shadow { length shadow.now ≡ shadow_lines (shape_of geo.now) }
     ensures ok { OnOk result (HasZeroedTo (shape_of geo.now) shadow.now (shadow_lines (shape_of geo.now)) (B.device board.old) (B.device board.new)) }
     ensures goes { OnOk result (GoesOn (B.device board.old) (B.device board.new)) }
-    ensures some { HasZeroedSome (shape_of geo.now) shadow.now (B.device board.old) (B.device board.new) }
+    ensures some { OnErr result (HasZeroedSome (shape_of geo.now) shadow.now (B.device board.old) (B.device board.new)) }
     ensures cut { OnErr result (IsCutOff (B.device board.old) (B.device board.new)) }
 {
     let zero = Line::default();

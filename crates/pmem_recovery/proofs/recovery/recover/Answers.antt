@@ -35,7 +35,7 @@ returns-in_err-room g c =
 pub returns-in_err-finish : goal.returns-in_err-finish
 returns-in_err-finish g c =
     at_exit _ _ _ _ _ _ c.from_residual-in_err-finish.result Cut (err_from_is_err_and c.from_residual-in_err-finish.result c.from_residual-in_err-finish.ensures.1)
-    (recovered_interrupted _ _ _ _ _ c.requires.size (g.met.B.Board.whole c.finish.new.board) c.requires.regs (λ none. false≢true (c.in_err-finish.ensures.empty none).0) c.in_err-finish.ensures.cut)
+    (recovered_interrupted _ _ _ _ _ (IsShape-geo c.args.geo.now) c.requires.size (g.met.B.Board.whole c.finish.new.board) c.requires.regs (λ none. false≢true (c.in_err-finish.ensures.empty none).0) c.in_err-finish.ensures.cut)
 
 pub returns-in_err-work : goal.returns-in_err-work
 returns-in_err-work g c =
@@ -52,7 +52,7 @@ returns-in_err-work g c =
       written = c.in_err-work.ensures.written;
     } in
     at_exit _ _ _ _ _ _ c.from_residual-in_err-work.result c.in_err-work.field-0.0 (err_from_is_err_and c.from_residual-in_err-work.result c.from_residual-in_err-work.ensures.1)
-    (recovered_fault setup (g.A.Audit.ledger c.args.audit.now) (g.B.Board.device c.args.board.now) (g.B.Board.device c.finish.new.board) (g.B.Board.device c.mend.new.board) run _ _ c.in_err-work.field-0.0 c.in_err-work.ensures.stopped c.in_err-work.ensures.left c.in_err-work.ensures.at_most)
+    (recovered_fault setup (g.A.Audit.ledger c.args.audit.now) (g.B.Board.device c.args.board.now) (g.B.Board.device c.finish.new.board) (g.B.Board.device c.mend.new.board) run _ _ c.in_err-work.field-0.0 c.in_err-work.ensures.stopped c.in_err-work.ensures.short c.in_err-work.ensures.at_most)
 
 pub returns : goal.returns
 returns g c =

@@ -4,18 +4,21 @@ use Rattle.pmem_base.specs.declared.lines.Line.{Line}
 use Rattle.pmem_base.specs.Geo.{shape_of}
 use Rattle.pmem_base.specs.Layout.{shadow_lines}
 use Rattle.pmem_base.specs.Lines.{line_at, zero_line}
+use Rattle.meta_path.proofs.NameLemmas.{on_err}
 use Rattle.pmem_recovery.specs.Upward.{is_other}
+use Rattle.pmem_recovery.specs.Writing.{HasZeroedSome}
 use Rattle.pmem_recovery.proofs.PartLaws.{GoesOn-then}
 use Rattle.pmem_recovery.proofs.WriteSteps.{HasZeroedTo-cut, HasZeroedTo-more, GoesOn-written_if}
 use Rattle.pmem_recovery.proofs.writing.clear_shadow.Goals as goal
 
 pub returns-in_err-write_changed-clause-some : goal.returns-in_err-write_changed-clause-some
 returns-in_err-write_changed-clause-some g c =
-    record {
+    on_err c.from_residual.result (HasZeroedSome (shape_of c.args.geo.now) c.args.shadow.now (g.B.Board.device c.args.board.now) (g.B.Board.device c.write_changed.new.board))
+    (record {
       place = c.lines.n;
       within = omega (arith, c.lines-test.true, c.shadows-n-end.ensures.value);
       zeroed = HasZeroedTo-cut _ _ c.lines.n _ _ _ c.lines.invariant.zeroed c.in_err-write_changed.ensures.cut;
-    }
+    })
 
 pub lines-preserved : goal.lines-preserved
 lines-preserved g c =

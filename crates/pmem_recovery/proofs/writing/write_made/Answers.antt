@@ -1,7 +1,8 @@
 use Rattle.std.proofs.Common.{◌≡◌, ◌≤◌, [], false, length, refl, subst, arith}
 use Rattle.pmem_base.specs.Geo.{shape_of}
+use Rattle.meta_path.proofs.NameLemmas.{on_err}
 use Rattle.pmem_recovery.specs.declared.entries.Made.{Made}
-use Rattle.pmem_recovery.specs.Writing.{HasWrittenTo}
+use Rattle.pmem_recovery.specs.Writing.{HasWrittenTo, HasWrittenSome}
 use Rattle.pmem_recovery.proofs.PartLaws.{GoesOn-none, GoesOn-then}
 use Rattle.pmem_recovery.proofs.WriteSteps.{HasWrittenTo-none, HasWrittenTo-cut, HasWrittenTo-more, GoesOn-written_if}
 use Rattle.pmem_recovery.proofs.writing.write_made.Goals as goal
@@ -11,11 +12,12 @@ entries-init g c = record { written = HasWrittenTo-none _ _ _; goes = GoesOn-non
 
 pub returns-in_err-write_changed-clause-some : goal.returns-in_err-write_changed-clause-some
 returns-in_err-write_changed-clause-some g c =
-    record {
+    on_err c.from_residual.result (HasWrittenSome (shape_of c.args.geo.now) c.args.made.now (g.B.Board.device c.args.board.now) (g.B.Board.device c.write_changed.new.board))
+    (record {
       place = c.entries.entry-index;
       within = omega (arith, c.entries-test.true);
       written = HasWrittenTo-cut _ _ c.entries.entry-index _ _ _ c.entries.invariant.written c.in_err-write_changed.ensures.cut;
-    }
+    })
 
 pub entries-preserved : goal.entries-preserved
 entries-preserved g c =

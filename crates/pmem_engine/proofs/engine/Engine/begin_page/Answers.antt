@@ -6,7 +6,8 @@ use Rattle.seal_ledger.specs.Ledger.{LedgerState}
 use Rattle.split_counters.specs.declared.Block.{Block}
 use Rattle.split_counters.specs.Blocks.{packed, next_block, IsBlock}
 use Rattle.page_reencrypt.specs.Registers.{begun}
-use Rattle.meta_path.specs.Blocks.{AreCachedTrue}
+use Rattle.bonsai_tree.specs.Paths.{path_with}
+use Rattle.meta_path.specs.Blocks.{AreCachedTrue, cached_line}
 use Rattle.meta_path.specs.Storing.{IsRenewed}
 use Rattle.pmem_engine.specs.declared.fault.Fault.TheVariants as Fail
 use Rattle.pmem_engine.specs.Engine.{EngineState}
@@ -15,6 +16,7 @@ use Rattle.pmem_engine.specs.Parts.{parts_of}
 use Rattle.pmem_engine.specs.Sealing.{cached_block, HasBeginCommitted, IsBeginCut, HasBegunPage}
 use Rattle.pmem_engine.proofs.Exits.{is_err_of}
 use Rattle.pmem_engine.proofs.NextPaths.{rolled-next, times_never_fall}
+use Rattle.pmem_engine.proofs.BegunBlock.{rolled_block}
 use Rattle.pmem_engine.proofs.PageBegun.{page_cut, page_begun}
 use Rattle.pmem_engine.proofs.engine.Engine.begin_page.Goals as goal
 
@@ -92,3 +94,18 @@ returns-clause-begun g c =
     (λ r line. HasBeginCommitted setup.shape c.args.page r line c.next_path-path.result.lines.items c.next_path-path.result.root
     c.args.self.now c.commit_begin.new.self old new before after)
     register block c.in_ok-commit_begin.ensures.ok)
+
+pub returns-clause-rolled : goal.returns-clause-rolled
+returns-clause-rolled g c =
+    let setup : Setup = record { shape = c.args.self.now.shape; formulas = g.S.Suite.formulas_of (g.S.Suite.keys c.args.suite.now) } in
+    let cached : Block = cached_block setup.shape c.args.self.now c.args.page in
+    let block : c.pack-block.result ≡ packed (next_block cached) =
+    c.pack-block.ensures
+    ∙ ap packed (rolled-next c.block.result c.in_ok-block.block c.in_ok-block.ensures.block ∙ ap next_block c.block.ensures.cached) in
+    rolled_block setup.shape setup.formulas (cached_line setup.shape c.args.self.now.cache) c.args.page c.next_path-path.result.lines.items
+    c.args.self.now c.commit_begin.new.self c.in_ok-commit_begin.ensures.ok.page_begun.stored c.requires.major
+    (subst
+    (λ (e : EngineState). c.next_path-path.result.lines.items
+    ≡ path_with e.shape setup.formulas (cached_line e.shape e.cache) c.args.page c.pack-block.result)
+    c.self.view_is c.next_path-path.ensures.lines
+    ∙ ap (path_with setup.shape setup.formulas (cached_line setup.shape c.args.self.now.cache) c.args.page) block)

@@ -1,0 +1,267 @@
+-- What each part of a write keeps, up to the seal of its own line, and what two of them keep together.
+use Rattle.std.proofs.Common.{ℕ, ◌≡◌, ◌<◌, ◌++◌, ◌⊎◌, inl, inr, Bool, true, false, List, [], ◌∷◌, IsTrue, Result, Ok, Err, refl, sym, ap, ap₂, ◌∙◌, arith}
+use Rattle.std.specs.Prelude.{◌||◌, option_map}
+use Rattle.std.specs.List.{list_any}
+use Rattle.std.proofs.lemmas.Bool.{true≢false, or_parts, eq-eqb}
+use Rattle.std.proofs.lemmas.List.{append-nil, append_assoc}
+use Rattle.std.proofs.lemmas.List.Folds.{list_any-append}
+use Rattle.pmem_base.specs.declared.lines.Line.{Line}
+use Rattle.pmem_base.specs.declared.answers.Mark.{Mark}
+use Rattle.pmem_base.specs.declared.answers.Mark.TheVariants.{Begin, Seal}
+use Rattle.pmem_base.specs.declared.commands.Posted.{Posted}
+use Rattle.pmem_base.specs.Layout as layout
+use Rattle.pmem_base.specs.Layout.{page_of, index_in_page}
+use Rattle.pmem_base.specs.Lines.{line_at, tag_slot}
+use Rattle.pmem_base.specs.Marks.{SealOf, last_seal}
+use Rattle.bonsai_tree.specs.Positions.{counter_position}
+use Rattle.bonsai_tree.proofs.Levels.{counter_position-lt}
+use Rattle.seal_ledger.proofs.MarkLemmas.{last_seal-other, last_seal-begun}
+use Rattle.suite.specs.Setup.{Setup}
+use Rattle.plain_model.specs.State.{Memory}
+use Rattle.plain_model.specs.View.{plain_line, plain_of_seal}
+use Rattle.pmem_engine.specs.declared.fault.Fault.{Fault}
+use Rattle.pmem_engine.specs.declared.fault.Fault.TheVariants as Fail
+use Rattle.pmem_engine.specs.Invariants.{IsSealStored}
+use Rattle.pmem_engine.specs.Parts.{Parts, regs_of, lines_redone, AreTrusted, HoldsSeal, meta_line_in}
+use Rattle.pmem_engine.specs.Outcomes.{Outcome, going, outcome_of, is_seal_of, is_sealed_by, HasDone}
+use Rattle.pmem_engine.specs.Calls.{IsMemory, IsLeftAlone, is_persisting}
+use Rattle.pmem_engine.specs.Inner.{HasFetched, HasNamedPath}
+use Rattle.pmem_engine.specs.Sealing.{HasBeginMarks, HasBegunPage}
+use Rattle.pmem_engine.specs.Writing.{HasMadePlain}
+use Rattle.pmem_engine.proofs.Told.{told_cases, told_redone}
+use Rattle.pmem_engine.proofs.StillLaws.{done_reading}
+use Rattle.pmem_engine.proofs.Unsealing.{same_never_falls}
+use Rattle.pmem_engine.proofs.Resealed.{meta_of_same}
+use Rattle.pmem_engine.proofs.Chained.{done_chained}
+
+-- a part of a write of line `at`, its own seal aside
+pub record IsWritePart (setup : Setup) (at : ℕ) (outcome : Outcome) (made : List Mark) (old new : Parts) : Type 0 where
+  pub done : HasDone setup outcome made old new
+  pub memory_kept :
+      AreTrusted setup old → (memory : Memory) → IsMemory setup memory old → IsMemory setup memory new
+  pub sealed_before :
+      AreTrusted setup old → (a : ℕ) → a < layout.data_lines setup.shape → IsTrue (is_sealed_by made a)
+      → HoldsSeal setup.shape old a
+  pub not_own :
+      AreTrusted setup old → (memory : Memory) → IsMemory setup memory old → is_sealed_by made at ≡ false
+  pub block_kept :
+      AreTrusted setup old → list_any (is_persisting (regs_of old).loss at) made ≡ false
+      → meta_line_in setup.shape new (counter_position setup.shape (page_of at))
+      ≡ meta_line_in setup.shape old (counter_position setup.shape (page_of at))
+  pub down : new.engine.down ≡ old.engine.down
+
+-- ---- lines that aren't sealed
+
+-- a mark that isn't a seal of a line leaves its last one
+unsealed_last : (marks : List Mark) (mark : Mark) (a : ℕ) → is_seal_of a mark ≡ false
+    → last_seal (marks ++ mark ∷ []) a ≡ last_seal marks a
+unsealed_last marks (Begin page) a it = last_seal-begun marks page a
+unsealed_last marks (Seal at ctr cipher tag) a it =
+    last_seal-other marks at ctr cipher tag a (λ same. true≢false (sym (eq-eqb at a (sym same)) ∙ it))
+
+-- marks that seal none of a line leave its last seal
+pub last_seal-unsealed : (marks made : List Mark) (a : ℕ) → is_sealed_by made a ≡ false
+    → last_seal (marks ++ made) a ≡ last_seal marks a
+last_seal-unsealed marks [] a it = ap (λ ms. last_seal ms a) (append-nil marks)
+last_seal-unsealed marks (mark ∷ made) a it =
+    let apart = or_parts (is_seal_of a mark) (is_sealed_by made a) it in
+    ap (λ ms. last_seal ms a) (sym (append_assoc marks (mark ∷ []) made))
+    ∙ last_seal-unsealed (marks ++ mark ∷ []) made a apart.1
+    ∙ unsealed_last marks mark a apart.0
+
+-- their plain lines too
+pub plain_line-unsealed : (setup : Setup) (marks made : List Mark) (a : ℕ) → is_sealed_by made a ≡ false
+    → plain_line setup.formulas (marks ++ made) a ≡ plain_line setup.formulas marks a
+plain_line-unsealed setup marks made a it =
+    ap (option_map (plain_of_seal setup.formulas a)) (last_seal-unsealed marks made a it)
+
+-- where a part made no seal of a line, what is stored of it afterwards was stored before
+pub held_back : (setup : Setup) (outcome : Outcome) (made : List Mark) (old new : Parts) → HasDone setup outcome made old new
+    → AreTrusted setup old → (a : ℕ) → a < layout.data_lines setup.shape → is_sealed_by made a ≡ false
+    → HoldsSeal setup.shape new a → HoldsSeal setup.shape old a
+held_back setup outcome made old new done trusted a within unsealed =
+    told_cases (λ lines. IsSealStored setup.shape lines new.ledger.marks a)
+    (λ lines. IsSealStored setup.shape lines old.ledger.marks a) (lines_redone new) (lines_redone old)
+    (told_redone (regs_of old).group.items old.device.lines ∙ sym done.gone.told
+    ∙ sym (told_redone (regs_of new).group.items new.device.lines))
+    (λ lines before is was stored.
+    record {
+      cipher =
+          ap (option_map (λ (seal : SealOf). seal.cipher)) (sym last_same)
+          ∙ stored.cipher
+          ∙ sym (ap (option_map (λ ls. line_at ls a)) is)
+          ∙ (done.gone.places trusted).data_lines a within unsealed
+          ∙ ap (option_map (λ ls. line_at ls a)) was;
+      tag =
+          ap (option_map (λ (seal : SealOf). seal.tag)) (sym last_same)
+          ∙ stored.tag
+          ∙ sym (ap (option_map (λ ls. tag_slot (line_at ls (layout.tag_line setup.shape a)) a)) is)
+          ∙ (done.gone.places trusted).tag_slots a within unsealed
+          ∙ ap (option_map (λ ls. tag_slot (line_at ls (layout.tag_line setup.shape a)) a)) was;
+    })
+  where
+    last_same : last_seal new.ledger.marks a ≡ last_seal old.ledger.marks a
+    last_same =
+        ap (λ ms. last_seal ms a) done.gone.marks ∙ last_seal-unsealed old.ledger.marks made a unsealed
+
+-- no mark, no seal: memory stays
+pub unmarked_memory : (setup : Setup) (outcome : Outcome) (old new : Parts) → HasDone setup outcome [] old new
+    → (memory : Memory) → IsMemory setup memory old → IsMemory setup memory new
+unmarked_memory setup outcome old new done memory was a within =
+    ap (λ ms. plain_line setup.formulas ms a) (done.gone.marks ∙ append-nil old.ledger.marks) ∙ was a within
+
+-- ---- two parts
+
+pub part_chained : (setup : Setup) (at : ℕ) (outcome : Outcome) (made more : List Mark) (old mid new : Parts)
+    → IsWritePart setup at going made old mid → IsWritePart setup at outcome more mid new
+    → IsWritePart setup at outcome (made ++ more) old new
+part_chained setup at outcome made more old mid new first second =
+    record {
+      done = done_chained setup outcome made more old mid new first.done second.done;
+      memory_kept =
+          λ trusted memory was. second.memory_kept (mid_trusted trusted) memory (first.memory_kept trusted memory was);
+      sealed_before = λ trusted a within sealed. before trusted a within sealed (is_sealed_by made a) refl;
+      not_own =
+          λ trusted memory was.
+          list_any-append (is_seal_of at) made more
+          ∙ ap₂ (λ s t. s || t) (first.not_own trusted memory was)
+          (second.not_own (mid_trusted trusted) memory (first.memory_kept trusted memory was));
+      block_kept =
+          λ trusted none.
+          let apart =
+          or_parts (list_any (is_persisting (regs_of old).loss at) made) (list_any (is_persisting (regs_of old).loss at) more)
+          (sym (list_any-append (is_persisting (regs_of old).loss at) made more) ∙ none) in
+          second.block_kept (mid_trusted trusted)
+          (ap (λ loss. list_any (is_persisting loss at) more) first.done.loss ∙ apart.1)
+          ∙ first.block_kept trusted apart.0;
+      down = second.down ∙ first.down;
+    }
+  where
+    mid_trusted : AreTrusted setup old → AreTrusted setup mid
+    mid_trusted trusted = first.done.gone.trusted trusted
+
+    before : AreTrusted setup old → (a : ℕ) → a < layout.data_lines setup.shape → IsTrue (is_sealed_by (made ++ more) a)
+        → (b : Bool) → is_sealed_by made a ≡ b → HoldsSeal setup.shape old a
+    before trusted a within sealed true is = first.sealed_before trusted a within is
+    before trusted a within sealed false is =
+        held_back setup going made old mid first.done trusted a within is
+        (second.sealed_before (mid_trusted trusted) a within
+        (ap (λ t. t || is_sealed_by more a) (sym is) ∙ sym (list_any-append (is_seal_of a) made more) ∙ sealed))
+
+-- ---- each part
+
+pub alone_done : (setup : Setup) (old new : Parts) → IsLeftAlone old new → HasDone setup going [] old new
+alone_done setup old new alone =
+    done_reading setup old new
+    (record {
+      engine = alone.engine;
+      ledger = alone.ledger;
+      size = ap (λ device. device.size) alone.device;
+      lines = ap (λ device. device.lines) alone.device;
+      regs = ap (λ device. device.regs) alone.device;
+      writes = ap (λ device. device.writes) alone.device;
+      latches = ap (λ device. device.latches) alone.device;
+      cuts = ap (λ device. device.cuts) alone.device;
+      steady = λ was. ap (λ device. device.steady) alone.device ∙ was;
+      live = λ was. ap (λ device. device.live) alone.device ∙ was;
+      reads = omega (arith, ap (λ device. device.reads) alone.device);
+      tags = same_never_falls old.tags new.tags alone.tags;
+      digests = same_never_falls old.digests new.digests alone.digests;
+    })
+
+-- a part that was left out
+pub alone_part : (setup : Setup) (at : ℕ) (old new : Parts) → IsLeftAlone old new → IsWritePart setup at going [] old new
+alone_part setup at old new alone =
+    record {
+      done = alone_done setup old new alone;
+      memory_kept = λ trusted memory was. unmarked_memory setup going old new (alone_done setup old new alone) memory was;
+      sealed_before = λ trusted a within sealed. absurd (true≢false (sym sealed));
+      not_own = λ trusted memory was. refl;
+      block_kept =
+          λ trusted none.
+          meta_of_same setup.shape (counter_position setup.shape (page_of at)) old new
+          (ap (λ device. device.regs) alone.device) (ap (λ device. device.lines) alone.device);
+      down = ap (λ engine. engine.down) alone.engine;
+    }
+
+pub fetch_part : (setup : Setup) (at : ℕ) (old new : Parts) (answer : Result Unit Fault)
+    → HasFetched setup (page_of at) old new answer → IsWritePart setup at (outcome_of answer) [] old new
+fetch_part setup at old new answer it =
+    record {
+      done = it.done;
+      memory_kept = λ trusted memory was. unmarked_memory setup (outcome_of answer) old new it.done memory was;
+      sealed_before = λ trusted a within sealed. absurd (true≢false (sym sealed));
+      not_own = λ trusted memory was. refl;
+      block_kept = λ trusted none. it.block_kept trusted;
+      down = it.down;
+    }
+
+pub plain_part : (setup : Setup) (write : Posted) (old new : Parts) (answer : Result Line Fault)
+    → HasMadePlain setup write old new answer → IsWritePart setup write.at (outcome_of answer) [] old new
+plain_part setup write old new answer it =
+    record {
+      done = it.done;
+      memory_kept = λ trusted memory was. unmarked_memory setup (outcome_of answer) old new it.done memory was;
+      sealed_before = λ trusted a within sealed. absurd (true≢false (sym sealed));
+      not_own = λ trusted memory was. refl;
+      block_kept =
+          λ trusted none.
+          meta_of_same setup.shape (counter_position setup.shape (page_of write.at)) old new it.regs it.lines;
+      down = ap (λ engine. engine.down) it.engine;
+    }
+
+pub name_part : (setup : Setup) (at : ℕ) (old new : Parts) (answer : Result Unit Fault) → at < layout.data_lines setup.shape
+    → HasNamedPath setup (page_of at) old new answer → IsWritePart setup at (outcome_of answer) [] old new
+name_part setup at old new answer inside it =
+    record {
+      done = it.done;
+      memory_kept = λ trusted memory was. unmarked_memory setup (outcome_of answer) old new it.done memory was;
+      sealed_before = λ trusted a within sealed. absurd (true≢false (sym sealed));
+      not_own = λ trusted memory was. refl;
+      block_kept =
+          λ trusted none.
+          it.metadata trusted (counter_position setup.shape (page_of at))
+          (counter_position-lt setup.shape (page_of at) (omega (arith, inside)));
+      down = it.down;
+    }
+
+-- a begin makes one mark or none
+pub begin_made : (page : ℕ) (made : List Mark) (answer : Result Unit Fault) → HasBeginMarks page made answer
+    → (made ≡ []) ⊎ (made ≡ Begin page ∷ [])
+begin_made page made (Ok value) it = inr it
+begin_made page made (Err Fail.Cut) it = it
+begin_made page made (Err Fail.Down) it = absurd it
+begin_made page made (Err (Fail.Meta x)) it = absurd it
+begin_made page made (Err (Fail.Tag b)) it = absurd it
+begin_made page made (Err (Fail.Spent spent)) it = absurd it
+begin_made page made (Err Fail.Shown) it = absurd it
+
+pub begin_part : (setup : Setup) (at : ℕ) (old new : Parts) (answer : Result Unit Fault)
+    → (it : HasBegunPage setup (page_of at) old new answer) → IsWritePart setup at (outcome_of answer) it.made old new
+begin_part setup at old new answer it =
+    record {
+      done = it.done;
+      memory_kept =
+          λ trusted memory was a within.
+          ap (λ ms. plain_line setup.formulas ms a) it.done.gone.marks
+          ∙ plain_line-unsealed setup old.ledger.marks it.made a (unsealed a)
+          ∙ was a within;
+      sealed_before = λ trusted a within sealed. absurd (true≢false (sym sealed ∙ unsealed a));
+      not_own = λ trusted memory was. unsealed at;
+      block_kept = λ trusted none. it.block_kept (unbegun none);
+      down = it.down;
+    }
+  where
+    unsealed : (a : ℕ) → is_sealed_by it.made a ≡ false
+    unsealed a =
+        elim (begin_made (page_of at) it.made answer it.marks) [
+          | inl none ↦ ap (λ ms. is_sealed_by ms a) none
+          | inr one ↦ ap (λ ms. is_sealed_by ms a) one
+        ]
+
+    unbegun : list_any (is_persisting (regs_of old).loss at) it.made ≡ false → it.made ≡ []
+    unbegun none =
+        elim (begin_made (page_of at) it.made answer it.marks) [
+          | inl empty ↦ empty
+          | inr one ↦ absurd (true≢false (sym (ap (list_any (is_persisting (regs_of old).loss at)) one) ∙ none))
+        ]

@@ -1,0 +1,733 @@
+-- A whole write, one law an exit: each takes the parts so far, in the order in which a write does them.
+use Rattle.std.proofs.Common.{ℕ, ◌≡◌, ◌≢◌, ◌<◌, ◌≤◌, ◌+◌, ◌*◌, ◌%◌, ◌++◌, ◌⊎◌, inl, inr, Bool, true, false, cond, List, [], ◌∷◌, length, IsTrue, Option, Some, None, Result, Ok, Err, refl, sym, ap, ap₂, subst, ◌∙◌, arith}
+use Rattle.std.specs.Prelude.{◌==◌, ◌||◌, option_map, is_some, IsSome, IsOk, IfOk, IfSome}
+use Rattle.std.specs.List.{list_any}
+use Rattle.std.proofs.lemmas.Bool.{true≢false, cond-true, cond-false, cases_eq, eq-eqb, ne_eqb, or_parts}
+use Rattle.std.proofs.lemmas.List.{append-nil, append_assoc, length-append}
+use Rattle.std.proofs.lemmas.List.Folds.{list_any-append}
+use Rattle.pmem_base.specs.declared.lines.Line.{Line}
+use Rattle.pmem_base.specs.declared.lines.Ctr.{Ctr}
+use Rattle.pmem_base.specs.declared.commands.Posted.{Posted}
+use Rattle.pmem_base.specs.declared.answers.Mark.{Mark}
+use Rattle.pmem_base.specs.Layout as layout
+use Rattle.pmem_base.specs.Layout.{page_of, index_in_page}
+use Rattle.pmem_base.specs.Lines.{line_at}
+use Rattle.pmem_base.specs.Marks.{SealOf, last_seal}
+use Rattle.pmem_base.proofs.LineSets.{line_at-set_same, line_at-set_other}
+use Rattle.seal_ledger.specs.Ledger.{LedgerState}
+use Rattle.seal_ledger.proofs.MarkLemmas.{last_seal-sealed}
+use Rattle.split_counters.specs.Blocks.{unpacked, minor_of}
+use Rattle.bonsai_tree.specs.Positions.{counter_position}
+use Rattle.page_reencrypt.specs.Registers.{register_held}
+use Rattle.meta_path.specs.Blocks.{line_in, IsPathCached}
+use Rattle.suite.specs.Formulas.{cipher_of}
+use Rattle.suite.specs.Setup.{Setup}
+use Rattle.plain_model.specs.State.{Memory, put_write, memory_with}
+use Rattle.plain_model.specs.View.{view_of, plain_line}
+use Rattle.plain_model.specs.Asked.{seal_mark, marks_of_write}
+use Rattle.plain_model.specs.Bounds.{path_length, seal_count}
+use Rattle.pmem_engine.specs.declared.fault.Fault.{Fault}
+use Rattle.pmem_engine.specs.declared.fault.Fault.TheVariants as Fail
+use Rattle.pmem_engine.specs.Parts.{Parts, regs_of, AreTrusted, HoldsSeal, meta_line_in}
+use Rattle.pmem_engine.specs.Outcomes.{going, cut, is_going, outcome_of, outcome_of_fault, is_seal_of, is_sealed_by, TakesSteps, TakesAtMost}
+use Rattle.pmem_engine.specs.Calls.{IsMemory, IsDownAnswer, IsUnrefused, IsPathNamedInMirror, IsBlockTrue, moment_in, memory_after, is_persisting, HasWriteMarks, AnswersWrite, write_bound, TakesSpent, TakesOfWrite}
+use Rattle.pmem_engine.specs.Inner.{StandsStill, HasFetched, HasNamedPath}
+use Rattle.pmem_engine.specs.Sealing.{cached_block, next_counter_of, seal_steps, HasNextMarks, TakesSealSteps, HasSealedNext}
+use Rattle.pmem_engine.specs.Writing.{overflow_of, IsFrontOf, HasFinishMarks, HasMadePlain, HasFinishedFor, HasBegunFor, HasWrittenUnder}
+use Rattle.pmem_engine.proofs.Chained.{done_chained}
+use Rattle.pmem_engine.proofs.WriteAsks.{asked_seal, asked_begin, asked_none, free_at_overflow, overflow_fault}
+use Rattle.pmem_engine.proofs.WriteParts.{IsWritePart, held_back, part_chained, fetch_part, plain_part, name_part}
+use Rattle.pmem_engine.proofs.WriteFinish.{HasFinishedSome, finish_asked, finished_for}
+use Rattle.pmem_engine.proofs.WriteSteps.{most_then, fewer_then, steps_most, more_most, more_fewer, begin_asked, bound_whole}
+use Rattle.pmem_engine.proofs.WriteBegun.{HasBegunSome, begin_counter, begun_for}
+use Rattle.pmem_engine.proofs.WriteExits.{some_after, some_asked, part_of_front, stopped, fault_unrefused, fault_down, unfetched_marks, unfetched_answers, unfetched_steps, unplain_marks, unplain_answers, unplain_steps, unfinished_marks, unfinished_answers, unfinished_steps}
+
+module _ (setup : Setup) (write : Posted) (within : write.at < layout.data_lines setup.shape) (old : Parts) where
+  abbrev page : ℕ
+  page = page_of write.at
+
+  abbrev asked : Memory → Parts → Option (List Mark)
+  asked memory parts = marks_of_write setup.formulas (moment_in setup memory parts) write
+
+  abbrev path : ℕ
+  path = path_length setup.shape
+
+  -- it asks for the same where the ledger is the same
+  asked_same : (memory : Memory) (before after : Parts) → after.ledger ≡ before.ledger → asked memory before ≡ asked memory after
+  asked_same memory before after same =
+      ap (λ (ledger : LedgerState). marks_of_write setup.formulas (record { memory = memory; view = view_of setup.shape ledger.marks }) write)
+      (sym same)
+
+  -- ---- the path isn't fetched
+
+  pub written_unfetched : (new : Parts) (fault : Fault) → HasFetched setup page old new (Err fault)
+      → HasWrittenUnder setup write old new (Err fault)
+  written_unfetched new fault it =
+      stopped setup write old new [] fault (fetch_part setup write.at old new (Err fault) it)
+      (λ trusted memory was.
+      unfetched_marks setup write old new (asked memory old) fault
+      (some_asked setup.formulas (moment_in setup memory old) write) (it.answered trusted))
+      (λ trusted memory was. unfetched_answers setup write old new (asked memory old) fault (it.answered trusted))
+      (λ sound. fault_unrefused Unit Ctr fault (it.unrefused sound))
+      (λ is. it.not_down (fault_down Ctr Unit fault is))
+      (λ trusted memory was.
+      unfetched_steps setup write old new (asked memory old) fault (it.answered trusted) it.steps_of_path it.steps_of_dirty)
+      (λ trusted memory was none. (it.steps_of_path, it.steps_of_dirty))
+
+  module _ (p1 : Parts) (fetched : HasFetched setup page old p1 (Ok tt)) where
+    trusted1 : AreTrusted setup old → AreTrusted setup p1
+    trusted1 trusted = fetched.done.gone.trusted trusted
+
+    cached1 : IsPathCached setup.shape p1.engine.cache page
+    cached1 = fetched.path_cached refl
+
+    ledger1 : p1.ledger ≡ old.ledger
+    ledger1 = fetched.same_ledger (λ e. true≢false (ap is_going e))
+
+    part1 : IsWritePart setup write.at going [] old p1
+    part1 = fetch_part setup write.at old p1 (Ok tt) fetched
+
+    -- ---- its counter is used up
+
+    spent_steps : (marks : Option (List Mark)) (at : ℕ) → TakesOfWrite setup.shape marks [] old p1 (Err (Fail.Spent at))
+    spent_steps (Some marks) at = (fetched.steps_of_path, fetched.steps_of_dirty)
+    spent_steps None at = (fetched.steps_of_path, fetched.steps_of_dirty)
+
+    pub written_spent : (fault : Fault)
+        → overflow_of (cached_block setup.shape p1.engine page) page (index_in_page write.at) ≡ Err fault
+        → HasWrittenUnder setup write old p1 (Err fault)
+    written_spent fault over =
+        subst (λ f. HasWrittenUnder setup write old p1 (Err f))
+        (sym (overflow_fault (cached_block setup.shape p1.engine page) page (index_in_page write.at) fault over))
+        (stopped setup write old p1 [] (Fail.Spent page) part1
+        (λ trusted memory was. (
+          asked_same memory old p1 ledger1
+              ∙ asked_none setup memory write p1 within (trusted1 trusted) cached1 fault over,
+          refl,
+          refl,
+        ))
+        (λ trusted memory was. tt) (λ sound. tt) (λ is. is)
+        (λ trusted memory was. spent_steps (asked memory old) page)
+        (λ trusted memory was none. (fetched.steps_of_path, fetched.steps_of_dirty)))
+
+    module _ (overflows : Bool)
+        (over : overflow_of (cached_block setup.shape p1.engine page) page (index_in_page write.at) ≡ Ok overflows) where
+      -- it isn't
+      unspent : AreTrusted setup old → (memory : Memory) → IsSome (asked memory old)
+      unspent trusted memory = ap is_some (asked_same memory old p1 ledger1) ∙ go overflows over
+        where
+          go : (b : Bool) → overflow_of (cached_block setup.shape p1.engine page) page (index_in_page write.at) ≡ Ok b
+              → IsSome (asked memory p1)
+          go true is = ap is_some (asked_begin setup memory write p1 within (trusted1 trusted) cached1 is)
+          go false is = ap is_some (asked_seal setup memory write p1 within (trusted1 trusted) cached1 is)
+
+      spent_not : (T : Type 0) → AreTrusted setup old → (memory : Memory) → asked memory old ≡ None → T
+      spent_not T trusted memory none = absurd (true≢false (sym (unspent trusted memory) ∙ ap is_some none))
+
+      -- the steps of the path, and none more
+      path_alone : (new : Parts) → TakesSteps 0 p1.device new.device → TakesAtMost path old.device new.device
+      path_alone new none =
+          more_most (path + 0) path old.device new.device (omega arith)
+          (most_then path 0 old.device p1.device new.device fetched.steps_of_path (steps_most 0 p1.device new.device none))
+
+      -- ---- its line isn't unsealed
+
+      pub written_unplain : (new : Parts) (fault : Fault) → HasMadePlain setup write p1 new (Err fault)
+          → HasWrittenUnder setup write old new (Err fault)
+      written_unplain new fault it =
+          stopped setup write old new [] fault
+          (part_chained setup write.at (outcome_of_fault fault) [] [] old p1 new part1
+          (plain_part setup write p1 new (Err fault) it))
+          (λ trusted memory was.
+          unplain_marks setup write p1 new (asked memory old) fault (some_asked setup.formulas (moment_in setup memory old) write)
+          (unspent trusted memory) (it.answered (trusted1 trusted) cached1))
+          (λ trusted memory was.
+          unplain_answers setup write old p1 new (asked memory old) fault (unspent trusted memory)
+          (it.answered (trusted1 trusted) cached1))
+          (λ sound. fault_unrefused Line Ctr fault (it.unrefused (fetched.done.gone.sound sound) cached1))
+          (λ is. it.not_down (fault_down Ctr Line fault is))
+          (λ trusted memory was.
+          unplain_steps setup write old p1 new (asked memory old) fault (unspent trusted memory)
+          (it.answered (trusted1 trusted) cached1) (path_alone new it.no_steps))
+          (λ trusted memory was none. spent_not (TakesSpent setup.shape (outcome_of_fault fault) old new) trusted memory none)
+
+      module _ (p2 : Parts) (plain : Line) (made_plain : HasMadePlain setup write p1 p2 (Ok plain)) where
+        trusted2 : AreTrusted setup old → AreTrusted setup p2
+        trusted2 trusted = made_plain.done.gone.trusted (trusted1 trusted)
+
+        cached2 : IsPathCached setup.shape p2.engine.cache page
+        cached2 = subst (λ engine. IsPathCached setup.shape engine.cache page) (sym made_plain.engine) cached1
+
+        ledger2 : p2.ledger ≡ old.ledger
+        ledger2 = made_plain.same_ledger (λ e. true≢false (ap is_going e)) ∙ ledger1
+
+        over2 : overflow_of (cached_block setup.shape p2.engine page) page (index_in_page write.at) ≡ Ok overflows
+        over2 =
+            ap (λ engine. overflow_of (cached_block setup.shape engine page) page (index_in_page write.at)) made_plain.engine
+            ∙ over
+
+        part2 : IsWritePart setup write.at going [] old p2
+        part2 = part_chained setup write.at going [] [] old p1 p2 part1 (plain_part setup write p1 p2 (Ok plain) made_plain)
+
+        steps2 : TakesAtMost path old.device p2.device
+        steps2 = path_alone p2 made_plain.no_steps
+
+        -- what it asks for: the finishing, a begin or none, and its own seal
+        abbrev front : Memory → List Mark
+        front memory = finish_asked overflows setup page p2 memory
+
+        abbrev own : Memory → Mark
+        own memory =
+            seal_mark setup.formulas write.at (begin_counter overflows setup write.at p2) (put_write (line_at memory write.at) write)
+
+        abbrev rest : Memory → List Mark
+        rest memory = begin_asked overflows page ++ own memory ∷ []
+
+        asked2 : AreTrusted setup old → (memory : Memory) → asked memory old ≡ Some (front memory ++ rest memory)
+        asked2 trusted memory = asked_same memory old p2 ledger2 ∙ go overflows over2
+          where
+            go : (b : Bool) → overflow_of (cached_block setup.shape p2.engine page) page (index_in_page write.at) ≡ Ok b
+                → asked memory p2
+                ≡ Some
+                (finish_asked b setup page p2 memory
+                ++ (begin_asked b page
+                ++ seal_mark setup.formulas write.at (begin_counter b setup write.at p2) (put_write (line_at memory write.at) write) ∷ []))
+            go true is = asked_begin setup memory write p2 within (trusted2 trusted) cached2 is
+            go false is = asked_seal setup memory write p2 within (trusted2 trusted) cached2 is
+
+        rest_some : (memory : Memory) → 0 < length (rest memory)
+        rest_some memory = omega (arith, length-append (begin_asked overflows page) (own memory ∷ []))
+
+        free : overflows ≡ true → AreTrusted setup p2 → register_held (regs_of p2).progress.items write.at ≡ None
+        free is trusted = free_at_overflow setup [] write p2 within trusted cached2 (over2 ∙ ap Ok is)
+
+        bound : (memory : Memory) → seal_count (front memory) ≡ length (front memory)
+            → write_bound setup.shape (front memory ++ rest memory)
+            ≡ 2 * path + 1 + 4 * (length (front memory) + 1) + 3 * length (begin_asked overflows page)
+        bound memory seals = bound_whole setup.shape (front memory) overflows page (own memory) seals refl
+
+        -- ---- the page isn't finished
+
+        pub written_unfinished : (new : Parts) (fault : Fault) → HasFinishedFor overflows setup page p2 new (Err fault)
+            → HasWrittenUnder setup write old new (Err fault)
+        written_unfinished new fault finished =
+            stopped setup write old new it.made fault
+            (part_chained setup write.at (outcome_of_fault fault) [] it.made old p2 new part2 it.part)
+            (λ trusted memory was.
+            subst (λ marks. HasWriteMarks marks it.made write (Err fault)) (sym (asked2 trusted memory))
+            (unfinished_marks write (front memory) (rest memory) it.made fault (rest_some memory) (marks trusted memory was)))
+            (λ trusted memory was.
+            subst (λ marks. AnswersWrite setup marks it.made write old new (Err fault)) (sym (asked2 trusted memory))
+            (unfinished_answers setup write old new (front memory) (rest memory) it.made fault (rest_some memory)
+            (marks trusted memory was) (it.answered (trusted2 trusted) memory (part2.memory_kept trusted memory was))))
+            (λ sound. fault_unrefused Unit Ctr fault (it.unrefused (part2.done.gone.sound sound)))
+            (λ is. it.not_down (fault_down Ctr Unit fault is))
+            (λ trusted memory was.
+            subst (λ marks. TakesOfWrite setup.shape marks it.made old new (Err fault)) (sym (asked2 trusted memory))
+            (unfinished_steps setup old p2 new (front memory) (rest memory) it.made fault (it.seals memory)
+            (omega (arith, bound memory (it.seals memory))) (marks trusted memory was) steps2
+            (it.counts (trusted2 trusted) memory (part2.memory_kept trusted memory was))))
+            (λ trusted memory was none. spent_not (TakesSpent setup.shape (outcome_of_fault fault) old new) trusted memory none)
+          where
+            it : HasFinishedSome setup write.at front p2 new (Err fault)
+            it = finished_for setup write.at p2 new (Err fault) within overflows free finished
+
+            marks : (trusted : AreTrusted setup old) (memory : Memory) → IsMemory setup memory old
+                → HasFinishMarks (front memory) it.made (Err fault)
+            marks trusted memory was = it.marks (trusted2 trusted) memory (part2.memory_kept trusted memory was)
+
+        module _ (p3 : Parts) (finished : HasFinishedFor overflows setup page p2 p3 (Ok tt)) where
+          some3 : HasFinishedSome setup write.at front p2 p3 (Ok tt)
+          some3 = finished_for setup write.at p2 p3 (Ok tt) within overflows free finished
+
+          part3 : IsWritePart setup write.at going some3.made old p3
+          part3 = part_chained setup write.at going [] some3.made old p2 p3 part2 some3.part
+
+          -- all lines are sealed
+          all3 : AreTrusted setup old → (memory : Memory) → IsMemory setup memory old → some3.made ≡ front memory
+          all3 trusted memory was = some3.marks (trusted2 trusted) memory (part2.memory_kept trusted memory was)
+
+          steps3 : AreTrusted setup old → (memory : Memory) → IsMemory setup memory old
+              → TakesAtMost (path + 4 * length (front memory)) old.device p3.device
+          steps3 trusted memory was =
+              subst (λ marks. TakesAtMost (path + 4 * length marks) old.device p3.device) (all3 trusted memory was)
+              (most_then path (4 * length some3.made) old.device p2.device p3.device steps2
+              (steps_most (4 * length some3.made) p2.device p3.device
+              (some3.counts (trusted2 trusted) memory (part2.memory_kept trusted memory was))))
+
+          -- ---- the path isn't named
+
+          unnamed_front : (marks made : List Mark) → made ≡ marks → IsFrontOf marks (made ++ [])
+          unnamed_front marks made all =
+              record { left = []; front = sym all ∙ sym (append-nil made) ∙ sym (append-nil (made ++ [])) }
+
+          unnamed : (new : Parts) → HasNamedPath setup page p3 new (Err Fail.Cut) → HasWrittenUnder setup write old new (Err Fail.Cut)
+          unnamed new it =
+              stopped setup write old new (some3.made ++ []) Fail.Cut
+              (part_chained setup write.at (outcome_of_fault Fail.Cut) some3.made [] old p3 new part3
+              (name_part setup write.at p3 new (Err Fail.Cut) within it))
+              (λ trusted memory was.
+              subst (λ marks. HasWriteMarks marks (some3.made ++ []) write (Err Fail.Cut)) (sym (asked2 trusted memory))
+              (inr (part_of_front (front memory) (rest memory) (some3.made ++ []) (rest_some memory)
+              (unnamed_front (front memory) some3.made (all3 trusted memory was)))))
+              (λ trusted memory was. tt) (λ sound. tt) (λ is. is)
+              (λ trusted memory was.
+              subst (λ marks. TakesOfWrite setup.shape marks (some3.made ++ []) old new (Err Fail.Cut)) (sym (asked2 trusted memory))
+              (more_fewer (path + 4 * length (front memory) + path) (write_bound setup.shape (front memory ++ rest memory)) old.device new.device
+              (omega (arith, bound memory (some3.seals memory)))
+              (fewer_then (path + 4 * length (front memory)) path old.device p3.device new.device (steps3 trusted memory was) it.steps)))
+              (λ trusted memory was none. spent_not (TakesSpent setup.shape cut old new) trusted memory none)
+
+          pub written_unnamed : (new : Parts) (fault : Fault) → HasNamedPath setup page p3 new (Err fault)
+              → HasWrittenUnder setup write old new (Err fault)
+          written_unnamed new Fail.Cut it = unnamed new it
+          written_unnamed new Fail.Down it = absurd it.cut_alone
+          written_unnamed new Fail.Shown it = absurd it.cut_alone
+          written_unnamed new (Fail.Meta x) it = absurd it.cut_alone
+          written_unnamed new (Fail.Tag b) it = absurd it.cut_alone
+          written_unnamed new (Fail.Spent spent) it = absurd (it.not_spent spent refl)
+
+          module _ (p4 : Parts) (named : HasNamedPath setup page p3 p4 (Ok tt)) where
+            part4 : IsWritePart setup write.at going some3.made old p4
+            part4 =
+                subst (λ marks. IsWritePart setup write.at going marks old p4) (append-nil some3.made)
+                (part_chained setup write.at going some3.made [] old p3 p4 part3
+                (name_part setup write.at p3 p4 (Ok tt) within named))
+
+            steps4 : AreTrusted setup old → (memory : Memory) → IsMemory setup memory old
+                → TakesAtMost (path + 4 * length (front memory) + path) old.device p4.device
+            steps4 trusted memory was =
+                most_then (path + 4 * length (front memory)) path old.device p3.device p4.device (steps3 trusted memory was) named.steps
+
+            -- the next counter is the one that is asked for
+            same_counter : (b : Bool) → begin_counter b setup write.at p4 ≡ begin_counter b setup write.at p2
+            same_counter b = go b (named.cache ∙ ap (λ engine. engine.cache) some3.engine)
+              where
+                go : (b : Bool) → p4.engine.cache ≡ p2.engine.cache
+                    → begin_counter b setup write.at p4 ≡ begin_counter b setup write.at p2
+                go true same =
+                    ap (λ banks. record {
+                      major =
+                          (unpacked (line_in setup.shape banks setup.shape.levels (counter_position setup.shape page))).major
+                          + 1;
+                      minor = 1;
+                    }) same
+                go false same =
+                    ap (λ banks.
+                    let block = unpacked (line_in setup.shape banks setup.shape.levels (counter_position setup.shape page)) in
+                    record { major = block.major; minor = minor_of block (index_in_page write.at) + 1 }) same
+
+            -- ---- the page isn't begun
+
+            unbegun : (new : Parts) → HasBegunSome setup write.at (begin_asked overflows page) (begin_counter overflows setup write.at p4) p4 new (Err Fail.Cut)
+                → HasWrittenUnder setup write old new (Err Fail.Cut)
+            unbegun new it =
+                stopped setup write old new (some3.made ++ it.made) Fail.Cut
+                (part_chained setup write.at (outcome_of_fault Fail.Cut) some3.made it.made old p4 new part4 it.part)
+                (λ trusted memory was.
+                subst (λ marks. HasWriteMarks marks (some3.made ++ it.made) write (Err Fail.Cut)) (sym (asked2 trusted memory))
+                (inr (record {
+                  left = it.marks.left ++ own memory ∷ [];
+                  front =
+                      ap₂ (λ marks begin. marks ++ (begin ++ own memory ∷ [])) (sym (all3 trusted memory was)) it.marks.front
+                      ∙ ap (λ marks. some3.made ++ marks) (append_assoc it.made it.marks.left (own memory ∷ []))
+                      ∙ sym (append_assoc some3.made it.made (it.marks.left ++ own memory ∷ []));
+                  not_all = some_after it.marks.left (own memory) [];
+                })))
+                (λ trusted memory was. tt) (λ sound. tt) (λ is. is)
+                (λ trusted memory was.
+                subst (λ marks. TakesOfWrite setup.shape marks (some3.made ++ it.made) old new (Err Fail.Cut)) (sym (asked2 trusted memory))
+                (more_fewer (path + 4 * length (front memory) + path + 3 * length (begin_asked overflows page))
+                (write_bound setup.shape (front memory ++ rest memory)) old.device new.device
+                (omega (arith, bound memory (some3.seals memory)))
+                (fewer_then (path + 4 * length (front memory) + path) (3 * length (begin_asked overflows page)) old.device p4.device new.device
+                (steps4 trusted memory was) it.counts)))
+                (λ trusted memory was none. spent_not (TakesSpent setup.shape cut old new) trusted memory none)
+
+            unbegun_by : (new : Parts) (fault : Fault)
+                → HasBegunSome setup write.at (begin_asked overflows page) (begin_counter overflows setup write.at p4) p4 new (Err fault)
+                → HasWrittenUnder setup write old new (Err fault)
+            unbegun_by new Fail.Cut it = unbegun new it
+            unbegun_by new Fail.Down it = absurd it.marks
+            unbegun_by new Fail.Shown it = absurd it.marks
+            unbegun_by new (Fail.Meta x) it = absurd it.marks
+            unbegun_by new (Fail.Tag b) it = absurd it.marks
+            unbegun_by new (Fail.Spent spent) it = absurd it.marks
+
+            pub written_unbegun : (new : Parts) (fault : Fault) → HasBegunFor overflows setup page p4 new (Err fault)
+                → HasWrittenUnder setup write old new (Err fault)
+            written_unbegun new fault begun = unbegun_by new fault (begun_for setup write.at p4 new (Err fault) overflows begun)
+
+            module _ (p5 : Parts) (begun : HasBegunFor overflows setup page p4 p5 (Ok tt)) where
+              some5 : HasBegunSome setup write.at (begin_asked overflows page) (begin_counter overflows setup write.at p4) p4 p5 (Ok tt)
+              some5 = begun_for setup write.at p4 p5 (Ok tt) overflows begun
+
+              -- the marks made before the seal
+              abbrev before : List Mark
+              before = some3.made ++ some5.made
+
+              part5 : IsWritePart setup write.at going before old p5
+              part5 = part_chained setup write.at going some3.made some5.made old p4 p5 part4 some5.part
+
+              trusted5 : AreTrusted setup old → AreTrusted setup p5
+              trusted5 trusted = part5.done.gone.trusted trusted
+
+              steps5 : AreTrusted setup old → (memory : Memory) → IsMemory setup memory old
+                  → TakesAtMost (path + 4 * length (front memory) + path + 3 * length (begin_asked overflows page)) old.device p5.device
+              steps5 trusted memory was =
+                  most_then (path + 4 * length (front memory) + path) (3 * length (begin_asked overflows page)) old.device p4.device p5.device
+                  (steps4 trusted memory was)
+                  (steps_most (3 * length (begin_asked overflows page)) p4.device p5.device some5.counts)
+
+              abbrev next : Ctr
+              next = next_counter_of setup.shape p5.engine write.at
+
+              abbrev seal : Mark
+              seal = seal_mark setup.formulas write.at next plain
+
+              plain_is : AreTrusted setup old → (memory : Memory) → IsMemory setup memory old
+                  → plain ≡ put_write (line_at memory write.at) write
+              plain_is trusted memory was =
+                  subst (λ o. IfSome o (λ line. plain ≡ put_write line write)) (part1.memory_kept trusted memory was write.at within)
+                  (made_plain.answered (trusted1 trusted) cached1).0
+
+              seal_is : AreTrusted setup old → (memory : Memory) → IsMemory setup memory old → seal ≡ own memory
+              seal_is trusted memory was =
+                  ap₂ (λ ctr line. seal_mark setup.formulas write.at ctr line)
+                  (some5.next refl (part4.done.gone.trusted trusted) ∙ same_counter overflows) (plain_is trusted memory was)
+
+              -- the marks asked are those made before, and the seal
+              whole : AreTrusted setup old → (memory : Memory) → IsMemory setup memory old
+                  → before ++ seal ∷ [] ≡ front memory ++ rest memory
+              whole trusted memory was =
+                  append_assoc some3.made some5.made (seal ∷ [])
+                  ∙ ap₂ (λ marks begin. marks ++ (begin ++ seal ∷ [])) (all3 trusted memory was) some5.marks
+                  ∙ ap (λ mark. front memory ++ (begin_asked overflows page ++ mark ∷ [])) (seal_is trusted memory was)
+
+              -- ---- the seal
+
+              module _ (new : Parts) (answer : Result Ctr Fault) (it : HasSealedNext setup write.at plain p5 new answer) where
+                -- made is the seal, or nothing
+                made_cases : (reply : Result Ctr Fault) → HasNextMarks setup.formulas write.at next plain it.made reply
+                    → (it.made ≡ []) ⊎ (it.made ≡ seal ∷ [])
+                made_cases (Ok ctr) marks = inr marks.1
+                made_cases (Err Fail.Cut) marks = marks
+                made_cases (Err Fail.Down) marks = absurd marks
+                made_cases (Err Fail.Shown) marks = absurd marks
+                made_cases (Err (Fail.Meta x)) marks = absurd marks
+                made_cases (Err (Fail.Tag b)) marks = absurd marks
+                made_cases (Err (Fail.Spent spent)) marks = absurd marks
+
+                made_is : (it.made ≡ []) ⊎ (it.made ≡ seal ∷ [])
+                made_is = made_cases answer it.marks
+
+                -- whether it seals a line
+                none_sealed : it.made ≡ [] → (a : ℕ) → is_sealed_by it.made a ≡ false
+                none_sealed none a = ap (λ marks. is_sealed_by marks a) none
+
+                one_sealed : it.made ≡ seal ∷ [] → is_sealed_by it.made write.at ≡ true
+                one_sealed one = ap (λ marks. is_sealed_by marks write.at) one ∙ ap (λ b. b || false) (eq-eqb write.at write.at refl)
+
+                other_unsealed : it.made ≡ seal ∷ [] → (a : ℕ) → a ≢ write.at → is_sealed_by it.made a ≡ false
+                other_unsealed one a apart =
+                    ap (λ marks. is_sealed_by marks a) one
+                    ∙ ap (λ b. b || false) (ne_eqb write.at a (λ same. apart (sym same)))
+
+                sealed_at : (a : ℕ) → is_sealed_by it.made a ≡ true → a ≡ write.at
+                sealed_at a sealed =
+                    elim (cases_eq a write.at) [
+                      | inl same ↦ same
+                      | inr apart ↦
+                          elim made_is [
+                            | inl none ↦ absurd (true≢false (sym sealed ∙ none_sealed none a))
+                            | inr one ↦ absurd (true≢false (sym sealed ∙ other_unsealed one a apart))
+                          ]
+                    ]
+
+                -- ---- the marks
+
+                sealed_marks : AreTrusted setup old → (memory : Memory) → IsMemory setup memory old → (reply : Result Ctr Fault)
+                    → HasNextMarks setup.formulas write.at next plain it.made reply
+                    → HasWriteMarks (Some (front memory ++ rest memory)) (before ++ it.made) write reply
+                sealed_marks trusted memory was (Ok ctr) marks =
+                    ap Some (sym (whole trusted memory was) ∙ ap (λ ms. before ++ ms) (sym marks.1))
+                sealed_marks trusted memory was (Err Fail.Cut) (inl none) =
+                    inr (record {
+                      left = seal ∷ [];
+                      front =
+                          sym (whole trusted memory was)
+                          ∙ ap (λ ms. ms ++ seal ∷ []) (sym (append-nil before) ∙ ap (λ ms. before ++ ms) (sym none));
+                      not_all = some_after [] seal [];
+                    })
+                sealed_marks trusted memory was (Err Fail.Cut) (inr one) =
+                    inl (ap Some (sym (whole trusted memory was) ∙ ap (λ ms. before ++ ms) (sym one)))
+                sealed_marks trusted memory was (Err Fail.Down) marks = absurd marks
+                sealed_marks trusted memory was (Err Fail.Shown) marks = absurd marks
+                sealed_marks trusted memory was (Err (Fail.Meta x)) marks = absurd marks
+                sealed_marks trusted memory was (Err (Fail.Tag b)) marks = absurd marks
+                sealed_marks trusted memory was (Err (Fail.Spent spent)) marks = absurd marks
+
+                -- the counter answered is the last one
+                last_is : (reply : Result Ctr Fault) → HasNextMarks setup.formulas write.at next plain it.made reply
+                    → (asks : Option (List Mark)) → AnswersWrite setup asks (before ++ it.made) write old new reply
+                last_is (Ok ctr) marks asks =
+                    ap (λ ms. option_map (λ (s : SealOf). s.ctr) (last_seal ms write.at))
+                    (it.done.gone.marks ∙ ap (λ ms. p5.ledger.marks ++ ms) marks.1)
+                    ∙ ap (option_map (λ (s : SealOf). s.ctr))
+                    (last_seal-sealed p5.ledger.marks write.at next (cipher_of setup.formulas write.at next plain)
+                    (setup.formulas.tag_of write.at next (cipher_of setup.formulas write.at next plain)))
+                    ∙ ap Some (sym marks.0)
+                last_is (Err Fail.Cut) marks asks = tt
+                last_is (Err Fail.Down) marks asks = absurd marks
+                last_is (Err Fail.Shown) marks asks = absurd marks
+                last_is (Err (Fail.Meta x)) marks asks = absurd marks
+                last_is (Err (Fail.Tag b)) marks asks = absurd marks
+                last_is (Err (Fail.Spent spent)) marks asks = absurd marks
+
+                sealed_unrefused : (reply : Result Ctr Fault) → HasNextMarks setup.formulas write.at next plain it.made reply
+                    → IsUnrefused reply
+                sealed_unrefused (Ok ctr) marks = tt
+                sealed_unrefused (Err Fail.Cut) marks = tt
+                sealed_unrefused (Err Fail.Down) marks = absurd marks
+                sealed_unrefused (Err Fail.Shown) marks = absurd marks
+                sealed_unrefused (Err (Fail.Meta x)) marks = absurd marks
+                sealed_unrefused (Err (Fail.Tag b)) marks = absurd marks
+                sealed_unrefused (Err (Fail.Spent spent)) marks = tt
+
+                sealed_not_down : (reply : Result Ctr Fault) → HasNextMarks setup.formulas write.at next plain it.made reply
+                    → IsDownAnswer reply → ⊥
+                sealed_not_down (Ok ctr) marks is = is
+                sealed_not_down (Err Fail.Cut) marks is = is
+                sealed_not_down (Err Fail.Down) marks is = marks
+                sealed_not_down (Err Fail.Shown) marks is = is
+                sealed_not_down (Err (Fail.Meta x)) marks is = is
+                sealed_not_down (Err (Fail.Tag b)) marks is = is
+                sealed_not_down (Err (Fail.Spent spent)) marks is = is
+
+                -- ---- memory
+
+                -- the write's own seal is among the marks where it was made now
+                own_sealed : AreTrusted setup old → (memory : Memory) → IsMemory setup memory old
+                    → is_sealed_by (before ++ it.made) write.at ≡ is_sealed_by it.made write.at
+                own_sealed trusted memory was =
+                    list_any-append (is_seal_of write.at) before it.made
+                    ∙ ap (λ b. b || is_sealed_by it.made write.at) (part5.not_own trusted memory was)
+
+                plain_now : (a : ℕ) (b : Bool) → is_sealed_by it.made a ≡ b
+                    → plain_line setup.formulas new.ledger.marks a ≡ cond b (Some plain) (plain_line setup.formulas p5.ledger.marks a)
+                plain_now a b is =
+                    it.plain_now a ∙ ap (λ t. cond t (Some plain) (plain_line setup.formulas p5.ledger.marks a)) is
+
+                memory_put : AreTrusted setup old → (memory : Memory) → write.at < length memory → IsMemory setup memory old
+                    → it.made ≡ seal ∷ [] → IsMemory setup (memory_with memory write) new
+                memory_put trusted memory long was one a inside =
+                    elim (cases_eq a write.at) [
+                      | inl same ↦
+                          plain_now a true (ap (is_sealed_by it.made) same ∙ one_sealed one)
+                          ∙ ap Some
+                          (plain_is trusted memory was
+                          ∙ sym (line_at-set_same memory write.at (put_write (line_at memory write.at) write) long)
+                          ∙ ap (line_at (memory_with memory write)) (sym same))
+                      | inr apart ↦
+                          plain_now a false (other_unsealed one a apart)
+                          ∙ part5.memory_kept trusted memory was a inside
+                          ∙ ap Some (sym (line_at-set_other memory write.at a (put_write (line_at memory write.at) write) apart))
+                    ]
+
+                memory_same : AreTrusted setup old → (memory : Memory) → IsMemory setup memory old
+                    → it.made ≡ [] → IsMemory setup memory new
+                memory_same trusted memory was none a inside =
+                    plain_now a false (none_sealed none a) ∙ part5.memory_kept trusted memory was a inside
+
+                memory_now : AreTrusted setup old → (memory : Memory) → write.at < length memory → IsMemory setup memory old
+                    → IsMemory setup (memory_after memory write (before ++ it.made)) new
+                memory_now trusted memory long was =
+                    elim made_is [
+                      | inl none ↦
+                          subst (λ m. IsMemory setup m new)
+                          (sym (cond-false (is_sealed_by (before ++ it.made) write.at) (memory_with memory write) memory
+                          (own_sealed trusted memory was ∙ none_sealed none write.at)))
+                          (memory_same trusted memory was none)
+                      | inr one ↦
+                          subst (λ m. IsMemory setup m new)
+                          (sym (cond-true (is_sealed_by (before ++ it.made) write.at) (memory_with memory write) memory
+                          (own_sealed trusted memory was ∙ one_sealed one)))
+                          (memory_put trusted memory long was one)
+                    ]
+
+                -- ---- what was stored before
+
+                stored_before : AreTrusted setup old → (a : ℕ) → a < layout.data_lines setup.shape
+                    → IsTrue (is_sealed_by (before ++ it.made) a) → (a ≢ write.at) ⊎ (write.len < 64) → (b : Bool)
+                    → is_sealed_by before a ≡ b → HoldsSeal setup.shape old a
+                stored_before trusted a inside sealed other true is = part5.sealed_before trusted a inside is
+                stored_before trusted a inside sealed other false is =
+                    let same : a ≡ write.at =
+                    sealed_at a
+                    (ap (λ t. t || is_sealed_by it.made a) (sym is)
+                    ∙ sym (list_any-append (is_seal_of a) before it.made) ∙ sealed) in
+                    elim other [
+                      | inl apart ↦ absurd (apart same)
+                      | inr short ↦
+                          subst (HoldsSeal setup.shape old) (sym same)
+                          (held_back setup going [] old p2 part2.done trusted write.at within refl
+                          ((made_plain.answered (trusted1 trusted) cached1).1 short))
+                    ]
+
+                -- ---- steps
+
+                few_steps : (loss : ℕ) (ctr : Ctr) → seal_steps loss ctr ≤ 5
+                few_steps loss ctr = go (ctr.minor % loss == 0)
+                  where
+                    go : (b : Bool) → cond b 5 4 ≤ 5
+                    go true = omega arith
+                    go false = omega arith
+
+                sealed_steps : AreTrusted setup old → (memory : Memory) → IsMemory setup memory old → (reply : Result Ctr Fault)
+                    → HasNextMarks setup.formulas write.at next plain it.made reply
+                    → TakesSealSteps (seal_steps (regs_of p5).loss next) p5 new reply
+                    → TakesOfWrite setup.shape (Some (front memory ++ rest memory)) (before ++ it.made) old new reply
+                sealed_steps trusted memory was (Ok ctr) marks steps =
+                    subst (λ ms. TakesAtMost (write_bound setup.shape ms) old.device new.device)
+                    (sym (whole trusted memory was) ∙ ap (λ ms. before ++ ms) (sym marks.1))
+                    (more_most
+                    (path + 4 * length (front memory) + path + 3 * length (begin_asked overflows page) + seal_steps (regs_of p5).loss next)
+                    (write_bound setup.shape (front memory ++ rest memory)) old.device new.device
+                    (omega (arith, bound memory (some3.seals memory), few_steps (regs_of p5).loss next))
+                    (most_then (path + 4 * length (front memory) + path + 3 * length (begin_asked overflows page))
+                    (seal_steps (regs_of p5).loss next) old.device p5.device new.device (steps5 trusted memory was)
+                    (steps_most (seal_steps (regs_of p5).loss next) p5.device new.device steps)))
+                sealed_steps trusted memory was (Err Fail.Cut) marks steps =
+                    more_fewer
+                    (path + 4 * length (front memory) + path + 3 * length (begin_asked overflows page) + seal_steps (regs_of p5).loss next)
+                    (write_bound setup.shape (front memory ++ rest memory)) old.device new.device
+                    (omega (arith, bound memory (some3.seals memory), few_steps (regs_of p5).loss next))
+                    (fewer_then (path + 4 * length (front memory) + path + 3 * length (begin_asked overflows page))
+                    (seal_steps (regs_of p5).loss next) old.device p5.device new.device (steps5 trusted memory was) steps)
+                sealed_steps trusted memory was (Err Fail.Down) marks steps = absurd marks
+                sealed_steps trusted memory was (Err Fail.Shown) marks steps = absurd marks
+                sealed_steps trusted memory was (Err (Fail.Meta x)) marks steps = absurd marks
+                sealed_steps trusted memory was (Err (Fail.Tag b)) marks steps = absurd marks
+                sealed_steps trusted memory was (Err (Fail.Spent spent)) marks steps = absurd marks
+
+                -- ---- the counter block
+
+                kept_before : AreTrusted setup old → list_any (is_persisting (regs_of old).loss write.at) (before ++ it.made) ≡ false
+                    → meta_line_in setup.shape new (counter_position setup.shape page)
+                    ≡ meta_line_in setup.shape old (counter_position setup.shape page)
+                kept_before trusted none =
+                    let apart =
+                    or_parts (list_any (is_persisting (regs_of old).loss write.at) before)
+                    (list_any (is_persisting (regs_of old).loss write.at) it.made)
+                    (sym (list_any-append (is_persisting (regs_of old).loss write.at) before it.made) ∙ none) in
+                    it.block_kept (trusted5 trusted)
+                    (ap (λ loss. list_any (is_persisting loss write.at) it.made) part5.done.loss ∙ apart.1)
+                    ∙ part5.block_kept trusted apart.0
+
+                written_by : (reply : Result Ctr Fault) → HasNextMarks setup.formulas write.at next plain it.made reply
+                    → (IsOk reply → (next.minor % (regs_of p5).loss == 0) ≡ true → IsBlockTrue setup new page)
+                    → IfOk reply (λ ctr. ctr.minor % (regs_of old).loss ≡ 0 → IsBlockTrue setup new page)
+                written_by (Ok ctr) marks block =
+                    λ zero.
+                    block refl
+                    (eq-eqb (next.minor % (regs_of p5).loss) 0
+                    (ap₂ (λ (c : Ctr) n. c.minor % n) (sym marks.0) part5.done.loss ∙ zero))
+                written_by (Err fault) marks block = tt
+
+                -- ---- one seal, where the path was cached and named
+
+                named_steps : IsPathCached setup.shape old.engine.cache page → IsPathNamedInMirror setup.shape old.engine page
+                    → length (before ++ it.made) ≡ 1 → (reply : Result Ctr Fault)
+                    → HasNextMarks setup.formulas write.at next plain it.made reply
+                    → TakesSealSteps (seal_steps (regs_of p5).loss next) p5 new reply
+                    → IfOk reply (λ ctr. TakesSteps (seal_steps (regs_of old).loss ctr) old.device new.device)
+                named_steps cached was_named one (Err fault) marks steps = tt
+                named_steps cached was_named one (Ok ctr) marks steps =
+                    subst (λ n. TakesSteps n old.device new.device)
+                    (ap₂ seal_steps part5.done.loss (sym marks.0)) (alone overflows finished begun some5.marks)
+                  where
+                    still1 : StandsStill old.device p1.device
+                    still1 = (fetched.still_cached cached).1
+
+                    named3 : IsPathNamedInMirror setup.shape p3.engine page
+                    named3 =
+                        subst (λ engine. IsPathNamedInMirror setup.shape engine page) (sym (some3.engine ∙ made_plain.engine))
+                        (fetched.still_named cached was_named)
+
+                    still4 : StandsStill p3.device p4.device
+                    still4 = (named.still_named named3).1
+
+                    together : p3.device ≡ p2.device → p5.device ≡ p4.device
+                        → TakesSteps (seal_steps (regs_of p5).loss next) old.device new.device
+                    together third fifth =
+                        let writes3 : p3.device.writes ≡ p2.device.writes = ap (λ device. device.writes) third in
+                        let latches3 : p3.device.latches ≡ p2.device.latches = ap (λ device. device.latches) third in
+                        let writes5 : p5.device.writes ≡ p4.device.writes = ap (λ device. device.writes) fifth in
+                        let latches5 : p5.device.latches ≡ p4.device.latches = ap (λ device. device.latches) fifth in
+                        let none = made_plain.no_steps in
+                        record {
+                          writes = omega (arith, still1.writes, none.writes, writes3, still4.writes, writes5, steps.writes);
+                          latches = omega (arith, still1.latches, none.latches, latches3, still4.latches, latches5, steps.latches);
+                          sum =
+                              λ few_writes few_latches.
+                              let middle =
+                              none.sum (omega (arith, few_writes, writes3, still4.writes, writes5, steps.writes))
+                              (omega (arith, few_latches, latches3, still4.latches, latches5, steps.latches)) in
+                              omega (
+                                arith,
+                                still1.writes,
+                                still1.latches,
+                                middle,
+                                writes3,
+                                latches3,
+                                still4.writes,
+                                still4.latches,
+                                writes5,
+                                latches5,
+                                steps.sum few_writes few_latches,
+                              );
+                        }
+
+                    alone : (b : Bool) → HasFinishedFor b setup page p2 p3 (Ok tt) → HasBegunFor b setup page p4 p5 (Ok tt)
+                        → some5.made ≡ begin_asked b page → TakesSteps (seal_steps (regs_of p5).loss next) old.device new.device
+                    alone true third fifth begins =
+                        absurd
+                        (omega (
+                          arith,
+                          one,
+                          length-append before it.made,
+                          length-append some3.made some5.made,
+                          ap length begins,
+                          ap length marks.1,
+                        ))
+                    alone false third fifth begins = together third.alone.device fifth.alone.device
+
+                pub written_sealed : HasWrittenUnder setup write old new answer
+                written_sealed =
+                    record {
+                      made = before ++ it.made;
+                      done = done_chained setup (outcome_of answer) before it.made old p5 new part5.done it.done;
+                      marks =
+                          λ trusted memory was.
+                          subst (λ marks. HasWriteMarks marks (before ++ it.made) write answer) (sym (asked2 trusted memory))
+                          (sealed_marks trusted memory was answer it.marks);
+                      memory = memory_now;
+                      answered = λ trusted memory was. last_is answer it.marks (asked memory old);
+                      unrefused = λ sound. sealed_unrefused answer it.marks;
+                      not_down = sealed_not_down answer it.marks;
+                      sealed_before =
+                          λ trusted a inside sealed other.
+                          stored_before trusted a inside sealed other (is_sealed_by before a) refl;
+                      path_cached = it.path_cached;
+                      path_named = it.path_named;
+                      down = it.down ∙ part5.down;
+                      steps =
+                          λ trusted memory was.
+                          subst (λ marks. TakesOfWrite setup.shape marks (before ++ it.made) old new answer) (sym (asked2 trusted memory))
+                          (sealed_steps trusted memory was answer it.marks it.steps);
+                      steps_of_spent =
+                          λ trusted memory was none. spent_not (TakesSpent setup.shape (outcome_of answer) old new) trusted memory none;
+                      steps_of_named = λ cached was_named one. named_steps cached was_named one answer it.marks it.steps;
+                      block_kept = kept_before;
+                      block_written = λ trusted. written_by answer it.marks (it.block_written (trusted5 trusted));
+                    }

@@ -1,0 +1,6 @@
+-- A whole line is a posted write.
+use Rattle.pmem_engine.proofs.WriteEnded.{whole_posted}
+use Rattle.pmem_engine.proofs.engine.Engine.write.Goals as goal
+
+pub write_part-requires-clause-posted : goal.write_part-requires-clause-posted
+write_part-requires-clause-posted g c = whole_posted c.args.at c.args.line.now c.ranges.at.fits c.is_whole.ensures
