@@ -6,6 +6,7 @@ use Rattle.pmem_base.specs.declared.commands.Posted.{Posted}
 use Rattle.pmem_base.specs.declared.commands.Command.TheVariants as Do
 use Rattle.pmem_base.specs.declared.answers.Answer.TheVariants as Say
 use Rattle.pmem_base.specs.Shape.{Shape}
+use Rattle.pmem_base.specs.Layout as layout
 use Rattle.board.specs.Memory.{Memory}
 use Rattle.meta_cache.specs.Banks.{IsBanksOf}
 use Rattle.suite.specs.Setup.{Setup}
@@ -40,11 +41,14 @@ module _ (setup : Setup) (p : WorldParts) (board : Memory) (steps : ℕ)
   abbrev on_new : Dirtying → WorldState
   on_new dirtying = world_of setup (record (called p p.keys board p.ledger (Some after) p.tags p.digests steps) { dirtying = dirtying })
 
-  abbrev Has : Result (Option ℕ) Fault → Type 0
+  abbrev pub Has : Result (Option ℕ) Fault → Type 0
   Has answer = HasFlushed setup (parts_in old engine none_taken) (parts_in (on_new p.dirtying) after taken) answer
 
   on_now : IsOn setup old engine
   on_now = on_in setup old engine served.going.whole served.was_on
+
+  its_banks : after.shape ≡ engine.shape → IsBanksOf after.shape after.cache → IsBanksOf setup.shape after.cache
+  its_banks same = subst (λ g. IsBanksOf g after.cache) (same ∙ on_now.trusted.its_shape)
 
   undecided : decided_answer setup.shape (state_in setup p) Do.Flush ≡ None
   undecided = rw (lit_in setup old engine served.going.whole served.was_on) refl
@@ -58,7 +62,7 @@ module _ (setup : Setup) (p : WorldParts) (board : Memory) (steps : ℕ)
 
   -- ---- nothing is dirty
 
-  pub flush-clean : (dirtying : Dirtying) → Has (Ok None) → IsBanksOf setup.shape after.cache
+  pub flush-clean : (dirtying : Dirtying) → Has (Ok None) → IsBanksOf after.shape after.cache
       → ((g : Shape) (s : PlainState) → HasDirtyingOf g p.dirtying → with_dirtying s dirtying ≡ after_clean g (with_dirtying s p.dirtying))
       → HasStepped setup old Do.Flush (without_marks Say.Clean) (on_new dirtying)
   flush-clean dirtying flush whole_cache cleaned =
@@ -79,7 +83,7 @@ module _ (setup : Setup) (p : WorldParts) (board : Memory) (steps : ℕ)
       served.going.unshown
       (sym (append-nil p.ledger.marks))
       (λ quiet. its_state)
-      (λ quiet. laws.clean-world setup old new engine after taken call flush its_state refl whole_cache)
+      (λ quiet. laws.clean-world setup old new engine after taken call flush its_state refl (its_banks done.gone.shape whole_cache))
       (record {
         engine = engine;
         was_on = served.was_on;
@@ -98,10 +102,10 @@ module _ (setup : Setup) (p : WorldParts) (board : Memory) (steps : ℕ)
 
   -- ---- a block is written back
 
-  pub flush-flushed : (x : ℕ) (dirtying : Dirtying) → Has (Ok (Some x)) → IsBanksOf setup.shape after.cache
+  flush_flushed_taken : (x : ℕ) (dirtying : Dirtying) → Has (Ok (Some x)) → IsBanksOf after.shape after.cache
       → dirtying ≡ record (p.dirtying) { flushed = with_flag p.dirtying.flushed x }
       → HasStepped setup old Do.Flush (without_marks (Say.Flushed x (steps_in taken))) (on_new dirtying)
-  flush-flushed x dirtying flush whole_cache flagged =
+  flush_flushed_taken x dirtying flush whole_cache flagged =
       let new = on_new dirtying in
       let call = call_of setup p p.keys board steps engine after taken served new refl refl refl in
       let done = flush.done on_now.trusted.not_down in
@@ -116,7 +120,7 @@ module _ (setup : Setup) (p : WorldParts) (board : Memory) (steps : ℕ)
       served.going.unshown
       (sym (append-nil p.ledger.marks))
       (λ quiet. its_state)
-      (λ quiet. laws.flushed-world setup old new engine after taken call x flush its_state refl whole_cache)
+      (λ quiet. laws.flushed-world setup old new engine after taken call x flush its_state refl (its_banks done.gone.shape whole_cache))
       (record {
         engine = engine;
         was_on = served.was_on;
@@ -135,10 +139,10 @@ module _ (setup : Setup) (p : WorldParts) (board : Memory) (steps : ℕ)
 
   -- ---- a cut
 
-  pub flush-cut : (queues : List (List Posted)) → queues ≡ no_writes → Has (Err Fail.Cut)
+  flush_cut_taken : (queues : List (List Posted)) → queues ≡ no_writes → Has (Err Fail.Cut)
       → HasStepped setup old Do.Flush (without_marks (Say.Cut (steps_in taken)))
       (world_of setup (record (called p p.keys board p.ledger None p.tags p.digests steps) { queues = queues }))
-  flush-cut queues empty flush =
+  flush_cut_taken queues empty flush =
       let new = world_of setup (record (called p p.keys board p.ledger None p.tags p.digests steps) { queues = queues }) in
       let call = call_of setup p p.keys board steps engine after taken served new refl refl refl in
       let done = flush.done on_now.trusted.not_down in
@@ -167,3 +171,29 @@ module _ (setup : Setup) (p : WorldParts) (board : Memory) (steps : ℕ)
         latches = served.watched.follows.latches;
       })
       tt
+
+  -- the block that is named is on the tree
+  pub flush_on_tree : (x : ℕ) → Has (Ok (Some x)) → x < layout.meta_lines setup.shape
+  flush_on_tree x flush = (flush.answered on_now.trusted.not_down).2
+
+  -- a flush is done, or cut
+  pub flush_answers : (fault : Fault) → Has (Err fault) → fault ≡ Fail.Cut
+  flush_answers Fail.Cut flush = refl
+  flush_answers Fail.Down flush = absurd (flush.answered on_now.trusted.not_down)
+  flush_answers (Fail.Meta x) flush = absurd (flush.answered on_now.trusted.not_down)
+  flush_answers (Fail.Tag at) flush = absurd (flush.answered on_now.trusted.not_down)
+  flush_answers (Fail.Spent page) flush = absurd (flush.answered on_now.trusted.not_down)
+  flush_answers Fail.Shown flush = absurd (flush.answered on_now.trusted.not_down)
+
+  -- with the steps as a number of their own
+  pub flush-flushed : (x : ℕ) (dirtying : Dirtying) → Has (Ok (Some x)) → IsBanksOf after.shape after.cache
+      → dirtying ≡ record (p.dirtying) { flushed = with_flag p.dirtying.flushed x } → (n : ℕ) → n ≡ steps_in taken
+      → HasStepped setup old (Do.Flush) (without_marks (Say.Flushed x n)) (on_new dirtying)
+  flush-flushed x dirtying flush whole_cache flagged n its =
+      subst (λ (k : ℕ). HasStepped setup old (Do.Flush) (without_marks (Say.Flushed x k)) (on_new dirtying)) (sym its) (flush_flushed_taken x dirtying flush whole_cache flagged)
+
+  -- with the steps as a number of their own
+  pub flush-cut : (queues : List (List Posted)) → queues ≡ no_writes → Has (Err Fail.Cut) → (n : ℕ) → n ≡ steps_in taken
+      → HasStepped setup old (Do.Flush) (without_marks (Say.Cut n)) (world_of setup (record (called p p.keys board p.ledger None p.tags p.digests steps) { queues = queues }))
+  flush-cut queues empty flush n its =
+      subst (λ (k : ℕ). HasStepped setup old (Do.Flush) (without_marks (Say.Cut k)) (world_of setup (record (called p p.keys board p.ledger None p.tags p.digests steps) { queues = queues }))) (sym its) (flush_cut_taken queues empty flush)

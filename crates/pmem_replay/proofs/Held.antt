@@ -15,6 +15,7 @@ use Rattle.pmem_engine.specs.Engine.{EngineState}
 use Rattle.pmem_replay.specs.Flagged.{Tampering, Dirtying}
 use Rattle.pmem_replay.specs.World.{WorldState, WorldParts, IsWorld, setup_of, state_in, world_of}
 use Rattle.pmem_replay.specs.Stepped.{HasStepped}
+use Rattle.pmem_replay.proofs.Called.{on_in}
 use Rattle.pmem_replay.proofs.Stepping.{holds_after}
 use Rattle.pmem_replay.proofs.TableSteps.{IsGoingOn, dark_in, lit_in}
 
@@ -84,3 +85,8 @@ power_is setup p there going is = by_engine p.engine refl
 pub none_wait : (queues : List (List Posted)) → queues ≡ ports.no_writes → queues ≡ no_writes
 unfolding no_writes
 none_wait queues none = none
+
+-- the engine is of the geometry
+pub shape_in : (setup : Setup) (p : WorldParts) (engine : EngineState) → IsGoingOn setup (world_of setup p) → p.engine ≡ Some engine
+    → setup.shape ≡ engine.shape
+shape_in setup p engine going there = sym (on_in setup (world_of setup p) engine going.whole there).trusted.its_shape

@@ -56,11 +56,14 @@ module _ (setup : Setup) (p : WorldParts) (board : Memory) (steps : ℕ)
   abbrev on_new : WorldState
   on_new = world_of setup (called p p.keys board p.ledger (Some after) p.tags p.digests steps)
 
-  abbrev Has : Result ℕ Fault → Type 0
+  abbrev pub Has : Result ℕ Fault → Type 0
   Has answer = HasSetLoss setup n (parts_in old engine none_taken) (parts_in on_new after taken) answer
 
   on_now : IsOn setup old engine
   on_now = on_in setup old engine served.going.whole served.was_on
+
+  its_banks : after.shape ≡ engine.shape → IsBanksOf after.shape after.cache → IsBanksOf setup.shape after.cache
+  its_banks same = subst (λ g. IsBanksOf g after.cache) (same ∙ on_now.trusted.its_shape)
 
   undecided : decided_answer setup.shape (state_in setup p) (Do.Loss n) ≡ None
   undecided =
@@ -69,9 +72,9 @@ module _ (setup : Setup) (p : WorldParts) (board : Memory) (steps : ℕ)
 
   -- ---- it is set
 
-  pub loss-set : (set_steps : ℕ) → Has (Ok set_steps) → IsBanksOf setup.shape after.cache
+  loss_set_taken : (set_steps : ℕ) → Has (Ok set_steps) → IsBanksOf after.shape after.cache
       → HasStepped setup old (Do.Loss n) (without_marks (Say.LossSet (steps_in taken))) on_new
-  loss-set set_steps set whole_cache =
+  loss_set_taken set_steps set whole_cache =
       let call = call_of setup p p.keys board steps engine after taken served on_new refl refl refl in
       let gone = set.gone on_now.trusted.not_down in
       let answered = set.answered on_now.trusted.not_down in
@@ -85,7 +88,7 @@ module _ (setup : Setup) (p : WorldParts) (board : Memory) (steps : ℕ)
       served.going.unshown
       (sym (append-nil p.ledger.marks))
       (λ quiet. its_state)
-      (λ quiet. laws.set-world setup old on_new engine after taken call n other set_steps set its_state refl whole_cache)
+      (λ quiet. laws.set-world setup old on_new engine after taken call n other set_steps set its_state refl (its_banks gone.shape whole_cache))
       (record {
         engine = engine;
         was_on = served.was_on;
@@ -104,10 +107,10 @@ module _ (setup : Setup) (p : WorldParts) (board : Memory) (steps : ℕ)
 
   -- ---- a cut
 
-  pub loss-cut : (queues : List (List Posted)) → queues ≡ no_writes → Has (Err Fail.Cut)
+  loss_cut_taken : (queues : List (List Posted)) → queues ≡ no_writes → Has (Err Fail.Cut)
       → HasStepped setup old (Do.Loss n) (without_marks (Say.Cut (steps_in taken)))
       (world_of setup (record (called p p.keys board p.ledger None p.tags p.digests steps) { queues = queues }))
-  loss-cut queues empty set =
+  loss_cut_taken queues empty set =
       let new = world_of setup (record (called p p.keys board p.ledger None p.tags p.digests steps) { queues = queues }) in
       let call = call_of setup p p.keys board steps engine after taken served new refl refl refl in
       let gone = set.gone on_now.trusted.not_down in
@@ -137,3 +140,24 @@ module _ (setup : Setup) (p : WorldParts) (board : Memory) (steps : ℕ)
         latches = served.watched.follows.latches;
       })
       tt
+
+  -- the number is set, or power is cut
+  pub loss_answers : (fault : Fault) → Has (Err fault) → fault ≡ Fail.Cut
+  loss_answers Fail.Cut set = refl
+  loss_answers Fail.Down set = absurd (set.answered on_now.trusted.not_down)
+  loss_answers (Fail.Meta x) set = absurd (set.answered on_now.trusted.not_down)
+  loss_answers (Fail.Tag at) set = absurd (set.answered on_now.trusted.not_down)
+  loss_answers (Fail.Spent page) set = absurd (set.answered on_now.trusted.not_down)
+  loss_answers Fail.Shown set = absurd (set.answered on_now.trusted.not_down)
+
+  -- with the steps as a number of their own
+  pub loss-set : (set_steps : ℕ) → Has (Ok set_steps) → IsBanksOf after.shape after.cache → (count : ℕ) → count ≡ steps_in taken
+      → HasStepped setup old (Do.Loss n) (without_marks (Say.LossSet count)) on_new
+  loss-set set_steps set whole_cache count its =
+      subst (λ (k : ℕ). HasStepped setup old (Do.Loss n) (without_marks (Say.LossSet k)) on_new) (sym its) (loss_set_taken set_steps set whole_cache)
+
+  -- with the steps as a number of their own
+  pub loss-cut : (queues : List (List Posted)) → queues ≡ no_writes → Has (Err Fail.Cut) → (count : ℕ) → count ≡ steps_in taken
+      → HasStepped setup old (Do.Loss n) (without_marks (Say.Cut count)) (world_of setup (record (called p p.keys board p.ledger None p.tags p.digests steps) { queues = queues }))
+  loss-cut queues empty set count its =
+      subst (λ (k : ℕ). HasStepped setup old (Do.Loss n) (without_marks (Say.Cut k)) (world_of setup (record (called p p.keys board p.ledger None p.tags p.digests steps) { queues = queues }))) (sym its) (loss_cut_taken queues empty set)

@@ -65,11 +65,14 @@ module _ (setup : Setup) (p : WorldParts) (keys : List ℕ) (board : Memory) (le
   abbrev on_new : WorldState
   on_new = world_of setup (called p keys board ledger (Some after) tags digests steps)
 
-  abbrev Has : Result Line Fault → Type 0
+  abbrev pub Has : Result Line Fault → Type 0
   Has answer = HasReadLine setup at (parts_in old engine none_taken) (parts_in on_new after taken) answer
 
   on_now : IsOn setup old engine
   on_now = on_in setup old engine served.going.whole served.was_on
+
+  its_banks : after.shape ≡ engine.shape → IsBanksOf after.shape after.cache → IsBanksOf setup.shape after.cache
+  its_banks same = subst (λ g. IsBanksOf g after.cache) (same ∙ on_now.trusted.its_shape)
 
   undecided : decided_answer setup.shape (state_in setup p) (Do.Read port at) ≡ None
   undecided =
@@ -126,15 +129,15 @@ module _ (setup : Setup) (p : WorldParts) (keys : List ℕ) (board : Memory) (le
 
   -- ---- a line
 
-  pub read-got : (line shown : Line) → Has (Ok line) → IsBanksOf setup.shape after.cache
+  read_got_taken : (line shown : Line) → Has (Ok line) → IsBanksOf after.shape after.cache
       → shown ≡ put_writes line (writes_to (queue_of p.queues port) at) → IsLine shown
       → HasStepped setup old (Do.Read port at) (without_marks (Say.Got shown (steps_in taken))) on_new
-  read-got line shown read whole_cache is its =
+  read_got_taken line shown read whole_cache is its =
       called_step (Ok line) read refl (Say.Got shown (steps_in taken))
       (subst (λ l. IsGood setup old (Do.Read port at) (without_marks (Say.Got l (steps_in taken)))) (sym is)
       (laws.read-good setup old on_new engine after taken on_call port at within line read))
       (its, few_steps p.board board taken served.watched) refl refl refl tt refl
-      (laws.read-world setup old on_new engine after taken on_call port at within line read (state (Ok line) read refl) refl whole_cache)
+      (laws.read-world setup old on_new engine after taken on_call port at within line read (state (Ok line) read refl) refl (its_banks (done (Ok line) read refl).gone.shape whole_cache))
       (λ none.
       subst (λ lines. IsSealStored setup.shape lines ledger.marks at)
       (ap (λ group. redone group board.lines) (trusted_now (Ok line) read refl).no_group)
@@ -142,37 +145,37 @@ module _ (setup : Setup) (p : WorldParts) (keys : List ℕ) (board : Memory) (le
 
   -- ---- refusals
 
-  pub read-meta : (x : ℕ) → Has (Err (Fail.Meta x)) → IsBanksOf setup.shape after.cache
+  read_meta_taken : (x : ℕ) → Has (Err (Fail.Meta x)) → IsBanksOf after.shape after.cache
       → HasStepped setup old (Do.Read port at) (without_marks (Say.Refused None (Place.Meta x) (steps_in taken))) on_new
-  read-meta x read whole_cache =
+  read_meta_taken x read whole_cache =
       let refused = read.answered on_now.trusted.not_down on_now.trusted in
       let in_tree = on_path-within setup.shape (page_of at) x (omega (arith, within)) refused.fetched.on_path in
       called_step (Err (Fail.Meta x)) read refl (Say.Refused None (Place.Meta x) (steps_in taken))
       (laws.meta-good setup old on_new engine after taken on_call port at within x read)
       (tt, small_position setup.shape served.going.whole.whole_shape x in_tree, few_steps p.board board taken served.watched) refl refl refl refl refl
-      (laws.meta-world setup old on_new engine after taken on_call port at within x read (state (Err (Fail.Meta x)) read refl) refl whole_cache)
+      (laws.meta-world setup old on_new engine after taken on_call port at within x read (state (Err (Fail.Meta x)) read refl) refl (its_banks (done (Err (Fail.Meta x)) read refl).gone.shape whole_cache))
       (meta_wrong setup on_new p.ledger x refused.line refused.fetched.read
       (same_truth setup p.board.regs board.regs p.ledger ledger served.going.whole.whole_shape on_now.trusted.anchored
       (trusted_now (Err (Fail.Meta x)) read refl).anchored (same_marks (Err (Fail.Meta x)) read refl))
       refused.other_digest)
 
-  pub read-tag : (b : ℕ) → Has (Err (Fail.Tag b)) → IsBanksOf setup.shape after.cache
+  read_tag_taken : (b : ℕ) → Has (Err (Fail.Tag b)) → IsBanksOf after.shape after.cache
       → HasStepped setup old (Do.Read port at) (without_marks (Say.Refused None (Place.Line b) (steps_in taken))) on_new
-  read-tag b read whole_cache =
+  read_tag_taken b read whole_cache =
       let refused = read.answered on_now.trusted.not_down on_now.trusted in
       called_step (Err (Fail.Tag b)) read refl (Say.Refused None (Place.Line b) (steps_in taken))
       (laws.tag-good setup old on_new engine after taken on_call port at within b read)
       (tt, subst (λ n. n < 2 ^ 32) (sym refused.0) (small_line setup.shape served.going.whole.whole_shape at within),
       few_steps p.board board taken served.watched) refl refl refl refl refl
-      (laws.tag-world setup old on_new engine after taken on_call port at within b read (state (Err (Fail.Tag b)) read refl) refl whole_cache)
+      (laws.tag-world setup old on_new engine after taken on_call port at within b read (state (Err (Fail.Tag b)) read refl) refl (its_banks (done (Err (Fail.Tag b)) read refl).gone.shape whole_cache))
       (subst (λ n. IsTagWrong setup on_new n) (sym refused.0) (tag_wrong setup on_new after taken at refused.1))
 
   -- ---- a cut
 
-  pub read-cut : (queues : List (List Posted)) → queues ≡ no_writes → Has (Err Fail.Cut) → setup.shape.levels ≤ 6
+  read_cut_taken : (queues : List (List Posted)) → queues ≡ no_writes → Has (Err Fail.Cut) → setup.shape.levels ≤ 6
       → HasStepped setup old (Do.Read port at) (without_marks (Say.Cut (steps_in taken)))
       (world_of setup (record (called p keys board ledger None tags digests steps) { queues = queues }))
-  read-cut queues empty read few =
+  read_cut_taken queues empty read few =
       let new = world_of setup (record (called p keys board ledger None tags digests steps) { queues = queues }) in
       let done = read.done on_now.trusted.not_down in
       let call = call_of setup p keys board steps engine after taken served new refl refl refl in
@@ -202,3 +205,28 @@ module _ (setup : Setup) (p : WorldParts) (keys : List ℕ) (board : Memory) (le
         latches = served.watched.follows.latches;
       })
       tt
+
+  -- with the steps as a number of their own
+  pub read-got : (line shown : Line) → Has (Ok line) → IsBanksOf after.shape after.cache
+      → shown ≡ put_writes line (writes_to (queue_of p.queues port) at) → IsLine shown → (n : ℕ) → n ≡ steps_in taken
+      → HasStepped setup old (Do.Read port at) (without_marks (Say.Got shown n)) on_new
+  read-got line shown read whole_cache is whole n its =
+      subst (λ (k : ℕ). HasStepped setup old (Do.Read port at) (without_marks (Say.Got shown k)) on_new) (sym its) (read_got_taken line shown read whole_cache is whole)
+
+  -- with the steps as a number of their own
+  pub read-meta : (x : ℕ) → Has (Err (Fail.Meta x)) → IsBanksOf after.shape after.cache → (n : ℕ) → n ≡ steps_in taken
+      → HasStepped setup old (Do.Read port at) (without_marks (Say.Refused None (Place.Meta x) n)) on_new
+  read-meta x read whole_cache n its =
+      subst (λ (k : ℕ). HasStepped setup old (Do.Read port at) (without_marks (Say.Refused None (Place.Meta x) k)) on_new) (sym its) (read_meta_taken x read whole_cache)
+
+  -- with the steps as a number of their own
+  pub read-tag : (b : ℕ) → Has (Err (Fail.Tag b)) → IsBanksOf after.shape after.cache → (n : ℕ) → n ≡ steps_in taken
+      → HasStepped setup old (Do.Read port at) (without_marks (Say.Refused None (Place.Line b) n)) on_new
+  read-tag b read whole_cache n its =
+      subst (λ (k : ℕ). HasStepped setup old (Do.Read port at) (without_marks (Say.Refused None (Place.Line b) k)) on_new) (sym its) (read_tag_taken b read whole_cache)
+
+  -- with the steps as a number of their own
+  pub read-cut : (queues : List (List Posted)) → queues ≡ no_writes → Has (Err Fail.Cut) → setup.shape.levels ≤ 6 → (n : ℕ) → n ≡ steps_in taken
+      → HasStepped setup old (Do.Read port at) (without_marks (Say.Cut n)) (world_of setup (record (called p keys board ledger None tags digests steps) { queues = queues }))
+  read-cut queues empty read few n its =
+      subst (λ (k : ℕ). HasStepped setup old (Do.Read port at) (without_marks (Say.Cut k)) (world_of setup (record (called p keys board ledger None tags digests steps) { queues = queues }))) (sym its) (read_cut_taken queues empty read few)

@@ -54,11 +54,14 @@ module _ (setup : Setup) (p : WorldParts) (keys : List ℕ) (board : Memory) (be
   abbrev on_new : WorldState
   on_new = world_of setup (called p keys board ledger (Some after) tags digests steps)
 
-  abbrev Has : Result (Option (ℕ × ℕ)) Fault → Type 0
+  abbrev pub Has : Result (Option (ℕ × ℕ)) Fault → Type 0
   Has answer = HasTurned setup (parts_in old engine none_taken) (parts_in on_new after taken) answer
 
   on_now : IsOn setup old engine
   on_now = on_in setup old engine served.going.whole served.was_on
+
+  its_banks : after.shape ≡ engine.shape → IsBanksOf after.shape after.cache → IsBanksOf setup.shape after.cache
+  its_banks same = subst (λ g. IsBanksOf g after.cache) (same ∙ on_now.trusted.its_shape)
 
   undecided : decided_answer setup.shape first.state Do.Turn ≡ None
   undecided = rw (lit_in setup old engine served.going.whole served.was_on) refl
@@ -119,7 +122,7 @@ module _ (setup : Setup) (p : WorldParts) (keys : List ℕ) (board : Memory) (be
 
   -- ---- no page is open
 
-  pub turn-idle : Has (Ok None) → IsBanksOf setup.shape after.cache
+  pub turn-idle : Has (Ok None) → IsBanksOf after.shape after.cache
       → HasStepped setup first Do.Turn (without_marks Say.Idle) on_new
   turn-idle turn whole_cache =
       let done = turn.done on_now.trusted.not_down in
@@ -143,13 +146,13 @@ module _ (setup : Setup) (p : WorldParts) (keys : List ℕ) (board : Memory) (be
         latches = served.watched.follows.latches;
       })
       (quiet ∙ ap (λ (s : PlainState). counted_state s 0) same_first)
-      (laws.idle-world setup old on_new engine after taken on_call turn quiet refl whole_cache) tt done.gone.marks
+      (laws.idle-world setup old on_new engine after taken on_call turn quiet refl (its_banks done.gone.shape whole_cache)) tt done.gone.marks
 
   -- ---- a line is sealed anew
 
-  pub turn-turned : (at left : ℕ) → (turn : Has (Ok (Some (at, left)))) → IsBanksOf setup.shape after.cache → left < 2 ^ 8
+  turn_turned_taken : (at left : ℕ) → (turn : Has (Ok (Some (at, left)))) → IsBanksOf after.shape after.cache → left < 2 ^ 8
       → HasStepped setup first Do.Turn (record { marks = turn.made; answer = Say.Turned left (steps_in taken) }) on_new
-  turn-turned at left turn whole_cache small =
+  turn_turned_taken at left turn whole_cache small =
       let done = turn.done on_now.trusted.not_down in
       let marks = turn.marks on_now.trusted.not_down on_now.trusted (plain_memory setup p.ledger.marks) served.going.whole.memory.each in
       let quiet = reseal_quiet setup.shape setup.formulas (laws.now setup old on_new engine after taken on_call) turn.made (counted_state old.state (steps_in taken))
@@ -174,13 +177,13 @@ module _ (setup : Setup) (p : WorldParts) (keys : List ℕ) (board : Memory) (be
         latches = served.watched.follows.latches;
       })
       (its_state ∙ ap (λ (s : PlainState). after_marks setup.shape (counted_state s (steps_in taken)) turn.made) same_first)
-      (laws.turned-world setup old on_new engine after taken on_call (at, left) turn its_state refl whole_cache) tt done.gone.marks
+      (laws.turned-world setup old on_new engine after taken on_call (at, left) turn its_state refl (its_banks done.gone.shape whole_cache)) tt done.gone.marks
 
   -- ---- a refused line
 
-  pub turn-refused : (b : ℕ) → Has (Err (Fail.Tag b)) → IsBanksOf setup.shape after.cache
+  turn_refused_taken : (b : ℕ) → Has (Err (Fail.Tag b)) → IsBanksOf after.shape after.cache
       → HasStepped setup first Do.Turn (without_marks (Say.Refused None (Place.Line b) (steps_in taken))) on_new
-  turn-refused b turn whole_cache =
+  turn_refused_taken b turn whole_cache =
       let done = turn.done on_now.trusted.not_down in
       let marks = turn.marks on_now.trusted.not_down on_now.trusted (plain_memory setup p.ledger.marks) served.going.whole.memory.each in
       let within = lowest_within setup.shape (view_in setup old).open_pages b
@@ -205,15 +208,15 @@ module _ (setup : Setup) (p : WorldParts) (keys : List ℕ) (board : Memory) (be
         latches = served.watched.follows.latches;
       })
       (quiet ∙ ap (λ (s : PlainState). counted_state s (steps_in taken)) same_first)
-      (laws.refused-world setup old on_new engine after taken on_call b turn quiet refl whole_cache)
+      (laws.refused-world setup old on_new engine after taken on_call b turn quiet refl (its_banks done.gone.shape whole_cache))
       (tag_wrong setup on_new after taken b (turn.answered on_now.trusted.not_down on_now.trusted)) done.gone.marks
 
   -- ---- a cut
 
-  pub turn-cut : (queues : List (List Posted)) → queues ≡ no_writes → (turn : Has (Err Fail.Cut))
+  turn_cut_taken : (queues : List (List Posted)) → queues ≡ no_writes → (turn : Has (Err Fail.Cut))
       → HasStepped setup first Do.Turn (record { marks = turn.made; answer = Say.Cut (steps_in taken) })
       (world_of setup (record (called p keys board ledger None tags digests steps) { queues = queues }))
-  turn-cut queues empty turn =
+  turn_cut_taken queues empty turn =
       let new = world_of setup (record (called p keys board ledger None tags digests steps) { queues = queues }) in
       let call = call_of setup p keys board steps engine after taken served new refl refl refl in
       let done = turn.done on_now.trusted.not_down in
@@ -240,3 +243,21 @@ module _ (setup : Setup) (p : WorldParts) (keys : List ℕ) (board : Memory) (be
       })
       (its_state ∙ ap (λ (s : PlainState). after_marks setup.shape (cut_state s (steps_in taken)) turn.made) same_first)
       (laws.cut-world setup old new engine after taken call turn its_state refl) tt done.gone.marks
+
+  -- with the steps as a number of their own
+  pub turn-turned : (at left : ℕ) → (turn : Has (Ok (Some (at, left)))) → IsBanksOf after.shape after.cache → left < 2 ^ 8 → (count : ℕ) → count ≡ steps_in taken
+      → HasStepped setup first (Do.Turn) (record { marks = turn.made; answer = Say.Turned left count }) on_new
+  turn-turned at left turn whole_cache small count its =
+      subst (λ (k : ℕ). HasStepped setup first (Do.Turn) (record { marks = turn.made; answer = Say.Turned left k }) on_new) (sym its) (turn_turned_taken at left turn whole_cache small)
+
+  -- with the steps as a number of their own
+  pub turn-refused : (b : ℕ) → Has (Err (Fail.Tag b)) → IsBanksOf after.shape after.cache → (count : ℕ) → count ≡ steps_in taken
+      → HasStepped setup first (Do.Turn) (without_marks (Say.Refused None (Place.Line b) count)) on_new
+  turn-refused b turn whole_cache count its =
+      subst (λ (k : ℕ). HasStepped setup first (Do.Turn) (without_marks (Say.Refused None (Place.Line b) k)) on_new) (sym its) (turn_refused_taken b turn whole_cache)
+
+  -- with the steps as a number of their own
+  pub turn-cut : (queues : List (List Posted)) → queues ≡ no_writes → (turn : Has (Err Fail.Cut)) → (count : ℕ) → count ≡ steps_in taken
+      → HasStepped setup first (Do.Turn) (record { marks = turn.made; answer = Say.Cut count }) (world_of setup (record (called p keys board ledger None tags digests steps) { queues = queues }))
+  turn-cut queues empty turn count its =
+      subst (λ (k : ℕ). HasStepped setup first (Do.Turn) (record { marks = turn.made; answer = Say.Cut k }) (world_of setup (record (called p keys board ledger None tags digests steps) { queues = queues }))) (sym its) (turn_cut_taken queues empty turn)

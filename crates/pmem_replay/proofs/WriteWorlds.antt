@@ -216,7 +216,7 @@ module _ (setup : Setup) (old new : WorldState) (engine after : EngineState) (ta
           count = length-set old.state.memory write.at (put_write (line_at old.state.memory write.at) write) ∙ call.world.memory.count;
           each =
               subst (λ b. IsMemory setup (cond b (memory_with old.state.memory write) old.state.memory) (parts_in new after taken)) sealed
-              (written.memory on_now.trusted old.state.memory call.world.memory.each);
+              (written.memory on_now.trusted old.state.memory (omega (arith, within, call.world.memory.count)) call.world.memory.each);
         }
 
     dropped_memory : is_sealed_by written.made write.at ≡ false → IsMemoryOf setup new.ledger.marks old.state.memory
@@ -225,7 +225,7 @@ module _ (setup : Setup) (old new : WorldState) (engine after : EngineState) (ta
           count = call.world.memory.count;
           each =
               subst (λ b. IsMemory setup (cond b (memory_with old.state.memory write) old.state.memory) (parts_in new after taken)) unsealed
-              (written.memory on_now.trusted old.state.memory call.world.memory.each);
+              (written.memory on_now.trusted old.state.memory (omega (arith, within, call.world.memory.count)) call.world.memory.each);
         }
 
     module _ (goes : outcome_of answer ≡ going) where

@@ -115,12 +115,12 @@ impl<S: Counted + Drop> World<S> {
                 self.dirtied.flush(x);
                 Answer::Flushed { x, steps }
             }
-            Err(Fault::Cut) => {
+            // No other fault comes.
+            Err(_) => {
                 self.engine = None;
                 self.ports.clear();
                 Answer::Cut { steps }
             }
-            Err(_) => unreachable!(),
         }
     }
 
@@ -144,12 +144,12 @@ impl<S: Counted + Drop> World<S> {
         self.steps = self.steps.saturating_add(steps);
         match done.answer {
             Ok(_) => Answer::LossSet { steps },
-            Err(Fault::Cut) => {
+            // No other fault comes.
+            Err(_) => {
                 self.engine = None;
                 self.ports.clear();
                 Answer::Cut { steps }
             }
-            Err(_) => unreachable!(),
         }
     }
 }
