@@ -90,3 +90,18 @@ none_wait queues none = none
 pub shape_in : (setup : Setup) (p : WorldParts) (engine : EngineState) → IsGoingOn setup (world_of setup p) → p.engine ≡ Some engine
     → setup.shape ≡ engine.shape
 shape_in setup p engine going there = sym (on_in setup (world_of setup p) engine going.whole there).trusted.its_shape
+
+-- the suite's keys stay, so its formulas do
+pub rekeyed : (formulas_of : List ℕ → Formulas) (g : Shape) (p q : WorldParts) (command : Command) (reply : Reply) → q.keys ≡ p.keys
+    → HasStepped (setup_in formulas_of g p) (world_of (setup_in formulas_of g p) p) command reply (world_of (setup_in formulas_of g p) q)
+    → HasStepped (setup_in formulas_of g p) (world_of (setup_in formulas_of g p) p) command reply (world_of (setup_in formulas_of g q) q)
+rekeyed formulas_of g p q command reply same step =
+    subst (λ (k : List ℕ). HasStepped (setup_in formulas_of g p) (world_of (setup_in formulas_of g p) p) command reply
+    (world_of (record { shape = g; formulas = formulas_of k }) q)) (sym same) step
+
+-- an engine that was only looked at is as it was
+pub same_engine : (setup : Setup) (p : WorldParts) (engine : EngineState) (command : Command) (reply : Reply) → p.engine ≡ Some engine
+    → HasStepped setup (world_of setup p) command reply (world_of setup p)
+    → HasStepped setup (world_of setup p) command reply (world_of setup (record p { engine = Some engine }))
+same_engine setup p engine command reply there step =
+    subst (λ (e : Option EngineState). HasStepped setup (world_of setup p) command reply (world_of setup (record p { engine = e }))) there step

@@ -39,3 +39,4 @@ pub mod Reserved
 pub mod TurnSteps
 pub mod FlagLemmas
 pub mod Held
+pub mod Forwarded

@@ -1,6 +1,6 @@
 -- Reads: what the world answers, and what becomes of it.
 use Rattle.std.proofs.Common.{ℕ, ◌≡◌, ◌≢◌, ◌<◌, ◌≤◌, ◌+◌, ◌-◌, ◌^◌, ◌++◌, ◌⊎◌, inl, inr, Bool, true, false, List, [], ◌∷◌, Option, Some, None, IsTrue, refl, sym, ap, subst, ◌∙◌, arith, get_or}
-use Rattle.std.specs.Prelude.{length, map, All, IfSome, slice_index, option_map, Result, Ok, Err, not, if◌then◌else◌}
+use Rattle.std.specs.Prelude.{length, map, All, IfSome, slice_index, option_map, Result, Ok, Err, not, is_some, IsSome, if◌then◌else◌}
 use Rattle.std.specs.List.{range_with_len, list_all}
 use Rattle.std.proofs.lemmas.Option.{same_Some}
 use Rattle.std.proofs.lemmas.Bool.{lt-ltb, true≢false, not-true}
@@ -12,15 +12,15 @@ use Rattle.pmem_base.specs.declared.answers.Answer.{Answer}
 use Rattle.pmem_base.specs.declared.answers.Answer.TheVariants as Say
 use Rattle.pmem_base.specs.declared.answers.Place.{Place}
 use Rattle.pmem_base.specs.declared.answers.Exhibit.{Exhibit}
+use Rattle.pmem_base.specs.Shape.{Shape}
 use Rattle.pmem_base.specs.Layout as layout
 use Rattle.pmem_base.specs.Layout.{page_of}
 use Rattle.pmem_base.specs.Lines.{IsLine, line_at}
-use Rattle.pmem_base.specs.Ranges.{IsPosted, IsAnswer}
+use Rattle.pmem_base.specs.Ranges.{IsPosted, IsAnswer, IsExhibitValue}
 use Rattle.commit_regs.specs.Groups.{redone}
 use Rattle.board.specs.Memory.{Memory}
-use Rattle.seal_ledger.specs.Ledger.{LedgerState}
+use Rattle.seal_ledger.specs.Ledger.{LedgerState, IsMark}
 use Rattle.meta_cache.specs.Banks.{IsBanksOf}
-use Rattle.write_ports.specs.Queues as ports
 use Rattle.suite.specs.Setup.{Setup}
 use Rattle.plain_model.specs.State.{PlainState, queue_of, no_writes, put_write}
 use Rattle.plain_model.specs.After.{state_after, steps_of, is_cut}
@@ -35,11 +35,11 @@ use Rattle.pmem_engine.specs.Calls.{HasReadLine}
 use Rattle.pmem_replay.specs.World.{WorldState, WorldParts, IsWorld, IsOn, state_in, world_of}
 use Rattle.pmem_replay.specs.declared.taken.Taken.{Taken}
 use Rattle.pmem_replay.specs.During.{none_taken, steps_in, device_during, parts_in}
-use Rattle.pmem_replay.specs.Stepped.{HasStepped, HasCalled, IsReadAnswer, IsSeen, IsTagWrong}
+use Rattle.pmem_replay.specs.Stepped.{HasStepped, HasCalled, IsReadAnswer, IsSeen, IsTagWrong, IsExhibitSeen}
 use Rattle.pmem_replay.proofs.Called.{on_in, IsCall}
 use Rattle.pmem_replay.proofs.Causes.{on_path-within}
 use Rattle.pmem_replay.proofs.SealedLines.{same_truth}
-use Rattle.pmem_replay.proofs.Sights.{meta_wrong, tag_wrong, small_position, small_line}
+use Rattle.pmem_replay.proofs.Sights.{meta_wrong, tag_wrong, small_position, small_line, clash_sight, forged_sight}
 use Rattle.pmem_replay.specs.Replies.{without_marks}
 use Rattle.pmem_replay.proofs.Goods.{IsGood}
 use Rattle.pmem_replay.proofs.Quiet.{counted_state, cut_state}
@@ -47,13 +47,6 @@ use Rattle.pmem_replay.proofs.ReadLaws as laws
 use Rattle.pmem_replay.proofs.Stepping.{stepped_by_engine}
 use Rattle.pmem_replay.proofs.TableSteps.{lit_in}
 use Rattle.pmem_replay.proofs.Served.{called, IsServed, call_of, state_going, state_cut, same_room, few_steps}
-
--- ---- waiting writes
-
--- both definitions put writes alike
-pub same_puts : (line : Line) (writes : List Posted) → ports.put_writes line writes ≡ put_writes line writes
-same_puts line [] = refl
-same_puts line (write ∷ writes) = same_puts (put_write line write) writes
 
 module _ (setup : Setup) (p : WorldParts) (keys : List ℕ) (board : Memory) (ledger : LedgerState) (tags digests steps : ℕ)
     (engine after : EngineState) (taken : Taken) (served : IsServed setup p keys board steps engine taken)
@@ -67,6 +60,13 @@ module _ (setup : Setup) (p : WorldParts) (keys : List ℕ) (board : Memory) (le
 
   abbrev pub Has : Result Line Fault → Type 0
   Has answer = HasReadLine setup at (parts_in old engine none_taken) (parts_in on_new after taken) answer
+
+  -- the relation where the geometry is the engine's
+  pub has_from : (answer : Result Line Fault) (g : Shape) → setup.shape ≡ g
+      → HasReadLine (record { shape = g; formulas = setup.formulas }) at (parts_in old engine none_taken) (parts_in on_new after taken) answer → Has answer
+  has_from answer g same it =
+      subst (λ (s : Shape). HasReadLine (record { shape = s; formulas = setup.formulas }) at (parts_in old engine none_taken) (parts_in on_new after taken) answer)
+      (sym same) it
 
   on_now : IsOn setup old engine
   on_now = on_in setup old engine served.going.whole served.was_on
@@ -205,6 +205,65 @@ module _ (setup : Setup) (p : WorldParts) (keys : List ℕ) (board : Memory) (le
         latches = served.watched.follows.latches;
       })
       tt
+
+  -- ---- an exhibit
+
+  pub read-shown : (exhibit : Exhibit) → Has (Err Fail.Shown) → ledger.exhibit ≡ Some exhibit
+      → HasStepped setup old (Do.Read port at) (without_marks (Say.Shown exhibit))
+      (world_of setup (record (called p keys board ledger (Some after) tags digests steps) { shown = true }))
+  read-shown exhibit read its =
+      let new = world_of setup (record (called p keys board ledger (Some after) tags digests steps) { shown = true }) in
+      let done = read.done on_now.trusted.not_down in
+      let marks : ledger.marks ≡ p.ledger.marks = done.gone.marks ∙ append-nil p.ledger.marks in
+      let anchored = on_now.trusted.anchored in
+      let sight : IsExhibitValue exhibit × IsExhibitSeen setup new exhibit =
+      elim (read.answered on_now.trusted.not_down on_now.trusted) [
+        | inl clash ↦
+            clash_sight setup old new engine after taken (page_of at) exhibit served.going.whole.whole_shape (omega (arith, within))
+            served.watched.each_line anchored.of_shape.truth_lines clash its
+        | inr forged ↦
+            forged_sight setup new after taken at exhibit served.going.whole.whole_shape served.going.whole.whole_formulas within
+            served.watched.each_line (subst (λ ms. All (IsMark setup.shape) ms) (sym marks) anchored.of_shape.marks_in_range) forged its
+      ] in
+      stepped_by_engine setup old new (Do.Read port at) (without_marks (Say.Shown exhibit)) undecided
+      (laws.shown-good setup old on_new engine after taken on_call port at within read exhibit its
+      (λ clash. clash.fetched.before) (done.gone.places on_now.trusted))
+      sight.0
+      (record { shape = refl; keys = served.same_keys; start = refl })
+      refl
+      (marks ∙ sym (append-nil p.ledger.marks))
+      (λ quiet. absurd (true≢false quiet))
+      (λ quiet. absurd (true≢false quiet))
+      (record {
+        engine = engine;
+        was_on = served.was_on;
+        after = after;
+        kept = refl;
+        taken = taken;
+        steps = λ quiet. absurd (true≢false quiet);
+        ledger = p.ledger;
+        room = same_room p.ledger;
+        related = (Err Fail.Shown, read, its);
+        snapshot = served.watched.follows.snapshot;
+        writes = served.watched.follows.writes;
+        latches = served.watched.follows.latches;
+      })
+      sight.1
+
+  -- a read is never down nor spent
+  pub read_up : Has (Err Fail.Down) → ⊥
+  read_up read = read.answered on_now.trusted.not_down on_now.trusted
+
+  pub read_unspent : (page : ℕ) → Has (Err (Fail.Spent page)) → ⊥
+  read_unspent page read = read.answered on_now.trusted.not_down on_now.trusted
+
+  -- an exhibit is in the ledger
+  pub read_exhibit : Has (Err Fail.Shown) → IsSome ledger.exhibit
+  read_exhibit read =
+      elim (read.answered on_now.trusted.not_down on_now.trusted) [
+        | inl clash ↦ ap is_some clash.exhibit
+        | inr forged ↦ ap is_some forged.exhibit
+      ]
 
   -- with the steps as a number of their own
   pub read-got : (line shown : Line) → Has (Ok line) → IsBanksOf after.shape after.cache

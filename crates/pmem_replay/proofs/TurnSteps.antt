@@ -1,6 +1,8 @@
 -- Turns: what the world answers, and what becomes of it.
 use Rattle.std.proofs.Common.{ℕ, ◌≡◌, ◌≢◌, ◌<◌, ◌≤◌, ◌++◌, Bool, true, false, List, [], Option, Some, None, IsTrue, refl, sym, ap, subst, ◌∙◌, arith}
-use Rattle.std.specs.Prelude.{Result, Ok, Err, ◌^◌}
+use Rattle.std.specs.Prelude.{Result, Ok, Err, All, is_some, IsSome, ◌^◌}
+use Rattle.std.proofs.lemmas.Bool.{true≢false}
+use Rattle.pmem_base.specs.declared.answers.Exhibit.{Exhibit}
 use Rattle.std.proofs.lemmas.List.{append-nil}
 use Rattle.pmem_base.specs.declared.commands.Posted.{Posted}
 use Rattle.pmem_base.specs.declared.commands.Command.TheVariants as Do
@@ -8,11 +10,12 @@ use Rattle.pmem_base.specs.declared.answers.Answer.{Answer}
 use Rattle.pmem_base.specs.declared.answers.Answer.TheVariants as Say
 use Rattle.pmem_base.specs.declared.answers.Mark.{Mark}
 use Rattle.pmem_base.specs.declared.answers.Place.{Place}
+use Rattle.pmem_base.specs.Shape.{Shape}
 use Rattle.pmem_base.specs.Layout as layout
-use Rattle.pmem_base.specs.Ranges.{IsAnswer}
+use Rattle.pmem_base.specs.Ranges.{IsAnswer, IsExhibitValue}
 use Rattle.board.specs.Memory.{Memory}
 use Rattle.meta_cache.specs.Banks.{IsBanksOf}
-use Rattle.seal_ledger.specs.Ledger.{LedgerState}
+use Rattle.seal_ledger.specs.Ledger.{LedgerState, IsMark}
 use Rattle.seal_ledger.specs.Notes.{HasRoom}
 use Rattle.suite.specs.Setup.{Setup}
 use Rattle.plain_model.specs.State.{PlainState, Reply, no_writes}
@@ -21,20 +24,20 @@ use Rattle.plain_model.specs.Answers.{decided_answer, is_shown}
 use Rattle.pmem_engine.specs.declared.fault.Fault.{Fault}
 use Rattle.pmem_engine.specs.declared.fault.Fault.TheVariants as Fail
 use Rattle.pmem_engine.specs.Engine.{EngineState}
-use Rattle.pmem_engine.specs.Outcomes.{going, outcome_of, HasDone}
+use Rattle.pmem_engine.specs.Outcomes.{going, HasDone, KeepsPlaces}
 use Rattle.pmem_engine.specs.Calls.{HasTurned}
 use Rattle.pmem_replay.specs.World.{WorldState, WorldParts, IsWorld, IsOn, plain_memory, state_in, world_of, view_in}
 use Rattle.pmem_replay.specs.declared.taken.Taken.{Taken}
 use Rattle.pmem_replay.specs.During.{none_taken, steps_in, parts_in}
 use Rattle.pmem_replay.specs.Replies.{without_marks}
-use Rattle.pmem_replay.specs.Stepped.{HasStepped, HasCalled, IsTurnAnswer, IsSeen}
+use Rattle.pmem_replay.specs.Stepped.{HasStepped, HasCalled, IsTurnAnswer, IsSeen, IsExhibitSeen}
 use Rattle.pmem_replay.proofs.Called.{on_in, IsCall}
 use Rattle.pmem_replay.proofs.Goods.{IsGood}
 use Rattle.pmem_replay.proofs.OpenPages.{turn_mark, reseal_quiet, lowest_within, whole_pages}
 use Rattle.pmem_replay.proofs.Quiet.{counted_state, cut_state}
 use Rattle.pmem_replay.proofs.FlushLaws.{left_alone-steps}
 use Rattle.pmem_replay.proofs.TurnLaws as laws
-use Rattle.pmem_replay.proofs.Sights.{tag_wrong, small_line}
+use Rattle.pmem_replay.proofs.Sights.{tag_wrong, small_line, forged_sight}
 use Rattle.pmem_replay.proofs.Stepping.{stepped_by_engine}
 use Rattle.pmem_replay.proofs.TableSteps.{IsGoingOn, lit_in}
 use Rattle.pmem_replay.proofs.Reserved.{reserved, good_before}
@@ -56,6 +59,13 @@ module _ (setup : Setup) (p : WorldParts) (keys : List ℕ) (board : Memory) (be
 
   abbrev pub Has : Result (Option (ℕ × ℕ)) Fault → Type 0
   Has answer = HasTurned setup (parts_in old engine none_taken) (parts_in on_new after taken) answer
+
+  -- the relation where the geometry is the engine's
+  pub has_from : (answer : Result (Option (ℕ × ℕ)) Fault) (g : Shape) → setup.shape ≡ g
+      → HasTurned (record { shape = g; formulas = setup.formulas }) (parts_in old engine none_taken) (parts_in on_new after taken) answer → Has answer
+  has_from answer g same it =
+      subst (λ (s : Shape). HasTurned (record { shape = s; formulas = setup.formulas }) (parts_in old engine none_taken) (parts_in on_new after taken) answer)
+      (sym same) it
 
   on_now : IsOn setup old engine
   on_now = on_in setup old engine served.going.whole served.was_on
@@ -243,6 +253,63 @@ module _ (setup : Setup) (p : WorldParts) (keys : List ℕ) (board : Memory) (be
       })
       (its_state ∙ ap (λ (s : PlainState). after_marks setup.shape (cut_state s (steps_in taken)) turn.made) same_first)
       (laws.cut-world setup old new engine after taken call turn its_state refl) tt done.gone.marks
+
+  -- ---- an exhibit
+
+  pub turn-shown : (exhibit : Exhibit) → Has (Err Fail.Shown) → ledger.exhibit ≡ Some exhibit
+      → HasStepped setup first Do.Turn (without_marks (Say.Shown exhibit))
+      (world_of setup (record (called p keys board ledger (Some after) tags digests steps) { shown = true }))
+  turn-shown exhibit turn its =
+      let new = world_of setup (record (called p keys board ledger (Some after) tags digests steps) { shown = true }) in
+      let done = turn.done on_now.trusted.not_down in
+      let none = laws.shown-made setup old on_new engine after taken on_call turn exhibit its in
+      let marks : ledger.marks ≡ p.ledger.marks =
+      done.gone.marks ∙ ap (λ (ms : List Mark). p.ledger.marks ++ ms) none ∙ append-nil p.ledger.marks in
+      let found = turn.answered on_now.trusted.not_down on_now.trusted in
+      let anchored = on_now.trusted.anchored in
+      let within = lowest_within setup.shape (view_in setup old).open_pages found.at (whole_pages setup p.board.regs p.ledger anchored) found.lowest in
+      let sight : IsExhibitValue exhibit × IsExhibitSeen setup new exhibit =
+      forged_sight setup new after taken found.at exhibit served.going.whole.whole_shape served.going.whole.whole_formulas within
+      served.watched.each_line (subst (λ ms. All (IsMark setup.shape) ms) (sym marks) anchored.of_shape.marks_in_range) found.forged its in
+      stepped_by_engine setup first new Do.Turn (without_marks (Say.Shown exhibit)) undecided
+      (good_before setup (record p { ledger = before }) p.ledger n Do.Turn (without_marks (Say.Shown exhibit)) room
+      (laws.shown-good setup old on_new engine after taken on_call turn exhibit its
+      (subst (λ made. KeepsPlaces setup made (parts_in old engine none_taken) (parts_in on_new after taken)) none (done.gone.places on_now.trusted))))
+      sight.0
+      (record { shape = refl; keys = served.same_keys; start = refl })
+      refl
+      (marks_are [] (marks ∙ sym (append-nil p.ledger.marks)))
+      (λ quiet. absurd (true≢false quiet))
+      (λ quiet. absurd (true≢false quiet))
+      (record {
+        engine = engine;
+        was_on = served.was_on;
+        after = after;
+        kept = refl;
+        taken = taken;
+        steps = λ quiet. absurd (true≢false quiet);
+        ledger = p.ledger;
+        room = no_room;
+        related = (Err Fail.Shown, turn, its);
+        snapshot = served.watched.follows.snapshot;
+        writes = served.watched.follows.writes;
+        latches = served.watched.follows.latches;
+      })
+      sight.1
+
+  -- a turn is never down, spent, or refused for a metadata line
+  pub turn_up : Has (Err Fail.Down) → ⊥
+  turn_up turn = turn.marks on_now.trusted.not_down on_now.trusted (plain_memory setup p.ledger.marks) served.going.whole.memory.each
+
+  pub turn_unspent : (page : ℕ) → Has (Err (Fail.Spent page)) → ⊥
+  turn_unspent page turn = turn.marks on_now.trusted.not_down on_now.trusted (plain_memory setup p.ledger.marks) served.going.whole.memory.each
+
+  pub turn_unfetched : (x : ℕ) → Has (Err (Fail.Meta x)) → ⊥
+  turn_unfetched x turn = turn.marks on_now.trusted.not_down on_now.trusted (plain_memory setup p.ledger.marks) served.going.whole.memory.each
+
+  -- an exhibit is in the ledger
+  pub turn_exhibit : Has (Err Fail.Shown) → IsSome ledger.exhibit
+  turn_exhibit turn = ap is_some (turn.answered on_now.trusted.not_down on_now.trusted).forged.exhibit
 
   -- with the steps as a number of their own
   pub turn-turned : (at left : ℕ) → (turn : Has (Ok (Some (at, left)))) → IsBanksOf after.shape after.cache → left < 2 ^ 8 → (count : ℕ) → count ≡ steps_in taken

@@ -1,7 +1,5 @@
 -- Replies as contracts write them.
-use Rattle.std.specs.Prelude.{◌≡◌, [], length, drop, Option, Some}
-use Rattle.pmem_base.specs.declared.answers.Answer.TheVariants as Say
-use Rattle.pmem_base.specs.declared.answers.Exhibit.{Exhibit}
+use Rattle.std.specs.Prelude.{[], length, drop}
 use Rattle.pmem_base.specs.declared.answers.Answer.{Answer}
 use Rattle.plain_model.specs.State.{Reply}
 use Rattle.pmem_replay.specs.World.{WorldState}
@@ -14,8 +12,3 @@ without_marks answer = record { marks = []; answer = answer }
 abbrev pub with_marks_since : WorldState → WorldState → Answer → Reply
 with_marks_since old new answer =
     record { marks = drop (length old.ledger.marks) new.ledger.marks; answer = answer }
-
--- the answer shows this exhibit
-abbrev pub IsShownOf : Option Exhibit → Answer → Type 0
-IsShownOf exhibit (Say.Shown shown) = exhibit ≡ Some shown
-IsShownOf exhibit answer = ⊥

@@ -1,17 +1,16 @@
 //! Commands that the engine serves.
-ghost use Rattle.std.specs.Prelude.{◌≡◌, ◌<◌, false, IsTrue, IsSome, IfOk, OnErr, None};
+ghost use Rattle.std.specs.Prelude.{◌≡◌, ◌<◌, false, IsTrue, IsSome, IfOk, OnErr, Some};
 ghost use Rattle.pmem_base.specs.declared.commands.Command.TheVariants as Do;
-ghost use Rattle.pmem_base.specs.declared.answers.Answer.TheVariants as Say;
 ghost use Rattle.pmem_base.specs.Shape as shape;
 ghost use Rattle.seal_ledger.specs.View.{ledger_of};
 ghost use Rattle.pmem_replay.specs.World.{setup_of};
-ghost use Rattle.pmem_replay.specs.Replies.{without_marks, with_marks_since, IsShownOf};
+ghost use Rattle.pmem_replay.specs.Replies.{without_marks, with_marks_since};
 ghost use Rattle.pmem_replay.specs.Stepped.{HasStepped};
 
 use crate::World;
 use crate::calls;
 use board::Board;
-use pmem_base::{Answer, MemFault, Place};
+use pmem_base::{Answer, Exhibit, MemFault, Place};
 use pmem_engine::Fault;
 use seal_ledger::{Audit, Ledger};
 use suite::Counted;
@@ -43,20 +42,31 @@ impl<S: Counted + Drop> World<S> {
         let steps = done.taken.steps();
         self.steps = self.steps.saturating_add(steps);
         match done.answer {
-            Ok(line) => Answer::Got {
-                line: overlay(&line, &seen),
-                steps,
-            },
+            Ok(line) => {
+                line.is_whole();
+                Answer::Got {
+                    line: overlay(&line, &seen),
+                    steps,
+                }
+            }
             Err(Fault::Cut) => {
                 self.engine = None;
                 self.ports.clear();
                 Answer::Cut { steps }
             }
-            Err(Fault::Meta { x }) => refused(Place::Meta { x }, steps),
-            Err(Fault::Tag { at: line }) => refused(Place::Line { at: line }, steps),
+            Err(Fault::Meta { x }) => Answer::Refused {
+                drained: None,
+                place: Place::Meta { x },
+                steps,
+            },
+            Err(Fault::Tag { at: line }) => Answer::Refused {
+                drained: None,
+                place: Place::Line { at: line },
+                steps,
+            },
             Err(Fault::Shown) => {
                 self.shown = true;
-                shown(&self.ledger)
+                Answer::Shown(exhibit_of(&self.ledger))
             }
             Err(Fault::Down | Fault::Spent { .. }) => unreachable!(),
         }
@@ -85,10 +95,14 @@ impl<S: Counted + Drop> World<S> {
                 self.ports.clear();
                 Ok(Answer::Cut { steps })
             }
-            Err(Fault::Tag { at }) => Ok(refused(Place::Line { at }, steps)),
+            Err(Fault::Tag { at }) => Ok(Answer::Refused {
+                drained: None,
+                place: Place::Line { at },
+                steps,
+            }),
             Err(Fault::Shown) => {
                 self.shown = true;
-                Ok(shown(&self.ledger))
+                Ok(Answer::Shown(exhibit_of(&self.ledger)))
             }
             Err(Fault::Down | Fault::Spent { .. } | Fault::Meta { .. }) => unreachable!(),
         }
@@ -154,24 +168,13 @@ impl<S: Counted + Drop> World<S> {
     }
 }
 
-/// A refusal of a read or of a turn.
-fn refused(place: Place, steps: u64) -> Answer
-    ensures { result ≡ Say.Refused None place steps }
-{
-    Answer::Refused {
-        drained: None,
-        place,
-        steps,
-    }
-}
-
 /// The exhibit that the ledger has.
-pub(crate) fn shown(ledger: &Ledger) -> Answer
+pub(crate) fn exhibit_of(ledger: &Ledger) -> Exhibit
     requires { IsSome (ledger_of ledger.now).exhibit }
-    ensures { IsShownOf (ledger_of ledger.now).exhibit result }
+    ensures { (ledger_of ledger.now).exhibit ≡ Some result }
 {
     match ledger.exhibit() {
-        Some(exhibit) => Answer::Shown(*exhibit),
+        Some(exhibit) => *exhibit,
         None => unreachable!(),
     }
 }
