@@ -1,6 +1,7 @@
 -- A world's fields as its parts, and steps as contracts write them.
 use Rattle.std.proofs.Common.{ℕ, ◌≡◌, Bool, true, false, List, Option, Some, None, refl, sym, ap, subst, ◌∙◌}
-use Rattle.std.specs.Prelude.{is_some}
+use Rattle.std.specs.Prelude.{is_some, length, drop}
+use Rattle.std.proofs.Math.Seq.{drop-append_seam}
 use Rattle.pmem_base.specs.declared.commands.Posted.{Posted}
 use Rattle.pmem_base.specs.declared.commands.Command.{Command}
 use Rattle.pmem_base.specs.declared.answers.Stat.{Stat}
@@ -9,6 +10,9 @@ use Rattle.board.specs.Memory.{Memory}
 use Rattle.seal_ledger.specs.Ledger.{LedgerState}
 use Rattle.suite.specs.Formulas.{Formulas}
 use Rattle.suite.specs.Setup.{Setup}
+use Rattle.pmem_base.specs.declared.answers.Mark.{Mark}
+use Rattle.pmem_base.specs.declared.answers.Answer.{Answer}
+use Rattle.pmem_replay.specs.Replies.{with_marks_since}
 use Rattle.plain_model.specs.State.{Reply, no_writes}
 use Rattle.write_ports.specs.Queues as ports
 use Rattle.pmem_engine.specs.Engine.{EngineState}
@@ -105,3 +109,12 @@ pub same_engine : (setup : Setup) (p : WorldParts) (engine : EngineState) (comma
     → HasStepped setup (world_of setup p) command reply (world_of setup (record p { engine = Some engine }))
 same_engine setup p engine command reply there step =
     subst (λ (e : Option EngineState). HasStepped setup (world_of setup p) command reply (world_of setup (record p { engine = e }))) there step
+
+-- the reply's marks are those made since
+pub since : (setup : Setup) (old new : WorldState) (command : Command) (marks : List Mark) (answer : Answer)
+    → HasStepped setup old command (record { marks = marks; answer = answer }) new
+    → HasStepped setup old command (with_marks_since old new answer) new
+since setup old new command marks answer step =
+    let its : marks ≡ drop (length old.ledger.marks) new.ledger.marks =
+    sym (ap (drop (length old.ledger.marks)) step.marks ∙ drop-append_seam old.ledger.marks marks) in
+    subst (λ (ms : List Mark). HasStepped setup old command (record { marks = ms; answer = answer }) new) its step

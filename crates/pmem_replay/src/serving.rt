@@ -1,5 +1,5 @@
 //! Commands that the engine serves.
-ghost use Rattle.std.specs.Prelude.{◌≡◌, ◌<◌, false, IsTrue, IsSome, IfOk, OnErr, Some};
+ghost use Rattle.std.specs.Prelude.{◌≡◌, ◌<◌, ◌^◌, false, IsTrue, IsSome, IfOk, OnErr, Some};
 ghost use Rattle.pmem_base.specs.declared.commands.Command.TheVariants as Do;
 ghost use Rattle.pmem_base.specs.Shape as shape;
 ghost use Rattle.seal_ledger.specs.View.{ledger_of};
@@ -89,7 +89,11 @@ impl<S: Counted + Drop> World<S> {
         self.steps = self.steps.saturating_add(steps);
         match done.answer {
             Ok(None) => Ok(Answer::Idle),
-            Ok(Some((_, left))) => Ok(Answer::Turned { left, steps }),
+            Ok(Some(turned)) => {
+                let left = turned.1;
+                is_byte(left);
+                Ok(Answer::Turned { left, steps })
+            }
             Err(Fault::Cut) => {
                 self.engine = None;
                 self.ports.clear();
@@ -104,7 +108,9 @@ impl<S: Counted + Drop> World<S> {
                 self.shown = true;
                 Ok(Answer::Shown(exhibit_of(&self.ledger)))
             }
-            Err(Fault::Down | Fault::Spent { .. } | Fault::Meta { .. }) => unreachable!(),
+            Err(Fault::Down) => unreachable!(),
+            Err(Fault::Spent { .. }) => unreachable!(),
+            Err(Fault::Meta { .. }) => unreachable!(),
         }
     }
 
@@ -166,6 +172,13 @@ impl<S: Counted + Drop> World<S> {
             }
         }
     }
+}
+
+/// A law: a number of 8 bits is in its range.
+fn is_byte(n: u8)
+    ensures { n < 2 ^ 8 }
+{
+    let _ = n;
 }
 
 /// The exhibit that the ledger has.
