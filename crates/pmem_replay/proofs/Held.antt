@@ -1,6 +1,7 @@
 -- A world's fields as its parts, and steps as contracts write them.
 use Rattle.std.proofs.Common.{ℕ, ◌≡◌, Bool, true, false, List, Option, Some, None, refl, sym, ap, subst, ◌∙◌}
-use Rattle.std.specs.Prelude.{is_some, length, drop}
+use Rattle.std.specs.Prelude.{is_some, not, length, drop, Result, Ok, Err, IsErr, OnOk}
+use Rattle.std.proofs.lemmas.Bool.{true≢false}
 use Rattle.std.proofs.Math.Seq.{drop-append_seam}
 use Rattle.pmem_base.specs.declared.commands.Posted.{Posted}
 use Rattle.pmem_base.specs.declared.commands.Command.{Command}
@@ -118,3 +119,14 @@ since setup old new command marks answer step =
     let its : marks ≡ drop (length old.ledger.marks) new.ledger.marks =
     sym (ap (drop (length old.ledger.marks)) step.marks ∙ drop-append_seam old.ledger.marks marks) in
     subst (λ (ms : List Mark). HasStepped setup old command (record { marks = ms; answer = answer }) new) its step
+
+-- an engine is there
+pub engine_some : (engine : Option EngineState) (none : Bool) → is_some engine ≡ not none → none ≡ false
+    → (found : EngineState) × (engine ≡ Some found)
+engine_some None none its is = absurd (true≢false (sym (its ∙ ap not is)))
+engine_some (Some found) none its is = (found, refl)
+
+-- what holds of an answer that is no error
+pub from_no_error : {T E P : Type 0} (answer : Result T E) → (IsErr answer → ⊥) → OnOk answer P → P
+from_no_error (Ok value) fine holds = holds
+from_no_error (Err error) fine holds = absurd (fine refl)

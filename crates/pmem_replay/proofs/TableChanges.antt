@@ -52,12 +52,16 @@ module _ (setup : Setup) (p : WorldParts) (going : IsGoingOn setup (world_of set
 
   -- ---- a write waits
 
+  has_room : (port : ℕ) → port < 8 → length (queue_of p.queues port) ≢ 16 → length (queue_of p.queues port) < 16
+  has_room port small full =
+      omega (arith, full, (going.whole.queues.ports.each port [] (omega (arith, small, going.whole.queues.ports.eight))).room)
+
   posted : (engine : EngineState) → p.engine ≡ Some engine → (port : ℕ) (write : Posted) (queues : List (List Posted)) → port < 8
-      → length (queue_of p.queues port) < 16 → IsPosted write → write.at < layout.data_lines setup.shape
+      → length (queue_of p.queues port) ≢ 16 → IsPosted write → write.at < layout.data_lines setup.shape
       → queues ≡ slice_set p.queues port (queue_of p.queues port ++ write ∷ [])
       → IsWorld setup (world_of setup (record p { queues = queues }))
   posted engine there port write queues small room its on_memory is =
-      world-posted setup old (world_of setup (record p { queues = queues })) port write going.whole small room its on_memory
+      world-posted setup old (world_of setup (record p { queues = queues })) port write going.whole small (has_room port small room) its on_memory
       (record {
         shape = refl;
         start = refl;
@@ -68,13 +72,13 @@ module _ (setup : Setup) (p : WorldParts) (going : IsGoingOn setup (world_of set
       })
 
   pub post-ok : (engine : EngineState) → p.engine ≡ Some engine → (port at : ℕ) (line : Line) (queues : List (List Posted)) → port < 8
-      → length (queue_of p.queues port) < 16 → IsPosted (posted_line at line) → at < layout.data_lines setup.shape
+      → length (queue_of p.queues port) ≢ 16 → IsPosted (posted_line at line) → at < layout.data_lines setup.shape
       → queues ≡ slice_set p.queues port (queue_of p.queues port ++ posted_line at line ∷ [])
       → HasStepped setup old (Do.Post port at line) (without_marks Say.Ok) (world_of setup (record p { queues = queues }))
   post-ok engine there port at line queues small room its on_memory is =
       stepped_by_table setup old (world_of setup (record p { queues = queues })) (Do.Post port at line) Say.Ok
       (rw (lit_in setup old engine going.whole there) (rw (lt-ltb at (layout.data_lines setup.shape) on_memory)
-      (rw (lt-leb 16 (length (queue_of p.queues port)) room) refl)))
+      (rw (lt-leb 16 (length (queue_of p.queues port)) (has_room port small room)) refl)))
       refl tt
       (record { marks_asked = refl; peek_true = tt; steps_counted = tt; flush_true = tt; within_bounds = tt })
       (record { shape = refl; keys = refl; start = refl }) going.unshown
@@ -84,14 +88,14 @@ module _ (setup : Setup) (p : WorldParts) (going : IsGoingOn setup (world_of set
       (posted engine there port (posted_line at line) queues small room its on_memory is) tt
 
   pub part-ok : (engine : EngineState) → p.engine ≡ Some engine → (port at from count : ℕ) (line : Line) (queues : List (List Posted)) → port < 8
-      → length (queue_of p.queues port) < 16 → IsPosted (posted_part at from count line) → at < layout.data_lines setup.shape
+      → length (queue_of p.queues port) ≢ 16 → IsPosted (posted_part at from count line) → at < layout.data_lines setup.shape
       → from + count ≤ 64
       → queues ≡ slice_set p.queues port (queue_of p.queues port ++ posted_part at from count line ∷ [])
       → HasStepped setup old (Do.Part port at from count line) (without_marks Say.Ok) (world_of setup (record p { queues = queues }))
   part-ok engine there port at from count line queues small room its on_memory inside is =
       stepped_by_table setup old (world_of setup (record p { queues = queues })) (Do.Part port at from count line) Say.Ok
       (rw (lit_in setup old engine going.whole there) (rw (lt-ltb at (layout.data_lines setup.shape) on_memory)
-      (rw (le-leb (from + count) 64 inside) (rw (lt-leb 16 (length (queue_of p.queues port)) room) refl))))
+      (rw (le-leb (from + count) 64 inside) (rw (lt-leb 16 (length (queue_of p.queues port)) (has_room port small room)) refl))))
       refl tt
       (record { marks_asked = refl; peek_true = tt; steps_counted = tt; flush_true = tt; within_bounds = tt })
       (record { shape = refl; keys = refl; start = refl }) going.unshown
