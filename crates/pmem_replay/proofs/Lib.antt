@@ -22,6 +22,7 @@ pub mod DrainedLaws
 pub mod SameWorld
 pub mod TamperLaws
 pub mod OnLaws
+pub mod OnSteps
 pub mod RefusedOn
 pub mod TableLaws
 pub mod PeekLaws

@@ -110,7 +110,7 @@ pub record IsOnCall (setup : Setup) (old new : WorldState) (left : Memory) (take
   pub start : new.start ≡ old.start
   pub ledger : new.ledger ≡ old.ledger
 
-off_in : (setup : Setup) (world : WorldState) → IsWorld setup world → world.engine ≡ None → IsOff setup world
+pub off_in : (setup : Setup) (world : WorldState) → IsWorld setup world → world.engine ≡ None → IsOff setup world
 off_in setup world whole none = subst (λ e. IsPowered setup world e) none whole.chip
 
 rises : (n before : ℕ) (taken : Taken) (count : ℕ) → RisesAtMost n 0 count → count < last_count → count ≤ n

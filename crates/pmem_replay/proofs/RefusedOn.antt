@@ -79,7 +79,7 @@ module _ (setup : Setup) (old new : WorldState) (left : Memory) (taken : Taken) 
       omega (arith, writes, latches, one_latch setup old new left taken (Err fault) call, call.world.board.few_armed)
 
   -- the lines are those that were redone
-  redone_same : redone left.regs.group.items left.lines ≡ lines_in old
+  pub redone_same : redone left.regs.group.items left.lines ≡ lines_in old
   redone_same =
       ap (λ (r : Regs). redone r.group.items left.lines) regs
       ∙ same_Some left.lines (lines_in old) redo.lines

@@ -30,6 +30,7 @@ follows-none start board cuts same on writes latches =
       lasting = λ powered. none_lasts start.fuse;
       burnt = λ powered. ap (λ (m : Memory). m.fuse) same ∙ none_burnt start.fuse;
       cleared = λ off. absurd (true≢false (sym on ∙ off));
+      uncut = λ powered. ap (λ (m : Memory). m.cuts) same;
       spent = λ off. absurd (true≢false (sym on ∙ off));
     }
 
@@ -46,6 +47,7 @@ follows-read start board writes latches cuts rises f =
       lasting = f.lasting;
       burnt = f.burnt;
       cleared = f.cleared;
+      uncut = f.uncut;
       spent = f.spent;
     }
 
@@ -85,6 +87,7 @@ follows-written start board at line writes latches cuts lasts few f =
       lasting = λ powered. next.1;
       burnt = λ powered. next.0;
       cleared = λ off. absurd (true≢false (sym on ∙ off));
+      uncut = f.uncut;
       spent = λ off. absurd (true≢false (sym on ∙ off));
     }
 
@@ -103,6 +106,7 @@ follows-latched start board regs writes latches cuts lasts few f =
       lasting = λ powered. next.1;
       burnt = λ powered. next.0;
       cleared = λ off. absurd (true≢false (sym on ∙ off));
+      uncut = f.uncut;
       spent = λ off. absurd (true≢false (sym on ∙ off));
     }
 
@@ -125,6 +129,7 @@ follows-cut start board writes latches cuts now spent f =
       lasting = λ on. absurd (false≢true on);
       burnt = λ on. absurd (false≢true on);
       cleared = λ off. refl;
+      uncut = λ on. absurd (false≢true on);
       spent =
           λ off.
           elim (cases_Bool board.powered) [
@@ -152,6 +157,7 @@ follows-limit start board new writes latches cuts now many is f =
       lasting = λ on. absurd (false≢true on);
       burnt = λ on. absurd (false≢true on);
       cleared = λ off. refl;
+      uncut = λ on. absurd (false≢true on);
       spent = λ off few. absurd (omega (arith, many, few));
     })
 

@@ -66,6 +66,7 @@ pub record FollowsOn (old new : Memory) (taken : Taken) : Type 0 where
   pub lasting : new.powered ≡ true → IfSome old.fuse (λ n. steps_in taken ≤ n)
   pub burnt : new.powered ≡ true → new.fuse ≡ option_map (λ n. n - steps_in taken) old.fuse
   pub cleared : new.powered ≡ false → new.fuse ≡ None
+  pub uncut : new.powered ≡ true → new.cuts ≡ old.cuts
   pub spent : new.powered ≡ false → steps_in taken < step_limit → old.fuse ≡ Some (steps_in taken)
 
 -- a call on a watched board, whose counts were in range before, and which has whole lines afterwards
