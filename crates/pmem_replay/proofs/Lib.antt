@@ -23,6 +23,7 @@ pub mod SameWorld
 pub mod TamperLaws
 pub mod OnLaws
 pub mod OnSteps
+pub mod NewSteps
 pub mod RefusedOn
 pub mod TableLaws
 pub mod PeekLaws

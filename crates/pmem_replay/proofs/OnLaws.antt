@@ -55,7 +55,7 @@ empty_slots n set =
     ]
 
 -- has no block, and so no dirty one
-nothing_cached : (g : Shape) (bank set : ℕ) → set_of (empty_banks g) bank set ≡ []
+pub nothing_cached : (g : Shape) (bank set : ℕ) → set_of (empty_banks g) bank set ≡ []
 nothing_cached g bank set = by_bank (slice_get (empty_banks g) bank) refl
   where
     by_set : (slots : Option (List Slot)) → slice_get (replicate g.sets []) set ≡ slots → unwrap_or slots [] ≡ []

@@ -1,6 +1,6 @@
 -- A call of the engine or of recovery within a command: what it works on, and what the board in memory
 -- behind it makes of fuse, snapshot and counts.
-use Rattle.std.specs.Prelude.{ℕ, ◌≡◌, ◌≤◌, ◌<◌, ◌+◌, ◌-◌, true, false, Option, Some, None, Result, Ok, Err, option_map, length, min, All, IfSome}
+use Rattle.std.specs.Prelude.{ℕ, ◌≡◌, ◌≤◌, ◌<◌, ◌+◌, ◌-◌, true, false, Option, Some, None, Result, Ok, Err, option_map, length, min, All, IfSome, MatchOption}
 use Rattle.pmem_base.specs.Counts.{last_count}
 use Rattle.pmem_base.specs.Lines.{IsLine}
 use Rattle.board.specs.Device.{Device}
@@ -13,6 +13,7 @@ use Rattle.suite.specs.Setup.{Setup}
 use Rattle.pmem_recovery.specs.declared.faults.Work.{Work}
 use Rattle.pmem_recovery.specs.declared.faults.RecFault.{RecFault}
 use Rattle.pmem_recovery.specs.Parts.{SuiteState}
+use Rattle.pmem_recovery.specs.Formatting.{HasFormatted}
 use Rattle.pmem_recovery.specs.Recovered.{HasRecovered}
 use Rattle.pmem_replay.specs.World.{WorldState}
 
@@ -74,6 +75,10 @@ pub record IsWatched (old new : Memory) (taken : Taken) : Type 0 where
   pub follows : FollowsOn old new taken
   pub in_count : AreInCount old
   pub each_line : All IsLine new.lines
+
+-- what formatting does, where its engine is in its place
+abbrev pub WasFormatted : Setup → LedgerState → Device → Device → Option EngineState → Type 0
+WasFormatted setup ledger old new engine = MatchOption engine ⊥ (λ found. HasFormatted setup ledger old new found)
 
 -- recovery's answer, whose engine was put in its place
 abbrev pub IsTakenApart : Result (EngineState × Work) RecFault → Option EngineState → Result Work RecFault → Type 0

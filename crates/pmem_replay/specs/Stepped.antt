@@ -18,7 +18,8 @@ use Rattle.board.specs.Memory.{Memory, with_line_at, with_lines, flipped_line, r
 use Rattle.seal_ledger.specs.Ledger.{LedgerState}
 use Rattle.seal_ledger.specs.Notes.{HasRoom}
 use Rattle.suite.specs.Setup.{Setup}
-use Rattle.plain_model.specs.State.{Reply}
+use Rattle.plain_model.specs.State.{Reply, start_state}
+use Rattle.plain_model.specs.View.{start_view}
 use Rattle.plain_model.specs.After.{state_after, steps_of, is_cut}
 use Rattle.plain_model.specs.Answers.{decided_answer, is_answer_to, is_shown}
 use Rattle.plain_model.specs.Legal.{front_of}
@@ -264,3 +265,14 @@ pub record HasStepped (setup : Setup) (old : WorldState) (command : Command) (re
       (HasWorked setup old command reply.answer new)
       (λ answer. IsByTable old command answer new)
   pub seen : IsSeen setup old command reply.answer new
+
+-- ---- the first world
+
+-- a formatted world: the start of the plain machine, with the marks of formatting, and counts at 0
+pub record IsNewWorld (setup : Setup) (world : WorldState) : Type 0 where
+  pub its_shape : world.shape ≡ setup.shape
+  pub state : world.state ≡ start_state setup.shape
+  pub view : view_in setup world ≡ start_view setup.shape
+  pub not_shown : world.shown ≡ false
+  pub holds : IsWorld setup world
+  pub counts : IsCounted world (record { reads = 0; writes = 0; latches = 0; tags = 0; digests = 0 })

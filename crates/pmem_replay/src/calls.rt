@@ -1,9 +1,11 @@
 //! Calls of the engine and of recovery, over a board whose fuse and snapshot are watched.
-ghost use Rattle.std.specs.Prelude.{◌≡◌, ◌<◌, ◌≤◌, ℕ, true, None, length, IsTrue};
+ghost use Rattle.std.specs.Prelude.{◌≡◌, ◌<◌, ◌≤◌, ℕ, true, [], None, Some, length, IsTrue, IsNone, IfOk, IsOk, All};
+ghost use Rattle.pmem_base.specs.Lines.{IsLine};
 ghost use Rattle.pmem_base.specs.Geo.{shape_of};
 ghost use Rattle.pmem_base.specs.Shape.{is_loss};
 ghost use Rattle.pmem_base.specs.Layout.{data_lines, device_lines};
 ghost use Rattle.pmem_base.specs.Registers.{IsValidRegs};
+ghost use Rattle.board.specs.Memory.{device_of};
 ghost use Rattle.board.specs.MemBoard.{memory_of};
 ghost use Rattle.suite.specs.Setup.{Setup};
 ghost use Rattle.seal_ledger.specs.Ledger.{LedgerState, IsOfShape};
@@ -11,12 +13,13 @@ ghost use Rattle.seal_ledger.specs.View.{ledger_of};
 ghost use Rattle.pmem_engine.specs.Parts.{parts_of};
 ghost use Rattle.pmem_engine.specs.Calls.{IsReady, IsUsable, HasReadLine, HasTurned, HasFlushed, HasSetLoss};
 ghost use Rattle.pmem_recovery.specs.Parts.{suite_state};
-ghost use Rattle.pmem_replay.specs.During.{IsWatched, IsTakenApart, WasRecovered, device_during, none_taken};
+ghost use Rattle.pmem_replay.specs.During.{IsWatched, WasFormatted, IsTakenApart, WasRecovered, device_during, none_taken};
 
+use crate::kept::{Kept, Made};
 use crate::taken::Taken;
 use crate::watched::{Left, Start, Watched};
 use board::MemBoard;
-use pmem_base::{Geo, Line};
+use pmem_base::{Geo, Line, MemFault};
 use pmem_engine::{Engine, Fault};
 use pmem_recovery::{RecFault, Work};
 use seal_ledger::Ledger;
@@ -204,6 +207,71 @@ fn set_loss_watched<'a, K: Start>(
     let mut watched = Watched::<K>::new(board);
     let answer = engine.set_loss(&mut watched, n);
     watched.left(answer)
+}
+
+/// Makes the device new. Where it is done the engine is there.
+pub(crate) fn format<S: Suite>(
+    alloc: Global,
+    geo: &Geo,
+    board: &mut MemBoard,
+    suite: &mut S,
+    ledger: &mut Ledger,
+    engine: &mut Option<Engine>,
+) -> Result<(), MemFault>
+    requires size { length (memory_of board.old).lines ≡ device_lines (shape_of geo.now) }
+    requires steady { (device_of (memory_of board.old)).steady ≡ true }
+    requires none { (memory_of board.old).snapshot ≡ None }
+    requires ledger { IsOfShape (shape_of geo.now) (ledger_of ledger.old) }
+    requires no_marks { (ledger_of ledger.old).marks ≡ [] }
+    requires no_exhibit { IsNone (ledger_of ledger.old).exhibit }
+    requires engine { engine.old ≡ None }
+    ensures formatted { IfOk result (λ _. WasFormatted (record { shape = shape_of geo.now; formulas = S.formulas_of (S.keys suite.old) }) (ledger_of ledger.new)
+        (device_of (memory_of board.old)) (device_of (memory_of board.new)) engine.new) }
+    ensures none { (memory_of board.new).snapshot ≡ None }
+    ensures each_line { All IsLine (memory_of board.new).lines }
+    ensures keys { S.keys suite.new ≡ S.keys suite.old }
+{
+    let made = format_kept::<Brand, S>(alloc, geo, board, suite, ledger, engine);
+    let Made { board: _, answer } = made;
+    answer
+}
+
+fn format_kept<'a, K: Start, S: Suite>(
+    alloc: Global,
+    geo: &Geo,
+    board: &'a mut MemBoard,
+    suite: &mut S,
+    ledger: &mut Ledger,
+    engine: &mut Option<Engine>,
+) -> Made<'a, Result<(), MemFault>>
+    requires size { length (memory_of board.old).lines ≡ device_lines (shape_of geo.now) }
+    requires steady { (device_of (memory_of board.old)).steady ≡ true }
+    requires none { (memory_of board.old).snapshot ≡ None }
+    requires name { board.ghost_name ≡ K.name }
+    requires ledger { IsOfShape (shape_of geo.now) (ledger_of ledger.old) }
+    requires no_marks { (ledger_of ledger.old).marks ≡ [] }
+    requires no_exhibit { IsNone (ledger_of ledger.old).exhibit }
+    requires engine { engine.old ≡ None }
+    ensures name { result.board.ghost_name ≡ K.name }
+    ensures formatted { IfOk result.answer (λ _. WasFormatted (record { shape = shape_of geo.now; formulas = S.formulas_of (S.keys suite.old) }) (ledger_of ledger.new)
+        (device_of (memory_of board.old)) (device_of (memory_of result.board.now)) engine.new) }
+    ensures none { (memory_of result.board.now).snapshot ≡ None }
+    ensures each_line { All IsLine (memory_of result.board.now).lines }
+    ensures keys { S.keys suite.new ≡ S.keys suite.old }
+{
+    let mut kept = Kept::<K>::new(board);
+    let answer = pmem_recovery::format(alloc, geo, &mut kept, suite, ledger);
+    let outcome = put(answer, engine);
+    kept.made(outcome)
+}
+
+/// Puts a new engine in its place.
+fn put(answer: Result<Engine, MemFault>, engine: &mut Option<Engine>) -> Result<(), MemFault>
+    requires { engine.old ≡ None }
+    ensures { IfOk result (λ _. IfOk answer (λ found. engine.new ≡ Some found) × IsOk answer) }
+{
+    *engine = Some(answer?);
+    Ok(())
 }
 
 /// Recovers the device. Where it is done the engine is there.

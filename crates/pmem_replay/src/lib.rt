@@ -4,6 +4,7 @@
 mod calls;
 mod dirtied;
 mod flags;
+mod kept;
 mod posting;
 mod powering;
 mod serving;

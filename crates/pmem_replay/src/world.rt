@@ -1,13 +1,15 @@
 //! The world behind a run: a device with its controller, the writes that wait, and the attacker.
 ghost use Rattle.std.specs.Prelude.{◌≡◌, IfOk, false};
+ghost use Rattle.pmem_base.specs.Geo.{shape_of};
 ghost use Rattle.board.specs.MemBoard.{memory_of};
+ghost use Rattle.pmem_replay.specs.Stepped.{IsNewWorld};
 
+use crate::calls;
 use crate::dirtied::Dirtied;
 use crate::tampered::Tampered;
 use board::MemBoard;
 use pmem_base::{Geo, Mark, MemFault, Stat};
 use pmem_engine::Engine;
-use pmem_recovery::format;
 use seal_ledger::Ledger;
 use std::alloc::Global;
 use std::marker::Model;
@@ -76,20 +78,32 @@ impl<S: Counted + Drop> Model for World<S> {
 
 impl<S: Counted + Drop> World<S> {
     /// A formatted device with power on, on which nothing was done. The one error is want of memory.
-    pub fn new(alloc: Global, geo: Geo, suite: S) -> Result<World<S>, MemFault> {
+    pub fn new(alloc: Global, geo: Geo, suite: S) -> Result<World<S>, MemFault>
+        ensures new { IfOk result (λ world. IsNewWorld (record { shape = shape_of geo; formulas = S.formulas_of (S.keys suite) }) world) }
+        ensures keys { IfOk result (λ world. world.keys ≡ S.keys suite) }
+    {
+        geo.layout_is_one_to_one();
         let mut suite = suite;
         let mut board = MemBoard::new(alloc, geo.size())?;
         let mut ledger = Ledger::new(alloc, &geo)?;
         let tampered = Tampered::new(alloc, &geo)?;
         let dirtied = Dirtied::new(alloc, &geo)?;
-        let engine = format(alloc, &geo, &mut board, &mut suite, &mut ledger)?;
+        let mut engine = None;
+        calls::format(
+            alloc,
+            &geo,
+            &mut board,
+            &mut suite,
+            &mut ledger,
+            &mut engine,
+        )?;
         let start = counts_of(&board, &suite);
         Ok(World {
             geo,
             suite,
             board,
             ledger,
-            engine: Some(engine),
+            engine,
             ports: Ports::new(),
             tampered,
             dirtied,
