@@ -28,7 +28,7 @@ use Rattle.pmem_recovery.specs.Written.{IsRecovered, differing}
 use Rattle.pmem_recovery.specs.Parts.{HasOnlyRead, GoesOn, IsCutOff, StopsBy, SuiteState, HasWorked, HasWorkedAtMost, HasRoot, IsShown, IsRefusal, IsStopped}
 use Rattle.pmem_recovery.specs.Writing.{BothTold}
 use Rattle.pmem_recovery.specs.Mending.{IsPartlyMended, most_writes, HasMadeWrites, IsStoppedShort}
-use Rattle.pmem_recovery.specs.Recovered.{Answer, RegsAfter, PowerAfter, HasOnlyRedone, IsUnchanged, most_steps, StepsAfter, CountsAtMost, IsFewWork, IsTwinValid, IsNoCounterCaused, IsMendedAs, IsCleared, HasMended, HasRecovered}
+use Rattle.pmem_recovery.specs.Recovered.{Answer, RegsAfter, PowerAfter, HasOnlyRedone, IsUnchanged, most_steps, StepsAfter, CountsAtMost, IsFewWork, IsTwinValid, IsNoCounterCaused, IsMendedAs, IsCleared, HasMended, HasRecovered, IsUncounted}
 use Rattle.pmem_recovery.proofs.PartLaws.{GoesOn-none, GoesOn-then, IsCutOff-after}
 use Rattle.pmem_recovery.proofs.WrittenLaws.{top_recovered, differing-none}
 use Rattle.pmem_recovery.proofs.MendingLaws.{most_writes-some}
@@ -57,6 +57,7 @@ recovered_memory setup ledger old suite valid =
       pads = refl;
       trials = tt;
       digests = tt;
+      uncounted = refl;
       few_work = tt;
       few_trials = counts-none _ suite.tags;
       few_digests = counts-none _ suite.digests;
@@ -101,6 +102,7 @@ recovered_interrupted setup ledger old new suite shape size whole valid armed cu
       pads = refl;
       trials = tt;
       digests = tt;
+      uncounted = tt;
       few_work = tt;
       few_trials = counts-none _ suite.tags;
       few_digests = counts-none _ suite.digests;
@@ -308,6 +310,13 @@ module _ (setup : Setup) (ledger : LedgerState) (old mid new : Device) (run : Is
   mended_after now (Twin at major low high cipher tag) r d =
       (subst (λ n. IsTwinOfLastSeal n ledger at major low high cipher tag) mid_emptied.same_loss r, d)
 
+  uncounted_after : (suite_old suite_new : SuiteState) (fault : RecFault) → IsShown setup.formulas fault → IsUncounted (Err fault) suite_old suite_new
+  uncounted_after suite_old suite_new Memory shown = absurd shown
+  uncounted_after suite_old suite_new Cut shown = tt
+  uncounted_after suite_old suite_new (NoCounter at) shown = tt
+  uncounted_after suite_old suite_new (Root kept found) shown = tt
+  uncounted_after suite_old suite_new (Twin at major low high cipher tag) shown = tt
+
   pub recovered_fault : (suite_old suite_new : SuiteState) (fault : RecFault) → IsStopped setup.formulas fault (λ lines. length lines ≡ layout.device_lines setup.shape → IsRefusal setup lines mid.regs fault) mid new → IsStoppedShort setup.shape fault mid new → HasWorkedAtMost (64 * mid.regs.loss * layout.slots setup.shape) (4 * setup.shape.levels * layout.slots setup.shape + 1) suite_old suite_new → HasRecovered setup ledger old new suite_old suite_new (Err fault)
   recovered_fault suite_old suite_new fault s short work =
       record {
@@ -325,6 +334,7 @@ module _ (setup : Setup) (ledger : LedgerState) (old mid new : Device) (run : Is
         pads = work.worked.pads;
         trials = tt;
         digests = tt;
+        uncounted = uncounted_after suite_old suite_new fault s.shown;
         few_work = tt;
         few_trials =
             subst (λ n. CountsAtMost (64 * n * layout.slots setup.shape) suite_old.tags suite_new.tags) mid_emptied.same_loss
@@ -370,6 +380,7 @@ module _ (setup : Setup) (ledger : LedgerState) (old mid new : Device) (run : Is
         pads = worked.pads;
         trials = worked.tags;
         digests = worked.digests;
+        uncounted = tt;
         few_work = record { trials = few; digests = few_digests };
         few_trials = record { calls = work.trials; few = few; counted = worked.tags };
         few_digests = record { calls = work.digests; few = few_digests; counted = worked.digests };

@@ -87,6 +87,11 @@ abbrev pub DigestsCounted : Answer → ℕ → ℕ → Type 0
 DigestsCounted (Ok done) old new = new ≡ risen_times done.1.digests old
 DigestsCounted (Err fault) old new = ⊤
 
+-- where there was no memory nothing was counted
+abbrev pub IsUncounted : Answer → SuiteState → SuiteState → Type 0
+IsUncounted (Err Memory) old new = new ≡ old
+IsUncounted answer old new = ⊤
+
 -- the work is bounded by the number of slots and by the stop-loss number, and not by that of lines
 pub record IsFewWork (setup : Setup) (loss : ℕ) (work : Work) : Type 0 where
   pub trials : work.trials ≤ 64 * loss * layout.slots setup.shape
@@ -170,6 +175,7 @@ pub record HasRecovered (setup : Setup) (ledger : LedgerState) (old new : Device
   pub pads : suite_new.pads ≡ suite_old.pads
   pub trials : TrialsCounted answer suite_old.tags suite_new.tags
   pub digests : DigestsCounted answer suite_old.digests suite_new.digests
+  pub uncounted : IsUncounted answer suite_old suite_new
   pub few_work : IfOk answer (λ done. IsFewWork setup old.regs.loss done.1)
   pub few_trials :
       CountsAtMost (64 * old.regs.loss * layout.slots setup.shape) suite_old.tags suite_new.tags

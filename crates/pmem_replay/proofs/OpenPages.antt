@@ -1,0 +1,100 @@
+-- The open pages of the view of a chip that is anchored, and the mark of a turn.
+use Rattle.std.proofs.Common.{ℕ, ◌≡◌, ◌<◌, ◌≤◌, ◌+◌, ◌*◌, List, [], ◌∷◌, length, map, Option, Some, None, false, refl, sym, ap, subst, ◌∙◌, arith}
+use Rattle.std.specs.Prelude.{All, not, MatchOption, option_map, option_and_then, slice_get, ◌==◌}
+use Rattle.std.specs.List.{list_any}
+use Rattle.std.proofs.lemmas.Bool.{true≢false, and_right, or_from}
+use Rattle.std.proofs.lemmas.List.Elements.{All-head, All-tail, All-cons, All-nil}
+use Rattle.std.proofs.lemmas.List.Sums.{count_by-le-length, length-filter}
+use Rattle.pmem_base.specs.declared.answers.Mark.{Mark}
+use Rattle.pmem_base.specs.declared.answers.Place.{Place}
+use Rattle.pmem_base.specs.declared.registers.Progress.{Progress}
+use Rattle.pmem_base.specs.declared.registers.Regs.{Regs}
+use Rattle.pmem_base.specs.Shape.{Shape}
+use Rattle.pmem_base.specs.Layout as layout
+use Rattle.pmem_base.specs.Registers.{IsProgress, is_done, not_done, places_of_page}
+use Rattle.page_reencrypt.proofs.DoneBits.{not_done-small, length-places}
+use Rattle.seal_ledger.specs.Ledger.{LedgerState}
+use Rattle.suite.specs.Formulas.{Formulas}
+use Rattle.suite.specs.Setup.{Setup}
+use Rattle.plain_model.specs.State.{PlainState}
+use Rattle.plain_model.specs.After.{after_marks}
+use Rattle.plain_model.specs.View.{OpenPage, view_of}
+use Rattle.plain_model.specs.Asked.{Moment, reseal_mark, mark_of_page_turn, first_of}
+use Rattle.plain_model.specs.Fits.{IsTurnMark, IsLowestLeft}
+use Rattle.pmem_engine.specs.Outcomes.{is_touching, IsTouchedBy}
+use Rattle.pmem_engine.specs.Invariants.{IsAnchored, register_page}
+
+-- an open page is one of the memory, and its lines not done are lines of a page
+pub record IsWholePage (g : Shape) (opened : OpenPage) : Type 0 where
+  pub its_page : opened.page < layout.pages g
+  pub places : All (λ i. i < 64) opened.left
+  pub count : length opened.left ≤ 64
+
+few_left : (register : Progress) → length (not_done register) ≤ 64
+unfolding not_done
+few_left register =
+    omega (arith, length-filter (λ i. not (is_done register i)) places_of_page, count_by-le-length (λ i. not (is_done register i)) places_of_page, length-places)
+
+whole_registers : (g : Shape) (registers : List Progress) → All (IsProgress g) registers → All (IsWholePage g) (map register_page registers)
+whole_registers g [] each = All-nil (IsWholePage g)
+whole_registers g (register ∷ registers) each =
+    All-cons (IsWholePage g) (register_page register) (map register_page registers)
+    (record {
+      its_page = (All-head (IsProgress g) register registers each).its_page;
+      places = not_done-small register;
+      count = few_left register;
+    })
+    (whole_registers g registers (All-tail (IsProgress g) register registers each))
+
+-- so are all open pages
+pub whole_pages : (setup : Setup) (regs : Regs) (ledger : LedgerState) → IsAnchored setup regs ledger
+    → All (IsWholePage setup.shape) (view_of setup.shape ledger.marks).open_pages
+whole_pages setup regs ledger anchored =
+    subst (λ pages. All (IsWholePage setup.shape) pages) (sym anchored.open_pages)
+    (whole_registers setup.shape regs.progress.items anchored.valid_regs.each_page)
+
+-- the lowest line not done of the oldest page is a data line
+pub lowest_within : (g : Shape) (pages : List OpenPage) (b : ℕ) → All (IsWholePage g) pages → IsLowestLeft (first_of pages) (Place.Line b)
+    → b < layout.data_lines g
+lowest_within g [] b whole lowest = absurd lowest
+lowest_within g (opened ∷ pages) b whole lowest =
+    let its = All-head (IsWholePage g) opened pages whole in
+    go opened.left its.places lowest its.its_page
+  where
+    go : (left : List ℕ) → All (λ i. i < 64) left → MatchOption (slice_get left 0) ⊥ (λ i. b ≡ 64 * opened.page + i)
+        → opened.page < layout.pages g → b < layout.data_lines g
+    go [] small it page = absurd it
+    go (i ∷ left) small it page = omega (arith, it, All-head (λ i. i < 64) i left small, page)
+
+-- ---- the mark of a turn
+
+-- it is one line's, sealed anew
+pub record IsResealOnly (f : Formulas) (now : Moment) (made : List Mark) : Type 0 where
+  pub page : ℕ
+  pub place : ℕ
+  pub marks : made ≡ reseal_mark f now page place ∷ []
+
+pub turn_mark : (f : Formulas) (now : Moment) (made : List Mark) → IsTurnMark f now made → IsResealOnly f now made
+turn_mark f now made it = oldest now.view.open_pages it
+  where
+    of_page : (page : ℕ) (place : Option ℕ) → MatchOption (option_map (reseal_mark f now page) place) ⊥ (λ mark. made ≡ mark ∷ [])
+        → IsResealOnly f now made
+    of_page page None it = absurd it
+    of_page page (Some i) it = record { page = page; place = i; marks = it }
+    oldest : (pages : List OpenPage) → MatchOption (option_and_then (mark_of_page_turn f now) (first_of pages)) ⊥ (λ mark. made ≡ mark ∷ [])
+        → IsResealOnly f now made
+    oldest [] it = absurd it
+    oldest (opened ∷ pages) it = of_page opened.page (slice_get opened.left 0) it
+
+-- it changes no flag of the state
+pub reseal_quiet : (g : Shape) (f : Formulas) (now : Moment) (made : List Mark) (state : PlainState) → IsResealOnly f now made
+    → after_marks g state made ≡ state
+reseal_quiet g f now made state it = ap (after_marks g state) it.marks
+
+-- and touches no page
+pub reseal_untouching : (g : Shape) (f : Formulas) (now : Moment) (made : List Mark) (x : ℕ) → IsResealOnly f now made
+    → IsTouchedBy g made x → ⊥
+reseal_untouching g f now made x it touched =
+    true≢false (sym touched.1 ∙ ap (list_any (is_touching touched.0)) it.marks
+    ∙ or_from (is_touching touched.0 (reseal_mark f now it.page it.place)) false
+    (and_right (layout.page_of (64 * it.page + it.place) == touched.0) false refl) refl)

@@ -1,0 +1,8 @@
+-- One mark more is done.
+use Rattle.pmem_base.specs.Geo.{shape_of}
+use Rattle.pmem_replay.proofs.FlagLemmas.{marks_step}
+use Rattle.pmem_replay.proofs.dirtied.Dirtied.note_all.Goals as goal
+
+pub marks-preserved : goal.marks-preserved
+marks-preserved c =
+    (c.note.ensures.flags, λ state. marks_step (shape_of c.args.geo.now) _ _ _ c.args.marks.now c.marks.mark-index _ c.marks-test.true (c.note.ensures.after state) (c.marks.invariant.1 state))

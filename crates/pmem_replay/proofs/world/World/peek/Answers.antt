@@ -1,0 +1,22 @@
+-- A line is shown.
+use Rattle.std.proofs.Common.{arith}
+use Rattle.pmem_replay.proofs.TableChanges.{peek-ok}
+use Rattle.pmem_base.specs.Geo.{shape_of}
+use Rattle.board.specs.MemBoard.{memory_of}
+use Rattle.seal_ledger.specs.View.{ledger_of}
+use Rattle.pmem_base.specs.declared.commands.Command.TheVariants as Do
+use Rattle.pmem_replay.specs.World.{WorldParts, state_in}
+use Rattle.pmem_replay.proofs.Held.{held, setup_in, going_in, power_is, none_wait, seen_from, seen_still, held_after}
+use Rattle.pmem_replay.proofs.world.World.peek.Goals as goal
+
+pub returns : goal.returns
+returns g c =
+    let formulas_of = g.S.Suite.formulas_of in
+    let inside = c.self.inside in
+    let geo = shape_of inside.geo in
+    let p : WorldParts =
+    held (g.S.Suite.keys inside.suite) (memory_of inside.board) (ledger_of inside.ledger) inside.engine (g.S.Suite.tags inside.suite)
+    (g.S.Suite.digests inside.suite) inside.ports inside.tampered inside.dirtied inside.steps inside.start inside.shown in
+    let going = going_in formulas_of geo p c.args.self.now c.self.view_is c.requires c.self.invariant in
+    seen_still formulas_of geo p c.args.self.now (Do.Peek c.args.at) _ c.self.view_is
+    (peek-ok (setup_in formulas_of geo p) p going c.args.at c.peek.result.now (omega (arith, c.if-at-from.false, c.from.ensures, c.size.ensures.value)) c.peek.ensures)

@@ -1,0 +1,99 @@
+-- A call of the engine or of recovery within a command: what it works on, and what the board in memory
+-- behind it makes of fuse, snapshot and counts.
+use Rattle.std.specs.Prelude.{ℕ, ◌≡◌, ◌≤◌, ◌<◌, ◌+◌, ◌-◌, true, false, Option, Some, None, Result, Ok, Err, option_map, length, min, All, IfSome, MatchOption}
+use Rattle.pmem_base.specs.Counts.{last_count}
+use Rattle.pmem_base.specs.Lines.{IsLine}
+use Rattle.board.specs.Device.{Device}
+use Rattle.board.specs.Memory.{Memory}
+use Rattle.pmem_replay.specs.declared.taken.Taken.{Taken}
+use Rattle.pmem_engine.specs.Engine.{EngineState}
+use Rattle.pmem_engine.specs.Parts.{Parts, parts_of}
+use Rattle.seal_ledger.specs.Ledger.{LedgerState}
+use Rattle.suite.specs.Setup.{Setup}
+use Rattle.pmem_recovery.specs.declared.faults.Work.{Work}
+use Rattle.pmem_recovery.specs.declared.faults.RecFault.{RecFault}
+use Rattle.pmem_recovery.specs.Parts.{SuiteState}
+use Rattle.pmem_recovery.specs.Formatting.{HasFormatted}
+use Rattle.pmem_recovery.specs.Recovered.{HasRecovered}
+use Rattle.pmem_replay.specs.World.{WorldState}
+
+-- so many line writes, latches and cuts since a call began
+abbrev pub taken_of : ℕ → ℕ → ℕ → Taken
+taken_of writes latches cuts = record { writes = writes; latches = latches; cuts = cuts }
+
+abbrev pub none_taken : Taken
+none_taken = record { writes = 0; latches = 0; cuts = 0 }
+
+abbrev pub steps_in : Taken → ℕ
+steps_in taken = taken.writes + taken.latches
+
+-- The board as a call sees it: line writes, latches and cuts are counted from the call on. It may
+-- always be cut.
+abbrev pub device_during : Memory → Taken → Device
+device_during board taken =
+    record {
+      size = length board.lines;
+      lines = Some board.lines;
+      regs = board.regs;
+      steady = false;
+      live = board.powered;
+      reads = board.reads;
+      writes = taken.writes;
+      latches = taken.latches;
+      cuts = taken.cuts;
+    }
+
+-- more steps than a call ever takes: a board that is asked for more is cut
+abbrev pub step_limit : ℕ
+step_limit = 65536
+
+-- a count of 64 bits after so many more
+abbrev pub counted : ℕ → ℕ → ℕ
+counted before more = min (before + more) last_count
+
+-- the board in memory keeps its counts in range
+pub record AreInCount (board : Memory) : Type 0 where
+  pub writes : board.writes ≤ last_count
+  pub latches : board.latches ≤ last_count
+
+-- What becomes of the board in a call that takes these steps: the snapshot stays, and the fuse burns
+-- by a step each. Power goes off where a step was due with no fuse left, or at the limit.
+pub record FollowsOn (old new : Memory) (taken : Taken) : Type 0 where
+  pub snapshot : new.snapshot ≡ old.snapshot
+  pub writes : new.writes ≡ counted old.writes taken.writes
+  pub latches : new.latches ≡ counted old.latches taken.latches
+  pub reads : old.reads ≤ new.reads
+  pub few : steps_in taken ≤ step_limit
+  pub lasting : new.powered ≡ true → IfSome old.fuse (λ n. steps_in taken ≤ n)
+  pub burnt : new.powered ≡ true → new.fuse ≡ option_map (λ n. n - steps_in taken) old.fuse
+  pub cleared : new.powered ≡ false → new.fuse ≡ None
+  pub uncut : new.powered ≡ true → new.cuts ≡ old.cuts
+  pub spent : new.powered ≡ false → steps_in taken < step_limit → old.fuse ≡ Some (steps_in taken)
+
+-- a call on a watched board, whose counts were in range before, and which has whole lines afterwards
+pub record IsWatched (old new : Memory) (taken : Taken) : Type 0 where
+  pub follows : FollowsOn old new taken
+  pub in_count : AreInCount old
+  pub each_line : All IsLine new.lines
+
+-- what formatting does, where its engine is in its place
+abbrev pub WasFormatted : Setup → LedgerState → Device → Device → Option EngineState → Type 0
+WasFormatted setup ledger old new engine = MatchOption engine ⊥ (λ found. HasFormatted setup ledger old new found)
+
+-- recovery's answer, whose engine was put in its place
+abbrev pub IsTakenApart : Result (EngineState × Work) RecFault → Option EngineState → Result Work RecFault → Type 0
+IsTakenApart (Ok done) engine (Ok work) = (engine ≡ Some done.0) × (work ≡ done.1)
+IsTakenApart (Err fault) engine (Err its) = (engine ≡ None) × (its ≡ fault)
+IsTakenApart answer engine outcome = ⊥
+
+-- what recovery does, where its engine is in its place
+pub record WasRecovered (setup : Setup) (ledger : LedgerState) (old new : Device) (suite_old suite_new : SuiteState)
+    (engine : Option EngineState) (outcome : Result Work RecFault) : Type 0 where
+  pub answer : Result (EngineState × Work) RecFault
+  pub recovered : HasRecovered setup ledger old new suite_old suite_new answer
+  pub apart : IsTakenApart answer engine outcome
+
+-- what a call of the engine works on in this world, and what it leaves
+abbrev pub parts_in : WorldState → EngineState → Taken → Parts
+parts_in world engine taken =
+    parts_of engine (device_during world.board taken) world.ledger world.tags world.digests

@@ -1,0 +1,6 @@
+pub mod World
+pub mod During
+pub mod Flagged
+pub mod Replies
+pub mod Stamps
+pub mod Stepped

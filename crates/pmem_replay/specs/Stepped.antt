@@ -1,0 +1,278 @@
+-- One command and its reply: what the world answers, and what becomes of it and of its own parts.
+use Rattle.std.specs.Prelude.{ℕ, ◌≡◌, ◌≢◌, ◌-◌, ◌++◌, ◌⊎◌, true, false, List, [], ◌∷◌, Option, Some, None, Result, Ok, Err, MatchOption, IsTrue, IfSome, ⊤, if◌then◌else◌}
+use Rattle.pmem_base.specs.declared.lines.Line.{Line}
+use Rattle.pmem_base.specs.declared.lines.Ctr.{Ctr}
+use Rattle.pmem_base.specs.declared.commands.Command.{Command}
+use Rattle.pmem_base.specs.declared.commands.Command.TheVariants as Do
+use Rattle.pmem_base.specs.declared.answers.Answer.{Answer}
+use Rattle.pmem_base.specs.declared.answers.Answer.TheVariants as Say
+use Rattle.pmem_base.specs.declared.answers.Exhibit.{Exhibit}
+use Rattle.pmem_base.specs.declared.answers.Exhibit.TheVariants as Show
+use Rattle.pmem_base.specs.declared.answers.Place.{Place}
+use Rattle.pmem_base.specs.declared.answers.Stat.{Stat}
+use Rattle.pmem_base.specs.Layout as layout
+use Rattle.pmem_base.specs.Lines.{line_at, tag_slot}
+use Rattle.pmem_base.specs.Marks.{last_seal}
+use Rattle.pmem_base.specs.Ranges.{IsAnswer}
+use Rattle.board.specs.Memory.{Memory, with_line_at, with_lines, flipped_line, restored_lines}
+use Rattle.seal_ledger.specs.Ledger.{LedgerState}
+use Rattle.seal_ledger.specs.Notes.{HasRoom}
+use Rattle.suite.specs.Setup.{Setup}
+use Rattle.plain_model.specs.State.{Reply, start_state}
+use Rattle.plain_model.specs.View.{start_view}
+use Rattle.plain_model.specs.After.{state_after, steps_of, is_cut}
+use Rattle.plain_model.specs.Answers.{decided_answer, is_answer_to, is_shown}
+use Rattle.plain_model.specs.Legal.{front_of}
+use Rattle.plain_model.specs.Shown.{IsLegal}
+use Rattle.plain_model.specs.Fits.{Fits}
+use Rattle.pmem_engine.specs.declared.fault.Fault.{Fault}
+use Rattle.pmem_engine.specs.declared.fault.Fault.TheVariants as Fail
+use Rattle.pmem_engine.specs.Engine.{EngineState}
+use Rattle.pmem_engine.specs.Parts.{Parts}
+use Rattle.pmem_engine.specs.Invariants.{IsSealStored}
+use Rattle.pmem_engine.specs.Calls.{HasReadLine, HasWrittenLine, HasTurned, HasFlushed, HasSetLoss}
+use Rattle.pmem_recovery.specs.declared.faults.Work.{Work}
+use Rattle.pmem_recovery.specs.declared.faults.RecFault.{RecFault}
+use Rattle.pmem_recovery.specs.declared.faults.RecFault.TheVariants as Stop
+use Rattle.pmem_recovery.specs.Trials.{first_undecided, tried_minors}
+use Rattle.pmem_recovery.specs.Fixed.{found_root}
+use Rattle.pmem_recovery.specs.Parts.{SuiteState}
+use Rattle.pmem_recovery.specs.Recovered.{HasRecovered}
+use Rattle.pmem_replay.specs.World.{WorldState, AreExact, IsWorld, view_in, lines_in}
+use Rattle.pmem_replay.specs.declared.taken.Taken.{Taken}
+use Rattle.pmem_replay.specs.During.{none_taken, steps_in, device_during, counted, parts_in}
+
+-- ---- what the table's answers do to the board and to the engine
+
+-- the board after a command that the table answers
+abbrev pub board_after : Memory → Command → Answer → Memory
+board_after board (Do.Cut n) Say.Ok = record board { fuse = Some n }
+board_after board Do.Off Say.Ok = record board { powered = false; fuse = None }
+board_after board (Do.Poke d line) Say.Ok = with_line_at board d line
+board_after board (Do.Flip d bit) Say.Ok = with_line_at board d (flipped_line (line_at board.lines d) bit)
+board_after board (Do.Move from to) Say.Ok = with_line_at board to (line_at board.lines from)
+board_after board Do.Snap Say.Ok = record board { snapshot = Some board.lines }
+board_after board (Do.Back d) Say.Ok = with_lines board (restored_lines board.lines board.snapshot d)
+board_after board command answer = board
+
+-- `off` alone drops the engine
+abbrev pub engine_after : Option EngineState → Command → Answer → Option EngineState
+engine_after engine Do.Off Say.Ok = None
+engine_after engine command answer = engine
+
+-- the board as said, and nothing else of the world's own parts
+pub record IsByTable (old : WorldState) (command : Command) (answer : Answer) (new : WorldState) : Type 0 where
+  pub board : new.board ≡ board_after old.board command answer
+  pub engine : new.engine ≡ engine_after old.engine command answer
+  pub ledger : new.ledger ≡ old.ledger
+  pub tags : new.tags ≡ old.tags
+  pub digests : new.digests ≡ old.digests
+
+-- ---- calls of the engine
+
+-- The world's parts before and after a call, for which room for marks may have been made before. The
+-- engine is kept unless power was cut. Line writes and latches are counted from the call on, and are the
+-- steps of the answer unless that is an exhibit.
+pub record HasCalled (relation : Parts → Parts → Type 0) (old new : WorldState) (answer : Answer) : Type 0 where
+  pub engine : EngineState
+  pub was_on : old.engine ≡ Some engine
+  pub after : EngineState
+  pub kept : new.engine ≡ (if is_cut answer then None else Some after)
+  pub taken : Taken
+  pub steps : is_shown answer ≡ false → steps_of answer ≡ steps_in taken
+  pub ledger : LedgerState
+  pub room : HasRoom old.ledger ledger 0
+  pub related :
+      relation (parts_in (record old { ledger = ledger }) engine none_taken) (parts_in new after taken)
+  pub snapshot : new.board.snapshot ≡ old.board.snapshot
+  pub writes : new.board.writes ≡ counted old.board.writes taken.writes
+  pub latches : new.board.latches ≡ counted old.board.latches taken.latches
+
+-- the fault as the world answers it; a drain has no count of drained writes
+abbrev pub IsFaultAnswer : WorldState → Fault → Answer → Type 0
+IsFaultAnswer new Fail.Cut (Say.Cut steps) = ⊤
+IsFaultAnswer new Fail.Cut (Say.CutKept drained steps) = ⊤
+IsFaultAnswer new Fail.Cut (Say.CutLost drained steps) = ⊤
+IsFaultAnswer new (Fail.Meta x) (Say.Refused drained place steps) = place ≡ Place.Meta x
+IsFaultAnswer new (Fail.Tag at) (Say.Refused drained place steps) = place ≡ Place.Line at
+IsFaultAnswer new (Fail.Spent page) (Say.Spent drained its_page steps) = its_page ≡ page
+IsFaultAnswer new Fail.Shown (Say.Shown exhibit) = new.ledger.exhibit ≡ Some exhibit
+IsFaultAnswer new fault answer = ⊥
+
+-- what a call answered, as the world answers it
+abbrev pub IsReadAnswer : WorldState → Result Line Fault → Answer → Type 0
+IsReadAnswer new (Ok line) (Say.Got shown steps) = ⊤
+IsReadAnswer new (Ok line) answer = ⊥
+IsReadAnswer new (Err fault) answer = IsFaultAnswer new fault answer
+
+abbrev pub IsDrainAnswer : WorldState → Result Ctr Fault → Answer → Type 0
+IsDrainAnswer new (Ok ctr) (Say.Drained steps) = ⊤
+IsDrainAnswer new (Ok ctr) answer = ⊥
+IsDrainAnswer new (Err fault) answer = IsFaultAnswer new fault answer
+
+abbrev pub IsTurnAnswer : WorldState → Result (Option (ℕ × ℕ)) Fault → Answer → Type 0
+IsTurnAnswer new (Ok None) Say.Idle = ⊤
+IsTurnAnswer new (Ok (Some turned)) (Say.Turned left steps) = left ≡ turned.1
+IsTurnAnswer new (Ok turned) answer = ⊥
+IsTurnAnswer new (Err fault) answer = IsFaultAnswer new fault answer
+
+abbrev pub IsFlushAnswer : WorldState → Result (Option ℕ) Fault → Answer → Type 0
+IsFlushAnswer new (Ok None) Say.Clean = ⊤
+IsFlushAnswer new (Ok (Some x)) (Say.Flushed y steps) = y ≡ x
+IsFlushAnswer new (Ok flushed) answer = ⊥
+IsFlushAnswer new (Err fault) answer = IsFaultAnswer new fault answer
+
+abbrev pub IsLossAnswer : WorldState → Result ℕ Fault → Answer → Type 0
+IsLossAnswer new (Ok steps) (Say.LossSet taken) = ⊤
+IsLossAnswer new (Ok steps) answer = ⊥
+IsLossAnswer new (Err fault) answer = IsFaultAnswer new fault answer
+
+abbrev pub IsOnAnswer : Result (EngineState × Work) RecFault → Answer → Type 0
+IsOnAnswer (Ok done) (Say.Recovered trials digests steps) = (trials ≡ done.1.trials) × (digests ≡ done.1.digests)
+IsOnAnswer (Err Stop.Cut) (Say.Cut steps) = ⊤
+IsOnAnswer (Err (Stop.NoCounter at)) (Say.NoCounter a steps) = a ≡ at
+IsOnAnswer (Err (Stop.Root kept found)) (Say.WrongRoot k f steps) = (k ≡ kept) × (f ≡ found)
+IsOnAnswer (Err (Stop.Twin at major low high cipher tag)) (Say.Shown exhibit) =
+    exhibit ≡ Show.Twin at major low high cipher tag
+IsOnAnswer outcome answer = ⊥
+
+-- the engine that recovery gives, if any
+abbrev pub engine_given : Result (EngineState × Work) RecFault → Option EngineState
+engine_given (Ok done) = Some done.0
+engine_given (Err fault) = None
+
+-- recovery, over the board with power on; where it is refused, power goes off again
+pub record HasPoweredOn (setup : Setup) (old new : WorldState) (answer : Answer) : Type 0 where
+  pub left : Memory
+  pub taken : Taken
+  pub steps : is_shown answer ≡ false → steps_of answer ≡ steps_in taken
+  pub outcome : Result (EngineState × Work) RecFault
+  pub suite_old : SuiteState
+  pub suite_new : SuiteState
+  pub keys : suite_old.keys ≡ old.keys
+  pub tags_old : suite_old.tags ≡ old.tags
+  pub tags_new : suite_new.tags ≡ new.tags
+  pub digests_old : suite_old.digests ≡ old.digests
+  pub digests_new : suite_new.digests ≡ new.digests
+  pub recovered :
+      HasRecovered setup old.ledger (device_during (record (old.board) { powered = true }) none_taken)
+      (device_during left taken) suite_old suite_new outcome
+  pub answered : IsOnAnswer outcome answer
+  pub engine : new.engine ≡ engine_given outcome
+  pub lines : new.board.lines ≡ left.lines
+  pub regs : new.board.regs ≡ left.regs
+  pub snapshot : new.board.snapshot ≡ old.board.snapshot
+  pub ledger : new.ledger ≡ old.ledger
+  pub writes : new.board.writes ≡ counted old.board.writes taken.writes
+  pub latches : new.board.latches ≡ counted old.board.latches taken.latches
+
+-- the counts since formatting ended
+pub record IsCounted (world : WorldState) (counts : Stat) : Type 0 where
+  pub reads : counts.reads ≡ world.board.reads - world.start.reads
+  pub writes : counts.writes ≡ world.board.writes - world.start.writes
+  pub latches : counts.latches ≡ world.board.latches - world.start.latches
+  pub tags : counts.tags ≡ world.tags - world.start.tags
+  pub digests : counts.digests ≡ world.digests - world.start.digests
+
+abbrev pub IsStatAnswer : WorldState → Answer → Type 0
+IsStatAnswer world (Say.Counts counts) = IsCounted world counts
+IsStatAnswer world answer = ⊥
+
+-- where the table decides nothing: what the engine, recovery or a look does; of a fence only that it
+-- leaves the snapshot
+abbrev pub HasWorked : Setup → WorldState → Command → Answer → WorldState → Type 0
+HasWorked setup old (Do.Read port at) answer new =
+    HasCalled (λ p q. (r : Result Line Fault) × HasReadLine setup at p q r × IsReadAnswer new r answer) old new answer
+HasWorked setup old (Do.Drain port) answer new =
+    MatchOption (front_of old.state port) ⊥
+    (λ write. HasCalled (λ p q. (r : Result Ctr Fault) × HasWrittenLine setup write p q r × IsDrainAnswer new r answer) old new answer)
+HasWorked setup old (Do.Fence port) answer new = new.board.snapshot ≡ old.board.snapshot
+HasWorked setup old Do.Turn answer new =
+    HasCalled (λ p q. (r : Result (Option (ℕ × ℕ)) Fault) × HasTurned setup p q r × IsTurnAnswer new r answer) old new answer
+HasWorked setup old Do.Flush answer new =
+    HasCalled (λ p q. (r : Result (Option ℕ) Fault) × HasFlushed setup p q r × IsFlushAnswer new r answer) old new answer
+HasWorked setup old (Do.Loss n) answer new =
+    HasCalled (λ p q. (r : Result ℕ Fault) × HasSetLoss setup n p q r × IsLossAnswer new r answer) old new answer
+HasWorked setup old Do.On answer new = HasPoweredOn setup old new answer
+HasWorked setup old (Do.Peek d) answer new =
+    IsByTable old (Do.Peek d) answer new × (answer ≡ Say.Raw (line_at old.board.lines d))
+HasWorked setup old Do.Stat answer new = IsByTable old Do.Stat answer new × IsStatAnswer old answer
+HasWorked setup old command answer new = ⊥
+
+-- ---- what an answer shows of the device as it stands afterwards
+
+-- the tag of data line a under its last counter, and the one in its slot
+abbrev pub IsTagWrong : Setup → WorldState → ℕ → Type 0
+IsTagWrong setup new a =
+    IfSome (last_seal new.ledger.marks a)
+    (λ seal.
+      setup.formulas.tag_of a seal.ctr (line_at new.board.lines a)
+      ≢ tag_slot (line_at new.board.lines (layout.tag_line setup.shape a)) a)
+
+abbrev pub IsPlaceWrong : Setup → WorldState → Place → Type 0
+IsPlaceWrong setup new (Place.Meta x) =
+    setup.formulas.digest_of x (line_at new.board.lines (layout.meta_line setup.shape x))
+    ≢ setup.formulas.digest_of x (line_at new.ledger.truth x)
+IsPlaceWrong setup new (Place.Line a) = IsTagWrong setup new a
+
+-- an exhibit's line and tag are the device's
+abbrev pub IsExhibitSeen : Setup → WorldState → Exhibit → Type 0
+IsExhibitSeen setup new (Show.Clash x first second) = first ≡ line_at new.board.lines (layout.meta_line setup.shape x)
+IsExhibitSeen setup new (Show.Forged at ctr cipher tag) =
+    (cipher ≡ line_at new.board.lines at)
+    × (tag ≡ tag_slot (line_at new.board.lines (layout.tag_line setup.shape at)) at)
+IsExhibitSeen setup new (Show.Twin at major low high cipher tag) =
+    (cipher ≡ line_at new.board.lines at)
+    × (tag ≡ tag_slot (line_at new.board.lines (layout.tag_line setup.shape at)) at)
+    × (first_undecided setup (lines_in new) new.board.regs ≡ Some at)
+    × ((more : List ℕ) × (tried_minors setup (lines_in new) new.board.regs at ≡ low ∷ high ∷ more))
+
+-- a read that is answered and not forwarded found the line's last seal
+abbrev pub IsSeen : Setup → WorldState → Command → Answer → WorldState → Type 0
+IsSeen setup old (Do.Read port at) (Say.Got line steps) new =
+    decided_answer setup.shape old.state (Do.Read port at) ≡ None
+    → IsSealStored setup.shape new.board.lines new.ledger.marks at
+IsSeen setup old command (Say.Refused drained place steps) new = IsPlaceWrong setup new place
+IsSeen setup old command (Say.NoCounter at steps) new =
+    (first_undecided setup (lines_in new) new.board.regs ≡ Some at)
+    × (tried_minors setup (lines_in new) new.board.regs at ≡ [])
+IsSeen setup old command (Say.WrongRoot kept found steps) new =
+    found ≡ found_root setup (lines_in new) new.board.regs
+IsSeen setup old command (Say.Shown exhibit) new = IsExhibitSeen setup new exhibit
+IsSeen setup old command answer new = ⊤
+
+-- ---- a step
+
+-- the clause of `World::step`: one command, its reply, and the world before and after
+pub record HasStepped (setup : Setup) (old : WorldState) (command : Command) (reply : Reply) (new : WorldState) :
+    Type 0 where
+  pub same_shape : new.shape ≡ old.shape
+  pub same_keys : new.keys ≡ old.keys
+  pub same_start : new.start ≡ old.start
+  pub listed : IsTrue (is_answer_to command reply.answer)
+  pub in_range : IsAnswer reply.answer
+  pub legal : IsLegal setup old.state (view_in setup old) command reply
+  -- the counts of `stat` fit where they are below their ends
+  pub fits :
+      (command ≡ Do.Stat → AreExact old.board) → Fits setup old.state (view_in setup old) command reply
+  pub marks : new.ledger.marks ≡ old.ledger.marks ++ reply.marks
+  pub shown : new.shown ≡ is_shown reply.answer
+  pub state :
+      is_shown reply.answer ≡ false → new.state ≡ state_after setup.shape old.state command reply
+  pub holds : is_shown reply.answer ≡ false → IsWorld setup new
+  pub parts :
+      MatchOption (decided_answer setup.shape old.state command)
+      (HasWorked setup old command reply.answer new)
+      (λ answer. IsByTable old command answer new)
+  pub seen : IsSeen setup old command reply.answer new
+
+-- ---- the first world
+
+-- a formatted world: the start of the plain machine, with the marks of formatting, and counts at 0
+pub record IsNewWorld (setup : Setup) (world : WorldState) : Type 0 where
+  pub its_shape : world.shape ≡ setup.shape
+  pub state : world.state ≡ start_state setup.shape
+  pub view : view_in setup world ≡ start_view setup.shape
+  pub not_shown : world.shown ≡ false
+  pub holds : IsWorld setup world
+  pub counts : IsCounted world (record { reads = 0; writes = 0; latches = 0; tags = 0; digests = 0 })

@@ -1,0 +1,164 @@
+//! A board in memory, watched through calls that know it only as a board.
+ghost use Rattle.std.specs.Prelude.{◌≡◌, ◌<◌, ◌≤◌, ◌+◌, ℕ, true, Some, length, IfOk, OnOk, OnErr};
+ghost use Rattle.std.proofs.Props.{props};
+ghost use Rattle.board.specs.Memory.{Memory, new_memory};
+ghost use Rattle.board.specs.MemBoard.{memory_of};
+ghost use Rattle.pmem_base.specs.Counts.{last_count};
+ghost use Rattle.pmem_replay.specs.During.{AreInCount, FollowsOn, IsWatched, device_during, none_taken};
+
+use crate::taken::Taken;
+use board::{Board, MemBoard};
+use pmem_base::{Cut, Line, Regs};
+use std::marker::{Brand, PhantomData};
+
+/// More steps than a call ever takes. A board that is asked for more is cut.
+const STEP_LIMIT: u32 = 65_536;
+
+/// The board as a call finds it, and the reference to it.
+pub(crate) trait Start {
+    ghost start: { Memory };
+
+    ghost name: { ℕ };
+}
+
+impl Start for Brand {
+    ghost start = { new_memory 0 };
+
+    ghost name = { 0 };
+}
+
+/// A board in memory within one call, which counts the line writes, latches and cuts of that call. Its
+/// type keeps that the snapshot stays and that the fuse burns by a step each.
+#[derive(Drop)]
+pub(crate) struct Watched<'a, K: Start> {
+    board: &'a mut MemBoard,
+    pub(crate) taken: Taken,
+    start: PhantomData<K>,
+    pub ghost follows: { FollowsOn K.start (memory_of board.now) taken } by { Prim.hlevel props },
+    pub ghost in_count: { AreInCount K.start },
+    pub ghost its_name: { board.ghost_name ≡ K.name },
+}
+
+/// What a call on a watched board leaves: the board, the steps taken, and the call's answer.
+#[derive(Drop)]
+pub(crate) struct Left<'a, T> {
+    pub(crate) board: &'a mut MemBoard,
+    pub(crate) taken: Taken,
+    pub(crate) answer: T,
+}
+
+/// A law: a count of 64 bits is in its range.
+fn is_count(n: u64)
+    ensures { n ≤ last_count }
+{
+    let _ = n;
+}
+
+impl<'a, K: Start> Watched<'a, K> {
+    /// No step was taken yet.
+    pub(crate) fn new(board: &'a mut MemBoard) -> Watched<'a, K>
+        requires start { memory_of board.old ≡ K.start }
+        requires name { board.ghost_name ≡ K.name }
+        requires on { (memory_of board.old).powered ≡ true }
+        ensures taken { result.taken ≡ none_taken }
+        ensures name { result.board.ghost_name ≡ board.entry.ghost_name }
+        ensures now { memory_of result.board.now ≡ K.start }
+    {
+        let (_, writes, latches) = board.counts();
+        is_count(writes);
+        is_count(latches);
+        Watched {
+            board,
+            taken: Taken {
+                writes: 0,
+                latches: 0,
+                cuts: 0,
+            },
+            start: PhantomData,
+        }
+    }
+
+    /// The board, the steps, and the answer of the call.
+    pub(crate) fn left<T>(self, answer: T) -> Left<'a, T>
+        ensures name { result.board.ghost_name ≡ K.name }
+        ensures watched { IsWatched K.start (memory_of result.board.now) result.taken }
+        ensures device { device_during (memory_of result.board.now) result.taken ≡ device_during (memory_of self.entry.board.now) self.entry.taken }
+        ensures answer { result.answer ≡ answer }
+    {
+        let Watched {
+            board,
+            taken,
+            start: _,
+        } = self;
+        Left {
+            board,
+            taken,
+            answer,
+        }
+    }
+}
+
+impl<K: Start> Board for Watched<'_, K> {
+    ghost use Rattle.pmem_replay.specs.During.{device_during};
+    ghost use Rattle.board.specs.MemBoard.{memory_of};
+
+    ghost device = { λ w. device_during (memory_of w.board.now) w.taken };
+
+    fn size(&self) -> u32 {
+        self.board.size()
+    }
+
+    fn read_line(&mut self, at: u32) -> Result<Line, Cut> {
+        match self.board.read_line(at) {
+            Ok(line) => Ok(line),
+            Err(cut) => {
+                self.taken.cuts = self.taken.cuts.saturating_add(1);
+                Err(cut)
+            }
+        }
+    }
+
+    fn write_line(&mut self, at: u32, line: &Line) -> Result<(), Cut> {
+        if self.taken.writes + self.taken.latches >= STEP_LIMIT {
+            self.board.off();
+            self.taken.cuts = self.taken.cuts.saturating_add(1);
+            return Err(Cut);
+        }
+        match self.board.write_line(at, line) {
+            Ok(()) => {
+                self.taken.writes += 1;
+                Ok(())
+            }
+            Err(cut) => {
+                self.taken.cuts = self.taken.cuts.saturating_add(1);
+                Err(cut)
+            }
+        }
+    }
+
+    fn latch(&mut self, regs: &Regs) -> Result<(), Cut> {
+        if self.taken.writes + self.taken.latches >= STEP_LIMIT {
+            self.board.off();
+            self.taken.cuts = self.taken.cuts.saturating_add(1);
+            return Err(Cut);
+        }
+        match self.board.latch(regs) {
+            Ok(()) => {
+                self.taken.latches += 1;
+                Ok(())
+            }
+            Err(cut) => {
+                self.taken.cuts = self.taken.cuts.saturating_add(1);
+                Err(cut)
+            }
+        }
+    }
+
+    fn regs(&self) -> &Regs {
+        self.board.regs()
+    }
+
+    ghost use Rattle.std.specs.Prelude.{refl};
+
+    ghost whole = { λ w. record { count = refl; each = w.board.now.each_line } };
+}

@@ -1,0 +1,143 @@
+//! The world behind a run: a device with its controller, the writes that wait, and the attacker.
+ghost use Rattle.std.specs.Prelude.{◌≡◌, IfOk, false};
+ghost use Rattle.pmem_base.specs.Geo.{shape_of};
+ghost use Rattle.board.specs.MemBoard.{memory_of};
+ghost use Rattle.pmem_replay.specs.Stepped.{IsNewWorld};
+
+use crate::calls;
+use crate::dirtied::Dirtied;
+use crate::tampered::Tampered;
+use board::MemBoard;
+use pmem_base::{Geo, Mark, MemFault, Stat};
+use pmem_engine::Engine;
+use seal_ledger::Ledger;
+use std::alloc::Global;
+use std::marker::Model;
+use suite::Counted;
+use write_ports::Ports;
+
+/// A device with its snapshot, the engine while power is on, the suite, the writes that wait, the marks,
+/// and what the plain machine keeps beside.
+#[derive(Drop)]
+pub struct World<S: Counted + Drop> {
+    pub(crate) geo: Geo,
+    pub(crate) suite: S,
+    pub(crate) board: MemBoard,
+    pub(crate) ledger: Ledger,
+    pub(crate) engine: Option<Engine>,
+    pub(crate) ports: Ports,
+    pub(crate) tampered: Tampered,
+    pub(crate) dirtied: Dirtied,
+    pub(crate) steps: u64,
+    pub(crate) start: Stat,
+    pub(crate) shown: bool,
+}
+
+impl<S: Counted + Drop> Model for World<S> {
+    ghost use Rattle.std.specs.Prelude.{◌≡◌, false};
+    ghost use Rattle.pmem_base.specs.Geo.{shape_of};
+    ghost use Rattle.board.specs.MemBoard.{memory_of};
+    ghost use Rattle.seal_ledger.specs.View.{ledger_of};
+    ghost use Rattle.pmem_replay.specs.World.{WorldState, world_of, IsWorld};
+
+    ghost Value = { WorldState };
+
+    ghost view = { λ w. world_of (record { shape = shape_of w.geo; formulas = S.formulas_of (S.keys w.suite) })
+        (record {
+          keys = S.keys w.suite;
+          board = memory_of w.board;
+          ledger = ledger_of w.ledger;
+          engine = w.engine;
+          tags = S.tags w.suite;
+          digests = S.digests w.suite;
+          queues = w.ports;
+          tampering = w.tampered;
+          dirtying = w.dirtied;
+          steps = w.steps;
+          start = w.start;
+          shown = w.shown;
+        }) };
+
+    ghost invariant = { λ w. w.shown ≡ false → IsWorld (record { shape = shape_of w.geo; formulas = S.formulas_of (S.keys w.suite) })
+        (world_of (record { shape = shape_of w.geo; formulas = S.formulas_of (S.keys w.suite) })
+        (record {
+          keys = S.keys w.suite;
+          board = memory_of w.board;
+          ledger = ledger_of w.ledger;
+          engine = w.engine;
+          tags = S.tags w.suite;
+          digests = S.digests w.suite;
+          queues = w.ports;
+          tampering = w.tampered;
+          dirtying = w.dirtied;
+          steps = w.steps;
+          start = w.start;
+          shown = w.shown;
+        })) };
+}
+
+impl<S: Counted + Drop> World<S> {
+    /// A formatted device with power on, on which nothing was done. The one error is want of memory.
+    pub fn new(alloc: Global, geo: Geo, suite: S) -> Result<World<S>, MemFault>
+        ensures new { IfOk result (λ world. IsNewWorld (record { shape = shape_of geo; formulas = S.formulas_of (S.keys suite) }) world) }
+        ensures keys { IfOk result (λ world. world.keys ≡ S.keys suite) }
+    {
+        geo.layout_is_one_to_one();
+        let mut suite = suite;
+        let mut board = MemBoard::new(alloc, geo.size())?;
+        let mut ledger = Ledger::new(alloc, &geo)?;
+        let tampered = Tampered::new(alloc, &geo)?;
+        let dirtied = Dirtied::new(alloc, &geo)?;
+        let mut engine = None;
+        calls::format(
+            alloc,
+            &geo,
+            &mut board,
+            &mut suite,
+            &mut ledger,
+            &mut engine,
+        )?;
+        let start = counts_of(&board, &suite);
+        Ok(World {
+            geo,
+            suite,
+            board,
+            ledger,
+            engine,
+            ports: Ports::new(),
+            tampered,
+            dirtied,
+            steps: 0,
+            start,
+            shown: false,
+        })
+    }
+
+    /// The marks of the run in order, those of formatting first.
+    pub fn marks(&self) -> &[Mark]
+        ensures { result.now ≡ self.now.ledger.marks }
+    {
+        self.ledger.marks()
+    }
+}
+
+/// The counts of a board and a suite.
+pub(crate) fn counts_of<S: Counted>(board: &MemBoard, suite: &S) -> Stat
+    ensures { result ≡ record {
+      reads = (memory_of board.now).reads;
+      writes = (memory_of board.now).writes;
+      latches = (memory_of board.now).latches;
+      tags = S.tags suite.now;
+      digests = S.digests suite.now;
+    } }
+{
+    let (reads, writes, latches) = board.counts();
+    let (_, tags, digests) = suite.counts();
+    Stat {
+        reads,
+        writes,
+        latches,
+        tags,
+        digests,
+    }
+}
