@@ -5,7 +5,12 @@ use Rattle.suite.specs.Aes.{aes_formulas}
 use Rattle.suite.specs.Weak.{weak_formulas, blur_flag}
 use Rattle.pmem_cli.specs.declared.options.SuiteName.TheVariants.{Aes, Weak, Blur}
 use Rattle.pmem_cli.specs.declared.options.Choices.{Choices}
-use Rattle.pmem_cli.specs.Keys.{key_of, tag_key_of, formulas_of}
+use Rattle.pmem_base.specs.Shape.{Shape}
+use Rattle.suite.specs.Formulas.{Formulas}
+use Rattle.suite.specs.Setup.{Setup}
+use Rattle.plain_model.specs.Defaults.{default_shape, default_keys, default_setup}
+use Rattle.pmem_cli.specs.Words.{no_choices}
+use Rattle.pmem_cli.specs.Keys.{key_of, tag_key_of, formulas_of, shape_chosen, setup_chosen}
 
 pub formulas_aes : (c : Choices) (keys : List ℕ) → unwrap_or c.suite Aes ≡ Aes → keys ≡ key_of c ++ tag_key_of c → aes_formulas keys ≡ formulas_of c
 unfolding formulas_of
@@ -18,3 +23,14 @@ formulas_weak c keys name same = rw (name, same) refl
 pub formulas_blur : (c : Choices) (keys : List ℕ) → unwrap_or c.suite Aes ≡ Blur → keys ≡ (key_of c ++ tag_key_of c) ++ blur_flag true ∷ [] → weak_formulas keys ≡ formulas_of c
 unfolding formulas_of
 formulas_blur c keys name same = rw (name, same) refl
+
+-- ---- setups
+
+pub setup_same : (c : Choices) (shape : Shape) (formulas : Formulas) → shape ≡ shape_chosen c → formulas ≡ formulas_of c → ◌≡◌ {A = Setup} (record { shape = shape; formulas = formulas }) (setup_chosen c)
+unfolding setup_chosen
+setup_same c shape formulas its_shape its_formulas = rw (its_shape, its_formulas) refl
+
+-- where nothing is chosen, the defaults
+pub setup_default : setup_chosen no_choices ≡ default_setup
+unfolding setup_chosen shape_chosen formulas_of no_choices default_setup default_shape default_keys
+setup_default = refl

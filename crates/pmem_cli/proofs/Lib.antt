@@ -1,11 +1,16 @@
 pub mod PieceLemmas
 pub mod LineLemmas
+pub mod ShownLemmas
+pub mod StandingLemmas
 pub mod RunLemmas
 pub mod PrintLemmas
+pub mod MarkLines
 pub mod MakeLemmas
 pub mod ServedLemmas
 pub mod CheckLemmas
 pub mod KeyLemmas
 pub mod WordLemmas
+pub mod SampleLemmas
+pub mod ReplayLemmas
+pub mod Untampering
 pub mod StatusLemmas
-pub mod WorldLemmas

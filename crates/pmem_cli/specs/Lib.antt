@@ -9,4 +9,6 @@ pub mod Endings
 pub mod Standing
 pub mod Served
 pub mod Checked
+pub mod Untampered
+pub mod Sampled
 pub mod HasRun

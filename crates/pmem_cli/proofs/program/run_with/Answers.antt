@@ -1,0 +1,10 @@
+use Rattle.pmem_base.specs.Geo.{shape_of}
+use Rattle.pmem_cli.specs.Printed.{with_waiting}
+use Rattle.pmem_cli.proofs.ReplayLemmas.{HasReplayed-memory}
+use Rattle.pmem_cli.proofs.program.run_with.Goals as goal
+
+pub returns-in-Err-clause-run : goal.returns-in-Err-clause-run
+returns-in-Err-clause-run g c =
+    let left = g.S.Source.left c.args.trace.now in
+    HasReplayed-memory (record { shape = shape_of c.args.geo; formulas = g.U.Suite.formulas_of (g.U.Suite.keys c.args.suite) }) left left
+    (with_waiting (g.K.Sink.put c.args.out.now) c.args.printer.now)
