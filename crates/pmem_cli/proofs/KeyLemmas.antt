@@ -1,5 +1,5 @@
 -- The formulas of a named suite under chosen keys.
-use Rattle.std.proofs.Common.{◌≡◌, ℕ, true, false, List, [], ◌∷◌, ◌++◌, refl}
+use Rattle.std.proofs.Common.{◌≡◌, ◌∙◌, ℕ, true, false, List, [], ◌∷◌, ◌++◌, refl, ap}
 use Rattle.std.specs.Prelude.{unwrap_or}
 use Rattle.suite.specs.Aes.{aes_formulas}
 use Rattle.suite.specs.Weak.{weak_formulas, blur_flag}
@@ -34,3 +34,10 @@ setup_same c shape formulas its_shape its_formulas = rw (its_shape, its_formulas
 pub setup_default : setup_chosen no_choices ≡ default_setup
 unfolding setup_chosen shape_chosen formulas_of no_choices default_setup default_shape default_keys
 setup_default = refl
+
+pub setup_defaults : (c : Choices) (shape : Shape) (keys : List ℕ) → c ≡ no_choices → shape ≡ shape_chosen c → keys ≡ key_of c ++ tag_key_of c
+    → ◌≡◌ {A = Setup} (record { shape = shape; formulas = aes_formulas keys }) default_setup
+unfolding no_choices
+setup_defaults c shape keys none its_shape its_keys =
+    setup_same c shape (aes_formulas keys) its_shape (formulas_aes c keys (ap (λ (d : Choices). unwrap_or d.suite Aes) none) its_keys)
+    ∙ (ap setup_chosen none ∙ setup_default)

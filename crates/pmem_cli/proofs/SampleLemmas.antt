@@ -1,10 +1,11 @@
 -- The run of a sample trace, command by command.
 use Rattle.std.proofs.Common.{◌≡◌, ◌∙◌, ◌+◌, ℕ, suc, true, false, List, [], ◌∷◌, ◌++◌, refl, sym, ap, subst, arith, append_assoc, append-nil, inl, inr}
-use Rattle.std.specs.Prelude.{◌⊎◌, map, All, IsTrue}
+use Rattle.std.specs.Prelude.{◌⊎◌, map, All}
 use Rattle.std.proofs.lemmas.List.{map-append}
 use Rattle.std.proofs.lemmas.List.Elements.{All-append, All-cons, All-nil}
 use Rattle.pmem_base.specs.Shape.{Shape}
 use Rattle.pmem_base.specs.declared.commands.Command.{Command}
+use Rattle.pmem_base.specs.declared.commands.Command.TheVariants as Do
 use Rattle.pmem_base.specs.declared.answers.Answer.{Answer}
 use Rattle.suite.specs.Formulas.{Formulas}
 use Rattle.suite.specs.Setup.{Setup}
@@ -12,14 +13,14 @@ use Rattle.plain_model.specs.Answers.{is_shown}
 use Rattle.plain_model.specs.Texts.{as_line, answer_text}
 use Rattle.plain_model.specs.declared.Stop.{Stop}
 use Rattle.plain_model.specs.declared.Stop.TheVariants.{Finished, Memory, WriteFault, Shown}
-use Rattle.plain_model.specs.Run.{Machine, Step, start, machine_after, machine_after_all, takes_memory, IsAnswered, AreAnswered}
-use Rattle.trace_text.specs.Samples.{sample_command, word_at, state_after_word, commands_from}
+use Rattle.plain_model.specs.Run.{Machine, Step, start, machine_after, machine_after_all, IsAnswered, AreAnswered}
+use Rattle.trace_text.specs.Samples.{sample_command, sample_trace, state_of_seed, word_at, state_after_word, commands_from}
 use Rattle.pmem_replay.specs.World.{WorldState}
 use Rattle.pmem_replay.specs.Stepped.{IsNewWorld}
 use Rattle.pmem_cli.specs.Printed.{Output, Prints, PrintsFront}
 use Rattle.pmem_cli.specs.Standing.{Standing, standing_of, AreStepped, GoesOn}
 use Rattle.pmem_cli.specs.Served.{HasReplied}
-use Rattle.pmem_cli.specs.Sampled.{IsLastAnswer, SampleEnds, HasCome, HasReached, HasStarved, HasToldSample}
+use Rattle.pmem_cli.specs.Sampled.{IsLastAnswer, SampleEnds, HasCome, HasReached, HasToldSample}
 use Rattle.pmem_cli.specs.HasRun.{HasRunSample}
 use Rattle.pmem_cli.proofs.PrintLemmas.{Prints-nil, Prints-front}
 use Rattle.pmem_cli.proofs.RunLemmas.{AreAnswered-append}
@@ -33,6 +34,11 @@ pub first_command : (state number left m : ℕ) → left ≡ suc m
     → commands_from state number left ≡ sample_command number (word_at state) ∷ commands_from (state_after_word state) (number + 1) m
 first_command state number left m more = rw more refl
 
+-- a sample trace ends with its counts
+pub sample_is : (seed count : ℕ) → sample_trace seed count ≡ commands_from (state_of_seed seed) 1 count ++ Do.Stat ∷ []
+unfolding sample_trace
+sample_is seed count = refl
+
 -- ---- one command after the other
 
 pub HasCome-nil : (s : Standing) (commands : List Command) → s.world.shown ≡ false → HasCome s s commands commands []
@@ -42,6 +48,21 @@ HasCome-nil s commands running = record {
   none_shown = All-nil (λ step. is_shown step.reply.answer ≡ false);
   on = GoesOn-nil s running;
 }
+
+-- the next command is the first of those left
+pub come_first : (s t : Standing) (commands : List Command) (steps : List Step) (state number left m : ℕ) (command : Command) → left ≡ m + 1
+    → command ≡ sample_command number (word_at state) → HasCome s t commands (commands_from state number left ++ Do.Stat ∷ []) steps
+    → HasCome s t commands (command ∷ (commands_from (state_after_word state) (number + 1) m ++ Do.Stat ∷ [])) steps
+come_first s t commands steps state number left m command more is come =
+    let next = first_command state number left m (omega (arith, more)) in
+    subst (λ (c : Command). HasCome s t commands (c ∷ (commands_from (state_after_word state) (number + 1) m ++ Do.Stat ∷ [])) steps) (sym is)
+    (subst (λ (cs : List Command). HasCome s t commands (cs ++ Do.Stat ∷ []) steps) next come)
+
+-- only the counts are left
+pub come_last : (s t : Standing) (commands : List Command) (steps : List Step) (state number left : ℕ) → left ≡ 0
+    → HasCome s t commands (commands_from state number left ++ Do.Stat ∷ []) steps → HasCome s t commands (Do.Stat ∷ []) steps
+come_last s t commands steps state number left none come =
+    subst (λ n. HasCome s t commands (commands_from state number n ++ Do.Stat ∷ []) steps) none come
 
 -- one more answered, in the order of the commands
 one_more_in_order : (commands behind : List Command) (command : Command) (steps : List Step) (step : Step) → map (λ step. step.command) steps ++ command ∷ behind ≡ commands
@@ -89,23 +110,14 @@ HasReached-of s t commands behind command steps step come replied ends = (
   (replied.next, AreStepped-after s t replied.next steps (step ∷ []) come.on (replied.next, replied.stepped, refl)),
 )
 
--- memory was wanted for a reply
-pub HasStarved-of : (s t : Standing) (commands behind : List Command) (command : Command) (steps : List Step) → HasCome s t commands (command ∷ behind) steps
-    → IsTrue (takes_memory command) → HasStarved s commands
-HasStarved-of s t commands behind command steps come wants = (
-  steps,
-  record { answered = come.answered; none_shown = come.none_shown; behind = command ∷ behind; in_order = come.in_order; wanting = inr wants },
-  (t.world, come.on.chain),
-)
-
 -- ---- the stop
 
-pub told-memory : (s : Standing) (commands : List Command) (p : Output) → HasStarved s commands → HasToldSample Memory s commands p p
-told-memory s commands p starved = record {
-  steps = starved.0;
+pub told-memory : (s : Standing) (commands : List Command) (p : Output) → HasToldSample Memory s commands p p
+told-memory s commands p = record {
+  steps = [];
   text = [];
-  ends = (starved.1, refl);
-  leads = starved.2;
+  ends = (refl, refl);
+  leads = (s.world, refl);
   said = record { whole = λ told. Prints-nil p; front = Prints-front p p [] (Prints-nil p) };
 }
 
@@ -159,10 +171,7 @@ pub HasRunSample-memory : (setup : Setup) (commands : List Command) (p : Output)
 HasRunSample-memory setup commands p = record {
   steps = [];
   text = [];
-  ends = (
-    record { answered = tt; none_shown = All-nil (λ step. is_shown step.reply.answer ≡ false); behind = commands; in_order = refl; wanting = inl refl },
-    refl,
-  );
+  ends = (refl, refl);
   replayed = inl refl;
   said = record { whole = λ told. Prints-nil p; front = Prints-front p p [] (Prints-nil p) };
 }

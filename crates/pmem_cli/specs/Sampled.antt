@@ -9,7 +9,7 @@ use Rattle.suite.specs.Setup.{Setup}
 use Rattle.plain_model.specs.Answers.{is_shown}
 use Rattle.plain_model.specs.declared.Stop.{Stop}
 use Rattle.plain_model.specs.declared.Stop.TheVariants.{Finished, Memory, Words, ReadFault, WriteFault, Refused, Shown, TooManyLines}
-use Rattle.plain_model.specs.Run.{Machine, Step, AreAnswered, IsMemoryWanted}
+use Rattle.plain_model.specs.Run.{Machine, Step, AreAnswered}
 use Rattle.plain_model.specs.Texts.{as_line, answer_text}
 use Rattle.pmem_replay.specs.World.{WorldState}
 use Rattle.pmem_cli.specs.Printed.{Output, Prints, PrintsFront}
@@ -31,14 +31,6 @@ pub record IsLastAnswer (setup : Setup) (machine : Machine) (commands : List Com
   pub in_order : map (λ step. step.command) steps ++ behind ≡ commands
   pub ends : (is_shown answer ≡ true) ⊎ (behind ≡ [])
 
--- a front of the commands was answered, and memory was wanted before the first one, or for the next
-pub record IsStarved (setup : Setup) (machine : Machine) (commands : List Command) (steps : List Step) : Type 0 where
-  pub answered : AreAnswered setup machine steps
-  pub none_shown : All (λ step. is_shown step.reply.answer ≡ false) steps
-  pub behind : List Command
-  pub in_order : map (λ step. step.command) steps ++ behind ≡ commands
-  pub wanting : (steps ≡ []) ⊎ IsMemoryWanted behind
-
 -- ---- the stops
 
 -- the last answer's line
@@ -46,7 +38,7 @@ abbrev pub IsLineOf : Answer → List ℕ → Type 0
 IsLineOf answer text = text ≡ as_line (answer_text answer)
 
 -- What a stop says of the run of these commands from a machine on, and of the text that is printed of it:
--- the last answer, which is an exhibit exactly at that stop.
+-- the last answer, which is an exhibit exactly at that stop. Where memory was wanted, nothing is said.
 abbrev pub SampleEnds : Setup → Machine → List Command → Stop → List Step → List ℕ → Type 0
 SampleEnds setup machine commands Finished steps text =
     (answer : Answer) × IsLastAnswer setup machine commands steps answer × IsLineOf answer text × (is_shown answer ≡ false)
@@ -55,7 +47,7 @@ SampleEnds setup machine commands Shown steps text =
     × IsExhibit setup.formulas exhibit
 SampleEnds setup machine commands WriteFault steps text =
     (answer : Answer) × IsLastAnswer setup machine commands steps answer × IsLineOf answer text
-SampleEnds setup machine commands Memory steps text = IsStarved setup machine commands steps × (text ≡ [])
+SampleEnds setup machine commands Memory steps text = (steps ≡ []) × (text ≡ [])
 SampleEnds setup machine commands Words steps text = ⊥
 SampleEnds setup machine commands ReadFault steps text = ⊥
 SampleEnds setup machine commands (Refused number kind) steps text = ⊥
@@ -77,10 +69,6 @@ LeadsOn before steps = (last : WorldState) × AreStepped before.setup before.wor
 abbrev pub HasReached : Standing → List Command → Answer → Type 0
 HasReached before commands answer =
     (steps : List Step) × IsLastAnswer before.setup before.machine commands steps answer × LeadsOn before steps
-
-abbrev pub HasStarved : Standing → List Command → Type 0
-HasStarved before commands =
-    (steps : List Step) × IsStarved before.setup before.machine commands steps × LeadsOn before steps
 
 -- a text was printed, or a front of it where the sink failed
 pub record HasSaid (stop : Stop) (from to : Output) (text : List ℕ) : Type 0 where

@@ -1,12 +1,12 @@
 //! Sample traces, run.
-ghost use Rattle.std.specs.Prelude.{◌≡◌, IfOk, OnErr, Some, false};
+ghost use Rattle.std.specs.Prelude.{◌≡◌, IfOk, Some, false};
 ghost use Rattle.pmem_base.specs.Geo.{shape_of};
 ghost use Rattle.plain_model.specs.Defaults.{default_setup};
 ghost use Rattle.trace_text.specs.Answers.{HasSmallMinors};
 ghost use Rattle.trace_text.specs.Samples.{sample_trace};
 ghost use Rattle.pmem_cli.specs.HasRun.{HasRunSample};
 ghost use Rattle.pmem_cli.specs.Printed.{with_waiting};
-ghost use Rattle.pmem_cli.specs.Sampled.{HasReached, HasStarved, HasToldSample};
+ghost use Rattle.pmem_cli.specs.Sampled.{HasReached, HasToldSample};
 ghost use Rattle.pmem_cli.specs.Served.{StopsByCause};
 ghost use Rattle.pmem_cli.specs.Standing.{standing_of};
 
@@ -34,7 +34,6 @@ fn replay_sample<U: Suite + Counted + Drop>(
     requires running { world.old.shown ≡ false }
     ensures reached { IfOk result (HasReached (standing_of U.formulas_of world.old) (sample_trace seed count)) }
     ensures minors { IfOk result HasSmallMinors }
-    ensures starved { OnErr result (HasStarved (standing_of U.formulas_of world.old) (sample_trace seed count)) }
 {
     let mut maker = Maker::new(seed);
     'commands: for made in 0..count {
