@@ -14,3 +14,4 @@ pub mod SampleLemmas
 pub mod ReplayLemmas
 pub mod Untampering
 pub mod StatusLemmas
+pub mod Completing

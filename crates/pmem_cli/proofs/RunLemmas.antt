@@ -16,7 +16,7 @@ use Rattle.plain_model.specs.declared.Stop.TheVariants.{Finished, Words, Memory,
 use Rattle.plain_model.specs.Lines.{lines_of, ended, IsWithin}
 use Rattle.plain_model.specs.Answers.{is_shown}
 use Rattle.plain_model.specs.Grammar.{reading_of, reading_among}
-use Rattle.plain_model.specs.Run.{Machine, Step, machine_after, machine_after_all, IsAnswered, AreAnswered, commands_asked, commands_of, IsRunFrom, IsFrontFrom, IsCutShortFrom, IsShownFrom, IsMemoryWanted, takes_memory, EndsFrom, line_limit}
+use Rattle.plain_model.specs.Run.{Machine, Step, machine_after, machine_after_all, IsAnswered, AreAnswered, commands_asked, commands_of, IsRunFrom, IsFrontFrom, IsCutShortFrom, IsShownFrom, IsMemoryWanted, takes_memory, EndsFrom, Ends, start, line_limit}
 use Rattle.pmem_cli.proofs.ShownLemmas.{exhibit_of, legal_exhibit}
 use Rattle.pmem_cli.proofs.StandingLemmas.{machine_after_all-append}
 use Rattle.pmem_cli.proofs.LineLemmas.{lines_of-begins, lines_of-all_ended}
@@ -237,3 +237,21 @@ EndsFrom-wanting setup machine served left trace line behind command cut asked w
       front = IsFrontFrom-nil setup machine (lines_of trace);
       wanting = inr (rw cut wanted);
     }
+
+-- ---- what the steps of an ending are
+
+shown_answered : (setup : Setup) (lines : List (List ℕ)) (steps : List Step) → IsShownFrom setup (start setup) 0 lines steps → AreAnswered setup (start setup) steps
+shown_answered setup lines steps ends =
+    subst (λ xs. AreAnswered setup (start setup) xs) (sym ends.all)
+    (AreAnswered-append setup (start setup) ends.first (ends.last ∷ []) ends.run.answered (ends.answered, tt))
+
+-- each step is legal and fits, after those before it
+pub ends_answered : (stop : Stop) (setup : Setup) (trace : List ℕ) (left : Option (List ℕ)) (steps : List Step) → Ends setup stop trace left steps → AreAnswered setup (start setup) steps
+ends_answered Finished setup trace left steps ends = ends.run.answered
+ends_answered Memory setup trace left steps ends = ends.front.run.answered
+ends_answered Words setup trace left steps ends = absurd ends
+ends_answered ReadFault setup trace left steps ends = ends.run.answered
+ends_answered WriteFault setup trace left steps ends = elim ends [ | inl front ↦ front.run.answered | inr shown ↦ shown_answered setup (lines_of trace) steps shown ]
+ends_answered (Refused number kind) setup trace left steps ends = ends.run.answered
+ends_answered Shown setup trace left steps ends = shown_answered setup (lines_of trace) steps ends
+ends_answered TooManyLines setup trace left steps ends = ends.front.run.answered

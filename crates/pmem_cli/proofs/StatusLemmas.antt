@@ -4,7 +4,7 @@ use Rattle.std.specs.Prelude.{◌⊎◌, Option, None, Some, IfSome, IsNone}
 use Rattle.suite.specs.Setup.{Setup}
 use Rattle.plain_model.specs.declared.Stop.{Stop}
 use Rattle.plain_model.specs.declared.Stop.TheVariants.{Finished, Words, Memory, ReadFault, WriteFault, Refused, Shown, TooManyLines}
-use Rattle.plain_model.specs.Run.{steps_text, stop_text, status_of}
+use Rattle.plain_model.specs.Run.{Ends, steps_text, stop_text, status_of}
 use Rattle.pmem_base.specs.declared.commands.Command.{Command}
 use Rattle.std.specs.Io.KnownBytes.{Appends}
 use Rattle.pmem_cli.specs.Printed.{Output, AppendsFront, Prints, PrintsFront, with_waiting}
@@ -18,7 +18,10 @@ use Rattle.pmem_cli.specs.declared.ending.Ending.{Ending}
 use Rattle.pmem_cli.specs.declared.ending.Ending.TheVariants.{Stopped}
 use Rattle.pmem_cli.specs.Endings.{ending_text, ending_status}
 use Rattle.pmem_cli.specs.HasRun.{HasRun, HasPut, HasSampled, HasTold, HasDone, HasMade, HasReplayed, HasRunSample, CheckEnds, HasEnded}
+use Rattle.pmem_cli.specs.Untampered.{IsUntampered}
 use Rattle.pmem_cli.proofs.PrintLemmas.{Prints-trans, Prints-whole, PrintsFront-trans, PrintsFront-more}
+use Rattle.pmem_cli.proofs.RunLemmas.{ends_answered}
+use Rattle.pmem_cli.proofs.Untampering.{untampered}
 
 -- what follows from a fact of what there is
 pub IfSome-map : {T : Type 0} (a : Option T) (P Q : T → Type 0) → ((x : T) → a ≡ Some x → P x → Q x) → IfSome a P → IfSome a Q
@@ -80,6 +83,9 @@ run_done setup stop status trace left before after between run finished = record
   steps = run.steps;
   ends = run.ends;
   replayed = run.replayed;
+  untampered =
+      IfSome-map trace (λ bytes. Ends setup stop bytes left run.steps) (λ bytes. IsUntampered setup run.steps)
+      (λ bytes is ends. untampered setup run.steps (ends_answered stop setup bytes left run.steps ends)) run.ends;
   its_status = finished.its_status;
   whole = said_whole stop status before after between (steps_text run.steps) run.said finished;
   front = said_front stop status before after between (steps_text run.steps) run.said finished;

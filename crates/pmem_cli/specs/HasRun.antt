@@ -1,12 +1,14 @@
 -- What the program's status says of what was asked for.
-use Rattle.std.specs.Prelude.{◌≡◌, ◌≢◌, ◌⊎◌, ◌++◌, ℕ, List, Option, IfSome}
+use Rattle.std.specs.Prelude.{◌≡◌, ◌≢◌, ◌≤◌, ◌⊎◌, ◌++◌, ⊤, ℕ, List, length, All, IsOk, Option, IfSome}
 use Rattle.std.specs.Io.KnownBytes.{Appends}
 use Rattle.pmem_base.specs.declared.commands.Command.{Command}
 use Rattle.suite.specs.Setup.{Setup}
 use Rattle.plain_model.specs.Defaults.{default_setup}
 use Rattle.plain_model.specs.declared.Stop.{Stop}
 use Rattle.plain_model.specs.declared.Stop.TheVariants.{Finished, WriteFault, Words}
-use Rattle.plain_model.specs.Run.{Step, start, Ends, steps_text, output_of, stop_text, status_of}
+use Rattle.plain_model.specs.Lines.{lines_of}
+use Rattle.plain_model.specs.Grammar.{reading_of}
+use Rattle.plain_model.specs.Run.{line_limit, Step, start, Ends, steps_text, output_of, stop_text, status_of}
 use Rattle.trace_text.specs.Samples.{sample_trace, commands_text}
 use Rattle.pmem_cli.specs.declared.options.Choices.{Choices}
 use Rattle.pmem_cli.specs.declared.options.Task.{Task}
@@ -19,6 +21,7 @@ use Rattle.pmem_cli.specs.Keys.{formulas_of, setup_chosen}
 use Rattle.pmem_cli.specs.Printed.{Output, AppendsFront}
 use Rattle.pmem_cli.specs.Sampled.{HasSaid, SampleEnds}
 use Rattle.pmem_cli.specs.Standing.{IsReplayed}
+use Rattle.pmem_cli.specs.Untampered.{IsUntampered}
 
 -- ---- at the end of the program
 
@@ -29,6 +32,7 @@ pub record HasRun (setup : Setup) (status : ℕ) (trace left put_before put_afte
   pub steps : List Step
   pub ends : IfSome trace (λ bytes. Ends setup stop bytes left steps)
   pub replayed : IsReplayed setup steps
+  pub untampered : IfSome trace (λ bytes. IsUntampered setup steps)
   pub its_status : status ≢ 4 → status ≡ status_of stop
   pub whole : status ≢ 4 → Appends put_before put_after (output_of steps stop)
   pub front : AppendsFront put_before put_after (output_of steps stop)
@@ -66,6 +70,19 @@ HasDone (Task.Run c) status trace left before after = HasRun (setup_chosen c) st
 HasDone (Task.Make seed count) status trace left before after = HasPut (commands_text (sample_trace seed count)) status before after
 HasDone (Task.Sample seed count) status trace left before after = HasSampled default_setup (sample_trace seed count) status before after
 HasDone (Task.Check c) status trace left before after = HasTold c status trace left before after
+
+-- all lines of these bytes are in the grammar, and there are no more of them than a trace may have
+abbrev pub IsInGrammar : List ℕ → Type 0
+IsInGrammar bytes = All (λ line. IsOk (reading_of line)) (lines_of bytes) × (length (lines_of bytes) ≤ line_limit)
+
+-- every command was answered, or the run ended by an exhibit, or memory was wanted
+abbrev pub IsRunThrough : ℕ → Type 0
+IsRunThrough status = (status ≡ 0) ⊎ ((status ≡ 6) ⊎ (status ≡ 1))
+
+-- a run goes through where all lines are in the grammar and within the limit, and no fault came
+abbrev pub IsComplete : Task → ℕ → Option (List ℕ) → Type 0 → Type 0
+IsComplete (Task.Run c) status trace fault = IfSome trace (λ bytes. IsInGrammar bytes → ¬ fault → IsRunThrough status)
+IsComplete task status trace fault = ⊤
 
 -- The one line that faulty words are answered with was put, or the sink failed and a front of it was.
 abbrev pub AreRefusedWords : Option (List ℕ) → Option (List ℕ) → ℕ → ℕ → Type 0

@@ -1,5 +1,5 @@
 //! The whole program: words and bytes in, bytes and a status out.
-ghost use Rattle.std.specs.Prelude.{◌≡◌, ◌≢◌, ◌≤◌, ◌↔◌, IfSome, IsNone, Some, map, string_bytes};
+ghost use Rattle.std.specs.Prelude.{◌≡◌, ◌≢◌, ◌≤◌, ◌⊎◌, ◌↔◌, IfSome, IsNone, Some, map, string_bytes};
 ghost use Rattle.pmem_base.specs.Geo.{shape_of};
 ghost use Rattle.plain_model.specs.declared.Stop.TheVariants as Stop;
 ghost use Rattle.pmem_cli.specs.Causes.{Rose};
@@ -8,7 +8,7 @@ ghost use Rattle.pmem_cli.specs.Keys.{setup_chosen};
 ghost use Rattle.pmem_cli.specs.Words.{task_of, AreChosen, HasChosen};
 ghost use Rattle.pmem_cli.specs.Printed.{with_waiting};
 ghost use Rattle.pmem_cli.specs.Served.{StopsByCause};
-ghost use Rattle.pmem_cli.specs.HasRun.{HasDone, HasEnded, HasReplayed, AreRefusedWords};
+ghost use Rattle.pmem_cli.specs.HasRun.{HasDone, HasEnded, HasReplayed, IsComplete, AreRefusedWords};
 
 use crate::checking::check;
 use crate::ending::{Ending, finish};
@@ -128,6 +128,11 @@ pub fn run<S: Source, K: Sink>(alloc: Global, words: &[String], trace: &mut S, o
     // and the last line, a sample trace, or whether the exhibit holds.
     ensures told { IfSome (task_of (map string_bytes words.now)) (λ task.
         HasDone task result (S.left trace.old) (S.left trace.new) (K.put out.old) (K.put out.new)) }
+
+    // A run of a trace in the grammar and within the limits goes through, unless source or sink fails.
+    ensures complete { IfSome (task_of (map string_bytes words.now)) (λ task.
+        IsComplete task result (S.left trace.old)
+        (Rose (S.faults trace.old) (S.faults trace.new) ⊎ Rose (K.faults out.old) (K.faults out.new))) }
 
     // The statuses for faults come only where source or sink failed.
     ensures read { result ≡ 3 → Rose (S.faults trace.old) (S.faults trace.new) }

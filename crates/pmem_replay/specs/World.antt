@@ -33,3 +33,7 @@ some_world keys =
       ledger = record { marks = []; truth = []; data_lines = 0; exhibit = None; spare = 0 };
       shown = false;
     }
+
+-- never so; nobody can tell who doesn't unfold it
+unfoldable pub IsNowhere : Type 0
+IsNowhere = ⊥

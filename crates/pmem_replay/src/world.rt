@@ -27,13 +27,13 @@ pub struct World<S: Suite + Counted + Drop> {
 }
 
 impl<S: Suite + Counted + Drop> Model for World<S> {
-    ghost use Rattle.pmem_replay.specs.World.{WorldState, some_world};
+    ghost use Rattle.pmem_replay.specs.World.{WorldState, some_world, IsNowhere};
 
     ghost Value = { WorldState };
 
     ghost view = { λ w. some_world (S.keys w.suite) };
 
-    ghost invariant = { λ w. ⊥ };
+    ghost invariant = { λ w. IsNowhere };
 }
 
 impl<S: Suite + Counted + Drop> World<S> {
@@ -47,6 +47,7 @@ impl<S: Suite + Counted + Drop> World<S> {
     }
 
     /// Answers a command. The one error is want of memory.
+    #[tactic(auto, using(crate::proofs::Nowhere::nowhere))]
     pub fn step(&mut self, alloc: Global, command: &Command) -> Result<Reply, MemFault>
         requires running { self.old.shown ≡ false }
         requires command { IsCommand command.now }
@@ -61,6 +62,7 @@ impl<S: Suite + Counted + Drop> World<S> {
     }
 
     /// The marks of formatting and of all replies, in order.
+    #[tactic(auto, using(crate::proofs::Nowhere::nowhere))]
     pub fn marks(&self) -> &[Mark]
         ensures { result.now ≡ self.now.ledger.marks }
     {
