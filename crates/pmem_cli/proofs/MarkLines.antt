@@ -1,9 +1,8 @@
 -- Marks, printed one after the other.
-use Rattle.std.proofs.Common.{◌≡◌, ◌∙◌, ◌+◌, ◌<◌, ◌≤◌, ◌-◌, ℕ, List, [], ◌∷◌, ◌++◌, length, take, drop, get_or, refl, sym, ap, subst, append_assoc, append-nil}
+use Rattle.std.proofs.Common.{◌≡◌, ◌∙◌, ◌+◌, ◌<◌, ◌≤◌, ℕ, List, [], ◌++◌, length, drop, get_or, sym, ap, subst, append_assoc, append-nil}
 use Rattle.std.proofs.lemmas.List.{at_drop_more, drop_all}
 use Rattle.pmem_base.specs.declared.answers.Mark.{Mark}
-use Rattle.plain_model.specs.State.{Reply}
-use Rattle.plain_model.specs.Texts.{as_line, mark_text, marks_text, answer_text, reply_text}
+use Rattle.plain_model.specs.Texts.{as_line, mark_text, marks_text}
 use Rattle.pmem_cli.specs.Printed.{Output, Prints, PrintsFront}
 use Rattle.pmem_cli.proofs.PrintLemmas.{PrintsFront-trans, PrintsFront-more}
 

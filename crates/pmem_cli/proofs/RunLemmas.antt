@@ -1,13 +1,12 @@
 -- Runs grow at their end.
 use Rattle.std.proofs.Common.{◌≡◌, ◌∙◌, ◌+◌, ◌<◌, ℕ, List, [], ◌∷◌, ◌++◌, length, refl, sym, ap, arith, append_assoc, length-append, Bool, true, false, subst, lt-ltb, inl, inr}
-use Rattle.std.specs.Prelude.{All, Option, map, IsOk, IsTrue, Ok, Err, Some, None, nat_lt, ◌⊎◌}
+use Rattle.std.specs.Prelude.{All, Option, map, IsOk, IsTrue, Ok, Err, Some, None, nat_lt}
 use Rattle.std.specs.List.{flat_map}
 use Rattle.std.proofs.KnownBytes.{Consumes-trans}
 use Rattle.std.proofs.lemmas.List.{map-append}
 use Rattle.std.proofs.lemmas.List.Concat.{flat_map-append}
 use Rattle.std.proofs.lemmas.List.Elements.{All-append, All-cons, All-nil}
 use Rattle.pmem_base.specs.declared.commands.Command.{Command}
-use Rattle.pmem_base.specs.declared.answers.Answer.{Answer}
 use Rattle.pmem_base.specs.declared.commands.Kind.{Kind}
 use Rattle.pmem_base.specs.declared.commands.Kind.TheVariants.{Long}
 use Rattle.suite.specs.Setup.{Setup}
@@ -251,7 +250,7 @@ ends_answered Finished setup trace left steps ends = ends.run.answered
 ends_answered Memory setup trace left steps ends = ends.front.run.answered
 ends_answered Words setup trace left steps ends = absurd ends
 ends_answered ReadFault setup trace left steps ends = ends.run.answered
-ends_answered WriteFault setup trace left steps ends = elim ends [ | inl front ↦ front.run.answered | inr shown ↦ shown_answered setup (lines_of trace) steps shown ]
+ends_answered WriteFault setup trace left steps ends = elim ends [ inl front ↦ front.run.answered | inr shown ↦ shown_answered setup (lines_of trace) steps shown ]
 ends_answered (Refused number kind) setup trace left steps ends = ends.run.answered
 ends_answered Shown setup trace left steps ends = shown_answered setup (lines_of trace) steps ends
 ends_answered TooManyLines setup trace left steps ends = ends.front.run.answered

@@ -1,6 +1,6 @@
 -- The run of a sample trace, command by command.
-use Rattle.std.proofs.Common.{◌≡◌, ◌∙◌, ◌+◌, ℕ, suc, true, false, List, [], ◌∷◌, ◌++◌, refl, sym, ap, subst, arith, append_assoc, append-nil, inl, inr}
-use Rattle.std.specs.Prelude.{◌⊎◌, map, All}
+use Rattle.std.proofs.Common.{◌≡◌, ◌∙◌, ◌+◌, ℕ, suc, true, false, List, [], ◌∷◌, ◌++◌, refl, sym, ap, subst, arith, append_assoc, inl, inr}
+use Rattle.std.specs.Prelude.{◌⊎◌, map}
 use Rattle.std.proofs.lemmas.List.{map-append}
 use Rattle.std.proofs.lemmas.List.Elements.{All-append, All-cons, All-nil}
 use Rattle.pmem_base.specs.Shape.{Shape}
@@ -13,7 +13,7 @@ use Rattle.plain_model.specs.Answers.{is_shown}
 use Rattle.plain_model.specs.Texts.{as_line, answer_text}
 use Rattle.plain_model.specs.declared.Stop.{Stop}
 use Rattle.plain_model.specs.declared.Stop.TheVariants.{Finished, Memory, WriteFault, Shown}
-use Rattle.plain_model.specs.Run.{Machine, Step, start, machine_after, machine_after_all, IsAnswered, AreAnswered}
+use Rattle.plain_model.specs.Run.{Machine, Step, machine_after, machine_after_all, IsAnswered, AreAnswered}
 use Rattle.trace_text.specs.Samples.{sample_command, sample_trace, state_of_seed, word_at, state_after_word, commands_from}
 use Rattle.pmem_replay.specs.World.{WorldState}
 use Rattle.pmem_replay.specs.Stepped.{IsNewWorld}

@@ -1,5 +1,5 @@
 -- Turns of a run, one after the other.
-use Rattle.std.proofs.Common.{◌≤◌, ◌≡◌, ◌∙◌, ◌+◌, ◌<◌, ℕ, List, [], ◌∷◌, ◌++◌, length, true, false, refl, sym, ap, subst, arith, append-nil, append_assoc, length-append, inl}
+use Rattle.std.proofs.Common.{◌≤◌, ◌≡◌, ◌∙◌, ◌+◌, ◌<◌, ℕ, List, [], ◌∷◌, ◌++◌, length, false, refl, sym, ap, subst, arith, append-nil, append_assoc, length-append, inl}
 use Rattle.std.specs.Prelude.{Option, None, Some, IfSome, Ok}
 use Rattle.std.specs.List.{flat_map}
 use Rattle.std.specs.Io.KnownBytes.{Consumes, Keeps, IsAtEnd, prepend_known}
@@ -14,8 +14,8 @@ use Rattle.plain_model.specs.Lines.{lines_of, IsWithin, ended}
 use Rattle.plain_model.specs.Grammar.{reading_of}
 use Rattle.plain_model.specs.Run.{Machine, Step, step_text, steps_text, machine_after_all, IsRunFrom, IsCutShortFrom, EndsFrom, line_limit}
 use Rattle.pmem_cli.specs.Printed.{Output, Prints, PrintsFront}
-use Rattle.pmem_cli.specs.Standing.{Standing, GoesOn}
-use Rattle.pmem_cli.specs.Served.{HasAnswered, HasServed, HasStopped, HasReplied, AnswersCommand, AnswersAsked, AnswersLine, Turns}
+use Rattle.pmem_cli.specs.Standing.{Standing}
+use Rattle.pmem_cli.specs.Served.{HasAnswered, HasServed, HasStopped, AnswersCommand, AnswersAsked, AnswersLine, Turns}
 use Rattle.pmem_cli.proofs.LineLemmas.{lines_of-ended, lines_of-last, lines_of-some}
 use Rattle.pmem_cli.proofs.PrintLemmas.{Prints-nil, Prints-trans, Prints-front, PrintsFront-trans}
 use Rattle.pmem_cli.proofs.RunLemmas.{IsRunFrom-append, IsRunFrom-nil, IsRunFrom-skipped, IsRunFrom-step, IsFrontFrom-nil, EndsFrom-after, EndsFrom-refused, EndsFrom-long, EndsFrom-shown, EndsFrom-untold, EndsFrom-wanting}

@@ -1,6 +1,6 @@
 -- Where nothing was tampered with, no reply is a refusal, and an exhibit is a twin.
 use Rattle.std.proofs.Common.{◌≡◌, ◌∙◌, ◌+◌, ◌<◌, ℕ, zero, suc, Bool, true, false, List, [], ◌∷◌, length, refl, sym, ap, subst, arith, inl, inr}
-use Rattle.std.specs.Prelude.{◌⊎◌, ◌&&◌, ◌||◌, ⊤, All, IsTrue, MatchOption, IfSome, Option, None, Some, unwrap_or, nat_lt, nat_le, if◌then◌else◌}
+use Rattle.std.specs.Prelude.{◌⊎◌, ◌&&◌, ◌||◌, All, IsTrue, MatchOption, IfSome, Option, None, Some, unwrap_or, nat_lt, nat_le, if◌then◌else◌}
 use Rattle.std.proofs.lemmas.Bool.{true≢false, and_parts, ltb-true}
 use Rattle.std.proofs.lemmas.List.{length-set, length-replicate}
 use Rattle.std.proofs.lemmas.List.Elements.{All-cons, All-nil}
@@ -23,7 +23,7 @@ use Rattle.plain_model.specs.State.{PlainState, Reply, no_flags, is_flagged, has
 use Rattle.plain_model.specs.View.{DeviceView}
 use Rattle.plain_model.specs.After.{after_front, after_drain, after_drains, without_front, after_drop, after_writes, after_flush, after_on, after_command, after_steps, after_mark, after_marks, state_after, is_cut}
 use Rattle.plain_model.specs.Answers.{is_on_device, decided_answer}
-use Rattle.plain_model.specs.Legal.{state_at_turn, line_at_turn, IsRefusalCaused, MayDiffer, IsEngineLegal, IsCaused}
+use Rattle.plain_model.specs.Legal.{state_at_turn, line_at_turn, IsRefusalCaused, MayDiffer, IsEngineLegal}
 use Rattle.plain_model.specs.Shown.{IsEngineReply, IsShownAnswer, IsShownInRun, IsLegal}
 use Rattle.plain_model.specs.Run.{Machine, Step, start, machine_after, machine_after_all, IsAnswered, AreAnswered}
 use Rattle.pmem_cli.proofs.ShownLemmas.{IsTabled, tabled-decided}

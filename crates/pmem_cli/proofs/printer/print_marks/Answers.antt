@@ -1,4 +1,4 @@
-use Rattle.std.proofs.Common.{◌≡◌, ◌+◌, [], ◌++◌, get_or, List, refl, arith}
+use Rattle.std.proofs.Common.{[], ◌++◌, get_or, List, refl, arith}
 use Rattle.pmem_base.specs.declared.answers.Mark.{Mark}
 use Rattle.pmem_base.specs.declared.answers.Mark.TheVariants.{Begin}
 use Rattle.plain_model.specs.Texts.{as_line, mark_text, marks_text}

@@ -11,7 +11,7 @@ pub returns-clause-run : goal.returns-clause-run
 returns-clause-run g c =
     subst
     (λ (setup : Setup).
-      HasRunSample setup (sample_trace c.args.seed c.args.count) c.sample_with.result
-      (with_waiting (g.K.Sink.put c.args.out.now) c.args.printer.now) (with_waiting (g.K.Sink.put c.sample_with.new.out) c.sample_with.new.printer))
+    HasRunSample setup (sample_trace c.args.seed c.args.count) c.sample_with.result
+    (with_waiting (g.K.Sink.put c.args.out.now) c.args.printer.now) (with_waiting (g.K.Sink.put c.sample_with.new.out) c.sample_with.new.printer))
     (setup_defaults c.none-choices.result (shape_of c.geometry-geo.result) _ c.none-choices.ensures.choices c.geometry-geo.ensures c.aes_suite-suite.ensures)
     c.sample_with.ensures.run

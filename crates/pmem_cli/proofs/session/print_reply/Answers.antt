@@ -1,4 +1,3 @@
-use Rattle.std.proofs.Common.{List, ℕ}
 use Rattle.std.specs.Prelude.{slice_range}
 use Rattle.plain_model.specs.Texts.{as_line, answer_text, marks_text, reply_text}
 use Rattle.pmem_replay.specs.Stepped.{reply_in}
