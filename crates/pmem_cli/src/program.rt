@@ -23,10 +23,10 @@ use plain_model::Stop;
 use pmem_base::Geo;
 use pmem_replay::World;
 use std::alloc::Global;
-use suite::{Counted, Suite};
+use suite::Counted;
 
 /// Runs a trace over a new world of this geometry and suite, and says why that stops.
-fn run_with<U: Suite + Counted + Drop, S: Source, K: Sink>(
+fn run_with<U: Counted + Drop, S: Source, K: Sink>(
     alloc: Global,
     geo: Geo,
     suite: U,

@@ -19,13 +19,13 @@ use plain_model::Stop;
 use pmem_base::{Answer, Command, Geo, MemFault};
 use pmem_replay::World;
 use std::alloc::Global;
-use suite::{Counted, Suite};
+use suite::Counted;
 use trace_text::Maker;
 
 /// Runs the sample trace of a seed and a count, and gives the last answer: that of its `stat`, or an
 /// exhibit, which ends the run.
 #[tactic(auto, unfolding(trace_text::specs::Samples::sample_trace))]
-fn replay_sample<U: Suite + Counted + Drop>(
+fn replay_sample<U: Counted + Drop>(
     alloc: Global,
     seed: u64,
     count: u32,
@@ -48,7 +48,7 @@ fn replay_sample<U: Suite + Counted + Drop>(
 }
 
 /// Prints the last answer of a sample trace over a new world, and says why the run stops.
-fn tell_sample<U: Suite + Counted + Drop, K: Sink>(
+fn tell_sample<U: Counted + Drop, K: Sink>(
     alloc: Global,
     seed: u64,
     count: u32,
@@ -78,7 +78,7 @@ fn tell_sample<U: Suite + Counted + Drop, K: Sink>(
 
 /// Runs the sample trace of a seed and a count over a new world of this geometry and suite, prints the last
 /// answer, and says why the run stops.
-fn sample_with<U: Suite + Counted + Drop, K: Sink>(
+fn sample_with<U: Counted + Drop, K: Sink>(
     alloc: Global,
     seed: u64,
     count: u32,

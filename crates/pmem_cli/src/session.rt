@@ -20,7 +20,7 @@ use plain_model::Stop;
 use pmem_base::{Answer, Command, Kind};
 use pmem_replay::{Reply, World};
 use std::alloc::Global;
-use suite::{Counted, Suite};
+use suite::Counted;
 use trace_text::read_command;
 
 /// The lines that a trace may have.
@@ -34,7 +34,7 @@ pub(crate) fn is_shown(answer: &Answer) -> bool
 }
 
 /// Prints a reply: its marks in the order made, and its answer.
-fn print_reply<U: Suite + Counted + Drop, K: Sink>(
+fn print_reply<U: Counted + Drop, K: Sink>(
     world: &World<U>,
     reply: &Reply,
     printer: &mut Printer,
@@ -54,7 +54,7 @@ fn print_reply<U: Suite + Counted + Drop, K: Sink>(
 }
 
 /// Answers a command, and says why the run stops, where it does.
-fn answer_command<U: Suite + Counted + Drop, K: Sink>(
+fn answer_command<U: Counted + Drop, K: Sink>(
     alloc: Global,
     command: &Command,
     world: &mut World<U>,
@@ -83,7 +83,7 @@ fn answer_command<U: Suite + Counted + Drop, K: Sink>(
 }
 
 /// Answers one line, and says why the run stops, where it does.
-fn answer_line<U: Suite + Counted + Drop, K: Sink>(
+fn answer_line<U: Counted + Drop, K: Sink>(
     alloc: Global,
     number: u32,
     line: &[u8],
@@ -104,7 +104,7 @@ fn answer_line<U: Suite + Counted + Drop, K: Sink>(
 }
 
 /// Takes and answers the next line, and says why the run stops, where it does.
-fn answer_next<U: Suite + Counted + Drop, S: Source, K: Sink>(
+fn answer_next<U: Counted + Drop, S: Source, K: Sink>(
     alloc: Global,
     served: u32,
     reader: &mut LineReader,
@@ -155,7 +155,7 @@ fn flush_before_pull<K: Sink>(
 }
 
 /// Serves the next line, and says why the run stops, where it does.
-fn serve_next<U: Suite + Counted + Drop, S: Source, K: Sink>(
+fn serve_next<U: Counted + Drop, S: Source, K: Sink>(
     alloc: Global,
     served: u32,
     reader: &mut LineReader,
@@ -179,7 +179,7 @@ fn serve_next<U: Suite + Counted + Drop, S: Source, K: Sink>(
 }
 
 /// Answers a trace, and says why the run stops.
-pub(crate) fn serve_all<U: Suite + Counted + Drop, S: Source, K: Sink>(
+pub(crate) fn serve_all<U: Counted + Drop, S: Source, K: Sink>(
     alloc: Global,
     world: &mut World<U>,
     trace: &mut S,

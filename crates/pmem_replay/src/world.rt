@@ -9,7 +9,7 @@ ghost use Rattle.pmem_replay.specs.Stepped.{reply_in, IsNewWorld, HasStepped};
 use pmem_base::{Answer, Command, Geo, Mark, MemFault};
 use std::alloc::Global;
 use std::marker::Model;
-use suite::{Counted, Suite};
+use suite::Counted;
 
 /// A command's answer, and where its marks stand among all.
 #[derive(Clone, Copy, Debug, PartialEq, Eq)]
@@ -21,12 +21,12 @@ pub struct Reply {
 
 /// The world.
 #[derive(Drop)]
-pub struct World<S: Suite + Counted + Drop> {
+pub struct World<S: Counted + Drop> {
     suite: S,
     count: u64,
 }
 
-impl<S: Suite + Counted + Drop> Model for World<S> {
+impl<S: Counted + Drop> Model for World<S> {
     ghost use Rattle.pmem_replay.specs.World.{WorldState, some_world, IsNowhere};
 
     ghost Value = { WorldState };
@@ -36,7 +36,7 @@ impl<S: Suite + Counted + Drop> Model for World<S> {
     ghost invariant = { λ w. IsNowhere };
 }
 
-impl<S: Suite + Counted + Drop> World<S> {
+impl<S: Counted + Drop> World<S> {
     /// A formatted world with power on. The one error is want of memory.
     pub fn new(alloc: Global, geo: Geo, suite: S) -> Result<World<S>, MemFault>
         ensures new { IfOk result (λ world. IsNewWorld (record { shape = shape_of geo; formulas = S.formulas_of (S.keys suite) }) world) }
