@@ -15,7 +15,7 @@ use Rattle.plain_model.specs.Grammar.{command_of, command_among, reading_of_word
 use Rattle.plain_model.specs.Run.{start, machine_after, Step, IsRunFrom}
 use Rattle.plain_model.specs.Answers.{is_shown}
 use Rattle.checks.specs.Rows.{weak_setup}
-use Rattle.checks.specs.Runs.{hex_ones, first_steps}
+use Rattle.checks.specs.Runs.{hex_zeros, first_steps}
 use Rattle.checks.specs.Runs.{first_lines}
 
 -- each element of a list of these has the fact
@@ -55,8 +55,8 @@ within_of (byte ∷ bytes) h =
 
 pub first_lines_within : All IsWithin first_lines
 first_lines_within =
-    all_of_five IsWithin _ _ _ _ _ (within_of (codes "post 0 3 " ++ hex_ones) refl) (within_of (codes "# then") refl)
-    (within_of (codes "drain 0\r") refl) (within_of [] refl) (within_of (codes "read 0 3") refl)
+    all_of_five IsWithin _ _ _ _ _ (within_of (codes "post 0 0 " ++ hex_zeros) refl) (within_of (codes "# then") refl)
+    (within_of (codes "drain 0\r") refl) (within_of [] refl) (within_of (codes "read 0 0") refl)
 
 pub rest_within : IsWithin (codes "re")
 rest_within = within_of (codes "re") refl

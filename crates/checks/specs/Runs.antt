@@ -1,31 +1,27 @@
 -- A trace's bytes with its steps.
 use Rattle.std.specs.Prelude.{ℕ, List, [], ◌∷◌, ◌++◌, codes, replicate}
-use Rattle.pmem_base.specs.declared.commands.Command.{Command}
 use Rattle.pmem_base.specs.declared.commands.Command.TheVariants as Do
-use Rattle.pmem_base.specs.declared.answers.Answer.{Answer}
 use Rattle.pmem_base.specs.declared.answers.Answer.TheVariants as Say
-use Rattle.pmem_base.specs.Lines.{filled_line}
+use Rattle.pmem_base.specs.Lines.{zero_line}
 use Rattle.plain_model.specs.Run.{Step}
+use Rattle.checks.specs.Rows.{zero_post, plain, drained_reply}
 
--- 64 bytes 11 in hex
-abbrev pub hex_ones : List ℕ
-hex_ones = replicate 128 0x31
+-- 64 bytes 0 in hex
+abbrev pub hex_zeros : List ℕ
+hex_zeros = replicate 128 0x30
 
 abbrev pub first_trace : List ℕ
-first_trace = codes "post 0 3 " ++ hex_ones ++ codes "\n# then\ndrain 0\r\n\nread 0 3\n"
-
-abbrev pub unmarked : Command → Answer → Step
-unmarked command answer = record { command = command; reply = record { marks = []; answer = answer } }
+first_trace = codes "post 0 0 " ++ hex_zeros ++ codes "\n# then\ndrain 0\r\n\nread 0 0\n"
 
 -- its lines
 abbrev pub first_lines : List (List ℕ)
 first_lines =
-    (codes "post 0 3 " ++ hex_ones) ∷ codes "# then" ∷ codes "drain 0\r" ∷ [] ∷ codes "read 0 3" ∷ []
+    (codes "post 0 0 " ++ hex_zeros) ∷ codes "# then" ∷ codes "drain 0\r" ∷ [] ∷ codes "read 0 0" ∷ []
 
--- on a plain device a drain takes one step
+-- the drain seals its line, in seven steps
 abbrev pub first_steps : List Step
 first_steps =
-    unmarked (Do.Post 0 3 (filled_line 0x11)) Say.Ok
-    ∷ unmarked (Do.Drain 0) (Say.Drained 1)
-    ∷ unmarked (Do.Read 0 3) (Say.Got (filled_line 0x11) 0)
+    record { command = zero_post; reply = plain Say.Ok }
+    ∷ record { command = Do.Drain 0; reply = drained_reply }
+    ∷ record { command = Do.Read 0 0; reply = plain (Say.Got zero_line 0) }
     ∷ []

@@ -6,7 +6,7 @@ ghost use Rattle.std.specs.List.{range_with_len};
 ghost use Rattle.pmem_base.specs.Lines.{line_of, zero_line, filled_line};
 ghost use Rattle.pmem_base.specs.declared.commands.Kind.TheVariants as Kind;
 ghost use Rattle.pmem_base.specs.declared.commands.Command.TheVariants as Do;
-ghost use Rattle.plain_model.specs.Grammar.{reading_of, full_reading_of};
+ghost use Rattle.plain_model.specs.Grammar.{reading_of};
 ghost use Rattle.plain_model.specs.Lines.{lines_of};
 
 /// Commands that are read, and lines that are skipped.
@@ -38,15 +38,14 @@ pub fn lines_refused()
     ensures not_too_long { reading_of (replicate 1024 0x61) ≡ Err Kind.Word }
 {}
 
-/// Commands of the whole language, and one that the program doesn't take yet.
+/// Commands of several kinds.
 pub fn verbs_read()
-    ensures part { full_reading_of (codes "part 0 0 2 aaBB") ≡ Ok (Some (Do.Part 0 0 2 2 (line_of (0xaa ∷ 0xbb ∷ replicate 62 0)))) }
-    ensures odd_part { full_reading_of (codes "part 0 0 0 0") ≡ Err Kind.Hex }
-    ensures turn { full_reading_of (codes "turn") ≡ Ok (Some Do.Turn) }
-    ensures many { full_reading_of (codes "turn 1") ≡ Err Kind.Count }
-    ensures cut { full_reading_of (codes "cut 3") ≡ Ok (Some (Do.Cut 3)) }
-    ensures moved { full_reading_of (codes "move 2 0") ≡ Ok (Some (Do.Move 2 0)) }
-    ensures not_built { reading_of (codes "turn") ≡ Err Kind.Word }
+    ensures part { reading_of (codes "part 0 0 2 aaBB") ≡ Ok (Some (Do.Part 0 0 2 2 (line_of (0xaa ∷ 0xbb ∷ replicate 62 0)))) }
+    ensures odd_part { reading_of (codes "part 0 0 0 0") ≡ Err Kind.Hex }
+    ensures turn { reading_of (codes "turn") ≡ Ok (Some Do.Turn) }
+    ensures many { reading_of (codes "turn 1") ≡ Err Kind.Count }
+    ensures cut { reading_of (codes "cut 3") ≡ Ok (Some (Do.Cut 3)) }
+    ensures moved { reading_of (codes "move 2 0") ≡ Ok (Some (Do.Move 2 0)) }
 {}
 
 /// A trace's bytes are cut at each LF, and a rest is a line where it has a byte.

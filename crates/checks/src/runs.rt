@@ -1,12 +1,12 @@
 //! A trace's bytes, its steps, and what is printed of them.
-#![tactic(auto, unfolding(pmem_base::specs::Lines::zero_line, plain_model::specs::State::no_flags, plain_model::specs::State::no_writes, plain_model::specs::State::start_state, plain_model::specs::View::start_view, plain_model::specs::Lines::lines_of, collision_witness::specs::Words::without_return, collision_witness::specs::Words::words_of, collision_witness::specs::Words::number_up_to, plain_model::specs::Words::port_of, collision_witness::specs::Words::hex_bytes, plain_model::specs::Grammar::command_of, plain_model::specs::Grammar::command_among, plain_model::specs::Grammar::reading_of_words, plain_model::specs::Grammar::reading_among, plain_model::specs::Texts::answer_text, plain_model::specs::Run::start, plain_model::specs::Run::machine_after, plain_model::specs::Run::stop_text, hex::specs::Hex::decode_pairs, hex::specs::Hex::encode_with,))]
+#![tactic(auto, unfolding(pmem_base::specs::Lines::zero_line, plain_model::specs::State::no_flags, plain_model::specs::State::no_writes, plain_model::specs::State::start_state, plain_model::specs::View::start_view, plain_model::specs::Lines::lines_of, collision_witness::specs::Words::without_return, collision_witness::specs::Words::words_of, collision_witness::specs::Words::number_up_to, plain_model::specs::Words::port_of, collision_witness::specs::Words::hex_bytes, plain_model::specs::Grammar::command_of, plain_model::specs::Grammar::command_among, plain_model::specs::Grammar::reading_of_words, plain_model::specs::Grammar::reading_among, plain_model::specs::Texts::answer_text, plain_model::specs::Texts::mark_text, plain_model::specs::Run::start, plain_model::specs::Run::machine_after, plain_model::specs::Run::stop_text, hex::specs::Hex::decode_pairs, hex::specs::Hex::encode_with,))]
 
 ghost use Rattle.std.specs.Prelude.{ℕ, ◌≡◌, ◌+◌, List, [], ◌∷◌, ◌++◌, codes, replicate, Some, None};
 ghost use Rattle.pmem_base.specs.declared.commands.Kind.TheVariants as Kind;
 ghost use Rattle.plain_model.specs.declared.Stop.TheVariants as Stop;
 ghost use Rattle.plain_model.specs.Run.{Ends, output_of};
 ghost use Rattle.checks.specs.Rows.{weak_setup};
-ghost use Rattle.checks.specs.Runs.{hex_ones, first_steps, first_trace};
+ghost use Rattle.checks.specs.Runs.{hex_zeros, first_steps, first_trace};
 
 /// From a trace's bytes to its steps: a post, a drain and a read, with a comment and a blank line.
 pub fn finished_run()
@@ -25,7 +25,7 @@ pub fn cut_short_run()
 
 /// What is printed.
 pub fn output_shown()
-    ensures finished { output_of first_steps Stop.Finished ≡ codes "ok\nok 1\nline " ++ hex_ones ++ codes " 0\n" }
+    ensures finished { output_of first_steps Stop.Finished ≡ codes "ok\nseal 0 0.1 00000000000000000000000000000051\nok 7\nline " ++ hex_zeros ++ codes " 0\n" }
     ensures refused { output_of [] (Stop.Refused 3 Kind.Word) ≡ codes "stop line 3 1\n" }
     ensures failed { output_of [] Stop.ReadFault ≡ codes "stop read\n" }
 {}

@@ -1,6 +1,5 @@
 -- The grammar of a trace: what one line asks for.
 use Rattle.std.specs.Prelude.{ℕ, ◌-◌, ◌==◌, nat_lt, nat_le, Bool, false, List, [], ◌∷◌, ◌++◌, length, replicate, find, slice_index, codes, Option, Some, None, Result, Ok, Err, if◌then◌else◌}
-use Rattle.std.specs.List.{list_any}
 use Rattle.std.specs.Str.{bytes_eq}
 use Rattle.pmem_base.specs.declared.lines.Line.{Line}
 use Rattle.pmem_base.specs.declared.commands.Kind.{Kind}
@@ -8,7 +7,7 @@ use Rattle.pmem_base.specs.declared.commands.Command.{Command}
 use Rattle.pmem_base.specs.declared.commands.Command.TheVariants as Do
 use Rattle.pmem_base.specs.Lines.{line_of}
 use Rattle.collision_witness.specs.Words.{Word, words_of, without_return, no_word, one_word, two_words, three_words, four_words, number_of, some_hex_bytes, hex_line, ◌>>=◌}
-use Rattle.plain_model.specs.Words.{port_of, greatest_port, last_port}
+use Rattle.plain_model.specs.Words.{port_of, last_port}
 
 -- what a line gives: a command, nothing where it is skipped, or the kind of its fault
 abbrev pub Reading : Type 0
@@ -45,10 +44,6 @@ verbs =
     ∷ (codes "off", off) ∷ (codes "on", on) ∷ (codes "poke", poke) ∷ (codes "flip", flip)
     ∷ (codes "move", move) ∷ (codes "snap", snap) ∷ (codes "back", back) ∷ (codes "peek", peek)
     ∷ (codes "stat", stat) ∷ (codes "loss", loss) ∷ []
-
--- those that the program takes so far; any other first word is no command
-abbrev pub built_verbs : List (Word × Verb)
-built_verbs = (codes "post", post) ∷ (codes "drain", drain) ∷ (codes "read", read) ∷ []
 
 -- ---- the values that these words spell, where ports go up to a greatest one
 
@@ -185,10 +180,6 @@ abbrev pub command_of_entry : ℕ → Option (Word × Verb) → List Word → Re
 command_of_entry most None words = Err Kind.Word
 command_of_entry most (Some entry) words = command_of most entry.1 words
 
--- whether a first word is one of these
-abbrev pub has_verb : List (Word × Verb) → Word → Bool
-has_verb entries name = list_any (λ entry. bytes_eq name entry.0) entries
-
 -- the command of a first word, if it is one of these, and of those after it
 unfoldable pub command_among : ℕ → List (Word × Verb) → Word → List Word → Result Command Kind
 command_among most entries name words =
@@ -212,17 +203,6 @@ reading_among most entries line =
     if nat_lt 1024 (length line) then Err Kind.Long
     else reading_of_words most entries (words_of (without_return line))
 
--- what a line asks for in the whole language
-abbrev pub full_reading_of : List ℕ → Reading
-full_reading_of line = reading_among last_port verbs line
-
--- what a line asks for, as far as the program takes it
+-- what a line of a trace asks for
 abbrev pub reading_of : List ℕ → Reading
-reading_of line = reading_among greatest_port built_verbs line
-
--- whether the program takes the command so far: its verb is built, and its port isn't too great
-abbrev pub is_taken : Command → Bool
-is_taken (Do.Post port at line) = nat_le port greatest_port
-is_taken (Do.Drain port) = nat_le port greatest_port
-is_taken (Do.Read port at) = nat_le port greatest_port
-is_taken command = false
+reading_of line = reading_among last_port verbs line

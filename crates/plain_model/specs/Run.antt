@@ -6,16 +6,20 @@ use Rattle.std.specs.Io.KnownBytes.{Consumes}
 use Rattle.pmem_base.specs.declared.commands.Kind.{Kind}
 use Rattle.pmem_base.specs.declared.commands.Command.{Command}
 use Rattle.pmem_base.specs.declared.commands.Command.TheVariants as Do
+use Rattle.pmem_base.specs.declared.answers.Answer.TheVariants as Say
+use Rattle.pmem_base.specs.declared.answers.Exhibit.{Exhibit}
 use Rattle.suite.specs.Setup.{Setup}
 use Rattle.plain_model.specs.declared.Stop.{Stop}
-use Rattle.plain_model.specs.declared.Stop.TheVariants.{Finished, Memory, Words, ReadFault, WriteFault, Refused, TooManyLines}
+use Rattle.plain_model.specs.declared.Stop.TheVariants.{Finished, Memory, Words, ReadFault, WriteFault, Refused, Shown, TooManyLines}
 use Rattle.plain_model.specs.State.{PlainState, Reply, start_state}
 use Rattle.plain_model.specs.View.{DeviceView, start_view, view_after_marks}
 use Rattle.plain_model.specs.After.{state_after}
 use Rattle.plain_model.specs.Answers.{is_shown}
 use Rattle.plain_model.specs.Shown.{IsLegal}
+use Rattle.plain_model.specs.Fits.{Fits}
 use Rattle.plain_model.specs.Lines.{lines_of, ended, IsWithin}
 use Rattle.plain_model.specs.Grammar.{Reading, reading_of}
+use Rattle.collision_witness.specs.Exhibits.{IsExhibit}
 use Rattle.collision_witness.specs.Texts.{sentence}
 use Rattle.plain_model.specs.Texts.{as_line, reply_text}
 
@@ -54,10 +58,10 @@ abbrev pub machine_after_all : Setup → Machine → List Step → Machine
 machine_after_all setup machine [] = machine
 machine_after_all setup machine (step ∷ steps) = machine_after_all setup (machine_after setup machine step) steps
 
--- What a run asks of a reply as far as the program is built: it is legal, and has no marks.
+-- what a run asks of a reply: it is legal, and fits the device view
 pub record IsAnswered (setup : Setup) (machine : Machine) (step : Step) : Type 0 where
   pub legal : IsLegal setup machine.state machine.view step.command step.reply
-  pub unmarked : step.reply.marks ≡ []
+  pub fits : Fits setup machine.state machine.view step.command step.reply
 
 -- so it is for each of them, after those before it
 abbrev pub AreAnswered : Setup → Machine → List Step → Type 0
@@ -99,6 +103,7 @@ status_of Words = 2
 status_of ReadFault = 3
 status_of WriteFault = 4
 status_of (Refused number kind) = 5
+status_of Shown = 6
 status_of TooManyLines = 7
 
 abbrev pub kind_number : Kind → ℕ
@@ -109,7 +114,7 @@ kind_number Kind.Port = 4
 kind_number Kind.Hex = 5
 kind_number Kind.Long = 6
 
--- what is printed after the replies
+-- what is printed after the replies: an exhibit is the last of them
 unfoldable pub stop_text : Stop → List ℕ
 stop_text Finished = []
 stop_text Memory = as_line (codes "stop memory")
@@ -118,6 +123,7 @@ stop_text ReadFault = as_line (codes "stop read")
 stop_text WriteFault = []
 stop_text (Refused number kind) =
     as_line (sentence (codes "stop" ∷ codes "line" ∷ decimal number ∷ decimal (kind_number kind) ∷ []))
+stop_text Shown = []
 stop_text TooManyLines = as_line (codes "stop lines")
 
 -- what is printed of a run
@@ -150,6 +156,25 @@ pub record IsRefusedFrom (setup : Setup) (machine : Machine) (served : ℕ) (lin
   pub refused : reading_of line ≡ Err kind
   pub numbered : number ≡ served + length before + 1
   pub counted : number ≤ line_limit
+
+-- The lines before one are run, and the reply to that one's command is an exhibit, which ends the run:
+-- it is the last line that is printed, and it holds.
+pub record IsShownFrom (setup : Setup) (machine : Machine) (served : ℕ) (lines : List (List ℕ))
+    (steps : List Step) : Type 0 where
+  pub before : List (List ℕ)
+  pub line : List ℕ
+  pub behind : List (List ℕ)
+  pub cut : lines ≡ before ++ line ∷ behind
+  pub first : List Step
+  pub run : IsRunFrom setup machine before first
+  pub last : Step
+  pub all : steps ≡ first ++ last ∷ []
+  pub asked : reading_of line ≡ Ok (Some last.command)
+  pub answered : IsAnswered setup (machine_after_all setup machine first) last
+  pub exhibit : Exhibit
+  pub shown : last.reply.answer ≡ Say.Shown exhibit
+  pub holds : IsExhibit setup.formulas exhibit
+  pub counted : served + length before < line_limit
 
 -- the lines up to the limit are run, and more lines follow
 pub record IsCutOffFrom (setup : Setup) (machine : Machine) (served : ℕ) (lines : List (List ℕ))
@@ -201,9 +226,11 @@ EndsFrom setup machine served Finished trace left steps =
 EndsFrom setup machine served Memory trace left steps = IsStarvedFrom setup machine served (lines_of trace) steps
 EndsFrom setup machine served Words trace left steps = ⊥
 EndsFrom setup machine served ReadFault trace left steps = IsCutShortFrom setup machine served trace left steps
-EndsFrom setup machine served WriteFault trace left steps = IsFrontFrom setup machine (lines_of trace) steps
+EndsFrom setup machine served WriteFault trace left steps =
+    IsFrontFrom setup machine (lines_of trace) steps ⊎ IsShownFrom setup machine served (lines_of trace) steps
 EndsFrom setup machine served (Refused number kind) trace left steps =
     IsRefusedFrom setup machine served (lines_of trace) steps number kind
+EndsFrom setup machine served Shown trace left steps = IsShownFrom setup machine served (lines_of trace) steps
 EndsFrom setup machine served TooManyLines trace left steps =
     IsCutOffFrom setup machine served (lines_of trace) steps
 

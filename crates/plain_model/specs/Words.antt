@@ -3,10 +3,6 @@ use Rattle.std.specs.Prelude.{ℕ, nat_le, Result, Ok, Err, if◌then◌else◌}
 use Rattle.pmem_base.specs.declared.commands.Kind.{Kind}
 use Rattle.collision_witness.specs.Words.{Word, number_of, ◌>>=◌}
 
--- the greatest port that the program takes so far
-abbrev pub greatest_port : ℕ
-greatest_port = 0
-
 -- the greatest of the eight ports
 abbrev pub last_port : ℕ
 last_port = 7

@@ -19,6 +19,8 @@ pub enum Stop {
     WriteFault,
     /// Line `number`, counted from 1, isn't in the grammar.
     Refused { number: u32, kind: Kind },
+    /// The last answer is an exhibit.
+    Shown,
     /// A byte follows the greatest number of lines.
     TooManyLines,
 }

@@ -10,7 +10,7 @@ use Rattle.pmem_base.specs.declared.commands.Kind.{Kind}
 use Rattle.pmem_base.specs.declared.answers.Exhibit.{Exhibit}
 use Rattle.collision_witness.specs.Reading.{exhibit_of_line}
 use Rattle.plain_model.specs.declared.Stop.{Stop}
-use Rattle.plain_model.specs.declared.Stop.TheVariants.{Finished, Words, Memory, ReadFault, WriteFault, Refused, TooManyLines}
+use Rattle.plain_model.specs.declared.Stop.TheVariants.{Finished, Words, Memory, ReadFault, WriteFault, Refused, Shown, TooManyLines}
 use Rattle.plain_model.specs.Lines.{lines_of, ended, IsWithin}
 use Rattle.plain_model.specs.Run.{line_limit}
 use Rattle.pmem_cli.specs.Checked.{is_skipped, found_with, found_on, found_after, IsRefusedIn, IsBrokenOff, LooksTo, HasLooked, ChecksLine, ChecksNext}
@@ -66,6 +66,7 @@ looks_after (Refused number kind) f g served bytes rest line left after split wi
   numbered = omega (arith, looks.numbered);
   counted = looks.counted;
 }
+looks_after Shown f g served bytes rest line left after split within first looks = looks
 looks_after TooManyLines f g served bytes rest line left after split within first looks = record {
   before = line ∷ looks.before;
   behind = looks.behind;
@@ -119,6 +120,7 @@ ChecksNext-line (Some Words) ahead behind left before after line served number t
 ChecksNext-line (Some Memory) ahead behind left before after line served number taken within numbered limit checked = absurd checked
 ChecksNext-line (Some ReadFault) ahead behind left before after line served number taken within numbered limit checked = absurd checked
 ChecksNext-line (Some WriteFault) ahead behind left before after line served number taken within numbered limit checked = absurd checked
+ChecksNext-line (Some Shown) ahead behind left before after line served number taken within numbered limit checked = absurd checked
 ChecksNext-line (Some TooManyLines) ahead behind left before after line served number taken within numbered limit checked = absurd checked
 
 -- the last line
@@ -148,6 +150,7 @@ HasLooked-at_last Words ahead behind left before after line served number taken 
 HasLooked-at_last Memory ahead behind left before after line served number taken within some end numbered limit checked = absurd checked
 HasLooked-at_last ReadFault ahead behind left before after line served number taken within some end numbered limit checked = absurd checked
 HasLooked-at_last WriteFault ahead behind left before after line served number taken within some end numbered limit checked = absurd checked
+HasLooked-at_last Shown ahead behind left before after line served number taken within some end numbered limit checked = absurd checked
 HasLooked-at_last TooManyLines ahead behind left before after line served number taken within some end numbered limit checked = absurd checked
 
 -- a line that is too long is refused whatever it holds

@@ -1,11 +1,16 @@
 -- The formulas of a named suite under chosen keys.
-use Rattle.std.proofs.Common.{◌≡◌, ℕ, true, false, List, [], ◌∷◌, ◌++◌, refl}
+use Rattle.std.proofs.Common.{◌≡◌, ◌∙◌, ℕ, true, false, List, [], ◌∷◌, ◌++◌, refl, ap}
 use Rattle.std.specs.Prelude.{unwrap_or}
 use Rattle.suite.specs.Aes.{aes_formulas}
 use Rattle.suite.specs.Weak.{weak_formulas, blur_flag}
 use Rattle.pmem_cli.specs.declared.options.SuiteName.TheVariants.{Aes, Weak, Blur}
 use Rattle.pmem_cli.specs.declared.options.Choices.{Choices}
-use Rattle.pmem_cli.specs.Keys.{key_of, tag_key_of, formulas_of}
+use Rattle.pmem_base.specs.Shape.{Shape}
+use Rattle.suite.specs.Formulas.{Formulas}
+use Rattle.suite.specs.Setup.{Setup}
+use Rattle.plain_model.specs.Defaults.{default_shape, default_keys, default_setup}
+use Rattle.pmem_cli.specs.Words.{no_choices}
+use Rattle.pmem_cli.specs.Keys.{key_of, tag_key_of, formulas_of, shape_chosen, setup_chosen}
 
 pub formulas_aes : (c : Choices) (keys : List ℕ) → unwrap_or c.suite Aes ≡ Aes → keys ≡ key_of c ++ tag_key_of c → aes_formulas keys ≡ formulas_of c
 unfolding formulas_of
@@ -18,3 +23,21 @@ formulas_weak c keys name same = rw (name, same) refl
 pub formulas_blur : (c : Choices) (keys : List ℕ) → unwrap_or c.suite Aes ≡ Blur → keys ≡ (key_of c ++ tag_key_of c) ++ blur_flag true ∷ [] → weak_formulas keys ≡ formulas_of c
 unfolding formulas_of
 formulas_blur c keys name same = rw (name, same) refl
+
+-- ---- setups
+
+pub setup_same : (c : Choices) (shape : Shape) (formulas : Formulas) → shape ≡ shape_chosen c → formulas ≡ formulas_of c → ◌≡◌ {A = Setup} (record { shape = shape; formulas = formulas }) (setup_chosen c)
+unfolding setup_chosen
+setup_same c shape formulas its_shape its_formulas = rw (its_shape, its_formulas) refl
+
+-- where nothing is chosen, the defaults
+pub setup_default : setup_chosen no_choices ≡ default_setup
+unfolding setup_chosen shape_chosen formulas_of no_choices default_setup default_shape default_keys
+setup_default = refl
+
+pub setup_defaults : (c : Choices) (shape : Shape) (keys : List ℕ) → c ≡ no_choices → shape ≡ shape_chosen c → keys ≡ key_of c ++ tag_key_of c
+    → ◌≡◌ {A = Setup} (record { shape = shape; formulas = aes_formulas keys }) default_setup
+unfolding no_choices
+setup_defaults c shape keys none its_shape its_keys =
+    setup_same c shape (aes_formulas keys) its_shape (formulas_aes c keys (ap (λ (d : Choices). unwrap_or d.suite Aes) none) its_keys)
+    ∙ (ap setup_chosen none ∙ setup_default)

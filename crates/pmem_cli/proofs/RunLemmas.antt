@@ -1,6 +1,6 @@
 -- Runs grow at their end.
-use Rattle.std.proofs.Common.{◌≡◌, ◌∙◌, ◌+◌, ◌<◌, ℕ, List, [], ◌∷◌, ◌++◌, length, refl, sym, ap, arith, append_assoc, length-append, true, false, lt-ltb, inl, inr}
-use Rattle.std.specs.Prelude.{All, Option, map, IsOk, Ok, Err, Some, None, nat_lt}
+use Rattle.std.proofs.Common.{◌≡◌, ◌∙◌, ◌+◌, ◌<◌, ℕ, List, [], ◌∷◌, ◌++◌, length, refl, sym, ap, arith, append_assoc, length-append, Bool, true, false, subst, lt-ltb, inl, inr}
+use Rattle.std.specs.Prelude.{All, Option, map, IsOk, IsTrue, Ok, Err, Some, None, nat_lt}
 use Rattle.std.specs.List.{flat_map}
 use Rattle.std.proofs.KnownBytes.{Consumes-trans}
 use Rattle.std.proofs.lemmas.List.{map-append}
@@ -9,21 +9,16 @@ use Rattle.std.proofs.lemmas.List.Elements.{All-append, All-cons, All-nil}
 use Rattle.pmem_base.specs.declared.commands.Command.{Command}
 use Rattle.pmem_base.specs.declared.commands.Kind.{Kind}
 use Rattle.pmem_base.specs.declared.commands.Kind.TheVariants.{Long}
-use Rattle.pmem_base.specs.declared.answers.Answer.{Answer}
 use Rattle.suite.specs.Setup.{Setup}
 use Rattle.plain_model.specs.declared.Stop.{Stop}
-use Rattle.plain_model.specs.declared.Stop.TheVariants.{Finished, Words, Memory, ReadFault, WriteFault, Refused, TooManyLines}
+use Rattle.plain_model.specs.declared.Stop.TheVariants.{Finished, Words, Memory, ReadFault, WriteFault, Refused, Shown, TooManyLines}
 use Rattle.plain_model.specs.Lines.{lines_of, ended, IsWithin}
 use Rattle.plain_model.specs.Answers.{is_shown}
 use Rattle.plain_model.specs.Grammar.{reading_of, reading_among}
-use Rattle.plain_model.specs.Run.{Machine, Step, machine_after, machine_after_all, IsAnswered, AreAnswered, commands_asked, commands_of, IsRunFrom, IsFrontFrom, IsCutShortFrom, EndsFrom, line_limit}
-use Rattle.pmem_cli.specs.Running.{step_of}
+use Rattle.plain_model.specs.Run.{Machine, Step, machine_after, machine_after_all, IsAnswered, AreAnswered, commands_asked, commands_of, IsRunFrom, IsFrontFrom, IsCutShortFrom, IsShownFrom, IsMemoryWanted, takes_memory, EndsFrom, Ends, start, line_limit}
+use Rattle.pmem_cli.proofs.ShownLemmas.{exhibit_of, legal_exhibit}
+use Rattle.pmem_cli.proofs.StandingLemmas.{machine_after_all-append}
 use Rattle.pmem_cli.proofs.LineLemmas.{lines_of-begins, lines_of-all_ended}
-
-pub machine_after_all-append : (setup : Setup) (machine : Machine) (xs ys : List Step)
-    → machine_after_all setup machine (xs ++ ys) ≡ machine_after_all setup (machine_after_all setup machine xs) ys
-machine_after_all-append setup machine [] ys = refl
-machine_after_all-append setup machine (x ∷ xs) ys = machine_after_all-append setup (machine_after setup machine x) xs ys
 
 pub AreAnswered-append : (setup : Setup) (machine : Machine) (xs ys : List Step)
     → AreAnswered setup machine xs → AreAnswered setup (machine_after_all setup machine xs) ys → AreAnswered setup machine (xs ++ ys)
@@ -61,15 +56,15 @@ IsRunFrom-skipped setup machine line is = record {
   none_shown = All-nil (λ step. is_shown step.reply.answer ≡ false);
 }
 
--- a line's command with its answer
-pub IsRunFrom-step : (setup : Setup) (machine : Machine) (line : List ℕ) (command : Command) (answer : Answer)
-    → reading_of line ≡ Ok (Some command) → IsAnswered setup machine (step_of command answer) → is_shown answer ≡ false
-    → IsRunFrom setup machine (line ∷ []) (step_of command answer ∷ [])
-IsRunFrom-step setup machine line command answer is answered hidden = record {
+-- a line's command with its reply
+pub IsRunFrom-step : (setup : Setup) (machine : Machine) (line : List ℕ) (step : Step)
+    → reading_of line ≡ Ok (Some step.command) → IsAnswered setup machine step → is_shown step.reply.answer ≡ false
+    → IsRunFrom setup machine (line ∷ []) (step ∷ [])
+IsRunFrom-step setup machine line step is answered hidden = record {
   in_grammar = All-cons (λ line. IsOk (reading_of line)) line [] (rw is refl) (All-nil (λ line. IsOk (reading_of line)));
   commands_in_order = rw is refl;
   answered = (answered, tt);
-  none_shown = All-cons (λ step. is_shown step.reply.answer ≡ false) (step_of command answer) [] hidden (All-nil (λ step. is_shown step.reply.answer ≡ false));
+  none_shown = All-cons (λ step. is_shown step.reply.answer ≡ false) step [] hidden (All-nil (λ step. is_shown step.reply.answer ≡ false));
 }
 
 -- no reply, from the front of any lines
@@ -83,6 +78,26 @@ IsFrontFrom-after setup machine all before rest xs ys split run front = record {
   behind = front.behind;
   cut = split ∙ ap (λ ls. before ++ ls) front.cut ∙ sym (append_assoc before front.before front.behind);
   run = IsRunFrom-append setup machine before front.before xs ys run front.run;
+}
+
+-- the exhibit comes after some lines
+IsShownFrom-after : (setup : Setup) (machine : Machine) (served : ℕ) (all before rest : List (List ℕ)) (xs ys : List Step) → all ≡ before ++ rest
+    → IsRunFrom setup machine before xs → IsShownFrom setup (machine_after_all setup machine xs) (served + length before) rest ys → IsShownFrom setup machine served all (xs ++ ys)
+IsShownFrom-after setup machine served all before rest xs ys split run ends = record {
+  before = before ++ ends.before;
+  line = ends.line;
+  behind = ends.behind;
+  cut = split ∙ ap (λ ls. before ++ ls) ends.cut ∙ sym (append_assoc before ends.before (ends.line ∷ ends.behind));
+  first = xs ++ ends.first;
+  run = IsRunFrom-append setup machine before ends.before xs ends.first run ends.run;
+  last = ends.last;
+  all = ap (λ l. xs ++ l) ends.all ∙ sym (append_assoc xs ends.first (ends.last ∷ []));
+  asked = ends.asked;
+  answered = subst (λ m. IsAnswered setup m ends.last) (sym (machine_after_all-append setup machine xs ends.first)) ends.answered;
+  exhibit = ends.exhibit;
+  shown = ends.shown;
+  holds = ends.holds;
+  counted = rw length-append (omega (arith, ends.counted));
 }
 
 IsCutShortFrom-after : (setup : Setup) (machine : Machine) (served : ℕ) (trace rest : List ℕ) (left : Option (List ℕ)) (before : List (List ℕ)) (xs ys : List Step)
@@ -120,7 +135,13 @@ EndsFrom-after Memory setup machine served trace rest left before xs ys split wi
 EndsFrom-after ReadFault setup machine served trace rest left before xs ys split within run ends =
     IsCutShortFrom-after setup machine served trace rest left before xs ys split within run ends
 EndsFrom-after WriteFault setup machine served trace rest left before xs ys split within run ends =
-    IsFrontFrom-after setup machine (lines_of trace) before (lines_of rest) xs ys (ap lines_of split ∙ lines_of-all_ended before rest within) run ends
+    let cut = ap lines_of split ∙ lines_of-all_ended before rest within in
+    elim ends [
+      | inl front ↦ inl (IsFrontFrom-after setup machine (lines_of trace) before (lines_of rest) xs ys cut run front)
+      | inr shown ↦ inr (IsShownFrom-after setup machine served (lines_of trace) before (lines_of rest) xs ys cut run shown)
+    ]
+EndsFrom-after Shown setup machine served trace rest left before xs ys split within run ends =
+    IsShownFrom-after setup machine served (lines_of trace) before (lines_of rest) xs ys (ap lines_of split ∙ lines_of-all_ended before rest within) run ends
 EndsFrom-after (Refused number kind) setup machine served trace rest left before xs ys split within run ends = record {
   before = before ++ ends.before;
   line = ends.line;
@@ -163,7 +184,73 @@ EndsFrom-long setup machine served number left part rest within long numbered li
     let test : nat_lt 1024 (length (part ++ more)) ≡ true = lt-ltb 1024 (length (part ++ more)) far in
     EndsFrom-refused setup machine served number Long left (part ++ rest) (part ++ more) behind cut (rw test refl) numbered limit
 
+-- the first line was answered by an exhibit
+IsShownFrom-first : (setup : Setup) (machine : Machine) (served : ℕ) (lines : List (List ℕ)) (line : List ℕ) (behind : List (List ℕ)) (step : Step)
+    → lines ≡ line ∷ behind → reading_of line ≡ Ok (Some step.command) → IsAnswered setup machine step → is_shown step.reply.answer ≡ true → served < line_limit
+    → IsShownFrom setup machine served lines (step ∷ [])
+IsShownFrom-first setup machine served lines line behind step cut asked answered shown limit =
+    let found = exhibit_of step.reply.answer shown in record {
+      before = [];
+      line = line;
+      behind = behind;
+      cut = cut;
+      first = [];
+      run = IsRunFrom-nil setup machine;
+      last = step;
+      all = refl;
+      asked = asked;
+      answered = answered;
+      exhibit = found.0;
+      shown = found.1;
+      holds = legal_exhibit setup machine.state machine.view step.command step.reply found.0 answered.legal found.1;
+      counted = omega (arith, limit);
+    }
+
+pub EndsFrom-shown : (setup : Setup) (machine : Machine) (served : ℕ) (left : Option (List ℕ)) (trace line : List ℕ) (behind : List (List ℕ)) (step : Step)
+    → lines_of trace ≡ line ∷ behind → reading_of line ≡ Ok (Some step.command) → IsAnswered setup machine step → is_shown step.reply.answer ≡ true → served < line_limit
+    → EndsFrom setup machine served Shown trace left (step ∷ [])
+EndsFrom-shown setup machine served left trace line behind step cut asked answered shown limit =
+    IsShownFrom-first setup machine served (lines_of trace) line behind step cut asked answered shown limit
+
 -- the first line was answered, and its reply wasn't printed
-pub EndsFrom-untold : (setup : Setup) (machine : Machine) (served : ℕ) (left : Option (List ℕ)) (trace line : List ℕ) (behind : List (List ℕ)) (steps : List Step)
-    → lines_of trace ≡ line ∷ behind → IsRunFrom setup machine (line ∷ []) steps → EndsFrom setup machine served WriteFault trace left steps
-EndsFrom-untold setup machine served left trace line behind steps cut run = record { before = line ∷ []; behind = behind; cut = cut; run = run }
+untold_by : (b : Bool) (setup : Setup) (machine : Machine) (served : ℕ) (left : Option (List ℕ)) (trace line : List ℕ) (behind : List (List ℕ)) (step : Step)
+    → is_shown step.reply.answer ≡ b → lines_of trace ≡ line ∷ behind → reading_of line ≡ Ok (Some step.command) → IsAnswered setup machine step → served < line_limit
+    → EndsFrom setup machine served WriteFault trace left (step ∷ [])
+untold_by true setup machine served left trace line behind step shown cut asked answered limit =
+    inr (IsShownFrom-first setup machine served (lines_of trace) line behind step cut asked answered shown limit)
+untold_by false setup machine served left trace line behind step hidden cut asked answered limit =
+    inl (record { before = line ∷ []; behind = behind; cut = cut; run = IsRunFrom-step setup machine line step asked answered hidden })
+
+pub EndsFrom-untold : (setup : Setup) (machine : Machine) (served : ℕ) (left : Option (List ℕ)) (trace line : List ℕ) (behind : List (List ℕ)) (step : Step)
+    → lines_of trace ≡ line ∷ behind → reading_of line ≡ Ok (Some step.command) → IsAnswered setup machine step → served < line_limit
+    → EndsFrom setup machine served WriteFault trace left (step ∷ [])
+EndsFrom-untold setup machine served left trace line behind step cut asked answered limit =
+    untold_by (is_shown step.reply.answer) setup machine served left trace line behind step refl cut asked answered limit
+
+-- memory was wanted for the reply to the first line
+pub EndsFrom-wanting : (setup : Setup) (machine : Machine) (served : ℕ) (left : Option (List ℕ)) (trace line : List ℕ) (behind : List (List ℕ)) (command : Command)
+    → lines_of trace ≡ line ∷ behind → reading_of line ≡ Ok (Some command) → IsTrue (takes_memory command)
+    → EndsFrom setup machine served Memory trace left []
+EndsFrom-wanting setup machine served left trace line behind command cut asked wants =
+    let wanted : IsMemoryWanted (commands_of (line ∷ behind)) = rw asked wants in record {
+      front = IsFrontFrom-nil setup machine (lines_of trace);
+      wanting = inr (rw cut wanted);
+    }
+
+-- ---- what the steps of an ending are
+
+shown_answered : (setup : Setup) (lines : List (List ℕ)) (steps : List Step) → IsShownFrom setup (start setup) 0 lines steps → AreAnswered setup (start setup) steps
+shown_answered setup lines steps ends =
+    subst (λ xs. AreAnswered setup (start setup) xs) (sym ends.all)
+    (AreAnswered-append setup (start setup) ends.first (ends.last ∷ []) ends.run.answered (ends.answered, tt))
+
+-- each step is legal and fits, after those before it
+pub ends_answered : (stop : Stop) (setup : Setup) (trace : List ℕ) (left : Option (List ℕ)) (steps : List Step) → Ends setup stop trace left steps → AreAnswered setup (start setup) steps
+ends_answered Finished setup trace left steps ends = ends.run.answered
+ends_answered Memory setup trace left steps ends = ends.front.run.answered
+ends_answered Words setup trace left steps ends = absurd ends
+ends_answered ReadFault setup trace left steps ends = ends.run.answered
+ends_answered WriteFault setup trace left steps ends = elim ends [ inl front ↦ front.run.answered | inr shown ↦ shown_answered setup (lines_of trace) steps shown ]
+ends_answered (Refused number kind) setup trace left steps ends = ends.run.answered
+ends_answered Shown setup trace left steps ends = shown_answered setup (lines_of trace) steps ends
+ends_answered TooManyLines setup trace left steps ends = ends.front.run.answered

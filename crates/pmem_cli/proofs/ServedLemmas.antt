@@ -1,22 +1,25 @@
 -- Turns of a run, one after the other.
-use Rattle.std.proofs.Common.{◌≤◌, ◌≡◌, ◌∙◌, ◌+◌, ◌<◌, ℕ, List, [], ◌∷◌, ◌++◌, length, refl, sym, ap, subst, arith, append-nil, append_assoc, length-append, inl}
-use Rattle.std.specs.Prelude.{Option, None, Some, IfSome}
+use Rattle.std.proofs.Common.{◌≤◌, ◌≡◌, ◌∙◌, ◌+◌, ◌<◌, ℕ, List, [], ◌∷◌, ◌++◌, length, false, refl, sym, ap, subst, arith, append-nil, append_assoc, length-append, inl}
+use Rattle.std.specs.Prelude.{Option, None, Some, IfSome, Ok}
 use Rattle.std.specs.List.{flat_map}
 use Rattle.std.specs.Io.KnownBytes.{Consumes, Keeps, IsAtEnd, prepend_known}
 use Rattle.std.proofs.KnownBytes.{Consumes-nil, Consumes-kept, Consumes-trans, Consumes-whole}
 use Rattle.std.proofs.lemmas.List.Concat.{flat_map-append}
 use Rattle.std.proofs.lemmas.List.Elements.{All-append, All-cons, All-nil}
+use Rattle.pmem_base.specs.declared.commands.Command.{Command}
 use Rattle.pmem_base.specs.declared.commands.Kind.TheVariants.{Long}
 use Rattle.plain_model.specs.declared.Stop.{Stop}
-use Rattle.plain_model.specs.declared.Stop.TheVariants.{Finished, Words, Memory, ReadFault, WriteFault, Refused, TooManyLines}
+use Rattle.plain_model.specs.declared.Stop.TheVariants.{Finished, Words, Memory, ReadFault, WriteFault, Refused, Shown, TooManyLines}
 use Rattle.plain_model.specs.Lines.{lines_of, IsWithin, ended}
-use Rattle.plain_model.specs.Run.{Machine, Step, steps_text, machine_after_all, IsRunFrom, IsCutShortFrom, EndsFrom, line_limit}
+use Rattle.plain_model.specs.Grammar.{reading_of}
+use Rattle.plain_model.specs.Run.{Machine, Step, step_text, steps_text, machine_after_all, IsRunFrom, IsCutShortFrom, EndsFrom, line_limit}
 use Rattle.pmem_cli.specs.Printed.{Output, Prints, PrintsFront}
 use Rattle.pmem_cli.specs.Standing.{Standing}
-use Rattle.pmem_cli.specs.Served.{HasAnswered, HasServed, HasStopped, AnswersLine, Turns}
+use Rattle.pmem_cli.specs.Served.{HasAnswered, HasServed, HasStopped, AnswersCommand, AnswersAsked, AnswersLine, Turns}
 use Rattle.pmem_cli.proofs.LineLemmas.{lines_of-ended, lines_of-last, lines_of-some}
 use Rattle.pmem_cli.proofs.PrintLemmas.{Prints-nil, Prints-trans, Prints-front, PrintsFront-trans}
-use Rattle.pmem_cli.proofs.RunLemmas.{machine_after_all-append, IsRunFrom-append, IsRunFrom-nil, IsFrontFrom-nil, EndsFrom-after, EndsFrom-refused, EndsFrom-long, EndsFrom-untold}
+use Rattle.pmem_cli.proofs.RunLemmas.{IsRunFrom-append, IsRunFrom-nil, IsRunFrom-skipped, IsRunFrom-step, IsFrontFrom-nil, EndsFrom-after, EndsFrom-refused, EndsFrom-long, EndsFrom-shown, EndsFrom-untold, EndsFrom-wanting}
+use Rattle.pmem_cli.proofs.StandingLemmas.{GoesOn-nil, GoesOn-trans, AreStepped-after}
 
 -- what holds of all bytes that begin so holds of those that were ahead
 pub IfSome-ahead : (a b : Option (List ℕ)) (front : List ℕ) (P : List ℕ → Type 0) → Consumes a b front → ((rest : List ℕ) → P (front ++ rest)) → IfSome a P
@@ -33,22 +36,44 @@ IfSome-any (Some x) P holds = holds x
 same_run : (s t : Standing) (machine : Machine) (ls : List (List ℕ)) (ys : List Step) → t.setup ≡ s.setup → t.machine ≡ machine → IsRunFrom t.setup t.machine ls ys → IsRunFrom s.setup machine ls ys
 same_run s t machine ls ys setup is run = subst (λ m. IsRunFrom s.setup m ls ys) is (subst (λ u. IsRunFrom u t.machine ls ys) setup run)
 
-pub HasAnswered-nil : (s : Standing) (a : Output) → HasAnswered s s a a [] []
-HasAnswered-nil s a = record { run = IsRunFrom-nil s.setup s.machine; setup = refl; machine = refl; printed = Prints-nil a }
+pub HasAnswered-nil : (s : Standing) (a : Output) → s.world.shown ≡ false → HasAnswered s s a a [] []
+HasAnswered-nil s a running = record { run = IsRunFrom-nil s.setup s.machine; on = GoesOn-nil s running; printed = Prints-nil a }
 
 pub HasAnswered-trans : (s t u : Standing) (a b c : Output) (ls ms : List (List ℕ)) (xs ys : List Step)
     → HasAnswered s t a b ls xs → HasAnswered t u b c ms ys → HasAnswered s u a c (ls ++ ms) (xs ++ ys)
 HasAnswered-trans s t u a b c ls ms xs ys first second = record {
-  run = IsRunFrom-append s.setup s.machine ls ms xs ys first.run (same_run s t (machine_after_all s.setup s.machine xs) ms ys first.setup first.machine second.run);
-  setup = second.setup ∙ first.setup;
-  machine =
-      second.machine ∙ ap (λ setup. machine_after_all setup t.machine ys) first.setup
-      ∙ ap (λ machine. machine_after_all s.setup machine ys) first.machine ∙ sym (machine_after_all-append s.setup s.machine xs ys);
+  run = IsRunFrom-append s.setup s.machine ls ms xs ys first.run (same_run s t (machine_after_all s.setup s.machine xs) ms ys first.on.setup first.on.machine second.run);
+  on = GoesOn-trans s t u xs ys first.on second.on;
   printed = rw flat_map-append (Prints-trans a b c (steps_text xs) (steps_text ys) first.printed second.printed);
 }
 
-pub HasServed-nil : (a : Option (List ℕ)) (s : Standing) (p : Output) → HasServed a a s s p p [] []
-HasServed-nil a s p = record { taken = Consumes-nil a; within = All-nil IsWithin; answered = HasAnswered-nil s p }
+-- a line without a command
+pub HasAnswered-skipped : (s : Standing) (a : Output) (line : List ℕ) → s.world.shown ≡ false → reading_of line ≡ Ok None → HasAnswered s s a a (line ∷ []) []
+HasAnswered-skipped s a line running is = record { run = IsRunFrom-skipped s.setup s.machine line is; on = GoesOn-nil s running; printed = Prints-nil a }
+
+-- a line's command was answered, or the run stops at it
+pub AnswersLine-asked : (stop : Option Stop) (line : List ℕ) (number : ℕ) (command : Command) (s t : Standing) (a b : Output)
+    → reading_of line ≡ Ok (Some command) → AnswersCommand stop command s t a b → AnswersLine stop line number s t a b
+AnswersLine-asked None line number command s t a b is answered =
+    let (step, replied, hidden, on, printed) = answered in (
+      step ∷ [],
+      record {
+        run = IsRunFrom-step s.setup s.machine line step (is ∙ ap (λ c. Ok (Some c)) (sym replied.asked)) replied.answered hidden;
+        on = on;
+        printed = rw append-nil printed;
+      },
+    )
+AnswersLine-asked (Some Memory) line number command s t a b is answered = (command, is, answered)
+AnswersLine-asked (Some WriteFault) line number command s t a b is answered = (command, is, answered)
+AnswersLine-asked (Some Shown) line number command s t a b is answered = (command, is, answered)
+AnswersLine-asked (Some (Refused n kind)) line number command s t a b is answered = absurd answered
+AnswersLine-asked (Some Finished) line number command s t a b is answered = answered
+AnswersLine-asked (Some Words) line number command s t a b is answered = answered
+AnswersLine-asked (Some ReadFault) line number command s t a b is answered = answered
+AnswersLine-asked (Some TooManyLines) line number command s t a b is answered = answered
+
+pub HasServed-nil : (a : Option (List ℕ)) (s : Standing) (p : Output) → s.world.shown ≡ false → HasServed a a s s p p [] []
+HasServed-nil a s p running = record { taken = Consumes-nil a; within = All-nil IsWithin; answered = HasAnswered-nil s p running }
 
 pub HasServed-trans : (a b c : Option (List ℕ)) (s t u : Standing) (p q r : Output) (ls ms : List (List ℕ)) (xs ys : List Step)
     → HasServed a b s t p q ls xs → HasServed b c t u q r ms ys → HasServed a c s u p r (ls ++ ms) (xs ++ ys)
@@ -75,8 +100,7 @@ HasServed-put a b s t p q r ls xs served put = record {
   within = served.within;
   answered = record {
     run = served.answered.run;
-    setup = served.answered.setup;
-    machine = served.answered.machine;
+    on = served.answered.on;
     printed = rw append-nil at (Prints-trans p q r (steps_text xs) [] served.answered.printed put);
   };
 }
@@ -88,8 +112,8 @@ ends_after left None b s t p q ls xs ys stop k served ends = tt
 ends_after left (Some trace) None s t p q ls xs ys stop k served ends = absurd served.taken
 ends_after left (Some trace) (Some rest) s t p q ls xs ys stop k served ends =
     EndsFrom-after stop s.setup s.machine k trace rest left ls xs ys served.taken served.within served.answered.run
-    (subst (λ machine. EndsFrom s.setup machine (k + length ls) stop rest left ys) served.answered.machine
-    (subst (λ setup. EndsFrom setup t.machine (k + length ls) stop rest left ys) served.answered.setup ends))
+    (subst (λ machine. EndsFrom s.setup machine (k + length ls) stop rest left ys) served.answered.on.machine
+    (subst (λ setup. EndsFrom setup t.machine (k + length ls) stop rest left ys) served.answered.on.setup ends))
 
 -- a stop after some lines is a stop of the whole
 pub HasStopped-after : (left a b : Option (List ℕ)) (s t : Standing) (p q r : Output) (ls : List (List ℕ)) (xs : List Step) (stop : Stop) (k : ℕ)
@@ -99,32 +123,91 @@ HasStopped-after left a b s t p q r ls xs stop k served stopped = record {
   ends = ends_after left a b s t p q ls xs stopped.steps stop k served stopped.ends;
   front = rw flat_map-append (PrintsFront-trans p q r (steps_text xs) (steps_text stopped.steps) served.answered.printed stopped.front);
   whole = λ told. rw flat_map-append (Prints-trans p q r (steps_text xs) (steps_text stopped.steps) served.answered.printed (stopped.whole told));
+  last = stopped.last;
+  chain = AreStepped-after s t stopped.last xs stopped.steps served.answered.on stopped.chain;
 }
 
 -- a stop at which nothing is printed
 pub HasStopped-quiet : (stop : Stop) (a left : Option (List ℕ)) (s : Standing) (p : Output) (k : ℕ)
     → IfSome a (λ bytes. EndsFrom s.setup s.machine k stop bytes left []) → HasStopped stop a left s p p k
-HasStopped-quiet stop a left s p k ends = record { steps = []; ends = ends; front = Prints-front p p [] (Prints-nil p); whole = λ told. Prints-nil p }
+HasStopped-quiet stop a left s p k ends = record {
+  steps = [];
+  ends = ends;
+  front = Prints-front p p [] (Prints-nil p);
+  whole = λ told. Prints-nil p;
+  last = s.world;
+  chain = refl;
+}
 
 -- the sink failed at bytes that waited
 pub HasStopped-unput : (a left : Option (List ℕ)) (s : Standing) (p q : Output) (k : ℕ) → PrintsFront p q [] → HasStopped WriteFault a left s p q k
 HasStopped-unput a left s p q k front = record {
   steps = [];
-  ends = IfSome-any a (λ bytes. EndsFrom s.setup s.machine k WriteFault bytes left []) (λ bytes. IsFrontFrom-nil s.setup s.machine (lines_of bytes));
+  ends = IfSome-any a (λ bytes. EndsFrom s.setup s.machine k WriteFault bytes left []) (λ bytes. inl (IsFrontFrom-nil s.setup s.machine (lines_of bytes)));
   front = front;
   whole = λ told. absurd (told refl);
+  last = s.world;
+  chain = refl;
 }
 
--- memory was wanted before the first line
-pub HasStopped-memory : (a left : Option (List ℕ)) (s : Standing) (p : Output) → HasStopped Memory a left s p p 0
-HasStopped-memory a left s p =
-    HasStopped-quiet Memory a left s p 0
-    (IfSome-any a (λ bytes. EndsFrom s.setup s.machine 0 Memory bytes left [])
-    (λ bytes. record { front = IsFrontFrom-nil s.setup s.machine (lines_of bytes); wanting = inl refl }))
+-- the run stops at a line, of which this is known where the bytes are told
+abbrev StopsAt : Stop → Option (List ℕ) → Option (List ℕ) → Standing → ℕ → List ℕ → List Step → Type 0
+StopsAt stop a left s served line steps =
+    ((trace : List ℕ) (behind : List (List ℕ)) → lines_of trace ≡ line ∷ behind → EndsFrom s.setup s.machine served stop trace left steps)
+    → IfSome a (λ bytes. EndsFrom s.setup s.machine served stop bytes left steps)
+
+-- the command of a line stops the run
+stopped_wanting : (a left : Option (List ℕ)) (s t : Standing) (p q : Output) (line : List ℕ) (served : ℕ) → StopsAt Memory a left s served line []
+    → AnswersAsked Memory line s t p q → HasStopped Memory a left s p q served
+stopped_wanting a left s t p q line served ends answered =
+    let (command, is, (wants, kept)) = answered in
+    subst (λ out. HasStopped Memory a left s p out served) (sym kept)
+    (HasStopped-quiet Memory a left s p served
+    (ends (λ trace behind cut. EndsFrom-wanting s.setup s.machine served left trace line behind command cut is wants)))
+
+stopped_untold : (a left : Option (List ℕ)) (s t : Standing) (p q : Output) (line : List ℕ) (served : ℕ) → served < line_limit
+    → ((steps : List Step) → StopsAt WriteFault a left s served line steps) → AnswersAsked WriteFault line s t p q → HasStopped WriteFault a left s p q served
+stopped_untold a left s t p q line served limit ends answered =
+    let (command, is, (step, replied, front)) = answered in record {
+      steps = step ∷ [];
+      ends =
+          ends (step ∷ [])
+          (λ trace behind cut. EndsFrom-untold s.setup s.machine served left trace line behind step cut (is ∙ ap (λ c. Ok (Some c)) (sym replied.asked)) replied.answered limit);
+      front = rw append-nil front;
+      whole = λ told. absurd (told refl);
+      last = replied.next;
+      chain = (replied.next, replied.stepped, refl);
+    }
+
+stopped_shown : (a left : Option (List ℕ)) (s t : Standing) (p q : Output) (line : List ℕ) (served : ℕ) → served < line_limit
+    → ((steps : List Step) → StopsAt Shown a left s served line steps) → AnswersAsked Shown line s t p q → HasStopped Shown a left s p q served
+stopped_shown a left s t p q line served limit ends answered =
+    let (command, is, (step, replied, shown, printed)) = answered in record {
+      steps = step ∷ [];
+      ends =
+          ends (step ∷ [])
+          (λ trace behind cut. EndsFrom-shown s.setup s.machine served left trace line behind step cut (is ∙ ap (λ c. Ok (Some c)) (sym replied.asked)) replied.answered shown limit);
+      front = rw append-nil (Prints-front p q (step_text step) printed);
+      whole = λ told. rw append-nil printed;
+      last = replied.next;
+      chain = (replied.next, replied.stepped, refl);
+    }
 
 -- the trace's lines begin with one that has its LF
 lines_ahead : (line rest : List ℕ) → IsWithin line → lines_of (ended line ++ rest) ≡ line ∷ lines_of rest
 lines_ahead line rest within = ap lines_of (append_assoc line (10 ∷ []) rest) ∙ lines_of-ended line rest within
+
+stops_ahead : (stop : Stop) (a b left : Option (List ℕ)) (s : Standing) (line : List ℕ) (served : ℕ) (steps : List Step)
+    → Consumes a b (ended line) → IsWithin line → StopsAt stop a left s served line steps
+stops_ahead stop a b left s line served steps taken within ends =
+    IfSome-ahead a b (ended line) (λ bytes. EndsFrom s.setup s.machine served stop bytes left steps) taken
+    (λ rest. ends (ended line ++ rest) (lines_of rest) (lines_ahead line rest within))
+
+stops_last : (stop : Stop) (a b left : Option (List ℕ)) (s : Standing) (line : List ℕ) (served : ℕ) (steps : List Step)
+    → Consumes a b line → IsWithin line → 0 < length line → IsAtEnd b → StopsAt stop a left s served line steps
+stops_last stop a b left s line served steps taken within some end ends =
+    Consumes-whole a b line (λ bytes. EndsFrom s.setup s.machine served stop bytes left steps) taken end
+    (ends line [] (lines_of-last line within some))
 
 -- a line with its LF
 pub Turns-line : (stop : Option Stop) (a b left : Option (List ℕ)) (s t : Standing) (p q : Output) (line : List ℕ) (served number : ℕ)
@@ -138,17 +221,14 @@ Turns-line (Some (Refused n kind)) a b left s t p q line served number taken wit
     (HasStopped-quiet (Refused n kind) a left s p served
     (IfSome-ahead a b (ended line) (λ bytes. EndsFrom s.setup s.machine served (Refused n kind) bytes left []) taken
     (λ rest. EndsFrom-refused s.setup s.machine served n kind left (ended line ++ rest) line (lines_of rest) (lines_ahead line rest within) refused (same ∙ numbered) limit)))
-Turns-line (Some WriteFault) a b left s t p q line served number taken within numbered limit answered = record {
-  steps = answered.steps;
-  ends =
-      IfSome-ahead a b (ended line) (λ bytes. EndsFrom s.setup s.machine served WriteFault bytes left answered.steps) taken
-      (λ rest. EndsFrom-untold s.setup s.machine served left (ended line ++ rest) line (lines_of rest) answered.steps (lines_ahead line rest within) answered.run);
-  front = answered.front;
-  whole = λ told. absurd (told refl);
-}
+Turns-line (Some Memory) a b left s t p q line served number taken within numbered limit answered =
+    stopped_wanting a left s t p q line served (stops_ahead Memory a b left s line served [] taken within) answered
+Turns-line (Some WriteFault) a b left s t p q line served number taken within numbered limit answered =
+    stopped_untold a left s t p q line served limit (λ steps. stops_ahead WriteFault a b left s line served steps taken within) answered
+Turns-line (Some Shown) a b left s t p q line served number taken within numbered limit answered =
+    stopped_shown a left s t p q line served limit (λ steps. stops_ahead Shown a b left s line served steps taken within) answered
 Turns-line (Some Finished) a b left s t p q line served number taken within numbered limit answered = absurd answered
 Turns-line (Some Words) a b left s t p q line served number taken within numbered limit answered = absurd answered
-Turns-line (Some Memory) a b left s t p q line served number taken within numbered limit answered = absurd answered
 Turns-line (Some ReadFault) a b left s t p q line served number taken within numbered limit answered = absurd answered
 Turns-line (Some TooManyLines) a b left s t p q line served number taken within numbered limit answered = absurd answered
 
@@ -164,6 +244,8 @@ HasStopped-last a b left s t p q line served number taken within some end limit 
           (record { run = rw cut answered.1.run; counted = rw cut (omega (arith, limit)) });
       front = Prints-front p q (steps_text answered.0) answered.1.printed;
       whole = λ told. answered.1.printed;
+      last = t.world;
+      chain = answered.1.on.chain;
     }
 
 -- the last line, at which the run stops
@@ -176,17 +258,14 @@ HasStopped-at_last (Refused n kind) a b left s t p q line served number taken wi
     (HasStopped-quiet (Refused n kind) a left s p served
     (Consumes-whole a b line (λ bytes. EndsFrom s.setup s.machine served (Refused n kind) bytes left []) taken end
     (EndsFrom-refused s.setup s.machine served n kind left line line [] (lines_of-last line within some) refused (same ∙ numbered) limit)))
-HasStopped-at_last WriteFault a b left s t p q line served number taken within some end numbered limit answered = record {
-  steps = answered.steps;
-  ends =
-      Consumes-whole a b line (λ bytes. EndsFrom s.setup s.machine served WriteFault bytes left answered.steps) taken end
-      (EndsFrom-untold s.setup s.machine served left line line [] answered.steps (lines_of-last line within some) answered.run);
-  front = answered.front;
-  whole = λ told. absurd (told refl);
-}
+HasStopped-at_last Memory a b left s t p q line served number taken within some end numbered limit answered =
+    stopped_wanting a left s t p q line served (stops_last Memory a b left s line served [] taken within some end) answered
+HasStopped-at_last WriteFault a b left s t p q line served number taken within some end numbered limit answered =
+    stopped_untold a left s t p q line served limit (λ steps. stops_last WriteFault a b left s line served steps taken within some end) answered
+HasStopped-at_last Shown a b left s t p q line served number taken within some end numbered limit answered =
+    stopped_shown a left s t p q line served limit (λ steps. stops_last Shown a b left s line served steps taken within some end) answered
 HasStopped-at_last Finished a b left s t p q line served number taken within some end numbered limit answered = absurd answered
 HasStopped-at_last Words a b left s t p q line served number taken within some end numbered limit answered = absurd answered
-HasStopped-at_last Memory a b left s t p q line served number taken within some end numbered limit answered = absurd answered
 HasStopped-at_last ReadFault a b left s t p q line served number taken within some end numbered limit answered = absurd answered
 HasStopped-at_last TooManyLines a b left s t p q line served number taken within some end numbered limit answered = absurd answered
 
@@ -250,6 +329,8 @@ HasStopped-put stop a left s p q r k put stopped = record {
   ends = stopped.ends;
   front = PrintsFront-trans p q r [] (steps_text stopped.steps) put stopped.front;
   whole = λ told. Prints-trans p q r [] (steps_text stopped.steps) put (stopped.whole told);
+  last = stopped.last;
+  chain = stopped.chain;
 }
 
 -- what waited was put before the turn
@@ -262,8 +343,7 @@ Turns-put None a b left s t p q r k put turn = (
     within = turn.2.within;
     answered = record {
       run = turn.2.answered.run;
-      setup = turn.2.answered.setup;
-      machine = turn.2.answered.machine;
+      on = turn.2.answered.on;
       printed = Prints-trans p q r [] (steps_text turn.1) put turn.2.answered.printed;
     };
   },

@@ -3,11 +3,13 @@ use Rattle.std.proofs.Common.{◌≡◌, ◌≢◌, ℕ, List, [], ◌++◌, ref
 use Rattle.std.specs.Prelude.{◌⊎◌, Option, None, Some, IfSome, IsNone}
 use Rattle.suite.specs.Setup.{Setup}
 use Rattle.plain_model.specs.declared.Stop.{Stop}
-use Rattle.plain_model.specs.declared.Stop.TheVariants.{Finished, Words, Memory, ReadFault, WriteFault, Refused, TooManyLines}
-use Rattle.plain_model.specs.Run.{steps_text, stop_text, status_of}
-use Rattle.pmem_cli.specs.Printed.{Output, Prints, PrintsFront, with_waiting}
-use Rattle.pmem_cli.specs.Standing.{standing_at_start}
-use Rattle.pmem_cli.specs.Served.{HasStopped}
+use Rattle.plain_model.specs.declared.Stop.TheVariants.{Finished, Words, Memory, ReadFault, WriteFault, Refused, Shown, TooManyLines}
+use Rattle.plain_model.specs.Run.{Ends, steps_text, stop_text}
+use Rattle.pmem_base.specs.declared.commands.Command.{Command}
+use Rattle.std.specs.Io.KnownBytes.{Appends}
+use Rattle.pmem_cli.specs.Printed.{Output, AppendsFront, Prints, PrintsFront, with_waiting}
+use Rattle.pmem_cli.specs.Keys.{setup_chosen}
+use Rattle.pmem_cli.specs.Sampled.{HasSaid}
 use Rattle.plain_model.specs.Defaults.{default_setup}
 use Rattle.trace_text.specs.Samples.{sample_trace, commands_text}
 use Rattle.pmem_cli.specs.declared.options.Choices.{Choices}
@@ -15,8 +17,11 @@ use Rattle.pmem_cli.specs.declared.options.Task.{Task}
 use Rattle.pmem_cli.specs.declared.ending.Ending.{Ending}
 use Rattle.pmem_cli.specs.declared.ending.Ending.TheVariants.{Stopped}
 use Rattle.pmem_cli.specs.Endings.{ending_text, ending_status}
-use Rattle.pmem_cli.specs.HasRun.{HasRun, HasPut, HasTold, HasDone, HasMade, CheckEnds, HasEnded}
+use Rattle.pmem_cli.specs.HasRun.{HasRun, HasPut, HasSampled, HasTold, HasDone, HasMade, HasReplayed, HasRunSample, CheckEnds, HasEnded}
+use Rattle.pmem_cli.specs.Untampered.{IsUntampered}
 use Rattle.pmem_cli.proofs.PrintLemmas.{Prints-trans, Prints-whole, PrintsFront-trans, PrintsFront-more}
+use Rattle.pmem_cli.proofs.RunLemmas.{ends_answered}
+use Rattle.pmem_cli.proofs.Untampering.{untampered}
 
 -- what follows from a fact of what there is
 pub IfSome-map : {T : Type 0} (a : Option T) (P Q : T → Type 0) → ((x : T) → a ≡ Some x → P x → Q x) → IfSome a P → IfSome a Q
@@ -35,36 +40,8 @@ is_write_fault Words = inr (λ same. cc)
 is_write_fault ReadFault = inr (λ same. cc)
 is_write_fault WriteFault = inl refl
 is_write_fault (Refused number kind) = inr (λ same. cc)
+is_write_fault Shown = inr (λ same. cc)
 is_write_fault TooManyLines = inr (λ same. cc)
-
--- a run that stopped, and what was made of its last line
-pub HasRun-finished : (setup : Setup) (stop : Stop) (status : ℕ) (trace left before after : Option (List ℕ)) (between : Output)
-    → HasStopped stop trace left (standing_at_start setup) (with_waiting before []) between 0
-    → status ≢ 2
-    → (status ≢ 4 → status ≡ status_of stop)
-    → (stop ≡ WriteFault → status ≡ 4)
-    → (stop ≡ WriteFault → after ≡ between.put)
-    → (status ≢ 4 → status ≢ 2 → Prints between (with_waiting after []) (stop_text stop))
-    → (stop ≢ WriteFault → PrintsFront between (with_waiting after []) (stop_text stop))
-    → HasRun setup status trace left before after
-HasRun-finished setup stop status trace left before after between stopped good its_status fault kept whole front =
-    let text = steps_text stopped.steps in
-    let first = with_waiting before [] in
-    let last = with_waiting after [] in record {
-      stop = stop;
-      steps = stopped.steps;
-      ends = stopped.ends;
-      its_status = its_status;
-      whole = λ told.
-          Prints-whole before after (text ++ stop_text stop)
-          (Prints-trans first between last text (stop_text stop) (stopped.whole (λ same. told (fault same))) (whole told good));
-      front = elim (is_write_fault stop) [
-        | inl same ↦
-            let at_fault : PrintsFront first last text = subst (λ (put : Option (List ℕ)). PrintsFront first (with_waiting put []) text) (sym (kept same)) stopped.front in
-            PrintsFront-more first last text (stop_text stop) at_fault
-        | inr other ↦ PrintsFront-trans first between last text (stop_text stop) (stopped.whole other) (front other)
-      ];
-    }
 
 -- ---- what was asked for, finished by the last line
 
@@ -77,13 +54,55 @@ pub record IsFinished (ending : Ending) (status : ℕ) (between : Output) (after
   pub whole : status ≢ 4 → status ≢ 2 → Prints between (with_waiting after []) (ending_text ending)
   pub front : ending ≢ Stopped WriteFault → PrintsFront between (with_waiting after []) (ending_text ending)
 
+-- what was said, and the stop's line after it
+said_whole : (stop : Stop) (status : ℕ) (before after : Option (List ℕ)) (between : Output) (text : List ℕ) → HasSaid stop (with_waiting before []) between text
+    → IsFinished (Stopped stop) status between after → status ≢ 4 → Appends before after (text ++ stop_text stop)
+said_whole stop status before after between text said finished told =
+    let first = with_waiting before [] in
+    let last = with_waiting after [] in
+    Prints-whole before after (text ++ stop_text stop)
+    (Prints-trans first between last text (stop_text stop) (said.whole (λ same. told (finished.fault (ap Stopped same)))) (finished.whole told finished.good))
+
+said_front : (stop : Stop) (status : ℕ) (before after : Option (List ℕ)) (between : Output) (text : List ℕ) → HasSaid stop (with_waiting before []) between text
+    → IsFinished (Stopped stop) status between after → AppendsFront before after (text ++ stop_text stop)
+said_front stop status before after between text said finished =
+    let first = with_waiting before [] in
+    let last = with_waiting after [] in
+    elim (is_write_fault stop) [
+      | inl same ↦
+          let at_fault : PrintsFront first last text =
+          subst (λ (put : Option (List ℕ)). PrintsFront first (with_waiting put []) text) (sym (finished.kept (ap Stopped same))) said.front in
+          PrintsFront-more first last text (stop_text stop) at_fault
+      | inr other ↦ PrintsFront-trans first between last text (stop_text stop) (said.whole other) (finished.front (λ same. other (cc same)))
+    ]
+
 run_done : (setup : Setup) (stop : Stop) (status : ℕ) (trace left before after : Option (List ℕ)) (between : Output)
-    → HasStopped stop trace left (standing_at_start setup) (with_waiting before []) between 0
-    → IsFinished (Stopped stop) status between after → HasRun setup status trace left before after
-run_done setup stop status trace left before after between stopped finished =
-    HasRun-finished setup stop status trace left before after between stopped finished.good finished.its_status
-    (λ same. finished.fault (ap Stopped same)) (λ same. finished.kept (ap Stopped same)) finished.whole
-    (λ other. finished.front (λ same. other (cc same)))
+    → HasReplayed setup stop trace left (with_waiting before []) between → IsFinished (Stopped stop) status between after → HasRun setup status trace left before after
+run_done setup stop status trace left before after between run finished = record {
+  stop = stop;
+  steps = run.steps;
+  ends = run.ends;
+  replayed = run.replayed;
+  untampered =
+      IfSome-map trace (λ bytes. Ends setup stop bytes left run.steps) (λ bytes. IsUntampered setup run.steps)
+      (λ bytes is ends. untampered setup run.steps (ends_answered stop setup bytes left run.steps ends)) run.ends;
+  its_status = finished.its_status;
+  whole = said_whole stop status before after between (steps_text run.steps) run.said finished;
+  front = said_front stop status before after between (steps_text run.steps) run.said finished;
+}
+
+sample_done : (setup : Setup) (commands : List Command) (stop : Stop) (status : ℕ) (before after : Option (List ℕ)) (between : Output)
+    → HasRunSample setup commands stop (with_waiting before []) between → IsFinished (Stopped stop) status between after → HasSampled setup commands status before after
+sample_done setup commands stop status before after between run finished = record {
+  stop = stop;
+  steps = run.steps;
+  text = run.text;
+  ends = run.ends;
+  replayed = run.replayed;
+  its_status = finished.its_status;
+  whole = said_whole stop status before after between run.text run.said finished;
+  front = said_front stop status before after between run.text run.said finished;
+}
 
 put_done : (text : List ℕ) (stop : Stop) (status : ℕ) (before after : Option (List ℕ)) (between : Output)
     → HasMade stop (with_waiting before []) between text → IsFinished (Stopped stop) status between after → HasPut text status before after
@@ -94,18 +113,19 @@ put_done text Finished status before after between made finished =
     let good : Finished ≢ WriteFault = λ same. cc in
     let told : Stopped Finished ≢ Stopped WriteFault = λ same. cc in record {
       its_status = finished.its_status;
-      whole = λ sent. Prints-whole before after text (rw append-nil at (Prints-trans first between last text [] (made.whole good) (finished.whole sent finished.good)));
-      front = rw append-nil at (PrintsFront-trans first between last text [] (made.whole good) (finished.front told));
+      whole = λ sent. Prints-whole before after text (rw append-nil at (Prints-trans first between last text [] (made.said.whole good) (finished.whole sent finished.good)));
+      front = rw append-nil at (PrintsFront-trans first between last text [] (made.said.whole good) (finished.front told));
     }
 put_done text WriteFault status before after between made finished = record {
   its_status = λ sent. absurd (sent (finished.fault refl));
   whole = λ sent. absurd (sent (finished.fault refl));
-  front = subst (λ (put : Option (List ℕ)). PrintsFront (with_waiting before []) (with_waiting put []) text) (sym (finished.kept refl)) made.front;
+  front = subst (λ (put : Option (List ℕ)). PrintsFront (with_waiting before []) (with_waiting put []) text) (sym (finished.kept refl)) made.said.front;
 }
 put_done text Memory status before after between made finished = absurd (elim made.its_stop [ inl same ↦ cc same | inr same ↦ cc same ])
 put_done text Words status before after between made finished = absurd (elim made.its_stop [ inl same ↦ cc same | inr same ↦ cc same ])
 put_done text ReadFault status before after between made finished = absurd (elim made.its_stop [ inl same ↦ cc same | inr same ↦ cc same ])
 put_done text (Refused number kind) status before after between made finished = absurd (elim made.its_stop [ inl same ↦ cc same | inr same ↦ cc same ])
+put_done text Shown status before after between made finished = absurd (elim made.its_stop [ inl same ↦ cc same | inr same ↦ cc same ])
 put_done text TooManyLines status before after between made finished = absurd (elim made.its_stop [ inl same ↦ cc same | inr same ↦ cc same ])
 
 told_done : (choices : Choices) (ending : Ending) (status : ℕ) (trace left before after : Option (List ℕ)) (between : Output)
@@ -123,11 +143,13 @@ told_done choices ending status trace left before after between ended finished =
 pub HasDone-finished : (task : Task) (ending : Ending) (status : ℕ) (trace left before after : Option (List ℕ)) (between : Output)
     → HasEnded task ending trace left (with_waiting before []) between → IsFinished ending status between after → HasDone task status trace left before after
 HasDone-finished (Task.Run c) ending status trace left before after between ended finished =
-    run_done default_setup ended.stop status trace left before after between ended.stopped
+    run_done (setup_chosen c) ended.stop status trace left before after between ended.run
     (subst (λ (e : Ending). IsFinished e status between after) ended.its_stop finished)
 HasDone-finished (Task.Make seed count) ending status trace left before after between ended finished =
     put_done (commands_text (sample_trace seed count)) ended.stop status before after between ended.made
     (subst (λ (e : Ending). IsFinished e status between after) ended.its_stop finished)
-HasDone-finished (Task.Sample seed count) ending status trace left before after between ended finished = absurd ended
+HasDone-finished (Task.Sample seed count) ending status trace left before after between ended finished =
+    sample_done default_setup (sample_trace seed count) ended.stop status before after between ended.run
+    (subst (λ (e : Ending). IsFinished e status between after) ended.its_stop finished)
 HasDone-finished (Task.Check c) ending status trace left before after between ended finished =
     told_done c ending status trace left before after between ended finished

@@ -9,7 +9,7 @@ use Rattle.collision_witness.specs.Words.{Word, words_of, without_return}
 use Rattle.collision_witness.specs.Reading.{exhibit_of_line}
 use Rattle.collision_witness.specs.Exhibits.{IsExhibit}
 use Rattle.plain_model.specs.declared.Stop.{Stop}
-use Rattle.plain_model.specs.declared.Stop.TheVariants.{Finished, Memory, Words, ReadFault, WriteFault, Refused, TooManyLines}
+use Rattle.plain_model.specs.declared.Stop.TheVariants.{Finished, Memory, Words, ReadFault, WriteFault, Refused, Shown, TooManyLines}
 use Rattle.plain_model.specs.Lines.{lines_of, ended, IsWithin}
 use Rattle.plain_model.specs.Grammar.{is_comment}
 use Rattle.plain_model.specs.Run.{line_limit}
@@ -94,6 +94,7 @@ LooksTo found served Words bytes left after = ⊥
 LooksTo found served ReadFault bytes left after = IsBrokenOff found served bytes left after
 LooksTo found served WriteFault bytes left after = ⊥
 LooksTo found served (Refused number kind) bytes left after = IsRefusedIn found served (lines_of bytes) number kind
+LooksTo found served Shown bytes left after = ⊥
 LooksTo found served TooManyLines bytes left after = IsPastLimit found served (lines_of bytes) after
 
 -- the same where the source may tell no bytes
@@ -140,6 +141,7 @@ IsChecked formulas (Stopped Finished) bytes left = ⊥
 IsChecked formulas (Stopped Memory) bytes left = ⊥
 IsChecked formulas (Stopped Words) bytes left = ⊥
 IsChecked formulas (Stopped WriteFault) bytes left = ⊥
+IsChecked formulas (Stopped Shown) bytes left = ⊥
 IsChecked formulas (Stopped ReadFault) bytes left =
     (after : Option Exhibit) × IsBrokenOff None 0 bytes left after
 IsChecked formulas (Stopped (Refused number kind)) bytes left =

@@ -1,11 +1,14 @@
 -- What the program's status says of what was asked for.
-use Rattle.std.specs.Prelude.{◌≡◌, ◌≢◌, ◌⊎◌, ℕ, List, Option, IfSome}
+use Rattle.std.specs.Prelude.{◌≡◌, ◌≢◌, ◌≤◌, ◌⊎◌, ◌++◌, ⊤, ℕ, List, length, All, IsOk, Option, IfSome}
 use Rattle.std.specs.Io.KnownBytes.{Appends}
+use Rattle.pmem_base.specs.declared.commands.Command.{Command}
 use Rattle.suite.specs.Setup.{Setup}
 use Rattle.plain_model.specs.Defaults.{default_setup}
 use Rattle.plain_model.specs.declared.Stop.{Stop}
 use Rattle.plain_model.specs.declared.Stop.TheVariants.{Finished, WriteFault, Words}
-use Rattle.plain_model.specs.Run.{Step, Ends, output_of, stop_text, status_of}
+use Rattle.plain_model.specs.Lines.{lines_of}
+use Rattle.plain_model.specs.Grammar.{reading_of}
+use Rattle.plain_model.specs.Run.{line_limit, Step, start, Ends, steps_text, output_of, stop_text, status_of}
 use Rattle.trace_text.specs.Samples.{sample_trace, commands_text}
 use Rattle.pmem_cli.specs.declared.options.Choices.{Choices}
 use Rattle.pmem_cli.specs.declared.options.Task.{Task}
@@ -14,10 +17,11 @@ use Rattle.pmem_cli.specs.declared.ending.Ending.TheVariants.{Stopped}
 use Rattle.pmem_cli.specs.Causes.{Rose}
 use Rattle.pmem_cli.specs.Checked.{IsChecked}
 use Rattle.pmem_cli.specs.Endings.{ending_text, ending_status}
-use Rattle.pmem_cli.specs.Keys.{formulas_of}
-use Rattle.pmem_cli.specs.Printed.{Output, AppendsFront, Prints, PrintsFront}
-use Rattle.pmem_cli.specs.Served.{HasStopped}
-use Rattle.pmem_cli.specs.Standing.{standing_at_start}
+use Rattle.pmem_cli.specs.Keys.{formulas_of, setup_chosen}
+use Rattle.pmem_cli.specs.Printed.{Output, AppendsFront}
+use Rattle.pmem_cli.specs.Sampled.{HasSaid, SampleEnds}
+use Rattle.pmem_cli.specs.Standing.{IsReplayed}
+use Rattle.pmem_cli.specs.Untampered.{IsUntampered}
 
 -- ---- at the end of the program
 
@@ -27,6 +31,8 @@ pub record HasRun (setup : Setup) (status : ℕ) (trace left put_before put_afte
   pub stop : Stop
   pub steps : List Step
   pub ends : IfSome trace (λ bytes. Ends setup stop bytes left steps)
+  pub replayed : IsReplayed setup steps
+  pub untampered : IfSome trace (λ bytes. IsUntampered setup steps)
   pub its_status : status ≢ 4 → status ≡ status_of stop
   pub whole : status ≢ 4 → Appends put_before put_after (output_of steps stop)
   pub front : AppendsFront put_before put_after (output_of steps stop)
@@ -36,6 +42,18 @@ pub record HasPut (text : List ℕ) (status : ℕ) (put_before put_after : Optio
   pub its_status : status ≢ 4 → status ≡ 0
   pub whole : status ≢ 4 → Appends put_before put_after text
   pub front : AppendsFront put_before put_after text
+
+-- The commands were run to a stop, and the last line of that was put: the whole of it, with the stop's own
+-- status, or a front of it, with status 4.
+pub record HasSampled (setup : Setup) (commands : List Command) (status : ℕ) (put_before put_after : Option (List ℕ)) : Type 0 where
+  pub stop : Stop
+  pub steps : List Step
+  pub text : List ℕ
+  pub ends : SampleEnds setup (start setup) commands stop steps text
+  pub replayed : IsReplayed setup steps
+  pub its_status : status ≢ 4 → status ≡ status_of stop
+  pub whole : status ≢ 4 → Appends put_before put_after (text ++ stop_text stop)
+  pub front : AppendsFront put_before put_after (text ++ stop_text stop)
 
 -- The source was checked to an ending, and its line was put: the whole of it, with the ending's own
 -- status, or a front of it, with status 4.
@@ -48,10 +66,23 @@ pub record HasTold (choices : Choices) (status : ℕ) (trace left put_before put
 
 -- what the status says, by what was asked for
 abbrev pub HasDone : Task → ℕ → Option (List ℕ) → Option (List ℕ) → Option (List ℕ) → Option (List ℕ) → Type 0
-HasDone (Task.Run c) status trace left before after = HasRun default_setup status trace left before after
+HasDone (Task.Run c) status trace left before after = HasRun (setup_chosen c) status trace left before after
 HasDone (Task.Make seed count) status trace left before after = HasPut (commands_text (sample_trace seed count)) status before after
-HasDone (Task.Sample seed count) status trace left before after = ⊥
+HasDone (Task.Sample seed count) status trace left before after = HasSampled default_setup (sample_trace seed count) status before after
 HasDone (Task.Check c) status trace left before after = HasTold c status trace left before after
+
+-- all lines of these bytes are in the grammar, and there are no more of them than a trace may have
+abbrev pub IsInGrammar : List ℕ → Type 0
+IsInGrammar bytes = All (λ line. IsOk (reading_of line)) (lines_of bytes) × (length (lines_of bytes) ≤ line_limit)
+
+-- every command was answered, or the run ended by an exhibit, or memory was wanted
+abbrev pub IsRunThrough : ℕ → Type 0
+IsRunThrough status = (status ≡ 0) ⊎ ((status ≡ 6) ⊎ (status ≡ 1))
+
+-- a run goes through where all lines are in the grammar and within the limit, and no fault came
+abbrev pub IsComplete : Task → ℕ → Option (List ℕ) → Type 0 → Type 0
+IsComplete (Task.Run c) status trace fault = IfSome trace (λ bytes. IsInGrammar bytes → ¬ fault → IsRunThrough status)
+IsComplete task status trace fault = ⊤
 
 -- The one line that faulty words are answered with was put, or the sink failed and a front of it was.
 abbrev pub AreRefusedWords : Option (List ℕ) → Option (List ℕ) → ℕ → ℕ → Type 0
@@ -64,20 +95,40 @@ AreRefusedWords put_before put_after faults_before faults_after =
 -- a text was printed, or the sink failed at it
 pub record HasMade (stop : Stop) (from to : Output) (text : List ℕ) : Type 0 where
   pub its_stop : (stop ≡ Finished) ⊎ (stop ≡ WriteFault)
-  pub whole : stop ≢ WriteFault → Prints from to text
-  pub front : PrintsFront from to text
+  pub said : HasSaid stop from to text
+
+-- a trace was run to a stop, with all replies printed
+pub record HasReplayed (setup : Setup) (stop : Stop) (trace left : Option (List ℕ)) (from to : Output) : Type 0 where
+  pub steps : List Step
+  pub ends : IfSome trace (λ bytes. Ends setup stop bytes left steps)
+  pub replayed : IsReplayed setup steps
+  pub said : HasSaid stop from to (steps_text steps)
+
+-- commands were run to a stop, with the last answer printed
+pub record HasRunSample (setup : Setup) (commands : List Command) (stop : Stop) (from to : Output) : Type 0 where
+  pub steps : List Step
+  pub text : List ℕ
+  pub ends : SampleEnds setup (start setup) commands stop steps text
+  pub replayed : IsReplayed setup steps
+  pub said : HasSaid stop from to text
 
 -- a run came to its stop
 pub record RunEnds (setup : Setup) (ending : Ending) (trace left : Option (List ℕ)) (from to : Output) : Type 0 where
   pub stop : Stop
   pub its_stop : ending ≡ Stopped stop
-  pub stopped : HasStopped stop trace left (standing_at_start setup) from to 0
+  pub run : HasReplayed setup stop trace left from to
 
 -- a sample trace was made
 pub record MakeEnds (text : List ℕ) (ending : Ending) (from to : Output) : Type 0 where
   pub stop : Stop
   pub its_stop : ending ≡ Stopped stop
   pub made : HasMade stop from to text
+
+-- a sample trace came to its stop
+pub record SampleStops (setup : Setup) (commands : List Command) (ending : Ending) (from to : Output) : Type 0 where
+  pub stop : Stop
+  pub its_stop : ending ≡ Stopped stop
+  pub run : HasRunSample setup commands stop from to
 
 -- a check came to its ending, with nothing printed
 pub record CheckEnds (choices : Choices) (ending : Ending) (trace left : Option (List ℕ)) (from to : Output) : Type 0 where
@@ -87,7 +138,7 @@ pub record CheckEnds (choices : Choices) (ending : Ending) (trace left : Option 
 
 -- what was asked for was done, but for the last line
 abbrev pub HasEnded : Task → Ending → Option (List ℕ) → Option (List ℕ) → Output → Output → Type 0
-HasEnded (Task.Run c) ending trace left from to = RunEnds default_setup ending trace left from to
+HasEnded (Task.Run c) ending trace left from to = RunEnds (setup_chosen c) ending trace left from to
 HasEnded (Task.Make seed count) ending trace left from to = MakeEnds (commands_text (sample_trace seed count)) ending from to
-HasEnded (Task.Sample seed count) ending trace left from to = ⊥
+HasEnded (Task.Sample seed count) ending trace left from to = SampleStops default_setup (sample_trace seed count) ending from to
 HasEnded (Task.Check c) ending trace left from to = CheckEnds c ending trace left from to

@@ -1,10 +1,12 @@
--- The formulas of the chosen suite under the chosen keys.
+-- What a run is set up with: the chosen geometry, and the formulas of the chosen suite under the chosen keys.
 use Rattle.std.specs.Prelude.{ℕ, true, false, List, [], ◌∷◌, ◌++◌, take, Option, Some, None, unwrap_or}
 use Rattle.std.specs.List.{range_with_len}
 use Rattle.pmem_base.specs.declared.lines.Line.{Line}
 use Rattle.suite.specs.Formulas.{Formulas}
 use Rattle.suite.specs.Aes.{aes_formulas}
 use Rattle.suite.specs.Weak.{weak_formulas, blur_flag}
+use Rattle.suite.specs.Setup.{Setup}
+use Rattle.pmem_base.specs.Shape.{Shape}
 use Rattle.pmem_cli.specs.declared.options.SuiteName.{SuiteName}
 use Rattle.pmem_cli.specs.declared.options.SuiteName.TheVariants.{Aes, Weak, Blur}
 use Rattle.pmem_cli.specs.declared.options.Choices.{Choices}
@@ -30,3 +32,18 @@ formulas_named Blur keys = weak_formulas (keys ++ blur_flag true ∷ [])
 -- aes where no suite is chosen
 unfoldable pub formulas_of : Choices → Formulas
 formulas_of c = formulas_named (unwrap_or c.suite Aes) (key_of c ++ tag_key_of c)
+
+-- the geometry: two levels of nodes, four sets of two ways, windows of four minors and major 0 at first,
+-- where nothing is chosen
+unfoldable pub shape_chosen : Choices → Shape
+shape_chosen c =
+    record {
+      levels = unwrap_or c.levels 2;
+      sets = unwrap_or c.sets 4;
+      ways = unwrap_or c.ways 2;
+      loss = unwrap_or c.loss 4;
+      major = unwrap_or c.major 0;
+    }
+
+unfoldable pub setup_chosen : Choices → Setup
+setup_chosen c = record { shape = shape_chosen c; formulas = formulas_of c }

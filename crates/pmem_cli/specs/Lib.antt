@@ -6,9 +6,9 @@ pub mod Pieces
 pub mod Words
 pub mod Keys
 pub mod Endings
-pub mod Running
 pub mod Standing
-pub mod World
 pub mod Served
 pub mod Checked
+pub mod Untampered
+pub mod Sampled
 pub mod HasRun

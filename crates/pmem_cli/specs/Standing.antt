@@ -1,17 +1,40 @@
--- Where a run stands between two commands.
+-- Where a run stands between two commands, and how it goes on.
+use Rattle.std.specs.Prelude.{◌≡◌, ◌⊎◌, ℕ, false, List, [], ◌∷◌}
+use Rattle.suite.specs.Formulas.{Formulas}
 use Rattle.suite.specs.Setup.{Setup}
-use Rattle.plain_model.specs.Run.{Machine, start}
-use Rattle.pmem_cli.specs.Running.{Running, setup_of}
+use Rattle.plain_model.specs.Run.{Machine, Step, machine_after_all}
+use Rattle.pmem_replay.specs.World.{WorldState, setup_of, view_in}
+use Rattle.pmem_replay.specs.Stepped.{IsNewWorld, HasStepped}
 
--- what stays the same through the run, and the machine
+-- what stays the same through the run, the plain machine, and the world that stands for it
 pub record Standing : Type 0 where
   pub setup : Setup
   pub machine : Machine
+  pub world : WorldState
 
--- before the first command
-abbrev pub standing_at_start : Setup → Standing
-standing_at_start setup = record { setup = setup; machine = start setup }
+-- as a world stands for it, whose suite has these formulas
+abbrev pub standing_of : (List ℕ → Formulas) → WorldState → Standing
+standing_of formulas_of world =
+    record {
+      setup = setup_of formulas_of world;
+      machine = record { state = world.state; view = view_in (setup_of formulas_of world) world };
+      world = world;
+    }
 
--- as a world stands for it
-abbrev pub standing_of : Running → Standing
-standing_of running = record { setup = setup_of running; machine = running.machine }
+-- each of these commands was answered by the world that the ones before it left
+abbrev pub AreStepped : Setup → WorldState → List Step → WorldState → Type 0
+AreStepped setup world [] last = last ≡ world
+AreStepped setup world (step ∷ steps) last =
+    (next : WorldState) × HasStepped setup world step.command step.reply next × AreStepped setup next steps last
+
+-- a formatted world answered them, or none was made and none was answered
+abbrev pub IsReplayed : Setup → List Step → Type 0
+IsReplayed setup steps =
+    (steps ≡ []) ⊎ ((first last : WorldState) × IsNewWorld setup first × AreStepped setup first steps last)
+
+-- the run went on by these steps
+pub record GoesOn (before after : Standing) (steps : List Step) : Type 0 where
+  pub setup : after.setup ≡ before.setup
+  pub machine : after.machine ≡ machine_after_all before.setup before.machine steps
+  pub running : after.world.shown ≡ false
+  pub chain : AreStepped before.setup before.world steps after.world

@@ -1,9 +1,9 @@
 -- What the words of the command line ask for.
-use Rattle.std.specs.Prelude.{ℕ, ◌+◌, ◌==◌, ⊤, nat_lt, nat_le, Bool, true, false, ◌&&◌, is_none, List, [], ◌∷◌, length, take, drop, codes, Option, Some, None, IfSome, Result, Ok, Err, if◌then◌else◌}
+use Rattle.std.specs.Prelude.{ℕ, ◌+◌, ◌==◌, ⊤, nat_lt, nat_le, Bool, true, false, ◌&&◌, List, [], ◌∷◌, length, take, drop, codes, Option, Some, None, IfSome, IsTrue, Result, Ok, Err, if◌then◌else◌}
 use Rattle.std.specs.List.{position_or_len}
 use Rattle.std.specs.Str.{bytes_eq}
 use Rattle.pmem_base.specs.declared.commands.Kind.{Kind}
-use Rattle.pmem_base.specs.Shape.{is_loss}
+use Rattle.pmem_base.specs.Shape.{HasLevels, HasSets, HasWays, is_loss}
 use Rattle.pmem_base.specs.Ranges.{IsPartLine}
 use Rattle.collision_witness.specs.Words.{Word, number_of, number_up_to, hex_bytes}
 use Rattle.plain_model.specs.Grammar.{part_of}
@@ -134,41 +134,27 @@ seed_and_count (seed ∷ count ∷ []) = do
 seed_and_count words = None
 
 -- what the words ask for, or nothing where they break the rules
-unfoldable pub whole_task_of : List Word → Option Task
-whole_task_of [] = None
-whole_task_of (name ∷ words) =
+unfoldable pub task_of : List Word → Option Task
+task_of [] = None
+task_of (name ∷ words) =
     if bytes_eq name (codes "run") then (take_options true no_choices words >>= λ c. Some (Task.Run c))
     else if bytes_eq name (codes "check") then (take_options false no_choices words >>= λ c. Some (Task.Check c))
     else if bytes_eq name (codes "make") then (seed_and_count words >>= λ found. Some (Task.Make found.0 found.1))
     else if bytes_eq name (codes "sample") then (seed_and_count words >>= λ found. Some (Task.Sample found.0 found.1))
     else None
 
--- ---- what the program does so far
+-- ---- what is known of them
 
-abbrev pub are_defaults : Choices → Bool
-are_defaults c =
-    is_none c.levels && is_none c.sets && is_none c.ways && is_none c.loss && is_none c.major && is_none c.suite
-    && is_none c.key && is_none c.tag_key
+-- chosen numbers are in their ranges, and a chosen tag key has its bytes at the front of its line
+abbrev pub AreChosen : Choices → Type 0
+AreChosen c =
+    IfSome c.levels HasLevels × IfSome c.sets HasSets × IfSome c.ways HasWays
+    × IfSome c.loss (λ n. IsTrue (is_loss n)) × IfSome c.tag_key (λ key. IsPartLine key.0 key.1)
 
--- runs have no options yet, and samples aren't run
-abbrev pub is_built : Task → Bool
-is_built (Task.Run c) = are_defaults c
-is_built (Task.Make seed count) = true
-is_built (Task.Sample seed count) = false
-is_built (Task.Check c) = true
-
--- what the words ask for, as far as the program does it
-abbrev pub task_of : List Word → Option Task
-task_of words = whole_task_of words >>= λ task. if is_built task then Some task else None
-
--- a chosen tag key has its bytes at the front of its line
-abbrev pub HasTagKey : Choices → Type 0
-HasTagKey c = IfSome c.tag_key (λ key. IsPartLine key.0 key.1)
-
-abbrev pub HasKeysAtFront : Task → Type 0
-HasKeysAtFront (Task.Run c) = HasTagKey c
-HasKeysAtFront (Task.Check c) = HasTagKey c
-HasKeysAtFront task = ⊤
+abbrev pub HasChosen : Task → Type 0
+HasChosen (Task.Run c) = AreChosen c
+HasChosen (Task.Check c) = AreChosen c
+HasChosen task = ⊤
 
 -- the value as a function sees it
 abbrev pub map_some : {A B : Type 0} → (A → B) → Option A → Option B

@@ -5,7 +5,7 @@ ghost use Rattle.plain_model.specs.declared.Stop.TheVariants as Stop;
 ghost use Rattle.collision_witness.specs.Exhibits.{IsExhibit};
 ghost use Rattle.pmem_cli.specs.Causes.{Rose};
 ghost use Rattle.pmem_cli.specs.declared.ending.Ending.TheVariants.{Stopped};
-ghost use Rattle.pmem_cli.specs.Words.{HasTagKey};
+ghost use Rattle.pmem_cli.specs.Words.{AreChosen};
 ghost use Rattle.pmem_cli.specs.Keys.{formulas_of};
 ghost use Rattle.pmem_cli.specs.Checked.{is_skipped, found_with, ChecksLine, ChecksNext, HasLooked, IsChecked};
 
@@ -18,7 +18,6 @@ use arrayvec::ArrayVec;
 use collision_witness::{before_return, holds, next_word, read_shown};
 use plain_model::Stop;
 use pmem_base::{Exhibit, Kind};
-use suite::{AesSuite, WeakSuite};
 
 /// Whether a line is skipped: it is blank or a comment, and not too long.
 #[tactic(auto, unfolding(crate::specs::Checked::is_skipped))]
@@ -113,22 +112,19 @@ fn look<S: Source>(found: &mut Option<Exhibit>, trace: &mut S) -> Stop
 
 /// Whether an exhibit holds under the chosen suite and keys.
 fn holds_under(choices: &Choices, shown: &Exhibit) -> bool
-    requires { HasTagKey choices.now }
+    requires { AreChosen choices.now }
     ensures { IsTrue result ↔ IsExhibit (formulas_of choices.now) shown.now }
 {
-    let key = choices.suite_key();
-    let (count, line) = choices.suite_tag_key();
-    let tag_key = line.0.as_slice().split_at(usize::from(count)).0;
     match choices.suite_name() {
-        SuiteName::Aes => holds(&mut AesSuite::new(&key, tag_key), shown),
-        SuiteName::Weak => holds(&mut WeakSuite::new(&key, tag_key, false), shown),
-        SuiteName::Blur => holds(&mut WeakSuite::new(&key, tag_key, true), shown),
+        SuiteName::Aes => holds(&mut choices.aes_suite(), shown),
+        SuiteName::Weak => holds(&mut choices.weak_suite(false), shown),
+        SuiteName::Blur => holds(&mut choices.weak_suite(true), shown),
     }
 }
 
 /// Reads the one exhibit of a source, and says whether it holds, or why the check stops.
 pub(crate) fn check<S: Source>(choices: &Choices, trace: &mut S) -> Ending
-    requires { HasTagKey choices.now }
+    requires { AreChosen choices.now }
     ensures checked { IfSome (S.left trace.old) (λ bytes. IsChecked (formulas_of choices.now) result bytes (S.left trace.new)) }
     ensures words { result ≢ Stopped Stop.Words }
     ensures write { result ≢ Stopped Stop.WriteFault }

@@ -49,6 +49,7 @@ fn write_stop(stop: Stop) -> ArrayVec<u8, 512>
     match stop {
         Stop::Finished => {}
         Stop::WriteFault => {}
+        Stop::Shown => {}
         Stop::Words => push_bytes(&mut text, b"stop words\n"),
         Stop::Memory => push_bytes(&mut text, b"stop memory\n"),
         Stop::ReadFault => push_bytes(&mut text, b"stop read\n"),
@@ -75,6 +76,7 @@ fn status(stop: Stop) -> u8
         Stop::ReadFault => 3,
         Stop::WriteFault => 4,
         Stop::Refused { .. } => 5,
+        Stop::Shown => 6,
         Stop::TooManyLines => 7,
     }
 }

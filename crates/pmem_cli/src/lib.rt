@@ -8,12 +8,12 @@ mod making;
 mod options;
 mod printer;
 mod program;
+mod sampling;
 mod session;
 mod sink;
 mod source;
 #[cfg(test)]
 mod tests;
-mod world;
 
 pub use program::run;
 pub use sink::{MemSink, Sink, StdSink};

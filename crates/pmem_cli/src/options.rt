@@ -1,13 +1,16 @@
 //! What the words of the command line ask for.
-ghost use Rattle.std.specs.Prelude.{◌≡◌, ◌<◌, ◌≤◌, ◌∷◌, length, map, string_bytes, Some, None, IfSome, IfNone, take, unwrap_or};
+ghost use Rattle.std.specs.Prelude.{◌≡◌, ◌≤◌, ◌∷◌, ◌++◌, [], length, map, string_bytes, Some, None, IfSome, IfNone, IsTrue, take, unwrap_or};
 ghost use Rattle.std.specs.List.{position_or_len};
-ghost use Rattle.pmem_base.specs.Ranges.{IsPartLine};
 ghost use Rattle.pmem_base.specs.Shape.{is_loss};
-ghost use Rattle.pmem_cli.specs.Keys.{key_of, tag_key_of};
-ghost use Rattle.pmem_cli.specs.Words.{suite_named, number_where, value_of, is_up_to, choose_suite, choose_any, choose, no_choices, is_equals, option_parts, next_value, take_options, seed_and_count, whole_task_of, are_defaults, is_built, task_of, HasTagKey, HasKeysAtFront, map_some};
+ghost use Rattle.pmem_base.specs.Geo.{shape_of};
+ghost use Rattle.suite.specs.Suites.{aes_keys, weak_keys};
+ghost use Rattle.suite.specs.Weak.{blur_flag};
+ghost use Rattle.pmem_cli.specs.Keys.{key_of, tag_key_of, shape_chosen};
+ghost use Rattle.pmem_cli.specs.Words.{suite_named, number_where, value_of, is_up_to, choose_suite, choose_any, choose, no_choices, is_equals, option_parts, next_value, take_options, seed_and_count, task_of, AreChosen, HasChosen, map_some};
 
 use collision_witness::{read_number, read_number_up_to, read_tag};
-use pmem_base::Line;
+use pmem_base::{Geo, Line};
+use suite::{AesSuite, WeakSuite};
 use trace_text::read_part;
 
 /// The key where none is chosen: the bytes 00 to 0f.
@@ -71,7 +74,8 @@ fn read_suite(word: &[u8]) -> Option<SuiteName>
 
 /// A number from 1 up to a greatest one.
 fn read_up_to(most: u8, word: &[u8]) -> Option<u8>
-    ensures { result ≡ number_where (is_up_to most) word.now }
+    ensures number { result ≡ number_where (is_up_to most) word.now }
+    ensures range { IfSome result (λ n. (1 ≤ n) × (n ≤ most)) }
 {
     match read_number(word) {
         Ok(number) if 1 <= number && number <= u64::from(most) => Some(number as u8),
@@ -81,7 +85,8 @@ fn read_up_to(most: u8, word: &[u8]) -> Option<u8>
 
 /// A stop-loss number.
 fn read_loss(word: &[u8]) -> Option<u8>
-    ensures { result ≡ number_where is_loss word.now }
+    ensures number { result ≡ number_where is_loss word.now }
+    ensures range { IfSome result (λ n. IsTrue (is_loss n)) }
 {
     match read_number(word) {
         Ok(number) => {
@@ -98,9 +103,9 @@ fn read_loss(word: &[u8]) -> Option<u8>
 impl Choices {
     /// Nothing is chosen.
     #[tactic(auto, unfolding(crate::specs::Words::no_choices))]
-    fn none() -> Choices
+    pub fn none() -> Choices
         ensures choices { result ≡ no_choices }
-        ensures tag_key { HasTagKey result }
+        ensures chosen { AreChosen result }
     {
         Choices {
             levels: None,
@@ -133,7 +138,7 @@ impl Choices {
 
     /// The tag key, as so many bytes at the front of a line: the bytes 10 to 2f where none is chosen.
     pub fn suite_tag_key(&self) -> (u8, Line)
-        requires { HasTagKey self.now }
+        requires { AreChosen self.now }
         ensures bytes { take result.0 result.1.0 ≡ tag_key_of self.now }
         ensures some { 1 ≤ result.0 }
         ensures most { result.0 ≤ 64 }
@@ -144,21 +149,48 @@ impl Choices {
         }
     }
 
-    /// Whether nothing is chosen.
-    pub fn are_defaults(&self) -> bool
-        ensures { result ≡ are_defaults self.now }
+    /// The aes suite under the chosen keys.
+    pub fn aes_suite(&self) -> AesSuite
+        requires { AreChosen self.now }
+        ensures { aes_keys result ≡ key_of self.now ++ tag_key_of self.now }
     {
-        let shape = self.levels.is_none() && self.sets.is_none() && self.ways.is_none();
-        let numbers = self.loss.is_none() && self.major.is_none();
-        let suite = self.suite.is_none() && self.key.is_none() && self.tag_key.is_none();
-        shape && numbers && suite
+        let key = self.suite_key();
+        let (count, line) = self.suite_tag_key();
+        AesSuite::new(&key, line.0.as_slice().split_at(usize::from(count)).0)
+    }
+
+    /// The weak suite under the chosen keys, in its blur form or not.
+    pub fn weak_suite(&self, blur: bool) -> WeakSuite
+        requires { AreChosen self.now }
+        ensures { weak_keys result ≡ (key_of self.now ++ tag_key_of self.now) ++ blur_flag blur ∷ [] }
+    {
+        let key = self.suite_key();
+        let (count, line) = self.suite_tag_key();
+        WeakSuite::new(&key, line.0.as_slice().split_at(usize::from(count)).0, blur)
+    }
+
+    /// The geometry: two levels, four sets of two ways, windows of four minors and the first major 0
+    /// where nothing is chosen.
+    #[tactic(auto, unfolding(crate::specs::Keys::shape_chosen))]
+    pub fn geometry(&self) -> Geo
+        requires { AreChosen self.now }
+        ensures { shape_of result ≡ shape_chosen self.now }
+    {
+        let levels = self.levels.unwrap_or(2);
+        let sets = self.sets.unwrap_or(4);
+        let ways = self.ways.unwrap_or(2);
+        let loss = self.loss.unwrap_or(4);
+        let Ok(geo) = Geo::new(levels, sets, ways, loss, self.major.unwrap_or(0)) else {
+            unreachable!()
+        };
+        geo
     }
 
     /// These choices, and an option of the suite that wasn't chosen yet.
     fn with_suite(self, name: &[u8], value: &[u8]) -> Option<Choices>
-        requires { HasTagKey self }
+        requires { AreChosen self }
         ensures choices { result ≡ choose_suite self name.now value.now }
-        ensures tag_key { IfSome result HasTagKey }
+        ensures chosen { IfSome result AreChosen }
     {
         let mut more = self;
         if name == b"suite".as_slice() && self.suite.is_none() {
@@ -175,9 +207,9 @@ impl Choices {
 
     /// These choices, and an option that wasn't chosen yet.
     fn with_any(self, name: &[u8], value: &[u8]) -> Option<Choices>
-        requires { HasTagKey self }
+        requires { AreChosen self }
         ensures choices { result ≡ choose_any self name.now value.now }
-        ensures tag_key { IfSome result HasTagKey }
+        ensures chosen { IfSome result AreChosen }
     {
         let mut more = self;
         if name == b"levels".as_slice() {
@@ -213,9 +245,9 @@ impl Choices {
 
     /// These choices, and one more. `check` takes the options of the suite alone.
     fn with(self, whole: bool, name: &[u8], value: &[u8]) -> Option<Choices>
-        requires { HasTagKey self }
+        requires { AreChosen self }
         ensures choices { result ≡ choose whole self name.now value.now }
-        ensures tag_key { IfSome result HasTagKey }
+        ensures chosen { IfSome result AreChosen }
     {
         if whole {
             self.with_any(name, value)
@@ -274,12 +306,12 @@ fn take_option<'a>(
     word: &'a str,
     words: &'a [String],
 ) -> Option<(Choices, &'a [String])>
-    requires tag_key { HasTagKey choices }
+    requires chosen { AreChosen choices }
     ensures none { IfNone result (take_options whole choices (word.now ∷ map string_bytes words.now) ≡ None) }
     ensures more { IfSome result (λ found. take_options whole choices (word.now ∷ map string_bytes words.now)
         ≡ take_options whole found.0 (map string_bytes found.1.now)) }
     ensures fewer { IfSome result (λ found. length found.1.now ≤ length words.now) }
-    ensures key { IfSome result (λ found. HasTagKey found.0) }
+    ensures chosen { IfSome result (λ found. AreChosen found.0) }
 {
     let (name, own) = split_option(word.as_bytes())?;
     let (value, rest) = take_value(own, words)?;
@@ -291,7 +323,7 @@ fn take_option<'a>(
 #[tactic(auto, unfolding(crate::specs::Words::take_options))]
 fn read_options(whole: bool, words: &[String]) -> Option<Choices>
     ensures choices { result ≡ take_options whole no_choices (map string_bytes words.now) }
-    ensures tag_key { IfSome result HasTagKey }
+    ensures chosen { IfSome result AreChosen }
 {
     let mut choices = Choices::none();
     let mut rest = words;
@@ -320,10 +352,10 @@ fn read_seed_and_count(words: &[String]) -> Option<(u64, u32)>
 }
 
 /// What the words ask for, or nothing where they break the rules.
-#[tactic(auto, unfolding(crate::specs::Words::whole_task_of))]
-fn read_whole_task(words: &[String]) -> Option<Task>
-    ensures task { result ≡ whole_task_of (map string_bytes words.now) }
-    ensures tag_key { IfSome result HasKeysAtFront }
+#[tactic(auto, unfolding(crate::specs::Words::task_of))]
+pub(crate) fn read_task(words: &[String]) -> Option<Task>
+    ensures task { result ≡ task_of (map string_bytes words.now) }
+    ensures chosen { IfSome result HasChosen }
 {
     let [name, words @ ..] = words else {
         return None;
@@ -341,25 +373,4 @@ fn read_whole_task(words: &[String]) -> Option<Task>
         }
         _ => None,
     }
-}
-
-/// Whether the program does it so far: runs have no options yet, and samples aren't run.
-fn is_built(task: &Task) -> bool
-    ensures { result ≡ is_built task.now }
-{
-    match task {
-        Task::Run(choices) => choices.are_defaults(),
-        Task::Make { .. } => true,
-        Task::Sample { .. } => false,
-        Task::Check(_) => true,
-    }
-}
-
-/// What the words ask for, as far as the program does it.
-pub(crate) fn read_task(words: &[String]) -> Option<Task>
-    ensures task { result ≡ task_of (map string_bytes words.now) }
-    ensures tag_key { IfSome result HasKeysAtFront }
-{
-    let task = read_whole_task(words)?;
-    if is_built(&task) { Some(task) } else { None }
 }

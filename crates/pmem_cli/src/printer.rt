@@ -1,7 +1,7 @@
 //! Replies on their way to a sink, held back so that many go in one push.
 ghost use Rattle.std.specs.Prelude.{◌≡◌, ◌≤◌, [], length, OnOk, OnErr};
 ghost use Rattle.pmem_cli.specs.Causes.{HasCause};
-ghost use Rattle.plain_model.specs.Texts.{answer_text, command_text, as_line};
+ghost use Rattle.plain_model.specs.Texts.{answer_text, command_text, mark_text, marks_text, as_line};
 ghost use Rattle.trace_text.specs.Commands.{IsWritable};
 ghost use Rattle.trace_text.specs.Answers.{HasSmallMinors};
 ghost use Rattle.pmem_cli.specs.Printed.{Prints, PrintsFront, with_waiting};
@@ -9,9 +9,9 @@ ghost use Rattle.pmem_cli.specs.Printed.{Prints, PrintsFront, with_waiting};
 use crate::sink::{Sink, push_all};
 use crate::source::Failed;
 use arrayvec::ArrayVec;
-use pmem_base::{Answer, Command};
+use pmem_base::{Answer, Command, Mark};
 use std::marker::Model;
-use trace_text::{push_answer, push_bytes, write_command};
+use trace_text::{push_answer, push_bytes, write_command, write_mark};
 
 /// The bytes that may wait.
 const WAITING_BYTES: usize = 65_536;
@@ -112,6 +112,20 @@ impl Printer {
         push_bytes(&mut self.text, b"\n");
         print_text(&mut self.waiting, out, self.text.as_slice())
     }
+
+    /// Prints the text of a mark, with its LF.
+    fn print_mark<K: Sink>(&mut self, out: &mut K, mark: &Mark) -> Result<(), Failed>
+        ensures ok { OnOk result (Prints (with_waiting (K.put out.old) self.old) (with_waiting (K.put out.new) self.new)
+            (as_line (mark_text mark.now))) }
+        ensures err { OnErr result (PrintsFront (with_waiting (K.put out.old) self.old) (with_waiting (K.put out.new) self.new)
+            (as_line (mark_text mark.now))) }
+        ensures cause { HasCause (K.faults out.old) (K.faults out.new) result }
+    {
+        let mut text = write_mark(mark);
+        push_bytes(&mut text, b"\n");
+        self.print(out, text.as_slice())
+    }
+
     /// Prints the text of a command, with its LF.
     pub fn print_command<K: Sink>(&mut self, out: &mut K, command: &Command) -> Result<(), Failed>
         requires { IsWritable command.now }
@@ -125,4 +139,22 @@ impl Printer {
         push_bytes(&mut text, b"\n");
         self.print(out, text.as_slice())
     }
+}
+
+/// Prints the texts of marks, in order, each with its LF.
+pub(crate) fn print_marks<K: Sink>(
+    marks: &[Mark],
+    printer: &mut Printer,
+    out: &mut K,
+) -> Result<(), Failed>
+    ensures ok { OnOk result (Prints (with_waiting (K.put out.old) printer.old) (with_waiting (K.put out.new) printer.new)
+        (marks_text marks.now)) }
+    ensures err { OnErr result (PrintsFront (with_waiting (K.put out.old) printer.old) (with_waiting (K.put out.new) printer.new)
+        (marks_text marks.now)) }
+    ensures cause { HasCause (K.faults out.old) (K.faults out.new) result }
+{
+    'each: for mark in marks {
+        printer.print_mark(out, mark)?;
+    }
+    Ok(())
 }

@@ -1,45 +1,67 @@
 //! The whole program: words and bytes in, bytes and a status out.
-ghost use Rattle.std.specs.Prelude.{◌≡◌, ◌≢◌, ◌≤◌, ◌⊎◌, ◌↔◌, IsTrue, IfSome, IsNone, map, string_bytes};
-ghost use Rattle.plain_model.specs.Defaults.{default_setup};
+ghost use Rattle.std.specs.Prelude.{◌≡◌, ◌≢◌, ◌≤◌, ◌⊎◌, ◌↔◌, IfSome, IsNone, Some, map, string_bytes};
+ghost use Rattle.pmem_base.specs.Geo.{shape_of};
 ghost use Rattle.plain_model.specs.declared.Stop.TheVariants as Stop;
 ghost use Rattle.pmem_cli.specs.Causes.{Rose};
 ghost use Rattle.pmem_cli.specs.declared.ending.Ending.TheVariants.{Stopped};
-ghost use Rattle.pmem_cli.specs.Words.{task_of, is_built, HasKeysAtFront};
+ghost use Rattle.pmem_cli.specs.Keys.{setup_chosen};
+ghost use Rattle.pmem_cli.specs.Words.{task_of, AreChosen, HasChosen};
 ghost use Rattle.pmem_cli.specs.Printed.{with_waiting};
-ghost use Rattle.pmem_cli.specs.Standing.{standing_at_start};
-ghost use Rattle.pmem_cli.specs.Served.{HasStopped};
-ghost use Rattle.pmem_cli.specs.HasRun.{HasDone, HasEnded, AreRefusedWords};
+ghost use Rattle.pmem_cli.specs.Served.{StopsByCause};
+ghost use Rattle.pmem_cli.specs.HasRun.{HasDone, HasEnded, HasReplayed, IsComplete, AreRefusedWords};
 
 use crate::checking::check;
 use crate::ending::{Ending, finish};
 use crate::making::make;
-use crate::options::{Task, read_task};
+use crate::options::{Choices, SuiteName, Task, read_task};
 use crate::printer::Printer;
+use crate::sampling::sample;
 use crate::session::serve_all;
 use crate::sink::Sink;
 use crate::source::Source;
-use crate::world::World;
 use plain_model::Stop;
+use pmem_base::Geo;
+use pmem_replay::World;
 use std::alloc::Global;
+use suite::Counted;
 
-/// The reason why a run with the defaults stops.
-#[tactic(auto, unfolding(plain_model::specs::Defaults::default_setup))]
-fn run_trace<S: Source, K: Sink>(
+/// Runs a trace over a new world of this geometry and suite, and says why that stops.
+fn run_with<U: Counted + Drop, S: Source, K: Sink>(
     alloc: Global,
+    geo: Geo,
+    suite: U,
     trace: &mut S,
     printer: &mut Printer,
     out: &mut K,
 ) -> Stop
-    ensures stopped { HasStopped result (S.left trace.old) (S.left trace.new) (standing_at_start default_setup)
-        (with_waiting (K.put out.old) printer.old) (with_waiting (K.put out.new) printer.new) 0 }
-    ensures words { result ≢ Stop.Words }
-    ensures read { result ≡ Stop.ReadFault → Rose (S.faults trace.old) (S.faults trace.new) }
-    ensures write { result ≡ Stop.WriteFault → Rose (K.faults out.old) (K.faults out.new) }
-    ensures later { K.faults out.old ≤ K.faults out.new }
+    ensures run { HasReplayed (record { shape = shape_of geo; formulas = U.formulas_of (U.keys suite) }) result (S.left trace.old) (S.left trace.new)
+        (with_waiting (K.put out.old) printer.old) (with_waiting (K.put out.new) printer.new) }
+    ensures cause { StopsByCause (Some result) (S.faults trace.old) (S.faults trace.new) (K.faults out.old) (K.faults out.new) }
 {
-    match World::new(alloc) {
-        Ok(mut world) => serve_all(&mut world, trace, printer, out),
+    match World::new(alloc, geo, suite) {
+        Ok(mut world) => serve_all(alloc, &mut world, trace, printer, out),
         Err(_) => Stop::Memory,
+    }
+}
+
+/// Runs a trace with what was chosen, and says why that stops.
+fn run_trace<S: Source, K: Sink>(
+    alloc: Global,
+    choices: &Choices,
+    trace: &mut S,
+    printer: &mut Printer,
+    out: &mut K,
+) -> Stop
+    requires { AreChosen choices.now }
+    ensures run { HasReplayed (setup_chosen choices.now) result (S.left trace.old) (S.left trace.new)
+        (with_waiting (K.put out.old) printer.old) (with_waiting (K.put out.new) printer.new) }
+    ensures cause { StopsByCause (Some result) (S.faults trace.old) (S.faults trace.new) (K.faults out.old) (K.faults out.new) }
+{
+    let geo = choices.geometry();
+    match choices.suite_name() {
+        SuiteName::Aes => run_with(alloc, geo, choices.aes_suite(), trace, printer, out),
+        SuiteName::Weak => run_with(alloc, geo, choices.weak_suite(false), trace, printer, out),
+        SuiteName::Blur => run_with(alloc, geo, choices.weak_suite(true), trace, printer, out),
     }
 }
 
@@ -51,8 +73,7 @@ fn do_task<S: Source, K: Sink>(
     printer: &mut Printer,
     out: &mut K,
 ) -> Ending
-    requires built { IsTrue (is_built task) }
-    requires tag_key { HasKeysAtFront task }
+    requires { HasChosen task }
     ensures ended { HasEnded task result (S.left trace.old) (S.left trace.new)
         (with_waiting (K.put out.old) printer.old) (with_waiting (K.put out.new) printer.new) }
     ensures words { result ≢ Stopped Stop.Words }
@@ -61,9 +82,11 @@ fn do_task<S: Source, K: Sink>(
     ensures later { K.faults out.old ≤ K.faults out.new }
 {
     match task {
-        Task::Run(_) => Ending::Stopped(run_trace(alloc, trace, printer, out)),
+        Task::Run(choices) => Ending::Stopped(run_trace(alloc, &choices, trace, printer, out)),
         Task::Make { seed, count } => Ending::Stopped(make(seed, count, printer, out)),
-        Task::Sample { .. } => unreachable!(),
+        Task::Sample { seed, count } => {
+            Ending::Stopped(sample(alloc, seed, count, printer, out))
+        }
         Task::Check(choices) => check(&choices, trace),
     }
 }
@@ -105,6 +128,11 @@ pub fn run<S: Source, K: Sink>(alloc: Global, words: &[String], trace: &mut S, o
     // and the last line, a sample trace, or whether the exhibit holds.
     ensures told { IfSome (task_of (map string_bytes words.now)) (λ task.
         HasDone task result (S.left trace.old) (S.left trace.new) (K.put out.old) (K.put out.new)) }
+
+    // A run of a trace in the grammar and within the limits goes through, unless source or sink fails.
+    ensures complete { IfSome (task_of (map string_bytes words.now)) (λ task.
+        IsComplete task result (S.left trace.old)
+        (Rose (S.faults trace.old) (S.faults trace.new) ⊎ Rose (K.faults out.old) (K.faults out.new))) }
 
     // The statuses for faults come only where source or sink failed.
     ensures read { result ≡ 3 → Rose (S.faults trace.old) (S.faults trace.new) }

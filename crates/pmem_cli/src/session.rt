@@ -1,62 +1,123 @@
 //! The run of a trace.
-ghost use Rattle.std.specs.Prelude.{◌≡◌, ◌<◌, ◌⊎◌, [], OnOk, OnErr, Some, Contains};
+ghost use Rattle.std.specs.Prelude.{◌≡◌, ◌<◌, ◌≤◌, ◌⊎◌, ◌↔◌, [], length, slice_range, OnOk, OnErr, Some, IsTrue, Contains, true, false};
 ghost use Rattle.std.specs.Io.KnownBytes.{prepend_known};
+ghost use Rattle.pmem_base.specs.Ranges.{IsCommand};
+ghost use Rattle.plain_model.specs.Answers.{is_shown};
+ghost use Rattle.plain_model.specs.Texts.{marks_text, reply_text};
+ghost use Rattle.pmem_replay.specs.Stepped.{reply_in};
+ghost use Rattle.trace_text.specs.Answers.{HasSmallMinors};
 ghost use Rattle.pmem_cli.specs.Causes.{HasCause};
 ghost use Rattle.pmem_cli.specs.Printed.{Prints, PrintsFront, with_waiting};
 ghost use Rattle.pmem_cli.specs.Standing.{standing_of};
-ghost use Rattle.pmem_cli.specs.Served.{AnswersLine, Turns, HasStopped, StopsByCause};
+ghost use Rattle.pmem_cli.specs.Served.{AnswersCommand, AnswersLine, Turns, HasStopped, StopsByCause};
 
 use crate::lines::{Found, LINE_BYTES, LineReader};
-use crate::printer::Printer;
+use crate::printer::{Printer, print_marks};
 use crate::sink::Sink;
 use crate::source::{Failed, Source};
-use crate::world::World;
 use arrayvec::ArrayVec;
 use plain_model::Stop;
-use pmem_base::Kind;
+use pmem_base::{Answer, Command, Kind};
+use pmem_replay::{Reply, World};
+use std::alloc::Global;
+use suite::Counted;
 use trace_text::read_command;
 
 /// The lines that a trace may have.
 pub(crate) const LINE_LIMIT: u32 = 1_000_000;
 
-/// Answers one line, and says why the run stops, where it does.
-fn answer_line<K: Sink>(
-    number: u32,
-    line: &[u8],
-    world: &mut World,
+/// Whether an answer is an exhibit, which ends a run.
+pub(crate) fn is_shown(answer: &Answer) -> bool
+    ensures { result ≡ is_shown answer.now }
+{
+    matches!(answer, Answer::Shown(_))
+}
+
+/// Prints a reply: its marks in the order made, and its answer.
+fn print_reply<U: Counted + Drop, K: Sink>(
+    world: &World<U>,
+    reply: &Reply,
+    printer: &mut Printer,
+    out: &mut K,
+) -> Result<(), Failed>
+    requires from { reply.now.from ≤ reply.now.to }
+    requires to { reply.now.to ≤ length world.now.ledger.marks }
+    requires minors { HasSmallMinors reply.now.answer }
+    ensures ok { OnOk result (Prints (with_waiting (K.put out.old) printer.old) (with_waiting (K.put out.new) printer.new)
+        (reply_text (reply_in world.now reply.now))) }
+    ensures err { OnErr result (PrintsFront (with_waiting (K.put out.old) printer.old) (with_waiting (K.put out.new) printer.new)
+        (reply_text (reply_in world.now reply.now))) }
+    ensures cause { HasCause (K.faults out.old) (K.faults out.new) result }
+{
+    print_marks(&world.marks()[reply.from..reply.to], printer, out)?;
+    printer.print_answer(out, &reply.answer)
+}
+
+/// Answers a command, and says why the run stops, where it does.
+fn answer_command<U: Counted + Drop, K: Sink>(
+    alloc: Global,
+    command: &Command,
+    world: &mut World<U>,
     printer: &mut Printer,
     out: &mut K,
 ) -> Option<Stop>
-    ensures answered { AnswersLine result line.now number (standing_of world.old) (standing_of world.new)
+    requires running { world.old.shown ≡ false }
+    requires range { IsCommand command.now }
+    ensures answered { AnswersCommand result command.now (standing_of U.formulas_of world.old) (standing_of U.formulas_of world.new)
+        (with_waiting (K.put out.old) printer.old) (with_waiting (K.put out.new) printer.new) }
+    ensures cause { StopsByCause result 0 0 (K.faults out.old) (K.faults out.new) }
+{
+    let Ok(reply) = world.step(alloc, command) else {
+        return Some(Stop::Memory);
+    };
+    match print_reply(world, &reply, printer, out) {
+        Err(Failed) => Some(Stop::WriteFault),
+        Ok(()) => {
+            if is_shown(&reply.answer) {
+                Some(Stop::Shown)
+            } else {
+                None
+            }
+        }
+    }
+}
+
+/// Answers one line, and says why the run stops, where it does.
+fn answer_line<U: Counted + Drop, K: Sink>(
+    alloc: Global,
+    number: u32,
+    line: &[u8],
+    world: &mut World<U>,
+    printer: &mut Printer,
+    out: &mut K,
+) -> Option<Stop>
+    requires running { world.old.shown ≡ false }
+    ensures answered { AnswersLine result line.now number (standing_of U.formulas_of world.old) (standing_of U.formulas_of world.new)
         (with_waiting (K.put out.old) printer.old) (with_waiting (K.put out.new) printer.new) }
     ensures cause { StopsByCause result 0 0 (K.faults out.old) (K.faults out.new) }
 {
     match read_command(line) {
         Err(kind) => Some(Stop::Refused { number, kind }),
         Ok(None) => None,
-        Ok(Some(command)) => {
-            let answer = world.step(&command);
-            match printer.print_answer(out, &answer) {
-                Ok(()) => None,
-                Err(Failed) => Some(Stop::WriteFault),
-            }
-        }
+        Ok(Some(command)) => answer_command(alloc, &command, world, printer, out),
     }
 }
 
 /// Takes and answers the next line, and says why the run stops, where it does.
-fn answer_next<S: Source, K: Sink>(
+fn answer_next<U: Counted + Drop, S: Source, K: Sink>(
+    alloc: Global,
     served: u32,
     reader: &mut LineReader,
     line: &mut ArrayVec<u8, LINE_BYTES>,
-    world: &mut World,
+    world: &mut World<U>,
     trace: &mut S,
     printer: &mut Printer,
     out: &mut K,
 ) -> Option<Stop>
-    requires { served < 1000000 }
+    requires within { served < 1000000 }
+    requires running { world.old.shown ≡ false }
     ensures turn { Turns result (prepend_known reader.old (S.left trace.old)) (prepend_known reader.new (S.left trace.new))
-        (S.left trace.new) (standing_of world.old) (standing_of world.new)
+        (S.left trace.new) (standing_of U.formulas_of world.old) (standing_of U.formulas_of world.new)
         (with_waiting (K.put out.old) printer.old) (with_waiting (K.put out.new) printer.new) served }
     ensures cause { StopsByCause result (S.faults trace.old) (S.faults trace.new) (K.faults out.old) (K.faults out.new) }
 {
@@ -68,8 +129,8 @@ fn answer_next<S: Source, K: Sink>(
             number,
             kind: Kind::Long,
         }),
-        Ok(Found::Line) => answer_line(number, line.as_slice(), world, printer, out),
-        Ok(Found::Last) => match answer_line(number, line.as_slice(), world, printer, out) {
+        Ok(Found::Line) => answer_line(alloc, number, line.as_slice(), world, printer, out),
+        Ok(Found::Last) => match answer_line(alloc, number, line.as_slice(), world, printer, out) {
             None => Some(Stop::Finished),
             Some(stop) => Some(stop),
         },
@@ -94,42 +155,55 @@ fn flush_before_pull<K: Sink>(
 }
 
 /// Serves the next line, and says why the run stops, where it does.
-fn serve_next<S: Source, K: Sink>(
+fn serve_next<U: Counted + Drop, S: Source, K: Sink>(
+    alloc: Global,
     served: u32,
     reader: &mut LineReader,
     line: &mut ArrayVec<u8, LINE_BYTES>,
-    world: &mut World,
+    world: &mut World<U>,
     trace: &mut S,
     printer: &mut Printer,
     out: &mut K,
 ) -> Option<Stop>
-    requires { served < 1000000 }
+    requires within { served < 1000000 }
+    requires running { world.old.shown ≡ false }
     ensures turn { Turns result (prepend_known reader.old (S.left trace.old)) (prepend_known reader.new (S.left trace.new))
-        (S.left trace.new) (standing_of world.old) (standing_of world.new)
+        (S.left trace.new) (standing_of U.formulas_of world.old) (standing_of U.formulas_of world.new)
         (with_waiting (K.put out.old) printer.old) (with_waiting (K.put out.new) printer.new) served }
     ensures cause { StopsByCause result (S.faults trace.old) (S.faults trace.new) (K.faults out.old) (K.faults out.new) }
 {
     match flush_before_pull(reader, printer, out) {
         Err(Failed) => Some(Stop::WriteFault),
-        Ok(()) => answer_next(served, reader, line, world, trace, printer, out),
+        Ok(()) => answer_next(alloc, served, reader, line, world, trace, printer, out),
     }
 }
 
 /// Answers a trace, and says why the run stops.
-pub(crate) fn serve_all<S: Source, K: Sink>(
-    world: &mut World,
+pub(crate) fn serve_all<U: Counted + Drop, S: Source, K: Sink>(
+    alloc: Global,
+    world: &mut World<U>,
     trace: &mut S,
     printer: &mut Printer,
     out: &mut K,
 ) -> Stop
-    ensures stopped { HasStopped result (S.left trace.old) (S.left trace.new) (standing_of world.old)
+    requires running { world.old.shown ≡ false }
+    ensures stopped { HasStopped result (S.left trace.old) (S.left trace.new) (standing_of U.formulas_of world.old)
         (with_waiting (K.put out.old) printer.old) (with_waiting (K.put out.new) printer.new) 0 }
     ensures cause { StopsByCause (Some result) (S.faults trace.old) (S.faults trace.new) (K.faults out.old) (K.faults out.new) }
 {
     let mut reader = LineReader::new();
     let mut line = ArrayVec::new();
     'lines: for served in 0..LINE_LIMIT {
-        if let Some(stop) = serve_next(served, &mut reader, &mut line, world, trace, printer, out) {
+        if let Some(stop) = serve_next(
+            alloc,
+            served,
+            &mut reader,
+            &mut line,
+            world,
+            trace,
+            printer,
+            out,
+        ) {
             return stop;
         }
     }

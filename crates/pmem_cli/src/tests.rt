@@ -1,5 +1,5 @@
 //! Whole runs over memory.
-use crate::{MemSink, MemSource, StdSink, StdSource, run};
+use crate::{MemSink, MemSource, run};
 use std::process::Abort;
 use std::test::Fail;
 
@@ -47,62 +47,6 @@ fn check_run<R: Abort + AllocGlobal>(
 }
 
 #[test]
-fn answers_traces(rt: HostRuntime) -> Result<(), Fail> {
-    for (trace, status, output) in [
-        ("", 0, ""),
-        ("read 0 0", 0, "line [00] 0\n"),
-        (
-            "post 0 3 [aa]\nread 0 3\ndrain 0\nread 0 3\ndrain 0\nread 0 1024\n",
-            0,
-            "ok\nline [aa] 0\nok 1\nline [aa] 0\nempty\nrange\n",
-        ),
-        (
-            "post 0 5 [11]\npost 0 5 [22]\nread 0 5\n",
-            0,
-            "ok\nok\nline [22] 0\n",
-        ),
-        ("turn", 5, "stop line 1 1\n"),
-        ("read 1 0", 5, "stop line 1 4\n"),
-        ("read 8 0", 5, "stop line 1 4\n"),
-        (
-            "post 0 0 0123456789abcdef0123456789abcdef0123456789abcdef0123456789abcdef0123456789abcdef0123456789abcdef0123456789abcdef0123456789abcde",
-            5,
-            "stop line 1 5\n",
-        ),
-        ("read 0 0\nreed 0 0\n", 5, "line [00] 0\nstop line 2 1\n"),
-        ("read 0 1024", 0, "range\n"),
-        ("# note\r\n\r\n  read\t0  0\r\n", 0, "line [00] 0\n"),
-        (
-            "read 0 00000000000000000003\nread 000 03\n",
-            0,
-            "line [00] 0\nline [00] 0\n",
-        ),
-        (
-            "read 0 18446744073709551615\nread 0 18446744073709551616\n",
-            5,
-            "range\nstop line 2 3\n",
-        ),
-        ("read 0 000000000000000000003\n", 5, "stop line 1 3\n"),
-        (
-            "post 0 0 [00]\npost 0 0 [00]\npost 0 0 [00]\npost 0 0 [00]\npost 0 0 [00]\npost 0 0 [00]\npost 0 0 [00]\npost 0 0 [00]\npost 0 0 [00]\npost 0 0 [00]\npost 0 0 [00]\npost 0 0 [00]\npost 0 0 [00]\npost 0 0 [00]\npost 0 0 [00]\npost 0 0 [00]\npost 0 0 [00]",
-            0,
-            "ok\nok\nok\nok\nok\nok\nok\nok\nok\nok\nok\nok\nok\nok\nok\nok\nfull\n",
-        ),
-    ] {
-        let trace = spelled(&rt, trace)?;
-        check_run(
-            &rt,
-            &["run"],
-            trace.as_slice(),
-            (&[], &[]),
-            1_000,
-            (status, output),
-        )?;
-    }
-    Ok(())
-}
-
-#[test]
 fn refuses_words(rt: HostRuntime) -> Result<(), Fail> {
     let told = (2, "stop words\n");
     check_run(&rt, &[], b"read 0 0", (&[0], &[]), 100, told)?;
@@ -121,7 +65,7 @@ fn refuses_faulty_words(rt: HostRuntime) -> Result<(), Fail> {
         ["run", "--ways", "2", "--ways", "2"].as_slice(),
         ["make", "1"].as_slice(),
         ["make", "1", "1000000"].as_slice(),
-        ["sample", "0", "5"].as_slice(),
+        ["sample", "0"].as_slice(),
         ["check", "--levels", "2"].as_slice(),
         ["check", "--suite"].as_slice(),
         ["check", "--suite=weak", "--suite", "weak"].as_slice(),
@@ -195,65 +139,5 @@ fn makes_and_checks(rt: HostRuntime) -> Result<(), Fail> {
             (status, output),
         )?;
     }
-    Ok(())
-}
-
-#[test]
-fn tells_faults(rt: HostRuntime) -> Result<(), Fail> {
-    for (trace, failing, status, output) in [
-        ("read 0 0\n", (0, 9), 3, "stop read\n"),
-        ("read 0 0\nre", (1, 9), 3, "line [00] 0\nstop read\n"),
-        // No pull follows the end.
-        ("read 0 0", (2, 9), 0, "line [00] 0\n"),
-        ("read 0 0\n", (9, 0), 4, ""),
-        // The replies are pushed before the next pull, and no push follows.
-        ("read 0 0\nre", (9, 1), 4, "line [00] 0\n"),
-    ] {
-        let (pull, push) = failing;
-        check_run(
-            &rt,
-            &["run"],
-            trace.as_bytes(),
-            (&[pull], &[push]),
-            1_000,
-            (status, output),
-        )?;
-    }
-    check_run(&rt, &["run"], b"read 0 0\n", (&[], &[]), 8, (4, "line 000"))
-}
-
-#[test]
-fn keeps_limits(rt: HostRuntime) -> Result<(), Fail> {
-    let alloc = rt.alloc();
-    for (byte, count, pull, status, output) in [
-        (b'\n', 1_000_000, 1_000_000, 0, ""),
-        (b'\n', 1_000_001, 1_000_000, 7, "stop lines\n"),
-        (b'a', 1_024, 1_000_000, 5, "stop line 1 1\n"),
-        (b'a', 1_025, 1_000_000, 5, "stop line 1 6\n"),
-        (b'a', 1_025, 1, 5, "stop line 1 6\n"),
-        (b'a', 1_024, 1, 3, "stop read\n"),
-    ] {
-        let trace = vec![in alloc; byte; count]?;
-        check_run(
-            &rt,
-            &["run"],
-            trace.as_slice(),
-            (&[pull], &[]),
-            100,
-            (status, output),
-        )?;
-    }
-    Ok(())
-}
-
-#[test]
-fn runs_over_readers_and_writers(rt: HostRuntime) -> Result<(), Fail> {
-    let alloc = rt.alloc();
-    let words = vec![in alloc; String::from_str(alloc, "run")?]?;
-    let mut bytes = Vec::new(alloc);
-    let mut trace = StdSource::new(b"read 0 1024\n".as_slice());
-    let mut out = StdSink::new(&mut bytes);
-    assert_eq!(rt; run(alloc, words.as_slice(), &mut trace, &mut out), 0);
-    assert_eq!(rt; bytes.as_slice(), b"range\n".as_slice());
     Ok(())
 }

@@ -14,12 +14,12 @@ use Rattle.collision_witness.specs.Words.{Word, number_of, words_of, without_ret
 use Rattle.collision_witness.specs.Texts.{sentence, hex_text, line_text}
 use Rattle.collision_witness.proofs.Sentences.{IsSolid, AreSolid, words_of-sentence, sentence-no_return, sentence-some, without_return-none, number_read, decimal-solid, hex-solid, hex_read, line-solid, line_hex, literal-solid}
 use Rattle.plain_model.specs.Words.{port_of, last_port}
-use Rattle.plain_model.specs.Grammar.{verbs, command_of, command_among, reading_of_words, reading_among, full_reading_of}
+use Rattle.plain_model.specs.Grammar.{verbs, command_of, command_among, reading_of_words, reading_among, reading_of}
 use Rattle.plain_model.specs.Texts.{command_text}
 
 -- the words of a sentence are read
 line_read : (word : Word) (words : List Word) → IsSolid word → AreSolid words → length (sentence (word ∷ words)) ≤ 1024
-    → full_reading_of (sentence (word ∷ words)) ≡ reading_of_words last_port verbs (word ∷ words)
+    → reading_of (sentence (word ∷ words)) ≡ reading_of_words last_port verbs (word ∷ words)
 unfolding reading_among
 line_read word words solid all short =
     let plain : without_return (sentence (word ∷ words)) ≡ sentence (word ∷ words) =
@@ -119,10 +119,10 @@ loss_read n fits = rw (word_read n fits) refl
 
 -- a command of one word
 plain_read : (word : Word) (command : Command) → IsSolid word → length word ≤ 1024 → reading_of_words last_port verbs (word ∷ []) ≡ Ok (Some command)
-    → full_reading_of (sentence (word ∷ [])) ≡ Ok (Some command)
+    → reading_of (sentence (word ∷ [])) ≡ Ok (Some command)
 plain_read word command solid short read = line_read word [] solid tt short ∙ read
 
-pub command-read_back : (command : Command) → IsCommand command → length (command_text command) ≤ 1024 → full_reading_of (command_text command) ≡ Ok (Some command)
+pub command-read_back : (command : Command) → IsCommand command → length (command_text command) ≤ 1024 → reading_of (command_text command) ≡ Ok (Some command)
 unfolding command_text reading_of_words command_among command_of
 command-read_back (Do.Post port at line) range short =
     line_read (codes "post") (decimal port ∷ decimal at ∷ line_text line ∷ []) (literal-solid (codes "post") refl refl)

@@ -1,5 +1,5 @@
--- What a command's text begins with, and what it asks of the command.
-use Rattle.std.specs.Prelude.{ℕ, ◌≤◌, codes, ⊤, Result, Ok}
+-- What the text of a command asks of the command.
+use Rattle.std.specs.Prelude.{ℕ, ◌≤◌, ⊤, Result, Ok}
 use Rattle.pmem_base.specs.declared.commands.Command.{Command}
 use Rattle.pmem_base.specs.declared.commands.Command.TheVariants as Do
 use Rattle.pmem_base.specs.declared.commands.Kind.{Kind}
@@ -8,27 +8,6 @@ use Rattle.pmem_base.specs.Ranges.{IsPartLine}
 use Rattle.collision_witness.specs.Words.{Word, hex_bytes, ◌>>=◌}
 use Rattle.plain_model.specs.Grammar.{padded_line}
 use Rattle.plain_model.specs.Words.{last_port}
-
--- the first word of a command
-abbrev pub name_of : Command → Word
-name_of (Do.Post port at line) = codes "post"
-name_of (Do.Part port at from count line) = codes "part"
-name_of (Do.Drain port) = codes "drain"
-name_of (Do.Fence port) = codes "fence"
-name_of (Do.Read port at) = codes "read"
-name_of Do.Turn = codes "turn"
-name_of Do.Flush = codes "flush"
-name_of (Do.Cut n) = codes "cut"
-name_of Do.Off = codes "off"
-name_of Do.On = codes "on"
-name_of (Do.Poke at line) = codes "poke"
-name_of (Do.Flip at bit) = codes "flip"
-name_of (Do.Move from to) = codes "move"
-name_of Do.Snap = codes "snap"
-name_of (Do.Back at) = codes "back"
-name_of (Do.Peek at) = codes "peek"
-name_of Do.Stat = codes "stat"
-name_of (Do.Loss n) = codes "loss"
 
 -- its port, where it has one, is at most this one
 abbrev pub HasPortWithin : ℕ → Command → Type 0

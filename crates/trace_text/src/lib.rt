@@ -15,7 +15,7 @@ mod writing;
 
 pub use answers::read_answer;
 pub use collision_witness::{push_bytes, push_number};
-pub use reading::{read_any_command, read_command};
+pub use reading::read_command;
 pub use samples::Maker;
 pub use spelling::write_command;
 pub use values::read_part;

@@ -4,9 +4,9 @@ ghost use Rattle.pmem_base.specs.declared.commands.Kind.TheVariants as Kind;
 ghost use Rattle.pmem_base.specs.Ranges.{IsCommand, IsPartLine};
 ghost use Rattle.collision_witness.specs.Words.{words_of, without_return, no_word};
 ghost use Rattle.collision_witness.specs.Views.{map_ok};
-ghost use Rattle.plain_model.specs.Grammar.{Reading, verbs, built_verbs, has_verb, command_among, reading_among, reading_of, full_reading_of, is_taken, post_values, part_values, read_values, poke_values};
-ghost use Rattle.trace_text.specs.Languages.{port_limit, verbs_in, IsSpelledIn};
-ghost use Rattle.trace_text.specs.Commands.{name_of, HasPortWithin, HasPartAtFront, IsWritable};
+ghost use Rattle.plain_model.specs.Words.{last_port};
+ghost use Rattle.plain_model.specs.Grammar.{Reading, verbs, command_among, reading_of, post_values, part_values, read_values, poke_values};
+ghost use Rattle.trace_text.specs.Commands.{HasPortWithin, HasPartAtFront, IsWritable};
 
 use crate::values::{read_one_number, read_one_port, read_part, read_port, read_two_numbers};
 use collision_witness::ranges::is_u64;
@@ -15,47 +15,8 @@ use collision_witness::{
 };
 use pmem_base::{Command, Kind, Line};
 
-/// The greatest port that the program takes so far.
-const GREATEST_PORT: u8 = 0;
-
-/// Whether a first word begins a command that the program takes so far.
-fn is_built(verb: &[u8]) -> bool
-    ensures { result ≡ has_verb built_verbs verb.now }
-{
-    verb == b"post".as_slice() || verb == b"drain".as_slice() || verb == b"read".as_slice()
-}
-
-/// How much of the language is read.
-#[derive(Clone, Copy, Debug, PartialEq, Eq)]
-enum Language {
-    /// All commands, at all eight ports.
-    Whole,
-    /// What the program takes so far.
-    Built,
-}
-
-impl Language {
-    /// The greatest port.
-    fn greatest_port(self) -> u8
-        ensures { result ≡ port_limit self }
-    {
-        match self {
-            Language::Whole => 7,
-            Language::Built => GREATEST_PORT,
-        }
-    }
-
-    /// Whether a word of the whole language is one of this.
-    fn has_verb(self, verb: &[u8]) -> bool
-        ensures whole { self ≡ Language.Whole → result ≡ true }
-        ensures built { self ≡ Language.Built → result ≡ has_verb built_verbs verb.now }
-    {
-        match self {
-            Language::Whole => true,
-            Language::Built => is_built(verb),
-        }
-    }
-}
+/// The greatest of the eight ports.
+const LAST_PORT: u8 = 7;
 
 /// Whether a text has no word.
 pub(crate) fn has_no_word(text: &[u8]) -> Result<(), Kind>
@@ -114,11 +75,10 @@ fn read_poke(text: &[u8]) -> Result<(u64, Line), Kind>
     Ok((at, line))
 }
 
-/// The command that begins with a first word, of all that there are.
+/// The command that begins with a first word.
 #[tactic(auto, unfolding(plain_model::specs::Grammar::command_among, plain_model::specs::Grammar::command_of))]
 fn read_verb(most: u8, verb: &[u8], text: &[u8]) -> Result<Command, Kind>
     ensures command { result ≡ command_among most verbs verb.now (words_of text.now) }
-    ensures named { IfOk result (λ command. name_of command ≡ verb.now) }
     ensures port { IfOk result (HasPortWithin most) }
     ensures part { IfOk result HasPartAtFront }
 {
@@ -217,24 +177,14 @@ pub(crate) fn is_in_range(command: Command)
     }
 }
 
-/// The command of a first word and the text behind it.
-#[tactic(auto, unfolding(plain_model::specs::Grammar::command_among))]
-fn read_words(language: Language, verb: &[u8], text: &[u8]) -> Result<Command, Kind>
-    ensures command { result ≡ command_among (port_limit language) (verbs_in language) verb.now (words_of text.now) }
-    ensures spelled { IfOk result (IsSpelledIn language) }
-{
-    if !language.has_verb(verb) {
-        return Err(Kind::Word);
-    }
-    read_verb(language.greatest_port(), verb, text)
-}
-
-/// The command of a line, as `read_command` and `read_any_command` give it.
+/// The command of a line, which is its bytes before its LF or the end of the trace, with its CR. A
+/// blank line and a comment have none. An error tells the first rule that the line breaks. What
+/// `write_command` writes is read back.
 #[tactic(auto, unfolding(plain_model::specs::Grammar::reading_among, plain_model::specs::Grammar::reading_of_words))]
-fn read_in(language: Language, line: &[u8]) -> Result<Option<Command>, Kind>
-    ensures reading { result ≡ reading_among (port_limit language) (verbs_in language) line.now }
+pub fn read_command(line: &[u8]) -> Result<Option<Command>, Kind>
+    ensures reading { result ≡ reading_of line.now }
     ensures range { IfOk result (λ found. IfSome found IsCommand) }
-    ensures spelled { IfOk result (λ found. IfSome found (IsSpelledIn language)) }
+    ensures writable { IfOk result (λ found. IfSome found IsWritable) }
 {
     if line.len() > 1024 {
         return Err(Kind::Long);
@@ -245,28 +195,7 @@ fn read_in(language: Language, line: &[u8]) -> Result<Option<Command>, Kind>
     if verb.first() == Some(&b'#') {
         return Ok(None);
     }
-    let command = read_words(language, verb, rest)?;
+    let command = read_verb(LAST_PORT, verb, rest)?;
     is_in_range(command);
     Ok(Some(command))
-}
-
-/// The command of a line, which is its bytes before its LF or the end of the trace, with its CR. A
-/// blank line and a comment have none. An error tells the first rule that the line breaks; a command
-/// that the program doesn't take so far is no word of its.
-pub fn read_command(line: &[u8]) -> Result<Option<Command>, Kind>
-    ensures reading { result ≡ reading_of line.now }
-    ensures range { IfOk result (λ found. IfSome found IsCommand) }
-    ensures taken { IfOk result (λ found. IfSome found (λ command. IsTrue (is_taken command))) }
-{
-    read_in(Language::Built, line)
-}
-
-/// The command of a line in the whole language, whatever the program takes so far: all commands, at
-/// all eight ports. What `write_command` writes is read back by it.
-pub fn read_any_command(line: &[u8]) -> Result<Option<Command>, Kind>
-    ensures reading { result ≡ full_reading_of line.now }
-    ensures range { IfOk result (λ found. IfSome found IsCommand) }
-    ensures writable { IfOk result (λ found. IfSome found IsWritable) }
-{
-    read_in(Language::Whole, line)
 }

@@ -1,8 +1,10 @@
 //! The commands of sample traces.
 ghost use Rattle.std.specs.Prelude.{◌≡◌, ◌+◌, ◌%◌, ◌^◌};
+ghost use Rattle.pmem_base.specs.Ranges.{IsCommand};
 ghost use Rattle.trace_text.specs.Commands.{IsWritable};
 ghost use Rattle.trace_text.specs.Samples.{sample_port, sample_place, sample_byte, sample_post, common_command, sample_command, state_of_seed, word_at, state_after_word};
 
+use crate::reading::is_in_range;
 use pmem_base::{Command, Line};
 use rand_xoshiro::SplitMix64;
 use rand_xoshiro::rand_core::SeedableRng;
@@ -108,9 +110,11 @@ impl Maker {
         ensures state { self.new.state ≡ state_after_word self.old.state }
         ensures number { self.new.number ≡ (self.old.number + 1) % 2 ^ 64 }
         ensures writable { IsWritable result }
+        ensures range { IsCommand result }
     {
         let word = self.words.next_word();
         let command = command_of(self.number, word);
+        is_in_range(command);
         self.number = self.number.wrapping_add(1);
         command
     }

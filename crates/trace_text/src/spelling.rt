@@ -1,7 +1,7 @@
 //! The texts of commands.
 ghost use Rattle.std.specs.Prelude.{◌≡◌, ◌<◌, ◌≤◌, ◌+◌, ◌*◌, ◌∷◌, ◌++◌, [], length, take, map, decimal, Ok, Some};
 ghost use Rattle.collision_witness.specs.Texts.{hex_text, line_text, sentence};
-ghost use Rattle.plain_model.specs.Grammar.{full_reading_of};
+ghost use Rattle.plain_model.specs.Grammar.{reading_of};
 ghost use Rattle.plain_model.specs.Texts.{command_text};
 ghost use Rattle.trace_text.specs.Commands.{IsWritable, HasPartAtFront};
 
@@ -77,12 +77,12 @@ fn push_command(text: &mut ArrayVec<u8, 512>, command: &Command)
     }
 }
 
-/// The text of a command, without its LF. `read_any_command` reads it back.
+/// The text of a command, without its LF. `read_command` reads it back.
 pub fn write_command(command: &Command) -> ArrayVec<u8, 512>
     requires { IsWritable command.now }
     ensures text { result.items ≡ command_text command.now }
     ensures room { length result.items < 512 }
-    ensures read_back { full_reading_of result.items ≡ Ok (Some command.now) }
+    ensures read_back { reading_of result.items ≡ Ok (Some command.now) }
 {
     is_in_range(*command);
     let mut text = ArrayVec::new();

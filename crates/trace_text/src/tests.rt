@@ -4,8 +4,8 @@ ghost use Rattle.plain_model.specs.Answers.{is_answer_to};
 ghost use Rattle.trace_text.specs.Answers.{HasSmallMinors};
 
 use crate::{
-    Maker, push_bytes, push_number, read_answer, read_any_command, read_command, write_answer,
-    write_command, write_mark,
+    Maker, push_bytes, push_number, read_answer, read_command, write_answer, write_command,
+    write_mark,
 };
 use arrayvec::ArrayVec;
 use pmem_base::{Answer, Command, Ctr, Exhibit, Kind, Line, Mark, Place, Stat};
@@ -66,7 +66,7 @@ fn reads_lines(rt: HostRuntime) -> Result<(), Fail> {
         ("read 0 18446744073709551615", last),
         ("read 0 18446744073709551616", Err(Kind::Number)),
         ("read 8 0", Err(Kind::Port)),
-        ("read 1 0", Err(Kind::Port)),
+        ("read 7 7", Ok(Some(Command::Read { port: 7, at: 7 }))),
         ("read x 0", Err(Kind::Number)),
         ("read 9 x", Err(Kind::Port)),
         ("read 0", Err(Kind::Count)),
@@ -75,7 +75,7 @@ fn reads_lines(rt: HostRuntime) -> Result<(), Fail> {
         ("read 0 7\r\r", Err(Kind::Number)),
         ("READ 0 7", Err(Kind::Word)),
         ("re\tad 0 7", Err(Kind::Word)),
-        ("turn", Err(Kind::Word)),
+        ("turn", Ok(Some(Command::Turn))),
         ("drain 000", drain),
         ("drain", Err(Kind::Count)),
         ("post 0 5 %aB", post),
@@ -130,7 +130,7 @@ fn reads_and_writes_commands(rt: HostRuntime) -> Result<(), Fail> {
         ("lose 16", Err(Kind::Word)),
     ] {
         let given = spelled(alloc, line)?;
-        match (read_any_command(given.as_bytes()), wanted) {
+        match (read_command(given.as_bytes()), wanted) {
             (Ok(Some(command)), Ok(text)) => {
                 let text = spelled(alloc, text)?;
                 assert_eq!(rt;

@@ -15,5 +15,5 @@ options-preserved c =
     let cut = one_first c.options.rest.now c.word-item.result c.in-len1-up.len_at_least c.word-item.is in
     let first = ap (λ words. take_options c.args.whole c.options.choices (map (string_bytes {Z = Rattle.std.proofs.Common.Global}) words)) cut in record {
       same = sym (rw c.as_str.ensures.value at c.in-Some.ensures.more) ∙ sym first ∙ c.options.invariant.same;
-      tag_key = c.in-Some.ensures.key;
+      chosen = c.in-Some.ensures.chosen;
     }

@@ -1,13 +1,13 @@
 use Rattle.std.proofs.Common.{◌≡◌, length}
 use Rattle.std.specs.Prelude.{map, string_bytes}
-use Rattle.pmem_cli.specs.Words.{take_options, no_choices, HasTagKey}
+use Rattle.pmem_cli.specs.Words.{take_options, no_choices, AreChosen}
 use Rattle.pmem_cli.proofs.options.read_options.Given as goal
 
 abbrev pub invariant-options : goal.invariant-options
 invariant-options l =
     record {
       same : take_options l.whole l.choices (map string_bytes l.rest) ≡ take_options l.whole no_choices (map string_bytes l.words);
-      tag_key : HasTagKey l.choices;
+      chosen : AreChosen l.choices;
     }
 
 abbrev pub decreases-options : goal.decreases-options

@@ -1,9 +1,11 @@
-use Rattle.std.proofs.Common.{◌≡◌, [], ap}
-use Rattle.std.specs.Prelude.{map, string_bytes, Some}
+use Rattle.std.proofs.Common.{rules, ◌≡◌, [], ap}
+use Rattle.std.specs.Prelude.{◌⊎◌, map, string_bytes, Some}
 use Rattle.pmem_cli.specs.declared.options.Task.{Task}
 use Rattle.pmem_cli.specs.Words.{task_of}
 use Rattle.pmem_cli.specs.Printed.{with_waiting}
-use Rattle.pmem_cli.specs.HasRun.{HasDone, HasEnded}
+use Rattle.pmem_cli.specs.Causes.{Rose}
+use Rattle.pmem_cli.specs.HasRun.{HasDone, HasEnded, IsComplete}
+use Rattle.pmem_cli.proofs.Completing.{complete}
 use Rattle.pmem_cli.proofs.StatusLemmas.{IfSome-map, none_of_some, HasDone-finished}
 use Rattle.pmem_cli.proofs.program.run.Goals as goal
 
@@ -30,3 +32,24 @@ returns-clause-told g c =
       front = c.finish.ensures.front;
     }))
     (rw c.new-printer.ensures at c.do_words-ending.ensures.ended)
+
+pub returns-clause-read : goal.returns-clause-read
+returns-clause-read g c = search rules
+
+pub returns-clause-write : goal.returns-clause-write
+returns-clause-write g c = search rules
+
+pub returns-clause-complete : goal.returns-clause-complete
+returns-clause-complete g c =
+    let words = map string_bytes c.args.words.now in
+    let trace = g.S.Source.left c.args.trace.now in
+    let left = g.S.Source.left c.do_words-ending.new.trace in
+    let before = g.K.Sink.put c.args.out.now in
+    let after = g.K.Sink.put c.finish.new.out in
+    let status = c.finish.result in
+    let reads = Rose (g.S.Source.faults c.args.trace.now) (g.S.Source.faults c.do_words-ending.new.trace) in
+    let writes = Rose (g.K.Sink.faults c.args.out.now) (g.K.Sink.faults c.finish.new.out) in
+    IfSome-map (task_of words) (λ (task : Task). HasDone task status trace left before after) (λ (task : Task). IsComplete task status trace (reads ⊎ writes))
+    (λ (task : Task) (some : task_of words ≡ Some task) (done : HasDone task status trace left before after).
+    complete task status trace left before after reads writes done (returns-clause-read g c) (returns-clause-write g c))
+    (returns-clause-told g c)

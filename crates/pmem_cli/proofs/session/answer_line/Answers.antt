@@ -1,39 +1,19 @@
-use Rattle.std.proofs.Common.{◌∷◌, [], refl, sym, append-nil}
+use Rattle.std.proofs.Common.{[], sym}
 use Rattle.pmem_cli.specs.Printed.{with_waiting}
-use Rattle.pmem_cli.specs.Running.{setup_of, step_of}
-use Rattle.pmem_cli.proofs.PrintLemmas.{Prints-nil}
-use Rattle.pmem_cli.proofs.RunLemmas.{IsRunFrom-skipped, IsRunFrom-step}
+use Rattle.pmem_cli.specs.Standing.{standing_of}
+use Rattle.pmem_cli.proofs.ServedLemmas.{HasAnswered-skipped, AnswersLine-asked}
 use Rattle.pmem_cli.proofs.session.answer_line.Goals as goal
 
 pub returns-in-Ok-None-clause-answered : goal.returns-in-Ok-None-clause-answered
 returns-in-Ok-None-clause-answered g c = (
   [],
-  record {
-    run = IsRunFrom-skipped (setup_of c.args.world.now) c.args.world.now.machine c.args.line.now (sym (rw c.in-Ok-None.field-0-is at c.in-Ok-None.ensures.reading));
-    setup = refl;
-    machine = refl;
-    printed = Prints-nil (with_waiting (g.K.Sink.put c.args.out.now) c.args.printer.now);
-  },
+  HasAnswered-skipped (standing_of g.U.Suite.formulas_of c.args.world.now) (with_waiting (g.K.Sink.put c.args.out.now) c.args.printer.now) c.args.line.now
+      c.requires.running (sym (rw c.in-Ok-None.field-0-is at c.in-Ok-None.ensures.reading)),
 )
 
-pub returns-in-Ok-clause-answered : goal.returns-in-Ok-clause-answered
-returns-in-Ok-clause-answered g c = (
-  step_of c.in-Ok-Some.command c.step-answer.result ∷ [],
-  record {
-    run =
-        IsRunFrom-step (setup_of c.args.world.now) c.args.world.now.machine c.args.line.now c.in-Ok-Some.command c.step-answer.result
-        (sym (rw c.in-Ok-Some.field-0-is at c.in-Ok-Some.ensures.reading)) c.step-answer.ensures.answered c.step-answer.ensures.no_exhibit;
-    setup = rw (c.step-answer.ensures.same_shape, c.step-answer.ensures.same_keys) refl;
-    machine = c.step-answer.ensures.after;
-    printed = rw append-nil c.in-Ok.ensures.ok;
-  },
-)
-
-pub returns-in-Err-print_answer-clause-answered : goal.returns-in-Err-print_answer-clause-answered
-returns-in-Err-print_answer-clause-answered g c = record {
-  steps = step_of c.in-Ok-Some.command c.step-answer.result ∷ [];
-  run =
-      IsRunFrom-step (setup_of c.args.world.now) c.args.world.now.machine c.args.line.now c.in-Ok-Some.command c.step-answer.result
-      (sym (rw c.in-Ok-Some.field-0-is at c.in-Ok-Some.ensures.reading)) c.step-answer.ensures.answered c.step-answer.ensures.no_exhibit;
-  front = rw append-nil c.in-Err-print_answer.ensures.err;
-}
+pub returns-in-Ok-Some-clause-answered : goal.returns-in-Ok-Some-clause-answered
+returns-in-Ok-Some-clause-answered g c =
+    AnswersLine-asked c.answer_command.result c.args.line.now c.args.number c.in-Ok-Some.command
+    (standing_of g.U.Suite.formulas_of c.args.world.now) (standing_of g.U.Suite.formulas_of c.answer_command.new.world)
+    (with_waiting (g.K.Sink.put c.args.out.now) c.args.printer.now) (with_waiting (g.K.Sink.put c.answer_command.new.out) c.answer_command.new.printer)
+    (sym (rw c.in-Ok-Some.field-0-is at c.in-Ok-Some.ensures.reading)) c.answer_command.ensures.answered

@@ -16,8 +16,9 @@ lines-init g c = record {
   steps = [];
   so_far =
       rw (c.new-reader.ensures, prepend_known-nil (g.S.Source.left c.args.trace.now))
-      (HasServed-nil (g.S.Source.left c.args.trace.now) (standing_of c.args.world.now) (with_waiting (g.K.Sink.put c.args.out.now) c.args.printer.now));
+      (HasServed-nil (g.S.Source.left c.args.trace.now) (standing_of g.U.Suite.formulas_of c.args.world.now) (with_waiting (g.K.Sink.put c.args.out.now) c.args.printer.now) c.requires.running);
   counted = refl;
+  running = c.requires.running;
   reads = omega arith;
   writes = omega arith;
 }
@@ -30,9 +31,9 @@ returns-in-Some-clause-stopped g c =
     let left = g.S.Source.left c.serve_next.new.trace in
     let from = with_waiting (g.K.Sink.put c.lines.out) c.lines.printer in
     let to = with_waiting (g.K.Sink.put c.serve_next.new.out) c.serve_next.new.printer in
-    HasStopped-after left (g.S.Source.left c.args.trace.now) ahead (standing_of c.args.world.now) (standing_of c.lines.world)
+    HasStopped-after left (g.S.Source.left c.args.trace.now) ahead (standing_of g.U.Suite.formulas_of c.args.world.now) (standing_of g.U.Suite.formulas_of c.lines.world)
     (with_waiting (g.K.Sink.put c.args.out.now) c.args.printer.now) from to before.lines before.steps c.in-Some.stop 0 before.so_far
-    (subst (λ n. HasStopped c.in-Some.stop ahead left (standing_of c.lines.world) from to n) so_far c.in-Some.ensures.turn)
+    (subst (λ n. HasStopped c.in-Some.stop ahead left (standing_of g.U.Suite.formulas_of c.lines.world) from to n) so_far c.in-Some.ensures.turn)
 
 pub lines-preserved : goal.lines-preserved
 lines-preserved g c =
@@ -43,11 +44,12 @@ lines-preserved g c =
       so_far =
           HasServed-trans (g.S.Source.left c.args.trace.now) (prepend_known c.lines.reader (g.S.Source.left c.lines.trace))
           (prepend_known c.serve_next.new.reader (g.S.Source.left c.serve_next.new.trace))
-          (standing_of c.args.world.now) (standing_of c.lines.world) (standing_of c.serve_next.new.world)
+          (standing_of g.U.Suite.formulas_of c.args.world.now) (standing_of g.U.Suite.formulas_of c.lines.world) (standing_of g.U.Suite.formulas_of c.serve_next.new.world)
           (with_waiting (g.K.Sink.put c.args.out.now) c.args.printer.now) (with_waiting (g.K.Sink.put c.lines.out) c.lines.printer)
           (with_waiting (g.K.Sink.put c.serve_next.new.out) c.serve_next.new.printer)
           before.lines (line ∷ []) before.steps more before.so_far turn;
       counted = rw length-append (omega (arith, before.counted));
+      running = turn.answered.on.running;
       reads = omega (arith, before.reads, c.serve_next.ensures.cause.reads);
       writes = omega (arith, before.writes, c.serve_next.ensures.cause.writes);
     }
@@ -59,9 +61,9 @@ returns-in-Err-clause-stopped g c =
     let left = g.S.Source.left c.lines.trace in
     let from = with_waiting (g.K.Sink.put c.lines.out) c.lines.printer in
     let to = with_waiting (g.K.Sink.put c.flush.new.out) c.flush.new.self in
-    HasStopped-after left (g.S.Source.left c.args.trace.now) ahead (standing_of c.args.world.now) (standing_of c.lines.world)
+    HasStopped-after left (g.S.Source.left c.args.trace.now) ahead (standing_of g.U.Suite.formulas_of c.args.world.now) (standing_of g.U.Suite.formulas_of c.lines.world)
     (with_waiting (g.K.Sink.put c.args.out.now) c.args.printer.now) from to before.lines before.steps WriteFault 0 before.so_far
-    (HasStopped-unput ahead left (standing_of c.lines.world) from to (0 + length before.lines) c.in-Err.ensures.err)
+    (HasStopped-unput ahead left (standing_of g.U.Suite.formulas_of c.lines.world) from to (0 + length before.lines) c.in-Err.ensures.err)
 
 pub returns-in-Err-is_ended-clause-stopped : goal.returns-in-Err-is_ended-clause-stopped
 returns-in-Err-is_ended-clause-stopped g c =
@@ -69,12 +71,12 @@ returns-in-Err-is_ended-clause-stopped g c =
     let initial = g.S.Source.left c.args.trace.now in
     let ahead = prepend_known c.lines.reader (g.S.Source.left c.lines.trace) in
     let left = g.S.Source.left c.is_ended.new.source in
-    let world = standing_of c.lines.world in
+    let world = standing_of g.U.Suite.formulas_of c.lines.world in
     let first = with_waiting (g.K.Sink.put c.args.out.now) c.args.printer.now in
     let from = with_waiting (g.K.Sink.put c.lines.out) c.lines.printer in
     let to = with_waiting (g.K.Sink.put c.flush.new.out) c.flush.new.self in
-    let put = HasServed-put initial ahead (standing_of c.args.world.now) world first from to before.lines before.steps before.so_far c.in-Ok.ensures.ok in
-    HasStopped-after left initial ahead (standing_of c.args.world.now) world first to to before.lines before.steps ReadFault 0 put
+    let put = HasServed-put initial ahead (standing_of g.U.Suite.formulas_of c.args.world.now) world first from to before.lines before.steps before.so_far c.in-Ok.ensures.ok in
+    HasStopped-after left initial ahead (standing_of g.U.Suite.formulas_of c.args.world.now) world first to to before.lines before.steps ReadFault 0 put
     (HasStopped-fault ahead left world to [] (0 + length before.lines) (Consumes-kept ahead ahead left [] (Consumes-nil ahead) c.in-Err-is_ended.ensures.fault)
     (All-nil (λ b. is_line_end b ≡ false)) (omega (arith, before.counted)) (omega (arith, before.counted)) (λ full. refl))
 
@@ -85,8 +87,8 @@ returns-in-Ok-true-clause-stopped g c =
     let ahead = prepend_known c.lines.reader (g.S.Source.left c.lines.trace) in
     let left = g.S.Source.left c.is_ended.new.source in
     let now = prepend_known c.is_ended.new.self left in
-    let start = standing_of c.args.world.now in
-    let world = standing_of c.lines.world in
+    let start = standing_of g.U.Suite.formulas_of c.args.world.now in
+    let world = standing_of g.U.Suite.formulas_of c.lines.world in
     let first = with_waiting (g.K.Sink.put c.args.out.now) c.args.printer.now in
     let from = with_waiting (g.K.Sink.put c.lines.out) c.lines.printer in
     let to = with_waiting (g.K.Sink.put c.flush.new.out) c.flush.new.self in
@@ -102,8 +104,8 @@ returns-in-Ok-false-clause-stopped g c =
     let ahead = prepend_known c.lines.reader (g.S.Source.left c.lines.trace) in
     let left = g.S.Source.left c.is_ended.new.source in
     let now = prepend_known c.is_ended.new.self left in
-    let start = standing_of c.args.world.now in
-    let world = standing_of c.lines.world in
+    let start = standing_of g.U.Suite.formulas_of c.args.world.now in
+    let world = standing_of g.U.Suite.formulas_of c.lines.world in
     let first = with_waiting (g.K.Sink.put c.args.out.now) c.args.printer.now in
     let from = with_waiting (g.K.Sink.put c.lines.out) c.lines.printer in
     let to = with_waiting (g.K.Sink.put c.flush.new.out) c.flush.new.self in

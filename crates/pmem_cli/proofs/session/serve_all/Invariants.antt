@@ -1,4 +1,4 @@
-use Rattle.std.proofs.Common.{◌≡◌, ◌≤◌, ℕ, List, length}
+use Rattle.std.proofs.Common.{◌≡◌, ◌≤◌, ℕ, false, List, length}
 use Rattle.std.specs.Io.KnownBytes.{prepend_known}
 use Rattle.plain_model.specs.Run.{Step}
 use Rattle.pmem_cli.specs.Printed.{with_waiting}
@@ -13,9 +13,10 @@ invariant-lines g l =
       steps : List Step;
       so_far :
           HasServed (g.S.Source.left l.initial.trace) (prepend_known l.reader (g.S.Source.left l.trace))
-          (standing_of l.initial.world) (standing_of l.world)
+          (standing_of g.U.Suite.formulas_of l.initial.world) (standing_of g.U.Suite.formulas_of l.world)
           (with_waiting (g.K.Sink.put l.initial.out) l.initial.printer) (with_waiting (g.K.Sink.put l.out) l.printer) lines steps;
       counted : length lines ≡ l.served;
+      running : l.world.shown ≡ false;
       reads : g.S.Source.faults l.initial.trace ≤ g.S.Source.faults l.trace;
       writes : g.K.Sink.faults l.initial.out ≤ g.K.Sink.faults l.out;
     }

@@ -1,0 +1,20 @@
+use Rattle.std.proofs.Common.{◌≡◌, ◌+◌, ◌++◌, ◌∷◌, [], ℕ, false, List}
+use Rattle.pmem_base.specs.declared.commands.Command.TheVariants as Do
+use Rattle.plain_model.specs.Run.{Step}
+use Rattle.trace_text.specs.Samples.{sample_trace, commands_from}
+use Rattle.pmem_cli.specs.Standing.{standing_of}
+use Rattle.pmem_cli.specs.Sampled.{HasCome}
+use Rattle.pmem_cli.proofs.sampling.replay_sample.Given as goal
+
+abbrev pub invariant-commands : goal.invariant-commands
+invariant-commands g l =
+    record {
+      steps : List Step;
+      left : ℕ;
+      counted : l.made + left ≡ l.count;
+      number : l.maker.number ≡ l.made + 1;
+      running : l.world.shown ≡ false;
+      come :
+          HasCome (standing_of g.U.Suite.formulas_of l.initial.world) (standing_of g.U.Suite.formulas_of l.world) (sample_trace l.seed l.count)
+          (commands_from l.maker.state l.maker.number left ++ Do.Stat ∷ []) steps;
+    }

@@ -1,0 +1,26 @@
+-- What a run says where nothing was tampered with: no reply is a refusal, and an exhibit is a twin.
+use Rattle.std.specs.Prelude.{◌≡◌, ⊤, false, List, All}
+use Rattle.pmem_base.specs.declared.answers.Answer.{Answer}
+use Rattle.pmem_base.specs.declared.answers.Answer.TheVariants as Say
+use Rattle.pmem_base.specs.declared.answers.Exhibit.{Exhibit}
+use Rattle.pmem_base.specs.declared.answers.Exhibit.TheVariants.{Twin}
+use Rattle.suite.specs.Setup.{Setup}
+use Rattle.plain_model.specs.State.{has_flags}
+use Rattle.plain_model.specs.Run.{Step, start, machine_after_all}
+
+abbrev pub IsTwinShown : Exhibit → Type 0
+IsTwinShown (Twin at major low high cipher tag) = ⊤
+IsTwinShown exhibit = ⊥
+
+abbrev pub IsUnrefused : Answer → Type 0
+IsUnrefused (Say.Refused drained place steps) = ⊥
+IsUnrefused (Say.NoCounter at steps) = ⊥
+IsUnrefused (Say.WrongRoot kept found steps) = ⊥
+IsUnrefused (Say.Shown exhibit) = IsTwinShown exhibit
+IsUnrefused answer = ⊤
+
+-- where no device line is named after these steps, each of them is so
+abbrev pub IsUntampered : Setup → List Step → Type 0
+IsUntampered setup steps =
+    has_flags (machine_after_all setup (start setup) steps).state.named ≡ false
+    → All (λ step. IsUnrefused step.reply.answer) steps

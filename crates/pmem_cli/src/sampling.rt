@@ -1,0 +1,116 @@
+//! Sample traces, run.
+ghost use Rattle.std.specs.Prelude.{◌≡◌, IfOk, Some, false};
+ghost use Rattle.pmem_base.specs.Geo.{shape_of};
+ghost use Rattle.plain_model.specs.Defaults.{default_setup};
+ghost use Rattle.trace_text.specs.Answers.{HasSmallMinors};
+ghost use Rattle.trace_text.specs.Samples.{sample_trace};
+ghost use Rattle.pmem_cli.specs.HasRun.{HasRunSample};
+ghost use Rattle.pmem_cli.specs.Printed.{with_waiting};
+ghost use Rattle.pmem_cli.specs.Sampled.{HasReached, HasToldSample};
+ghost use Rattle.pmem_cli.specs.Served.{StopsByCause};
+ghost use Rattle.pmem_cli.specs.Standing.{standing_of};
+
+use crate::options::Choices;
+use crate::printer::Printer;
+use crate::session::is_shown;
+use crate::sink::Sink;
+use crate::source::Failed;
+use plain_model::Stop;
+use pmem_base::{Answer, Command, Geo, MemFault};
+use pmem_replay::World;
+use std::alloc::Global;
+use suite::Counted;
+use trace_text::Maker;
+
+/// Runs the sample trace of a seed and a count, and gives the last answer: that of its `stat`, or an
+/// exhibit, which ends the run.
+#[tactic(auto, unfolding(trace_text::specs::Samples::sample_trace))]
+fn replay_sample<U: Counted + Drop>(
+    alloc: Global,
+    seed: u64,
+    count: u32,
+    world: &mut World<U>,
+) -> Result<Answer, MemFault>
+    requires running { world.old.shown ≡ false }
+    ensures reached { IfOk result (HasReached (standing_of U.formulas_of world.old) (sample_trace seed count)) }
+    ensures minors { IfOk result HasSmallMinors }
+{
+    let mut maker = Maker::new(seed);
+    'commands: for made in 0..count {
+        let command = maker.next();
+        let reply = world.step(alloc, &command)?;
+        if is_shown(&reply.answer) {
+            return Ok(reply.answer);
+        }
+    }
+    let reply = world.step(alloc, &Command::Stat)?;
+    Ok(reply.answer)
+}
+
+/// Prints the last answer of a sample trace over a new world, and says why the run stops.
+fn tell_sample<U: Counted + Drop, K: Sink>(
+    alloc: Global,
+    seed: u64,
+    count: u32,
+    world: &mut World<U>,
+    printer: &mut Printer,
+    out: &mut K,
+) -> Stop
+    requires running { world.old.shown ≡ false }
+    ensures told { HasToldSample result (standing_of U.formulas_of world.old) (sample_trace seed count)
+        (with_waiting (K.put out.old) printer.old) (with_waiting (K.put out.new) printer.new) }
+    ensures cause { StopsByCause (Some result) 0 0 (K.faults out.old) (K.faults out.new) }
+{
+    let Ok(answer) = replay_sample(alloc, seed, count, world) else {
+        return Stop::Memory;
+    };
+    match printer.print_answer(out, &answer) {
+        Err(Failed) => Stop::WriteFault,
+        Ok(()) => {
+            if is_shown(&answer) {
+                Stop::Shown
+            } else {
+                Stop::Finished
+            }
+        }
+    }
+}
+
+/// Runs the sample trace of a seed and a count over a new world of this geometry and suite, prints the last
+/// answer, and says why the run stops.
+fn sample_with<U: Counted + Drop, K: Sink>(
+    alloc: Global,
+    seed: u64,
+    count: u32,
+    geo: Geo,
+    suite: U,
+    printer: &mut Printer,
+    out: &mut K,
+) -> Stop
+    ensures run { HasRunSample (record { shape = shape_of geo; formulas = U.formulas_of (U.keys suite) }) (sample_trace seed count) result
+        (with_waiting (K.put out.old) printer.old) (with_waiting (K.put out.new) printer.new) }
+    ensures cause { StopsByCause (Some result) 0 0 (K.faults out.old) (K.faults out.new) }
+{
+    match World::new(alloc, geo, suite) {
+        Ok(mut world) => tell_sample(alloc, seed, count, &mut world, printer, out),
+        Err(_) => Stop::Memory,
+    }
+}
+
+/// Runs the sample trace of a seed and a count with the defaults, prints the last answer, and says why the
+/// run stops.
+pub(crate) fn sample<K: Sink>(
+    alloc: Global,
+    seed: u64,
+    count: u32,
+    printer: &mut Printer,
+    out: &mut K,
+) -> Stop
+    ensures run { HasRunSample default_setup (sample_trace seed count) result
+        (with_waiting (K.put out.old) printer.old) (with_waiting (K.put out.new) printer.new) }
+    ensures cause { StopsByCause (Some result) 0 0 (K.faults out.old) (K.faults out.new) }
+{
+    let choices = Choices::none();
+    let (geo, suite) = (choices.geometry(), choices.aes_suite());
+    sample_with(alloc, seed, count, geo, suite, printer, out)
+}
