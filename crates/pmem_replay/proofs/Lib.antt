@@ -24,6 +24,7 @@ pub mod TamperLaws
 pub mod OnLaws
 pub mod OnSteps
 pub mod NewSteps
+pub mod GivenSteps
 pub mod RefusedOn
 pub mod TableLaws
 pub mod PeekLaws
