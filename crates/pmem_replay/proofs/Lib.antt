@@ -25,6 +25,7 @@ pub mod OnLaws
 pub mod OnSteps
 pub mod NewSteps
 pub mod GivenSteps
+pub mod DrainSteps
 pub mod RefusedOn
 pub mod TableLaws
 pub mod PeekLaws

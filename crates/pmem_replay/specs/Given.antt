@@ -6,7 +6,10 @@ use Rattle.pmem_base.specs.declared.commands.Posted.{Posted}
 use Rattle.pmem_base.specs.declared.answers.Mark.{Mark}
 use Rattle.pmem_base.specs.declared.answers.Exhibit.{Exhibit}
 use Rattle.pmem_base.specs.declared.answers.Place.{Place}
+use Rattle.pmem_base.specs.declared.answers.Answer.{Answer}
+use Rattle.pmem_base.specs.declared.answers.Answer.TheVariants as Say
 use Rattle.pmem_base.specs.Lines.{IsLine}
+use Rattle.seal_ledger.specs.Notes.{HasRoom}
 use Rattle.suite.specs.Setup.{Setup}
 use Rattle.plain_model.specs.State.{PlainState, queue_of, memory_with, no_writes, without_flag}
 use Rattle.plain_model.specs.After.{after_marks, steps_with}
@@ -127,3 +130,18 @@ IsGave (Err (Fail.Spent page)) put steps gave = gave ≡ Spent page steps
 IsGave (Err Fail.Cut) true steps gave = gave ≡ Kept steps
 IsGave (Err Fail.Cut) false steps gave = gave ≡ Lost steps
 IsGave (Err fault) put steps gave = ⊥
+
+-- what a drain answers
+abbrev pub IsDrained : Gave → Answer → Type 0
+IsDrained (Put steps) answer = answer ≡ Say.Drained steps
+IsDrained (Refused place steps) answer = answer ≡ Say.Refused None place steps
+IsDrained (Spent page steps) answer = answer ≡ Say.Spent None page steps
+IsDrained (Kept steps) answer = answer ≡ Say.CutKept None steps
+IsDrained (Lost steps) answer = answer ≡ Say.CutLost None steps
+IsDrained (Shown exhibit) answer = answer ≡ Say.Shown exhibit
+
+-- room was made for more marks, and nothing else was done
+pub record HasRoomMade (setup : Setup) (old : WorldState) (more : ℕ) (new : WorldState) : Type 0 where
+  pub same : new ≡ record old { ledger = new.ledger }
+  pub room : HasRoom old.ledger new.ledger more
+  pub holds : IsWorld setup new

@@ -1,18 +1,21 @@
 //! Waiting writes, given to the engine one by one.
-ghost use Rattle.std.specs.Prelude.{◌≡◌, ◌<◌, ◌≤◌, false, length, slice_set, drop, None, IsSome, if◌then◌else◌};
+ghost use Rattle.std.specs.Prelude.{◌≡◌, ◌<◌, ◌≤◌, false, length, slice_set, drop, None, IsSome, is_some, IfOk, OnOk, OnErr, if◌then◌else◌};
+ghost use Rattle.pmem_base.specs.declared.commands.Command.TheVariants as Do;
 ghost use Rattle.plain_model.specs.State.{queue_of};
+ghost use Rattle.pmem_replay.specs.Replies.{with_marks_since};
+ghost use Rattle.pmem_replay.specs.Stepped.{HasStepped};
 ghost use Rattle.pmem_engine.specs.Outcomes.{is_sealed_by};
-ghost use Rattle.pmem_replay.specs.World.{setup_of};
-ghost use Rattle.pmem_replay.specs.Given.{HasGiven, IsGave, is_fault_shown, is_fault_cut, is_fault_down};
+ghost use Rattle.pmem_replay.specs.World.{IsWorld, setup_of};
+ghost use Rattle.pmem_replay.specs.Given.{HasGiven, HasRoomMade, IsGave, IsDrained, is_fault_shown, is_fault_cut, is_fault_down};
 ghost use Rattle.seal_ledger.specs.View.{ledger_of};
 ghost use Rattle.write_ports.specs.Queues.{no_writes};
 
 use crate::World;
 use crate::calls;
 use crate::serving::exhibit_of;
-use pmem_base::{Ctr, Exhibit, Mark, Place};
+use pmem_base::{Answer, Ctr, Exhibit, Mark, MemFault, Place};
 use pmem_engine::{Engine, Fault};
-use seal_ledger::Ledger;
+use seal_ledger::{Audit, Ledger};
 use suite::Counted;
 use write_ports::Ports;
 
@@ -28,6 +31,59 @@ pub(crate) enum Gave {
 }
 
 impl<S: Counted + Drop> World<S> {
+    /// A law: what the world always holds until an answer was an exhibit.
+    fn holds(&self)
+        requires { self.now.shown ≡ false }
+        ensures { IsWorld (setup_of S.formulas_of self.now) self.now }
+    {
+        let _ = &self.shown;
+    }
+
+    /// Whether power is on.
+    fn is_on(&self) -> bool
+        ensures { result ≡ is_some self.now.engine }
+    {
+        self.engine.is_some()
+    }
+
+    /// How many writes wait at the port.
+    fn waiting(&self, port: u8) -> u8
+        requires { port < 8 }
+        ensures value { result ≡ length (queue_of self.now.state.queues port) }
+        ensures most { result < 17 }
+    {
+        self.ports.waiting(port)
+    }
+
+    /// Makes room for `more` marks.
+    fn make_room(&mut self, more: u32) -> Result<(), MemFault>
+        requires { self.old.shown ≡ false }
+        ensures ok { OnOk result (HasRoomMade (setup_of S.formulas_of self.old) self.old more self.new) }
+        ensures err { OnErr result (self.new ≡ self.old) }
+    {
+        self.ledger.reserve(more)?;
+        Ok(())
+    }
+
+    /// The port's oldest write is drained.
+    pub(crate) fn drain(&mut self, port: u8) -> Result<Answer, MemFault>
+        requires shown { self.old.shown ≡ false }
+        requires port { port < 8 }
+        ensures stepped { IfOk result (λ answer. HasStepped (setup_of S.formulas_of self.old) self.old (Do.Drain port) (with_marks_since self.old self.new answer) self.new) }
+        ensures err { OnErr result (self.new ≡ self.old) }
+    {
+        self.holds();
+        if !self.is_on() {
+            return Ok(Answer::Off);
+        }
+        if self.waiting(port) == 0 {
+            return Ok(Answer::Empty);
+        }
+        self.make_room(66)?;
+        let gave = self.give(port);
+        Ok(drained(gave))
+    }
+
     /// The port's oldest write is given to the engine.
     pub(crate) fn give(&mut self, port: u8) -> Gave
         requires shown { self.old.shown ≡ false }
@@ -65,6 +121,34 @@ impl<S: Counted + Drop> World<S> {
         move_on(&mut self.ports, port, goes);
         keep(&mut self.engine, goes);
         became(done.answer, put, steps)
+    }
+}
+
+/// What a drain answers.
+fn drained(gave: Gave) -> Answer
+    ensures { IsDrained gave result }
+{
+    match gave {
+        Gave::Put { steps } => Answer::Drained { steps },
+        Gave::Refused { place, steps } => Answer::Refused {
+            drained: None,
+            place,
+            steps,
+        },
+        Gave::Spent { page, steps } => Answer::Spent {
+            drained: None,
+            page,
+            steps,
+        },
+        Gave::Kept { steps } => Answer::CutKept {
+            drained: None,
+            steps,
+        },
+        Gave::Lost { steps } => Answer::CutLost {
+            drained: None,
+            steps,
+        },
+        Gave::Shown(exhibit) => Answer::Shown(exhibit),
     }
 }
 
