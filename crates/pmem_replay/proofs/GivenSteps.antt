@@ -1,19 +1,16 @@
 -- A waiting write is given to the engine: the state and the world after it.
-use Rattle.std.proofs.Common.{ℕ, ◌≡◌, ◌≢◌, ◌<◌, ◌≤◌, ◌+◌, ◌-◌, ◌++◌, Bool, true, false, List, [], inl, inr, ◌⊎◌, ◌∷◌, Option, Some, None, Ok, Err, IsTrue, refl, sym, ap, subst, ◌∙◌, arith}
-use Rattle.std.specs.Prelude.{Result, option_map, is_some, slice_set, slice_get, length, drop, not, All, IsSome, if◌then◌else◌}
+use Rattle.std.proofs.Common.{ℕ, ◌≡◌, ◌<◌, ◌≤◌, ◌++◌, Bool, true, false, List, [], inl, inr, ◌⊎◌, ◌∷◌, Option, Some, None, Ok, Err, refl, sym, ap, subst, ◌∙◌, arith}
+use Rattle.std.specs.Prelude.{Result, slice_set, slice_get, length, drop, not, All, IsSome, if◌then◌else◌}
 use Rattle.std.proofs.lemmas.Option.{same_Some, none-some}
 use Rattle.std.proofs.lemmas.Bool.{true≢false}
-use Rattle.std.proofs.lemmas.List.{append-nil, length-append}
+use Rattle.std.proofs.lemmas.List.{length-append}
 use Rattle.std.proofs.Math.Seq.{drop-append_seam}
-use Rattle.pmem_base.specs.declared.lines.Line.{Line}
 use Rattle.pmem_base.specs.declared.lines.Ctr.{Ctr}
 use Rattle.pmem_base.specs.declared.commands.Posted.{Posted}
 use Rattle.pmem_base.specs.declared.commands.Command.TheVariants as Do
 use Rattle.pmem_base.specs.declared.answers.Mark.{Mark}
 use Rattle.pmem_base.specs.declared.answers.Exhibit.{Exhibit}
-use Rattle.pmem_base.specs.declared.answers.Place.{Place}
 use Rattle.pmem_base.specs.Layout as layout
-use Rattle.pmem_base.specs.Shape.{Shape}
 use Rattle.board.specs.Memory.{Memory}
 use Rattle.meta_cache.specs.Banks.{IsBanksOf}
 use Rattle.seal_ledger.specs.Ledger.{LedgerState, IsMark}
@@ -27,7 +24,7 @@ use Rattle.pmem_engine.specs.Engine.{EngineState}
 use Rattle.pmem_engine.specs.Outcomes.{going, cut, outcome_of, is_sealed_by, HasDone, LeavesTrusted}
 use Rattle.pmem_engine.specs.Calls.{HasWrittenLine}
 use Rattle.pmem_replay.specs.Flagged.{Tampering, Dirtying, with_tampering, with_dirtying}
-use Rattle.pmem_replay.specs.World.{WorldState, WorldParts, IsMemoryOf, IsOn, IsWorld, plain_memory, state_in, world_of}
+use Rattle.pmem_replay.specs.World.{WorldState, WorldParts, IsOn, IsWorld, plain_memory, state_in, world_of}
 use Rattle.pmem_replay.specs.declared.taken.Taken.{Taken}
 use Rattle.pmem_replay.specs.During.{none_taken, steps_in, parts_in}
 use Rattle.pmem_replay.specs.Given.{given_state, WasGiven, IsGiven, IsGivenShown, HasGiven, IsGave, is_fault_shown, is_fault_cut, is_fault_down}
@@ -419,9 +416,11 @@ module _ (setup : Setup) (p : WorldParts) (keys : List ℕ) (board : Memory) (le
     pub given_as : (answer : Result Ctr Fault) (gave : Gave) → Was answer → is_fault_shown answer ≡ false → goes ≡ not (is_fault_cut answer)
         → IsGave answer put n gave → HasGiven setup first port gave its_new
     given_as (Ok ctr) gave written quiet goes_is is =
-        subst (λ g. HasGiven setup first port g its_new) (sym is)
-        (ctr, as_on (Ok ctr) true written refl goes_is
-        (ok_sealed setup first first port 0 [] 0 drained served.going.whole small write later waits its_new engine after taken its_call ctr written))
+        subst (λ g. HasGiven setup first port g its_new) (sym is) (
+          ctr,
+          as_on (Ok ctr) true written refl goes_is
+              (ok_sealed setup first first port 0 [] 0 drained served.going.whole small write later waits its_new engine after taken its_call ctr written),
+        )
     given_as (Err (Fail.Meta x)) gave written quiet goes_is is =
         subst (λ g. HasGiven setup first port g its_new) (sym is)
         (as_on (Err (Fail.Meta x)) false written refl goes_is

@@ -1,5 +1,5 @@
 -- What refusals and exhibits show of the device as it stands afterwards.
-use Rattle.std.proofs.Common.{ℕ, ◌≡◌, ◌≢◌, ◌<◌, ◌≤◌, ◌+◌, ◌-◌, ◌*◌, ◌^◌, List, Option, Some, None, refl, sym, ap, subst, ◌∙◌, arith, lit<}
+use Rattle.std.proofs.Common.{ℕ, ◌≡◌, ◌≢◌, ◌<◌, ◌≤◌, ◌+◌, ◌^◌, List, Option, Some, None, refl, sym, ap, subst, ◌∙◌, arith, lit<}
 use Rattle.std.specs.Prelude.{All, IfSome, option_map}
 use Rattle.std.proofs.Math.Nat.{pow-le-pow_right}
 use Rattle.std.proofs.lemmas.Option.{same_Some, none-some}
@@ -73,12 +73,14 @@ pub clash_sight : (setup : Setup) (old new : WorldState) (engine after : EngineS
 clash_sight setup old new engine after taken page exhibit shape within whole truth clash its =
     let in_tree = on_path-within setup.shape page clash.x within clash.fetched.on_path in
     subst (λ e. IsExhibitValue e × IsExhibitSeen setup new e)
-    (same_Some (Clash clash.x clash.line (line_at old.ledger.truth clash.x)) exhibit (sym clash.exhibit ∙ its))
-    ((
-      small_position setup.shape shape clash.x in_tree,
-      subst IsLine (sym clash.fetched.read) (IsLine-line_at new.board.lines (layout.meta_line setup.shape clash.x) whole),
-      IsLine-line_at old.ledger.truth clash.x truth,
-    ), clash.fetched.read)
+    (same_Some (Clash clash.x clash.line (line_at old.ledger.truth clash.x)) exhibit (sym clash.exhibit ∙ its)) (
+      (
+        small_position setup.shape shape clash.x in_tree,
+        subst IsLine (sym clash.fetched.read) (IsLine-line_at new.board.lines (layout.meta_line setup.shape clash.x) whole),
+        IsLine-line_at old.ledger.truth clash.x truth,
+      ),
+      clash.fetched.read,
+    )
 
 -- the counter of a last seal is in its range
 pub seal_counter : (g : Shape) (marks : List Mark) (a : ℕ) (ctr : Ctr) → All (IsMark g) marks → option_map (λ s. s.ctr) (last_seal marks a) ≡ Some ctr → IsCtr ctr
@@ -99,16 +101,18 @@ forged_sight_by setup new after taken a exhibit shape in_range within whole forg
     let cipher_whole : IsLine forged.cipher =
     subst IsLine (sym forged.unsealed.cipher_read) (IsLine-line_at new.board.lines a whole) in
     subst (λ e. IsExhibitValue e × IsExhibitSeen setup new e)
-    (same_Some (Forged a forged.ctr forged.cipher forged.tag) exhibit (sym forged.exhibit ∙ its))
-    ((
-      small_line setup.shape shape a within,
-      counter,
-      cipher_whole,
-      subst IsTag forged.right_tag (in_range.tags a forged.ctr forged.cipher counter cipher_whole),
-    ), (
-      forged.unsealed.cipher_read,
-      sym forged.unsealed.its_slot ∙ ap (λ line. tag_slot line a) forged.unsealed.tag_read,
-    ))
+    (same_Some (Forged a forged.ctr forged.cipher forged.tag) exhibit (sym forged.exhibit ∙ its)) (
+      (
+        small_line setup.shape shape a within,
+        counter,
+        cipher_whole,
+        subst IsTag forged.right_tag (in_range.tags a forged.ctr forged.cipher counter cipher_whole),
+      ),
+      (
+        forged.unsealed.cipher_read,
+        sym forged.unsealed.its_slot ∙ ap (λ line. tag_slot line a) forged.unsealed.tag_read,
+      ),
+    )
 
 -- a forged seal shows a line and a slot of the device, and its numbers and bytes are in range
 pub forged_sight : (setup : Setup) (new : WorldState) (after : EngineState) (taken : Taken) (a : ℕ) (exhibit : Exhibit)

@@ -1,9 +1,7 @@
 -- One waiting write given to the engine, and what became of it.
-use Rattle.std.specs.Prelude.{ℕ, ◌≡◌, ◌-◌, ◌++◌, Bool, true, false, List, ◌∷◌, Option, Some, None, Result, Ok, Err, option_map, slice_set, length, All, if◌then◌else◌}
-use Rattle.pmem_base.specs.declared.lines.Line.{Line}
+use Rattle.std.specs.Prelude.{ℕ, ◌≡◌, ◌-◌, ◌++◌, Bool, true, false, List, ◌∷◌, Some, None, Result, Ok, Err, option_map, slice_set, All, if◌then◌else◌}
 use Rattle.pmem_base.specs.declared.lines.Ctr.{Ctr}
 use Rattle.pmem_base.specs.declared.commands.Posted.{Posted}
-use Rattle.pmem_base.specs.declared.answers.Mark.{Mark}
 use Rattle.pmem_base.specs.declared.answers.Exhibit.{Exhibit}
 use Rattle.pmem_base.specs.declared.answers.Place.{Place}
 use Rattle.pmem_base.specs.declared.answers.Answer.{Answer}

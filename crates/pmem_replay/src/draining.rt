@@ -10,9 +10,8 @@ ghost use Rattle.pmem_replay.specs.Given.{HasGiven, HasRoomMade, IsGave, IsDrain
 ghost use Rattle.seal_ledger.specs.View.{ledger_of};
 ghost use Rattle.write_ports.specs.Queues.{no_writes};
 
-use crate::World;
-use crate::calls;
 use crate::serving::exhibit_of;
+use crate::{World, calls};
 use pmem_base::{Answer, Ctr, Exhibit, Mark, MemFault, Place};
 use pmem_engine::{Engine, Fault};
 use seal_ledger::{Audit, Ledger};

@@ -1,23 +1,22 @@
 -- A waiting write is given to the engine.
-use Rattle.std.proofs.Common.{arith, rules, ◌≡◌, ◌∷◌, ap, refl, sym, subst, ◌∙◌, Ok, Err, Some, None}
+use Rattle.std.proofs.Common.{arith, ◌≡◌, ◌∷◌, ap, sym, subst, ◌∙◌, Some}
 use Rattle.std.specs.Prelude.{ℕ, List, drop, length, not, true, false}
 use Rattle.pmem_base.specs.Geo.{shape_of}
 use Rattle.pmem_base.specs.Shape.{Shape}
 use Rattle.board.specs.MemBoard.{memory_of}
 use Rattle.seal_ledger.specs.View.{ledger_of}
-use Rattle.suite.specs.Setup.{Setup}
 use Rattle.meta_cache.specs.Banks.{IsBanksOf}
 use Rattle.plain_model.specs.State.{PlainState, queue_of}
 use Rattle.plain_model.specs.After.{after_marks}
 use Rattle.pmem_engine.specs.Outcomes.{is_sealed_by}
 use Rattle.pmem_replay.specs.Flagged.{with_dirtying}
 use Rattle.pmem_engine.specs.Calls.{HasWrittenLine}
-use Rattle.pmem_replay.specs.World.{WorldParts, WorldState, IsWorld, setup_of, state_in, world_of}
+use Rattle.pmem_replay.specs.World.{WorldParts, WorldState, IsWorld, setup_of, world_of}
 use Rattle.pmem_replay.specs.During.{none_taken, parts_in}
-use Rattle.pmem_replay.specs.Given.{HasGiven, IsGivenShown, is_fault_shown}
+use Rattle.pmem_replay.specs.Given.{HasGiven, IsGivenShown}
 use Rattle.pmem_replay.proofs.Served.{IsServed, called}
 use Rattle.pmem_replay.proofs.Held.{held, setup_in, going_in, shape_in}
-use Rattle.pmem_replay.proofs.GivenSteps.{Has, front_is, moved_as, given_up, given_exhibit, given_shown, given_marks, given_longer, given_within, given_as, given_world}
+use Rattle.pmem_replay.proofs.GivenSteps.{Has, front_is, moved_as, given_exhibit, given_shown, given_marks, given_longer, given_within, given_as, given_world}
 use Rattle.pmem_replay.proofs.world.World.give.Goals as goal
 
 pub exhibit_of-requires : goal.exhibit_of-requires

@@ -1,9 +1,9 @@
 -- Room for marks is made.
-use Rattle.std.proofs.Common.{◌≡◌, refl, sym, subst}
+use Rattle.std.proofs.Common.{subst}
 use Rattle.pmem_base.specs.Geo.{shape_of}
 use Rattle.board.specs.MemBoard.{memory_of}
 use Rattle.seal_ledger.specs.View.{ledger_of}
-use Rattle.pmem_replay.specs.World.{WorldParts, WorldState, IsWorld, setup_of, world_of}
+use Rattle.pmem_replay.specs.World.{WorldParts, WorldState, setup_of, world_of}
 use Rattle.pmem_replay.specs.Given.{HasRoomMade}
 use Rattle.pmem_replay.proofs.Reserved.{reserved, room_made}
 use Rattle.pmem_replay.proofs.Held.{held, setup_in, going_in}
