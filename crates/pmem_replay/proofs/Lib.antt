@@ -26,6 +26,7 @@ pub mod OnSteps
 pub mod NewSteps
 pub mod GivenSteps
 pub mod DrainSteps
+pub mod FenceSteps
 pub mod RefusedOn
 pub mod TableLaws
 pub mod PeekLaws
