@@ -27,6 +27,7 @@ pub mod NewSteps
 pub mod GivenSteps
 pub mod DrainSteps
 pub mod FenceSteps
+pub mod FenceLaws
 pub mod RefusedOn
 pub mod TableLaws
 pub mod PeekLaws

@@ -1,5 +1,5 @@
 -- One waiting write given to the engine, and what became of it.
-use Rattle.std.specs.Prelude.{ℕ, ◌≡◌, ◌-◌, ◌++◌, Bool, true, false, List, ◌∷◌, Some, None, Result, Ok, Err, option_map, slice_set, All, if◌then◌else◌}
+use Rattle.std.specs.Prelude.{ℕ, ⊤, ◌≡◌, ◌+◌, ◌-◌, ◌++◌, Bool, true, false, List, ◌∷◌, Some, None, Result, Ok, Err, option_map, slice_set, All, if◌then◌else◌}
 use Rattle.pmem_base.specs.declared.lines.Ctr.{Ctr}
 use Rattle.pmem_base.specs.declared.commands.Posted.{Posted}
 use Rattle.pmem_base.specs.declared.answers.Exhibit.{Exhibit}
@@ -137,6 +137,27 @@ IsDrained (Spent page steps) answer = answer ≡ Say.Spent None page steps
 IsDrained (Kept steps) answer = answer ≡ Say.CutKept None steps
 IsDrained (Lost steps) answer = answer ≡ Say.CutLost None steps
 IsDrained (Shown exhibit) answer = answer ≡ Say.Shown exhibit
+
+-- what a fence answers that ends with this write, after n drained ones that took `spent` steps
+abbrev pub IsEnded : Gave → ℕ → ℕ → Answer → Type 0
+IsEnded (Put steps) n spent answer = ⊥
+IsEnded (Refused place steps) n spent answer = answer ≡ Say.Refused (Some n) place (spent + steps)
+IsEnded (Spent page steps) n spent answer = answer ≡ Say.Spent (Some n) page (spent + steps)
+IsEnded (Kept steps) n spent answer = answer ≡ Say.CutKept (Some n) (spent + steps)
+IsEnded (Lost steps) n spent answer = answer ≡ Say.CutLost (Some n) (spent + steps)
+IsEnded (Shown exhibit) n spent answer = answer ≡ Say.Shown exhibit
+
+abbrev pub IsNotPut : Gave → Type 0
+IsNotPut (Put steps) = ⊥
+IsNotPut gave = ⊤
+
+abbrev pub gave_steps : Gave → ℕ
+gave_steps (Put steps) = steps
+gave_steps (Refused place steps) = steps
+gave_steps (Spent page steps) = steps
+gave_steps (Kept steps) = steps
+gave_steps (Lost steps) = steps
+gave_steps (Shown exhibit) = 0
 
 -- room was made for more marks, and nothing else was done
 pub record HasRoomMade (setup : Setup) (old : WorldState) (more : ℕ) (new : WorldState) : Type 0 where

@@ -1,12 +1,12 @@
 //! Waiting writes, given to the engine one by one.
-ghost use Rattle.std.specs.Prelude.{◌≡◌, ◌<◌, ◌≤◌, false, length, slice_set, drop, None, IsSome, is_some, IfOk, OnOk, OnErr, if◌then◌else◌};
+ghost use Rattle.std.specs.Prelude.{◌≡◌, ◌<◌, ◌≤◌, ◌*◌, false, length, slice_set, drop, None, IsSome, is_some, IfOk, OnOk, OnErr, if◌then◌else◌};
 ghost use Rattle.pmem_base.specs.declared.commands.Command.TheVariants as Do;
 ghost use Rattle.plain_model.specs.State.{queue_of};
 ghost use Rattle.pmem_replay.specs.Replies.{with_marks_since};
 ghost use Rattle.pmem_replay.specs.Stepped.{HasStepped};
 ghost use Rattle.pmem_engine.specs.Outcomes.{is_sealed_by};
 ghost use Rattle.pmem_replay.specs.World.{IsWorld, setup_of};
-ghost use Rattle.pmem_replay.specs.Given.{HasGiven, HasRoomMade, IsGave, IsDrained, is_fault_shown, is_fault_cut, is_fault_down};
+ghost use Rattle.pmem_replay.specs.Given.{HasGiven, HasRoomMade, IsGave, IsDrained, IsEnded, IsNotPut, gave_steps, is_fault_shown, is_fault_cut, is_fault_down};
 ghost use Rattle.seal_ledger.specs.View.{ledger_of};
 ghost use Rattle.write_ports.specs.Queues.{no_writes};
 
@@ -83,6 +83,49 @@ impl<S: Counted + Drop> World<S> {
         Ok(drained(gave))
     }
 
+    /// All writes of the port are drained, the oldest first.
+    pub(crate) fn fence(&mut self, port: u8) -> Result<Answer, MemFault>
+        requires shown { self.old.shown ≡ false }
+        requires port { port < 8 }
+        ensures stepped { IfOk result (λ answer. HasStepped (setup_of S.formulas_of self.old) self.old (Do.Fence port) (with_marks_since self.old self.new answer) self.new) }
+        ensures err { OnErr result (self.new ≡ self.old) }
+    {
+        self.holds();
+        if !self.is_on() {
+            return Ok(Answer::Off);
+        }
+        let count = self.waiting(port);
+        self.make_room(66 * u32::from(count))?;
+        Ok(self.drain_all(port, count))
+    }
+
+    /// The writes of the port, so many, are drained.
+    fn drain_all(&mut self, port: u8, count: u8) -> Answer
+        requires shown { self.old.shown ≡ false }
+        requires port { port < 8 }
+        requires on { IsSome self.old.engine }
+        requires count { count ≡ length (queue_of self.old.state.queues port) }
+        requires most { count < 17 }
+        requires room { 66 * count ≤ self.old.ledger.spare }
+        ensures { HasStepped (setup_of S.formulas_of self.old) self.old (Do.Fence port) (with_marks_since self.old self.new result) self.new }
+    {
+        self.holds();
+        let mut done: u8 = 0;
+        let mut steps: u64 = 0;
+        'writes: while done < count {
+            let more = match self.give(port) {
+                Gave::Put { steps } => steps,
+                stopped => return ended(stopped, done, steps),
+            };
+            done += 1;
+            steps += more;
+        }
+        Answer::Fenced {
+            drained: done,
+            steps,
+        }
+    }
+
     /// The port's oldest write is given to the engine.
     pub(crate) fn give(&mut self, port: u8) -> Gave
         requires shown { self.old.shown ≡ false }
@@ -146,6 +189,37 @@ fn drained(gave: Gave) -> Answer
         Gave::Lost { steps } => Answer::CutLost {
             drained: None,
             steps,
+        },
+        Gave::Shown(exhibit) => Answer::Shown(exhibit),
+    }
+}
+
+/// What a fence answers that ends with this write, after `done` drained ones that took so many steps.
+fn ended(gave: Gave, done: u8, steps: u64) -> Answer
+    requires small { steps ≤ 65536 * 16 }
+    requires few { gave_steps gave ≤ 65536 }
+    requires put { IsNotPut gave }
+    ensures { IsEnded gave done steps result }
+{
+    match gave {
+        Gave::Put { .. } => unreachable!(),
+        Gave::Refused { place, steps: more } => Answer::Refused {
+            drained: Some(done),
+            place,
+            steps: steps + more,
+        },
+        Gave::Spent { page, steps: more } => Answer::Spent {
+            drained: Some(done),
+            page,
+            steps: steps + more,
+        },
+        Gave::Kept { steps: more } => Answer::CutKept {
+            drained: Some(done),
+            steps: steps + more,
+        },
+        Gave::Lost { steps: more } => Answer::CutLost {
+            drained: Some(done),
+            steps: steps + more,
         },
         Gave::Shown(exhibit) => Answer::Shown(exhibit),
     }
