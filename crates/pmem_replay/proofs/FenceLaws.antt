@@ -2,12 +2,15 @@
 use Rattle.std.proofs.Common.{ℕ, suc, ◌≡◌, ◌<◌, ◌≤◌, ◌+◌, ◌-◌, ◌*◌, ◌++◌, ◌^◌, Bool, true, false, List, [], ◌∷◌, Option, Some, None, Ok, Err, refl, sym, ap, subst, ◌∙◌, arith}
 use Rattle.std.specs.Prelude.{MatchOption, length, drop, IsSome}
 use Rattle.std.proofs.lemmas.Bool.{true≢false}
+use Rattle.std.proofs.lemmas.Option.{none-some}
 use Rattle.std.proofs.lemmas.List.{length-drop}
+use Rattle.pmem_base.specs.declared.commands.Command.{Command}
 use Rattle.pmem_base.specs.declared.commands.Command.TheVariants as Do
 use Rattle.pmem_base.specs.declared.answers.Answer.{Answer}
 use Rattle.pmem_base.specs.declared.answers.Answer.TheVariants as Say
 use Rattle.pmem_base.specs.declared.answers.Mark.{Mark}
 use Rattle.pmem_base.specs.declared.answers.Place.{Place}
+use Rattle.seal_ledger.specs.Ledger.{LedgerState}
 use Rattle.suite.specs.Formulas.{Formulas}
 use Rattle.suite.specs.Setup.{Setup}
 use Rattle.plain_model.specs.State.{PlainState, Reply, queue_of}
@@ -16,10 +19,10 @@ use Rattle.plain_model.specs.Answers.{decided_answer}
 use Rattle.pmem_engine.specs.Engine.{EngineState}
 use Rattle.pmem_replay.specs.World.{WorldState, IsWorld, view_in, setup_of}
 use Rattle.pmem_replay.specs.Replies.{with_marks_since}
-use Rattle.pmem_replay.specs.Given.{HasGiven, IsEnded, IsNotPut, gave_steps}
+use Rattle.pmem_replay.specs.Given.{HasRoomMade, HasGiven, IsEnded, IsNotPut, gave_steps}
 use Rattle.pmem_replay.specs.declared.draining.Gave.{Gave}
 use Rattle.pmem_replay.specs.declared.draining.Gave.TheVariants.{Put, Refused, Spent, Kept, Lost, Shown}
-use Rattle.pmem_replay.specs.Stepped.{HasStepped}
+use Rattle.pmem_replay.specs.Stepped.{HasStepped, IsByTable, IsSeen}
 use Rattle.pmem_replay.proofs.AskedMarks.{asked_form, asked_few}
 use Rattle.pmem_replay.proofs.Called.{on_in}
 use Rattle.pmem_replay.proofs.DrainChain.{drained_none}
@@ -28,6 +31,7 @@ use Rattle.pmem_replay.proofs.DrainedLaws.{fenced-good, fenced-after}
 use Rattle.pmem_replay.proofs.FenceSteps.{IsFencing, fence-put, fence-meta, fence-tag, fence-spent, fence-kept, fence-lost, fence-shown}
 use Rattle.pmem_replay.proofs.Held.{since}
 use Rattle.pmem_replay.proofs.OpenPages.{whole_pages}
+use Rattle.pmem_replay.proofs.Reserved.{with_spare, room_is}
 use Rattle.pmem_replay.proofs.Stepping.{stepped_by_engine}
 use Rattle.pmem_replay.proofs.TableSteps.{lit_in}
 
@@ -172,3 +176,81 @@ fence_done formulas_of mid now port count done steps whole counted most draining
     f.drained.marks
     (λ quiet. fenced-after setup mid now port done draining.made steps f.drained)
     (λ quiet. f.drained.world) f.snapshot tt)
+
+-- ---- where room was made before
+
+-- a fence shows nothing of the world before it
+seen_before : (setup : Setup) (old before new : WorldState) (port : ℕ) (answer : Answer)
+    → IsSeen setup before (Do.Fence port) answer new → IsSeen setup old (Do.Fence port) answer new
+seen_before setup old before new port Say.Ok it = it
+seen_before setup old before new port (Say.Drained steps) it = it
+seen_before setup old before new port (Say.Fenced drained steps) it = it
+seen_before setup old before new port (Say.Turned left steps) it = it
+seen_before setup old before new port (Say.Flushed x steps) it = it
+seen_before setup old before new port (Say.Got line steps) it = it
+seen_before setup old before new port (Say.CutKept drained steps) it = it
+seen_before setup old before new port (Say.CutLost drained steps) it = it
+seen_before setup old before new port (Say.Cut steps) it = it
+seen_before setup old before new port (Say.Refused drained place steps) it = it
+seen_before setup old before new port (Say.Spent drained page steps) it = it
+seen_before setup old before new port (Say.Recovered trials digests steps) it = it
+seen_before setup old before new port (Say.NoCounter at steps) it = it
+seen_before setup old before new port (Say.WrongRoot kept found steps) it = it
+seen_before setup old before new port (Say.Raw line) it = it
+seen_before setup old before new port (Say.Counts counts) it = it
+seen_before setup old before new port (Say.LossSet steps) it = it
+seen_before setup old before new port Say.Full it = it
+seen_before setup old before new port Say.Empty it = it
+seen_before setup old before new port Say.Idle it = it
+seen_before setup old before new port Say.Clean it = it
+seen_before setup old before new port Say.Off it = it
+seen_before setup old before new port Say.Already it = it
+seen_before setup old before new port Say.Range it = it
+seen_before setup old before new port Say.NoSnap it = it
+seen_before setup old before new port (Say.Shown exhibit) it = it
+
+parts_before : (decided : Option Answer) (A : Type 0) (B C : Answer → Type 0) → decided ≡ None → MatchOption decided A B → MatchOption decided A C
+parts_before None A B C none parts = parts
+parts_before (Some answer) A B C none parts = absurd (none-some answer (sym none))
+
+no_stat : (port : ℕ) → Do.Fence port ≡ Do.Stat → ⊥
+no_stat port same = true≢false (ap is_fence same)
+  where
+    is_fence : Command → Bool
+    is_fence (Do.Fence port) = true
+    is_fence command = false
+
+pub fence_before : (formulas_of : List ℕ → Formulas) (old mid new : WorldState) (port more : ℕ) → HasRoomMade (setup_of formulas_of old) old more mid
+    → old.state.power ≡ true → (answer : Answer)
+    → HasStepped (setup_of formulas_of mid) mid (Do.Fence port) (with_marks_since mid new answer) new
+    → HasStepped (setup_of formulas_of old) old (Do.Fence port) (with_marks_since old new answer) new
+fence_before formulas_of old mid new port more made lit answer step =
+    let before : WorldState = record old { ledger = with_spare old.ledger mid.ledger.spare } in
+    let same : mid ≡ before =
+    made.same ∙ ap (λ (l : LedgerState). record old { ledger = l }) (room_is old.ledger mid.ledger more made.room) in
+    let its : HasStepped (setup_of formulas_of old) before (Do.Fence port) (with_marks_since before new answer) new =
+    subst (λ (w : WorldState). HasStepped (setup_of formulas_of w) w (Do.Fence port) (with_marks_since w new answer) new) same step in
+    let none : decided_answer old.shape old.state (Do.Fence port) ≡ None = rw lit refl in
+    record {
+      same_shape = its.same_shape;
+      same_keys = its.same_keys;
+      same_start = its.same_start;
+      listed = its.listed;
+      in_range = its.in_range;
+      legal = its.legal;
+      fits = λ exact. its.fits (λ stat. absurd (no_stat port stat));
+      marks = its.marks;
+      shown = its.shown;
+      state = its.state;
+      holds = its.holds;
+      parts =
+          parts_before (decided_answer old.shape old.state (Do.Fence port)) (new.board.snapshot ≡ old.board.snapshot)
+          (λ answer. IsByTable before (Do.Fence port) answer new) (λ answer. IsByTable old (Do.Fence port) answer new) none its.parts;
+      seen = seen_before (setup_of formulas_of old) old before new port answer its.seen;
+    }
+
+-- power is on where there is an engine
+pub on_lit : (setup : Setup) (world : WorldState) → IsWorld setup world → IsSome world.engine → world.state.power ≡ true
+on_lit setup world whole some =
+    let found = some_engine world.engine some in
+    lit_in setup world found.0 whole found.1
