@@ -1,5 +1,5 @@
 -- A fence: writes drained one by one, and the one that ends it.
-use Rattle.std.proofs.Common.{ℕ, suc, ◌≡◌, ◌<◌, ◌≤◌, ◌+◌, ◌-◌, ◌*◌, ◌++◌, ◌^◌, Bool, true, false, List, [], ◌∷◌, Option, Some, None, Ok, Err, refl, sym, ap, subst, ◌∙◌, arith}
+use Rattle.std.proofs.Common.{ℕ, suc, ◌≡◌, ◌<◌, ◌≤◌, ◌+◌, ◌*◌, ◌++◌, Bool, true, false, List, [], Option, Some, None, refl, sym, ap, subst, ◌∙◌, arith}
 use Rattle.std.specs.Prelude.{MatchOption, length, drop, IsSome}
 use Rattle.std.proofs.lemmas.Bool.{true≢false}
 use Rattle.std.proofs.lemmas.Option.{none-some}
@@ -13,13 +13,13 @@ use Rattle.pmem_base.specs.declared.answers.Place.{Place}
 use Rattle.seal_ledger.specs.Ledger.{LedgerState}
 use Rattle.suite.specs.Formulas.{Formulas}
 use Rattle.suite.specs.Setup.{Setup}
-use Rattle.plain_model.specs.State.{PlainState, Reply, queue_of}
+use Rattle.plain_model.specs.State.{PlainState, queue_of}
 use Rattle.plain_model.specs.Asked.{moment_of, marks_of_write}
 use Rattle.plain_model.specs.Answers.{decided_answer}
 use Rattle.pmem_engine.specs.Engine.{EngineState}
 use Rattle.pmem_replay.specs.World.{WorldState, IsWorld, view_in, setup_of}
 use Rattle.pmem_replay.specs.Replies.{with_marks_since}
-use Rattle.pmem_replay.specs.Given.{HasRoomMade, HasGiven, IsEnded, IsNotPut, gave_steps}
+use Rattle.pmem_replay.specs.Given.{HasRoomMade, HasGiven, IsEnded, gave_steps}
 use Rattle.pmem_replay.specs.declared.draining.Gave.{Gave}
 use Rattle.pmem_replay.specs.declared.draining.Gave.TheVariants.{Put, Refused, Spent, Kept, Lost, Shown}
 use Rattle.pmem_replay.specs.Stepped.{HasStepped, IsByTable, IsSeen}

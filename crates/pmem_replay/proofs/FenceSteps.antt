@@ -1,10 +1,9 @@
 -- A fence with a write that ends it: what the world answers, and what becomes of it.
-use Rattle.std.proofs.Common.{ℕ, suc, ◌*◌, ◌≡◌, ◌<◌, ◌≤◌, ◌+◌, ◌++◌, ◌^◌, true, false, inl, inr, List, [], ◌∷◌, Some, None, Ok, Err, refl, sym, ap, subst, ◌∙◌, arith}
-use Rattle.std.specs.Prelude.{Result, ◌==◌, ⊤, MatchBool, MatchOption, option_map, length, if◌then◌else◌}
-use Rattle.std.proofs.lemmas.Bool.{true≢false, false_from_ne_true, le-leb, ne_eqb}
+use Rattle.std.proofs.Common.{ℕ, suc, ◌*◌, ◌≡◌, ◌<◌, ◌≤◌, ◌+◌, ◌++◌, ◌^◌, true, false, inl, inr, List, [], Some, None, Ok, Err, refl, sym, ap, subst, ◌∙◌, arith}
+use Rattle.std.specs.Prelude.{Result, option_map}
+use Rattle.std.proofs.lemmas.Bool.{true≢false, false_from_ne_true}
 use Rattle.std.proofs.lemmas.List.{append-nil, append_assoc}
 use Rattle.pmem_base.specs.declared.lines.Ctr.{Ctr}
-use Rattle.pmem_base.specs.declared.commands.Posted.{Posted}
 use Rattle.pmem_base.specs.declared.commands.Command.TheVariants as Do
 use Rattle.pmem_base.specs.declared.answers.Answer.{Answer}
 use Rattle.pmem_base.specs.declared.answers.Answer.TheVariants as Say
@@ -15,29 +14,20 @@ use Rattle.pmem_base.specs.declared.answers.Exhibit.{Exhibit}
 use Rattle.pmem_base.specs.Marks.{last_seal}
 use Rattle.pmem_base.specs.Ranges.{IsAnswer, IsExhibitValue}
 use Rattle.meta_cache.specs.Banks.{IsBanksOf}
-use Rattle.seal_ledger.specs.Ledger.{LedgerState}
-use Rattle.seal_ledger.specs.Notes.{HasRoom}
-use Rattle.suite.specs.Formulas.{Formulas}
 use Rattle.suite.specs.Setup.{Setup}
-use Rattle.plain_model.specs.State.{PlainState, Reply}
-use Rattle.plain_model.specs.Legal.{front_of}
+use Rattle.plain_model.specs.State.{PlainState}
 use Rattle.plain_model.specs.Asked.{moment_of, marks_of_write}
-use Rattle.plain_model.specs.Bounds.{path_length, dirty_bound, is_spent_in_flight}
-use Rattle.plain_model.specs.After.{state_after, after_marks, steps_of, is_cut}
+use Rattle.plain_model.specs.After.{state_after, after_marks}
 use Rattle.plain_model.specs.Answers.{decided_answer, is_shown}
 use Rattle.pmem_engine.specs.declared.fault.Fault.{Fault}
 use Rattle.pmem_engine.specs.declared.fault.Fault.TheVariants as Fail
 use Rattle.pmem_engine.specs.Outcomes.{is_sealed_by}
-use Rattle.pmem_engine.specs.Calls.{HasWrittenLine, IsPartOf}
-use Rattle.pmem_replay.specs.World.{WorldState, IsOn, IsWorld, view_in, setup_of}
+use Rattle.pmem_engine.specs.Calls.{IsPartOf}
+use Rattle.pmem_replay.specs.World.{WorldState, IsOn, IsWorld, view_in}
 use Rattle.pmem_replay.specs.declared.taken.Taken.{Taken}
 use Rattle.pmem_replay.specs.During.{steps_in}
-use Rattle.pmem_replay.specs.Given.{given_state, WasGiven, IsGiven, IsGivenShown, HasGiven, HasRoomMade, IsDrained}
-use Rattle.pmem_replay.specs.Replies.{with_marks_since}
-use Rattle.pmem_replay.specs.declared.draining.Gave.{Gave}
-use Rattle.pmem_replay.specs.declared.draining.Gave.TheVariants.{Put, Refused, Spent, Kept, Lost, Shown}
-use Rattle.pmem_replay.proofs.Held.{since}
-use Rattle.pmem_replay.specs.Stepped.{HasStepped, HasCalled, IsDrainAnswer, IsSeen, IsExhibitSeen}
+use Rattle.pmem_replay.specs.Given.{given_state, WasGiven, IsGiven, IsGivenShown}
+use Rattle.pmem_replay.specs.Stepped.{HasStepped, IsSeen, IsExhibitSeen}
 use Rattle.pmem_replay.proofs.AfterMarks.{touched_after, flushed_after, with_flags, after_marks-is}
 use Rattle.pmem_replay.proofs.Called.{on_in, IsCall}
 use Rattle.pmem_replay.proofs.Causes.{on_path-within, forged_unstored, shown_uncut}
@@ -45,12 +35,10 @@ use Rattle.pmem_replay.proofs.AskedMarks.{refused_within}
 use Rattle.pmem_replay.proofs.OpenPages.{whole_pages}
 use Rattle.pmem_replay.proofs.SealedMarks.{last_seal-unsealed}
 use Rattle.pmem_replay.proofs.DrainChain.{IsDrainedTo, drained-more}
-use Rattle.pmem_replay.proofs.DrainedLaws.{drained-good, drained-after}
 use Rattle.pmem_replay.proofs.Goods.{IsGood}
 use Rattle.pmem_replay.proofs.SealedLines.{same_truth}
 use Rattle.pmem_replay.proofs.Sights.{meta_wrong, tag_wrong, small_position, small_line, clash_sight, forged_sight_by, seal_counter}
 use Rattle.pmem_replay.proofs.Stepping.{stepped_by_engine}
-use Rattle.pmem_replay.proofs.TableSteps.{IsGoingOn, lit_in}
 use Rattle.pmem_replay.proofs.WriteLaws.{shown-good, meta-good, tag-good, spent-good, spent-bound, lost-good, kept-good, cut-bound, lost-unsealed, kept-sealed}
 use Rattle.pmem_replay.proofs.WriteReplies.{IsWriting, fence_is_writing, after_refused, after_spent, after_lost, after_kept}
 use Rattle.pmem_replay.proofs.WriteWorlds.{front_on_memory}
@@ -296,4 +284,3 @@ module _ (setup : Setup) (mid now new : WorldState) (port : ℕ) (small : port <
       (λ quiet. absurd (true≢false quiet))
       (λ quiet. absurd (true≢false quiet))
       sight.1
-
