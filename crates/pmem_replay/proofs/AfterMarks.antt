@@ -71,6 +71,7 @@ length-touched_after touched (mark ∷ marks) = length-touched_after (touched_af
     choice : (b : Bool) (p : ℕ) → length (cond b (with_flag touched p) touched) ≡ length touched
     choice true p = length-set touched p true
     choice false p = refl
+
     one : (mark : Mark) → length (touched_after_mark touched mark) ≡ length touched
     one (Begin page) = length-set touched page true
     one (Seal at ctr cipher tag) = choice (nat_lt 0 ctr.minor) (page_of at)
@@ -83,6 +84,7 @@ length-flushed_after g flushed (mark ∷ marks) whole = length-flushed_after g (
     choice : (b : Bool) → length (cond b (no_flags (layout.meta_lines g)) flushed) ≡ layout.meta_lines g
     choice true = length-no_flags (layout.meta_lines g)
     choice false = whole
+
     one : (mark : Mark) → length (flushed_after_mark g flushed mark) ≡ layout.meta_lines g
     one (Begin page) = length-no_flags (layout.meta_lines g)
     one (Seal at ctr cipher tag) = choice (nat_lt 0 ctr.minor)
@@ -148,15 +150,18 @@ may_be-mark g touched flushed mark x it = one mark
   where
     parts : (is_touched_block g touched x ≡ true) × (not (is_flagged flushed x) ≡ true)
     parts = and_parts (is_touched_block g touched x) (not (is_flagged flushed x)) it
+
     with_page : (page : ℕ) → may_be g (with_flag touched page) (no_flags (layout.meta_lines g)) x ≡ true
     with_page page =
         and_from (is_touched_block g (with_flag touched page) x) (not (is_flagged (no_flags (layout.meta_lines g)) x))
         (touched_more g touched (with_flag touched page) x (flag_kept touched page) parts.0)
         (ap not (unflagged (layout.meta_lines g) x))
+
     choice : (b : Bool) (page : ℕ)
         → may_be g (cond b (with_flag touched page) touched) (cond b (no_flags (layout.meta_lines g)) flushed) x ≡ true
     choice true page = with_page page
     choice false page = it
+
     one : (mark : Mark) → may_be g (touched_after_mark touched mark) (flushed_after_mark g flushed mark) x ≡ true
     one (Begin page) = with_page page
     one (Seal at ctr cipher tag) = choice (nat_lt 0 ctr.minor) (page_of at)

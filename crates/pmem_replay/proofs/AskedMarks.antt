@@ -50,12 +50,14 @@ apart_page f now page a (i ∷ left) small apart =
   where
     within : i < 64
     within = All-head (λ i. i < 64) i left small
+
     other : 64 * page + i ≡ a → ⊥
     other same =
         let its : page ≡ page_of a = omega (arith, same, within) in
         let place : i ≡ index_in_page a = omega (arith, same, within) in
         true≢false (sym (ap (λ b. cond b (list_any (λ j. j == index_in_page a) (i ∷ left)) false) (eq-eqb page (page_of a) its)
         ∙ or_left (i == index_in_page a) (list_any (λ j. j == index_in_page a) left) (eq-eqb i (index_in_page a) place)) ∙ apart)
+
     rest : cond (page == page_of a) (list_any (λ j. j == index_in_page a) left) false ≡ false
     rest =
         elim (cases_Bool (page == page_of a)) [
@@ -98,9 +100,11 @@ finished_apart g a page view each = of_page (open_page view page) refl
     first_apart : (pages : List OpenPage) → All (IsPageApart g a) pages → MatchOption (first_of pages) ⊤ (IsPageApart g a)
     first_apart [] each = tt
     first_apart (opened ∷ pages) each = All-head (IsPageApart g a) opened pages each
+
     oldest : (b : Bool) → MatchOption (cond b (first_of view.open_pages) None) ⊤ (IsPageApart g a)
     oldest true = first_apart view.open_pages each
     oldest false = tt
+
     of_page : (found : Option OpenPage) → open_page view page ≡ found → MatchOption (page_to_finish view found) ⊤ (IsPageApart g a)
     of_page None none = oldest (nat_le 4 (length view.open_pages))
     of_page (Some opened) there =
@@ -114,10 +118,13 @@ asked_form g f now write marks whole asked =
   where
     last : Ctr
     last = counter_at now.view write.at
+
     plain : Line
     plain = put_write (line_at now.memory write.at) write
+
     finishing : List Mark
     finishing = finishing_marks_of f now (page_to_finish now.view (open_page now.view (page_of write.at)))
+
     alone : (ctr : Ctr) → Some (seal_mark f write.at ctr plain ∷ []) ≡ Some marks → IsAsked f write marks
     alone ctr it =
         record {
@@ -128,6 +135,7 @@ asked_form g f now write marks whole asked =
           apart = refl;
           few = omega arith;
         }
+
     rolled : is_left now.view write.at ≡ false
         → Some (finishing ++ Begin (page_of write.at) ∷ seal_mark f write.at (next_major last 1) plain ∷ []) ≡ Some marks
         → IsAsked f write marks
@@ -145,9 +153,13 @@ asked_form g f now write marks whole asked =
               ∙ or_from (is_sealed_by finishing write.at) false
               (apart_marks g f now write.at (page_to_finish now.view (open_page now.view (page_of write.at))) page) refl;
           few =
-              omega (arith, length-append finishing (Begin (page_of write.at) ∷ []),
-              few_marks g f now write.at (page_to_finish now.view (open_page now.view (page_of write.at))) page);
+              omega (
+                arith,
+                length-append finishing (Begin (page_of write.at) ∷ []),
+                few_marks g f now write.at (page_to_finish now.view (open_page now.view (page_of write.at))) page,
+              );
         }
+
     by_case : (held low used : Bool) → is_left now.view write.at ≡ held
         → cond held (Some (seal_mark f write.at (next_major last 1) plain ∷ []))
         (cond low (Some (seal_mark f write.at (record last { minor = last.minor + 1 }) plain ∷ []))
@@ -222,9 +234,11 @@ finished_whole g page view each = of_page (open_page view page) refl
     first_whole : (pages : List OpenPage) → All (IsWholePage g) pages → MatchOption (first_of pages) ⊤ (IsWholePage g)
     first_whole [] each = tt
     first_whole (opened ∷ pages) each = All-head (IsWholePage g) opened pages each
+
     oldest : (b : Bool) → MatchOption (cond b (first_of view.open_pages) None) ⊤ (IsWholePage g)
     oldest true = first_whole view.open_pages each
     oldest false = tt
+
     of_page : (found : Option OpenPage) → open_page view page ≡ found → MatchOption (page_to_finish view found) ⊤ (IsWholePage g)
     of_page None none = oldest (nat_le 4 (length view.open_pages))
     of_page (Some opened) there =
@@ -239,19 +253,25 @@ asked_within g f now write marks whole within asked =
   where
     last : Ctr
     last = counter_at now.view write.at
+
     plain : Line
     plain = put_write (line_at now.memory write.at) write
+
     to_finish : Option OpenPage
     to_finish = page_to_finish now.view (open_page now.view (page_of write.at))
+
     finishing : List Mark
     finishing = finishing_marks_of f now to_finish
+
     alone : (ctr : Ctr) → Some (seal_mark f write.at ctr plain ∷ []) ≡ Some marks → All (IsSealWithin g) marks
     alone ctr it =
         subst (All (IsSealWithin g)) (same_Some (seal_mark f write.at ctr plain ∷ []) marks it)
         (All-cons (IsSealWithin g) (seal_mark f write.at ctr plain) [] within (All-nil (IsSealWithin g)))
+
     finished : (opened : Option OpenPage) → MatchOption opened ⊤ (IsWholePage g) → All (IsSealWithin g) (finishing_marks_of f now opened)
     finished None it = All-nil (IsSealWithin g)
     finished (Some opened) it = page_within g f now opened.page opened.left it.its_page it.places
+
     rolled : Some (finishing ++ Begin (page_of write.at) ∷ seal_mark f write.at (next_major last 1) plain ∷ []) ≡ Some marks
         → All (IsSealWithin g) marks
     rolled it =
@@ -261,6 +281,7 @@ asked_within g f now write marks whole within asked =
         (finished to_finish (finished_whole g (page_of write.at) now.view whole))
         (All-cons (IsSealWithin g) (Begin (page_of write.at)) (seal_mark f write.at (next_major last 1) plain ∷ []) tt
         (All-cons (IsSealWithin g) (seal_mark f write.at (next_major last 1) plain) [] within (All-nil (IsSealWithin g)))))
+
     by_case : (held low used : Bool)
         → cond held (Some (seal_mark f write.at (next_major last 1) plain ∷ []))
         (cond low (Some (seal_mark f write.at (record last { minor = last.minor + 1 }) plain ∷ []))
@@ -290,6 +311,7 @@ refused_within g f now write made b whole within it =
     left_within (Some marks) there left front =
         All-append_right (IsSealWithin g) made left
         (subst (All (IsSealWithin g)) front (asked_within g f now write marks whole within there))
+
     next_seal : (left : List Mark) → All (IsSealWithin g) left → IsResealOf b left → b < data_lines g
     next_seal (Seal at ctr cipher tag ∷ other ∷ left) each its =
         subst (λ a. a < data_lines g) its (All-head (IsSealWithin g) (Seal at ctr cipher tag) (other ∷ left) each)

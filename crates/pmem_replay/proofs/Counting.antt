@@ -56,8 +56,13 @@ other_one q x a apart = ap one_if (ap (λ b. q a && not b) (ne_eqb a x apart) �
 count_above : (q : ℕ → Bool) (x a n : ℕ) → x < a → count_by (without q x) (range_with_len a n) ≡ count_by q (range_with_len a n)
 count_above q x a zero above = refl
 count_above q x a (suc n) above =
-    omega (arith, counted_one (without q x) a (range_with_len (a + 1) n), counted_one q a (range_with_len (a + 1) n),
-    other_one q x a (λ same. omega (arith, same, above)), count_above q x (a + 1) n (omega (arith, above)))
+    omega (
+      arith,
+      counted_one (without q x) a (range_with_len (a + 1) n),
+      counted_one q a (range_with_len (a + 1) n),
+      other_one q x a (λ same. omega (arith, same, above)),
+      count_above q x (a + 1) n (omega (arith, above)),
+    )
 
 count_without : (q : ℕ → Bool) (x a n : ℕ) → a ≤ x → x < a + n → q x ≡ true → count_by (without q x) (range_with_len a n) + 1 ≡ count_by q (range_with_len a n)
 count_without q x a zero low high passes = absurd (omega (arith, low, high))
@@ -67,11 +72,22 @@ count_without q x a (suc n) low high passes =
           let here : one_if (without q x a) ≡ 0 =
           ap one_if (and_right (q a) (not (a == x)) (ap not (eq-eqb a x same))) in
           let its : one_if (q a) ≡ 1 = ap one_if (ap q same ∙ passes) in
-          omega (arith, counted_one (without q x) a (range_with_len (a + 1) n), counted_one q a (range_with_len (a + 1) n),
-          here, its, count_above q x (a + 1) n (omega (arith, same)))
+          omega (
+            arith,
+            counted_one (without q x) a (range_with_len (a + 1) n),
+            counted_one q a (range_with_len (a + 1) n),
+            here,
+            its,
+            count_above q x (a + 1) n (omega (arith, same)),
+          )
       | inr apart ↦
-          omega (arith, counted_one (without q x) a (range_with_len (a + 1) n), counted_one q a (range_with_len (a + 1) n),
-          other_one q x a apart, count_without q x (a + 1) n (omega (arith, low, apart)) (omega (arith, high)) passes)
+          omega (
+            arith,
+            counted_one (without q x) a (range_with_len (a + 1) n),
+            counted_one q a (range_with_len (a + 1) n),
+            other_one q x a apart,
+            count_without q x (a + 1) n (omega (arith, low, apart)) (omega (arith, high)) passes,
+          )
     ]
 
 -- of a list whose keys differ, no more pass than there are keys that may
@@ -92,7 +108,7 @@ keys_bound {X} p key q n (x ∷ xs) distinct each =
           (λ k d within passing.
           let other = later k d within passing in (
             and_from (q (key (slice_index_or xs k d))) (not (key (slice_index_or xs k d) == key x)) other.0
-            (ap not (ne_eqb (key (slice_index_or xs k d)) (key x) (λ same. apart k d within (sym same)))),
+                (ap not (ne_eqb (key (slice_index_or xs k d)) (key x) (λ same. apart k d within (sym same)))),
             other.1,
           )) in
           let one : one_if (p x) ≡ 1 = ap one_if passes in

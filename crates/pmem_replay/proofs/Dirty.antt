@@ -43,9 +43,9 @@ module _ (g : Shape) (cache : Banks) (state : PlainState) (accounted : AreAccoun
       is_cached_dirty_from g cache bank slot
       (subst (λ s. Contains (set_of cache bank s) slot) (sym its.its_set) stands) dirty in (
         and_from (of_bank g state bank slot.position) (set_index g slot.position == set)
-        (and_from (can_be_dirty g state slot.position) (level_of slot.position == bank) (accounted.dirty bank slot.position cached)
-        (eq-eqb (level_of slot.position) bank its.its_bank))
-        (eq-eqb (set_index g slot.position) set its.its_set),
+            (and_from (can_be_dirty g state slot.position) (level_of slot.position == bank) (accounted.dirty bank slot.position cached)
+            (eq-eqb (level_of slot.position) bank its.its_bank))
+            (eq-eqb (set_index g slot.position) set its.its_set),
         its.on_tree,
       ))
 
@@ -70,8 +70,12 @@ module _ (g : Shape) (cache : Banks) (state : PlainState) (accounted : AreAccoun
   -- so the dirty counter blocks are no more than may be dirty, and no more than the bank has slots
   pub dirty_blocks-le : (bank : ℕ) → dirty_in_bank g cache bank ≤ dirty_bound g state
   dirty_blocks-le bank =
-      omega (arith, bank_bound bank, count_by-le (of_bank g state bank) (can_be_dirty g state) (range_with_len 0 (meta_lines g))
-      (λ x both. (and_parts (can_be_dirty g state x) (level_of x == bank) both).0))
+      omega (
+        arith,
+        bank_bound bank,
+        count_by-le (of_bank g state bank) (can_be_dirty g state) (range_with_len 0 (meta_lines g))
+            (λ x both. (and_parts (can_be_dirty g state x) (level_of x == bank) both).0),
+      )
 
   set_slots : (bank set : ℕ) → dirty_in (set_of cache bank set) ≤ g.ways
   set_slots bank set =

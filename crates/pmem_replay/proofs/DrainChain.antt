@@ -216,7 +216,7 @@ module _ (setup : Setup) (old mid : WorldState) (port n : ℕ) (made : List Mark
     ok_asked : marks_of_write setup.formulas (moment_of mid.state (view_in setup mid)) write ≡ Some written.made
     ok_asked = written.marks on_mid.trusted.not_down on_mid.trusted mid.state.memory call.world.memory.each
 
-    ok_sealed : is_sealed_by written.made write.at ≡ true
+    pub ok_sealed : is_sealed_by written.made write.at ≡ true
     ok_sealed =
         asked_seals setup.formulas write written.made
         (asked_form setup.shape setup.formulas (moment_of mid.state (view_in setup mid)) write written.made

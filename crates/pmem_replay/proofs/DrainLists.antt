@@ -41,8 +41,10 @@ marks_of_writes-more f now (first ∷ writes) write made it =
   where
     next : Moment
     next = moment_after f now first
+
     asked : Option (List Mark)
     asked = marks_of_write f (moment_after_writes f next writes) write
+
     by_rest : ((later : List Mark) → marks_of_writes f next writes ≡ Some later
         → marks_of_writes f next (writes ++ write ∷ []) ≡ option_map (λ h. later ++ h) asked)
         → (here : List Mark) (rest : Option (List Mark)) → marks_of_writes f next writes ≡ rest
@@ -53,6 +55,7 @@ marks_of_writes-more f now (first ∷ writes) write made it =
         ap (option_map (λ later. here ++ later)) (again later there)
         ∙ with_front here later asked
         ∙ ap (λ (m : List Mark). option_map (λ h. m ++ h) asked) (same_Some (here ++ later) made same)
+
     by_first : ((later : List Mark) → marks_of_writes f next writes ≡ Some later
         → marks_of_writes f next (writes ++ write ∷ []) ≡ option_map (λ h. later ++ h) asked)
         → (one : Option (List Mark)) → marks_of_write f now first ≡ one
@@ -73,6 +76,7 @@ moment_view f now (first ∷ writes) made it =
   where
     next : Moment
     next = moment_after f now first
+
     by_rest : ((later : List Mark) → marks_of_writes f next writes ≡ Some later
         → (moment_after_writes f next writes).view ≡ view_after_marks next.view later)
         → (here : List Mark) (rest : Option (List Mark)) → next.view ≡ view_after_marks now.view here
@@ -84,6 +88,7 @@ moment_view f now (first ∷ writes) made it =
         ∙ ap (λ view. view_after_marks view later) its
         ∙ sym (view_after_marks-append now.view here later)
         ∙ ap (view_after_marks now.view) (same_Some (here ++ later) made same)
+
     by_first : ((later : List Mark) → marks_of_writes f next writes ≡ Some later
         → (moment_after_writes f next writes).view ≡ view_after_marks next.view later)
         → (one : Option (List Mark)) → marks_of_write f now first ≡ one

@@ -1,5 +1,5 @@
 -- The numbers of flags, and the marks of a list one by one.
-use Rattle.std.proofs.Common.{ℕ, suc, ◌≡◌, ◌<◌, ◌+◌, List, [], ◌∷◌, length, sym, ap, subst, ◌∙◌, drop, get_or, arith}
+use Rattle.std.proofs.Common.{ℕ, suc, ◌≡◌, ◌<◌, ◌+◌, List, ◌∷◌, length, sym, ap, subst, ◌∙◌, drop, get_or, arith}
 use Rattle.std.proofs.Math.Seq.{drop-cons}
 use Rattle.std.proofs.lemmas.List.{length-set, length-replicate}
 use Rattle.pmem_base.specs.Shape.{Shape}

@@ -1,5 +1,5 @@
 -- Flushes: what the world answers, and what becomes of it.
-use Rattle.std.proofs.Common.{ℕ, ◌≡◌, ◌<◌, ◌≤◌, Bool, true, false, List, [], Option, Some, None, refl, sym, ap, subst, ◌∙◌, arith}
+use Rattle.std.proofs.Common.{ℕ, ◌≡◌, ◌<◌, List, [], Option, Some, None, refl, sym, ap, subst, ◌∙◌}
 use Rattle.std.specs.Prelude.{Result, Ok, Err}
 use Rattle.std.proofs.lemmas.List.{append-nil}
 use Rattle.pmem_base.specs.declared.commands.Posted.{Posted}
@@ -24,7 +24,7 @@ use Rattle.pmem_replay.specs.declared.taken.Taken.{Taken}
 use Rattle.pmem_replay.specs.During.{none_taken, steps_in, parts_in}
 use Rattle.pmem_replay.specs.Replies.{without_marks}
 use Rattle.pmem_replay.specs.Stepped.{HasStepped}
-use Rattle.pmem_replay.proofs.Called.{on_in, IsCall}
+use Rattle.pmem_replay.proofs.Called.{on_in}
 use Rattle.pmem_replay.proofs.Quiet.{counted_state, cut_state}
 use Rattle.pmem_replay.proofs.FlushLaws as laws
 use Rattle.pmem_replay.proofs.Sights.{small_position}

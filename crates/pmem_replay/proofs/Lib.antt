@@ -24,6 +24,10 @@ pub mod TamperLaws
 pub mod OnLaws
 pub mod OnSteps
 pub mod NewSteps
+pub mod GivenSteps
+pub mod DrainSteps
+pub mod FenceSteps
+pub mod FenceLaws
 pub mod RefusedOn
 pub mod TableLaws
 pub mod PeekLaws

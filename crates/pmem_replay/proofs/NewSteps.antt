@@ -1,31 +1,30 @@
 -- The first world, as formatting leaves it.
-use Rattle.std.proofs.Common.{ℕ, ◌≡◌, ◌<◌, ◌≤◌, ◌+◌, ◌-◌, Bool, true, false, inl, inr, List, [], Option, Some, None, refl, sym, ap, subst, ◌∙◌, arith}
-use Rattle.std.specs.Prelude.{length, replicate, All, is_none, is_some, MatchOption, option_map, map, ◌&&◌}
+use Rattle.std.proofs.Common.{ℕ, ◌≡◌, ◌<◌, ◌≤◌, Bool, true, false, inl, List, [], Option, Some, None, refl, sym, ap, subst, ◌∙◌, arith}
+use Rattle.std.specs.Prelude.{length, replicate, All, is_none, is_some, MatchOption, map}
 use Rattle.std.proofs.lemmas.Bool.{true≢false, and_parts}
 use Rattle.std.proofs.lemmas.List.{length-replicate, get_or-replicate, ext_get_or}
 use Rattle.pmem_base.specs.declared.lines.Line.{Line}
 use Rattle.pmem_base.specs.declared.lines.Ctr.{Ctr}
 use Rattle.pmem_base.specs.declared.registers.Regs.{Regs}
-use Rattle.pmem_base.specs.declared.registers.Progress.{Progress}
 use Rattle.pmem_base.specs.declared.answers.Stat.{Stat}
-use Rattle.pmem_base.specs.Shape.{Shape, IsShape}
+use Rattle.pmem_base.specs.Shape.{IsShape}
 use Rattle.pmem_base.specs.Layout as layout
 use Rattle.pmem_base.specs.Lines.{IsLine, line_at, zero_line}
 use Rattle.bonsai_tree.specs.Positions.{level_of}
 use Rattle.board.specs.Device.{Device}
-use Rattle.board.specs.Memory.{Memory, device_of, new_memory}
+use Rattle.board.specs.Memory.{device_of, new_memory}
 use Rattle.commit_regs.specs.Groups.{redone}
 use Rattle.meta_cache.specs.Banks.{IsBanksOf, is_cached_dirty}
 use Rattle.suite.specs.Formulas.{AreInRange}
 use Rattle.suite.specs.Setup.{Setup}
-use Rattle.plain_model.specs.State.{PlainState, no_flags, no_writes, is_flagged, start_state}
+use Rattle.plain_model.specs.State.{no_flags, no_writes, is_flagged, start_state}
 use Rattle.plain_model.specs.View.{OpenPage, start_view, view_of}
 use Rattle.plain_model.proofs.Views.{length-view_of, counter_at-last}
 use Rattle.pmem_engine.specs.Engine.{EngineState}
 use Rattle.pmem_engine.specs.Invariants.{IsSound, register_page, stored_meta}
 use Rattle.pmem_recovery.specs.Formatting.{HasFormatted, first_regs, first_counter}
 use Rattle.pmem_replay.specs.Flagged.{Tampering, Dirtying, no_tampering, no_dirtying}
-use Rattle.pmem_replay.specs.World.{WorldState, WorldParts, IsMemoryOf, IsOn, IsPowered, IsWorld, plain_memory, state_in, view_in, world_of, lines_in}
+use Rattle.pmem_replay.specs.World.{WorldState, WorldParts, IsMemoryOf, IsOn, IsPowered, IsWorld, plain_memory, state_in, world_of, lines_in}
 use Rattle.pmem_replay.specs.During.{WasFormatted}
 use Rattle.pmem_replay.specs.Stepped.{IsNewWorld}
 use Rattle.pmem_replay.proofs.AfterMarks.{length-no_flags, unflagged}

@@ -62,6 +62,7 @@ nothing_cached g bank set = by_bank (slice_get (empty_banks g) bank) refl
     by_set None there = refl
     by_set (Some slots) there =
         sym (get_or_from_slice_get {X = List Slot} (replicate g.sets []) set slots [] there) ∙ empty_slots g.sets set
+
     by_bank : (sets : Option (List (List Slot))) → slice_get (empty_banks g) bank ≡ sets
         → unwrap_or (slice_get (unwrap_or sets []) set) [] ≡ []
     by_bank None there = refl

@@ -1,11 +1,10 @@
 -- Powering on: what the world answers, and what becomes of it.
-use Rattle.std.proofs.Common.{ℕ, ◌≡◌, ◌≢◌, ◌<◌, ◌≤◌, ◌+◌, ◌-◌, ◌^◌, Bool, true, false, inl, inr, List, [], Option, Some, None, Ok, Err, refl, sym, ap, subst, ◌∙◌, arith}
-use Rattle.std.specs.Prelude.{Result, option_map, is_some, All, min, length}
+use Rattle.std.proofs.Common.{ℕ, ◌≡◌, ◌≢◌, ◌<◌, ◌≤◌, ◌-◌, ◌^◌, Bool, true, false, inl, inr, List, Option, Some, None, Ok, Err, refl, sym, ap, subst, ◌∙◌, arith}
+use Rattle.std.specs.Prelude.{Result, option_map, is_some, All}
 use Rattle.std.proofs.lemmas.Bool.{true≢false}
 use Rattle.std.proofs.lemmas.Option.{same_Some}
 use Rattle.std.proofs.lemmas.List.{append-nil}
 use Rattle.std.specs.List.{AllPairs}
-use Rattle.std.proofs.lemmas.List.Elements.{All-nil}
 use Rattle.pmem_base.specs.declared.lines.Line.{Line}
 use Rattle.pmem_base.specs.declared.registers.Regs.{Regs}
 use Rattle.pmem_base.specs.declared.commands.Posted.{Posted}
@@ -13,14 +12,13 @@ use Rattle.pmem_base.specs.declared.commands.Command.TheVariants as Do
 use Rattle.pmem_base.specs.declared.answers.Answer.{Answer}
 use Rattle.pmem_base.specs.declared.answers.Answer.TheVariants as Say
 use Rattle.pmem_base.specs.declared.answers.Exhibit.TheVariants as Show
-use Rattle.pmem_base.specs.Counts.{last_count}
 use Rattle.pmem_base.specs.Shape.{Shape}
 use Rattle.pmem_base.specs.Layout as layout
 use Rattle.pmem_base.specs.Lines.{IsLine, IsTag, line_at, tag_slot}
 use Rattle.pmem_base.specs.Ranges.{IsAnswer}
 use Rattle.pmem_base.specs.Registers.{without_group}
 use Rattle.board.specs.Memory.{Memory}
-use Rattle.commit_regs.specs.Groups.{redone, finishing_latches}
+use Rattle.commit_regs.specs.Groups.{finishing_latches}
 use Rattle.meta_cache.specs.Banks.{IsBanksOf, IsInPlace}
 use Rattle.meta_cache.specs.State.{empty_banks}
 use Rattle.suite.specs.Setup.{Setup}
@@ -42,7 +40,7 @@ use Rattle.pmem_replay.specs.World.{WorldState, WorldParts, IsOff, IsWorld, stat
 use Rattle.pmem_replay.specs.declared.taken.Taken.{Taken}
 use Rattle.pmem_replay.specs.During.{none_taken, steps_in, device_during, IsWatched, IsTakenApart, WasRecovered}
 use Rattle.pmem_replay.specs.Replies.{without_marks}
-use Rattle.pmem_replay.specs.Stepped.{HasStepped, HasPoweredOn, IsOnAnswer, IsSeen, engine_given}
+use Rattle.pmem_replay.specs.Stepped.{HasStepped, IsOnAnswer, IsSeen, engine_given}
 use Rattle.pmem_replay.proofs.Goods.{IsGood}
 use Rattle.pmem_replay.proofs.Quiet.{counted_state, cut_state}
 use Rattle.pmem_replay.proofs.OnLaws.{IsOnCall, lit, one_latch, off_in, recovered_state, cut_on_state, recovered-good, recovered-world, cut-good, cut-world}
@@ -397,20 +395,28 @@ module _ (setup : Setup) (p : WorldParts) (keys : List ℕ) (board : Memory) (pa
       let same : lines_in new ≡ lines_in old = lines_seen fault has has.regs redo in
       let lines : board.lines ≡ lines_in old = same_Some board.lines (lines_in old) redo.lines in
       powered (Err fault) has (Say.Shown (Show.Twin at major low high cipher tag)) new
-      (twin-good setup old new board taken at major low high cipher tag call)
-      (small_line setup.shape served.going.whole.whole_shape at (tried_within setup (lines_in old) p.board.regs at refused.0), small_major,
-      omega (arith, holds.in_order, holds.in_range), holds.in_range, whole_cipher, whole_tag)
+      (twin-good setup old new board taken at major low high cipher tag call) (
+        small_line setup.shape served.going.whole.whole_shape at (tried_within setup (lines_in old) p.board.regs at refused.0),
+        small_major,
+        omega (arith, holds.in_order, holds.in_range),
+        holds.in_range,
+        whole_cipher,
+        whole_tag,
+      )
       refl refl refl refl refl refl refl refl refl refl refl refl refl
       (λ quiet. absurd (true≢false quiet)) refl
       (λ quiet. absurd (true≢false quiet))
-      (λ quiet. absurd (true≢false quiet))
-      (refused.1.its_cipher ∙ ap (λ ls. line_at ls at) (sym lines),
-      refused.1.its_tag ∙ ap (λ ls. tag_slot (line_at ls (layout.tag_line setup.shape at)) at) (sym lines),
-      ap (λ ls. first_undecided setup ls board.regs) same
-      ∙ ap (λ (r : Regs). first_undecided setup (lines_in old) r) has.regs ∙ refused.0,
-      (refused.1.more,
-      ap (λ ls. tried_minors setup ls board.regs at) same
-      ∙ ap (λ (r : Regs). tried_minors setup (lines_in old) r at) has.regs ∙ refused.1.tried))
+      (λ quiet. absurd (true≢false quiet)) (
+        refused.1.its_cipher ∙ ap (λ ls. line_at ls at) (sym lines),
+        refused.1.its_tag ∙ ap (λ ls. tag_slot (line_at ls (layout.tag_line setup.shape at)) at) (sym lines),
+        ap (λ ls. first_undecided setup ls board.regs) same
+            ∙ ap (λ (r : Regs). first_undecided setup (lines_in old) r) has.regs ∙ refused.0,
+        (
+          refused.1.more,
+          ap (λ ls. tried_minors setup ls board.regs at) same
+              ∙ ap (λ (r : Regs). tried_minors setup (lines_in old) r at) has.regs ∙ refused.1.tried,
+        ),
+      )
 
   pub on-twin : (engine : Option EngineState) (outcome : Result Work RecFault) (rested : Memory) (at major low high : ℕ) (cipher : Line) (tag : List ℕ)
       → Was engine outcome → outcome ≡ Err (Fail.Twin at major low high cipher tag) → rested ≡ dim

@@ -81,6 +81,7 @@ turn_mark f now made it = oldest now.view.open_pages it
         → IsResealOnly f now made
     of_page page None it = absurd it
     of_page page (Some i) it = record { page = page; place = i; marks = it }
+
     oldest : (pages : List OpenPage) → MatchOption (option_and_then (mark_of_page_turn f now) (first_of pages)) ⊥ (λ mark. made ≡ mark ∷ [])
         → IsResealOnly f now made
     oldest [] it = absurd it

@@ -79,6 +79,7 @@ module _ (setup : Setup) (world : WorldState) (whole : IsWorld setup world) (eng
     where
       stored : IsSealStored setup.shape (lines_in world) world.ledger.marks a
       stored = whole.kept.seals a within unhurt
+
       by_seal : (seal : Option SealOf) → last_seal world.ledger.marks a ≡ seal → IsShownSealed a
       by_seal None none =
           absurd (none-some (line_at (lines_in world) a) (ap (option_map (λ s. s.cipher)) (sym none) ∙ stored.cipher))
@@ -118,16 +119,22 @@ module _ (setup : Setup) (world : WorldState) (whole : IsWorld setup world) (eng
     where
       a : ℕ
       a = 4 * (d - data_lines setup.shape)
+
       hurt : ℕ → Bool
       hurt = is_flagged world.state.hurt
+
       parts : (hurt a ≡ false) × ((hurt (a + 1) || (hurt (a + 1 + 1) || (hurt (a + 1 + 1 + 1) || false))) ≡ false)
       parts = or_parts (hurt a) (hurt (a + 1) || (hurt (a + 1 + 1) || (hurt (a + 1 + 1 + 1) || false))) unhurt
+
       second : (hurt (a + 1) ≡ false) × ((hurt (a + 1 + 1) || (hurt (a + 1 + 1 + 1) || false)) ≡ false)
       second = or_parts (hurt (a + 1)) (hurt (a + 1 + 1) || (hurt (a + 1 + 1 + 1) || false)) parts.1
+
       third : (hurt (a + 1 + 1) ≡ false) × ((hurt (a + 1 + 1 + 1) || false) ≡ false)
       third = or_parts (hurt (a + 1 + 1)) (hurt (a + 1 + 1 + 1) || false) second.1
+
       fourth : (hurt (a + 1 + 1 + 1) ≡ false) × (false ≡ false)
       fourth = or_parts (hurt (a + 1 + 1 + 1)) false third.1
+
       slot : (i b : ℕ) → i < 4 → b ≡ a + i → b < data_lines setup.shape → hurt b ≡ false
           → slice_range (line_at world.board.lines d).0 (16 * i) (16 * i + 16) ≡ sealed_tag setup.formulas world.state (view_in setup world) b
       slot i b small is within whole_line =
@@ -141,22 +148,22 @@ module _ (setup : Setup) (world : WorldState) (whole : IsWorld setup world) (eng
       → ShowsCounterBlock setup.shape world.state (view_in setup world) page (line_at world.board.lines (meta_line setup.shape (counter_position setup.shape page)))
   shown_block page within = λ power tight unnamed. (
     subst (λ block. IsStoredBlock world.state.loss (unpacked (line_at world.board.lines (meta_line setup.shape (counter_position setup.shape page)))) block)
-    (sym (view-block setup world.board.regs world.ledger on.trusted.anchored page within))
-    (subst (λ loss. IsStoredBlock loss (unpacked (line_at world.board.lines (meta_line setup.shape (counter_position setup.shape page)))) (true_block setup.shape world.ledger.truth page))
-    whole.board.loss
-    (subst (λ lines. IsStoredBlock world.board.regs.loss (unpacked (line_at lines (meta_line setup.shape (counter_position setup.shape page)))) (true_block setup.shape world.ledger.truth page))
-    lines_now (whole.kept.counters tight page within unnamed))),
+        (sym (view-block setup world.board.regs world.ledger on.trusted.anchored page within))
+        (subst (λ loss. IsStoredBlock loss (unpacked (line_at world.board.lines (meta_line setup.shape (counter_position setup.shape page)))) (true_block setup.shape world.ledger.truth page))
+        whole.board.loss
+        (subst (λ lines. IsStoredBlock world.board.regs.loss (unpacked (line_at lines (meta_line setup.shape (counter_position setup.shape page)))) (true_block setup.shape world.ledger.truth page))
+        lines_now (whole.kept.counters tight page within unnamed))),
     λ untouched.
-    elim (on.metadata tight (counter_position setup.shape page) (counter_position-within setup.shape page within) unnamed) [
-      | inl stored ↦
-          ap (λ lines. line_at lines (meta_line setup.shape (counter_position setup.shape page))) (sym lines_now)
-          ∙ stored
-          ∙ sym (packed-unpacked (line_at world.ledger.truth (counter_position setup.shape page))
-          (IsLine-line_at world.ledger.truth (counter_position setup.shape page) on.trusted.anchored.of_shape.truth_lines))
-          ∙ ap packed (sym (view-block setup world.board.regs world.ledger on.trusted.anchored page within))
-      | inr dirty ↦
-          absurd (some_touched (counter_position setup.shape page) (on.dirty (level_of (counter_position setup.shape page)) (counter_position setup.shape page) dirty) untouched)
-    ],
+        elim (on.metadata tight (counter_position setup.shape page) (counter_position-within setup.shape page within) unnamed) [
+          | inl stored ↦
+              ap (λ lines. line_at lines (meta_line setup.shape (counter_position setup.shape page))) (sym lines_now)
+              ∙ stored
+              ∙ sym (packed-unpacked (line_at world.ledger.truth (counter_position setup.shape page))
+              (IsLine-line_at world.ledger.truth (counter_position setup.shape page) on.trusted.anchored.of_shape.truth_lines))
+              ∙ ap packed (sym (view-block setup world.board.regs world.ledger on.trusted.anchored page within))
+          | inr dirty ↦
+              absurd (some_touched (counter_position setup.shape page) (on.dirty (level_of (counter_position setup.shape page)) (counter_position setup.shape page) dirty) untouched)
+        ],
   )
     where
       some_touched : (x : ℕ) → IsTrue (can_be_dirty setup.shape world.state x) → has_flags world.state.touched ≡ false → ⊥

@@ -143,9 +143,9 @@ module _ (setup : Setup) (old new : WorldState) (engine after : EngineState) (ta
                       caused = (
                         refused.fetched.on_path,
                         may_differ setup old engine x refused.line on_now in_tree refused.fetched.uncached
-                        (fetched_before setup old new engine after taken (page_of at) x refused.line call.world.whole_shape on_now
-                        done.gone in_tree refused.fetched other)
-                        other,
+                            (fetched_before setup old new engine after taken (page_of at) x refused.line call.world.whole_shape on_now
+                            done.gone in_tree refused.fetched other)
+                            other,
                       );
                     };
                 shown = tt;
@@ -184,8 +184,8 @@ module _ (setup : Setup) (old new : WorldState) (engine after : EngineState) (ta
                       writes_whole = refl;
                       caused = (
                         subst (λ z. IsTrue (is_flagged old.state.hurt z)) (sym refused.0)
-                        (hurt_before setup old new engine after taken [] at call.world.kept (done.gone.places on_now.trusted) within
-                        (tag_unstored setup new after taken at (done.gone.trusted on_now.trusted) refused.1)),
+                            (hurt_before setup old new engine after taken [] at call.world.kept (done.gone.places on_now.trusted) within
+                            (tag_unstored setup new after taken at (done.gone.trusted on_now.trusted) refused.1)),
                         refused.0,
                       );
                     };
@@ -302,12 +302,12 @@ module _ (setup : Setup) (old new : WorldState) (engine after : EngineState) (ta
                   None,
                   could_refuse (Place.Line at) (
                     hurt_before setup old new engine after taken [] at call.world.kept places within
-                    (forged_unstored setup new after taken at none forged),
+                        (forged_unstored setup new after taken at none forged),
                     refl,
                   ),
                   forged_other setup old.board.regs old.ledger old.state.memory at forged.ctr forged.cipher call.world.whole_formulas
-                  on_now.trusted.anchored call.world.memory within its_ctr
-                  (subst (λ marks. IfSome (last_seal marks at) (λ seal. forged.cipher ≢ seal.cipher)) marks forged.other_cipher),
+                      on_now.trusted.anchored call.world.memory within its_ctr
+                      (subst (λ marks. IfSome (last_seal marks at) (λ seal. forged.cipher ≢ seal.cipher)) marks forged.other_cipher),
                 );
               };
         })

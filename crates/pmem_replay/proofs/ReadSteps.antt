@@ -1,10 +1,8 @@
 -- Reads: what the world answers, and what becomes of it.
-use Rattle.std.proofs.Common.{ℕ, ◌≡◌, ◌≢◌, ◌<◌, ◌≤◌, ◌+◌, ◌-◌, ◌^◌, ◌++◌, ◌⊎◌, inl, inr, Bool, true, false, List, [], ◌∷◌, Option, Some, None, IsTrue, refl, sym, ap, subst, ◌∙◌, arith, get_or}
-use Rattle.std.specs.Prelude.{length, map, All, IfSome, slice_index, option_map, Result, Ok, Err, not, is_some, IsSome, if◌then◌else◌}
-use Rattle.std.specs.List.{range_with_len, list_all}
-use Rattle.std.proofs.lemmas.Option.{same_Some}
-use Rattle.std.proofs.lemmas.Bool.{lt-ltb, true≢false, not-true}
-use Rattle.std.proofs.lemmas.List.{append-nil, ext_get_or}
+use Rattle.std.proofs.Common.{ℕ, ◌≡◌, ◌<◌, ◌≤◌, ◌^◌, inl, inr, Bool, true, false, List, [], Some, None, refl, sym, ap, subst, ◌∙◌, arith}
+use Rattle.std.specs.Prelude.{All, Result, Ok, Err, is_some, IsSome, if◌then◌else◌}
+use Rattle.std.proofs.lemmas.Bool.{lt-ltb, true≢false}
+use Rattle.std.proofs.lemmas.List.{append-nil}
 use Rattle.pmem_base.specs.declared.lines.Line.{Line}
 use Rattle.pmem_base.specs.declared.commands.Posted.{Posted}
 use Rattle.pmem_base.specs.declared.commands.Command.TheVariants as Do
@@ -15,27 +13,26 @@ use Rattle.pmem_base.specs.declared.answers.Exhibit.{Exhibit}
 use Rattle.pmem_base.specs.Shape.{Shape}
 use Rattle.pmem_base.specs.Layout as layout
 use Rattle.pmem_base.specs.Layout.{page_of}
-use Rattle.pmem_base.specs.Lines.{IsLine, line_at}
-use Rattle.pmem_base.specs.Ranges.{IsPosted, IsAnswer, IsExhibitValue}
+use Rattle.pmem_base.specs.Lines.{IsLine}
+use Rattle.pmem_base.specs.Ranges.{IsAnswer, IsExhibitValue}
 use Rattle.commit_regs.specs.Groups.{redone}
 use Rattle.board.specs.Memory.{Memory}
 use Rattle.seal_ledger.specs.Ledger.{LedgerState, IsMark}
 use Rattle.meta_cache.specs.Banks.{IsBanksOf}
 use Rattle.suite.specs.Setup.{Setup}
-use Rattle.plain_model.specs.State.{PlainState, queue_of, no_writes, put_write}
+use Rattle.plain_model.specs.State.{queue_of, no_writes}
 use Rattle.plain_model.specs.After.{state_after, steps_of, is_cut}
-use Rattle.plain_model.specs.Answers.{decided_answer, is_shown, writes_to, put_writes, is_covered, has_byte}
+use Rattle.plain_model.specs.Answers.{decided_answer, is_shown, writes_to, put_writes, is_covered}
 use Rattle.pmem_engine.specs.declared.fault.Fault.{Fault}
 use Rattle.pmem_engine.specs.declared.fault.Fault.TheVariants as Fail
 use Rattle.pmem_engine.specs.Engine.{EngineState}
-use Rattle.pmem_engine.specs.Parts.{parts_of}
 use Rattle.pmem_engine.specs.Outcomes.{going, outcome_of, HasDone}
 use Rattle.pmem_engine.specs.Invariants.{IsTrusted, IsSealStored}
 use Rattle.pmem_engine.specs.Calls.{HasReadLine}
 use Rattle.pmem_replay.specs.World.{WorldState, WorldParts, IsWorld, IsOn, state_in, world_of}
 use Rattle.pmem_replay.specs.declared.taken.Taken.{Taken}
-use Rattle.pmem_replay.specs.During.{none_taken, steps_in, device_during, parts_in}
-use Rattle.pmem_replay.specs.Stepped.{HasStepped, HasCalled, IsReadAnswer, IsSeen, IsTagWrong, IsExhibitSeen}
+use Rattle.pmem_replay.specs.During.{none_taken, steps_in, parts_in}
+use Rattle.pmem_replay.specs.Stepped.{HasStepped, IsReadAnswer, IsSeen, IsTagWrong, IsExhibitSeen}
 use Rattle.pmem_replay.proofs.Called.{on_in, IsCall}
 use Rattle.pmem_replay.proofs.Causes.{on_path-within}
 use Rattle.pmem_replay.proofs.SealedLines.{same_truth}
@@ -164,9 +161,11 @@ module _ (setup : Setup) (p : WorldParts) (keys : List ℕ) (board : Memory) (le
   read_tag_taken b read whole_cache =
       let refused = read.answered on_now.trusted.not_down on_now.trusted in
       called_step (Err (Fail.Tag b)) read refl (Say.Refused None (Place.Line b) (steps_in taken))
-      (laws.tag-good setup old on_new engine after taken on_call port at within b read)
-      (tt, subst (λ n. n < 2 ^ 32) (sym refused.0) (small_line setup.shape served.going.whole.whole_shape at within),
-      few_steps p.board board taken served.watched) refl refl refl refl refl
+      (laws.tag-good setup old on_new engine after taken on_call port at within b read) (
+        tt,
+        subst (λ n. n < 2 ^ 32) (sym refused.0) (small_line setup.shape served.going.whole.whole_shape at within),
+        few_steps p.board board taken served.watched,
+      ) refl refl refl refl refl
       (laws.tag-world setup old on_new engine after taken on_call port at within b read (state (Err (Fail.Tag b)) read refl) refl (its_banks (done (Err (Fail.Tag b)) read refl).gone.shape whole_cache))
       (subst (λ n. IsTagWrong setup on_new n) (sym refused.0) (tag_wrong setup on_new after taken at refused.1))
 

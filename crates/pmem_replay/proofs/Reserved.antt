@@ -1,6 +1,5 @@
 -- Room for marks changes nothing that a world holds.
-use Rattle.std.proofs.Common.{ℕ, ◌≡◌, List, Option, Some, None, refl, sym, ap, subst, ◌∙◌}
-use Rattle.std.specs.Prelude.{Bool}
+use Rattle.std.proofs.Common.{ℕ, ◌≡◌, List, Option, Some, None, sym, ap, subst, ◌∙◌}
 use Rattle.pmem_base.specs.declared.lines.Line.{Line}
 use Rattle.pmem_base.specs.declared.registers.Regs.{Regs}
 use Rattle.pmem_base.specs.declared.answers.Mark.{Mark}
@@ -12,7 +11,8 @@ use Rattle.suite.specs.Setup.{Setup}
 use Rattle.plain_model.specs.State.{Reply}
 use Rattle.pmem_engine.specs.Engine.{EngineState}
 use Rattle.pmem_engine.specs.Invariants.{IsAnchored, IsTrusted, IsMendable, IsDurable, IsSound}
-use Rattle.pmem_replay.specs.World.{WorldState, WorldParts, IsWorld, IsPowered, world_of}
+use Rattle.pmem_replay.specs.World.{WorldState, WorldParts, IsWorld, IsPowered, plain_memory, state_in, world_of}
+use Rattle.pmem_replay.specs.Given.{HasRoomMade}
 use Rattle.pmem_replay.proofs.Goods.{IsGood}
 use Rattle.pmem_replay.proofs.TableSteps.{IsGoingOn}
 
@@ -133,3 +133,15 @@ good_before setup p ledger n command reply room good =
     let still : IsGood setup (world_of setup (record p { ledger = with_spare p.ledger ledger.spare })) command reply =
     subst (λ l. IsGood setup (world_of setup (record p { ledger = l })) command reply) (room_is p.ledger ledger n room) good in
     record { legal = still.legal; fits = still.fits }
+
+-- a world in which room was made
+pub room_made : (setup : Setup) (p : WorldParts) (ledger : LedgerState) (n : ℕ) → HasRoom p.ledger ledger n → IsGoingOn setup (world_of setup p)
+    → HasRoomMade setup (world_of setup p) n (world_of setup (record p { ledger = ledger }))
+room_made setup p ledger n room going =
+    record {
+      same =
+          ap (λ (ms : List Mark). record (world_of setup p) { state = record (state_in setup p) { memory = plain_memory setup ms }; ledger = ledger })
+          room.marks;
+      room = room;
+      holds = (reserved setup p ledger n room going).whole;
+    }

@@ -1,36 +1,29 @@
 -- What surrounds a call of the engine in the world's own parts.
-use Rattle.std.proofs.Common.{ℕ, ◌≡◌, ◌≢◌, ◌<◌, ◌≤◌, ◌+◌, ◌-◌, ◌^◌, ◌++◌, Bool, true, false, List, [], Option, Some, None, IsTrue, refl, sym, ap, ap₂, subst, ◌∙◌, arith, zero-add}
-use Rattle.std.specs.Prelude.{length, map, unwrap_or, All, IsSome, is_some, option_map, Result, Ok, Err, if◌then◌else◌}
+use Rattle.std.proofs.Common.{ℕ, ◌≡◌, ◌<◌, ◌-◌, ◌^◌, Bool, true, false, List, Option, Some, None, refl, sym, ap, subst, ◌∙◌, arith, zero-add}
+use Rattle.std.specs.Prelude.{length, map, unwrap_or, All, IsSome, is_some, option_map}
 use Rattle.std.specs.List.{range_with_len}
 use Rattle.std.proofs.lemmas.Option.{none-some}
 use Rattle.std.proofs.lemmas.List.{ext_get_or}
 use Rattle.std.proofs.lemmas.List.FromFn.{length-map-range_with_len, get_or-map-range_with_len}
 use Rattle.pmem_base.specs.declared.lines.Line.{Line}
 use Rattle.pmem_base.specs.declared.commands.Posted.{Posted}
-use Rattle.pmem_base.specs.declared.answers.Answer.{Answer}
 use Rattle.pmem_base.specs.declared.answers.Mark.{Mark}
-use Rattle.pmem_base.specs.declared.answers.Stat.{Stat}
-use Rattle.pmem_base.specs.Counts.{last_count}
 use Rattle.pmem_base.specs.Layout as layout
 use Rattle.pmem_base.specs.Marks.{SealOf, last_seal}
-use Rattle.pmem_base.specs.Lines.{IsLine, line_at, zero_line}
+use Rattle.pmem_base.specs.Lines.{IsLine, zero_line}
 use Rattle.board.specs.Memory.{Memory}
 use Rattle.seal_ledger.specs.Ledger.{LedgerState}
 use Rattle.seal_ledger.specs.Notes.{HasRoom}
 use Rattle.suite.specs.Setup.{Setup}
-use Rattle.plain_model.specs.State.{PlainState, no_writes}
+use Rattle.plain_model.specs.State.{no_writes}
 use Rattle.plain_model.specs.View.{plain_line}
 use Rattle.plain_model.specs.After.{steps_with}
-use Rattle.plain_model.specs.Answers.{is_shown}
 use Rattle.pmem_engine.specs.Engine.{EngineState}
-use Rattle.pmem_engine.specs.Parts.{Parts, parts_of}
-use Rattle.pmem_engine.specs.Invariants.{IsTrusted}
 use Rattle.pmem_engine.specs.Calls.{IsReady, IsUsable}
 use Rattle.pmem_engine.specs.Truth.{true_counter}
-use Rattle.pmem_replay.specs.World.{WorldState, WorldParts, IsMemoryOf, IsWorld, IsOn, plain_memory, state_in, world_of}
+use Rattle.pmem_replay.specs.World.{WorldState, WorldParts, IsMemoryOf, IsWorld, plain_memory, state_in, world_of}
 use Rattle.pmem_replay.specs.declared.taken.Taken.{Taken}
-use Rattle.pmem_replay.specs.During.{none_taken, steps_in, step_limit, device_during, parts_in, AreInCount, FollowsOn, IsWatched}
-use Rattle.pmem_replay.specs.Stepped.{HasCalled}
+use Rattle.pmem_replay.specs.During.{none_taken, steps_in, device_during, FollowsOn, IsWatched}
 use Rattle.pmem_replay.proofs.Called.{IsCall, on_in}
 use Rattle.pmem_replay.proofs.Quiet.{counted_state, cut_state}
 use Rattle.pmem_replay.proofs.TableSteps.{IsGoingOn, lit_in}

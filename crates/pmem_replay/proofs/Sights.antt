@@ -1,5 +1,5 @@
 -- What refusals and exhibits show of the device as it stands afterwards.
-use Rattle.std.proofs.Common.{ℕ, ◌≡◌, ◌≢◌, ◌<◌, ◌≤◌, ◌+◌, ◌-◌, ◌*◌, ◌^◌, List, Option, Some, None, refl, sym, ap, subst, ◌∙◌, arith, lit<}
+use Rattle.std.proofs.Common.{ℕ, ◌≡◌, ◌≢◌, ◌<◌, ◌≤◌, ◌+◌, ◌^◌, List, Option, Some, None, refl, sym, ap, subst, ◌∙◌, arith, lit<}
 use Rattle.std.specs.Prelude.{All, IfSome, option_map}
 use Rattle.std.proofs.Math.Nat.{pow-le-pow_right}
 use Rattle.std.proofs.lemmas.Option.{same_Some, none-some}
@@ -11,6 +11,7 @@ use Rattle.pmem_base.specs.Lines.{IsLine, IsCtr, IsTag, line_at, tag_slot}
 use Rattle.pmem_base.specs.Ranges.{IsExhibitValue}
 use Rattle.pmem_base.specs.declared.answers.Exhibit.{Exhibit}
 use Rattle.pmem_base.specs.declared.answers.Exhibit.TheVariants.{Clash, Forged}
+use Rattle.pmem_base.specs.declared.answers.Mark.{Mark}
 use Rattle.pmem_base.specs.declared.answers.Mark.TheVariants.{Seal}
 use Rattle.pmem_base.proofs.LineLemmas.{IsLine-line_at}
 use Rattle.pmem_base.specs.Marks.{SealOf, last_seal}
@@ -72,12 +73,46 @@ pub clash_sight : (setup : Setup) (old new : WorldState) (engine after : EngineS
 clash_sight setup old new engine after taken page exhibit shape within whole truth clash its =
     let in_tree = on_path-within setup.shape page clash.x within clash.fetched.on_path in
     subst (λ e. IsExhibitValue e × IsExhibitSeen setup new e)
-    (same_Some (Clash clash.x clash.line (line_at old.ledger.truth clash.x)) exhibit (sym clash.exhibit ∙ its))
-    ((
-      small_position setup.shape shape clash.x in_tree,
-      subst IsLine (sym clash.fetched.read) (IsLine-line_at new.board.lines (layout.meta_line setup.shape clash.x) whole),
-      IsLine-line_at old.ledger.truth clash.x truth,
-    ), clash.fetched.read)
+    (same_Some (Clash clash.x clash.line (line_at old.ledger.truth clash.x)) exhibit (sym clash.exhibit ∙ its)) (
+      (
+        small_position setup.shape shape clash.x in_tree,
+        subst IsLine (sym clash.fetched.read) (IsLine-line_at new.board.lines (layout.meta_line setup.shape clash.x) whole),
+        IsLine-line_at old.ledger.truth clash.x truth,
+      ),
+      clash.fetched.read,
+    )
+
+-- the counter of a last seal is in its range
+pub seal_counter : (g : Shape) (marks : List Mark) (a : ℕ) (ctr : Ctr) → All (IsMark g) marks → option_map (λ s. s.ctr) (last_seal marks a) ≡ Some ctr → IsCtr ctr
+seal_counter g marks a ctr each is = by_seal (last_seal marks a) refl is
+  where
+    by_seal : (seal : Option SealOf) → last_seal marks a ≡ seal → option_map (λ s. s.ctr) seal ≡ Some ctr → IsCtr ctr
+    by_seal None there is = absurd (none-some ctr is)
+    by_seal (Some seal) there is =
+        let mark : IsMark g (Seal a seal.ctr seal.cipher seal.tag) =
+        last_seal_has (IsMark g) marks a seal each there in
+        subst IsCtr (same_Some seal.ctr ctr is) mark.1
+
+pub forged_sight_by : (setup : Setup) (new : WorldState) (after : EngineState) (taken : Taken) (a : ℕ) (exhibit : Exhibit)
+    → IsShape setup.shape → AreInRange setup.formulas → a < layout.data_lines setup.shape → All IsLine new.board.lines
+    → (forged : IsForgedShown setup a (parts_in new after taken)) → new.ledger.exhibit ≡ Some exhibit → IsCtr forged.ctr
+    → IsExhibitValue exhibit × IsExhibitSeen setup new exhibit
+forged_sight_by setup new after taken a exhibit shape in_range within whole forged its counter =
+    let cipher_whole : IsLine forged.cipher =
+    subst IsLine (sym forged.unsealed.cipher_read) (IsLine-line_at new.board.lines a whole) in
+    subst (λ e. IsExhibitValue e × IsExhibitSeen setup new e)
+    (same_Some (Forged a forged.ctr forged.cipher forged.tag) exhibit (sym forged.exhibit ∙ its)) (
+      (
+        small_line setup.shape shape a within,
+        counter,
+        cipher_whole,
+        subst IsTag forged.right_tag (in_range.tags a forged.ctr forged.cipher counter cipher_whole),
+      ),
+      (
+        forged.unsealed.cipher_read,
+        sym forged.unsealed.its_slot ∙ ap (λ line. tag_slot line a) forged.unsealed.tag_read,
+      ),
+    )
 
 -- a forged seal shows a line and a slot of the device, and its numbers and bytes are in range
 pub forged_sight : (setup : Setup) (new : WorldState) (after : EngineState) (taken : Taken) (a : ℕ) (exhibit : Exhibit)
@@ -86,24 +121,5 @@ pub forged_sight : (setup : Setup) (new : WorldState) (after : EngineState) (tak
     → IsForgedShown setup a (parts_in new after taken) → new.ledger.exhibit ≡ Some exhibit
     → IsExhibitValue exhibit × IsExhibitSeen setup new exhibit
 forged_sight setup new after taken a exhibit shape in_range within whole marks forged its =
-    let cipher_whole : IsLine forged.cipher =
-    subst IsLine (sym forged.unsealed.cipher_read) (IsLine-line_at new.board.lines a whole) in
-    let counter = its_counter (last_seal new.ledger.marks a) refl forged.unsealed.counter in
-    subst (λ e. IsExhibitValue e × IsExhibitSeen setup new e)
-    (same_Some (Forged a forged.ctr forged.cipher forged.tag) exhibit (sym forged.exhibit ∙ its))
-    ((
-      small_line setup.shape shape a within,
-      counter,
-      cipher_whole,
-      subst IsTag forged.right_tag (in_range.tags a forged.ctr forged.cipher counter cipher_whole),
-    ), (
-      forged.unsealed.cipher_read,
-      sym forged.unsealed.its_slot ∙ ap (λ line. tag_slot line a) forged.unsealed.tag_read,
-    ))
-  where
-    its_counter : (seal : Option SealOf) → last_seal new.ledger.marks a ≡ seal → option_map (λ s. s.ctr) seal ≡ Some forged.ctr → IsCtr forged.ctr
-    its_counter None there is = absurd (none-some forged.ctr is)
-    its_counter (Some seal) there is =
-        let mark : IsMark setup.shape (Seal a seal.ctr seal.cipher seal.tag) =
-        last_seal_has (IsMark setup.shape) new.ledger.marks a seal marks there in
-        subst IsCtr (same_Some seal.ctr forged.ctr is) mark.1
+    forged_sight_by setup new after taken a exhibit shape in_range within whole forged its
+    (seal_counter setup.shape new.ledger.marks a forged.ctr marks forged.unsealed.counter)

@@ -166,6 +166,7 @@ any-counted (stamp ∷ stamps) epoch =
   where
     one : is_now epoch stamp ≡ true → 1 ≤ cond (is_now epoch stamp) 1 0
     one set = subst (λ b. 1 ≤ cond b 1 0) (sym set) (omega arith)
+
     none : is_now epoch stamp ≡ false → cond (is_now epoch stamp) 1 0 + count_by (is_now epoch) stamps ≡ count_by (is_now epoch) stamps
     none unset = subst (λ b. cond b 1 0 + count_by (is_now epoch) stamps ≡ count_by (is_now epoch) stamps) (sym unset) (omega arith)
 

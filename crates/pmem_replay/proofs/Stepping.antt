@@ -1,20 +1,17 @@
 -- A step of the world, by what became of its parts.
-use Rattle.std.proofs.Common.{ℕ, ◌≡◌, ◌<◌, ◌++◌, Bool, true, false, List, [], Option, Some, None, IsTrue, refl, sym, ap, subst, ◌∙◌, arith}
-use Rattle.std.specs.Prelude.{MatchOption, ◌||◌}
-use Rattle.std.proofs.lemmas.Bool.{or_right, true≢false}
+use Rattle.std.proofs.Common.{ℕ, ◌≡◌, ◌++◌, false, List, Some, None, IsTrue, sym, ap, subst, ◌∙◌}
+use Rattle.std.specs.Prelude.{MatchOption}
+use Rattle.std.proofs.lemmas.Bool.{or_right}
 use Rattle.std.proofs.lemmas.List.{append-nil}
 use Rattle.pmem_base.specs.declared.commands.Command.{Command}
-use Rattle.pmem_base.specs.declared.commands.Command.TheVariants as Do
 use Rattle.pmem_base.specs.declared.answers.Answer.{Answer}
-use Rattle.pmem_base.specs.declared.answers.Mark.{Mark}
 use Rattle.pmem_base.specs.Ranges.{IsAnswer}
 use Rattle.suite.specs.Formulas.{Formulas}
 use Rattle.suite.specs.Setup.{Setup}
-use Rattle.plain_model.specs.State.{PlainState, Reply}
+use Rattle.plain_model.specs.State.{Reply}
 use Rattle.plain_model.specs.After.{state_after}
 use Rattle.plain_model.specs.Answers.{decided_answer, is_table_answer, is_engine_answer, is_answer_to, is_shown}
 use Rattle.plain_model.specs.Fits.{Fits}
-use Rattle.plain_model.specs.Shown.{IsLegal}
 use Rattle.pmem_replay.specs.World.{WorldState, IsWorld, view_in, setup_of}
 use Rattle.pmem_replay.specs.Stepped.{IsByTable, HasWorked, IsSeen, HasStepped}
 use Rattle.pmem_replay.specs.Replies.{without_marks}

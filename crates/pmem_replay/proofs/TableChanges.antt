@@ -1,14 +1,11 @@
 -- Commands that the table answers and that change the world.
-use Rattle.std.proofs.Common.{ℕ, ◌≡◌, ◌≢◌, ◌<◌, ◌≤◌, ◌+◌, ◌-◌, ◌++◌, Bool, true, false, List, [], ◌∷◌, Option, Some, None, IsTrue, refl, sym, ap, ap₂, subst, ◌∙◌, arith}
-use Rattle.std.specs.Prelude.{All, length, slice_set, nat_lt, nat_le, ◌&&◌, is_some, not, option_map}
-use Rattle.std.proofs.lemmas.Bool.{lt-ltb, le-ltb, le-leb, lt-leb, true≢false}
-use Rattle.std.proofs.lemmas.Option.{same_Some, none-some}
+use Rattle.std.proofs.Common.{ℕ, ◌≡◌, ◌≢◌, ◌<◌, ◌≤◌, ◌+◌, ◌++◌, Bool, true, false, List, [], ◌∷◌, Option, Some, None, refl, sym, ap, ap₂, subst, ◌∙◌, arith}
+use Rattle.std.specs.Prelude.{All, length, slice_set, is_some, not}
+use Rattle.std.proofs.lemmas.Bool.{lt-ltb, le-leb, lt-leb, true≢false}
 use Rattle.std.proofs.lemmas.List.{get_or-set_same, append-nil}
 use Rattle.pmem_base.specs.declared.lines.Line.{Line}
 use Rattle.pmem_base.specs.declared.commands.Posted.{Posted}
-use Rattle.pmem_base.specs.declared.commands.Command.{Command}
 use Rattle.pmem_base.specs.declared.commands.Command.TheVariants as Do
-use Rattle.pmem_base.specs.declared.answers.Answer.{Answer}
 use Rattle.pmem_base.specs.declared.answers.Answer.TheVariants as Say
 use Rattle.pmem_base.specs.declared.answers.Stat.{Stat}
 use Rattle.pmem_base.specs.Counts.{last_count}
@@ -20,19 +17,17 @@ use Rattle.board.specs.Memory.{Memory, with_line_at, with_lines, flipped_line, r
 use Rattle.suite.specs.Setup.{Setup}
 use Rattle.plain_model.specs.State.{PlainState, queue_of, no_writes}
 use Rattle.plain_model.specs.After.{posted_line, posted_part, after_post, after_power_loss, after_tampering, steps_with}
-use Rattle.plain_model.specs.Answers.{decided_answer}
 use Rattle.pmem_engine.specs.Engine.{EngineState}
 use Rattle.pmem_replay.specs.Flagged.{Tampering, with_tampering}
-use Rattle.pmem_replay.specs.World.{WorldState, WorldParts, AreExact, IsWorld, state_in, world_of, view_in}
+use Rattle.pmem_replay.specs.World.{WorldState, WorldParts, IsWorld, state_in, world_of}
 use Rattle.pmem_replay.specs.Stepped.{HasStepped, IsCounted}
 use Rattle.pmem_replay.specs.Replies.{without_marks}
 use Rattle.pmem_replay.proofs.Goods.{IsGood}
 use Rattle.pmem_replay.proofs.Causes.{zero_within}
 use Rattle.pmem_replay.proofs.Quiet.{counted_state}
 use Rattle.pmem_replay.proofs.DrainChain.{fuse_none}
-use Rattle.pmem_replay.proofs.SameWorld.{IsSameWorld}
 use Rattle.pmem_replay.proofs.TableLaws.{world-posted, world-armed, world-snapped, world-off}
-use Rattle.pmem_replay.proofs.TamperLaws.{IsTampering, hurts, world-tampered, flipped_differs}
+use Rattle.pmem_replay.proofs.TamperLaws.{hurts, world-tampered, flipped_differs}
 use Rattle.pmem_replay.proofs.PeekLaws.{peek-good, stat-good}
 use Rattle.pmem_replay.proofs.Stepping.{stepped_by_table, stepped_by_engine}
 use Rattle.pmem_replay.proofs.TableSteps.{IsGoingOn, lit_in, stepped_unchanged}
@@ -161,20 +156,22 @@ module _ (setup : Setup) (p : WorldParts) (going : IsGoingOn setup (world_of set
       × IsWorld setup (world_of setup (record p { board = board; tampering = flags }))
   tampered d line flipped board flags on_device its other is state =
       subst (λ b. ((state_in setup (record p { board = b; tampering = flags })) ≡ after_tampering setup.shape (state_in setup p) flipped d)
-      × IsWorld setup (world_of setup (record p { board = b; tampering = flags }))) (sym is)
-      (state, world-tampered setup old (world_of setup (record p { board = with_line_at p.board d line; tampering = flags })) d line flipped
-      (record {
-        world = going.whole;
-        on_device = on_device;
-        its_line = its;
-        other_line = other;
-        shape = refl;
-        start = refl;
-        board = refl;
-        ledger = refl;
-        engine = refl;
-        state = state;
-      }))
+      × IsWorld setup (world_of setup (record p { board = b; tampering = flags }))) (sym is) (
+        state,
+        world-tampered setup old (world_of setup (record p { board = with_line_at p.board d line; tampering = flags })) d line flipped
+            (record {
+              world = going.whole;
+              on_device = on_device;
+              its_line = its;
+              other_line = other;
+              shape = refl;
+              start = refl;
+              board = refl;
+              ledger = refl;
+              engine = refl;
+              state = state;
+            }),
+      )
 
   -- a tampering counts no steps
   tampered_still : (flipped : Bool) (d : ℕ) → d < layout.device_lines setup.shape

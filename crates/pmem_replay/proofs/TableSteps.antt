@@ -1,6 +1,6 @@
 -- Commands that the table answers and that change nothing.
-use Rattle.std.proofs.Common.{ℕ, ◌≡◌, ◌≢◌, ◌<◌, ◌≤◌, ◌+◌, Bool, true, false, List, [], Option, Some, None, IsTrue, refl, sym, ap, subst, ◌∙◌, arith}
-use Rattle.std.specs.Prelude.{length, nat_lt, nat_le, ◌&&◌, is_some, is_none}
+use Rattle.std.proofs.Common.{ℕ, ◌≡◌, ◌<◌, ◌≤◌, ◌+◌, true, false, [], Some, None, IsTrue, refl, sym, subst, ◌∙◌}
+use Rattle.std.specs.Prelude.{length}
 use Rattle.std.proofs.lemmas.Bool.{lt-ltb, le-ltb, le-leb, lt-leb}
 use Rattle.pmem_base.specs.declared.lines.Line.{Line}
 use Rattle.pmem_base.specs.declared.commands.Command.{Command}
@@ -8,12 +8,11 @@ use Rattle.pmem_base.specs.declared.commands.Command.TheVariants as Do
 use Rattle.pmem_base.specs.declared.answers.Answer.{Answer}
 use Rattle.pmem_base.specs.declared.answers.Answer.TheVariants as Say
 use Rattle.pmem_base.specs.Layout as layout
-use Rattle.pmem_base.specs.Lines.{IsLine}
 use Rattle.pmem_base.specs.Ranges.{IsAnswer}
 use Rattle.suite.specs.Setup.{Setup}
-use Rattle.plain_model.specs.State.{PlainState, queue_of}
+use Rattle.plain_model.specs.State.{queue_of}
 use Rattle.plain_model.specs.After.{state_after}
-use Rattle.plain_model.specs.Answers.{decided_answer, is_answer_to, is_shown, is_covered, seen_line}
+use Rattle.plain_model.specs.Answers.{decided_answer, is_answer_to, is_shown}
 use Rattle.plain_model.specs.Fits.{Fits}
 use Rattle.pmem_engine.specs.Engine.{EngineState}
 use Rattle.pmem_replay.specs.World.{WorldState, IsWorld, IsPowered, view_in}

@@ -325,6 +325,7 @@ module _ (setup : Setup) (old : WorldState) (d : ℕ) (line : Line) (flipped : B
           ∙ same_Some seal.cipher (line_at (lines_in old) d)
           (ap (option_map (λ s. s.cipher)) (sym there) ∙ (world.kept.seals d small whole).cipher)
           ∙ ap (λ lines. line_at lines d) (lines_unarmed old none))
+
       by_power : (engine : Option EngineState) → IsPowered setup old engine → IsOtherCipher old.ledger.marks d (line_at (lines_in new) d)
       by_power None off = absurd (true≢false (sym power ∙ off.unpowered))
       by_power (Some engine) on = by_seal on.trusted.no_group (last_seal old.ledger.marks d) refl

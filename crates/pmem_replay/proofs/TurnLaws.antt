@@ -195,7 +195,7 @@ module _ (setup : Setup) (old new : WorldState) (engine after : EngineState) (ta
                       writes_whole = refl;
                       caused = (
                         hurt_before setup old new engine after taken [] b call.world.kept (done.gone.places on_now.trusted) within
-                        (tag_unstored setup new after taken b (done.gone.trusted on_now.trusted) (turn.answered on_now.trusted.not_down on_now.trusted)),
+                            (tag_unstored setup new after taken b (done.gone.trusted on_now.trusted) (turn.answered on_now.trusted.not_down on_now.trusted)),
                         tt,
                       );
                     };
@@ -323,7 +323,7 @@ module _ (setup : Setup) (old new : WorldState) (engine after : EngineState) (ta
                                       writes_whole = refl;
                                       caused = (
                                         hurt_before setup old new engine after taken [] found.at call.world.kept places within
-                                        (forged_unstored setup new after taken found.at none forged),
+                                            (forged_unstored setup new after taken found.at none forged),
                                         tt,
                                       );
                                     };
@@ -337,8 +337,8 @@ module _ (setup : Setup) (old new : WorldState) (engine after : EngineState) (ta
                                     };
                               },
                               forged_other setup old.board.regs old.ledger old.state.memory found.at forged.ctr forged.cipher call.world.whole_formulas
-                              on_now.trusted.anchored call.world.memory within its_ctr
-                              (subst (λ marks. IfSome (last_seal marks found.at) (λ seal. forged.cipher ≢ seal.cipher)) marks forged.other_cipher),
+                                  on_now.trusted.anchored call.world.memory within its_ctr
+                                  (subst (λ marks. IfSome (last_seal marks found.at) (λ seal. forged.cipher ≢ seal.cipher)) marks forged.other_cipher),
                             );
                           };
                     });

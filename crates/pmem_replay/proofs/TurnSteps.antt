@@ -1,17 +1,15 @@
 -- Turns: what the world answers, and what becomes of it.
-use Rattle.std.proofs.Common.{ℕ, ◌≡◌, ◌≢◌, ◌<◌, ◌≤◌, ◌++◌, Bool, true, false, List, [], Option, Some, None, IsTrue, refl, sym, ap, subst, ◌∙◌, arith}
+use Rattle.std.proofs.Common.{ℕ, ◌≡◌, ◌<◌, ◌++◌, true, false, List, [], Option, Some, None, refl, sym, ap, subst, ◌∙◌, arith}
 use Rattle.std.specs.Prelude.{Result, Ok, Err, All, is_some, IsSome, ◌^◌}
 use Rattle.std.proofs.lemmas.Bool.{true≢false}
 use Rattle.pmem_base.specs.declared.answers.Exhibit.{Exhibit}
 use Rattle.std.proofs.lemmas.List.{append-nil}
 use Rattle.pmem_base.specs.declared.commands.Posted.{Posted}
 use Rattle.pmem_base.specs.declared.commands.Command.TheVariants as Do
-use Rattle.pmem_base.specs.declared.answers.Answer.{Answer}
 use Rattle.pmem_base.specs.declared.answers.Answer.TheVariants as Say
 use Rattle.pmem_base.specs.declared.answers.Mark.{Mark}
 use Rattle.pmem_base.specs.declared.answers.Place.{Place}
 use Rattle.pmem_base.specs.Shape.{Shape}
-use Rattle.pmem_base.specs.Layout as layout
 use Rattle.pmem_base.specs.Ranges.{IsAnswer, IsExhibitValue}
 use Rattle.board.specs.Memory.{Memory}
 use Rattle.meta_cache.specs.Banks.{IsBanksOf}
@@ -19,7 +17,7 @@ use Rattle.seal_ledger.specs.Ledger.{LedgerState, IsMark}
 use Rattle.seal_ledger.specs.Notes.{HasRoom}
 use Rattle.suite.specs.Setup.{Setup}
 use Rattle.plain_model.specs.State.{PlainState, Reply, no_writes}
-use Rattle.plain_model.specs.After.{state_after, after_marks, steps_of, is_cut}
+use Rattle.plain_model.specs.After.{state_after, after_marks}
 use Rattle.plain_model.specs.Answers.{decided_answer, is_shown}
 use Rattle.pmem_engine.specs.declared.fault.Fault.{Fault}
 use Rattle.pmem_engine.specs.declared.fault.Fault.TheVariants as Fail
@@ -39,8 +37,8 @@ use Rattle.pmem_replay.proofs.FlushLaws.{left_alone-steps}
 use Rattle.pmem_replay.proofs.TurnLaws as laws
 use Rattle.pmem_replay.proofs.Sights.{tag_wrong, small_line, forged_sight}
 use Rattle.pmem_replay.proofs.Stepping.{stepped_by_engine}
-use Rattle.pmem_replay.proofs.TableSteps.{IsGoingOn, lit_in}
-use Rattle.pmem_replay.proofs.Reserved.{reserved, good_before}
+use Rattle.pmem_replay.proofs.TableSteps.{lit_in}
+use Rattle.pmem_replay.proofs.Reserved.{good_before}
 use Rattle.pmem_replay.proofs.Served.{called, IsServed, call_of, state_called, state_cut_with, memory_is, few_steps}
 
 -- `before` is the ledger before room was made

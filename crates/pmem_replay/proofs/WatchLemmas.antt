@@ -59,9 +59,9 @@ one_less fuse (Some n) steps is lasts unspent more next =
     elim (cases_eq (n - steps) 0) [
       | inl zero ↦ absurd (unspent (is ∙ ap (λ (k : ℕ). Some k) zero))
       | inr some ↦ (
-          ap burnt_fuse is ∙ ap (λ (k : ℕ). Some k) (omega (arith, next)),
-          omega (arith, lasts, some, next),
-        )
+        ap burnt_fuse is ∙ ap (λ (k : ℕ). Some k) (omega (arith, next)),
+        omega (arith, lasts, some, next),
+      )
     ]
 
 -- power lasts of a board that isn't spent

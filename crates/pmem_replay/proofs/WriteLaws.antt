@@ -433,7 +433,7 @@ module _ (setup : Setup) (old mid new : WorldState) (command : Command) (d : Opt
                     writing.marks (made ++ written.made) (Say.CutKept d (spent + steps_in taken)) (
                       omega (arith, writing.count, slice_get_within queue n write next.its_place),
                       ap (λ k. marks_of_writes setup.formulas now (take k queue)) (sym (next_count (unwrap_or d 0) writing.count))
-                      ∙ marks-more setup old mid port n made spent drained world small write later waits written.made whole,
+                          ∙ marks-more setup old mid port n made spent drained world small write later waits written.made whole,
                     );
                 peek_true = writing.peek (Say.CutKept d (spent + steps_in taken));
                 steps_counted = tt;
@@ -516,10 +516,10 @@ module _ (setup : Setup) (old mid new : WorldState) (command : Command) (d : Opt
                   d,
                   record { legal = it.legal; fits = it.fits },
                   subst (λ (s : PlainState). forged.cipher ≢ cipher_of setup.formulas found.at forged.ctr (line_at s.memory found.at)) (sym turn_state)
-                  (subst (λ (s : PlainState). forged.cipher ≢ cipher_of setup.formulas found.at forged.ctr (line_at s.memory found.at)) drained.state
-                  (forged_other setup mid.board.regs mid.ledger mid.state.memory found.at forged.ctr forged.cipher call.world.whole_formulas
-                  on_mid.trusted.anchored call.world.memory inside its_ctr
-                  (subst (λ seal. IfSome seal (λ s. forged.cipher ≢ s.cipher)) its_seal forged.other_cipher))),
+                      (subst (λ (s : PlainState). forged.cipher ≢ cipher_of setup.formulas found.at forged.ctr (line_at s.memory found.at)) drained.state
+                      (forged_other setup mid.board.regs mid.ledger mid.state.memory found.at forged.ctr forged.cipher call.world.whole_formulas
+                      on_mid.trusted.anchored call.world.memory inside its_ctr
+                      (subst (λ seal. IfSome seal (λ s. forged.cipher ≢ s.cipher)) its_seal forged.other_cipher))),
                 );
               };
         })

@@ -210,7 +210,7 @@ module _ (setup : Setup) (old new : WorldState) (engine after : EngineState) (ta
         others_unspoiled a inside sealed
         (λ same. true≢false (sym (subst (λ z. is_sealed_by written.made z ≡ true) same sealed) ∙ unsealed)))
 
-    put_memory : is_sealed_by written.made write.at ≡ true → IsMemoryOf setup new.ledger.marks (memory_with old.state.memory write)
+    pub put_memory : is_sealed_by written.made write.at ≡ true → IsMemoryOf setup new.ledger.marks (memory_with old.state.memory write)
     put_memory sealed =
         record {
           count = length-set old.state.memory write.at (put_write (line_at old.state.memory write.at) write) ∙ call.world.memory.count;
@@ -219,7 +219,7 @@ module _ (setup : Setup) (old new : WorldState) (engine after : EngineState) (ta
               (written.memory on_now.trusted old.state.memory (omega (arith, within, call.world.memory.count)) call.world.memory.each);
         }
 
-    dropped_memory : is_sealed_by written.made write.at ≡ false → IsMemoryOf setup new.ledger.marks old.state.memory
+    pub dropped_memory : is_sealed_by written.made write.at ≡ false → IsMemoryOf setup new.ledger.marks old.state.memory
     dropped_memory unsealed =
         record {
           count = call.world.memory.count;

@@ -1,5 +1,5 @@
 -- The plain machine's flags: of lines that were tampered with, and of blocks that may be dirty.
-use Rattle.std.specs.Prelude.{ℕ, ◌≡◌, false, Bool, List, length}
+use Rattle.std.specs.Prelude.{◌≡◌, false, Bool, List, length}
 use Rattle.pmem_base.specs.Shape.{Shape}
 use Rattle.pmem_base.specs.Layout as layout
 use Rattle.plain_model.specs.State.{PlainState, no_flags}

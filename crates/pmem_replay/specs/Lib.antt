@@ -1,6 +1,7 @@
 pub mod World
 pub mod During
 pub mod Flagged
+pub mod Given
 pub mod Replies
 pub mod Stamps
 pub mod Stepped

@@ -1,5 +1,5 @@
 -- One command and its reply: what the world answers, and what becomes of it and of its own parts.
-use Rattle.std.specs.Prelude.{ℕ, ◌≡◌, ◌≢◌, ◌-◌, ◌++◌, ◌⊎◌, true, false, List, [], ◌∷◌, Option, Some, None, Result, Ok, Err, MatchOption, IsTrue, IfSome, ⊤, if◌then◌else◌}
+use Rattle.std.specs.Prelude.{ℕ, ◌≡◌, ◌≢◌, ◌-◌, ◌++◌, true, false, List, [], ◌∷◌, Option, Some, None, Result, Ok, Err, MatchOption, IsTrue, IfSome, ⊤, if◌then◌else◌}
 use Rattle.pmem_base.specs.declared.lines.Line.{Line}
 use Rattle.pmem_base.specs.declared.lines.Ctr.{Ctr}
 use Rattle.pmem_base.specs.declared.commands.Command.{Command}
@@ -206,8 +206,8 @@ abbrev pub IsTagWrong : Setup → WorldState → ℕ → Type 0
 IsTagWrong setup new a =
     IfSome (last_seal new.ledger.marks a)
     (λ seal.
-      setup.formulas.tag_of a seal.ctr (line_at new.board.lines a)
-      ≢ tag_slot (line_at new.board.lines (layout.tag_line setup.shape a)) a)
+    setup.formulas.tag_of a seal.ctr (line_at new.board.lines a)
+    ≢ tag_slot (line_at new.board.lines (layout.tag_line setup.shape a)) a)
 
 abbrev pub IsPlaceWrong : Setup → WorldState → Place → Type 0
 IsPlaceWrong setup new (Place.Meta x) =

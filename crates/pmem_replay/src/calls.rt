@@ -2,6 +2,7 @@
 ghost use Rattle.std.specs.Prelude.{◌≡◌, ◌<◌, ◌≤◌, ℕ, true, [], None, Some, length, IsTrue, IsNone, IfOk, IsOk, All};
 ghost use Rattle.pmem_base.specs.Lines.{IsLine};
 ghost use Rattle.pmem_base.specs.Geo.{shape_of};
+ghost use Rattle.pmem_base.specs.Ranges.{IsPosted};
 ghost use Rattle.pmem_base.specs.Shape.{is_loss};
 ghost use Rattle.pmem_base.specs.Layout.{data_lines, device_lines};
 ghost use Rattle.pmem_base.specs.Registers.{IsValidRegs};
@@ -11,7 +12,7 @@ ghost use Rattle.suite.specs.Setup.{Setup};
 ghost use Rattle.seal_ledger.specs.Ledger.{LedgerState, IsOfShape};
 ghost use Rattle.seal_ledger.specs.View.{ledger_of};
 ghost use Rattle.pmem_engine.specs.Parts.{parts_of};
-ghost use Rattle.pmem_engine.specs.Calls.{IsReady, IsUsable, HasReadLine, HasTurned, HasFlushed, HasSetLoss};
+ghost use Rattle.pmem_engine.specs.Calls.{IsReady, IsUsable, HasReadLine, HasTurned, HasFlushed, HasSetLoss, HasWrittenLine};
 ghost use Rattle.pmem_recovery.specs.Parts.{suite_state};
 ghost use Rattle.pmem_replay.specs.During.{IsWatched, WasFormatted, IsTakenApart, WasRecovered, device_during, none_taken};
 
@@ -19,7 +20,7 @@ use crate::kept::{Kept, Made};
 use crate::taken::Taken;
 use crate::watched::{Left, Start, Watched};
 use board::MemBoard;
-use pmem_base::{Geo, Line, MemFault};
+use pmem_base::{Ctr, Geo, Line, MemFault, Posted};
 use pmem_engine::{Engine, Fault};
 use pmem_recovery::{RecFault, Work};
 use seal_ledger::Ledger;
@@ -129,6 +130,62 @@ fn turn_watched<'a, K: Start, S: Suite>(
 {
     let mut watched = Watched::<K>::new(board);
     let answer = engine.turn(&mut watched, suite, ledger);
+    watched.left(answer)
+}
+
+/// Writes the bytes of a posted write into their line.
+pub(crate) fn write_part<S: Suite>(
+    engine: &mut Engine,
+    board: &mut MemBoard,
+    suite: &mut S,
+    ledger: &mut Ledger,
+    write: &Posted,
+) -> Done<Result<Ctr, Fault>>
+    requires line { write.now.at < data_lines engine.old.shape }
+    requires posted { IsPosted write.now }
+    requires room { 66 ≤ (ledger_of ledger.old).spare }
+    requires on { (memory_of board.old).powered ≡ true }
+    requires usable { IsUsable engine.old.shape engine.old (device_during (memory_of board.old) none_taken) (ledger_of ledger.old) }
+    ensures written { HasWrittenLine (record { shape = engine.old.shape; formulas = S.formulas_of (S.keys suite.old) }) write.now
+        (parts_of engine.old (device_during (memory_of board.old) none_taken) (ledger_of ledger.old) (S.tags suite.old) (S.digests suite.old))
+        (parts_of engine.new (device_during (memory_of board.new) result.taken) (ledger_of ledger.new) (S.tags suite.new) (S.digests suite.new)) result.answer }
+    ensures watched { IsWatched (memory_of board.old) (memory_of board.new) result.taken }
+    ensures keys { S.keys suite.new ≡ S.keys suite.old }
+    ensures shape { engine.new.shape ≡ engine.old.shape }
+{
+    let left = write_watched::<Brand, S>(engine, board, suite, ledger, write);
+    let Left {
+        board: _,
+        taken,
+        answer,
+    } = left;
+    Done { taken, answer }
+}
+
+fn write_watched<'a, K: Start, S: Suite>(
+    engine: &mut Engine,
+    board: &'a mut MemBoard,
+    suite: &mut S,
+    ledger: &mut Ledger,
+    write: &Posted,
+) -> Left<'a, Result<Ctr, Fault>>
+    requires line { write.now.at < data_lines engine.old.shape }
+    requires posted { IsPosted write.now }
+    requires room { 66 ≤ (ledger_of ledger.old).spare }
+    requires start { memory_of board.old ≡ K.start }
+    requires name { board.ghost_name ≡ K.name }
+    requires on { (memory_of board.old).powered ≡ true }
+    requires usable { IsUsable engine.old.shape engine.old (device_during (memory_of board.old) none_taken) (ledger_of ledger.old) }
+    ensures name { result.board.ghost_name ≡ K.name }
+    ensures written { HasWrittenLine (record { shape = engine.old.shape; formulas = S.formulas_of (S.keys suite.old) }) write.now
+        (parts_of engine.old (device_during (memory_of board.old) none_taken) (ledger_of ledger.old) (S.tags suite.old) (S.digests suite.old))
+        (parts_of engine.new (device_during (memory_of result.board.now) result.taken) (ledger_of ledger.new) (S.tags suite.new) (S.digests suite.new)) result.answer }
+    ensures watched { IsWatched K.start (memory_of result.board.now) result.taken }
+    ensures keys { S.keys suite.new ≡ S.keys suite.old }
+    ensures shape { engine.new.shape ≡ engine.old.shape }
+{
+    let mut watched = Watched::<K>::new(board);
+    let answer = engine.write_part(&mut watched, suite, ledger, write);
     watched.left(answer)
 }
 

@@ -1,15 +1,17 @@
 //! Which metadata blocks may be dirty.
-ghost use Rattle.std.specs.Prelude.{◌≡◌, ◌<◌, length, All, IfOk};
+ghost use Rattle.std.specs.Prelude.{◌≡◌, ◌<◌, ◌≤◌, length, drop, All, IfOk};
 ghost use Rattle.pmem_base.specs.Geo.{shape_of};
 ghost use Rattle.pmem_base.specs.Shape.{Shape};
 ghost use Rattle.pmem_base.specs.Layout.{pages, meta_lines};
 ghost use Rattle.seal_ledger.specs.Ledger.{IsMark};
+ghost use Rattle.seal_ledger.specs.View.{ledger_of};
 ghost use Rattle.plain_model.specs.State.{PlainState, no_flags, with_flag};
 ghost use Rattle.plain_model.specs.After.{after_clean, after_mark, after_marks};
 ghost use Rattle.pmem_replay.specs.Flagged.{no_dirtying, with_dirtying, HasDirtyingOf};
 
 use crate::Flags;
 use pmem_base::{Geo, Mark, MemFault};
+use seal_ledger::Ledger;
 use std::alloc::Global;
 use std::marker::Model;
 
@@ -64,6 +66,16 @@ impl Dirtied {
         'marks: for mark in marks {
             self.note(geo, mark);
         }
+    }
+
+    /// What the ledger's marks from the `from`-th on may leave dirty.
+    pub(crate) fn note_since(&mut self, geo: &Geo, ledger: &Ledger, from: usize)
+        requires from { from ≤ length (ledger_of ledger.now).marks }
+        requires marks { All (IsMark (shape_of geo.now)) (ledger_of ledger.now).marks }
+        requires flags { HasDirtyingOf (shape_of geo.now) self.old }
+        ensures { (state : PlainState) → with_dirtying state self.new ≡ after_marks (shape_of geo.now) (with_dirtying state self.old) (drop from (ledger_of ledger.now).marks) }
+    {
+        self.note_all(geo, &ledger.marks()[from..]);
     }
 
     /// What a mark may leave dirty.

@@ -3,6 +3,7 @@
 
 mod calls;
 mod dirtied;
+mod draining;
 mod flags;
 mod kept;
 mod posting;

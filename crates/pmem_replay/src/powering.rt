@@ -6,8 +6,7 @@ ghost use Rattle.pmem_replay.specs.World.{setup_of};
 ghost use Rattle.pmem_replay.specs.Replies.{without_marks};
 ghost use Rattle.pmem_replay.specs.Stepped.{HasStepped};
 
-use crate::World;
-use crate::calls;
+use crate::{World, calls};
 use pmem_base::{Answer, Exhibit, MemFault, Tag};
 use pmem_recovery::RecFault;
 use std::alloc::Global;
@@ -88,14 +87,16 @@ impl<S: Counted + Drop> World<S> {
                 self.board.rest();
                 Ok(Answer::WrongRoot { kept, found, steps })
             }
-            Err(RecFault::Twin {
-                at,
-                major,
-                low,
-                high,
-                cipher,
-                tag,
-            }) => {
+            Err(
+                RecFault::Twin {
+                    at,
+                    major,
+                    low,
+                    high,
+                    cipher,
+                    tag,
+                },
+            ) => {
                 is_number(major);
                 cipher.is_whole();
                 is_tag(&tag);

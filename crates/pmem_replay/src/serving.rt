@@ -7,8 +7,7 @@ ghost use Rattle.pmem_replay.specs.World.{setup_of};
 ghost use Rattle.pmem_replay.specs.Replies.{without_marks, with_marks_since};
 ghost use Rattle.pmem_replay.specs.Stepped.{HasStepped};
 
-use crate::World;
-use crate::calls;
+use crate::{World, calls};
 use board::Board;
 use pmem_base::{Answer, Exhibit, MemFault, Place};
 use pmem_engine::Fault;
@@ -37,7 +36,13 @@ impl<S: Counted + Drop> World<S> {
                 steps: 0,
             };
         }
-        let done = calls::read(engine, &mut self.board, &mut self.suite, &mut self.ledger, at as u32);
+        let done = calls::read(
+            engine,
+            &mut self.board,
+            &mut self.suite,
+            &mut self.ledger,
+            at as u32,
+        );
         engine.has_banks();
         let steps = done.taken.steps();
         self.steps = self.steps.saturating_add(steps);

@@ -1,5 +1,5 @@
 //! What the attacker has changed.
-ghost use Rattle.std.specs.Prelude.{◌≡◌, ◌<◌, ◌+◌, ◌^◌, ◌&&◌, not, length, slice_set, IfOk, false};
+ghost use Rattle.std.specs.Prelude.{◌≡◌, ◌<◌, ◌+◌, ◌^◌, ◌&&◌, not, length, slice_set, IfOk, false, if◌then◌else◌};
 ghost use Rattle.pmem_base.specs.Geo.{shape_of};
 ghost use Rattle.pmem_base.specs.Layout.{data_lines, device_lines};
 ghost use Rattle.plain_model.specs.State.{PlainState, is_flagged, has_flags, with_flag, without_flag};
@@ -99,6 +99,17 @@ impl Tampered {
     {
         self.hurt.unset(at);
         self.spoiled.unset(at);
+    }
+
+    /// The same where the write was put.
+    pub(crate) fn heal_if(&mut self, put: bool, at: u32)
+        requires hurt { at < length self.old.hurt }
+        requires spoiled { at < length self.old.spoiled }
+        ensures { self.new ≡ (if put then record (self.old) { hurt = without_flag self.old.hurt at; spoiled = without_flag self.old.spoiled at } else self.old) }
+    {
+        if put {
+            self.heal(at);
+        }
     }
 
     /// Power came on, or was cut as it came.

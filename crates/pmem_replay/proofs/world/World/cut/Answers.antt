@@ -4,8 +4,8 @@ use Rattle.pmem_base.specs.Geo.{shape_of}
 use Rattle.board.specs.MemBoard.{memory_of}
 use Rattle.seal_ledger.specs.View.{ledger_of}
 use Rattle.pmem_base.specs.declared.commands.Command.TheVariants as Do
-use Rattle.pmem_replay.specs.World.{WorldParts, state_in}
-use Rattle.pmem_replay.proofs.Held.{held, setup_in, going_in, power_is, none_wait, seen_from, seen_still, held_after}
+use Rattle.pmem_replay.specs.World.{WorldParts}
+use Rattle.pmem_replay.proofs.Held.{held, setup_in, going_in, seen_from, held_after}
 use Rattle.pmem_replay.proofs.world.World.cut.Goals as goal
 
 pub invariant_of-self : goal.invariant_of-self

@@ -1,12 +1,11 @@
 -- A dirty block is written back, where there is one.
-use Rattle.std.proofs.Common.{arith, rules, ap, refl, sym, subst, ◌∙◌, Ok, Err, Some, None}
+use Rattle.std.proofs.Common.{arith, rules, refl, subst, Ok, Err, Some, None}
 use Rattle.pmem_base.specs.Geo.{shape_of}
 use Rattle.board.specs.MemBoard.{memory_of}
 use Rattle.seal_ledger.specs.View.{ledger_of}
 use Rattle.pmem_base.specs.declared.commands.Command.TheVariants as Do
-use Rattle.pmem_engine.specs.declared.fault.Fault.TheVariants as Fail
-use Rattle.pmem_replay.specs.World.{WorldParts, state_in}
-use Rattle.pmem_replay.proofs.Held.{held, setup_in, going_in, shape_in, none_wait, seen_from, seen_still, held_after}
+use Rattle.pmem_replay.specs.World.{WorldParts}
+use Rattle.pmem_replay.proofs.Held.{held, setup_in, going_in, shape_in, none_wait, seen_from, held_after}
 use Rattle.pmem_replay.proofs.Served.{IsServed}
 use Rattle.pmem_replay.proofs.FlushSteps.{Has, flush-clean, flush-flushed, flush-cut, flush_on_tree, flush_answers}
 use Rattle.pmem_replay.proofs.world.World.flush.Goals as goal

@@ -1,5 +1,5 @@
 -- The number is set, or power is cut.
-use Rattle.std.proofs.Common.{arith, rules, ap, refl, sym, subst, ◌∙◌, Ok, Err, Some, None}
+use Rattle.std.proofs.Common.{arith, rules, ap, refl, sym, subst, ◌∙◌, Ok, Err}
 use Rattle.std.specs.Prelude.{IsTrue, ◌≢◌}
 use Rattle.pmem_base.specs.declared.registers.Regs.{Regs}
 use Rattle.pmem_base.specs.Shape.{is_loss}
@@ -7,9 +7,8 @@ use Rattle.pmem_base.specs.Geo.{shape_of}
 use Rattle.board.specs.MemBoard.{memory_of}
 use Rattle.seal_ledger.specs.View.{ledger_of}
 use Rattle.pmem_base.specs.declared.commands.Command.TheVariants as Do
-use Rattle.pmem_engine.specs.declared.fault.Fault.TheVariants as Fail
-use Rattle.pmem_replay.specs.World.{WorldParts, state_in}
-use Rattle.pmem_replay.proofs.Held.{held, setup_in, going_in, shape_in, none_wait, seen_from, seen_still, held_after}
+use Rattle.pmem_replay.specs.World.{WorldParts}
+use Rattle.pmem_replay.proofs.Held.{held, setup_in, going_in, shape_in, none_wait, seen_from, held_after}
 use Rattle.pmem_replay.proofs.Served.{IsServed}
 use Rattle.pmem_replay.proofs.LossSteps.{Has, loss-set, loss-cut, loss_answers}
 use Rattle.pmem_replay.proofs.world.World.loss.Goals as goal

@@ -1,5 +1,5 @@
 -- Power comes on: the device is recovered, refused or shown, or power is cut.
-use Rattle.std.proofs.Common.{arith, rules, ◌≡◌, ap, refl, sym, subst, ◌∙◌, Ok, Err, Some, None}
+use Rattle.std.proofs.Common.{arith, rules, ◌≡◌, ap, sym, subst, ◌∙◌, None}
 use Rattle.std.specs.Prelude.{true, false}
 use Rattle.pmem_base.specs.Geo.{shape_of}
 use Rattle.board.specs.MemBoard.{memory_of}
@@ -7,7 +7,7 @@ use Rattle.board.specs.Memory.{Memory}
 use Rattle.seal_ledger.specs.View.{ledger_of}
 use Rattle.pmem_base.specs.declared.commands.Command.TheVariants as Do
 use Rattle.pmem_recovery.specs.Parts.{suite_state}
-use Rattle.pmem_replay.specs.World.{WorldParts, IsWorld, state_in, world_of}
+use Rattle.pmem_replay.specs.World.{WorldParts, IsWorld, world_of}
 use Rattle.pmem_replay.specs.During.{none_taken, device_during, IsWatched, WasRecovered}
 use Rattle.pmem_replay.proofs.Served.{called}
 use Rattle.pmem_replay.proofs.OnLaws.{lit}

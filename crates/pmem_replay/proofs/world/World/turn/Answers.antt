@@ -1,15 +1,14 @@
 -- A line is sealed anew, refused or shown, or power is cut, or no page is open.
-use Rattle.std.proofs.Common.{arith, rules, ap, refl, sym, subst, ◌∙◌, Ok, Err, Some, None}
+use Rattle.std.proofs.Common.{arith, rules, subst, Ok, Err, Some, None}
 use Rattle.pmem_base.specs.Geo.{shape_of}
 use Rattle.board.specs.MemBoard.{memory_of}
 use Rattle.seal_ledger.specs.View.{ledger_of}
 use Rattle.pmem_base.specs.declared.commands.Command.TheVariants as Do
 use Rattle.pmem_engine.specs.declared.fault.Fault.TheVariants as Fail
-use Rattle.pmem_replay.specs.World.{WorldParts, state_in}
-use Rattle.pmem_replay.proofs.Held.{held, setup_in, going_in, shape_in, none_wait, seen_from, seen_still, held_after}
+use Rattle.pmem_replay.specs.World.{WorldParts}
+use Rattle.pmem_replay.proofs.Held.{held, setup_in, going_in, shape_in, none_wait, seen_from, held_after}
 use Rattle.pmem_replay.proofs.Served.{IsServed}
 use Rattle.std.specs.Prelude.{true}
-use Rattle.pmem_replay.specs.World.{world_of}
 use Rattle.pmem_replay.proofs.Served.{called}
 use Rattle.pmem_replay.proofs.Held.{rekeyed, since}
 use Rattle.pmem_replay.proofs.Reserved.{reserved}
