@@ -1,6 +1,6 @@
 -- A world's fields as its parts, and steps as contracts write them.
-use Rattle.std.proofs.Common.{ℕ, ◌≡◌, ◌-◌, Bool, false, List, [], Option, Some, None, arith, refl, sym, ap, ap₂, subst, length-drop, take_all, ◌∙◌}
-use Rattle.std.specs.Prelude.{is_some, not, length, drop, slice_range, Result, Ok, Err, IsErr, OnOk}
+use Rattle.std.proofs.Common.{ℕ, ◌≡◌, Bool, false, List, [], Option, Some, None, refl, sym, ap, subst, ◌∙◌}
+use Rattle.std.specs.Prelude.{is_some, not, length, drop, Result, Ok, Err, IsErr, OnOk}
 use Rattle.std.proofs.lemmas.Bool.{true≢false}
 use Rattle.std.proofs.Math.Seq.{drop-append_seam}
 use Rattle.pmem_base.specs.declared.commands.Posted.{Posted}
@@ -125,18 +125,6 @@ pub unmarked : (setup : Setup) (old new : WorldState) (command : Command) (answe
     → HasStepped setup old command (without_marks answer) new
     → HasStepped setup old command (with_marks_since old new answer) new
 unmarked setup old new command answer step = since setup old new command [] answer step
-
--- marks that begin at the old ones' end and end at the new ones' end are those made since
-pub ranged : (setup : Setup) (old new : WorldState) (command : Command) (from to : ℕ) (answer : Answer)
-    → from ≡ length old.ledger.marks → to ≡ length new.ledger.marks
-    → HasStepped setup old command (with_marks_since old new answer) new
-    → HasStepped setup old command (record { marks = slice_range new.ledger.marks from to; answer = answer }) new
-ranged setup old new command from to answer begin end step =
-    let marks : slice_range new.ledger.marks from to ≡ drop (length old.ledger.marks) new.ledger.marks =
-    ap₂ (slice_range new.ledger.marks) begin end
-    ∙ take_all (length new.ledger.marks - length old.ledger.marks) (drop (length old.ledger.marks) new.ledger.marks)
-    (omega (arith, length-drop (length old.ledger.marks) new.ledger.marks)) in
-    subst (λ (ms : List Mark). HasStepped setup old command (record { marks = ms; answer = answer }) new) (sym marks) step
 
 -- an engine is there
 pub engine_some : (engine : Option EngineState) (none : Bool) → is_some engine ≡ not none → none ≡ false
