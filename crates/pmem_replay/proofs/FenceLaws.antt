@@ -213,13 +213,6 @@ parts_before : (decided : Option Answer) (A : Type 0) (B C : Answer → Type 0) 
 parts_before None A B C none parts = parts
 parts_before (Some answer) A B C none parts = absurd (none-some answer (sym none))
 
-no_stat : (port : ℕ) → Do.Fence port ≡ Do.Stat → ⊥
-no_stat port same = true≢false (ap is_fence same)
-  where
-    is_fence : Command → Bool
-    is_fence (Do.Fence port) = true
-    is_fence command = false
-
 pub fence_before : (formulas_of : List ℕ → Formulas) (old mid new : WorldState) (port more : ℕ) → HasRoomMade (setup_of formulas_of old) old more mid
     → old.state.power ≡ true → (answer : Answer)
     → HasStepped (setup_of formulas_of mid) mid (Do.Fence port) (with_marks_since mid new answer) new
@@ -238,7 +231,7 @@ fence_before formulas_of old mid new port more made lit answer step =
       listed = its.listed;
       in_range = its.in_range;
       legal = its.legal;
-      fits = λ exact. its.fits (λ stat. absurd (no_stat port stat));
+      fits = its.fits;
       marks = its.marks;
       shown = its.shown;
       state = its.state;

@@ -1,5 +1,5 @@
 -- A world's fields as its parts, and steps as contracts write them.
-use Rattle.std.proofs.Common.{ℕ, ◌≡◌, Bool, false, List, Option, Some, None, refl, sym, ap, subst, ◌∙◌}
+use Rattle.std.proofs.Common.{ℕ, ◌≡◌, Bool, false, List, [], Option, Some, None, refl, sym, ap, subst, ◌∙◌}
 use Rattle.std.specs.Prelude.{is_some, not, length, drop, Result, Ok, Err, IsErr, OnOk}
 use Rattle.std.proofs.lemmas.Bool.{true≢false}
 use Rattle.std.proofs.Math.Seq.{drop-append_seam}
@@ -13,7 +13,7 @@ use Rattle.suite.specs.Formulas.{Formulas}
 use Rattle.suite.specs.Setup.{Setup}
 use Rattle.pmem_base.specs.declared.answers.Mark.{Mark}
 use Rattle.pmem_base.specs.declared.answers.Answer.{Answer}
-use Rattle.pmem_replay.specs.Replies.{with_marks_since}
+use Rattle.pmem_replay.specs.Replies.{without_marks, with_marks_since}
 use Rattle.plain_model.specs.State.{Reply, no_writes}
 use Rattle.write_ports.specs.Queues as ports
 use Rattle.pmem_engine.specs.Engine.{EngineState}
@@ -119,6 +119,12 @@ since setup old new command marks answer step =
     let its : marks ≡ drop (length old.ledger.marks) new.ledger.marks =
     sym (ap (drop (length old.ledger.marks)) step.marks ∙ drop-append_seam old.ledger.marks marks) in
     subst (λ (ms : List Mark). HasStepped setup old command (record { marks = ms; answer = answer }) new) its step
+
+-- a reply without marks, where none were made
+pub unmarked : (setup : Setup) (old new : WorldState) (command : Command) (answer : Answer)
+    → HasStepped setup old command (without_marks answer) new
+    → HasStepped setup old command (with_marks_since old new answer) new
+unmarked setup old new command answer step = since setup old new command [] answer step
 
 -- an engine is there
 pub engine_some : (engine : Option EngineState) (none : Bool) → is_some engine ≡ not none → none ≡ false

@@ -1,5 +1,5 @@
 -- What a look at a device line shows, and the counts.
-use Rattle.std.proofs.Common.{ℕ, suc, ◌≡◌, ◌<◌, ◌≤◌, ◌+◌, ◌-◌, ◌*◌, ◌%◌, ◌++◌, inl, inr, Bool, true, false, List, length, drop, Option, Some, None, IsTrue, refl, sym, ap, ap₂, subst, ◌∙◌, arith}
+use Rattle.std.proofs.Common.{ℕ, suc, ◌≡◌, ◌<◌, ◌≤◌, ◌+◌, ◌-◌, ◌*◌, ◌%◌, ◌++◌, ◌⊎◌, inl, inr, Bool, true, false, List, length, drop, Option, Some, None, IsTrue, refl, sym, ap, ap₂, subst, lt_irrefl, ◌∙◌, arith}
 use Rattle.std.specs.Prelude.{MatchBool, option_map, slice_range, nat_le, not, ◌&&◌, ◌||◌, ⊤}
 use Rattle.std.specs.List.{range_with_len}
 use Rattle.std.proofs.lemmas.Option.{same_Some, none-some}
@@ -11,12 +11,14 @@ use Rattle.pmem_base.specs.declared.lines.Ctr.{Ctr}
 use Rattle.pmem_base.specs.declared.commands.Command.TheVariants as Do
 use Rattle.pmem_base.specs.declared.answers.Answer.TheVariants as Say
 use Rattle.pmem_base.specs.declared.answers.Stat.{Stat}
+use Rattle.pmem_base.specs.Counts.{last_count}
 use Rattle.pmem_base.specs.Shape.{Shape}
 use Rattle.pmem_base.specs.Layout.{Content, data_line, tags_from, metadata, shadow, nothing, content_of, data_lines, tag_line, meta_line, shadow_line, device_lines, pages, meta_lines}
 use Rattle.pmem_base.specs.Lines.{IsLine, line_at, line_of, tag_slot}
 use Rattle.pmem_base.specs.Marks.{SealOf, last_seal}
 use Rattle.pmem_base.proofs.OneToOne.{content_of-data, content_of-tags, content_of-meta, content_of-shadow}
 use Rattle.pmem_base.proofs.LineLemmas.{IsLine-line_at}
+use Rattle.board.specs.Memory.{Memory}
 use Rattle.bonsai_tree.specs.Positions.{counter_position, level_start, level_of, is_on_path}
 use Rattle.bonsai_tree.proofs.Levels.{level_start-suc, level_start-pow}
 use Rattle.split_counters.specs.Blocks.{packed, unpacked, IsStoredBlock}
@@ -37,6 +39,7 @@ use Rattle.pmem_replay.specs.World.{WorldState, AreExact, IsOn, IsWorld, IsPower
 use Rattle.pmem_replay.proofs.SealedLines.{last_cipher}
 use Rattle.pmem_replay.proofs.Causes.{lines_unarmed, zero_within, counter_position-within}
 use Rattle.pmem_replay.proofs.AfterMarks.{is_touched_block}
+use Rattle.pmem_replay.specs.Stepped.{IsStatOf}
 use Rattle.pmem_replay.specs.Replies.{without_marks}
 use Rattle.pmem_replay.proofs.Goods.{IsGood}
 
@@ -262,10 +265,9 @@ peek-good setup world d whole on_device =
 
 -- ---- the counts
 
-pub stat-good : (setup : Setup) (world : WorldState) (counts : Stat) → IsWorld setup world → AreExact world.board
-    → counts.writes ≡ world.board.writes - world.start.writes → counts.latches ≡ world.board.latches - world.start.latches
+pub stat-good : (setup : Setup) (world : WorldState) (counts : Stat) → IsWorld setup world → IsStatOf world counts
     → IsGood setup world Do.Stat (without_marks (Say.Counts counts))
-stat-good setup world counts whole exact writes latches =
+stat-good setup world counts whole told =
     record {
       legal =
           record {
@@ -276,11 +278,43 @@ stat-good setup world counts whole exact writes latches =
           record {
             marks_asked = refl;
             peek_true = tt;
-            steps_counted =
-                λ low.
-                let sum = whole.steps.sum exact low in
-                omega (arith, sum, writes, latches, whole.steps.writes, whole.steps.latches);
+            steps_counted = by_counts (cases_lt world.board.writes last_count) (cases_lt world.board.latches last_count);
             flush_true = tt;
             within_bounds = tt;
           };
     }
+  where
+    all_steps : (AreExact world.board → ⊥) → counts.writes + counts.latches ≡ world.state.steps
+    all_steps ended =
+        let all = told.all_steps ended in
+        let writes : counts.writes ≡ world.state.steps = all.0 in
+        let latches : counts.latches ≡ 0 = all.1 in
+        omega (arith, writes, latches)
+
+    by_counts : (world.board.writes < last_count) ⊎ (last_count ≤ world.board.writes)
+        → (world.board.latches < last_count) ⊎ (last_count ≤ world.board.latches)
+        → world.state.steps < last_count → counts.writes + counts.latches ≡ world.state.steps
+    by_counts (inl writes_low) (inl latches_low) low =
+        let exact : AreExact world.board = record { writes = writes_low; latches = latches_low } in
+        let sum = whole.steps.sum exact low in
+        let writes = told.writes exact in
+        let latches = told.latches exact in
+        omega (arith, sum, writes, latches, whole.steps.writes, whole.steps.latches)
+    by_counts (inr ended) latches low = all_steps (λ exact. absurd (lt_irrefl world.board.writes (omega (arith, ended, exact.writes))))
+    by_counts (inl writes) (inr ended) low = all_steps (λ exact. absurd (lt_irrefl world.board.latches (omega (arith, ended, exact.latches))))
+
+-- where a count stands at its end, what is answered for such a count is answered
+pub all_told : (board : Memory) (now : Stat) (steps : ℕ) (told : ℕ × ℕ) → now.writes ≡ board.writes → now.latches ≡ board.latches
+    → (last_count ≤ now.writes → told ≡ (steps, 0)) → (last_count ≤ now.latches → told ≡ (steps, 0))
+    → (AreExact board → ⊥) → (told.0 ≡ steps) × (told.1 ≡ 0)
+all_told board now steps told writes latches of_writes of_latches ended =
+    by_counts (cases_lt board.writes last_count) (cases_lt board.latches last_count)
+  where
+    parts : told ≡ (steps, 0) → (told.0 ≡ steps) × (told.1 ≡ 0)
+    parts is = (ap (λ (t : ℕ × ℕ). t.0) is, ap (λ (t : ℕ × ℕ). t.1) is)
+
+    by_counts : (board.writes < last_count) ⊎ (last_count ≤ board.writes) → (board.latches < last_count) ⊎ (last_count ≤ board.latches)
+        → (told.0 ≡ steps) × (told.1 ≡ 0)
+    by_counts (inl writes_low) (inl latches_low) = absurd (ended (record { writes = writes_low; latches = latches_low }))
+    by_counts (inr high) any = parts (of_writes (omega (arith, high, writes)))
+    by_counts (inl low) (inr high) = parts (of_latches (omega (arith, high, latches)))

@@ -44,7 +44,7 @@ stepped_by_table setup old new command answer decided listed in_range fits same 
       listed = listed;
       in_range = in_range;
       legal = legal_decided setup old.state (view_in setup old) command (without_marks answer) decided;
-      fits = λ exact. fits;
+      fits = fits;
       marks = ap (λ ledger. ledger.marks) table.ledger ∙ sym (append-nil old.ledger.marks);
       shown = shown;
       state = λ unshown. state;
@@ -74,7 +74,7 @@ stepped_by_engine setup old new command reply undecided good in_range same shown
       listed = or_right (is_table_answer command reply.answer) (is_engine_answer command reply.answer) good.legal.legal.listed;
       in_range = in_range;
       legal = legal_undecided setup old.state (view_in setup old) command reply undecided good.legal;
-      fits = λ exact. good.fits;
+      fits = good.fits;
       marks = marks;
       shown = shown;
       state = state;

@@ -20,7 +20,7 @@ use Rattle.plain_model.specs.After.{posted_line, posted_part, after_post, after_
 use Rattle.pmem_engine.specs.Engine.{EngineState}
 use Rattle.pmem_replay.specs.Flagged.{Tampering, with_tampering}
 use Rattle.pmem_replay.specs.World.{WorldState, WorldParts, IsWorld, state_in, world_of}
-use Rattle.pmem_replay.specs.Stepped.{HasStepped, IsCounted}
+use Rattle.pmem_replay.specs.Stepped.{HasStepped, IsStatOf}
 use Rattle.pmem_replay.specs.Replies.{without_marks}
 use Rattle.pmem_replay.proofs.Goods.{IsGood}
 use Rattle.pmem_replay.proofs.Causes.{zero_within}
@@ -276,7 +276,7 @@ module _ (setup : Setup) (p : WorldParts) (going : IsGoingOn setup (world_of set
       (λ unshown. sym (counted_zero (state_in setup p) range)) (λ unshown. going.whole)
       (record { board = refl; engine = refl; ledger = refl; tags = refl; digests = refl }, ap (λ l. Say.Raw l) is) tt
 
-  pub stat-ok : (counts : Stat) → IsStat counts → IsCounted old counts → HasStepped setup old Do.Stat (without_marks (Say.Counts counts)) old
+  pub stat-ok : (counts : Stat) → IsStat counts → IsStatOf old counts → HasStepped setup old Do.Stat (without_marks (Say.Counts counts)) old
   stat-ok counts its counted =
       record {
         same_shape = refl;
@@ -289,7 +289,7 @@ module _ (setup : Setup) (p : WorldParts) (going : IsGoingOn setup (world_of set
               legal = record { listed = refl; within_fuse = zero_within (state_in setup p).fuse; writes_whole = refl; caused = tt };
               shown = tt;
             };
-        fits = λ exact. (stat-good setup old counts going.whole (exact refl) counted.writes counted.latches).fits;
+        fits = (stat-good setup old counts going.whole counted).fits;
         marks = sym (append-nil p.ledger.marks);
         shown = going.unshown;
         state = λ unshown. sym (counted_zero (state_in setup p) range);

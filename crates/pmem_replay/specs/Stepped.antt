@@ -1,5 +1,5 @@
 -- One command and its reply: what the world answers, and what becomes of it and of its own parts.
-use Rattle.std.specs.Prelude.{ℕ, ◌≡◌, ◌≢◌, ◌-◌, ◌++◌, true, false, List, [], ◌∷◌, Option, Some, None, Result, Ok, Err, MatchOption, IsTrue, IfSome, ⊤, if◌then◌else◌}
+use Rattle.std.specs.Prelude.{ℕ, ◌≡◌, ◌≢◌, ◌-◌, ◌++◌, true, false, List, [], ◌∷◌, Option, Some, None, Result, Ok, Err, MatchOption, slice_range, IsTrue, IfSome, ⊤, if◌then◌else◌}
 use Rattle.pmem_base.specs.declared.lines.Line.{Line}
 use Rattle.pmem_base.specs.declared.lines.Ctr.{Ctr}
 use Rattle.pmem_base.specs.declared.commands.Command.{Command}
@@ -40,6 +40,7 @@ use Rattle.pmem_recovery.specs.Parts.{SuiteState}
 use Rattle.pmem_recovery.specs.Recovered.{HasRecovered}
 use Rattle.pmem_replay.specs.World.{WorldState, AreExact, IsWorld, view_in, lines_in}
 use Rattle.pmem_replay.specs.declared.taken.Taken.{Taken}
+use Rattle.pmem_replay.specs.declared.world.Reply as replies
 use Rattle.pmem_replay.specs.During.{none_taken, steps_in, device_during, counted, parts_in}
 
 -- ---- what the table's answers do to the board and to the engine
@@ -174,8 +175,18 @@ pub record IsCounted (world : WorldState) (counts : Stat) : Type 0 where
   pub tags : counts.tags ≡ world.tags - world.start.tags
   pub digests : counts.digests ≡ world.digests - world.start.digests
 
+-- The counts as `stat` answers them. A count of line writes or latches that stands at its end tells
+-- nothing any more; then all steps are answered as line writes.
+pub record IsStatOf (world : WorldState) (counts : Stat) : Type 0 where
+  pub reads : counts.reads ≡ world.board.reads - world.start.reads
+  pub writes : AreExact world.board → counts.writes ≡ world.board.writes - world.start.writes
+  pub latches : AreExact world.board → counts.latches ≡ world.board.latches - world.start.latches
+  pub all_steps : (AreExact world.board → ⊥) → (counts.writes ≡ world.state.steps) × (counts.latches ≡ 0)
+  pub tags : counts.tags ≡ world.tags - world.start.tags
+  pub digests : counts.digests ≡ world.digests - world.start.digests
+
 abbrev pub IsStatAnswer : WorldState → Answer → Type 0
-IsStatAnswer world (Say.Counts counts) = IsCounted world counts
+IsStatAnswer world (Say.Counts counts) = IsStatOf world counts
 IsStatAnswer world answer = ⊥
 
 -- where the table decides nothing: what the engine, recovery or a look does; of a fence only that it
@@ -243,6 +254,10 @@ IsSeen setup old command answer new = ⊤
 
 -- ---- a step
 
+-- a reply with its marks, as the plain machine's
+abbrev pub reply_in : WorldState → replies.Reply → Reply
+reply_in world told = record { marks = slice_range world.ledger.marks told.from told.to; answer = told.answer }
+
 -- the clause of `World::step`: one command, its reply, and the world before and after
 pub record HasStepped (setup : Setup) (old : WorldState) (command : Command) (reply : Reply) (new : WorldState) :
     Type 0 where
@@ -252,9 +267,7 @@ pub record HasStepped (setup : Setup) (old : WorldState) (command : Command) (re
   pub listed : IsTrue (is_answer_to command reply.answer)
   pub in_range : IsAnswer reply.answer
   pub legal : IsLegal setup old.state (view_in setup old) command reply
-  -- the counts of `stat` fit where they are below their ends
-  pub fits :
-      (command ≡ Do.Stat → AreExact old.board) → Fits setup old.state (view_in setup old) command reply
+  pub fits : Fits setup old.state (view_in setup old) command reply
   pub marks : new.ledger.marks ≡ old.ledger.marks ++ reply.marks
   pub shown : new.shown ≡ is_shown reply.answer
   pub state :

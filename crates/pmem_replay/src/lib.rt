@@ -1,6 +1,7 @@
 //! The world behind a run: queues, power and the attacker around one engine.
 #![tactic(auto)]
 
+mod answering;
 mod calls;
 mod dirtied;
 mod draining;
@@ -18,4 +19,4 @@ mod watched;
 mod world;
 
 pub use flags::Flags;
-pub use world::World;
+pub use world::{Reply, World};

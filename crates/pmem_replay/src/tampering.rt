@@ -1,5 +1,6 @@
 //! The attacker's commands, and looks past the controller.
-ghost use Rattle.std.specs.Prelude.{◌≡◌, IfOk, OnErr, false};
+ghost use Rattle.std.specs.Prelude.{◌≡◌, ◌<◌, ◌≤◌, ◌-◌, IfOk, OnErr, false};
+ghost use Rattle.pmem_base.specs.Counts.{last_count};
 ghost use Rattle.pmem_base.specs.declared.commands.Command.TheVariants as Do;
 ghost use Rattle.pmem_replay.specs.World.{setup_of};
 ghost use Rattle.pmem_replay.specs.Replies.{without_marks};
@@ -99,12 +100,29 @@ impl<S: Counted + Drop> World<S> {
         ensures { HasStepped (setup_of S.formulas_of self.now) self.now (Do.Stat) (without_marks result) self.now }
     {
         let now = counts_of(&self.board, &self.suite);
+        let (writes, latches) = steps_told(&now, &self.start, self.steps);
         Answer::Counts(Stat {
             reads: now.reads.saturating_sub(self.start.reads),
-            writes: now.writes.saturating_sub(self.start.writes),
-            latches: now.latches.saturating_sub(self.start.latches),
+            writes,
+            latches,
             tags: now.tags.saturating_sub(self.start.tags),
             digests: now.digests.saturating_sub(self.start.digests),
         })
     }
+}
+
+/// Line writes and latches since formatting ended. A count at its end tells nothing any more; then all
+/// steps are answered as line writes.
+fn steps_told(now: &Stat, start: &Stat, steps: u64) -> (u64, u64)
+    ensures exact { now.now.writes < last_count → now.now.latches < last_count → result ≡ (now.now.writes - start.now.writes, now.now.latches - start.now.latches) }
+    ensures all_writes { last_count ≤ now.now.writes → result ≡ (steps, 0) }
+    ensures all_latches { last_count ≤ now.now.latches → result ≡ (steps, 0) }
+{
+    if now.writes == u64::MAX || now.latches == u64::MAX {
+        return (steps, 0);
+    }
+    (
+        now.writes.saturating_sub(start.writes),
+        now.latches.saturating_sub(start.latches),
+    )
 }

@@ -8,13 +8,21 @@ use crate::calls;
 use crate::dirtied::Dirtied;
 use crate::tampered::Tampered;
 use board::MemBoard;
-use pmem_base::{Geo, Mark, MemFault, Stat};
+use pmem_base::{Answer, Geo, Mark, MemFault, Stat};
 use pmem_engine::Engine;
 use seal_ledger::Ledger;
 use std::alloc::Global;
 use std::marker::Model;
 use suite::Counted;
 use write_ports::Ports;
+
+/// A command's answer, and where its marks begin and end among all marks.
+#[derive(Clone, Copy, Debug, PartialEq, Eq)]
+pub struct Reply {
+    pub from: usize,
+    pub to: usize,
+    pub answer: Answer,
+}
 
 /// A device with its snapshot, the engine while power is on, the suite, the writes that wait, the marks,
 /// and what the plain machine keeps beside.
