@@ -19,7 +19,8 @@ use Rattle.meta_path.specs.Blocks.{line_in}
 use Rattle.meta_path.specs.Storing.{new_line}
 use Rattle.meta_path.specs.Storing as storing
 use Rattle.pmem_engine.specs.Engine.{EngineState}
-use Rattle.pmem_engine.specs.Sealing.{cached_block, HasStoredPath}
+use Rattle.pmem_engine.specs.Inner.{cached_block}
+use Rattle.pmem_engine.specs.Sealing.{HasStoredPath}
 
 length-new_path : (f : Formulas) (old : ℕ → Line) (j x : ℕ) (line : Line) → length (new_path f old j x line) ≡ suc j
 length-new_path f old zero x line = refl

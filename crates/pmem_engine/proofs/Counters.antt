@@ -34,7 +34,7 @@ cached_true setup engine regs ledger trusted =
 -- the counter block that is cached is the true one
 pub cached_block-true : (setup : Setup) (engine : EngineState) (regs : Regs) (ledger : LedgerState) (page : ℕ)
     → IsTrusted setup engine regs ledger → IsPathCached setup.shape engine.cache page
-    → cached_block engine page ≡ true_block setup.shape ledger.truth page
+    → cached_block engine.shape engine page ≡ true_block setup.shape ledger.truth page
 cached_block-true setup engine regs ledger page trusted cached =
     ap (λ g. unpacked (line_in g engine.cache g.levels (counter_position g page))) trusted.its_shape
     ∙ ap unpacked
@@ -48,7 +48,7 @@ pub counter-last : (setup : Setup) (engine : EngineState) (regs : Regs) (ledger 
     → a < layout.data_lines setup.shape → IsTrusted setup engine regs ledger
     → IsPathCached setup.shape engine.cache (page_of a)
     → option_map (λ seal. seal.ctr) (last_seal ledger.marks a)
-    ≡ Some (counter_of regs.progress.items (cached_block engine (page_of a)) a)
+    ≡ Some (counter_of regs.progress.items (cached_block engine.shape engine (page_of a)) a)
 counter-last setup engine regs ledger a within trusted cached =
     trusted.anchored.last_counters a within
     ∙ ap (λ block. Some (counter_of regs.progress.items block a))

@@ -32,7 +32,8 @@ use Rattle.pmem_engine.specs.Parts.{Parts, parts_of, lines_redone, AreTrusted, m
 use Rattle.pmem_engine.specs.Outcomes.{going, cut, is_sealed_by, NeverFalls, HasDone}
 use Rattle.pmem_engine.specs.Calls.{IsUsable, IsPathNamedInMirror, is_persisting}
 use Rattle.pmem_engine.specs.Committing.{next_seal_of, HasCommitted, IsCutArmed}
-use Rattle.pmem_engine.specs.Sealing.{cached_block, next_counter_of, raised_block, seal_steps, seal_group, HasPathSealed, HasSealCommitted, IsNothingDone, IsSealCut, HasSealedNext}
+use Rattle.pmem_engine.specs.Inner.{cached_block}
+use Rattle.pmem_engine.specs.Sealing.{next_counter_of, raised_block, seal_steps, seal_group, HasPathSealed, HasSealCommitted, IsNothingDone, IsSealCut, HasSealedNext}
 use Rattle.pmem_engine.proofs.StillLaws.{done_reading, done_cut}
 use Rattle.pmem_engine.proofs.Chained.{done_chained}
 use Rattle.pmem_engine.proofs.PlainLines.{plain_line-sealed, plain_line-other}

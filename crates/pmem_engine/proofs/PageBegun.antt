@@ -29,7 +29,8 @@ use Rattle.pmem_engine.specs.Parts.{Parts, parts_of}
 use Rattle.pmem_engine.specs.Outcomes.{going, NeverFalls, HasDone}
 use Rattle.pmem_engine.specs.Calls.{IsUsable, IsPathNamedInMirror}
 use Rattle.pmem_engine.specs.Committing.{HasCommitted, IsCutArmed}
-use Rattle.pmem_engine.specs.Sealing.{cached_block, begin_group, HasPageBegun, HasBeginCommitted, IsNothingDone, IsBeginCut, HasBegunPage}
+use Rattle.pmem_engine.specs.Inner.{cached_block}
+use Rattle.pmem_engine.specs.Sealing.{begin_group, HasPageBegun, HasBeginCommitted, IsNothingDone, IsBeginCut, HasBegunPage}
 use Rattle.pmem_engine.proofs.StillLaws.{done_cut}
 use Rattle.pmem_engine.proofs.Stored.{cached_true_line, cached_lines_true, kept_named}
 use Rattle.pmem_engine.proofs.PathBegins.{IsBeginning, done_begun, cut_begun, begun_line, begun_clean, begun_block}

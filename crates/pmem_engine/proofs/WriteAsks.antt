@@ -30,7 +30,8 @@ use Rattle.pmem_engine.specs.Invariants.{register_page}
 use Rattle.pmem_engine.specs.Parts.{Parts, regs_of, AreTrusted}
 use Rattle.pmem_engine.specs.Calls.{moment_in}
 use Rattle.pmem_engine.specs.Resealing.{register_in}
-use Rattle.pmem_engine.specs.Sealing.{cached_block, next_counter_of}
+use Rattle.pmem_engine.specs.Inner.{cached_block}
+use Rattle.pmem_engine.specs.Sealing.{next_counter_of}
 use Rattle.pmem_engine.specs.Writing.{overflow_of, reseals_of, register_to_finish, register_found}
 use Rattle.pmem_engine.proofs.Counters.{cached_block-true}
 use Rattle.pmem_engine.proofs.TrueLines.{view-open_page}

@@ -13,7 +13,8 @@ use Rattle.pmem_engine.specs.declared.fault.Fault.{Fault}
 use Rattle.pmem_engine.specs.declared.fault.Fault.TheVariants as Fail
 use Rattle.pmem_engine.specs.Parts.{Parts, AreTrusted}
 use Rattle.pmem_engine.specs.Outcomes.{outcome_of, TakesSteps, TakesFewer}
-use Rattle.pmem_engine.specs.Sealing.{cached_block, next_counter_of, HasBeginMarks, TakesBeginSteps, HasBegunPage}
+use Rattle.pmem_engine.specs.Inner.{cached_block}
+use Rattle.pmem_engine.specs.Sealing.{next_counter_of, HasBeginMarks, TakesBeginSteps, HasBegunPage}
 use Rattle.pmem_engine.specs.Writing.{HasLeftOut, IsFrontOf, HasBegunFor}
 use Rattle.pmem_engine.proofs.WriteParts.{IsWritePart, alone_part, begin_part}
 use Rattle.pmem_engine.proofs.WriteSteps.{begin_asked}

@@ -31,8 +31,8 @@ use Rattle.pmem_engine.specs.declared.fault.Fault.TheVariants as Fail
 use Rattle.pmem_engine.specs.Parts.{Parts, regs_of, AreTrusted, HoldsSeal, meta_line_in}
 use Rattle.pmem_engine.specs.Outcomes.{going, cut, is_going, outcome_of, outcome_of_fault, is_seal_of, is_sealed_by, TakesSteps, TakesAtMost}
 use Rattle.pmem_engine.specs.Calls.{IsMemory, IsDownAnswer, IsUnrefused, IsPathNamedInMirror, IsBlockTrue, moment_in, memory_after, is_persisting, HasWriteMarks, AnswersWrite, write_bound, TakesSpent, TakesOfWrite}
-use Rattle.pmem_engine.specs.Inner.{StandsStill, HasFetched, HasNamedPath}
-use Rattle.pmem_engine.specs.Sealing.{cached_block, next_counter_of, seal_steps, HasNextMarks, TakesSealSteps, HasSealedNext}
+use Rattle.pmem_engine.specs.Inner.{cached_block, StandsStill, HasFetched, HasNamedPath}
+use Rattle.pmem_engine.specs.Sealing.{next_counter_of, seal_steps, HasNextMarks, TakesSealSteps, HasSealedNext}
 use Rattle.pmem_engine.specs.Writing.{overflow_of, IsFrontOf, HasFinishMarks, HasMadePlain, HasFinishedFor, HasBegunFor, HasWrittenUnder}
 use Rattle.pmem_engine.proofs.Chained.{done_chained}
 use Rattle.pmem_engine.proofs.WriteAsks.{asked_seal, asked_begin, asked_none, free_at_overflow, overflow_fault}

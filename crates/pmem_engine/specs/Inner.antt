@@ -3,6 +3,7 @@ use Rattle.std.specs.Prelude.{ℕ, ◌≡◌, ◌<◌, false, not, ◌||◌, [],
 use Rattle.pmem_base.specs.declared.lines.Line.{Line}
 use Rattle.pmem_base.specs.declared.lines.Ctr.{Ctr}
 use Rattle.pmem_base.specs.Counts.{risen}
+use Rattle.pmem_base.specs.Shape.{Shape}
 use Rattle.pmem_base.specs.Layout as layout
 use Rattle.pmem_base.specs.Layout.{page_of}
 use Rattle.pmem_base.specs.Marks.{last_seal}
@@ -125,10 +126,9 @@ pub record HasUnsealed (setup : Setup) (a : ℕ) (ctr : Ctr) (old new : Parts) (
 
 -- ---- a line read
 
--- the block of the page's counter block as it is cached
-abbrev pub cached_block : EngineState → ℕ → Block
-cached_block engine page =
-    unpacked (line_in engine.shape engine.cache engine.shape.levels (counter_position engine.shape page))
+-- the page's counter block as it is cached
+abbrev pub cached_block : Shape → EngineState → ℕ → Block
+cached_block g engine page = unpacked (line_in g engine.cache g.levels (counter_position g page))
 
 -- a read of an engine that isn't down
 pub record HasReadUnder (setup : Setup) (a : ℕ) (old new : Parts) (answer : Result Line Fault) : Type 0 where

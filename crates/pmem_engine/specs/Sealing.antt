@@ -15,12 +15,12 @@ use Rattle.pmem_base.specs.Registers.{IsGroup}
 use Rattle.suite.specs.Formulas.{Formulas}
 use Rattle.suite.specs.Setup.{Setup}
 use Rattle.split_counters.specs.declared.Block.{Block}
-use Rattle.split_counters.specs.Blocks.{packed, unpacked, minor_of, with_minor, next_block}
+use Rattle.split_counters.specs.Blocks.{packed, minor_of, with_minor, next_block}
 use Rattle.bonsai_tree.specs.Positions.{counter_position}
 use Rattle.board.specs.Device.{Device}
 use Rattle.board.specs.Steps.{WasCut}
 use Rattle.meta_cache.specs.Banks.{IsBanksOf}
-use Rattle.meta_path.specs.Blocks.{line_in, IsPathCached}
+use Rattle.meta_path.specs.Blocks.{IsPathCached}
 use Rattle.meta_path.specs.Storing.{IsPathOf, KeepsSlots}
 use Rattle.seal_ledger.specs.Ledger.{LedgerState, IsSealValue}
 use Rattle.page_reencrypt.specs.Registers.{registers_with_done, begun}
@@ -34,6 +34,7 @@ use Rattle.pmem_engine.specs.Steps.{block_entry}
 use Rattle.pmem_engine.specs.Parts.{Parts, regs_of, AreTrusted, meta_line_in}
 use Rattle.pmem_engine.specs.Outcomes.{outcome_of, is_sealed_by, HasDone, TakesSteps, TakesFewer}
 use Rattle.pmem_engine.specs.Calls.{IsPathNamedInMirror, IsBlockTrue, is_persisting}
+use Rattle.pmem_engine.specs.Inner.{cached_block}
 use Rattle.pmem_engine.specs.Committing.{entries_of, HasCommitted, IsCutArmed}
 
 -- ---- parts of a commit
@@ -141,10 +142,6 @@ IsBeginCut g page register block lines root old new old_device new_device before
     ⊎ IsBeginCutArmed g page register block lines root old new old_device new_device before after
 
 -- ---- the whole
-
--- the page's counter block as it is cached
-abbrev pub cached_block : Shape → EngineState → ℕ → Block
-cached_block g engine page = unpacked (line_in g engine.cache g.levels (counter_position g page))
 
 -- the next counter of line a, and its page's counter block with it
 abbrev pub next_counter_of : Shape → EngineState → ℕ → Ctr

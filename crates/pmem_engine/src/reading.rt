@@ -76,7 +76,7 @@ impl Engine {
     // The counter block of a page, which is cached.
     pub(crate) fn block(&self, page: u32) -> Block
         requires page { page < pages self.now.shape }
-        ensures cached { result ≡ cached_block self.now page }
+        ensures cached { result ≡ cached_block self.now.shape self.now page }
         ensures range { All (λ m. m ≤ 127) result.minors }
         ensures valid { IsBlock result }
     {
@@ -91,7 +91,7 @@ impl Engine {
     // The counter that line `at`, whose page's path is cached, is sealed under.
     pub(crate) fn counter<B: Board>(&self, board: &B, at: u32) -> Ctr
         requires line { at < data_lines self.now.shape }
-        ensures cached { result ≡ counter_of (B.device board.now).regs.progress.items (cached_block self.now (page_of at)) at }
+        ensures cached { result ≡ counter_of (B.device board.now).regs.progress.items (cached_block self.now.shape self.now (page_of at)) at }
         ensures last { (setup : Setup) (ledger : LedgerState) → IsTrusted setup self.now (B.device board.now).regs ledger
             → IsPathCached setup.shape self.now.cache (page_of at)
             → option_map (λ seal. seal.ctr) (last_seal ledger.marks at) ≡ Some result }

@@ -11,7 +11,8 @@ ghost use Rattle.page_reencrypt.specs.Registers.{registers_with_done, register_o
 ghost use Rattle.split_counters.specs.Blocks.{packed, minor_of, next_block};
 ghost use Rattle.pmem_engine.specs.Parts.{parts_of};
 ghost use Rattle.pmem_engine.specs.Calls.{IsUsable, IsPathNamedInMirror};
-ghost use Rattle.pmem_engine.specs.Sealing.{cached_block, next_counter_of, raised_block, HasSealedNext, HasBegunPage, HasStoredPath, seal_group, begin_group, HasSealCommitted, IsSealCut, HasBeginCommitted, IsBeginCut};
+ghost use Rattle.pmem_engine.specs.Inner.{cached_block};
+ghost use Rattle.pmem_engine.specs.Sealing.{next_counter_of, raised_block, HasSealedNext, HasBegunPage, HasStoredPath, seal_group, begin_group, HasSealCommitted, IsSealCut, HasBeginCommitted, IsBeginCut};
 
 use crate::engine::Engine;
 use crate::fault::Fault;

@@ -8,7 +8,7 @@ ghost use Rattle.meta_path.specs.Blocks.{IsPathCached};
 ghost use Rattle.plain_model.specs.State.{put_write};
 ghost use Rattle.pmem_engine.specs.Parts.{parts_of};
 ghost use Rattle.pmem_engine.specs.Calls.{IsUsable, IsPathNamedInMirror};
-ghost use Rattle.pmem_engine.specs.Sealing.{cached_block};
+ghost use Rattle.pmem_engine.specs.Inner.{cached_block};
 ghost use Rattle.pmem_engine.specs.Writing.{overflow_of, HasMadePlain, register_to_finish, HasFinishedPage, HasFinishedFor, HasBegunFor, HasWrittenUnder};
 
 use crate::engine::Engine;

@@ -13,7 +13,8 @@ use Rattle.pmem_engine.specs.declared.fault.Fault.TheVariants as Fail
 use Rattle.pmem_engine.specs.Engine.{EngineState}
 use Rattle.pmem_engine.specs.Outcomes.{NeverFalls}
 use Rattle.pmem_engine.specs.Parts.{parts_of}
-use Rattle.pmem_engine.specs.Sealing.{cached_block, HasBeginCommitted, IsBeginCut, HasBegunPage}
+use Rattle.pmem_engine.specs.Inner.{cached_block}
+use Rattle.pmem_engine.specs.Sealing.{HasBeginCommitted, IsBeginCut, HasBegunPage}
 use Rattle.pmem_engine.proofs.Exits.{is_err_of}
 use Rattle.pmem_engine.proofs.NextPaths.{rolled-next, times_never_fall}
 use Rattle.pmem_engine.proofs.BegunBlock.{rolled_block}

@@ -12,7 +12,7 @@ use Rattle.pmem_engine.proofs.engine.Engine.counter.Goals as goal
 pub returns-clause-last : goal.returns-clause-last
 returns-clause-last g c = λ setup ledger trusted cached.
     let regs : Regs = (g.B.Board.device c.args.board.now).regs in
-    let is : c.ctr_of.result ≡ counter_of regs.progress.items (cached_block c.args.self.now (page_of c.args.at)) c.args.at =
+    let is : c.ctr_of.result ≡ counter_of regs.progress.items (cached_block c.args.self.now.shape c.args.self.now (page_of c.args.at)) c.args.at =
     c.ctr_of.ensures.value
     ∙ ap₂ (λ (r : Regs) (block : Block). counter_of r.progress.items block c.args.at) c.regs.ensures c.block.ensures.cached in
     counter-last setup c.args.self.now regs ledger c.args.at

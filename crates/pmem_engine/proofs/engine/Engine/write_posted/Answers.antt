@@ -9,8 +9,8 @@ use Rattle.suite.specs.Setup.{Setup}
 use Rattle.pmem_engine.specs.Engine.{EngineState}
 use Rattle.pmem_engine.specs.Parts.{Parts, parts_of}
 use Rattle.pmem_engine.specs.Calls.{IsPathNamedInMirror}
-use Rattle.pmem_engine.specs.Inner.{HasFetched, HasNamedPath}
-use Rattle.pmem_engine.specs.Sealing.{cached_block, HasSealedNext}
+use Rattle.pmem_engine.specs.Inner.{cached_block, HasFetched, HasNamedPath}
+use Rattle.pmem_engine.specs.Sealing.{HasSealedNext}
 use Rattle.pmem_engine.specs.Writing.{overflow_of, HasMadePlain, HasFinishedFor, HasBegunFor, HasWrittenUnder}
 use Rattle.pmem_engine.proofs.Exits.{is_err_of}
 use Rattle.pmem_engine.proofs.WriteCalls.{IsAmid, amid_after, usable_here, minor_below, amid_finished, room_finished, amid_begun, room_begun, cached_begun, named_begun, same_unbegun}
