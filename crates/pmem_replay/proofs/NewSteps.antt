@@ -235,14 +235,7 @@ module _ (setup : Setup) (p : WorldParts) (old : Device) (made : IsJustMade setu
         view = its_view;
         not_shown = made.shown;
         holds = made_world;
-        counts =
-            record {
-              reads = omega (arith, ap (λ (s : Stat). s.reads) made.start);
-              writes = omega (arith, ap (λ (s : Stat). s.writes) made.start);
-              latches = omega (arith, ap (λ (s : Stat). s.latches) made.start);
-              tags = omega (arith, ap (λ (s : Stat). s.tags) made.start);
-              digests = omega (arith, ap (λ (s : Stat). s.digests) made.start);
-            };
+        start = made.start;
       }
 
 -- as many lines as before

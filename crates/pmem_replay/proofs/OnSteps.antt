@@ -173,14 +173,14 @@ module _ (setup : Setup) (p : WorldParts) (keys : List ℕ) (board : Memory) (pa
       → new.shape ≡ setup.shape → new.keys ≡ keys → new.start ≡ p.start → new.shown ≡ is_shown said
       → new.ledger ≡ p.ledger → new.tags ≡ tags → new.digests ≡ digests → new.engine ≡ engine_given answer
       → new.board.lines ≡ board.lines → new.board.regs ≡ board.regs → new.board.snapshot ≡ board.snapshot
-      → new.board.writes ≡ board.writes → new.board.latches ≡ board.latches
+      → new.board.reads ≡ board.reads → new.board.writes ≡ board.writes → new.board.latches ≡ board.latches
       → (is_shown said ≡ false → steps_of said ≡ steps_in taken)
       → IsOnAnswer answer said
       → (is_shown said ≡ false → new.state ≡ state_after setup.shape old.state Do.On (without_marks said))
       → (is_shown said ≡ false → IsWorld setup new)
       → IsSeen setup old Do.On said new
       → HasStepped setup old Do.On (without_marks said) new
-  powered answer has said new good its shape new_keys start shown ledger new_tags new_digests engine lines regs snapshot writes latches its_steps answered state world seen =
+  powered answer has said new good its shape new_keys start shown ledger new_tags new_digests engine lines regs snapshot reads writes latches its_steps answered state world seen =
       stepped_by_engine setup old new Do.On (without_marks said) undecided good its
       (record { shape = shape; keys = new_keys ∙ has.keys; start = start })
       shown
@@ -205,6 +205,7 @@ module _ (setup : Setup) (p : WorldParts) (keys : List ℕ) (board : Memory) (pa
         regs = regs;
         snapshot = snapshot ∙ served.watched.follows.snapshot;
         ledger = ledger;
+        reads = reads;
         writes = writes ∙ served.watched.follows.writes;
         latches = latches ∙ served.watched.follows.latches;
       })
@@ -236,7 +237,7 @@ module _ (setup : Setup) (p : WorldParts) (keys : List ℕ) (board : Memory) (pa
       powered (Ok (found, work)) has (Say.Recovered work.trials work.digests (steps_in taken)) new
       (recovered-good setup old new board taken found work call)
       (few_trials, few_digests, few)
-      refl refl refl served.going.unshown refl refl refl refl refl refl refl refl refl
+      refl refl refl served.going.unshown refl refl refl refl refl refl refl refl refl refl
       (λ quiet. refl) (refl, refl)
       (λ quiet. its_state)
       (λ quiet. recovered-world setup old new board taken found work call its_state refl refl
@@ -285,7 +286,7 @@ module _ (setup : Setup) (p : WorldParts) (keys : List ℕ) (board : Memory) (pa
       powered (Err Fail.Cut) has (Say.Cut (steps_in taken)) new
       (cut-good setup old new board taken call fewer)
       few
-      refl refl refl served.going.unshown refl refl refl refl refl refl refl refl refl
+      refl refl refl served.going.unshown refl refl refl refl refl refl refl refl refl refl
       (λ quiet. refl) tt
       (λ quiet. its_state)
       (λ quiet. cut-world setup old new board taken call its_state refl refl)
@@ -332,7 +333,7 @@ module _ (setup : Setup) (p : WorldParts) (keys : List ℕ) (board : Memory) (pa
       powered (Err (Fail.NoCounter at)) has (Say.NoCounter at (steps_in taken)) new
       (counter-good setup old new board taken at call)
       (small_line setup.shape served.going.whole.whole_shape at (tried_within setup (lines_in old) p.board.regs at refused.0), few)
-      refl refl refl served.going.unshown refl refl refl refl refl refl refl refl refl
+      refl refl refl served.going.unshown refl refl refl refl refl refl refl refl refl refl
       (λ quiet. refl) refl
       (λ quiet. its_state)
       (λ quiet. counter-world setup old new board taken at call its_state refl refl)
@@ -364,7 +365,7 @@ module _ (setup : Setup) (p : WorldParts) (keys : List ℕ) (board : Memory) (pa
       powered (Err (Fail.Root kept found)) has (Say.WrongRoot kept found (steps_in taken)) new
       (root-good setup old new board taken kept found call)
       (kept_tag, found_tag, few)
-      refl refl refl served.going.unshown refl refl refl refl refl refl refl refl refl
+      refl refl refl served.going.unshown refl refl refl refl refl refl refl refl refl refl
       (λ quiet. refl) (refl, refl)
       (λ quiet. its_state)
       (λ quiet. root-world setup old new board taken kept found call its_state refl refl)
@@ -403,7 +404,7 @@ module _ (setup : Setup) (p : WorldParts) (keys : List ℕ) (board : Memory) (pa
         whole_cipher,
         whole_tag,
       )
-      refl refl refl refl refl refl refl refl refl refl refl refl refl
+      refl refl refl refl refl refl refl refl refl refl refl refl refl refl
       (λ quiet. absurd (true≢false quiet)) refl
       (λ quiet. absurd (true≢false quiet))
       (λ quiet. absurd (true≢false quiet)) (

@@ -164,16 +164,20 @@ pub record HasPoweredOn (setup : Setup) (old new : WorldState) (answer : Answer)
   pub regs : new.board.regs ≡ left.regs
   pub snapshot : new.board.snapshot ≡ old.board.snapshot
   pub ledger : new.ledger ≡ old.ledger
+  pub reads : new.board.reads ≡ left.reads
   pub writes : new.board.writes ≡ counted old.board.writes taken.writes
   pub latches : new.board.latches ≡ counted old.board.latches taken.latches
 
--- the counts since formatting ended
-pub record IsCounted (world : WorldState) (counts : Stat) : Type 0 where
-  pub reads : counts.reads ≡ world.board.reads - world.start.reads
-  pub writes : counts.writes ≡ world.board.writes - world.start.writes
-  pub latches : counts.latches ≡ world.board.latches - world.start.latches
-  pub tags : counts.tags ≡ world.tags - world.start.tags
-  pub digests : counts.digests ≡ world.digests - world.start.digests
+-- the counts of the board and the suite
+abbrev pub counts_in : WorldState → Stat
+counts_in world =
+    record {
+      reads = world.board.reads;
+      writes = world.board.writes;
+      latches = world.board.latches;
+      tags = world.tags;
+      digests = world.digests;
+    }
 
 -- The counts as `stat` answers them. A count of line writes or latches that stands at its end tells
 -- nothing any more; then all steps are answered as line writes.
@@ -281,11 +285,11 @@ pub record HasStepped (setup : Setup) (old : WorldState) (command : Command) (re
 
 -- ---- the first world
 
--- a formatted world: the start of the plain machine, with the marks of formatting, and counts at 0
+-- a formatted world: the start of the plain machine, with the marks of formatting; `stat` counts from here on
 pub record IsNewWorld (setup : Setup) (world : WorldState) : Type 0 where
   pub its_shape : world.shape ≡ setup.shape
   pub state : world.state ≡ start_state setup.shape
   pub view : view_in setup world ≡ start_view setup.shape
   pub not_shown : world.shown ≡ false
   pub holds : IsWorld setup world
-  pub counts : IsCounted world (record { reads = 0; writes = 0; latches = 0; tags = 0; digests = 0 })
+  pub start : world.start ≡ counts_in world
