@@ -28,7 +28,7 @@ use Rattle.plain_model.specs.Answers.{decided_answer, is_shown}
 use Rattle.pmem_engine.specs.declared.fault.Fault.{Fault}
 use Rattle.pmem_engine.specs.declared.fault.Fault.TheVariants as Fail
 use Rattle.pmem_engine.specs.Outcomes.{is_sealed_by}
-use Rattle.pmem_engine.specs.Calls.{HasWrittenLine, IsPartOf}
+use Rattle.pmem_engine.specs.Calls.{IsPartOf}
 use Rattle.pmem_replay.specs.World.{WorldState, IsOn, IsWorld, view_in, setup_of}
 use Rattle.pmem_replay.specs.declared.taken.Taken.{Taken}
 use Rattle.pmem_replay.specs.During.{steps_in}
@@ -37,7 +37,7 @@ use Rattle.pmem_replay.specs.Replies.{with_marks_since}
 use Rattle.pmem_replay.specs.declared.draining.Gave.{Gave}
 use Rattle.pmem_replay.specs.declared.draining.Gave.TheVariants.{Put, Refused, Spent, Kept, Lost, Shown}
 use Rattle.pmem_replay.proofs.Held.{since}
-use Rattle.pmem_replay.specs.Stepped.{HasStepped, HasCalled, IsDrainAnswer, IsSeen, IsExhibitSeen}
+use Rattle.pmem_replay.specs.Stepped.{HasStepped, HasDrained, IsDrainAnswer, IsSeen, IsExhibitSeen}
 use Rattle.pmem_replay.proofs.AfterMarks.{touched_after, flushed_after, with_flags, after_marks-is}
 use Rattle.pmem_replay.proofs.Called.{on_in, IsCall}
 use Rattle.pmem_replay.proofs.Causes.{on_path-within, forged_unstored, shown_uncut}
@@ -60,6 +60,36 @@ some_long write later = ne_eqb (length (write ∷ later)) 0 zero_not
   where
     zero_not : length (write ∷ later) ≡ 0 → ⊥
     zero_not same = omega (arith, same)
+
+-- a write that was given, once room was made, is drained as a drain answers it
+pub given_drained : (setup : Setup) (old new : WorldState) (ledger : LedgerState) (more : ℕ) → HasRoom old.ledger ledger more → (port : ℕ) (answer : Result Ctr Fault)
+    → (given : WasGiven setup (record old { ledger = ledger }) port answer new) (said : Answer) → IsDrainAnswer new answer said
+    → new.engine ≡ (if is_cut said then None else Some given.after)
+    → (is_shown said ≡ false → steps_of said ≡ steps_in given.taken)
+    → HasDrained setup given.write old said new
+given_drained setup old new ledger more room port answer given said says kept steps =
+    record {
+      engine = given.engine;
+      was_on = given.was_on;
+      after = given.after;
+      kept = kept;
+      taken = given.taken;
+      steps = steps;
+      ledger = ledger;
+      room =
+          record {
+            enough = omega arith;
+            never_falls = room.never_falls;
+            marks = room.marks;
+            truth = room.truth;
+            data_lines = room.data_lines;
+            exhibit = room.exhibit;
+          };
+      related = (answer, given.written, says);
+      snapshot = given.follows.snapshot;
+      writes = given.follows.writes;
+      latches = given.follows.latches;
+    }
 
 module _ (setup : Setup) (old new : WorldState) (ledger : LedgerState) (room : HasRoom old.ledger ledger 66) (port : ℕ) (small : port < 8)
     (goes_on : IsGoingOn setup old) (whole : IsWorld setup (record old { ledger = ledger })) where
@@ -101,30 +131,8 @@ module _ (setup : Setup) (old new : WorldState) (ledger : LedgerState) (room : H
         → new.engine ≡ (if is_cut said then None else Some given.after)
         → (is_shown said ≡ false → steps_of said ≡ steps_in given.taken)
         → MatchOption (front_of old.state port) ⊥
-        (λ write. HasCalled (λ p q. (r : Result Ctr Fault) × HasWrittenLine setup write p q r × IsDrainAnswer new r said) old new said)
-    called_one said says kept steps =
-        rw given.waits (record {
-          engine = given.engine;
-          was_on = given.was_on;
-          after = given.after;
-          kept = kept;
-          taken = given.taken;
-          steps = steps;
-          ledger = ledger;
-          room =
-              record {
-                enough = omega arith;
-                never_falls = room.never_falls;
-                marks = room.marks;
-                truth = room.truth;
-                data_lines = room.data_lines;
-                exhibit = room.exhibit;
-              };
-          related = (answer, given.written, says);
-          snapshot = given.follows.snapshot;
-          writes = given.follows.writes;
-          latches = given.follows.latches;
-        })
+        (λ write. HasDrained setup write old said new)
+    called_one said says kept steps = rw given.waits (given_drained setup old new ledger 66 room port answer given said says kept steps)
 
     on_mid : IsOn setup mid given.engine
     on_mid = on_in setup mid given.engine whole given.was_on

@@ -1,9 +1,10 @@
 -- A fence: writes drained one by one, and the one that ends it.
-use Rattle.std.proofs.Common.{ℕ, suc, ◌≡◌, ◌<◌, ◌≤◌, ◌+◌, ◌*◌, ◌++◌, true, false, List, [], Option, Some, None, refl, sym, ap, subst, ◌∙◌, arith}
+use Rattle.std.proofs.Common.{ℕ, suc, ◌≡◌, ◌<◌, ◌≤◌, ◌+◌, ◌*◌, ◌++◌, true, false, inl, inr, List, [], ◌∷◌, Option, Some, None, refl, sym, ap, subst, ◌∙◌, arith}
 use Rattle.std.specs.Prelude.{MatchOption, length, drop, IsSome}
 use Rattle.std.proofs.lemmas.Bool.{true≢false}
 use Rattle.std.proofs.lemmas.Option.{none-some}
 use Rattle.std.proofs.lemmas.List.{length-drop}
+use Rattle.pmem_base.specs.declared.commands.Posted.{Posted}
 use Rattle.pmem_base.specs.declared.commands.Command.TheVariants as Do
 use Rattle.pmem_base.specs.declared.answers.Answer.{Answer}
 use Rattle.pmem_base.specs.declared.answers.Answer.TheVariants as Say
@@ -21,7 +22,7 @@ use Rattle.pmem_replay.specs.Replies.{with_marks_since}
 use Rattle.pmem_replay.specs.Given.{HasRoomMade, HasGiven, IsEnded, gave_steps}
 use Rattle.pmem_replay.specs.declared.draining.Gave.{Gave}
 use Rattle.pmem_replay.specs.declared.draining.Gave.TheVariants.{Put, Refused, Spent, Kept, Lost, Shown}
-use Rattle.pmem_replay.specs.Stepped.{HasStepped, IsByTable, IsSeen}
+use Rattle.pmem_replay.specs.Stepped.{HasStepped, IsByTable, HasDrained, HasFenced, HasSameParts, IsSeen}
 use Rattle.pmem_replay.proofs.AskedMarks.{asked_form, asked_few}
 use Rattle.pmem_replay.proofs.Called.{on_in}
 use Rattle.pmem_replay.proofs.DrainChain.{drained_none}
@@ -30,9 +31,45 @@ use Rattle.pmem_replay.proofs.DrainedLaws.{fenced-good, fenced-after}
 use Rattle.pmem_replay.proofs.FenceSteps.{IsFencing, fence-put, fence-meta, fence-tag, fence-spent, fence-kept, fence-lost, fence-shown}
 use Rattle.pmem_replay.proofs.Held.{since}
 use Rattle.pmem_replay.proofs.OpenPages.{whole_pages}
-use Rattle.pmem_replay.proofs.Reserved.{with_spare, room_is}
+use Rattle.pmem_replay.proofs.Reserved.{with_spare, room_is, same_room, room_before}
 use Rattle.pmem_replay.proofs.Stepping.{stepped_by_engine}
 use Rattle.pmem_replay.proofs.TableSteps.{lit_in}
+
+-- ---- a fence before which room was made
+
+-- its first write is drained as well before room was made
+drained_before : (setup : Setup) (old new : WorldState) (spare : ℕ) → old.ledger.spare ≤ spare → (write : Posted) (one : Answer)
+    → HasDrained setup write (record old { ledger = with_spare old.ledger spare }) one new → HasDrained setup write old one new
+drained_before setup old new spare more write one it =
+    record {
+      engine = it.engine;
+      was_on = it.was_on;
+      after = it.after;
+      kept = it.kept;
+      taken = it.taken;
+      steps = it.steps;
+      ledger = it.ledger;
+      room = room_before old.ledger it.ledger spare 0 more it.room;
+      related = it.related;
+      snapshot = it.snapshot;
+      writes = it.writes;
+      latches = it.latches;
+    }
+
+-- and so are all its writes
+fenced_before : (setup : Setup) (old new : WorldState) (spare : ℕ) → old.ledger.spare ≤ spare → (answer : Answer) (queue : List Posted)
+    → HasFenced setup queue 0 0 (record old { ledger = with_spare old.ledger spare }) answer new → HasFenced setup queue 0 0 old answer new
+fenced_before setup old new spare more answer [] it = (
+  record { board = it.0.board; engine = it.0.engine; room = room_before old.ledger new.ledger spare 0 more it.0.room; tags = it.0.tags; digests = it.0.digests },
+  it.1,
+)
+fenced_before setup old new spare more answer (write ∷ later) it =
+    elim it [
+      | inl ends ↦ inl (ends.0, drained_before setup old new spare more write ends.0 ends.1, ends.2)
+      | inr on ↦ inr (on.0, on.1, drained_before setup old on.1 spare more write (Say.Drained on.0) on.2, on.3)
+    ]
+
+-- ---- the loop
 
 -- what the loop of a fence keeps
 pub record IsDraining (formulas_of : List ℕ → Formulas) (mid now : WorldState) (port count done steps : ℕ) : Type 0 where
@@ -59,7 +96,7 @@ fence_starts formulas_of mid port count whole unshown on room =
             shape = refl;
             keys = refl;
             start = refl;
-            snapshot = refl;
+            chain = λ answer new rest. rest;
             lit = lit_in (setup_of formulas_of mid) mid found.0 whole found.1;
             few = omega arith;
             small = omega arith;
@@ -156,14 +193,24 @@ module _ (formulas_of : List ℕ → Formulas) (mid now new : WorldState) (port 
   fence_ended gave answer given same =
       ended_as gave answer (subst (λ (s : Setup). HasGiven s now port gave new) same_setup given) same
 
+no_writes_left : (queue : List Posted) → length queue ≡ 0 → queue ≡ []
+no_writes_left [] none = refl
+no_writes_left (write ∷ later) none = absurd (more none)
+  where
+    more : length (write ∷ later) ≡ 0 → ⊥
+    more none = omega (arith, none)
+
 -- all were drained
-pub fence_done : (formulas_of : List ℕ → Formulas) (mid now : WorldState) (port count done steps : ℕ)
+pub fence_done : (formulas_of : List ℕ → Formulas) (mid now : WorldState) (port count done steps : ℕ) → port < 8
     → IsWorld (setup_of formulas_of mid) mid → count ≡ length (queue_of mid.state.queues port) → count < 17
     → IsDraining formulas_of mid now port count done steps → count ≤ done
     → HasStepped (setup_of formulas_of mid) mid (Do.Fence port) (with_marks_since mid now (Say.Fenced done steps)) now
-fence_done formulas_of mid now port count done steps whole counted most draining past =
+fence_done formulas_of mid now port count done steps small whole counted most draining past =
     let setup : Setup = setup_of formulas_of mid in
     let f = draining.fencing in
+    let waits = still_waits formulas_of mid now now port count done steps small whole counted most draining in
+    let none : queue_of now.state.queues port ≡ [] = no_writes_left (queue_of now.state.queues port) (omega (arith, waits, past)) in
+    let here : HasSameParts now now = record { board = refl; engine = refl; room = same_room now.ledger; tags = refl; digests = refl } in
     let all : done ≡ length (queue_of mid.state.queues port) = omega (arith, past, draining.within, counted) in
     since setup mid now (Do.Fence port) draining.made (Say.Fenced done steps)
     (stepped_by_engine setup mid now (Do.Fence port) (record { marks = draining.made; answer = Say.Fenced done steps })
@@ -174,7 +221,10 @@ fence_done formulas_of mid now port count done steps whole counted most draining
     f.unshown
     f.drained.marks
     (λ quiet. fenced-after setup mid now port done draining.made steps f.drained)
-    (λ quiet. f.drained.world) f.snapshot tt)
+    (λ quiet. f.drained.world)
+    (f.chain (Say.Fenced done steps) now
+    (subst (λ (q : List Posted). HasFenced setup q done steps now (Say.Fenced done steps) now) (sym none) (here, refl)))
+    tt)
 
 -- ---- where room was made before
 
@@ -208,9 +258,9 @@ seen_before setup old before new port Say.Range it = it
 seen_before setup old before new port Say.NoSnap it = it
 seen_before setup old before new port (Say.Shown exhibit) it = it
 
-parts_before : (decided : Option Answer) (A : Type 0) (B C : Answer → Type 0) → decided ≡ None → MatchOption decided A B → MatchOption decided A C
-parts_before None A B C none parts = parts
-parts_before (Some answer) A B C none parts = absurd (none-some answer (sym none))
+parts_before : (decided : Option Answer) (A B : Type 0) (C D : Answer → Type 0) → (A → B) → decided ≡ None → MatchOption decided A C → MatchOption decided B D
+parts_before None A B C D before none parts = before parts
+parts_before (Some answer) A B C D before none parts = absurd (none-some answer (sym none))
 
 pub fence_before : (formulas_of : List ℕ → Formulas) (old mid new : WorldState) (port more : ℕ) → HasRoomMade (setup_of formulas_of old) old more mid
     → old.state.power ≡ true → (answer : Answer)
@@ -236,8 +286,12 @@ fence_before formulas_of old mid new port more made lit answer step =
       state = its.state;
       holds = its.holds;
       parts =
-          parts_before (decided_answer old.shape old.state (Do.Fence port)) (new.board.snapshot ≡ old.board.snapshot)
-          (λ answer. IsByTable before (Do.Fence port) answer new) (λ answer. IsByTable old (Do.Fence port) answer new) none its.parts;
+          parts_before (decided_answer old.shape old.state (Do.Fence port))
+          (HasFenced (setup_of formulas_of old) (queue_of old.state.queues port) 0 0 before answer new)
+          (HasFenced (setup_of formulas_of old) (queue_of old.state.queues port) 0 0 old answer new)
+          (λ answer. IsByTable before (Do.Fence port) answer new) (λ answer. IsByTable old (Do.Fence port) answer new)
+          (fenced_before (setup_of formulas_of old) old new mid.ledger.spare made.room.never_falls answer (queue_of old.state.queues port))
+          none its.parts;
       seen = seen_before (setup_of formulas_of old) old before new port answer its.seen;
     }
 

@@ -1,9 +1,10 @@
 -- A fence with a write that ends it: what the world answers, and what becomes of it.
 use Rattle.std.proofs.Common.{ℕ, suc, ◌*◌, ◌≡◌, ◌<◌, ◌≤◌, ◌+◌, ◌++◌, ◌^◌, true, false, inl, inr, List, [], Some, None, Ok, Err, refl, sym, ap, subst, ◌∙◌, arith}
-use Rattle.std.specs.Prelude.{Result, option_map}
+use Rattle.std.specs.Prelude.{Result, option_map, if◌then◌else◌}
 use Rattle.std.proofs.lemmas.Bool.{true≢false, false_from_ne_true}
-use Rattle.std.proofs.lemmas.List.{append-nil, append_assoc}
+use Rattle.std.proofs.lemmas.List.{append-nil, append_assoc, get_or-set_same}
 use Rattle.pmem_base.specs.declared.lines.Ctr.{Ctr}
+use Rattle.pmem_base.specs.declared.commands.Posted.{Posted}
 use Rattle.pmem_base.specs.declared.commands.Command.TheVariants as Do
 use Rattle.pmem_base.specs.declared.answers.Answer.{Answer}
 use Rattle.pmem_base.specs.declared.answers.Answer.TheVariants as Say
@@ -15,9 +16,9 @@ use Rattle.pmem_base.specs.Marks.{last_seal}
 use Rattle.pmem_base.specs.Ranges.{IsAnswer, IsExhibitValue}
 use Rattle.meta_cache.specs.Banks.{IsBanksOf}
 use Rattle.suite.specs.Setup.{Setup}
-use Rattle.plain_model.specs.State.{PlainState}
+use Rattle.plain_model.specs.State.{PlainState, queue_of}
 use Rattle.plain_model.specs.Asked.{moment_of, marks_of_write}
-use Rattle.plain_model.specs.After.{state_after, after_marks}
+use Rattle.plain_model.specs.After.{state_after, after_marks, steps_of, is_cut}
 use Rattle.plain_model.specs.Answers.{decided_answer, is_shown}
 use Rattle.pmem_engine.specs.declared.fault.Fault.{Fault}
 use Rattle.pmem_engine.specs.declared.fault.Fault.TheVariants as Fail
@@ -27,7 +28,7 @@ use Rattle.pmem_replay.specs.World.{WorldState, IsOn, IsWorld, view_in}
 use Rattle.pmem_replay.specs.declared.taken.Taken.{Taken}
 use Rattle.pmem_replay.specs.During.{steps_in}
 use Rattle.pmem_replay.specs.Given.{given_state, WasGiven, IsGiven, IsGivenShown}
-use Rattle.pmem_replay.specs.Stepped.{HasStepped, IsSeen, IsExhibitSeen}
+use Rattle.pmem_replay.specs.Stepped.{HasStepped, HasDrained, HasFenced, EndsFence, IsDrainAnswer, IsSeen, IsExhibitSeen}
 use Rattle.pmem_replay.proofs.AfterMarks.{touched_after, flushed_after, with_flags, after_marks-is}
 use Rattle.pmem_replay.proofs.Called.{on_in, IsCall}
 use Rattle.pmem_replay.proofs.Causes.{on_path-within, forged_unstored, shown_uncut}
@@ -35,6 +36,8 @@ use Rattle.pmem_replay.proofs.AskedMarks.{refused_within}
 use Rattle.pmem_replay.proofs.OpenPages.{whole_pages}
 use Rattle.pmem_replay.proofs.SealedMarks.{last_seal-unsealed}
 use Rattle.pmem_replay.proofs.DrainChain.{IsDrainedTo, drained-more}
+use Rattle.pmem_replay.proofs.DrainSteps.{given_drained}
+use Rattle.pmem_replay.proofs.Reserved.{same_room}
 use Rattle.pmem_replay.proofs.Goods.{IsGood}
 use Rattle.pmem_replay.proofs.SealedLines.{same_truth}
 use Rattle.pmem_replay.proofs.Sights.{meta_wrong, tag_wrong, small_position, small_line, clash_sight, forged_sight_by, seal_counter}
@@ -43,14 +46,17 @@ use Rattle.pmem_replay.proofs.WriteLaws.{shown-good, meta-good, tag-good, spent-
 use Rattle.pmem_replay.proofs.WriteReplies.{IsWriting, fence_is_writing, after_refused, after_spent, after_lost, after_kept}
 use Rattle.pmem_replay.proofs.WriteWorlds.{front_on_memory}
 
--- so many writes of the port were drained by a fence, and more wait
+-- so many writes of the port were drained by a fence, and more wait; with a fence of those from now on
+-- it is one of all writes
 pub record IsFencing (setup : Setup) (mid now : WorldState) (port n : ℕ) (made : List Mark) (spent : ℕ) : Type 0 where
   pub drained : IsDrainedTo setup mid now port n made spent
   pub unshown : now.shown ≡ false
   pub shape : now.shape ≡ mid.shape
   pub keys : now.keys ≡ mid.keys
   pub start : now.start ≡ mid.start
-  pub snapshot : now.board.snapshot ≡ mid.board.snapshot
+  pub chain :
+      (answer : Answer) (new : WorldState) → HasFenced setup (queue_of now.state.queues port) n spent now answer new
+      → HasFenced setup (queue_of mid.state.queues port) 0 0 mid answer new
   pub lit : mid.state.power ≡ true
   pub few : spent ≤ 65536 * n
   pub small : n ≤ 16
@@ -85,19 +91,31 @@ module _ (setup : Setup) (mid now new : WorldState) (port : ℕ) (small : port <
     on_mid : IsOn setup now given.engine
     on_mid = on_in setup now given.engine whole given.was_on
 
-    -- a step of the engine's
-    one_step : (said : Answer) → IsGood setup mid (Do.Fence port) (record { marks = made ++ given.written.made; answer = said }) → IsAnswer said
+    -- the write is given to the engine, as by a drain of it
+    drained_one : (one : Answer) → IsDrainAnswer new answer one
+        → new.engine ≡ (if is_cut one then None else Some given.after)
+        → (is_shown one ≡ false → steps_of one ≡ steps_in given.taken)
+        → HasDrained setup given.write now one new
+    drained_one one says kept steps = given_drained setup now new now.ledger 0 (same_room now.ledger) port answer given one says kept steps
+
+    -- a step of the engine's, by what a drain of the write that ends it would answer
+    one_step : (one said : Answer) → IsGood setup mid (Do.Fence port) (record { marks = made ++ given.written.made; answer = said }) → IsAnswer said
+        → IsDrainAnswer new answer one → new.engine ≡ (if is_cut one then None else Some given.after)
+        → (is_shown one ≡ false → steps_of one ≡ steps_in given.taken) → EndsFence n spent one said
         → new.shown ≡ is_shown said
         → (is_shown said ≡ false → new.state ≡ state_after setup.shape mid.state (Do.Fence port) (record { marks = made ++ given.written.made; answer = said }))
         → (is_shown said ≡ false → IsWorld setup new)
         → IsSeen setup mid (Do.Fence port) said new
         → HasStepped setup mid (Do.Fence port) (record { marks = made ++ given.written.made; answer = said }) new
-    one_step said good its shown state holds seen =
+    one_step one said good its says kept steps ends shown state holds seen =
         stepped_by_engine setup mid new (Do.Fence port) (record { marks = made ++ given.written.made; answer = said }) undecided good its
         (record { shape = given.shape ∙ fencing.shape; keys = given.keys ∙ fencing.keys; start = given.start ∙ fencing.start })
         shown
         (given.marks ∙ ap (λ (ms : List Mark). ms ++ given.written.made) drained.marks ∙ append_assoc mid.ledger.marks made given.written.made)
-        state holds (given.follows.snapshot ∙ fencing.snapshot) seen
+        state holds
+        (fencing.chain said new
+        (subst (λ (q : List Posted). HasFenced setup q n spent now said new) (sym given.waits) (inl (one, drained_one one says kept steps, ends))))
+        seen
 
   -- ---- drained
 
@@ -119,16 +137,30 @@ module _ (setup : Setup) (mid now new : WorldState) (port : ℕ) (small : port <
   fence-put ctr k is below =
       let g = is.given in
       let whole_cache : IsBanksOf setup.shape g.after.cache = (on_in setup new g.after is.holds is.engine).whole_cache in
+      let form = state_form (given_state now.state port g.write g.later (steps_in g.taken) true true) g.written.made is.state in
+      let waits_then : queue_of new.state.queues port ≡ g.later =
+      ap (λ (s : PlainState). queue_of s.queues port) form
+      ∙ get_or-set_same now.state.queues port g.later [] (omega (arith, small, whole.queues.ports.eight)) in
       let more : IsDrainedTo setup mid new port (suc n) (made ++ g.written.made) (spent + steps_in g.taken) =
       drained-more setup mid now port n made spent drained whole_mid small g.write g.later g.waits new g.engine g.after g.taken (call (Ok ctr) g) ctr g.written
-      (state_form (given_state now.state port g.write g.later (steps_in g.taken) true true) g.written.made is.state) is.engine whole_cache in
+      form is.engine whole_cache in
       record {
         drained = subst (λ (s : ℕ). IsDrainedTo setup mid new port (suc n) (made ++ g.written.made) s) (all_steps k (steps_in g.taken) is.counted) more;
         unshown = is.unshown;
         shape = g.shape ∙ fencing.shape;
         keys = g.keys ∙ fencing.keys;
         start = g.start ∙ fencing.start;
-        snapshot = g.follows.snapshot ∙ fencing.snapshot;
+        chain =
+            λ answer last rest.
+            fencing.chain answer last
+            (subst (λ (q : List Posted). HasFenced setup q n spent now answer last) (sym g.waits)
+            (inr (
+              k,
+              new,
+              drained_one (Ok ctr) g (Say.Drained k) tt is.engine (λ quiet. is.counted),
+              subst (λ (m : ℕ). HasFenced setup g.later m (spent + k) new answer last) {x = suc n} {y = n + 1} (omega arith)
+                  (subst (λ (q : List Posted). HasFenced setup q (suc n) (spent + k) new answer last) waits_then rest),
+            )));
         lit = fencing.lit;
         few = omega (arith, fencing.few, is.counted, g.follows.few);
         small = omega (arith, below);
@@ -152,9 +184,9 @@ module _ (setup : Setup) (mid now new : WorldState) (port : ℕ) (small : port <
       let none : g.written.made ≡ [] = g.written.marks on.trusted.not_down on.trusted now.state.memory whole.memory.each in
       let marks : new.ledger.marks ≡ now.ledger.marks = g.marks ∙ ap (λ (ms : List Mark). now.ledger.marks ++ ms) none ∙ append-nil now.ledger.marks in
       subst (λ (s : ℕ). HasStepped setup mid (Do.Fence port) (record { marks = made ++ g.written.made; answer = Say.Refused (Some n) (Place.Meta x) s }) new) (all_steps k (steps_in g.taken) is.counted)
-      (one_step (Err (Fail.Meta x)) g (Say.Refused (Some n) (Place.Meta x) (spent + steps_in g.taken))
+      (one_step (Err (Fail.Meta x)) g (Say.Refused None (Place.Meta x) (steps_in g.taken)) (Say.Refused (Some n) (Place.Meta x) (spent + steps_in g.taken))
       (meta-good setup mid now new (Do.Fence port) (Some n) port n made spent writing drained whole_mid small g.write g.later g.waits g.engine g.after g.taken c x g.written)
-      (small_n, small_position setup.shape whole.whole_shape x in_tree, few g.taken g.follows.few) is.unshown
+      (small_n, small_position setup.shape whole.whole_shape x in_tree, few g.taken g.follows.few) refl is.engine (λ quiet. refl) refl is.unshown
       (λ quiet. state_form (given_state now.state port g.write g.later (steps_in g.taken) false true) g.written.made is.state
       ∙ after_refused setup mid now (Do.Fence port) (Some n) port n made g.written.made spent (steps_in g.taken) writing drained g.write g.later g.waits (Place.Meta x))
       (λ quiet. is.holds)
@@ -173,9 +205,9 @@ module _ (setup : Setup) (mid now new : WorldState) (port : ℕ) (small : port <
       (whole_pages setup now.board.regs now.ledger on.trusted.anchored) (within (Err (Fail.Tag b)) g)
       (g.written.marks on.trusted.not_down on.trusted now.state.memory whole.memory.each)) in
       subst (λ (s : ℕ). HasStepped setup mid (Do.Fence port) (record { marks = made ++ g.written.made; answer = Say.Refused (Some n) (Place.Line b) s }) new) (all_steps k (steps_in g.taken) is.counted)
-      (one_step (Err (Fail.Tag b)) g (Say.Refused (Some n) (Place.Line b) (spent + steps_in g.taken))
+      (one_step (Err (Fail.Tag b)) g (Say.Refused None (Place.Line b) (steps_in g.taken)) (Say.Refused (Some n) (Place.Line b) (spent + steps_in g.taken))
       (tag-good setup mid now new (Do.Fence port) (Some n) port n made spent writing drained whole_mid small g.write g.later g.waits g.engine g.after g.taken c b g.written)
-      (small_n, small_b, few g.taken g.follows.few) is.unshown
+      (small_n, small_b, few g.taken g.follows.few) refl is.engine (λ quiet. refl) refl is.unshown
       (λ quiet. state_form (given_state now.state port g.write g.later (steps_in g.taken) false true) g.written.made is.state
       ∙ after_refused setup mid now (Do.Fence port) (Some n) port n made g.written.made spent (steps_in g.taken) writing drained g.write g.later g.waits (Place.Line b))
       (λ quiet. is.holds)
@@ -192,10 +224,10 @@ module _ (setup : Setup) (mid now new : WorldState) (port : ℕ) (small : port <
       let small_page : page < 2 ^ 32 = omega (arith, its_page, small_at) in
       let bound = spent-bound setup mid now new (Do.Fence port) (Some n) port n made spent writing drained whole_mid small g.write g.later g.waits g.engine g.after g.taken c page g.written in
       subst (λ (s : ℕ). HasStepped setup mid (Do.Fence port) (record { marks = made ++ g.written.made; answer = Say.Spent (Some n) page s }) new) (all_steps k (steps_in g.taken) is.counted)
-      (one_step (Err (Fail.Spent page)) g (Say.Spent (Some n) page (spent + steps_in g.taken))
+      (one_step (Err (Fail.Spent page)) g (Say.Spent None page (steps_in g.taken)) (Say.Spent (Some n) page (spent + steps_in g.taken))
       (spent-good setup mid now new (Do.Fence port) (Some n) port n made spent writing drained whole_mid small g.write g.later g.waits g.engine g.after g.taken c page g.written
       bound)
-      (small_n, small_page, few g.taken g.follows.few) is.unshown
+      (small_n, small_page, few g.taken g.follows.few) refl is.engine (λ quiet. refl) refl is.unshown
       (λ quiet. state_form (given_state now.state port g.write g.later (steps_in g.taken) false true) g.written.made is.state
       ∙ after_spent setup mid now (Do.Fence port) (Some n) port n made g.written.made spent (steps_in g.taken) writing drained g.write g.later g.waits page)
       (λ quiet. is.holds) tt)
@@ -217,9 +249,9 @@ module _ (setup : Setup) (mid now new : WorldState) (port : ℕ) (small : port <
             ∙ lost-unsealed setup mid now new (Do.Fence port) (Some n) port n made spent writing drained whole_mid small g.write g.later g.waits g.engine g.after g.taken c g.written part))
       ] in
       subst (λ (s : ℕ). HasStepped setup mid (Do.Fence port) (record { marks = made ++ g.written.made; answer = Say.CutKept (Some n) s }) new) (all_steps k (steps_in g.taken) is.counted)
-      (one_step (Err Fail.Cut) g (Say.CutKept (Some n) (spent + steps_in g.taken))
+      (one_step (Err Fail.Cut) g (Say.CutKept None (steps_in g.taken)) (Say.CutKept (Some n) (spent + steps_in g.taken))
       (kept-good setup mid now new (Do.Fence port) (Some n) port n made spent writing drained whole_mid small g.write g.later g.waits g.engine g.after g.taken c g.written all bound)
-      (small_n, few g.taken g.follows.few) is.unshown
+      (small_n, few g.taken g.follows.few) tt is.engine (λ quiet. refl) refl is.unshown
       (λ quiet. state_form (given_state now.state port g.write g.later (steps_in g.taken) true false) g.written.made is.state
       ∙ after_kept setup mid now (Do.Fence port) (Some n) port n made g.written.made spent (steps_in g.taken) writing drained g.write g.later g.waits)
       (λ quiet. is.holds) tt)
@@ -240,9 +272,9 @@ module _ (setup : Setup) (mid now new : WorldState) (port : ℕ) (small : port <
         | inr part ↦ part
       ] in
       subst (λ (s : ℕ). HasStepped setup mid (Do.Fence port) (record { marks = made ++ g.written.made; answer = Say.CutLost (Some n) s }) new) (all_steps k (steps_in g.taken) is.counted)
-      (one_step (Err Fail.Cut) g (Say.CutLost (Some n) (spent + steps_in g.taken))
+      (one_step (Err Fail.Cut) g (Say.CutLost None (steps_in g.taken)) (Say.CutLost (Some n) (spent + steps_in g.taken))
       (lost-good setup mid now new (Do.Fence port) (Some n) port n made spent writing drained whole_mid small g.write g.later g.waits g.engine g.after g.taken c g.written part bound)
-      (small_n, few g.taken g.follows.few) is.unshown
+      (small_n, few g.taken g.follows.few) tt is.engine (λ quiet. refl) refl is.unshown
       (λ quiet. state_form (given_state now.state port g.write g.later (steps_in g.taken) false false) g.written.made is.state
       ∙ after_lost setup mid now (Do.Fence port) (Some n) port n made g.written.made spent (steps_in g.taken) writing drained g.write g.later g.waits)
       (λ quiet. is.holds) tt)
@@ -277,10 +309,11 @@ module _ (setup : Setup) (mid now new : WorldState) (port : ℕ) (small : port <
             (seal_counter setup.shape now.ledger.marks found.at found.forged.ctr on.trusted.anchored.of_shape.marks_in_range
             (ap (option_map (λ seal. seal.ctr)) (sym its_seal) ∙ found.forged.unsealed.counter))
       ] in
-      one_step (Err Fail.Shown) g (Say.Shown exhibit)
+      one_step (Err Fail.Shown) g (Say.Shown exhibit) (Say.Shown exhibit)
       (shown-good setup mid now new (Do.Fence port) (Some n) port n made spent writing drained whole_mid small g.write g.later g.waits g.engine g.after g.taken c g.written exhibit is.its
       (λ clash. clash.fetched.before) places)
-      sight.0 is.shown
+      sight.0 is.its is.engine
+      (λ quiet. absurd (true≢false quiet)) refl is.shown
       (λ quiet. absurd (true≢false quiet))
       (λ quiet. absurd (true≢false quiet))
       sight.1

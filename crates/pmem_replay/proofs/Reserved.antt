@@ -1,5 +1,5 @@
 -- Room for marks changes nothing that a world holds.
-use Rattle.std.proofs.Common.{ℕ, ◌≡◌, List, Option, Some, None, sym, ap, subst, ◌∙◌}
+use Rattle.std.proofs.Common.{ℕ, ◌≡◌, ◌≤◌, List, Option, Some, None, refl, sym, ap, subst, ◌∙◌, arith}
 use Rattle.pmem_base.specs.declared.lines.Line.{Line}
 use Rattle.pmem_base.specs.declared.registers.Regs.{Regs}
 use Rattle.pmem_base.specs.declared.answers.Mark.{Mark}
@@ -26,6 +26,23 @@ room_is before after n room =
     ∙ ap (λ (t : List Line). record after { marks = before.marks; truth = t }) room.truth
     ∙ ap (λ (d : ℕ). record after { marks = before.marks; truth = before.truth; data_lines = d }) room.data_lines
     ∙ ap (λ (e : Option Exhibit). record after { marks = before.marks; truth = before.truth; data_lines = before.data_lines; exhibit = e }) room.exhibit
+
+-- the room there is
+pub same_room : (ledger : LedgerState) → HasRoom ledger ledger 0
+same_room ledger =
+    record { enough = omega arith; never_falls = omega arith; marks = refl; truth = refl; data_lines = refl; exhibit = refl }
+
+-- room that was made, and some more
+pub room_before : (first later : LedgerState) (spare n : ℕ) → first.spare ≤ spare → HasRoom (with_spare first spare) later n → HasRoom first later n
+room_before first later spare n more room =
+    record {
+      enough = room.enough;
+      never_falls = omega (arith, more, room.never_falls);
+      marks = room.marks;
+      truth = room.truth;
+      data_lines = room.data_lines;
+      exhibit = room.exhibit;
+    }
 
 anchored_spare : (setup : Setup) (regs : Regs) (ledger : LedgerState) (n : ℕ) → IsAnchored setup regs ledger → IsAnchored setup regs (with_spare ledger n)
 anchored_spare setup regs ledger n a =

@@ -1,7 +1,8 @@
 -- One command and its reply: what the world answers, and what becomes of it and of its own parts.
-use Rattle.std.specs.Prelude.{ℕ, ◌≡◌, ◌≢◌, ◌-◌, ◌++◌, true, false, List, [], ◌∷◌, Option, Some, None, Result, Ok, Err, MatchOption, slice_range, IsTrue, IfSome, ⊤, if◌then◌else◌}
+use Rattle.std.specs.Prelude.{ℕ, ◌≡◌, ◌≢◌, ◌+◌, ◌-◌, ◌++◌, ◌⊎◌, true, false, List, [], ◌∷◌, Option, Some, None, Result, Ok, Err, MatchOption, slice_range, IsTrue, IfSome, ⊤, if◌then◌else◌}
 use Rattle.pmem_base.specs.declared.lines.Line.{Line}
 use Rattle.pmem_base.specs.declared.lines.Ctr.{Ctr}
+use Rattle.pmem_base.specs.declared.commands.Posted.{Posted}
 use Rattle.pmem_base.specs.declared.commands.Command.{Command}
 use Rattle.pmem_base.specs.declared.commands.Command.TheVariants as Do
 use Rattle.pmem_base.specs.declared.answers.Answer.{Answer}
@@ -18,7 +19,7 @@ use Rattle.board.specs.Memory.{Memory, with_line_at, with_lines, flipped_line, r
 use Rattle.seal_ledger.specs.Ledger.{LedgerState}
 use Rattle.seal_ledger.specs.Notes.{HasRoom}
 use Rattle.suite.specs.Setup.{Setup}
-use Rattle.plain_model.specs.State.{Reply, start_state}
+use Rattle.plain_model.specs.State.{Reply, queue_of, start_state}
 use Rattle.plain_model.specs.View.{start_view}
 use Rattle.plain_model.specs.After.{state_after, steps_of, is_cut}
 use Rattle.plain_model.specs.Answers.{decided_answer, is_answer_to, is_shown}
@@ -137,6 +138,43 @@ IsOnAnswer (Err (Stop.Twin at major low high cipher tag)) (Say.Shown exhibit) =
     exhibit ≡ Show.Twin at major low high cipher tag
 IsOnAnswer outcome answer = ⊥
 
+-- ---- drains and fences
+
+-- the write is given to the engine, and a drain answers so
+abbrev pub HasDrained : Setup → Posted → WorldState → Answer → WorldState → Type 0
+HasDrained setup write old answer new =
+    HasCalled (λ p q. (r : Result Ctr Fault) × HasWrittenLine setup write p q r × IsDrainAnswer new r answer) old new answer
+
+-- the world's own parts stay, for which room for marks may have been made
+pub record HasSameParts (old new : WorldState) : Type 0 where
+  pub board : new.board ≡ old.board
+  pub engine : new.engine ≡ old.engine
+  pub room : HasRoom old.ledger new.ledger 0
+  pub tags : new.tags ≡ old.tags
+  pub digests : new.digests ≡ old.digests
+
+-- What a fence answers that ends with a write of which a drain would answer `one`: so many were drained
+-- before it, in `spent` steps. It isn't counted itself, not even where it was kept in a cut.
+abbrev pub EndsFence : ℕ → ℕ → Answer → Answer → Type 0
+EndsFence drained spent (Say.Refused None place steps) answer = answer ≡ Say.Refused (Some drained) place (spent + steps)
+EndsFence drained spent (Say.Spent None page steps) answer = answer ≡ Say.Spent (Some drained) page (spent + steps)
+EndsFence drained spent (Say.CutKept None steps) answer = answer ≡ Say.CutKept (Some drained) (spent + steps)
+EndsFence drained spent (Say.CutLost None steps) answer = answer ≡ Say.CutLost (Some drained) (spent + steps)
+EndsFence drained spent (Say.Shown exhibit) answer = answer ≡ Say.Shown exhibit
+EndsFence drained spent one answer = ⊥
+
+-- A fence of these writes, the oldest first, after so many drained ones that took `spent` steps: a chain
+-- of drains. The first write ends it, or is drained, and the fence goes on with the others from the
+-- world in between, of which only the world's own parts count.
+abbrev pub HasFenced : Setup → List Posted → ℕ → ℕ → WorldState → Answer → WorldState → Type 0
+HasFenced setup [] drained spent old answer new = HasSameParts old new × (answer ≡ Say.Fenced drained spent)
+HasFenced setup (write ∷ later) drained spent old answer new =
+    ((one : Answer) × HasDrained setup write old one new × EndsFence drained spent one answer)
+    ⊎ ((steps : ℕ) × (mid : WorldState) × HasDrained setup write old (Say.Drained steps) mid
+    × HasFenced setup later (drained + 1) (spent + steps) mid answer new)
+
+-- ---- recovery
+
 -- the engine that recovery gives, if any
 abbrev pub engine_given : Result (EngineState × Work) RecFault → Option EngineState
 engine_given (Ok done) = Some done.0
@@ -193,15 +231,14 @@ abbrev pub IsStatAnswer : WorldState → Answer → Type 0
 IsStatAnswer world (Say.Counts counts) = IsStatOf world counts
 IsStatAnswer world answer = ⊥
 
--- where the table decides nothing: what the engine, recovery or a look does; of a fence only that it
--- leaves the snapshot
+-- where the table decides nothing: what the engine, recovery or a look does
 abbrev pub HasWorked : Setup → WorldState → Command → Answer → WorldState → Type 0
 HasWorked setup old (Do.Read port at) answer new =
     HasCalled (λ p q. (r : Result Line Fault) × HasReadLine setup at p q r × IsReadAnswer new r answer) old new answer
 HasWorked setup old (Do.Drain port) answer new =
     MatchOption (front_of old.state port) ⊥
-    (λ write. HasCalled (λ p q. (r : Result Ctr Fault) × HasWrittenLine setup write p q r × IsDrainAnswer new r answer) old new answer)
-HasWorked setup old (Do.Fence port) answer new = new.board.snapshot ≡ old.board.snapshot
+    (λ write. HasDrained setup write old answer new)
+HasWorked setup old (Do.Fence port) answer new = HasFenced setup (queue_of old.state.queues port) 0 0 old answer new
 HasWorked setup old Do.Turn answer new =
     HasCalled (λ p q. (r : Result (Option (ℕ × ℕ)) Fault) × HasTurned setup p q r × IsTurnAnswer new r answer) old new answer
 HasWorked setup old Do.Flush answer new =

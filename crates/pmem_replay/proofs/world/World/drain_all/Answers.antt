@@ -25,5 +25,5 @@ writes-preserved g c =
 
 pub returns : goal.returns
 returns g c =
-    fence_done g.S.Suite.formulas_of c.args.self.now c.writes.self c.args.port c.args.count c.writes.done c.writes.steps
+    fence_done g.S.Suite.formulas_of c.args.self.now c.writes.self c.args.port c.args.count c.writes.done c.writes.steps c.requires.port
     c.holds.ensures c.requires.count c.requires.most c.writes.invariant (omega (arith, c.writes-test.false))
