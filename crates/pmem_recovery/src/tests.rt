@@ -10,6 +10,7 @@ ghost use Rattle.board.specs.MemBoard.{memory_of};
 ghost use Rattle.seal_ledger.specs.View.{ledger_of};
 ghost use Rattle.pmem_engine.specs.Calls.{IsReady};
 
+mod memory;
 mod writes;
 
 use crate::{RecFault, Work, format, recover};
