@@ -234,6 +234,12 @@ impl Chip {
         self.board.flip(at, bit);
     }
 
+    /// Writes a device line past the controller.
+    fn poke(&mut self, rt: &impl Abort, at: u32, line: &Line) {
+        assert!(rt; at < self.engine.geo.size());
+        self.board.poke(at, line);
+    }
+
     /// The line of the device at a place.
     fn peek(&self, rt: &impl Abort, at: u32) -> Line {
         assert!(rt; at < self.engine.geo.size());

@@ -7,11 +7,14 @@ use super::{Bench, Chip, formatted};
 use crate::Fault;
 use board::{Board, MemBoard};
 use bonsai_tree::node_of;
+use line_seal::tag_at;
 use pmem_base::{Ctr, Geo, Line, Mark, Posted, Tag};
 use seal_ledger::{Audit, Ledger};
+use split_counters::unpack;
 use std::alloc::Global;
 use std::process::Abort;
 use std::test::Fail;
+use stop_loss::{Found, find, window};
 use suite::WeakSuite;
 
 impl Bench {
@@ -272,6 +275,43 @@ fn cut_overflows(rt: HostRuntime) -> Result<(), Fail> {
         chip.power();
         let after = if fuse < 7 { Fault::Down } else { Fault::Cut };
         assert_eq!(rt; chip.write(&rt, 0, &FULL), Err(after));
+    }
+    Ok(())
+}
+
+impl Chip {
+    /// What the trials of line 0 find: from the minor in page 0's counter block on the device, to the
+    /// end of its window under the number in the registers.
+    fn trials(&mut self, rt: &impl Abort) -> Found {
+        let block = unpack(&self.peek(rt, 321));
+        let loss = self.board.regs().loss;
+        assert!(rt; matches!(loss, 1 | 2 | 4 | 8 | 16));
+        let candidates = window(block.minors[0], loss);
+        let cipher = self.peek(rt, 0);
+        let tag = tag_at(&self.peek(rt, 256), 0);
+        find(&mut self.suite, 0, block.major, candidates, &cipher, &tag)
+    }
+}
+
+// After three writes of line 0 an older counter block, put back by an attacker, still has the true minor
+// in its window of 4. Where the page's block is cached dirty, the new number 2 writes it first. Where it
+// isn't, the old block stays, and its window of 2 ends before the true minor.
+#[test]
+fn old_blocks_leave_their_windows(rt: HostRuntime) -> Result<(), Fail> {
+    for (flushed, steps, found) in [(false, 2_u32, Found::One(3)), (true, 1, Found::Nothing)] {
+        let mut chip = formatted(&rt, rt.alloc(), false, 1)?;
+        let old = chip.peek(&rt, 321);
+        chip.wear(&rt, 0, 3);
+        if flushed {
+            assert_eq!(rt; chip.flush(), Ok(Some(0)));
+            assert_eq!(rt; chip.flush(), Ok(Some(1)));
+            assert!(rt; chip.peek(&rt, 321) != old);
+        }
+        chip.poke(&rt, 321, &old);
+        assert_eq!(rt; chip.trials(&rt), Found::One(3));
+        assert_eq!(rt; chip.set_loss(&rt, 2), Ok(steps));
+        assert_eq!(rt; chip.trials(&rt), found);
+        assert_eq!(rt; chip.read(&rt, 0), Ok(Line::default()));
     }
     Ok(())
 }
