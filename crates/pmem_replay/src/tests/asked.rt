@@ -14,8 +14,8 @@ use suite::WeakSuite;
 /// A command, how many marks its reply has, and its answer.
 pub(crate) type Row = (Command, usize, Answer);
 
-/// A formatted world of four pages, with one set of one way in each bank, the number 2, and this first
-/// major. Where the suite blurs, two minors have one tag.
+/// A formatted world of four pages, with one set of one way in each bank, the stop-loss number 2, and this
+/// first major. Where the suite blurs, two minors have one tag.
 pub(crate) fn small_world(alloc: Global, major: u64, blur: bool) -> Result<World<WeakSuite>, Fail>
     ensures { IfOk result (λ (world : WorldState). world.shown ≡ false) }
 {
