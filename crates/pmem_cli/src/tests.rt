@@ -149,6 +149,11 @@ fn words_of(alloc: Global, line: &str) -> Result<Vec<String>, Fail> {
     Ok(words)
 }
 
+/// The command line of a run with these options.
+fn run_with<R: AllocGlobal>(rt: &R, options: &str) -> Result<String, Fail> {
+    Ok(format!(in rt.alloc(); "run {options}")?)
+}
+
 /// Runs the program over memory. Of the pulls and of the pushes those of these numbers fail. Gives the status and
 /// what was put into so many places.
 fn ran<R: AllocGlobal>(
@@ -562,7 +567,7 @@ fn answers_traces(rt: HostRuntime) -> Result<(), Fail> {
             "ok / seal 0 0.1 {51} / ok 7 / ok / cut 1 / on 255 9 4 / line [00] 0",
         ),
     ] {
-        let words = format!(in rt.alloc(); "run {options}")?;
+        let words = run_with(&rt, options)?;
         let given = spelled(&rt, trace)?;
         let (ended, put) = ran(
             &rt,
