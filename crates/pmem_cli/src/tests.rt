@@ -197,6 +197,14 @@ fn check_end<R: Abort>(rt: &R, at: &str, found: (u8, Vec<u8>), status: u8, outpu
     assert_eq!(rt; put.as_slice(), output, "the output at {at}");
 }
 
+/// Whether this was put, or where the output begins with `..` ends so.
+fn is_output<R: AllocGlobal>(rt: &R, output: &str, put: &[u8]) -> Result<bool, Fail> {
+    match output.strip_prefix(".. / ") {
+        Some(end) => Ok(put.ends_with(spelled(rt, end)?.as_slice())),
+        None => Ok(put == spelled(rt, output)?.as_slice()),
+    }
+}
+
 /// Worked traces: the words behind `run`, the trace, the status, and the output, or where it begins with `..`
 /// the end of it.
 #[test]
@@ -577,10 +585,7 @@ fn answers_traces(rt: HostRuntime) -> Result<(), Fail> {
             PLACES,
         )?;
         assert_eq!(rt; ended, status, "the status of {trace}");
-        let is_as_worked = match output.strip_prefix(".. / ") {
-            Some(end) => put.as_slice().ends_with(spelled(&rt, end)?.as_slice()),
-            None => put.as_slice() == spelled(&rt, output)?.as_slice(),
-        };
+        let is_as_worked = is_output(&rt, output, put.as_slice())?;
         assert!(rt; is_as_worked, "the output of {trace}");
     }
     Ok(())
