@@ -149,6 +149,11 @@ fn words_of(alloc: Global, line: &str) -> Result<Vec<String>, Fail> {
     Ok(words)
 }
 
+/// The command line of a run with these options.
+fn run_with<R: AllocGlobal>(rt: &R, options: &str) -> Result<String, Fail> {
+    Ok(format!(in rt.alloc(); "run {options}")?)
+}
+
 /// Runs the program over memory. Of the pulls and of the pushes those of these numbers fail. Gives the status and
 /// what was put into so many places.
 fn ran<R: AllocGlobal>(
@@ -190,6 +195,14 @@ fn check_end<R: Abort>(rt: &R, at: &str, found: (u8, Vec<u8>), status: u8, outpu
     let (ended, put) = found;
     assert_eq!(rt; ended, status, "the status at {at}");
     assert_eq!(rt; put.as_slice(), output, "the output at {at}");
+}
+
+/// Whether this was put, or where the output begins with `..` ends so.
+fn is_output<R: AllocGlobal>(rt: &R, output: &str, put: &[u8]) -> Result<bool, Fail> {
+    match output.strip_prefix(".. / ") {
+        Some(end) => Ok(put.ends_with(spelled(rt, end)?.as_slice())),
+        None => Ok(put == spelled(rt, output)?.as_slice()),
+    }
 }
 
 /// Worked traces: the words behind `run`, the trace, the status, and the output, or where it begins with `..`
@@ -562,7 +575,7 @@ fn answers_traces(rt: HostRuntime) -> Result<(), Fail> {
             "ok / seal 0 0.1 {51} / ok 7 / ok / cut 1 / on 255 9 4 / line [00] 0",
         ),
     ] {
-        let words = format!(in rt.alloc(); "run {options}")?;
+        let words = run_with(&rt, options)?;
         let given = spelled(&rt, trace)?;
         let (ended, put) = ran(
             &rt,
@@ -572,10 +585,7 @@ fn answers_traces(rt: HostRuntime) -> Result<(), Fail> {
             PLACES,
         )?;
         assert_eq!(rt; ended, status, "the status of {trace}");
-        let is_as_worked = match output.strip_prefix(".. / ") {
-            Some(end) => put.as_slice().ends_with(spelled(&rt, end)?.as_slice()),
-            None => put.as_slice() == spelled(&rt, output)?.as_slice(),
-        };
+        let is_as_worked = is_output(&rt, output, put.as_slice())?;
         assert!(rt; is_as_worked, "the output of {trace}");
     }
     Ok(())
