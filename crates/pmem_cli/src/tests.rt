@@ -660,11 +660,11 @@ fn makes_samples(rt: HostRuntime) -> Result<(), Fail> {
             "stat 4436 1761 1150 6697 2058",
         ),
         (
-            "sample 7 2000",
+            "sample 7 20000",
             NEVER,
             PLACES,
             0,
-            "stat 4436 1761 1150 6697 2058",
+            "stat 51592 17613 11644 66445 19925",
         ),
         (
             "sample 7 20000",
