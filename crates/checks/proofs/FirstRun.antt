@@ -5,8 +5,9 @@ use Rattle.std.specs.List.{list_all}
 use Rattle.std.proofs.lemmas.List.Elements.{All-nil, All-cons}
 use Rattle.std.proofs.lemmas.Bool.{not-true, and_parts}
 use Rattle.pmem_base.specs.Lines.{zero_line}
+use Rattle.pmem_base.specs.WaitingWrites.{no_writes}
 use Rattle.hex.specs.Hex.{decode_pairs}
-use Rattle.plain_model.specs.State.{no_flags, no_writes, start_state}
+use Rattle.plain_model.specs.State.{no_flags, start_state}
 use Rattle.plain_model.specs.View.{start_view}
 use Rattle.collision_witness.specs.Words.{words_of, without_return, number_up_to, hex_bytes}
 use Rattle.plain_model.specs.Lines.{lines_of, is_line_end, IsWithin}

@@ -12,7 +12,8 @@ use Rattle.pmem_base.specs.Shape.{Shape}
 use Rattle.pmem_base.specs.Layout as layout
 use Rattle.pmem_base.specs.Layout.{page_of, Content, data_line, tags_from, content_of}
 use Rattle.pmem_base.specs.Lines.{zero_line, put_bytes}
-use Rattle.plain_model.specs.State.{PlainState, Reply, no_flags, is_flagged, has_flags, with_flag, without_flag, no_writes, queue_of, memory_with}
+use Rattle.pmem_base.specs.WaitingWrites.{no_writes, queue_of}
+use Rattle.plain_model.specs.State.{PlainState, Reply, no_flags, is_flagged, has_flags, with_flag, without_flag, memory_with}
 
 -- ---- what an answer says
 

@@ -1,6 +1,6 @@
 -- Which answers a command can have: those that the table of the machine decides, and those that
 -- are left to the engine.
-use Rattle.std.specs.Prelude.{ℕ, ◌+◌, ◌==◌, nat_lt, nat_le, Bool, true, false, ◌&&◌, ◌||◌, List, [], ◌∷◌, length, filter, is_some, is_none, Option, Some, None, if◌then◌else◌}
+use Rattle.std.specs.Prelude.{ℕ, ◌+◌, ◌==◌, nat_lt, nat_le, Bool, true, false, ◌&&◌, ◌||◌, List, length, is_some, is_none, Option, Some, None, if◌then◌else◌}
 use Rattle.std.specs.List.{list_all, list_any, range_with_len}
 use Rattle.pmem_base.specs.declared.lines.Line.{Line}
 use Rattle.pmem_base.specs.declared.commands.Posted.{Posted}
@@ -11,26 +11,14 @@ use Rattle.pmem_base.specs.declared.answers.Answer.TheVariants as Say
 use Rattle.pmem_base.specs.Shape.{Shape, is_loss}
 use Rattle.pmem_base.specs.Layout as layout
 use Rattle.pmem_base.specs.Lines.{line_at}
-use Rattle.plain_model.specs.State.{PlainState, queue_of, put_write}
+use Rattle.pmem_base.specs.WaitingWrites.{queue_of, put_writes, writes_to, has_byte}
+use Rattle.plain_model.specs.State.{PlainState}
 
 -- ---- reads of waiting writes
-
--- the port's waiting writes to line a, the oldest first
-abbrev pub writes_to : List Posted → ℕ → List Posted
-writes_to writes a = filter (λ write. write.at == a) writes
-
--- the line with the writes put into it in order
-abbrev pub put_writes : Line → List Posted → Line
-put_writes line [] = line
-put_writes line (write ∷ writes) = put_writes (put_write line write) writes
 
 -- what a read of the port sees of line a
 abbrev pub seen_line : PlainState → ℕ → ℕ → Line
 seen_line state port a = put_writes (line_at state.memory a) (writes_to (queue_of state.queues port) a)
-
--- whether the write has byte i of its line
-abbrev pub has_byte : Posted → ℕ → Bool
-has_byte write i = nat_le write.from i && nat_lt i (write.from + write.len)
 
 -- whether the port's waiting writes to line a have all of its 64 bytes
 abbrev pub is_covered : PlainState → ℕ → ℕ → Bool

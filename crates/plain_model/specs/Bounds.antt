@@ -9,9 +9,10 @@ use Rattle.pmem_base.specs.declared.answers.Answer.{Answer}
 use Rattle.pmem_base.specs.declared.answers.Answer.TheVariants as Say
 use Rattle.pmem_base.specs.Shape.{Shape}
 use Rattle.pmem_base.specs.Layout as layout
+use Rattle.pmem_base.specs.WaitingWrites.{queue_of}
 use Rattle.bonsai_tree.specs.Positions.{is_on_path}
 use Rattle.suite.specs.Setup.{Setup}
-use Rattle.plain_model.specs.State.{PlainState, Reply, is_flagged, queue_of}
+use Rattle.plain_model.specs.State.{PlainState, Reply, is_flagged}
 use Rattle.plain_model.specs.View.{DeviceView}
 use Rattle.plain_model.specs.Asked.{moment_of, marks_of_writes}
 

@@ -15,11 +15,12 @@ use Rattle.pmem_base.specs.Shape.{Shape}
 use Rattle.pmem_base.specs.Layout as layout
 use Rattle.pmem_base.specs.Layout.{page_of, Content, data_line, tags_from, metadata, shadow, nothing, content_of}
 use Rattle.pmem_base.specs.Lines.{line_at, line_of}
+use Rattle.pmem_base.specs.WaitingWrites.{queue_of}
 use Rattle.suite.specs.Formulas.{Formulas, cipher_of}
 use Rattle.split_counters.specs.Blocks.{packed, unpacked, IsStoredBlock}
 use Rattle.bonsai_tree.specs.Positions.{counter_position}
 use Rattle.suite.specs.Setup.{Setup}
-use Rattle.plain_model.specs.State.{PlainState, Reply, is_flagged, has_flags, queue_of}
+use Rattle.plain_model.specs.State.{PlainState, Reply, is_flagged, has_flags}
 use Rattle.plain_model.specs.View.{DeviceView, OpenPage, counter_at, counter_block_of}
 use Rattle.plain_model.specs.Asked.{Moment, moment_of, marks_of_write, marks_of_writes, moment_after_writes, first_of, mark_of_turn}
 use Rattle.plain_model.specs.Bounds.{can_be_dirty, IsWithinBounds}

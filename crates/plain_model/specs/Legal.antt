@@ -9,9 +9,10 @@ use Rattle.pmem_base.specs.declared.answers.Answer.TheVariants as Say
 use Rattle.pmem_base.specs.declared.answers.Place.{Place}
 use Rattle.pmem_base.specs.Layout as layout
 use Rattle.pmem_base.specs.Layout.{page_of}
+use Rattle.pmem_base.specs.WaitingWrites.{queue_of}
 use Rattle.bonsai_tree.specs.Positions.{is_on_path, counter_position}
 use Rattle.suite.specs.Setup.{Setup}
-use Rattle.plain_model.specs.State.{PlainState, is_flagged, has_flags, queue_of}
+use Rattle.plain_model.specs.State.{PlainState, is_flagged, has_flags}
 use Rattle.plain_model.specs.View.{DeviceView, true_line}
 use Rattle.plain_model.specs.After.{steps_of, is_cut, drained_of, after_drain, after_drains}
 use Rattle.plain_model.specs.Answers.{seen_line, is_engine_answer}

@@ -1,5 +1,5 @@
 -- The plain machine: lines, queues, power, a fuse, and what the attacker touched.
-use Rattle.std.specs.Prelude.{ℕ, ◌+◌, Bool, true, false, List, [], replicate, slice_index_or, slice_range, Option, None, slice_set}
+use Rattle.std.specs.Prelude.{ℕ, Bool, true, false, List, [], replicate, slice_index_or, Option, None, slice_set}
 use Rattle.std.specs.List.{list_any}
 use Rattle.pmem_base.specs.declared.lines.Line.{Line}
 use Rattle.pmem_base.specs.declared.commands.Posted.{Posted}
@@ -7,7 +7,8 @@ use Rattle.pmem_base.specs.declared.answers.Mark.{Mark}
 use Rattle.pmem_base.specs.declared.answers.Answer.{Answer}
 use Rattle.pmem_base.specs.Shape.{Shape}
 use Rattle.pmem_base.specs.Layout as layout
-use Rattle.pmem_base.specs.Lines.{line_at, zero_line, put_bytes}
+use Rattle.pmem_base.specs.Lines.{line_at, zero_line}
+use Rattle.pmem_base.specs.WaitingWrites.{no_writes, put_write}
 
 -- the plain memory: a line for each data line
 abbrev pub Memory : Type 0
@@ -60,23 +61,6 @@ with_flag flags n = slice_set flags n true
 
 abbrev pub without_flag : List Bool → ℕ → List Bool
 without_flag flags n = slice_set flags n false
-
--- ---- queues
-
-unfoldable pub no_writes : List (List Posted)
-no_writes = replicate 8 []
-
--- the waiting writes of a port, the oldest first
-abbrev pub queue_of : List (List Posted) → ℕ → List Posted
-queue_of queues port = slice_index_or queues port []
-
--- the bytes that a write puts
-abbrev pub posted_bytes : Posted → List ℕ
-posted_bytes write = slice_range write.line.0 write.from (write.from + write.len)
-
--- the line with the write's bytes in their place
-abbrev pub put_write : Line → Posted → Line
-put_write line write = put_bytes line write.from (posted_bytes write)
 
 -- the memory with the write put into its line
 abbrev pub memory_with : Memory → Posted → Memory

@@ -2,6 +2,7 @@ pub mod Shape
 pub mod Layout
 pub mod Geo
 pub mod Lines
+pub mod WaitingWrites
 pub mod Marks
 pub mod Registers
 pub mod Ranges

@@ -11,9 +11,10 @@ use Rattle.pmem_base.specs.declared.answers.Exhibit.TheVariants.{Twin}
 use Rattle.pmem_base.specs.Ranges.{IsAnswer}
 use Rattle.pmem_base.specs.Shape.{Shape, is_loss}
 use Rattle.pmem_base.specs.Layout as layout
+use Rattle.pmem_base.specs.WaitingWrites.{queue_of}
 use Rattle.collision_witness.specs.Exhibits.{IsExhibit}
 use Rattle.suite.specs.Setup.{Setup}
-use Rattle.plain_model.specs.State.{PlainState, Reply, queue_of}
+use Rattle.plain_model.specs.State.{PlainState, Reply}
 use Rattle.plain_model.specs.View.{DeviceView}
 use Rattle.plain_model.specs.Answers.{is_shown, is_covered, is_on_device, posting_answer, decided_answer}
 use Rattle.plain_model.specs.Shown.{IsEngineReply, IsShownAnswer, IsLegal}

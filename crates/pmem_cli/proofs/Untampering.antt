@@ -17,9 +17,10 @@ use Rattle.pmem_base.specs.declared.answers.Place.{Place}
 use Rattle.pmem_base.specs.Shape.{Shape}
 use Rattle.pmem_base.specs.Layout as layout
 use Rattle.pmem_base.specs.Layout.{page_of}
+use Rattle.pmem_base.specs.WaitingWrites.{queue_of}
 use Rattle.bonsai_tree.specs.Positions.{is_on_path, counter_position}
 use Rattle.suite.specs.Setup.{Setup}
-use Rattle.plain_model.specs.State.{PlainState, Reply, no_flags, is_flagged, has_flags, with_flag, without_flag, queue_of, start_state}
+use Rattle.plain_model.specs.State.{PlainState, Reply, no_flags, is_flagged, has_flags, with_flag, without_flag, start_state}
 use Rattle.plain_model.specs.View.{DeviceView}
 use Rattle.plain_model.specs.After.{after_front, after_drain, after_drains, without_front, after_drop, after_writes, after_flush, after_on, after_command, after_steps, after_mark, after_marks, state_after, is_cut}
 use Rattle.plain_model.specs.Answers.{is_on_device, decided_answer}

@@ -11,11 +11,11 @@ use Rattle.pmem_base.specs.Layout.{page_of}
 use Rattle.pmem_base.specs.Lines.{xor_bytes, line_of}
 use Rattle.pmem_base.specs.Marks.{SealOf, last_seal}
 use Rattle.pmem_base.specs.Ranges.{IsPosted}
+use Rattle.pmem_base.specs.WaitingWrites.{put_write}
 use Rattle.seal_ledger.specs.Ledger.{IsMark}
 use Rattle.seal_ledger.proofs.MarkLemmas.{last_seal_has}
 use Rattle.suite.specs.Setup.{Setup}
 use Rattle.meta_path.specs.Blocks.{IsPathCached}
-use Rattle.plain_model.specs.State.{put_write}
 use Rattle.plain_model.specs.View.{plain_of_seal}
 use Rattle.pmem_engine.specs.declared.fault.Fault.{Fault}
 use Rattle.pmem_engine.specs.declared.fault.Fault.TheVariants as Fail

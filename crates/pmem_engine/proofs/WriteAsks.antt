@@ -15,12 +15,13 @@ use Rattle.pmem_base.specs.Layout as layout
 use Rattle.pmem_base.specs.Layout.{page_of, index_in_page}
 use Rattle.pmem_base.specs.Lines.{line_at}
 use Rattle.pmem_base.specs.Registers.{empty_progress}
+use Rattle.pmem_base.specs.WaitingWrites.{put_write}
 use Rattle.split_counters.specs.declared.Block.{Block}
 use Rattle.split_counters.specs.Blocks.{block_counter, minor_of}
 use Rattle.page_reencrypt.specs.Registers.{register_of, register_held}
 use Rattle.meta_path.specs.Blocks.{IsPathCached}
 use Rattle.suite.specs.Setup.{Setup}
-use Rattle.plain_model.specs.State.{Memory, put_write}
+use Rattle.plain_model.specs.State.{Memory}
 use Rattle.plain_model.specs.View.{counter_at, open_page, is_left}
 use Rattle.plain_model.specs.Asked.{Moment, seal_mark, next_major, first_of, page_to_finish, finishing_marks_of, marks_of_write}
 use Rattle.pmem_engine.specs.declared.fault.Fault.{Fault}

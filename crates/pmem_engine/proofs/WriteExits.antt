@@ -12,7 +12,8 @@ use Rattle.suite.specs.Setup.{Setup}
 use Rattle.suite.specs.Formulas.{Formulas}
 use Rattle.meta_path.specs.Blocks.{dirty_count}
 use Rattle.pmem_base.specs.Lines.{line_at}
-use Rattle.plain_model.specs.State.{Memory, memory_with, put_write}
+use Rattle.pmem_base.specs.WaitingWrites.{put_write}
+use Rattle.plain_model.specs.State.{Memory, memory_with}
 use Rattle.plain_model.specs.View.{counter_at, open_page, is_left}
 use Rattle.plain_model.specs.Asked.{Moment, seal_mark, next_major, page_to_finish, finishing_marks_of, marks_of_write}
 use Rattle.plain_model.specs.Bounds.{path_length, seal_count}

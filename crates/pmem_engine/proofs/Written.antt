@@ -13,6 +13,7 @@ use Rattle.pmem_base.specs.Layout as layout
 use Rattle.pmem_base.specs.Layout.{page_of, index_in_page}
 use Rattle.pmem_base.specs.Lines.{line_at}
 use Rattle.pmem_base.specs.Marks.{SealOf, last_seal}
+use Rattle.pmem_base.specs.WaitingWrites.{put_write}
 use Rattle.pmem_base.proofs.LineSets.{line_at-set_same, line_at-set_other}
 use Rattle.seal_ledger.specs.Ledger.{LedgerState}
 use Rattle.seal_ledger.proofs.MarkLemmas.{last_seal-sealed}
@@ -22,7 +23,7 @@ use Rattle.page_reencrypt.specs.Registers.{register_held}
 use Rattle.meta_path.specs.Blocks.{line_in, IsPathCached}
 use Rattle.suite.specs.Formulas.{cipher_of}
 use Rattle.suite.specs.Setup.{Setup}
-use Rattle.plain_model.specs.State.{Memory, put_write, memory_with}
+use Rattle.plain_model.specs.State.{Memory, memory_with}
 use Rattle.plain_model.specs.View.{view_of, plain_line}
 use Rattle.plain_model.specs.Asked.{seal_mark, marks_of_write}
 use Rattle.plain_model.specs.Bounds.{path_length, seal_count}

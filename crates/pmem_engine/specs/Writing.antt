@@ -10,13 +10,14 @@ use Rattle.pmem_base.specs.declared.answers.Mark.{Mark}
 use Rattle.pmem_base.specs.Layout as layout
 use Rattle.pmem_base.specs.Layout.{page_of}
 use Rattle.pmem_base.specs.Registers.{not_done}
+use Rattle.pmem_base.specs.WaitingWrites.{put_write}
 use Rattle.split_counters.specs.declared.Block.{Block}
 use Rattle.split_counters.specs.Blocks.{minor_of}
 use Rattle.page_reencrypt.specs.Registers.{register_of}
 use Rattle.suite.specs.Formulas.{Formulas}
 use Rattle.suite.specs.Setup.{Setup}
 use Rattle.meta_path.specs.Blocks.{IsPathCached}
-use Rattle.plain_model.specs.State.{Memory, put_write}
+use Rattle.plain_model.specs.State.{Memory}
 use Rattle.plain_model.specs.View.{plain_line}
 use Rattle.plain_model.specs.Asked.{Moment, reseal_mark, marks_of_write}
 use Rattle.pmem_engine.specs.declared.fault.Fault.{Fault}

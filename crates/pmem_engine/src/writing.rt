@@ -2,10 +2,10 @@
 ghost use Rattle.std.specs.Prelude.{◌≡◌, ◌<◌, ◌≤◌, ◌-◌, ◌^◌, None, false, true, length, IfOk, IfSome, IsNone, OnOk};
 ghost use Rattle.pmem_base.specs.Layout.{page_of, index_in_page, data_lines, pages};
 ghost use Rattle.pmem_base.specs.Ranges.{IsPosted};
+ghost use Rattle.pmem_base.specs.WaitingWrites.{put_write};
 ghost use Rattle.split_counters.specs.Blocks.{next_block};
 ghost use Rattle.page_reencrypt.specs.Registers.{register_of};
 ghost use Rattle.meta_path.specs.Blocks.{IsPathCached};
-ghost use Rattle.plain_model.specs.State.{put_write};
 ghost use Rattle.pmem_engine.specs.Parts.{parts_of};
 ghost use Rattle.pmem_engine.specs.Calls.{IsUsable, IsPathNamedInMirror};
 ghost use Rattle.pmem_engine.specs.Inner.{cached_block};

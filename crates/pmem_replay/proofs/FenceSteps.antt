@@ -14,9 +14,10 @@ use Rattle.pmem_base.specs.Layout as layout
 use Rattle.pmem_base.specs.declared.answers.Exhibit.{Exhibit}
 use Rattle.pmem_base.specs.Marks.{last_seal}
 use Rattle.pmem_base.specs.Ranges.{IsAnswer, IsExhibitValue}
+use Rattle.pmem_base.specs.WaitingWrites.{queue_of}
 use Rattle.meta_cache.specs.Banks.{IsBanksOf}
 use Rattle.suite.specs.Setup.{Setup}
-use Rattle.plain_model.specs.State.{PlainState, queue_of}
+use Rattle.plain_model.specs.State.{PlainState}
 use Rattle.plain_model.specs.Asked.{moment_of, marks_of_write}
 use Rattle.plain_model.specs.After.{state_after, after_marks, steps_of, is_cut}
 use Rattle.plain_model.specs.Answers.{decided_answer, is_shown}

@@ -7,10 +7,11 @@ use Rattle.pmem_base.specs.declared.commands.Command.TheVariants as Do
 use Rattle.pmem_base.specs.declared.answers.Answer.TheVariants as Say
 use Rattle.pmem_base.specs.Shape.{Shape}
 use Rattle.pmem_base.specs.Layout as layout
+use Rattle.pmem_base.specs.WaitingWrites.{no_writes}
 use Rattle.board.specs.Memory.{Memory}
 use Rattle.meta_cache.specs.Banks.{IsBanksOf}
 use Rattle.suite.specs.Setup.{Setup}
-use Rattle.plain_model.specs.State.{PlainState, no_writes, with_flag}
+use Rattle.plain_model.specs.State.{PlainState, with_flag}
 use Rattle.plain_model.specs.After.{after_clean, state_after}
 use Rattle.plain_model.specs.Answers.{decided_answer}
 use Rattle.pmem_engine.specs.declared.fault.Fault.{Fault}

@@ -17,16 +17,17 @@ use Rattle.pmem_base.specs.Layout as layout
 use Rattle.pmem_base.specs.Lines.{IsLine, line_at, line_of, zero_line}
 use Rattle.pmem_base.specs.Marks.{SealOf, last_seal}
 use Rattle.pmem_base.specs.Ranges.{IsPosted}
+use Rattle.pmem_base.specs.WaitingWrites.{queue_of, put_write, put_writes, writes_to}
 use Rattle.seal_ledger.specs.Ledger.{IsMark}
 use Rattle.seal_ledger.proofs.MarkLemmas.{last_seal_has}
 use Rattle.write_ports.specs.Queues as ports
 use Rattle.write_ports.proofs.WriteLemmas.{length-put_writes, get_or-put_writes_some}
 use Rattle.suite.proofs.CipherLemmas.{xor_lines-IsLine}
 use Rattle.suite.specs.Setup.{Setup}
-use Rattle.plain_model.specs.State.{PlainState, queue_of, put_write}
+use Rattle.plain_model.specs.State.{PlainState}
 use Rattle.plain_model.specs.View.{plain_of_seal}
 use Rattle.plain_model.specs.Bounds.{path_length, dirty_bound}
-use Rattle.plain_model.specs.Answers.{decided_answer, put_writes, seen_line, is_covered}
+use Rattle.plain_model.specs.Answers.{decided_answer, seen_line, is_covered}
 use Rattle.pmem_engine.specs.Engine.{EngineState}
 use Rattle.pmem_replay.specs.World.{WorldState, IsWorld}
 use Rattle.pmem_replay.specs.Replies.{without_marks}
@@ -35,19 +36,19 @@ use Rattle.pmem_replay.proofs.Called.{on_in}
 use Rattle.pmem_replay.proofs.TableSteps.{IsGoingOn, lit_in, stepped_unchanged}
 
 -- both definitions put writes alike
-pub same_puts : (line : Line) (writes : List Posted) → ports.put_writes line writes ≡ put_writes line writes
+pub same_puts : (line : Line) (writes : List Posted) → put_writes line writes ≡ put_writes line writes
 same_puts line [] = refl
 same_puts line (write ∷ writes) = same_puts (put_write line write) writes
 
 -- the bytes that were seen are all of them, or not
 pub covered_by : (state : PlainState) (port at mask : ℕ)
-    → (mask ≡ 2 ^ 64 - 1) ↔ IsTrue (ports.cover_line (ports.writes_to (ports.queue_of state.queues port) at))
+    → (mask ≡ 2 ^ 64 - 1) ↔ IsTrue (ports.cover_line (writes_to (queue_of state.queues port) at))
     → mask ≡ 2 ^ 64 - 1 → is_covered state port at ≡ true
 unfolding ports.cover_line
 covered_by state port at mask full all = full.0 all
 
 pub uncovered_by : (state : PlainState) (port at mask : ℕ)
-    → (mask ≡ 2 ^ 64 - 1) ↔ IsTrue (ports.cover_line (ports.writes_to (ports.queue_of state.queues port) at))
+    → (mask ≡ 2 ^ 64 - 1) ↔ IsTrue (ports.cover_line (writes_to (queue_of state.queues port) at))
     → mask ≢ 2 ^ 64 - 1 → is_covered state port at ≡ false
 unfolding ports.cover_line
 uncovered_by state port at mask full some =
@@ -73,12 +74,12 @@ memory_line setup world engine at whole there within = by_seal (last_seal world.
 
 -- writes that have all bytes of a line leave nothing of it
 puts_alike : (a b : Line) (writes : List Posted) → length a.0 ≡ 64 → length b.0 ≡ 64 → All IsPosted writes
-    → ((i : ℕ) → i < 64 → ports.have_byte writes i ≡ true) → ports.put_writes a writes ≡ ports.put_writes b writes
+    → ((i : ℕ) → i < 64 → ports.have_byte writes i ≡ true) → put_writes a writes ≡ put_writes b writes
 puts_alike a b writes long_a long_b posted all =
     let one = length-put_writes a writes long_a posted in
     let two = length-put_writes b writes long_b posted in
     ap line_of
-    (ext_get_or 0 (ports.put_writes a writes).0 (ports.put_writes b writes).0 (one ∙ sym two)
+    (ext_get_or 0 (put_writes a writes).0 (put_writes b writes).0 (one ∙ sym two)
     (λ i within. get_or-put_writes_some a b writes i long_a long_b posted (all i (omega (arith, within, one)))))
 
 -- each byte is covered where all are
@@ -91,7 +92,7 @@ each_byte writes all i small =
 module _ (setup : Setup) (world : WorldState) (going : IsGoingOn setup world) (engine : EngineState) (there : world.engine ≡ Some engine)
     (port at : ℕ) (small : port < 8) (within : at < layout.data_lines setup.shape) (covered : is_covered world.state port at ≡ true) where
   abbrev pub waiting : List Posted
-  waiting = ports.writes_to (ports.queue_of world.state.queues port) at
+  waiting = writes_to (queue_of world.state.queues port) at
 
   posted : All IsPosted waiting
   posted =
@@ -99,7 +100,7 @@ module _ (setup : Setup) (world : WorldState) (going : IsGoingOn setup world) (e
       (going.whole.queues.ports.each port [] (omega (arith, small, going.whole.queues.ports.eight))).posted
 
   -- what the writes show over zeros is what they show over memory's line
-  pub read-forwarded : (line : Line) → line ≡ ports.put_writes zero_line waiting → IsLine line
+  pub read-forwarded : (line : Line) → line ≡ put_writes zero_line waiting → IsLine line
       → HasStepped setup world (Do.Read port at) (without_marks (Say.Got line 0)) world
   unfolding zero_line
   read-forwarded line is its =

@@ -13,9 +13,9 @@ use Rattle.suite.specs.Formulas.{Formulas}
 use Rattle.suite.specs.Setup.{Setup}
 use Rattle.pmem_base.specs.declared.answers.Mark.{Mark}
 use Rattle.pmem_base.specs.declared.answers.Answer.{Answer}
+use Rattle.pmem_base.specs.WaitingWrites.{no_writes}
 use Rattle.pmem_replay.specs.Replies.{without_marks, with_marks_since}
-use Rattle.plain_model.specs.State.{Reply, no_writes}
-use Rattle.write_ports.specs.Queues as ports
+use Rattle.plain_model.specs.State.{Reply}
 use Rattle.pmem_engine.specs.Engine.{EngineState}
 use Rattle.pmem_replay.specs.Flagged.{Tampering, Dirtying}
 use Rattle.pmem_replay.specs.World.{WorldState, WorldParts, IsWorld, setup_of, state_in, world_of}
@@ -87,7 +87,7 @@ power_is setup p there going is = by_engine p.engine refl
     by_engine (Some engine) some = lit_in setup (world_of setup p) engine going.whole some ∙ sym (is ∙ ap is_some some)
 
 -- nothing waits
-pub none_wait : (queues : List (List Posted)) → queues ≡ ports.no_writes → queues ≡ no_writes
+pub none_wait : (queues : List (List Posted)) → queues ≡ no_writes → queues ≡ no_writes
 unfolding no_writes
 none_wait queues none = none
 

@@ -16,6 +16,7 @@ use Rattle.pmem_base.specs.Layout as layout
 use Rattle.pmem_base.specs.Layout.{page_of}
 use Rattle.pmem_base.specs.Lines.{IsLine, line_at}
 use Rattle.pmem_base.specs.Registers.{without_group}
+use Rattle.pmem_base.specs.WaitingWrites.{no_writes}
 use Rattle.bonsai_tree.specs.Positions.{level_of}
 use Rattle.board.specs.Device.{AreLinesOf}
 use Rattle.board.specs.Memory.{Memory}
@@ -25,7 +26,7 @@ use Rattle.meta_cache.specs.Banks.{set_of, set_index, IsBanksOf, is_cached_dirty
 use Rattle.meta_cache.specs.State.{empty_banks}
 use Rattle.seal_ledger.specs.Ledger.{LedgerState}
 use Rattle.suite.specs.Setup.{Setup}
-use Rattle.plain_model.specs.State.{PlainState, is_flagged, has_flags, no_flags, no_writes}
+use Rattle.plain_model.specs.State.{PlainState, is_flagged, has_flags, no_flags}
 use Rattle.plain_model.specs.After.{steps_with}
 use Rattle.plain_model.specs.Bounds.{recovery_bound, path_length}
 use Rattle.pmem_engine.specs.Engine.{EngineState}

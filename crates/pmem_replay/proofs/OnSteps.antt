@@ -17,12 +17,13 @@ use Rattle.pmem_base.specs.Layout as layout
 use Rattle.pmem_base.specs.Lines.{IsLine, IsTag, line_at, tag_slot}
 use Rattle.pmem_base.specs.Ranges.{IsAnswer}
 use Rattle.pmem_base.specs.Registers.{without_group}
+use Rattle.pmem_base.specs.WaitingWrites.{no_writes}
 use Rattle.board.specs.Memory.{Memory}
 use Rattle.commit_regs.specs.Groups.{finishing_latches}
 use Rattle.meta_cache.specs.Banks.{IsBanksOf, IsInPlace}
 use Rattle.meta_cache.specs.State.{empty_banks}
 use Rattle.suite.specs.Setup.{Setup}
-use Rattle.plain_model.specs.State.{PlainState, no_writes}
+use Rattle.plain_model.specs.State.{PlainState}
 use Rattle.plain_model.specs.After.{after_clean, after_loosening, state_after, steps_with, steps_of}
 use Rattle.plain_model.specs.Bounds.{recovery_bound}
 use Rattle.plain_model.specs.Answers.{decided_answer, is_shown}

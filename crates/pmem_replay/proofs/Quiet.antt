@@ -8,11 +8,12 @@ use Rattle.pmem_base.specs.declared.commands.Command.{Command}
 use Rattle.pmem_base.specs.Counts.{last_count}
 use Rattle.pmem_base.specs.Shape.{Shape}
 use Rattle.pmem_base.specs.Layout as layout
+use Rattle.pmem_base.specs.WaitingWrites.{no_writes}
 use Rattle.board.specs.Memory.{Memory}
 use Rattle.meta_cache.specs.Banks.{IsBanksOf, is_cached_dirty}
 use Rattle.write_ports.specs.Queues.{IsQueue}
 use Rattle.suite.specs.Setup.{Setup}
-use Rattle.plain_model.specs.State.{PlainState, no_writes}
+use Rattle.plain_model.specs.State.{PlainState}
 use Rattle.plain_model.specs.After.{steps_with}
 use Rattle.plain_model.specs.Bounds.{can_be_dirty}
 use Rattle.plain_model.specs.Shown.{IsLegal, IsEngineReply}

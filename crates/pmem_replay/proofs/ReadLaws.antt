@@ -14,11 +14,11 @@ use Rattle.pmem_base.specs.Marks.{last_seal}
 use Rattle.pmem_base.specs.Layout as layout
 use Rattle.pmem_base.specs.Layout.{page_of}
 use Rattle.pmem_base.specs.Lines.{line_at}
+use Rattle.pmem_base.specs.WaitingWrites.{queue_of, writes_to, put_writes}
 use Rattle.meta_cache.specs.Banks.{IsBanksOf}
 use Rattle.meta_path.specs.Blocks.{dirty_count}
 use Rattle.suite.specs.Setup.{Setup}
-use Rattle.plain_model.specs.State.{is_flagged, queue_of}
-use Rattle.plain_model.specs.Answers.{writes_to, put_writes}
+use Rattle.plain_model.specs.State.{is_flagged}
 use Rattle.plain_model.specs.Legal.{IsRefusalCaused}
 use Rattle.plain_model.specs.Shown.{IsShown, CanBeRefused}
 use Rattle.plain_model.proofs.Views.{counter_at-last}

@@ -15,14 +15,14 @@ use Rattle.pmem_base.specs.Layout as layout
 use Rattle.pmem_base.specs.Layout.{page_of}
 use Rattle.pmem_base.specs.Lines.{IsLine}
 use Rattle.pmem_base.specs.Ranges.{IsAnswer, IsExhibitValue}
+use Rattle.pmem_base.specs.WaitingWrites.{queue_of, no_writes, writes_to, put_writes}
 use Rattle.commit_regs.specs.Groups.{redone}
 use Rattle.board.specs.Memory.{Memory}
 use Rattle.seal_ledger.specs.Ledger.{LedgerState, IsMark}
 use Rattle.meta_cache.specs.Banks.{IsBanksOf}
 use Rattle.suite.specs.Setup.{Setup}
-use Rattle.plain_model.specs.State.{queue_of, no_writes}
 use Rattle.plain_model.specs.After.{state_after, steps_of, is_cut}
-use Rattle.plain_model.specs.Answers.{decided_answer, is_shown, writes_to, put_writes, is_covered}
+use Rattle.plain_model.specs.Answers.{decided_answer, is_shown, is_covered}
 use Rattle.pmem_engine.specs.declared.fault.Fault.{Fault}
 use Rattle.pmem_engine.specs.declared.fault.Fault.TheVariants as Fail
 use Rattle.pmem_engine.specs.Engine.{EngineState}

@@ -11,11 +11,11 @@ use Rattle.pmem_base.specs.declared.answers.Mark.{Mark}
 use Rattle.pmem_base.specs.Layout as layout
 use Rattle.pmem_base.specs.Marks.{SealOf, last_seal}
 use Rattle.pmem_base.specs.Lines.{IsLine, zero_line}
+use Rattle.pmem_base.specs.WaitingWrites.{no_writes}
 use Rattle.board.specs.Memory.{Memory}
 use Rattle.seal_ledger.specs.Ledger.{LedgerState}
 use Rattle.seal_ledger.specs.Notes.{HasRoom}
 use Rattle.suite.specs.Setup.{Setup}
-use Rattle.plain_model.specs.State.{no_writes}
 use Rattle.plain_model.specs.View.{plain_line}
 use Rattle.plain_model.specs.After.{steps_with}
 use Rattle.pmem_engine.specs.Engine.{EngineState}

@@ -13,9 +13,10 @@ use Rattle.pmem_base.specs.Layout as layout
 use Rattle.pmem_base.specs.Lines.{IsLine, line_at, zero_line}
 use Rattle.pmem_base.proofs.LineLemmas.{IsLine-line_at}
 use Rattle.pmem_base.specs.Ranges.{IsPosted, IsStat}
+use Rattle.pmem_base.specs.WaitingWrites.{queue_of, no_writes}
 use Rattle.board.specs.Memory.{Memory, with_line_at, with_lines, flipped_line, restored_lines}
 use Rattle.suite.specs.Setup.{Setup}
-use Rattle.plain_model.specs.State.{PlainState, queue_of, no_writes}
+use Rattle.plain_model.specs.State.{PlainState}
 use Rattle.plain_model.specs.After.{posted_line, posted_part, after_post, after_power_loss, after_tampering, steps_with}
 use Rattle.pmem_engine.specs.Engine.{EngineState}
 use Rattle.pmem_replay.specs.Flagged.{Tampering, with_tampering}

@@ -8,10 +8,11 @@ use Rattle.pmem_base.specs.declared.commands.Posted.{Posted}
 use Rattle.pmem_base.specs.declared.commands.Command.{Command}
 use Rattle.pmem_base.specs.Layout as layout
 use Rattle.pmem_base.specs.Ranges.{IsPosted}
+use Rattle.pmem_base.specs.WaitingWrites.{queue_of}
 use Rattle.board.specs.Memory.{Memory}
 use Rattle.write_ports.specs.Queues.{IsQueue}
 use Rattle.suite.specs.Setup.{Setup}
-use Rattle.plain_model.specs.State.{PlainState, Reply, queue_of}
+use Rattle.plain_model.specs.State.{PlainState, Reply}
 use Rattle.plain_model.specs.After.{after_post, after_power_loss, steps_with}
 use Rattle.plain_model.specs.View.{DeviceView}
 use Rattle.plain_model.specs.Answers.{decided_answer}

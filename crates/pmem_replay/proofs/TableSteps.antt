@@ -9,8 +9,8 @@ use Rattle.pmem_base.specs.declared.answers.Answer.{Answer}
 use Rattle.pmem_base.specs.declared.answers.Answer.TheVariants as Say
 use Rattle.pmem_base.specs.Layout as layout
 use Rattle.pmem_base.specs.Ranges.{IsAnswer}
+use Rattle.pmem_base.specs.WaitingWrites.{queue_of}
 use Rattle.suite.specs.Setup.{Setup}
-use Rattle.plain_model.specs.State.{queue_of}
 use Rattle.plain_model.specs.After.{state_after}
 use Rattle.plain_model.specs.Answers.{decided_answer, is_answer_to, is_shown}
 use Rattle.plain_model.specs.Fits.{Fits}

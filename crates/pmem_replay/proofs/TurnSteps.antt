@@ -11,12 +11,13 @@ use Rattle.pmem_base.specs.declared.answers.Mark.{Mark}
 use Rattle.pmem_base.specs.declared.answers.Place.{Place}
 use Rattle.pmem_base.specs.Shape.{Shape}
 use Rattle.pmem_base.specs.Ranges.{IsAnswer, IsExhibitValue}
+use Rattle.pmem_base.specs.WaitingWrites.{no_writes}
 use Rattle.board.specs.Memory.{Memory}
 use Rattle.meta_cache.specs.Banks.{IsBanksOf}
 use Rattle.seal_ledger.specs.Ledger.{LedgerState, IsMark}
 use Rattle.seal_ledger.specs.Notes.{HasRoom}
 use Rattle.suite.specs.Setup.{Setup}
-use Rattle.plain_model.specs.State.{PlainState, Reply, no_writes}
+use Rattle.plain_model.specs.State.{PlainState, Reply}
 use Rattle.plain_model.specs.After.{state_after, after_marks}
 use Rattle.plain_model.specs.Answers.{decided_answer, is_shown}
 use Rattle.pmem_engine.specs.declared.fault.Fault.{Fault}

@@ -16,11 +16,12 @@ use Rattle.pmem_base.specs.Layout as layout
 use Rattle.pmem_base.specs.Layout.{page_of}
 use Rattle.pmem_base.specs.Lines.{line_at}
 use Rattle.pmem_base.specs.Marks.{last_seal}
+use Rattle.pmem_base.specs.WaitingWrites.{queue_of}
 use Rattle.bonsai_tree.specs.Positions.{is_on_path}
 use Rattle.meta_path.specs.Blocks.{dirty_count}
 use Rattle.suite.specs.Formulas.{cipher_of}
 use Rattle.suite.specs.Setup.{Setup}
-use Rattle.plain_model.specs.State.{PlainState, queue_of, is_flagged}
+use Rattle.plain_model.specs.State.{PlainState, is_flagged}
 use Rattle.plain_model.specs.View.{start_view, view_of, view_after_marks, counter_at, true_line}
 use Rattle.plain_model.proofs.Views.{view_after_marks-append}
 use Rattle.plain_model.specs.After.{after_drains}

@@ -10,12 +10,13 @@ use Rattle.pmem_base.specs.declared.answers.Mark.{Mark}
 use Rattle.pmem_base.specs.Layout as layout
 use Rattle.pmem_base.specs.Lines.{line_at}
 use Rattle.pmem_base.specs.Ranges.{IsPosted}
+use Rattle.pmem_base.specs.WaitingWrites.{put_write, queue_of, no_writes}
 use Rattle.pmem_base.proofs.ListLaws.{All-append_right}
 use Rattle.meta_cache.specs.Banks.{is_cached_dirty, IsBanksOf}
 use Rattle.seal_ledger.specs.Ledger.{IsMark}
 use Rattle.write_ports.specs.Queues.{IsQueue}
 use Rattle.suite.specs.Setup.{Setup}
-use Rattle.plain_model.specs.State.{PlainState, is_flagged, without_flag, memory_with, put_write, queue_of, no_writes}
+use Rattle.plain_model.specs.State.{PlainState, is_flagged, without_flag, memory_with}
 use Rattle.plain_model.specs.After.{steps_with}
 use Rattle.plain_model.specs.Asked.{moment_of, marks_of_write}
 use Rattle.plain_model.specs.Bounds.{can_be_dirty}

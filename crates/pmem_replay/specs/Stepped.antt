@@ -15,11 +15,12 @@ use Rattle.pmem_base.specs.Layout as layout
 use Rattle.pmem_base.specs.Lines.{line_at, tag_slot}
 use Rattle.pmem_base.specs.Marks.{last_seal}
 use Rattle.pmem_base.specs.Ranges.{IsAnswer}
+use Rattle.pmem_base.specs.WaitingWrites.{queue_of}
 use Rattle.board.specs.Memory.{Memory, with_line_at, with_lines, flipped_line, restored_lines}
 use Rattle.seal_ledger.specs.Ledger.{LedgerState}
 use Rattle.seal_ledger.specs.Notes.{HasRoom}
 use Rattle.suite.specs.Setup.{Setup}
-use Rattle.plain_model.specs.State.{Reply, queue_of, start_state}
+use Rattle.plain_model.specs.State.{Reply, start_state}
 use Rattle.plain_model.specs.View.{start_view}
 use Rattle.plain_model.specs.After.{state_after, steps_of, is_cut}
 use Rattle.plain_model.specs.Answers.{decided_answer, is_answer_to, is_shown}

@@ -13,9 +13,10 @@ use Rattle.pmem_base.specs.declared.lines.Line.{Line}
 use Rattle.pmem_base.specs.declared.commands.Posted.{Posted}
 use Rattle.pmem_base.specs.Lines.{line_of, zero_line}
 use Rattle.pmem_base.specs.Ranges.{IsPosted}
+use Rattle.pmem_base.specs.WaitingWrites.{posted_bytes, put_write, put_writes, writes_to, has_byte}
 use Rattle.pmem_base.proofs.LineLemmas.{IsLine-zero_line}
 use Rattle.write_ports.specs.declared.seen.Seen.{Seen}
-use Rattle.write_ports.specs.Queues.{posted_bytes, put_write, put_writes, writes_to, has_byte, have_byte, cover_line}
+use Rattle.write_ports.specs.Queues.{have_byte, cover_line}
 use Rattle.write_ports.specs.Seen.{is_seen, overlaid_byte, overlaid, IsSight}
 use Rattle.write_ports.proofs.PutLemmas.{length-put_at, get_or-put_at_within, get_or-put_at_before, get_or-put_at_behind, length-part, get_or-part}
 

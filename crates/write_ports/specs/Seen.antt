@@ -5,8 +5,9 @@ use Rattle.std.specs.Int.{bit_at}
 use Rattle.pmem_base.specs.declared.lines.Line.{Line}
 use Rattle.pmem_base.specs.declared.commands.Posted.{Posted}
 use Rattle.pmem_base.specs.Lines.{line_of, zero_line}
+use Rattle.pmem_base.specs.WaitingWrites.{put_writes}
 use Rattle.write_ports.specs.declared.seen.Seen.{Seen}
-use Rattle.write_ports.specs.Queues.{put_writes, have_byte}
+use Rattle.write_ports.specs.Queues.{have_byte}
 
 -- whether byte i was seen
 abbrev pub is_seen : Seen → ℕ → Bool

@@ -4,7 +4,8 @@ ghost use Rattle.pmem_base.specs.Ranges.{IsPosted};
 ghost use Rattle.pmem_base.specs.Lines.{zero_line};
 ghost use Rattle.pmem_base.specs.declared.lines.Line.{Line};
 ghost use Rattle.pmem_base.specs.declared.commands.Posted.{Posted};
-ghost use Rattle.write_ports.specs.Queues.{ArePorts, no_writes, queue_of, writes_to, put_writes, have_byte, cover_line};
+ghost use Rattle.pmem_base.specs.WaitingWrites.{no_writes, queue_of, writes_to, put_writes};
+ghost use Rattle.write_ports.specs.Queues.{ArePorts, have_byte, cover_line};
 
 use crate::Seen;
 use crate::queue::Queue;
@@ -30,6 +31,7 @@ impl Ports {
     ghost use Rattle.write_ports.specs.Seen.{is_seen, overlaid};
 
     /// Nothing waits.
+    #[tactic(auto, unfolding(pmem_base::specs::WaitingWrites::no_writes))]
     pub fn new() -> Ports
         ensures { result ≡ no_writes }
     {

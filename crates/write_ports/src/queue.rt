@@ -2,7 +2,8 @@
 ghost use Rattle.std.specs.Prelude.{◌≡◌, ◌<◌, ◌≤◌, ◌↔◌, ℕ, [], ◌∷◌, ◌++◌, List, length, drop, slice_get, IsErr, OnOk, OnErr};
 ghost use Rattle.pmem_base.specs.Ranges.{IsPosted};
 ghost use Rattle.pmem_base.specs.declared.commands.Posted.{Posted};
-ghost use Rattle.write_ports.specs.Queues.{IsQueue, writes_to};
+ghost use Rattle.pmem_base.specs.WaitingWrites.{writes_to};
+ghost use Rattle.write_ports.specs.Queues.{IsQueue};
 
 use crate::Seen;
 use arrayvec::ArrayVec;

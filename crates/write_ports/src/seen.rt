@@ -2,7 +2,8 @@
 ghost use Rattle.std.specs.Prelude.{◌≡◌, ◌<◌, ◌||◌, ℕ, [], ◌∷◌, if◌then◌else◌};
 ghost use Rattle.pmem_base.specs.Lines.{IsLine};
 ghost use Rattle.pmem_base.specs.Ranges.{IsPosted};
-ghost use Rattle.write_ports.specs.Queues.{put_write, put_writes, writes_to, has_byte, have_byte};
+ghost use Rattle.pmem_base.specs.WaitingWrites.{put_write, put_writes, writes_to, has_byte};
+ghost use Rattle.write_ports.specs.Queues.{have_byte};
 ghost use Rattle.write_ports.specs.Seen.{is_seen, overlaid, overlaid_byte};
 
 use pmem_base::{Line, Posted};

@@ -12,8 +12,7 @@ use Rattle.std.specs.Prelude.{◌<◌, true}
 use Rattle.pmem_replay.proofs.Served.{called}
 use Rattle.pmem_replay.proofs.Held.{rekeyed, same_engine}
 use Rattle.pmem_base.specs.Layout as layout
-use Rattle.plain_model.specs.State.{queue_of}
-use Rattle.plain_model.specs.Answers.{writes_to}
+use Rattle.pmem_base.specs.WaitingWrites.{queue_of, writes_to}
 use Rattle.pmem_replay.specs.World.{world_of}
 use Rattle.pmem_replay.proofs.Forwarded.{same_puts, covered_by, uncovered_by, read-forwarded}
 use Rattle.pmem_replay.proofs.ReadSteps.{Has, has_from, read-got, read-meta, read-tag, read-cut, read-shown}

@@ -5,7 +5,8 @@ use Rattle.std.proofs.lemmas.List.{get_or_default}
 use Rattle.std.proofs.lemmas.List.Elements.{All-filter, All-get_or}
 use Rattle.pmem_base.specs.declared.commands.Posted.{Posted}
 use Rattle.pmem_base.specs.Ranges.{IsPosted}
-use Rattle.write_ports.specs.Queues.{IsQueue, queue_of, writes_to}
+use Rattle.pmem_base.specs.WaitingWrites.{queue_of, writes_to}
+use Rattle.write_ports.specs.Queues.{IsQueue}
 use Rattle.write_ports.specs.Seen.{IsSight}
 use Rattle.write_ports.proofs.WriteLemmas.{overlaid-sight, cover_line_from_mask, mask_from_cover_line}
 use Rattle.write_ports.proofs.ports.Ports.look.Goals as goal

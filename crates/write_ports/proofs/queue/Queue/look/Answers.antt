@@ -1,7 +1,7 @@
 -- The writes so far, and the next one if it is to the line.
 use Rattle.std.proofs.Common.{take, [], ◌∷◌, get_or, sym, subst}
 use Rattle.pmem_base.specs.declared.commands.Posted.{Posted}
-use Rattle.write_ports.specs.Queues.{writes_to}
+use Rattle.pmem_base.specs.WaitingWrites.{writes_to}
 use Rattle.write_ports.specs.Seen.{IsSight}
 use Rattle.write_ports.proofs.WriteLemmas.{IsSight-push, writes_to_more}
 use Rattle.write_ports.proofs.queue.Queue.look.Goals as goal

@@ -1,6 +1,6 @@
 -- What was seen so far is what the first writes show.
 use Rattle.std.proofs.Common.{take}
-use Rattle.write_ports.specs.Queues.{writes_to}
+use Rattle.pmem_base.specs.WaitingWrites.{writes_to}
 use Rattle.write_ports.specs.Seen.{IsSight}
 use Rattle.write_ports.proofs.queue.Queue.look.Given as goal
 

@@ -1,7 +1,7 @@
 -- The shifts make a run of ones, which the mask gains.
 use Rattle.std.proofs.Common.{ap, ◌+◌, ◌∙◌}
 use Rattle.std.specs.Int.{bit_at}
-use Rattle.write_ports.specs.Queues.{has_byte}
+use Rattle.pmem_base.specs.WaitingWrites.{has_byte}
 use Rattle.write_ports.proofs.BitLemmas.{ones_shifted, bit_of_both, bit_of_run}
 use Rattle.write_ports.proofs.seen.Seen.with.Goals as goal
 
