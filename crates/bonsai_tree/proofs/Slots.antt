@@ -1,66 +1,32 @@
 -- A node's slots: what a digest put into one of them changes.
-use Rattle.std.proofs.Common.{ℕ, ◌≡◌, ◌≢◌, ◌<◌, ◌≤◌, ◌+◌, ◌-◌, ◌*◌, List, [], ◌∷◌, ◌++◌, length, take, drop, get_or, refl, sym, ap, subst, inl, inr, ◌∙◌, arith, append_assoc, append-nil, length-append}
+use Rattle.std.proofs.Common.{ℕ, ◌≡◌, ◌≢◌, ◌<◌, ◌+◌, ◌*◌, List, [], ◌∷◌, ◌++◌, length, take, drop, get_or, refl, sym, ap, subst, inl, inr, ◌∙◌, arith, append_assoc, append-nil, length-append}
 use Rattle.std.specs.Prelude.{slice_range}
 use Rattle.std.specs.List.{concat}
 use Rattle.std.proofs.lemmas.Bool.{cases_lt}
 use Rattle.std.proofs.lemmas.Grind.{take_at_read}
-use Rattle.std.proofs.lemmas.List.{take_at, drop_at, take-take, take-append-le, drop-drop, length-drop, length-take-le}
+use Rattle.std.proofs.lemmas.List.{take_at, drop_at, length-drop, length-take-le}
 use Rattle.std.proofs.lemmas.List.Elements.{All-append, All-nil}
 use Rattle.std.proofs.lemmas.List.Folds.{concat-append}
-use Rattle.std.proofs.lemmas.Slice.{between_is}
 use Rattle.pmem_base.specs.declared.lines.Line.{Line}
 use Rattle.pmem_base.specs.Lines.{IsLine, IsTag, line_of, put_bytes}
+use Rattle.pmem_base.proofs.Parts.{part-put_bytes_same, part-put_bytes_before, part-put_bytes_behind}
 use Rattle.bonsai_tree.specs.Nodes.{node_of, child_digest}
 use Rattle.bonsai_tree.specs.Paths.{with_child_digest}
-
--- ---- a part of a list with bytes put into it
-
-rest_at : (o : ℕ) (d xs : List ℕ) → take o xs ++ d ++ drop (o + length d) xs ≡ take o xs ++ (d ++ drop (o + length d) xs)
-rest_at o d xs = append_assoc (take o xs) d (drop (o + length d) xs)
-
-part_here : (o : ℕ) (d xs : List ℕ) → o ≤ length xs → slice_range (take o xs ++ d ++ drop (o + length d) xs) o (o + length d) ≡ d
-part_here o d xs inside =
-    let rest = drop (o + length d) xs in
-    let count : o + length d - o ≡ length d = omega arith in
-    ap (λ n. take n (drop o (take o xs ++ d ++ rest))) count
-    ∙ (ap (λ t. take (length d) (drop o t)) (rest_at o d xs)
-    ∙ (ap (λ t. take (length d) t) (drop_at (take o xs) (d ++ rest) o (length-take-le o xs inside))
-    ∙ take_at d rest (length d) refl))
-
-part_before : (o i j : ℕ) (d xs : List ℕ) → o ≤ length xs → j ≤ o → slice_range (take o xs ++ d ++ drop (o + length d) xs) i j ≡ slice_range xs i j
-part_before o i j d xs inside before =
-    let rest = drop (o + length d) xs in
-    ap (λ t. slice_range t i j) (rest_at o d xs)
-    ∙ (between_is (take o xs ++ (d ++ rest)) i j
-    ∙ (ap (λ t. drop i t)
-    (take-append-le j (take o xs) (d ++ rest) (omega (arith, before, length-take-le o xs inside)) ∙ take-take j o xs before)
-    ∙ sym (between_is xs i j)))
-
-part_after : (o i j : ℕ) (d xs : List ℕ) → o ≤ length xs → o + length d ≤ i → slice_range (take o xs ++ d ++ drop (o + length d) xs) i j ≡ slice_range xs i j
-part_after o i j d xs inside after =
-    let end = o + length d in
-    let place : end + (i - end) ≡ i = omega (arith, after) in
-    let front : length (take o xs ++ d) ≡ end = omega (arith, length-append (take o xs) d, length-take-le o xs inside) in
-    ap (λ t. take (j - i) t)
-    (ap (λ n. drop n (take o xs ++ d ++ drop end xs)) (sym place)
-    ∙ (sym (drop-drop (i - end) end (take o xs ++ d ++ drop end xs))
-    ∙ (ap (λ t. drop (i - end) t) (drop_at (take o xs ++ d) (drop end xs) end front)
-    ∙ (drop-drop (i - end) end xs ∙ ap (λ n. drop n xs) place))))
 
 -- ---- the digest of a slot
 
 pub child_digest-with_same : (node : Line) (slot : ℕ) (digest : List ℕ) → length node.0 ≡ 64 → slot < 4 → length digest ≡ 16 → child_digest (with_child_digest node slot digest) slot ≡ digest
 child_digest-with_same node slot digest whole small long =
     ap (λ n. slice_range (with_child_digest node slot digest).0 (16 * slot) (16 * slot + n)) (sym long)
-    ∙ part_here (16 * slot) digest node.0 (omega (arith, whole, small))
+    ∙ part-put_bytes_same node (16 * slot) digest (omega (arith, whole, small))
 
 pub child_digest-with_other : (node : Line) (slot other : ℕ) (digest : List ℕ) → length node.0 ≡ 64 → slot < 4 → length digest ≡ 16 → other ≢ slot → child_digest (with_child_digest node slot digest) other ≡ child_digest node other
 child_digest-with_other node slot other digest whole small long apart =
     elim (cases_lt other slot) [
       | inl before ↦
-          part_before (16 * slot) (16 * other) (16 * other + 16) digest node.0 (omega (arith, whole, small)) (omega (arith, before))
+          part-put_bytes_before node (16 * slot) digest (16 * other) (16 * other + 16) (omega (arith, whole, small)) (omega (arith, before))
       | inr after ↦
-          part_after (16 * slot) (16 * other) (16 * other + 16) digest node.0 (omega (arith, whole, small)) (omega (arith, after, apart, long))
+          part-put_bytes_behind node (16 * slot) digest (16 * other) (16 * other + 16) (omega (arith, whole, small)) (omega (arith, after, apart, long))
     ]
 
 -- ---- four digests

@@ -1,5 +1,5 @@
 -- The plain machine: lines, queues, power, a fuse, and what the attacker touched.
-use Rattle.std.specs.Prelude.{ℕ, Bool, true, false, List, [], replicate, slice_index_or, Option, None, slice_set}
+use Rattle.std.specs.Prelude.{ℕ, Bool, true, false, List, replicate, slice_index_or, Option, None, slice_set}
 use Rattle.std.specs.List.{list_any}
 use Rattle.pmem_base.specs.declared.lines.Line.{Line}
 use Rattle.pmem_base.specs.declared.commands.Posted.{Posted}

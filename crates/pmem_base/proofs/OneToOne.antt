@@ -2,7 +2,7 @@
 use Rattle.std.proofs.Common.{◌≡◌, ℕ, ◌*◌, ◌+◌, ◌-◌, ◌/◌, ◌%◌, ◌<◌, ◌≤◌, ◌∙◌, arith, ap, refl, inl, inr}
 use Rattle.std.proofs.lemmas.Bool.{cases_lt, lt-ltb, le-ltb}
 use Rattle.pmem_base.specs.Shape.{Shape}
-use Rattle.pmem_base.specs.Layout.{pages, meta_lines, device_lines, tag_line, data_lines, shadow_lines, Part, data_part, tag_part, meta_part, shadow_part, IsPart, place, Content, data_line, tags_from, metadata, shadow, content_of, content_with, meta_line, shadow_line}
+use Rattle.pmem_base.specs.Layout.{pages, meta_lines, device_lines, tag_line, data_lines, Part, data_part, tag_part, meta_part, shadow_part, IsPart, place, data_line, tags_from, metadata, shadow, content_of, content_with, meta_line, shadow_line}
 
 -- two parts at one place are one
 pub place-injective : (g : Shape) (p q : Part) → IsPart g p → IsPart g q

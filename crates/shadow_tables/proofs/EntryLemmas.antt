@@ -1,8 +1,8 @@
 -- Entries when one of them is written.
-use Rattle.std.proofs.Common.{◌≡◌, ◌≢◌, ℕ, ◌+◌, ◌*◌, ◌/◌, ◌%◌, ◌^◌, ◌≤◌, ◌<◌, Bool, true, false, List, length, get_or, set, mul-le-mul_right, refl, sym, ap, ◌∙◌, ◌⊎◌, inl, inr, arith}
+use Rattle.std.proofs.Common.{◌≡◌, ◌≢◌, ℕ, ◌+◌, ◌*◌, ◌/◌, ◌%◌, ◌^◌, ◌≤◌, ◌<◌, Bool, true, false, List, length, get_or, set, mul-le-mul_right, refl, sym, ap, ◌∙◌, inl, inr, arith}
 use Rattle.std.specs.Prelude.{◌==◌, if◌then◌else◌}
 use Rattle.std.specs.List.{range_with_len}
-use Rattle.std.proofs.lemmas.Bool.{cases_eq, cases_order, eq-eqb, ne_eqb, cond-true, cond-false}
+use Rattle.std.proofs.lemmas.Bool.{cases_eq, cases_lt, cases_order, eq-eqb, ne_eqb, cond-true, cond-false}
 use Rattle.std.proofs.lemmas.List.{get_or-set_same, get_or-set_other}
 use Rattle.std.proofs.lemmas.List.Folds.{list_any_at}
 use Rattle.std.proofs.lemmas.List.FromFn.{length-range_with_len, get_or-range_with_len}
@@ -10,8 +10,8 @@ use Rattle.pmem_base.specs.declared.lines.Line.{Line}
 use Rattle.pmem_base.specs.Shape.{Shape}
 use Rattle.pmem_base.specs.Layout.{slots, shadow_counter_lines, shadow_lines}
 use Rattle.pmem_base.specs.Lines.{line_at, zero_line, from_big_endian, big_endian}
-use Rattle.shadow_tables.proofs.PutLemmas.{slice-put_at_same, slice-put_at_apart}
-use Rattle.shadow_tables.proofs.ByteLemmas.{length-big_endian, from_big_endian-big_endian}
+use Rattle.pmem_base.proofs.Parts.{part-put_bytes_same, part-put_bytes_before, part-put_bytes_behind}
+use Rattle.shadow_tables.proofs.ByteLemmas.{from_big_endian-big_endian}
 use Rattle.shadow_tables.specs.Entries.{entry_of, table_entry, slot_entry, is_named_in}
 use Rattle.shadow_tables.specs.Naming.{entry_line, entry_index, with_entry}
 
@@ -201,20 +201,14 @@ pub IsEntryPut-with_entry : (line : Line) (i value : ℕ) → length line.0 ≡ 
 IsEntryPut-with_entry line i value long h small =
     record {
       entry =
-          ap from_big_endian
-          (slice-put_at_same line.0 (4 * i) 4 (big_endian 4 value) (length-big_endian 4 value) (omega arith))
+          ap from_big_endian (part-put_bytes_same line (4 * i) (big_endian 4 value) (omega arith))
           ∙ from_big_endian-big_endian 4 value ∙ omega arith;
       others =
-          λ j hj other.
-          ap from_big_endian
-          (slice-put_at_apart line.0 (4 * i) 4 (big_endian 4 value) (4 * j) 4 (length-big_endian 4 value)
-          (omega arith) (omega arith) (apart i j other));
+          λ j hj other. ap from_big_endian
+          (elim (cases_lt j i) [
+            | inl less ↦
+                part-put_bytes_before line (4 * i) (big_endian 4 value) (4 * j) (4 * j + 4) (omega arith) (omega arith)
+            | inr least ↦
+                part-put_bytes_behind line (4 * i) (big_endian 4 value) (4 * j) (4 * j + 4) (omega arith) (omega arith)
+          ]);
     }
-  where
-    apart : (i j : ℕ) → j ≢ i → (4 * j + 4 ≤ 4 * i) ⊎ (4 * i + 4 ≤ 4 * j)
-    apart i j other =
-        elim (cases_order i j) [
-          | inl same ↦ absurd (other (sym same))
-          | inr (inl less) ↦ inr (omega arith)
-          | inr (inr greater) ↦ inl (omega arith)
-        ]

@@ -1,5 +1,4 @@
 pub mod ByteLemmas
-pub mod PutLemmas
 pub mod EntryLemmas
 pub mod NameLemmas
 pub mod ShadowLines

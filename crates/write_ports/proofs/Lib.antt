@@ -1,3 +1,2 @@
 pub mod BitLemmas
-pub mod PutLemmas
 pub mod WriteLemmas

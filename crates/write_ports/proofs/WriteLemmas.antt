@@ -15,10 +15,10 @@ use Rattle.pmem_base.specs.Lines.{line_of, zero_line}
 use Rattle.pmem_base.specs.Ranges.{IsPosted}
 use Rattle.pmem_base.specs.WaitingWrites.{posted_bytes, put_write, put_writes, writes_to, has_byte}
 use Rattle.pmem_base.proofs.LineLemmas.{IsLine-zero_line}
+use Rattle.pmem_base.proofs.Parts.{length-put_bytes, get_or-put_bytes_within, get_or-put_bytes_before, get_or-put_bytes_behind, length-part, get_or-part}
 use Rattle.write_ports.specs.declared.seen.Seen.{Seen}
 use Rattle.write_ports.specs.Queues.{have_byte, cover_line}
 use Rattle.write_ports.specs.Seen.{is_seen, overlaid_byte, overlaid, IsSight}
-use Rattle.write_ports.proofs.PutLemmas.{length-put_at, get_or-put_at_within, get_or-put_at_before, get_or-put_at_behind, length-part, get_or-part}
 
 -- ---- one write
 
@@ -29,7 +29,7 @@ length-posted_bytes write posted =
 pub length-put_write : (line : Line) (write : Posted) → length line.0 ≡ 64 → IsPosted write
     → length (put_write line write).0 ≡ 64
 length-put_write line write long posted =
-    length-put_at line.0 write.from (posted_bytes write)
+    length-put_bytes line write.from (posted_bytes write)
     (omega (arith, length-posted_bytes write posted, posted.inside))
     ∙ long
 
@@ -38,7 +38,7 @@ pub get_or-put_write_has : (line : Line) (write : Posted) (i : ℕ) → length l
     → write.from ≤ i → i < write.from + write.len
     → get_or (put_write line write).0 i 0 ≡ get_or write.line.0 i 0
 get_or-put_write_has line write i long posted low high =
-    get_or-put_at_within line.0 write.from (posted_bytes write) i 0
+    get_or-put_bytes_within line write.from (posted_bytes write) i 0
     (omega (arith, length-posted_bytes write posted, posted.inside)) low
     (omega (arith, length-posted_bytes write posted))
     ∙ get_or-part write.line.0 write.from write.len (i - write.from) 0 (omega arith)
@@ -51,7 +51,7 @@ pub get_or-put_write : (line : Line) (write : Posted) (i : ℕ) → length line.
 get_or-put_write line write i long posted =
     elim (cases_lt i write.from) [
       | inl below ↦
-          get_or-put_at_before line.0 write.from (posted_bytes write) i 0
+          get_or-put_bytes_before line write.from (posted_bytes write) i 0
           (omega (arith, length-posted_bytes write posted, posted.inside)) below
           ∙ sym (cond-false (has_byte write i) (get_or write.line.0 i 0) (get_or line.0 i 0)
           (and_left (nat_le write.from i) (nat_lt i (write.from + write.len)) (lt-leb write.from i below)))
@@ -62,7 +62,7 @@ get_or-put_write line write i long posted =
             (and_from (nat_le write.from i) (nat_lt i (write.from + write.len)) (le-leb write.from i least)
             (lt-ltb i (write.from + write.len) inside)))
         | inr above ↦
-            get_or-put_at_behind line.0 write.from (posted_bytes write) i 0
+            get_or-put_bytes_behind line write.from (posted_bytes write) i 0
             (omega (arith, length-posted_bytes write posted, posted.inside))
             (omega (arith, length-posted_bytes write posted))
             ∙ sym (cond-false (has_byte write i) (get_or write.line.0 i 0) (get_or line.0 i 0)
