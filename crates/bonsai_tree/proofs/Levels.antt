@@ -4,8 +4,8 @@ use Rattle.std.proofs.Math.Nat.{pow-suc, pow-le-pow_right}
 use Rattle.std.specs.Prelude.{nat_le}
 use Rattle.std.proofs.lemmas.Bool.{cases_Bool, cases_lt, leb-true, leb-false}
 use Rattle.pmem_base.specs.Shape.{Shape}
-use Rattle.pmem_base.specs.Layout.{pages, meta_lines}
-use Rattle.bonsai_tree.specs.Positions.{parent, child_slot, child_position, level_start, level_up_to, level_of, counter_position}
+use Rattle.pmem_base.specs.Layout.{pages, meta_lines, level_start}
+use Rattle.bonsai_tree.specs.Positions.{parent, child_slot, child_position, level_up_to, level_of, counter_position}
 
 -- ---- children and parents
 

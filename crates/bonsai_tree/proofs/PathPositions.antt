@@ -8,8 +8,8 @@ use Rattle.std.proofs.lemmas.List.{get_or_at, get_or_append_left}
 use Rattle.std.proofs.lemmas.List.Folds.{list_any-append, list_any_at}
 use Rattle.std.proofs.lemmas.List.Elements.{All-cons, All-nil, All-append, All-weaker}
 use Rattle.pmem_base.specs.Shape.{Shape}
-use Rattle.pmem_base.specs.Layout.{pages, meta_lines}
-use Rattle.bonsai_tree.specs.Positions.{parent, child_position, level_start, level_of, counter_position, path_down_to, path_of, is_on_path}
+use Rattle.pmem_base.specs.Layout.{pages, meta_lines, level_start}
+use Rattle.bonsai_tree.specs.Positions.{parent, child_position, level_of, counter_position, path_down_to, path_of, is_on_path}
 use Rattle.bonsai_tree.proofs.Levels.{IsAtLevel, IsAtLevel-once, level_of-at, level_start-suc, level_start-le, parent-child, counter_position-IsAtLevel, counter_position-lt}
 
 -- ---- the position of each level

@@ -12,9 +12,9 @@ use Rattle.pmem_base.specs.Lines.{IsLine, line_at, put_lines}
 use Rattle.pmem_base.proofs.LineLemmas.{IsLine-line_at}
 use Rattle.pmem_base.proofs.LineSets.{put_lines-append, length-put_lines, line_at-set_same, line_at-set_other, put_bytes-IsLine}
 use Rattle.pmem_base.specs.Shape.{Shape}
-use Rattle.pmem_base.specs.Layout.{pages, meta_lines}
+use Rattle.pmem_base.specs.Layout.{pages, meta_lines, level_start}
 use Rattle.suite.specs.Formulas.{Formulas, AreInRange}
-use Rattle.bonsai_tree.specs.Positions.{parent, child_slot, child_position, level_start, path_down_to, path_of, counter_position, is_on_path}
+use Rattle.bonsai_tree.specs.Positions.{parent, child_slot, child_position, path_down_to, path_of, counter_position, is_on_path}
 use Rattle.bonsai_tree.specs.Nodes.{node_over, child_digest, IsHashTree}
 use Rattle.bonsai_tree.specs.Paths.{with_child_digest, node_above, new_path, new_root, path_with, root_with, lines_with, IsTreeWith}
 use Rattle.bonsai_tree.proofs.Levels.{IsAtLevel, child-of_parent, level_start-suc, parent-IsAtLevel, counter_position-IsAtLevel, meta_lines-level}

@@ -7,6 +7,7 @@ use Rattle.std.proofs.lemmas.Bool.{not-true, and_parts}
 use Rattle.pmem_base.specs.Lines.{zero_line}
 use Rattle.pmem_base.specs.WaitingWrites.{no_writes}
 use Rattle.hex.specs.Hex.{decode_pairs}
+use Rattle.plain_model.specs.Defaults.{default_shape, default_keys}
 use Rattle.plain_model.specs.State.{no_flags, start_state}
 use Rattle.plain_model.specs.View.{start_view}
 use Rattle.collision_witness.specs.Words.{words_of, without_return, number_up_to, hex_bytes}
@@ -38,7 +39,7 @@ abbrev IsNotShown : Step → Type 0
 IsNotShown step = is_shown step.reply.answer ≡ false
 
 pub first_run : IsRunFrom weak_setup (start weak_setup) first_lines first_steps
-unfolding zero_line decode_pairs no_flags no_writes start_state start_view lines_of without_return words_of number_up_to port_of hex_bytes command_of command_among reading_of_words reading_among start machine_after
+unfolding zero_line decode_pairs default_shape default_keys no_flags no_writes start_state start_view lines_of without_return words_of number_up_to port_of hex_bytes command_of command_among reading_of_words reading_among start machine_after
 first_run =
     record {
       in_grammar = all_of_five IsInGrammar _ _ _ _ _ refl refl refl refl refl;

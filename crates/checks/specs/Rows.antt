@@ -8,10 +8,11 @@ use Rattle.pmem_base.specs.declared.answers.Answer.{Answer}
 use Rattle.pmem_base.specs.declared.answers.Answer.TheVariants as Say
 use Rattle.pmem_base.specs.Lines.{zero_line}
 use Rattle.suite.specs.Setup.{Setup}
+use Rattle.plain_model.specs.Defaults.{default_shape}
 use Rattle.plain_model.specs.State.{PlainState, Reply, start_state}
 use Rattle.plain_model.specs.View.{DeviceView, start_view, view_after_marks}
 use Rattle.plain_model.specs.After.{state_after}
-use Rattle.checks.specs.Samples.{default_shape, weak, blur, ctr, counting_line, short_tag}
+use Rattle.checks.specs.Samples.{weak, blur, ctr, counting_line, short_tag}
 
 abbrev pub weak_setup : Setup
 weak_setup = record { shape = default_shape; formulas = weak }

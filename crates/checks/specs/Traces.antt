@@ -13,12 +13,13 @@ use Rattle.pmem_base.specs.declared.answers.Place.TheVariants as Place
 use Rattle.pmem_base.specs.declared.answers.Exhibit.TheVariants.{Clash, Forged, Twin}
 use Rattle.pmem_base.specs.Lines.{line_of, filled_line, zero_line}
 use Rattle.suite.specs.Setup.{Setup}
+use Rattle.plain_model.specs.Defaults.{default_shape}
 use Rattle.plain_model.specs.State.{PlainState, Reply, start_state}
 use Rattle.plain_model.specs.View.{DeviceView, start_view, view_after_marks}
 use Rattle.plain_model.specs.Asked.{seal_mark}
 use Rattle.plain_model.specs.After.{state_after}
 use Rattle.checks.specs.Chains.{IsChain}
-use Rattle.checks.specs.Samples.{default_shape, weak, ctr, counting_line, short_tag, one_byte_line}
+use Rattle.checks.specs.Samples.{weak, ctr, counting_line, short_tag, one_byte_line}
 use Rattle.checks.specs.Rows.{weak_setup, plain, first_seal, zero_post}
 
 abbrev pub Trace : Type 0

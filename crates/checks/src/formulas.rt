@@ -6,7 +6,8 @@ ghost use Rattle.pmem_base.specs.Layout as layout;
 ghost use Rattle.suite.specs.Formulas.{cipher_of};
 ghost use Rattle.split_counters.specs.Blocks.{packed, unpacked};
 ghost use Rattle.bonsai_tree.specs.Positions.{path_of, level_of, parent, child_slot};
-ghost use Rattle.checks.specs.Samples.{default_shape, small_shape, three_levels, default_keys, weak, blur, ctr, counting_line, short_tag, one_byte_line};
+ghost use Rattle.plain_model.specs.Defaults.{default_shape};
+ghost use Rattle.checks.specs.Samples.{small_shape, three_levels, weak, blur, ctr, counting_line, short_tag, one_byte_line};
 
 /// The weak suite's pad, tag and digest of the written examples, and blur's tag.
 pub fn weak_examples()

@@ -1,6 +1,6 @@
 //! Evidence for the definitions: they compute to worked values, whole traces with their replies are
 //! chains of legal and fitting replies, and wrong replies are refuted. Nothing here is executed.
-#![tactic(auto, unfolding(pmem_base::specs::Lines::zero_line, pmem_base::specs::Registers::places_of_page, pmem_base::specs::Registers::not_done, pmem_base::specs::Registers::old_major, split_counters::specs::Blocks::packed, split_counters::specs::Blocks::unpacked, split_counters::specs::Blocks::zero_minors, plain_model::specs::State::no_flags, pmem_base::specs::WaitingWrites::no_writes, plain_model::specs::State::start_state, plain_model::specs::View::start_view,))]
+#![tactic(auto, unfolding(pmem_base::specs::Lines::zero_line, pmem_base::specs::Registers::places_of_page, pmem_base::specs::Registers::not_done, pmem_base::specs::Registers::old_major, split_counters::specs::Blocks::packed, split_counters::specs::Blocks::unpacked, split_counters::specs::Blocks::zero_minors, plain_model::specs::Defaults::default_shape, plain_model::specs::Defaults::default_keys, plain_model::specs::State::no_flags, pmem_base::specs::WaitingWrites::no_writes, plain_model::specs::State::start_state, plain_model::specs::View::start_view,))]
 
 mod devices;
 mod formulas;

@@ -5,7 +5,7 @@ use Rattle.std.proofs.lemmas.Bool.{cases_eq, both_ways}
 use Rattle.std.proofs.lemmas.List.{append-nil}
 use Rattle.pmem_base.specs.declared.lines.Line.{Line}
 use Rattle.pmem_base.specs.declared.answers.Exhibit.TheVariants.{Clash}
-use Rattle.pmem_base.specs.Counts.{HasRisen}
+use Rattle.pmem_base.specs.Counts.{HasRisen, risen_times}
 use Rattle.pmem_base.specs.Shape.{Shape}
 use Rattle.pmem_base.specs.Layout.{pages, meta_line}
 use Rattle.pmem_base.specs.Lines.{line_at, zero_line}
@@ -24,7 +24,7 @@ use Rattle.meta_cache.specs.State.{CacheState}
 use Rattle.meta_path.specs.declared.faults.PathFault.{PathFault}
 use Rattle.meta_path.specs.declared.faults.PathFault.TheVariants as Fault
 use Rattle.meta_path.specs.Blocks.{path_at, slots_at, IsPathCached, AreInTheirBanks}
-use Rattle.meta_path.specs.Work.{risen_times, HasWorked, FetchState}
+use Rattle.meta_path.specs.Work.{HasWorked, FetchState}
 use Rattle.meta_path.specs.Levels.{expected_digest, HasParent, room_write, level_write, level_reads, fetched_set, HasDirtyVictim, IsLevelFetched, IsLevelRead, IsLevelCut, IsLevelFault}
 use Rattle.meta_path.specs.Fetching.{absent_count, spilled, HasFetchedSets, AreLevelsChecked, IsFetchedTo, IsReadAt, IsCutAt, IsPathFault}
 use Rattle.meta_path.proofs.WorkLemmas.{HasWorked-none, HasWorked-then, risen_times-add}

@@ -8,6 +8,7 @@ use Rattle.pmem_base.specs.declared.lines.Line.{Line}
 use Rattle.pmem_base.specs.Shape.{Shape, HasLevels, HasSets, HasWays}
 use Rattle.pmem_base.specs.Layout.{pages, meta_lines, meta_line, device_lines}
 use Rattle.pmem_base.specs.Lines.{IsLine, line_at, zero_line}
+use Rattle.pmem_base.specs.Counts.{risen_times}
 use Rattle.suite.specs.Formulas.{Formulas, AreInRange}
 use Rattle.board.specs.Device.{Device, AreToldLines, IsDevice}
 use Rattle.board.specs.Steps.{Tells}
@@ -25,7 +26,7 @@ use Rattle.meta_cache.specs.State.{CacheState, IsCacheOf}
 use Rattle.meta_path.specs.declared.faults.PathFault.{PathFault}
 use Rattle.meta_path.specs.declared.faults.PathFault.TheVariants as Fault
 use Rattle.meta_path.specs.Blocks.{path_at, slots_at, line_in, dirty_in, sum_below, dirty_in_bank, dirty_count, IsOfItsBank, AreInTheirBanks, AreCachedTrue, IsPathCached}
-use Rattle.meta_path.specs.Work.{risen_times, told_line, FetchState}
+use Rattle.meta_path.specs.Work.{told_line, FetchState}
 use Rattle.meta_path.specs.Levels.{expected_digest, HasParent, IsLevelFault}
 use Rattle.meta_path.specs.Fetching.{absent_count, spilled, IsFetchedTo, IsReadAt, IsCutAt, IsPathFault}
 use Rattle.meta_path.specs.Keeping.{HasComeIn, HasGivenWay, WasWrittenBack, KeepsBlocks, IsUndisturbed, IsTrueTree, HasFalseDigest, HasCause}

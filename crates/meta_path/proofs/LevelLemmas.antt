@@ -8,6 +8,7 @@ use Rattle.pmem_base.specs.declared.lines.Line.{Line}
 use Rattle.pmem_base.specs.Shape.{Shape}
 use Rattle.pmem_base.specs.Layout.{meta_line}
 use Rattle.pmem_base.specs.Lines.{line_at, zero_line}
+use Rattle.pmem_base.specs.Counts.{risen_times}
 use Rattle.suite.specs.Formulas.{Formulas}
 use Rattle.board.specs.Device.{Device}
 use Rattle.board.specs.Steps.{Tells, WasCut}
@@ -20,7 +21,7 @@ use Rattle.meta_cache.proofs.WayLemmas.{KeepsWays-placed}
 use Rattle.meta_path.specs.declared.faults.PathFault.{PathFault}
 use Rattle.meta_path.specs.declared.faults.PathFault.TheVariants as Fault
 use Rattle.meta_path.specs.Blocks.{slots_at, line_in}
-use Rattle.meta_path.specs.Work.{risen_times, HasWorked, FetchState}
+use Rattle.meta_path.specs.Work.{HasWorked, FetchState}
 use Rattle.meta_path.specs.Levels.{expected_digest, dirty_position, victim_write, room_write, without_dirty, HasRoomMade, IsLevelFetched, IsLevelRead, IsLevelCut}
 use Rattle.meta_path.specs.Storing.{IsCleaned}
 use Rattle.meta_path.proofs.SetFacts.{holds_slot, victim_contained, slot_with-victim, placed-without_dirty, clean_victim, holds-without_dirty}

@@ -2,7 +2,7 @@
 use Rattle.std.proofs.Common.{◌≡◌, ℕ, zero, suc, ◌+◌, List, [], ◌∷◌, ◌++◌, length, refl, sym, ap, subst, ◌∙◌, arith, Option, Some, None}
 use Rattle.std.proofs.lemmas.List.{length-append}
 use Rattle.pmem_base.specs.declared.lines.Line.{Line}
-use Rattle.pmem_base.specs.Counts.{risen}
+use Rattle.pmem_base.specs.Counts.{risen, risen_times}
 use Rattle.pmem_base.proofs.LineSets.{put_lines-append}
 use Rattle.board.specs.Counts.{RisesBy}
 use Rattle.board.specs.Device.{Device}
@@ -10,7 +10,7 @@ use Rattle.board.specs.Steps.{with_line, HasRead, HasWritten}
 use Rattle.board.proofs.CountLemmas.{RisesBy-then}
 use Rattle.commit_regs.specs.Groups.{redone_told}
 use Rattle.commit_regs.proofs.GroupLemmas.{redone-nil}
-use Rattle.meta_path.specs.Work.{risen_times, HasWorked}
+use Rattle.meta_path.specs.Work.{HasWorked}
 
 pub redone_told-append : (front back : List (ℕ × Line)) (told : Option (List Line))
     → redone_told (front ++ back) told ≡ redone_told back (redone_told front told)

@@ -2,7 +2,7 @@
 use Rattle.std.specs.Prelude.{ℕ, zero, suc, ◌≡◌, ◌≢◌, ◌≤◌, ◌<◌, ◌+◌, true, false, List, [], ◌++◌, length}
 use Rattle.pmem_base.specs.declared.lines.Line.{Line}
 use Rattle.pmem_base.specs.declared.answers.Exhibit.TheVariants.{Clash}
-use Rattle.pmem_base.specs.Counts.{HasRisen}
+use Rattle.pmem_base.specs.Counts.{HasRisen, risen_times}
 use Rattle.pmem_base.specs.Shape.{Shape}
 use Rattle.pmem_base.specs.Layout.{meta_line}
 use Rattle.pmem_base.specs.Lines.{IsLine, line_at}
@@ -17,7 +17,7 @@ use Rattle.meta_cache.specs.State.{CacheState}
 use Rattle.meta_path.specs.declared.faults.PathFault.{PathFault}
 use Rattle.meta_path.specs.declared.faults.PathFault.TheVariants as Fault
 use Rattle.meta_path.specs.Blocks.{path_at, slots_at}
-use Rattle.meta_path.specs.Work.{risen_times, HasWorked, FetchState}
+use Rattle.meta_path.specs.Work.{HasWorked, FetchState}
 use Rattle.meta_path.specs.Levels.{expected_digest, level_write, level_reads, fetched_set, HasDirtyVictim}
 
 -- how many of the path's first n levels aren't cached

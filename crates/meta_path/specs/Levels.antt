@@ -2,7 +2,7 @@
 use Rattle.std.specs.Prelude.{ℕ, zero, suc, ◌≡◌, ◌≢◌, ◌≤◌, true, false, List, [], ◌∷◌, Option, Some, None, IsTrue, IsSomeAnd, if◌then◌else◌, ⊤}
 use Rattle.pmem_base.specs.declared.lines.Line.{Line}
 use Rattle.pmem_base.specs.declared.answers.Exhibit.TheVariants.{Clash}
-use Rattle.pmem_base.specs.Counts.{HasRisen}
+use Rattle.pmem_base.specs.Counts.{HasRisen, risen_times}
 use Rattle.pmem_base.specs.Shape.{Shape}
 use Rattle.pmem_base.specs.Layout.{meta_line}
 use Rattle.pmem_base.specs.Lines.{IsLine, line_at}
@@ -21,7 +21,7 @@ use Rattle.meta_cache.specs.State.{CacheState, ChangesSet}
 use Rattle.meta_path.specs.declared.faults.PathFault.{PathFault}
 use Rattle.meta_path.specs.declared.faults.PathFault.TheVariants as Fault
 use Rattle.meta_path.specs.Blocks.{slots_at, line_in}
-use Rattle.meta_path.specs.Work.{risen_times, HasWorked, FetchState}
+use Rattle.meta_path.specs.Work.{HasWorked, FetchState}
 
 -- the digest that the line at x has to have: the root's at the top, below it its cached parent's entry
 abbrev pub expected_digest : Shape → List ℕ → Banks → ℕ → ℕ → List ℕ

@@ -1,17 +1,11 @@
--- What reads and line writes make of a device, and how often digests were made.
-use Rattle.std.specs.Prelude.{ℕ, zero, suc, ◌≡◌, true, List, Option, option_map, length}
+-- What reads and line writes make of a device.
+use Rattle.std.specs.Prelude.{ℕ, ◌≡◌, true, List, Option, option_map, length}
 use Rattle.pmem_base.specs.declared.lines.Line.{Line}
-use Rattle.pmem_base.specs.Counts.{risen}
 use Rattle.pmem_base.specs.Lines.{line_at}
 use Rattle.board.specs.Counts.{RisesBy}
 use Rattle.board.specs.Device.{Device}
 use Rattle.commit_regs.specs.Groups.{redone_told}
 use Rattle.meta_cache.specs.State.{CacheState}
-
--- a count after n more calls
-abbrev pub risen_times : ℕ → ℕ → ℕ
-risen_times zero count = count
-risen_times (suc n) count = risen (risen_times n count)
 
 -- the line at a place, where the board tells its lines
 abbrev pub told_line : Option (List Line) → ℕ → Option Line

@@ -1,7 +1,7 @@
 //! New lines of a path: computed over the cached ones, and stored.
 ghost use Rattle.std.specs.Prelude.{◌≡◌, ◌||◌, nat_lt, not, ◌<◌, ◌≤◌, ◌+◌, ℕ, List, length, All, IsTrue};
 ghost use Rattle.pmem_base.specs.declared.lines.Line.{Line};
-ghost use Rattle.pmem_base.specs.Counts.{risen};
+ghost use Rattle.pmem_base.specs.Counts.{risen, risen_times};
 ghost use Rattle.pmem_base.specs.Geo.{shape_of};
 ghost use Rattle.pmem_base.specs.Layout.{pages, meta_lines};
 ghost use Rattle.pmem_base.specs.Lines.{IsLine, IsTag};
@@ -12,7 +12,6 @@ ghost use Rattle.meta_cache.specs.Banks.{set_index, is_cached};
 ghost use Rattle.meta_cache.specs.Sets.{with_mark};
 ghost use Rattle.meta_cache.specs.State.{ChangesSet};
 ghost use Rattle.meta_path.specs.Blocks.{slots_at, cached_line, line_in, IsPathCached, AreInTheirBanks, AreCachedTrue};
-ghost use Rattle.meta_path.specs.Work.{risen_times};
 ghost use Rattle.meta_path.specs.Storing.{stored_set, IsPathOf, IsOfCachedPath, IsRenewed, IsStoredTo, AreTold, KeepsSlots};
 
 use crate::writing::cached_line;

@@ -8,14 +8,14 @@ use Rattle.pmem_base.specs.declared.answers.Mark.{Mark}
 use Rattle.pmem_base.specs.declared.answers.Mark.TheVariants.{Begin, Seal}
 use Rattle.pmem_base.specs.Shape.{Shape}
 use Rattle.pmem_base.specs.Layout as layout
-use Rattle.pmem_base.specs.Layout.{page_of, index_in_page}
+use Rattle.pmem_base.specs.Layout.{page_of, index_in_page, level_start}
 use Rattle.pmem_base.specs.Lines.{xor_lines}
 use Rattle.pmem_base.specs.Marks.{SealOf, last_seal}
 use Rattle.pmem_base.specs.Registers.{places_of_page}
 use Rattle.suite.specs.Formulas.{Formulas}
 use Rattle.split_counters.specs.declared.Block.{Block}
 use Rattle.split_counters.specs.Blocks.{packed}
-use Rattle.bonsai_tree.specs.Positions.{level_start, level_of}
+use Rattle.bonsai_tree.specs.Positions.{level_of}
 use Rattle.bonsai_tree.specs.Nodes.{node_over}
 use Rattle.suite.specs.Setup.{Setup}
 

@@ -14,6 +14,10 @@ data_lines g = 64 * pages g
 abbrev pub meta_lines : Shape → ℕ
 meta_lines g = (4 ^ (g.levels + 1) - 1) / 3
 
+-- level j of the tree has 4 ^ j positions, from this one on
+abbrev pub level_start : ℕ → ℕ
+level_start j = (4 ^ j - 1) / 3
+
 -- the slots of one bank of the cache
 abbrev pub slots : Shape → ℕ
 slots g = g.sets * g.ways

@@ -12,6 +12,7 @@ use Rattle.pmem_base.specs.declared.answers.Exhibit.TheVariants.{Clash}
 use Rattle.pmem_base.specs.Shape.{Shape}
 use Rattle.pmem_base.specs.Layout as layout
 use Rattle.pmem_base.specs.Lines.{line_at, zero_line}
+use Rattle.pmem_base.specs.Counts.{risen_times}
 use Rattle.bonsai_tree.specs.Positions.{level_of, is_on_path, counter_position}
 use Rattle.bonsai_tree.proofs.PathPositions.{path_of-at, path_of-block, path_position-on_path}
 use Rattle.board.specs.Device.{Device}
@@ -25,7 +26,7 @@ use Rattle.meta_cache.specs.Banks.{Banks, is_cached, set_index, slot_number, set
 use Rattle.meta_cache.specs.Sets.{holds, slot_with, touched, victim_of}
 use Rattle.meta_cache.proofs.WayLemmas.{KeepsWays-touched}
 use Rattle.meta_path.specs.Blocks.{path_at, slots_at, number_in, IsPathCached, AreCachedTrue, dirty_count}
-use Rattle.meta_path.specs.Work.{risen_times, told_line}
+use Rattle.meta_path.specs.Work.{told_line}
 use Rattle.std.specs.List.{Contains}
 use Rattle.std.specs.Prelude.{slice_index_or}
 use Rattle.meta_path.specs.Levels.{victim_write, room_write, level_write}

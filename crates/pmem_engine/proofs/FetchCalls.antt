@@ -5,11 +5,12 @@ use Rattle.pmem_base.specs.Layout as layout
 use Rattle.board.specs.Device.{Device, IsDevice}
 use Rattle.seal_ledger.specs.Ledger.{LedgerState}
 use Rattle.pmem_base.specs.Shape.{Shape}
+use Rattle.pmem_base.specs.Counts.{risen_times}
 use Rattle.meta_cache.specs.State.{CacheState}
 use Rattle.meta_path.specs.declared.faults.PathFault.{PathFault}
 use Rattle.meta_path.specs.declared.faults.PathFault.TheVariants as Path
 use Rattle.meta_path.specs.Blocks.{IsPathCached, AreCachedTrue, dirty_count}
-use Rattle.meta_path.specs.Work.{FetchState, risen_times}
+use Rattle.meta_path.specs.Work.{FetchState}
 use Rattle.meta_path.specs.Fetching.{absent_count, IsFetchedTo, IsPathFault}
 use Rattle.meta_path.specs.Keeping.{KeepsBlocks, IsTrueTree, HasCause}
 use Rattle.suite.specs.Setup.{Setup}

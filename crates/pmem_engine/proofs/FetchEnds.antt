@@ -7,7 +7,7 @@ use Rattle.std.proofs.lemmas.Option.{same_Some}
 use Rattle.std.proofs.lemmas.List.{append-nil}
 use Rattle.std.proofs.lemmas.List.Folds.{list_any_at}
 use Rattle.pmem_base.specs.declared.lines.Line.{Line}
-use Rattle.pmem_base.specs.Counts.{HasRisen}
+use Rattle.pmem_base.specs.Counts.{HasRisen, risen_times}
 use Rattle.pmem_base.specs.Layout as layout
 use Rattle.pmem_base.specs.Lines.{line_at}
 use Rattle.pmem_base.specs.Marks.{IsFresh}
@@ -20,7 +20,6 @@ use Rattle.meta_cache.specs.declared.slot.Slot.{Slot}
 use Rattle.meta_cache.specs.Banks.{is_cached, is_cached_dirty, set_index, set_of}
 use Rattle.meta_cache.proofs.SlotLemmas.{dirty_slot}
 use Rattle.meta_path.specs.Blocks.{dirty_count}
-use Rattle.meta_path.specs.Work.{risen_times}
 use Rattle.meta_path.specs.Keeping.{KeepsBlocks, WasWrittenBack}
 use Rattle.suite.specs.Setup.{Setup}
 use Rattle.pmem_engine.specs.Engine.{EngineState}

@@ -4,7 +4,7 @@ use Rattle.std.proofs.lemmas.Bool.{cond-true, cond-false}
 use Rattle.std.proofs.lemmas.Option.{none-some, same_Some}
 use Rattle.split_counters.specs.declared.Block.{Block}
 use Rattle.split_counters.specs.Blocks.{rolled, next_block}
-use Rattle.meta_path.specs.Work.{risen_times}
+use Rattle.pmem_base.specs.Counts.{risen_times}
 use Rattle.pmem_engine.specs.Outcomes.{NeverFalls}
 
 -- a block that rolls over comes to the next one

@@ -10,14 +10,14 @@ use Rattle.std.proofs.lemmas.Grind.{same_number_lists}
 use Rattle.pmem_base.specs.declared.registers.Progress.{Progress}
 use Rattle.pmem_base.specs.declared.registers.Regs.{Regs}
 use Rattle.pmem_base.specs.Shape.{Shape, IsShape}
-use Rattle.pmem_base.specs.Layout.{data_lines, pages, meta_lines, page_of, index_in_page}
+use Rattle.pmem_base.specs.Layout.{data_lines, pages, meta_lines, page_of, index_in_page, level_start}
 use Rattle.pmem_base.specs.Lines.{line_at, zero_line}
 use Rattle.pmem_base.specs.Registers.{places_of_page, is_done, old_major}
 use Rattle.pmem_base.proofs.LineLemmas.{IsLine-line_at}
 use Rattle.page_reencrypt.proofs.DoneBits.{length-places, get_or-places, is_left-not_done}
 use Rattle.split_counters.specs.Blocks.{packed, unpacked, block_counter}
 use Rattle.split_counters.proofs.Packing.{packed-unpacked}
-use Rattle.bonsai_tree.specs.Positions.{child_position, level_start, level_of, counter_position}
+use Rattle.bonsai_tree.specs.Positions.{child_position, level_of, counter_position}
 use Rattle.bonsai_tree.proofs.Levels.{IsAtLevel, level_start-suc, level_start-pow, level_start-le, child-IsAtLevel, level_of-IsAtLevel, level_of-le}
 use Rattle.bonsai_tree.proofs.NodeLaws.{node_over-same}
 use Rattle.page_reencrypt.specs.Registers.{register_of, register_held}

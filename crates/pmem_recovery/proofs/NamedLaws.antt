@@ -9,9 +9,9 @@ use Rattle.std.proofs.lemmas.List.Elements.{filter-append}
 use Rattle.std.proofs.lemmas.List.Folds.{list_any-append}
 use Rattle.pmem_base.specs.declared.lines.Line.{Line}
 use Rattle.pmem_base.specs.Shape.{Shape, IsShape}
-use Rattle.pmem_base.specs.Layout.{slots, meta_lines, shadow_counter_lines}
+use Rattle.pmem_base.specs.Layout.{slots, meta_lines, shadow_counter_lines, level_start}
 use Rattle.pmem_base.proofs.ListLaws.{range_with_len-append, All-into_range, filter_agree_on, length-filter_named}
-use Rattle.bonsai_tree.specs.Positions.{level_start, level_of}
+use Rattle.bonsai_tree.specs.Positions.{level_of}
 use Rattle.bonsai_tree.proofs.Levels.{level_of-at, level_of-IsAtLevel, meta_lines-level, meta_lines-counters}
 use Rattle.shadow_tables.specs.Entries.{table_entry}
 use Rattle.pmem_recovery.specs.Named.{names, is_among, count_named, IsNextAt, IsNext}

@@ -3,9 +3,9 @@ use Rattle.std.proofs.Common.{ℕ, zero, suc, ◌≡◌, ◌<◌, ◌≤◌, ◌
 use Rattle.pmem_base.specs.declared.lines.Line.{Line}
 use Rattle.pmem_base.specs.declared.registers.Regs.{Regs}
 use Rattle.pmem_base.specs.Shape.{Shape, IsShape}
-use Rattle.pmem_base.specs.Layout.{meta_lines}
+use Rattle.pmem_base.specs.Layout.{meta_lines, level_start}
 use Rattle.pmem_base.proofs.LayoutLemmas.{pages-most}
-use Rattle.bonsai_tree.specs.Positions.{level_start, child_position}
+use Rattle.bonsai_tree.specs.Positions.{child_position}
 use Rattle.bonsai_tree.proofs.Levels.{IsAtLevel, level_start-suc, level_start-pow, level_start-le, meta_lines-level}
 use Rattle.shadow_tables.specs.Entries.{shadow_of}
 use Rattle.suite.specs.Setup.{Setup}

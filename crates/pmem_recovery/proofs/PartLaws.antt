@@ -8,12 +8,11 @@ use Rattle.pmem_base.specs.Geo.{shape_of}
 use Rattle.pmem_base.specs.Shape.{Shape, IsShape}
 use Rattle.pmem_base.specs.Layout.{slots}
 use Rattle.pmem_base.specs.declared.lines.Line.{Line}
-use Rattle.pmem_base.specs.Counts.{risen, HasRisen}
+use Rattle.pmem_base.specs.Counts.{risen, HasRisen, risen_times}
 use Rattle.board.specs.Device.{Device}
 use Rattle.board.specs.Steps.{Tells, HasRead, WasCut}
 use Rattle.pmem_base.specs.Lines.{line_at}
 use Rattle.suite.specs.Formulas.{Formulas}
-use Rattle.stop_loss.specs.Trials.{risen_times}
 use Rattle.pmem_recovery.specs.declared.faults.RecFault.{RecFault}
 use Rattle.pmem_recovery.specs.declared.faults.RecFault.TheVariants.{Memory, Cut, NoCounter, Root, Twin}
 use Rattle.pmem_recovery.specs.Parts.{Told, HasOnlyRead, GoesOn, IsCutOff, StopsBy, SuiteState, HasWorked, HasWorkedAtMost, IsShown, IsStopped}

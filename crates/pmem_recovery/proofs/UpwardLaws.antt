@@ -9,8 +9,9 @@ use Rattle.pmem_base.specs.declared.lines.Line.{Line}
 use Rattle.pmem_base.specs.declared.registers.Regs.{Regs}
 use Rattle.pmem_base.specs.Shape.{Shape, IsShape}
 use Rattle.pmem_base.specs.Layout as layout
+use Rattle.pmem_base.specs.Layout.{level_start}
 use Rattle.pmem_base.proofs.ListLaws.{AllPairs-append}
-use Rattle.bonsai_tree.specs.Positions.{level_start, child_position, counter_position}
+use Rattle.bonsai_tree.specs.Positions.{child_position, counter_position}
 use Rattle.bonsai_tree.proofs.Levels.{IsAtLevel, child-IsAtLevel, level_start-le, IsAtLevel-inner}
 use Rattle.bonsai_tree.proofs.NodeLaws.{node_over-same}
 use Rattle.suite.specs.Setup.{Setup}

@@ -5,7 +5,7 @@ use Rattle.pmem_base.specs.Geo.{shape_of}
 use Rattle.pmem_base.specs.declared.lines.Line.{Line}
 use Rattle.pmem_base.specs.declared.registers.Regs.{Regs}
 use Rattle.pmem_base.specs.declared.answers.Exhibit.TheVariants as Exhibit
-use Rattle.pmem_base.specs.Counts.{HasRisen}
+use Rattle.pmem_base.specs.Counts.{HasRisen, risen_times}
 use Rattle.pmem_base.specs.Layout as layout
 use Rattle.pmem_base.specs.Layout.{page_of}
 use Rattle.pmem_base.specs.Lines.{line_at, tag_slot}
@@ -14,7 +14,6 @@ use Rattle.suite.specs.Formulas.{Formulas}
 use Rattle.suite.specs.Setup.{Setup}
 use Rattle.stop_loss.specs.declared.Found.{Found}
 use Rattle.stop_loss.specs.declared.Found.TheVariants as Found
-use Rattle.stop_loss.specs.Trials.{risen_times}
 use Rattle.collision_witness.specs.Exhibits.{IsExhibit}
 use Rattle.pmem_recovery.specs.declared.entries.Made.{Made}
 use Rattle.pmem_recovery.specs.declared.faults.RecFault.{RecFault}

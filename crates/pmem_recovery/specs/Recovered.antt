@@ -6,12 +6,12 @@ use Rattle.pmem_base.specs.declared.answers.Exhibit.TheVariants as Exhibit
 use Rattle.pmem_base.specs.Layout as layout
 use Rattle.pmem_base.specs.Lines.{line_at}
 use Rattle.pmem_base.specs.Registers.{IsValidRegs, without_group}
+use Rattle.pmem_base.specs.Counts.{risen_times}
 use Rattle.board.specs.Counts.{RisesBy}
 use Rattle.board.specs.Device.{Device}
 use Rattle.commit_regs.specs.Groups.{redone, redone_told, finishing_latches, RisesAtMost}
 use Rattle.suite.specs.Formulas.{Formulas}
 use Rattle.suite.specs.Setup.{Setup}
-use Rattle.stop_loss.specs.Trials.{risen_times}
 use Rattle.seal_ledger.specs.Ledger.{LedgerState}
 use Rattle.collision_witness.specs.Exhibits.{IsExhibit}
 use Rattle.pmem_engine.specs.Engine.{EngineState}

@@ -6,8 +6,9 @@ use Rattle.pmem_base.specs.declared.registers.Regs.{Regs}
 use Rattle.pmem_base.specs.Shape.{Shape}
 use Rattle.pmem_base.specs.Layout as layout
 use Rattle.pmem_base.specs.Lines.{same_bytes}
+use Rattle.pmem_base.specs.Layout.{level_start}
 use Rattle.split_counters.specs.Blocks.{packed}
-use Rattle.bonsai_tree.specs.Positions.{level_start, counter_position}
+use Rattle.bonsai_tree.specs.Positions.{counter_position}
 use Rattle.bonsai_tree.specs.Nodes.{node_over}
 use Rattle.suite.specs.Setup.{Setup}
 use Rattle.pmem_engine.specs.Invariants.{stored_meta, is_named}

@@ -1,12 +1,12 @@
 //! Formatting.
 ghost use Rattle.std.specs.Prelude.{ℕ, ◌≡◌, ◌≢◌, ◌<◌, ◌≤◌, ◌+◌, ◌*◌, ◌/◌, ◌%◌, [], true, All, IfOk, OnErr, IsNone, length};
 ghost use Rattle.pmem_base.specs.Geo.{shape_of};
-ghost use Rattle.pmem_base.specs.Layout.{data_lines, meta_lines, pages, shadow_lines, device_lines};
+ghost use Rattle.pmem_base.specs.Layout.{data_lines, meta_lines, pages, shadow_lines, device_lines, level_start};
 ghost use Rattle.pmem_base.specs.Lines.{IsLine, line_at, tag_slot};
 ghost use Rattle.board.specs.Steps.{HasWritten, HasLatched};
 ghost use Rattle.seal_ledger.specs.Ledger.{IsOfShape};
 ghost use Rattle.split_counters.specs.Blocks.{packed};
-ghost use Rattle.bonsai_tree.specs.Positions.{counter_position, level_start};
+ghost use Rattle.bonsai_tree.specs.Positions.{counter_position};
 ghost use Rattle.bonsai_tree.specs.Nodes.{node_over, IsHashTree};
 ghost use Rattle.pmem_engine.specs.Formatted.{first_block};
 ghost use Rattle.pmem_engine.specs.Mendable.{new_engine};

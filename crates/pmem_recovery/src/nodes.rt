@@ -2,9 +2,8 @@
 ghost use Rattle.std.specs.Prelude.{ℕ, suc, ◌≡◌, ◌+◌, ◌*◌, ◌<◌, ◌≤◌, ◌++◌, [], ◌∷◌, List, All, IsTrue, IfOk, OnOk, OnErr, IfErr, length, vec_len, vec_capacity, ◌↔◌};
 ghost use Rattle.pmem_base.specs.declared.registers.Regs.{Regs};
 ghost use Rattle.pmem_base.specs.Geo.{shape_of};
-ghost use Rattle.pmem_base.specs.Layout.{meta_lines, device_lines, shadow_lines};
+ghost use Rattle.pmem_base.specs.Layout.{meta_lines, device_lines, shadow_lines, level_start};
 ghost use Rattle.shadow_tables.specs.Entries.{shadow_of};
-ghost use Rattle.bonsai_tree.specs.Positions.{level_start};
 ghost use Rattle.bonsai_tree.specs.Nodes.{node_over};
 ghost use Rattle.pmem_recovery.specs.Named.{count_named};
 ghost use Rattle.pmem_recovery.specs.Upward.{made_or_stored, node_made, AreMadeTo};

@@ -1,8 +1,7 @@
 //! Named positions in order.
 ghost use Rattle.std.specs.Prelude.{ℕ, Bool, ◌≡◌, ◌+◌, ◌*◌, ◌/◌, ◌<◌, ◌≤◌, length, MatchOption, suc, ◌||◌, ◌==◌};
 ghost use Rattle.pmem_base.specs.Geo.{shape_of};
-ghost use Rattle.pmem_base.specs.Layout.{shadow_lines, slots, shadow_counter_lines};
-ghost use Rattle.bonsai_tree.specs.Positions.{level_start};
+ghost use Rattle.pmem_base.specs.Layout.{shadow_lines, slots, shadow_counter_lines, level_start};
 ghost use Rattle.pmem_recovery.specs.Named.{names, is_among, IsNext};
 
 use pmem_base::{Geo, Line};

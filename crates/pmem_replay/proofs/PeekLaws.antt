@@ -13,13 +13,13 @@ use Rattle.pmem_base.specs.declared.answers.Answer.TheVariants as Say
 use Rattle.pmem_base.specs.declared.answers.Stat.{Stat}
 use Rattle.pmem_base.specs.Counts.{last_count}
 use Rattle.pmem_base.specs.Shape.{Shape}
-use Rattle.pmem_base.specs.Layout.{Content, data_line, tags_from, metadata, shadow, nothing, content_of, data_lines, tag_line, meta_line, shadow_line, device_lines, pages, meta_lines}
+use Rattle.pmem_base.specs.Layout.{Content, data_line, tags_from, metadata, shadow, nothing, content_of, data_lines, tag_line, meta_line, shadow_line, device_lines, pages, meta_lines, level_start}
 use Rattle.pmem_base.specs.Lines.{IsLine, line_at, line_of, tag_slot}
 use Rattle.pmem_base.specs.Marks.{SealOf, last_seal}
 use Rattle.pmem_base.proofs.OneToOne.{content_of-data, content_of-tags, content_of-meta, content_of-shadow}
 use Rattle.pmem_base.proofs.LineLemmas.{IsLine-line_at}
 use Rattle.board.specs.Memory.{Memory}
-use Rattle.bonsai_tree.specs.Positions.{counter_position, level_start, level_of, is_on_path}
+use Rattle.bonsai_tree.specs.Positions.{counter_position, level_of, is_on_path}
 use Rattle.bonsai_tree.proofs.Levels.{level_start-suc, level_start-pow}
 use Rattle.split_counters.specs.Blocks.{packed, unpacked, IsStoredBlock}
 use Rattle.split_counters.proofs.Packing.{packed-unpacked}

@@ -1,8 +1,8 @@
 -- Which entry is a slot's, and what naming a position changes.
-use Rattle.std.specs.Prelude.{ℕ, ◌≡◌, ◌+◌, ◌-◌, ◌*◌, ◌/◌, ◌%◌, ◌^◌, ◌<◌, ◌≤◌, ◌==◌, ◌&&◌, ◌⊎◌, nat_lt, nat_le, Bool, List, slice_set, IsTrue, if◌then◌else◌}
+use Rattle.std.specs.Prelude.{ℕ, ◌≡◌, ◌+◌, ◌-◌, ◌*◌, ◌/◌, ◌%◌, ◌<◌, ◌≤◌, ◌==◌, ◌&&◌, ◌⊎◌, nat_lt, nat_le, Bool, List, slice_set, IsTrue, if◌then◌else◌}
 use Rattle.pmem_base.specs.declared.lines.Line.{Line}
 use Rattle.pmem_base.specs.Shape.{Shape}
-use Rattle.pmem_base.specs.Layout.{slots, meta_lines, shadow_counter_lines}
+use Rattle.pmem_base.specs.Layout.{slots, meta_lines, shadow_counter_lines, level_start}
 use Rattle.pmem_base.specs.Lines.{line_at, put_bytes, big_endian}
 use Rattle.shadow_tables.specs.Entries.{slot_entry, is_named_in}
 
@@ -40,10 +40,6 @@ pub record Names (g : Shape) (old new : List Line) (bank n x : ℕ) : Type 0 whe
   pub still_named :
       (bank' y : ℕ) → bank' ≤ g.levels → IsTrue (is_named_in g old bank' y)
       → IsTrue (is_named_in g new bank' y) ⊎ (slot_entry g old bank n ≡ y + 1)
-
--- the number of positions above level j
-abbrev pub level_start : ℕ → ℕ
-level_start j = (4 ^ j - 1) / 3
 
 -- whether a bank's table may name position x: the counter table names counter blocks, the tree table nodes
 abbrev pub is_of_table : Shape → ℕ → ℕ → Bool

@@ -7,12 +7,12 @@ use Rattle.std.proofs.lemmas.List.Elements.{filter-append, All-filter, All-weake
 use Rattle.std.proofs.lemmas.List.FromFn.{length-range_with_len, get_or-range_with_len}
 use Rattle.std.proofs.lemmas.Bool.{cases_Bool, cases_lt}
 use Rattle.pmem_base.specs.declared.lines.Line.{Line}
-use Rattle.pmem_base.specs.Counts.{last_count, risen}
+use Rattle.pmem_base.specs.Counts.{last_count, risen, risen_times}
 use Rattle.pmem_base.specs.Lines.{same_bytes}
 use Rattle.suite.specs.Formulas.{Formulas}
 use Rattle.stop_loss.specs.declared.Found.{Found}
 use Rattle.stop_loss.specs.Windows.{minors_within}
-use Rattle.stop_loss.specs.Trials.{is_match, matching_minors, found_among, found_after, IsWithin, risen_times}
+use Rattle.stop_loss.specs.Trials.{is_match, matching_minors, found_among, found_after, IsWithin}
 
 -- one more candidate at the end
 range_more : (first n : ℕ) → range_with_len first (suc n) ≡ range_with_len first n ++ (first + n) ∷ []

@@ -1,7 +1,6 @@
 -- The trials of candidates against a tag.
-use Rattle.std.specs.Prelude.{ℕ, zero, suc, ◌≤◌, ◌<◌, Bool, true, false, List, [], ◌∷◌, filter}
+use Rattle.std.specs.Prelude.{ℕ, ◌≤◌, ◌<◌, Bool, true, false, List, [], ◌∷◌, filter}
 use Rattle.pmem_base.specs.declared.lines.Line.{Line}
-use Rattle.pmem_base.specs.Counts.{risen}
 use Rattle.pmem_base.specs.Lines.{same_bytes}
 use Rattle.suite.specs.Formulas.{Formulas}
 use Rattle.stop_loss.specs.declared.Found.{Found}
@@ -28,11 +27,6 @@ abbrev pub IsWithin : ℕ → ℕ → Found → Type 0
 IsWithin first last Nothing = Unit {0}
 IsWithin first last (One minor) = (first ≤ minor) × (minor ≤ last)
 IsWithin first last (Twin low high) = (first ≤ low) × (low < high) × (high ≤ last)
-
--- a count after n more calls
-abbrev pub risen_times : ℕ → ℕ → ℕ
-risen_times zero count = count
-risen_times (suc n) count = risen (risen_times n count)
 
 -- what is found after one more candidate, and whether its tag matches
 abbrev pub found_after : Found → ℕ → Bool → Found

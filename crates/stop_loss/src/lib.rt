@@ -1,10 +1,10 @@
 #![tactic(auto)]
 //! Stop-loss windows and their trials.
 ghost use Rattle.std.specs.Prelude.{◌≡◌, ◌≤◌, ◌+◌, ◌%◌, ◌↔◌, IsTrue, length, min};
-ghost use Rattle.pmem_base.specs.Counts.{last_count};
+ghost use Rattle.pmem_base.specs.Counts.{last_count, risen_times};
 ghost use Rattle.pmem_base.specs.Lines.{same_bytes};
 ghost use Rattle.pmem_base.specs.Shape.{is_loss};
-ghost use Rattle.stop_loss.specs.Trials.{matching_minors, found_among, found_after, IsWithin, risen_times};
+ghost use Rattle.stop_loss.specs.Trials.{matching_minors, found_among, found_after, IsWithin};
 ghost use Rattle.stop_loss.specs.Windows.{minors_within, window_ends, window_minors, HoldsCandidates};
 
 use pmem_base::{Ctr, Line, Tag};

@@ -1,5 +1,5 @@
 use Rattle.std.proofs.Common.{ℕ, List, ◌≡◌, ◌-◌, refl, ap, ◌∙◌, arith}
-use Rattle.stop_loss.specs.Trials.{risen_times}
+use Rattle.pmem_base.specs.Counts.{risen_times}
 use Rattle.stop_loss.proofs.Trying.{HasTried-none, HasTried-more, HasTried-all, result_within, tries-more, tries-all, risen_times-min}
 use Rattle.stop_loss.proofs.find.Goals as goal
 

@@ -1,5 +1,5 @@
 use Rattle.std.proofs.Common.{◌≡◌, ◌-◌}
-use Rattle.stop_loss.specs.Trials.{risen_times}
+use Rattle.pmem_base.specs.Counts.{risen_times}
 use Rattle.stop_loss.proofs.Trying.{HasTried}
 use Rattle.stop_loss.proofs.find.Given as goal
 

@@ -3,14 +3,13 @@ use Rattle.std.proofs.Common.{◌≡◌, ℕ, suc, ◌+◌, ◌-◌, ◌≤◌, 
 use Rattle.std.specs.Prelude.{All, IsTrue, slice_index_or}
 use Rattle.std.proofs.lemmas.List.Elements.{All-cons}
 use Rattle.pmem_base.specs.declared.lines.Line.{Line}
-use Rattle.pmem_base.specs.Counts.{risen}
+use Rattle.pmem_base.specs.Counts.{risen, risen_times}
 use Rattle.pmem_base.specs.Shape.{Shape}
 use Rattle.pmem_base.specs.Geo.{shape_of}
 use Rattle.pmem_base.specs.Lines.{IsLine}
 use Rattle.bonsai_tree.specs.Positions.{parent}
 use Rattle.meta_cache.specs.Banks.{is_cached}
 use Rattle.meta_path.specs.Blocks.{cached_line}
-use Rattle.meta_path.specs.Work.{risen_times}
 use Rattle.meta_path.proofs.PathFacts.{position_is, path_at-below}
 use Rattle.meta_path.proofs.RenewalLemmas.{IsRenewedTo, IsRenewedTo-none, IsRenewedTo-more, lines_renewed, root_renewed, parent_cached, node_is, IsPathOf-path_with, IsRenewed-true}
 use Rattle.meta_path.proofs.renewal.next_path.Goals as goal

@@ -1,7 +1,7 @@
 use Rattle.std.proofs.Common.{◌≡◌, ℕ, ◌+◌}
 use Rattle.pmem_base.specs.Geo.{shape_of}
+use Rattle.pmem_base.specs.Counts.{risen_times}
 use Rattle.meta_path.specs.Blocks.{cached_line}
-use Rattle.meta_path.specs.Work.{risen_times}
 use Rattle.meta_path.proofs.RenewalLemmas.{IsRenewedTo}
 use Rattle.meta_path.proofs.renewal.next_path.Given as goal
 

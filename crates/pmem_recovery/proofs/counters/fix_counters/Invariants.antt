@@ -1,7 +1,6 @@
 use Rattle.std.proofs.Common.{◌≡◌, ◌<◌, ◌≤◌, ◌-◌, ◌*◌, All, length, vec_capacity}
 use Rattle.pmem_base.specs.Geo.{shape_of}
-use Rattle.pmem_base.specs.Layout.{meta_lines}
-use Rattle.bonsai_tree.specs.Positions.{level_start}
+use Rattle.pmem_base.specs.Layout.{meta_lines, level_start}
 use Rattle.shadow_tables.specs.Entries.{shadow_of}
 use Rattle.pmem_recovery.specs.Named.{count_named}
 use Rattle.pmem_recovery.specs.Parts.{setup_of, Told, HasOnlyRead, GoesOn, suite_state, HasWorked}

@@ -2,9 +2,9 @@ use Rattle.std.proofs.Common.{ℕ, ◌≡◌, ◌<◌, ◌≤◌, ◌-◌, ◌*�
 use Rattle.std.proofs.lemmas.List.{get_or_default}
 use Rattle.pmem_base.specs.Shape.{Shape}
 use Rattle.pmem_base.specs.Geo.{shape_of}
-use Rattle.pmem_base.specs.Layout.{meta_lines, data_lines, pages}
+use Rattle.pmem_base.specs.Layout.{meta_lines, data_lines, pages, level_start}
 use Rattle.pmem_base.proofs.LayoutLemmas.{pages-least}
-use Rattle.bonsai_tree.specs.Positions.{level_start, counter_position}
+use Rattle.bonsai_tree.specs.Positions.{counter_position}
 use Rattle.bonsai_tree.proofs.Levels.{meta_lines-counters}
 use Rattle.bonsai_tree.specs.Nodes.{IsHashTree}
 use Rattle.board.specs.Steps.{HasLatched}

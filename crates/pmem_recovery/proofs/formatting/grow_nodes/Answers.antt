@@ -2,7 +2,7 @@ use Rattle.std.proofs.Common.{ℕ, ◌≡◌, ◌<◌, ◌-◌, ◌/◌, List, s
 use Rattle.std.proofs.lemmas.List.Elements.{All-set}
 use Rattle.pmem_base.specs.Geo.{shape_of}
 use Rattle.pmem_base.specs.Lines.{IsLine, line_at}
-use Rattle.bonsai_tree.specs.Positions.{level_start}
+use Rattle.pmem_base.specs.Layout.{level_start}
 use Rattle.bonsai_tree.specs.Nodes.{node_over}
 use Rattle.bonsai_tree.proofs.Levels.{meta_lines-counters}
 use Rattle.pmem_base.proofs.LineSets.{line_at-set_other}

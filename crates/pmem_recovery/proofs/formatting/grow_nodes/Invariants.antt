@@ -1,7 +1,7 @@
 use Rattle.std.proofs.Common.{ℕ, ◌≡◌, ◌<◌, ◌≤◌, ◌-◌, All, length}
 use Rattle.pmem_base.specs.Geo.{shape_of}
 use Rattle.pmem_base.specs.Lines.{IsLine, line_at}
-use Rattle.bonsai_tree.specs.Positions.{level_start}
+use Rattle.pmem_base.specs.Layout.{level_start}
 use Rattle.bonsai_tree.specs.Nodes.{node_over}
 use Rattle.pmem_recovery.proofs.formatting.grow_nodes.Given as goal
 

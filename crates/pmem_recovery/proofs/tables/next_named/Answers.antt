@@ -1,7 +1,6 @@
 use Rattle.std.proofs.Common.{ℕ, suc, ◌≡◌, ◌<◌, ◌≤◌, ◌*◌, subst, sym, ◌∙◌, arith}
 use Rattle.pmem_base.specs.Geo.{shape_of}
-use Rattle.pmem_base.specs.Layout.{slots, shadow_counter_lines}
-use Rattle.bonsai_tree.specs.Positions.{level_start}
+use Rattle.pmem_base.specs.Layout.{slots, shadow_counter_lines, level_start}
 use Rattle.bonsai_tree.proofs.Levels.{level_start-le}
 use Rattle.pmem_recovery.specs.Named.{names, is_among, IsNext}
 use Rattle.pmem_recovery.proofs.NamedLaws.{IsNext-same, names-counter, names-node}
