@@ -3,3 +3,4 @@ pub mod Device
 pub mod Steps
 pub mod Memory
 pub mod MemBoard
+pub mod Tripped

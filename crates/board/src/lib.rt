@@ -5,6 +5,8 @@ mod device;
 mod memory;
 #[cfg(test)]
 mod tests;
+mod tripped;
 
 pub use device::Board;
 pub use memory::MemBoard;
+pub use tripped::Tripped;
