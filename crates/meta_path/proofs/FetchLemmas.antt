@@ -1,4 +1,5 @@
 -- A path is fetched level by level.
+use Rattle.std.proofs.Common.{rules}
 use Rattle.std.proofs.Common.{◌≡◌, ℕ, zero, suc, ◌+◌, ◌<◌, ◌≤◌, Bool, true, false, cond, List, [], ◌++◌, length, refl, sym, ap, ap₂, subst, subst₂, ◌∙◌, ◌⊎◌, inl, inr, arith}
 use Rattle.std.specs.Prelude.{option_map, unwrap_or}
 use Rattle.std.proofs.lemmas.Bool.{cases_eq, both_ways}
@@ -39,9 +40,6 @@ pub record IsFetchOf (g : Shape) (page : ℕ) (banks : Banks) : Type 0 where
 
 -- ---- banks that aren't reached yet
 
-not_less : (n : ℕ) → n < n → ⊥
-not_less n h = omega arith
-
 pub same_later : (g : Shape) (truth : List Line) (page n : ℕ) (old new : CacheState) (bank set : ℕ)
     → HasFetchedSets g truth page n old new → n ≤ bank → set_of new.banks bank set ≡ set_of old.banks bank set
 same_later g truth page n old new bank set fetched later = fetched.elsewhere bank set (λ e. omega (arith, e.0))
@@ -57,8 +55,7 @@ level_write-same g a b bank x same = ap (λ slots. cond (holds slots x) [] (room
 
 fetched_set-same : (g : Shape) (truth : List Line) (a b : Banks) (bank x : ℕ) → slots_at g a bank x ≡ slots_at g b bank x
     → fetched_set g truth a bank x ≡ fetched_set g truth b bank x
-fetched_set-same g truth a b bank x same =
-    ap (λ slots. cond (holds slots x) (touched slots x) (placed g.ways slots x (line_at truth x))) same
+fetched_set-same g truth a b bank x same = search rules
 
 is_cached-same : (g : Shape) (a b : Banks) (bank x : ℕ) → slots_at g a bank x ≡ slots_at g b bank x
     → is_cached g a bank x ≡ is_cached g b bank x
@@ -74,16 +71,6 @@ expected_digest-same g root a b (suc above) x same =
     (same above (set_index g (parent x)) (omega arith))
 
 -- ---- the first level
-
-pub IsFetchedTo-none : (g : Shape) (f : Formulas) (truth : List Line) (page : ℕ) (state : FetchState)
-    → IsFetchedTo g f truth page 0 state state
-IsFetchedTo-none g f truth page state =
-    record {
-      cache = record { shape = refl; fetched = λ j h. absurd (omega arith); elsewhere = λ bank set apart. refl };
-      levels = record { told = λ j h absent. absurd (omega arith); checked = λ j h absent. absurd (omega arith) };
-      work = HasWorked-none state.device;
-      digests = refl;
-    }
 
 -- ---- one level more
 
@@ -198,41 +185,14 @@ IsFetchedTo-more g f truth page n old mid new of le before level =
 read_at : (g : Shape) (f : Formulas) (truth : List Line) (page n : ℕ) (line : Line) (old mid new : FetchState)
     → n ≤ g.levels → IsFetchedTo g f truth page n old mid → IsLevelRead g n (path_at g page n) line mid new
     → IsReadAt g f truth page n line old new
-read_at g f truth page n line old mid new le before level =
-    record {
-      on_path = le;
-      absent =
-          sym (is_cached-same g mid.cache.banks old.cache.banks n (path_at g page n)
-          (same_later g truth page n old.cache mid.cache n (set_index g (path_at g page n)) before.cache (omega arith)))
-          ∙ level.absent;
-      cache = subst (HasFetchedSets g truth page n old.cache) (sym level.cache) before.cache;
-      levels =
-          record {
-            told = before.levels.told;
-            checked = λ j h absent.
-                before.levels.checked j h absent
-                ∙ ap (λ (cache : CacheState). expected_digest g old.device.regs.root cache.banks j (path_at g page j)) (sym level.cache);
-          };
-      work =
-          subst (λ entries. HasWorked (absent_count g old.cache.banks page n + 1) entries old.device new.device)
-          (append-nil (spilled g old.cache.banks page n))
-          (HasWorked-then (absent_count g old.cache.banks page n) 1 (spilled g old.cache.banks page n) [] old.device mid.device
-          new.device before.work level.work);
-      digests =
-          level.digests ∙ ap (risen_times 1) before.digests
-          ∙ sym (risen_times-add (absent_count g old.cache.banks page n) 1 old.digests);
-      tells = level.tells;
-      whole = level.whole;
-    }
+read_at g f truth page n line old mid new le before level = search rules
 
 -- the digest that it has to have, as it was when it was read
 expected_at : (g : Shape) (f : Formulas) (truth : List Line) (page n : ℕ) (old mid new : FetchState)
     → IsFetchedTo g f truth page n old mid → new.cache ≡ mid.cache
     → expected_digest g mid.device.regs.root mid.cache.banks n (path_at g page n)
     ≡ expected_digest g old.device.regs.root new.cache.banks n (path_at g page n)
-expected_at g f truth page n old mid new before same =
-    ap₂ (λ root (cache : CacheState). expected_digest g root cache.banks n (path_at g page n))
-    (ap (λ regs. regs.root) before.work.regs) (sym same)
+expected_at g f truth page n old mid new before same = search rules
 
 cut_at : (g : Shape) (f : Formulas) (truth : List Line) (page n : ℕ) (old mid new : FetchState)
     → n ≤ g.levels → IsFetchedTo g f truth page n old mid → IsLevelCut g n (path_at g page n) mid new

@@ -1,4 +1,5 @@
 -- What a fetch keeps, whatever it answers, and what its faults say of the board.
+use Rattle.std.proofs.Common.{rules}
 use Rattle.std.proofs.Common.{◌≡◌, ℕ, zero, suc, ◌+◌, ◌-◌, ◌<◌, ◌≤◌, Bool, true, false, cond, List, [], ◌∷◌, length, get_or, refl, sym, ap, subst, ◌∙◌, ◌⊎◌, inl, inr, arith, mod-lt, Option, Some, None, Result, Ok, Err}
 use Rattle.std.specs.Prelude.{◌==◌, ◌||◌, option_map, unwrap_or, All, Contains, IsSomeAnd, IfErr, IsErrAnd}
 use Rattle.std.proofs.lemmas.Bool.{cases_eq, cond-true, cond-false, eqb-true, false≢true}
@@ -408,64 +409,19 @@ pub part_fetched : (g : Shape) (f : Formulas) (truth : List Line) (page n : ℕ)
     → IsFetchOf g page old.cache.banks → 1 ≤ g.ways → 1 ≤ g.sets → AreToldLines old.device.size old.device.lines
     → old.device.size ≡ device_lines g → n ≤ g.levels + 1 → IsFetchedTo g f truth page n old new
     → IsPart g truth page n old.cache new.cache old.device new.device
-part_fetched g f truth page n old new of way some told size le h =
-    record {
-      of = of;
-      some_way = way;
-      some_set = some;
-      levels = le;
-      told = told;
-      its_size = size;
-      fetched = h.cache;
-      lines = h.work.lines;
-      writes = h.work.writes;
-      size = h.work.size;
-      regs = h.work.regs;
-      latches = h.work.latches;
-      steady = h.work.steady;
-    }
+part_fetched g f truth page n old new of way some told size le h = search rules
 
 part_read : (g : Shape) (f : Formulas) (truth : List Line) (page n : ℕ) (line : Line) (old new : FetchState)
     → IsFetchOf g page old.cache.banks → 1 ≤ g.ways → 1 ≤ g.sets → AreToldLines old.device.size old.device.lines
     → old.device.size ≡ device_lines g → IsReadAt g f truth page n line old new
     → IsPart g truth page n old.cache new.cache old.device new.device
-part_read g f truth page n line old new of way some told size h =
-    record {
-      of = of;
-      some_way = way;
-      some_set = some;
-      levels = omega (arith, h.on_path);
-      told = told;
-      its_size = size;
-      fetched = h.cache;
-      lines = h.work.lines;
-      writes = h.work.writes;
-      size = h.work.size;
-      regs = h.work.regs;
-      latches = h.work.latches;
-      steady = h.work.steady;
-    }
+part_read g f truth page n line old new of way some told size h = search rules
 
 part_cut : (g : Shape) (f : Formulas) (truth : List Line) (page : ℕ) (old new : FetchState)
     → IsFetchOf g page old.cache.banks → 1 ≤ g.ways → 1 ≤ g.sets → AreToldLines old.device.size old.device.lines
     → old.device.size ≡ device_lines g → (cut : IsCutAt g f truth page old new)
     → IsPart g truth page cut.n old.cache new.cache old.device new.device
-part_cut g f truth page old new of way some told size cut =
-    record {
-      of = of;
-      some_way = way;
-      some_set = some;
-      levels = omega (arith, cut.on_path);
-      told = told;
-      its_size = size;
-      fetched = cut.cache;
-      lines = cut.lines;
-      writes = cut.writes;
-      size = cut.size;
-      regs = cut.regs;
-      latches = cut.latches;
-      steady = λ steady. absurd (false≢true (sym cut.unsteady ∙ steady));
-    }
+part_cut g f truth page old new of way some told size cut = search rules
 
 -- what is kept where a fault is answered
 pub KeepsBlocks-fault : (g : Shape) (f : Formulas) (page : ℕ) (old new : FetchState) (old_ledger new_ledger : LedgerState)
@@ -482,13 +438,6 @@ KeepsBlocks-fault g f page old new old_ledger new_ledger (Fault.Meta x) of way s
 KeepsBlocks-fault g f page old new old_ledger new_ledger Fault.Shown of way some told size h =
     KeepsBlocks-part g old_ledger.truth page h.n old.cache new.cache old.device new.device
     (part_read g f old_ledger.truth page h.n h.line old new of way some told size h.read)
-
--- the shape is that of before
-pub shape-fault : (g : Shape) (f : Formulas) (page : ℕ) (old new : FetchState) (old_ledger new_ledger : LedgerState)
-    (fault : PathFault) → IsPathFault g f page old new old_ledger new_ledger fault → new.cache.shape ≡ old.cache.shape
-shape-fault g f page old new old_ledger new_ledger Fault.Cut h = h.0.cache.shape
-shape-fault g f page old new old_ledger new_ledger (Fault.Meta x) h = h.0.read.cache.shape
-shape-fault g f page old new old_ledger new_ledger Fault.Shown h = h.read.cache.shape
 
 -- ---- a run that ends at a level
 
@@ -592,27 +541,7 @@ pub record IsStart (g : Shape) (page : ℕ) (old : FetchState) : Type 0 where
 pub run_of : (g : Shape) (f : Formulas) (page n : ℕ) (old mid : FetchState) (old_ledger mid_ledger : LedgerState)
     → IsStart g page old → n ≤ g.levels + 1 → IsFetchedTo g f old_ledger.truth page n old mid → mid_ledger ≡ old_ledger
     → IsRun g f page n old mid old_ledger mid_ledger
-run_of g f page n old mid old_ledger mid_ledger start level fetched ledger =
-    record {
-      of =
-          record {
-            its_page = start.its_page;
-            few = start.levels.1;
-            sets =
-                record {
-                  each = λ bank set.
-                      subst (λ (k : Shape). IsSetOf k set (set_of old.cache.banks bank set)) start.shape (start.form.each_set bank set);
-                };
-            its_banks = start.its_banks;
-          };
-      some_way = start.ways.0;
-      some_set = start.sets.0;
-      told = start.told;
-      its_size = start.its_size;
-      level = level;
-      fetched = fetched;
-      ledger = ledger;
-    }
+run_of g f page n old mid old_ledger mid_ledger start level fetched ledger = search rules
 
 -- where the path is cached nothing is read, written or digested
 pub IsUndisturbed-cached : (g : Shape) (f : Formulas) (truth : List Line) (page : ℕ) (old new : FetchState)
@@ -643,10 +572,7 @@ pub undisturbed_fault : (g : Shape) (f : Formulas) (page n : ℕ) (old mid new :
     (old_ledger mid_ledger new_ledger : LedgerState) (fault : PathFault)
     → IsEnded g f page n old mid new old_ledger mid_ledger new_ledger fault → IsPathCached g old.cache.banks page
     → IsUndisturbed old new
-undisturbed_fault g f page n old mid new old_ledger mid_ledger new_ledger fault end cached =
-    absurd
-    (cached_no_fault g f page old new old_ledger new_ledger fault cached
-    (fault_of_end g f page n old mid new old_ledger mid_ledger new_ledger fault end))
+undisturbed_fault g f page n old mid new old_ledger mid_ledger new_ledger fault end cached = search rules
 
 -- the true lines are those of before
 truth-fault : (g : Shape) (f : Formulas) (page : ℕ) (old new : FetchState) (old_ledger new_ledger : LedgerState)
@@ -658,6 +584,4 @@ truth-fault g f page old new old_ledger new_ledger Fault.Shown h = h.shown.truth
 pub truth_of_end : (g : Shape) (f : Formulas) (page n : ℕ) (old mid new : FetchState)
     (old_ledger mid_ledger new_ledger : LedgerState) (fault : PathFault)
     → IsEnded g f page n old mid new old_ledger mid_ledger new_ledger fault → new_ledger.truth ≡ old_ledger.truth
-truth_of_end g f page n old mid new old_ledger mid_ledger new_ledger fault end =
-    truth-fault g f page old new old_ledger new_ledger fault
-    (fault_of_end g f page n old mid new old_ledger mid_ledger new_ledger fault end)
+truth_of_end g f page n old mid new old_ledger mid_ledger new_ledger fault end = search rules

@@ -1,4 +1,5 @@
 -- One level fetched: the read, the room, and the place.
+use Rattle.std.proofs.Common.{rules}
 use Rattle.std.proofs.Common.{◌≡◌, ℕ, ◌≤◌, Bool, true, false, cond, List, [], ◌∷◌, refl, sym, ap, ap₂, subst, subst₂, ◌∙◌, ◌⊎◌, inl, inr, arith, Option, Some, None, Result, Ok, Err}
 use Rattle.std.specs.Prelude.{IfSome, IfErr, IsErrAnd, option_map, unwrap_or}
 use Rattle.std.proofs.lemmas.Bool.{cases_Bool, cond-true, cond-false, false≢true}
@@ -37,25 +38,7 @@ pub cut_at_read : (g : Shape) (bank x : ℕ) (cache : CacheState) (old new : Dev
     → is_cached g cache.banks bank x ≡ false → WasCut old new → old.live ≡ false
     → IsLevelCut g bank x (record { cache = cache; device = old; digests = digests })
     (record { cache = cache; device = new; digests = digests })
-cut_at_read g bank x cache old new digests absent cut dead =
-    record {
-      absent = absent;
-      cache = refl;
-      tries = 0;
-      at_most_one = omega arith;
-      reads = RisesBy-none old.reads new.reads cut.reads;
-      digests = refl;
-      unsteady = cut.unsteady;
-      off = cut.off;
-      never_falls = cut.never_falls;
-      rose = cut.rose;
-      size = cut.size;
-      lines = cut.lines;
-      regs = cut.regs;
-      writes = cut.writes;
-      latches = cut.latches;
-      victim = λ live. absurd (false≢true (sym dead ∙ live));
-    }
+cut_at_read g bank x cache old new digests absent cut dead = search rules
 
 -- ---- room
 
@@ -168,13 +151,7 @@ room_clean g bank x old_cache new_cache old new its form made =
 pub ChangesSet-twice : (old mid new : CacheState) (bank set : ℕ) (first second : List Slot)
     → ChangesSet old mid bank set first → ChangesSet mid new bank set second
     → KeepsWays (set_of old.banks bank set) second → ChangesSet old new bank set second
-ChangesSet-twice old mid new bank set first second one two ways =
-    record {
-      shape = two.shape ∙ one.shape;
-      here = two.here;
-      ways = ways;
-      elsewhere = λ bank' set' apart. two.elsewhere bank' set' apart ∙ one.elsewhere bank' set' apart;
-    }
+ChangesSet-twice old mid new bank set first second one two ways = search rules
 
 -- ---- the level
 

@@ -1,4 +1,5 @@
 -- Blocks of a path are named, level by level.
+use Rattle.std.proofs.Common.{rules}
 use Rattle.std.proofs.Common.{◌≡◌, ℕ, zero, suc, ◌+◌, ◌<◌, ◌≤◌, Bool, true, false, cond, List, [], ◌∷◌, ◌++◌, length, refl, sym, ap, ap₂, subst, ◌∙◌, ◌⊎◌, inl, inr, arith, mod-lt, Option, Some, None, Result, Ok, Err}
 use Rattle.std.specs.Prelude.{◌↔◌, IsNone, OnErr, option_map, unwrap_or, is_some}
 use Rattle.std.proofs.lemmas.Bool.{cases_eq, cond-true, cond-false, eq-eqb, ne_eqb, false≢true, both_ways}
@@ -33,61 +34,26 @@ some_not_none (Some other) write is none = false≢true (sym none)
 
 pub unnamed : {W : Type 0} (g : Shape) (shadow : List Line) (bank n x : ℕ) (answer : Option W) (write : W) → answer ≡ Some write
     → (IsNone answer ↔ (slot_entry g shadow bank n ≡ x + 1)) → is_slot_named g shadow bank n x ≡ false
-unnamed g shadow bank n x answer write is already =
-    ne_eqb (slot_entry g shadow bank n) (x + 1) (λ e. some_not_none answer write is (already.1 e))
+unnamed g shadow bank n x answer write is already = search rules
 
 -- the shadow line was written
 pub IsSlotNamed-written : (g : Shape) (bank n x : ℕ) (old_mirror new_mirror : List Line) (old new : Device) (at : ℕ) (line : Line)
     → is_slot_named g old_mirror bank n x ≡ false → new_mirror ≡ with_named g old_mirror bank n x
     → at ≡ shadow_line g (entry_line g bank n) → line ≡ naming_line g old_mirror bank n x
     → HasWritten old at line new → IsSlotNamed g bank n x old_mirror new_mirror old new
-IsSlotNamed-written g bank n x old_mirror new_mirror old new at line not_named written place bytes done =
-    record {
-      mirror = written ∙ sym (cond-false (is_slot_named g old_mirror bank n x) old_mirror (with_named g old_mirror bank n x) not_named);
-      work =
-          subst (λ entries. HasWorked 0 entries old new)
-          (ap₂ (λ (a : ℕ) (l : Line). (a, l) ∷ []) place bytes
-          ∙ sym (cond-false (is_slot_named g old_mirror bank n x) []
-          ((shadow_line g (entry_line g bank n), naming_line g old_mirror bank n x) ∷ []) not_named))
-          (HasWorked-written old at line new done);
-    }
+IsSlotNamed-written g bank n x old_mirror new_mirror old new at line not_named written place bytes done = search rules
 
 -- the entry named the position already
 pub IsSlotNamed-already : (g : Shape) (bank n x : ℕ) (old_mirror new_mirror : List Line) (device : Device)
     → slot_entry g old_mirror bank n ≡ x + 1 → new_mirror ≡ old_mirror
     → IsSlotNamed g bank n x old_mirror new_mirror device device
-IsSlotNamed-already g bank n x old_mirror new_mirror device named same =
-    record {
-      mirror =
-          same ∙ sym (cond-true (is_slot_named g old_mirror bank n x) old_mirror (with_named g old_mirror bank n x)
-          (eq-eqb (slot_entry g old_mirror bank n) (x + 1) named));
-      work =
-          subst (λ entries. HasWorked 0 entries device device)
-          (sym (cond-true (is_slot_named g old_mirror bank n x) []
-          ((shadow_line g (entry_line g bank n), naming_line g old_mirror bank n x) ∷ [])
-          (eq-eqb (slot_entry g old_mirror bank n) (x + 1) named)))
-          (HasWorked-none device);
-    }
+IsSlotNamed-already g bank n x old_mirror new_mirror device named same = search rules
 
 -- the write was cut
 pub IsSlotCut-from : (g : Shape) (bank n x : ℕ) (old_mirror new_mirror : List Line) (old new : Device)
     → is_slot_named g old_mirror bank n x ≡ false → new_mirror ≡ with_named g old_mirror bank n x → WasCut old new
     → IsSlotCut g bank n x old_mirror new_mirror old new
-IsSlotCut-from g bank n x old_mirror new_mirror old new not_named written cut =
-    record {
-      mirror = written ∙ sym (cond-false (is_slot_named g old_mirror bank n x) old_mirror (with_named g old_mirror bank n x) not_named);
-      unnamed = not_named;
-      unsteady = cut.unsteady;
-      off = cut.off;
-      never_falls = cut.never_falls;
-      rose = cut.rose;
-      size = cut.size;
-      lines = cut.lines;
-      regs = cut.regs;
-      reads = cut.reads;
-      writes = cut.writes;
-      latches = cut.latches;
-    }
+IsSlotCut-from g bank n x old_mirror new_mirror old new not_named written cut = search rules
 
 -- what an answer that is an error has
 pub on_err : {X E : Type 0} (answer : Result X E) (P : Type 0) → P → OnErr answer P
@@ -95,15 +61,6 @@ on_err (Ok value) P holds = tt
 on_err (Err e) P holds = holds
 
 -- ---- the path's slots, level by level
-
-pub IsNamedTo-none : (g : Shape) (banks : Banks) (page : ℕ) (mirror : List Line) (device : Device)
-    → IsNamedTo g banks page 0 mirror mirror device device
-IsNamedTo-none g banks page mirror device =
-    record {
-      mirror = refl;
-      entries = record { named = λ j h. absurd (omega arith); others = λ bank m h apart. refl };
-      work = HasWorked-none device;
-    }
 
 -- one entry more
 entries_more : (g : Shape) (banks : Banks) (page n : ℕ) (old mid new : List Line)
@@ -212,9 +169,7 @@ length-naming_writes g banks page shadow (suc n) =
 pub number_is : (g : Shape) (cache : CacheState) (bank x n : ℕ) → cache.shape ≡ g
     → option_map (slot_number cache.shape (set_index cache.shape x)) (slot_with (slots_of cache bank x) x) ≡ Some n
     → number_in g cache.banks bank x ≡ n
-number_is g cache bank x n its is =
-    ap (λ o. unwrap_or o 0)
-    (subst (λ (k : Shape). option_map (slot_number k (set_index k x)) (slot_with (slots_at k cache.banks bank x) x) ≡ Some n) its is)
+number_is g cache bank x n its is = search rules
 
 pub number_in_low : (g : Shape) (banks : Banks) (bank x : ℕ) → 1 ≤ g.sets → IsSetOf g (set_index g x) (slots_at g banks bank x)
     → is_cached g banks bank x ≡ true → number_in g banks bank x < slots g

@@ -113,18 +113,6 @@ slot_held slots x held =
     let found = Any-from_list_any (λ (s : Slot). s.position == x) slots held in
     (found.1, (found.0, found.2, found.3), eqb-true found.1.position x found.4)
 
--- a position that no slot has
-pub not_held : (slots : List Slot) (x : ℕ) → ((slot : Slot) → Contains slots slot → slot.position ≢ x)
-    → holds slots x ≡ false
-not_held slots x none =
-    list_any_none (λ (s : Slot). s.position == x) slots
-    (λ k d h. ne_eqb (get_or slots k d).position x (none (get_or slots k d) (k, h, get_or_same slots k d h)))
-  where
-    get_or_same : (slots : List Slot) (k : ℕ) (d : Slot) → k < length slots → get_or slots k (get_or slots k d) ≡ get_or slots k d
-    get_or_same [] k d h = absurd (omega arith)
-    get_or_same (s ∷ slots) zero d h = refl
-    get_or_same (s ∷ slots) (suc k) d h = get_or_same slots k d (omega arith)
-
 -- ---- a use changes the order alone
 
 pub touched_contains : (slots : List Slot) (x : ℕ) (slot : Slot) → Contains (touched slots x) slot → Contains slots slot

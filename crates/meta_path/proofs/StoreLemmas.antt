@@ -1,4 +1,5 @@
 -- New lines are stored, level by level.
+use Rattle.std.proofs.Common.{rules}
 use Rattle.std.proofs.Common.{◌≡◌, ◌≢◌, ℕ, suc, ◌+◌, ◌<◌, ◌≤◌, Bool, true, false, cond, List, [], ◌∷◌, ◌++◌, length, get_or, take, map, set, refl, sym, ap, subst, subst₂, ◌∙◌, ◌⊎◌, inl, inr, arith}
 use Rattle.std.specs.Prelude.{◌==◌, ◌||◌, nat_lt, not, Contains}
 use Rattle.std.proofs.lemmas.Bool.{cases_eq, cases_lt, cases_Bool, cond-true, cond-false, eq-eqb, eqb-true, false≢true}
@@ -79,8 +80,7 @@ position_of g page lines j d path h =
 
 pub IsStoredTo-none : (g : Shape) (page : ℕ) (persisted : Bool) (lines : List (ℕ × Line)) (cache : CacheState)
     → IsStoredTo g page persisted lines 0 cache cache
-IsStoredTo-none g page persisted lines cache =
-    record { shape = refl; stored = λ j h. absurd (omega arith); elsewhere = λ bank set apart. refl }
+IsStoredTo-none g page persisted lines cache = search rules
 
 pub IsStoredTo-more : (g : Shape) (page : ℕ) (persisted : Bool) (lines : List (ℕ × Line)) (n : ℕ) (old mid new : CacheState)
     → IsStoredTo g page persisted lines n old mid
@@ -154,8 +154,7 @@ mark_is levels n last persisted mark same is = is ∙ ap (λ k. nat_lt n k || no
 -- ---- the ledger
 
 pub AreTold-none : (ledger : LedgerState) → AreTold [] ledger ledger
-AreTold-none ledger =
-    record { truth = refl; count = refl; marks = refl; data_lines = refl; exhibit = refl; spare = refl }
+AreTold-none ledger = search rules
 
 pub AreTold-more : (lines : List (ℕ × Line)) (n x : ℕ) (line : Line) (d : ℕ × Line) (old mid new : LedgerState)
     → n < length lines → get_or lines n d ≡ (x, line) → AreTold (take n lines) old mid → HasMeta mid new x line
@@ -240,27 +239,13 @@ contains_stored slots x line dirty before found =
 stored_slot : (g : Shape) (page : ℕ) (persisted : Bool) (lines : List (ℕ × Line)) (bank : ℕ) (before now : Slot)
     → IsStoreOf (path_at g page bank) (new_line lines bank) (stored_mark g persisted bank) before now
     → bank ≤ g.levels → IsStoredSlot g page persisted lines bank before now
-stored_slot g page persisted lines bank before now of low =
-    record {
-      way = of.way;
-      position = of.position;
-      off_path = λ apart. of.same (λ e. apart (low, e));
-      line = λ le e. of.its_line e;
-      mark = λ le e. of.its_mark e;
-    }
+stored_slot g page persisted lines bank before now of low = search rules
 
 -- a slot of any other set
 kept_slot : (g : Shape) (page : ℕ) (persisted : Bool) (lines : List (ℕ × Line)) (bank set : ℕ) (slot : Slot)
     → set_index g slot.position ≡ set → ((bank < g.levels + 1) × (set ≡ set_index g (path_at g page bank)) → ⊥)
     → IsStoredSlot g page persisted lines bank slot slot
-kept_slot g page persisted lines bank set slot its apart =
-    record {
-      way = refl;
-      position = refl;
-      off_path = λ off. refl;
-      line = λ le e. absurd (apart (omega (arith, le), sym its ∙ ap (set_index g) e));
-      mark = λ le e. absurd (apart (omega (arith, le), sym its ∙ ap (set_index g) e));
-    }
+kept_slot g page persisted lines bank set slot its apart = search rules
 
 pub KeepsSlots-stored : (g : Shape) (page : ℕ) (persisted : Bool) (lines : List (ℕ × Line)) (old new : CacheState)
     → AreSets g old.banks → IsStoredTo g page persisted lines (g.levels + 1) old new

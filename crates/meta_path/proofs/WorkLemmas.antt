@@ -1,4 +1,5 @@
 -- Reads, line writes and digests, one call after another.
+use Rattle.std.proofs.Common.{rules}
 use Rattle.std.proofs.Common.{◌≡◌, ℕ, zero, suc, ◌+◌, List, [], ◌∷◌, ◌++◌, length, refl, sym, ap, subst, ◌∙◌, arith, Option, Some, None}
 use Rattle.std.proofs.lemmas.List.{length-append}
 use Rattle.pmem_base.specs.declared.lines.Line.{Line}
@@ -27,54 +28,11 @@ RisesBy-none before after same = record { never_falls = omega arith; exact = λ 
 
 -- nothing done
 pub HasWorked-none : (device : Device) → HasWorked 0 [] device device
-HasWorked-none device =
-    record {
-      lines = sym (redone-nil device.lines);
-      writes = RisesBy-none device.writes device.writes refl;
-      no_write = λ none. refl;
-      reads = RisesBy-none device.reads device.reads refl;
-      no_read = λ none. refl;
-      size = refl;
-      regs = refl;
-      latches = refl;
-      cuts = refl;
-      steady = λ s. s;
-      live = λ l. l;
-    }
-
-pub HasWorked-read : (old : Device) (at : ℕ) (line : Line) (new : Device) → HasRead old at line new
-    → HasWorked 1 [] old new
-HasWorked-read old at line new read =
-    record {
-      lines = read.lines ∙ sym (redone-nil old.lines);
-      writes = RisesBy-none old.writes new.writes read.writes;
-      no_write = λ none. read.writes;
-      reads = read.reads;
-      no_read = λ none. absurd (omega arith);
-      size = read.size;
-      regs = read.regs;
-      latches = read.latches;
-      cuts = read.cuts;
-      steady = read.steady;
-      live = read.live;
-    }
+HasWorked-none device = search rules
 
 pub HasWorked-written : (old : Device) (at : ℕ) (line : Line) (new : Device) → HasWritten old at line new
     → HasWorked 0 ((at, line) ∷ []) old new
-HasWorked-written old at line new written =
-    record {
-      lines = written.lines ∙ sym (redone_told-one at line old.lines);
-      writes = written.writes;
-      no_write = λ none. absurd (omega arith);
-      reads = RisesBy-none old.reads new.reads written.reads;
-      no_read = λ none. written.reads;
-      size = written.size;
-      regs = written.regs;
-      latches = written.latches;
-      cuts = written.cuts;
-      steady = written.steady;
-      live = written.live;
-    }
+HasWorked-written old at line new written = search rules
 
 -- two calls are one
 pub HasWorked-then : (m n : ℕ) (front back : List (ℕ × Line)) (old mid new : Device) → HasWorked m front old mid

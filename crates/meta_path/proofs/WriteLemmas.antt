@@ -1,4 +1,5 @@
 -- A block is written back and marked clean.
+use Rattle.std.proofs.Common.{rules}
 use Rattle.std.proofs.Common.{◌≡◌, ◌≢◌, ℕ, ◌+◌, ◌<◌, ◌≤◌, Bool, true, false, cond, List, [], ◌∷◌, get_or, map, refl, sym, ap, ap₂, subst, ◌∙◌, ◌⊎◌, inl, inr, arith, mod-lt}
 use Rattle.std.specs.Prelude.{◌==◌, ◌&&◌, ◌||◌, Contains}
 use Rattle.std.specs.List.{list_any}
@@ -284,14 +285,7 @@ mark_at-is cleaned x bank slot here = by (cases_Bool (slot.position == x))
 -- a slot of any other set
 kept_slot : (g : Shape) (cleaned x bank set : ℕ) (slot : Slot) → set_index g slot.position ≡ set
     → ((bank ≡ cleaned) × (set ≡ set_index g x) → ⊥) → IsCleanedSlot cleaned x bank slot slot
-kept_slot g cleaned x bank set slot its apart =
-    record {
-      way = refl;
-      position = refl;
-      line = refl;
-      same = λ other. refl;
-      clean = λ here e. absurd (apart (here, sym its ∙ ap (set_index g) e));
-    }
+kept_slot g cleaned x bank set slot its apart = search rules
 
 pub KeepsCleaned-from : (g : Shape) (cleaned x : ℕ) (old new : CacheState) → AreSets g old.banks
     → ChangesSet old new cleaned (set_index g x) (with_mark (slots_at g old.banks cleaned x) x false)
