@@ -1,4 +1,5 @@
 -- One set of slots: its slots, its dirty ones, and the block to give way.
+use Rattle.std.proofs.lemmas.Grind.{common_steps}
 use Rattle.std.proofs.Common.{◌≡◌, ◌≢◌, ℕ, zero, suc, ◌+◌, ◌-◌, ◌<◌, ◌≤◌, Bool, true, false, cond, List, [], ◌∷◌, ◌++◌, length, get_or, take, drop, map, refl, sym, ap, ap₂, subst, ◌∙◌, ◌⊎◌, inl, inr, arith, Option, Some, None}
 use Rattle.std.specs.Prelude.{◌==◌, ◌||◌, nat_lt, not, filter, slice_get, All, AllPairs, Contains, IfSome}
 use Rattle.std.proofs.lemmas.Bool.{cases_Bool, cases_lt, eq-eqb, eqb-true, ne_eqb, cond-true, cond-false, both_ways, le-ltb, lt-ltb, not_from_false}
@@ -102,9 +103,7 @@ pairs_head R x xs pairs = λ k d h. pairs 0 (suc k) d (omega arith) (omega arith
 
 -- a slot of the set makes its position held
 pub holds_slot : (slots : List Slot) (slot : Slot) → Contains slots slot → holds slots slot.position ≡ true
-holds_slot slots slot (k, within, is) =
-    list_any_at (λ (s : Slot). s.position == slot.position) slots k slot within
-    (eq-eqb (get_or slots k slot).position slot.position (ap (λ (s : Slot). s.position) is))
+holds_slot slots slot v2 = grind (arith, common_steps)
 
 -- a held position has a slot
 pub slot_held : (slots : List Slot) (x : ℕ) → holds slots x ≡ true
@@ -215,10 +214,7 @@ victim_of-full ways front victim long =
 
 without_victim-full : (ways : ℕ) (front : List Slot) (victim : Slot) → length front + 1 ≡ ways
     → without_victim ways (front ++ victim ∷ []) ≡ front
-without_victim-full ways front victim long =
-    cond-false (nat_lt (length (front ++ victim ∷ [])) ways) (front ++ victim ∷ []) (take (ways - 1) (front ++ victim ∷ []))
-    (le-ltb (length (front ++ victim ∷ [])) ways (full_long ways front victim long))
-    ∙ take_at front (victim ∷ []) (ways - 1) (omega arith)
+without_victim-full ways front victim long = grind (arith, common_steps)
 
 next_way-full : (ways : ℕ) (front : List Slot) (victim : Slot) → length front + 1 ≡ ways
     → next_way ways (front ++ victim ∷ []) ≡ victim.way

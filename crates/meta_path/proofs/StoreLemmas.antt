@@ -1,4 +1,5 @@
 -- New lines are stored, level by level.
+use Rattle.std.proofs.lemmas.Grind.{common_steps}
 use Rattle.std.proofs.Common.{rules}
 use Rattle.std.proofs.Common.{◌≡◌, ◌≢◌, ℕ, suc, ◌+◌, ◌<◌, ◌≤◌, Bool, true, false, cond, List, [], ◌∷◌, ◌++◌, length, get_or, take, map, set, refl, sym, ap, subst, subst₂, ◌∙◌, ◌⊎◌, inl, inr, arith}
 use Rattle.std.specs.Prelude.{◌==◌, ◌||◌, nat_lt, not, Contains}
@@ -118,14 +119,7 @@ pub level_stored : (g : Shape) (page : ℕ) (persisted : Bool) (lines : List (�
     → ChangesSet mid new n (set_index mid.shape entry.0) (stored_set (slots_at mid.shape mid.banks n entry.0) entry.0 entry.1 mark)
     → ChangesSet mid new n (set_index g (path_at g page n))
     (stored_set (slots_at g mid.banks n (path_at g page n)) (path_at g page n) (new_line lines n) (stored_mark g persisted n))
-level_stored g page persisted lines n entry d mark mid new path h its is mark_is changes =
-    subst (λ (b : Bool). ChangesSet mid new n (set_index g (path_at g page n))
-    (stored_set (slots_at g mid.banks n (path_at g page n)) (path_at g page n) (new_line lines n) b)) mark_is
-    (subst₂ (λ (x : ℕ) (line : Line). ChangesSet mid new n (set_index g x) (stored_set (slots_at g mid.banks n x) x line mark))
-    (ap (λ (e : ℕ × Line). e.0) is ∙ position_of g page lines n d path h)
-    (ap (λ (e : ℕ × Line). e.1) (is ∙ get_or_default lines n d (0, zero_line) h))
-    (subst (λ (k : Shape). ChangesSet mid new n (set_index k entry.0)
-    (stored_set (slots_at k mid.banks n entry.0) entry.0 entry.1 mark)) its changes))
+level_stored g page persisted lines n entry d mark mid new path h its is mark_is changes = grind (arith, common_steps)
 
 -- the next position is cached still
 pub next_cached : (g : Shape) (page : ℕ) (persisted : Bool) (lines : List (ℕ × Line)) (n : ℕ) (entry d : ℕ × Line)
