@@ -28,7 +28,7 @@ use Rattle.meta_path.specs.Blocks.{path_at, slots_at, IsPathCached, AreInTheirBa
 use Rattle.meta_path.specs.Work.{risen_times, HasWorked, FetchState}
 use Rattle.meta_path.specs.Levels.{expected_digest, HasParent, room_write, level_write, level_reads, fetched_set, HasDirtyVictim, IsLevelFetched, IsLevelRead, IsLevelCut, IsLevelFault}
 use Rattle.meta_path.specs.Fetching.{absent_count, spilled, HasFetchedSets, AreLevelsChecked, IsFetchedTo, IsReadAt, IsCutAt, IsPathFault}
-use Rattle.meta_path.proofs.WorkLemmas.{HasWorked-none, HasWorked-then, risen_times-add}
+use Rattle.meta_path.proofs.WorkLemmas.{not_steady, HasWorked-none, HasWorked-then, risen_times-add}
 use Rattle.meta_path.proofs.PathFacts.{path_at-below, path_at-parent, Tells-before, AreSets, spilled-apart, holds-fetched_set}
 
 -- what a fetch of a page's path rests on
@@ -222,7 +222,7 @@ cut_at g f truth page n old mid new le before level =
       lines = level.lines ∙ before.work.lines;
       writes =
           subst (RisesBy (length (spilled g old.cache.banks page n)) old.device.writes) (sym level.writes) before.work.writes;
-      unsteady = not_steady (λ s. before.work.steady s) level.unsteady;
+      unsteady = not_steady before.work.steady level.unsteady;
       off = level.off;
       never_falls = omega (arith, level.never_falls, before.work.cuts);
       rose = subst (λ count. HasRisen count new.device.cuts) before.work.cuts level.rose;
@@ -234,13 +234,6 @@ cut_at g f truth page n old mid new le before level =
   where
     same : slots_at g mid.cache.banks n (path_at g page n) ≡ slots_at g old.cache.banks n (path_at g page n)
     same = same_later g truth page n old.cache mid.cache n (set_index g (path_at g page n)) before.cache (omega arith)
-
-    not_steady : {a b : Bool} → (a ≡ true → b ≡ true) → b ≡ false → a ≡ false
-    not_steady {a} {b} keeps unsteady = by a refl
-      where
-        by : (test : Bool) → a ≡ test → a ≡ false
-        by true is = absurd (both_ways b unsteady (keeps is))
-        by false is = is
 
 -- the fault of a level is the fault of the path
 pub IsPathFault-at : (g : Shape) (f : Formulas) (page n : ℕ) (old mid new : FetchState)

@@ -23,7 +23,7 @@ use Rattle.meta_cache.proofs.FormLemmas.{way_low, number_low}
 use Rattle.meta_path.specs.Blocks.{path_at, slots_at, number_in, IsPathCached}
 use Rattle.meta_path.specs.Work.{HasWorked}
 use Rattle.meta_path.specs.Naming.{path_number, is_slot_named, named_slot, naming_write, named_path, naming_writes, IsSlotNamed, IsSlotCut, ArePathEntries, IsNamedTo, IsNamingCut}
-use Rattle.meta_path.proofs.WorkLemmas.{HasWorked-none, HasWorked-written, HasWorked-then}
+use Rattle.meta_path.proofs.WorkLemmas.{not_steady, HasWorked-none, HasWorked-written, HasWorked-then}
 
 -- ---- one slot
 
@@ -62,88 +62,77 @@ on_err (Err e) P holds = holds
 
 -- ---- the path's slots, level by level
 
--- one entry more
-entries_more : (g : Shape) (banks : Banks) (page n : ℕ) (old mid new : List Line)
-    → ((j : ℕ) → j ≤ n → path_number g banks page j < slots g)
-    → ArePathEntries g banks page n old mid → Names g mid new n (path_number g banks page n) (path_at g page n)
-    → ArePathEntries g banks page (suc n) old new
-entries_more g banks page n old mid new low before names =
-    record {
-      named = λ j h. named j h (cases_eq j n);
-      others =
-          λ bank m h apart.
-          names.others bank m h
-          (λ e. apart (omega (arith, e.0), e.1 ∙ ap (path_number g banks page) (sym e.0)))
-          ∙ before.others bank m h (λ e. apart (omega (arith, e.0), e.1));
-    }
-  where
-    named : (j : ℕ) → j < suc n → (j ≡ n) ⊎ (j ≡ n → ⊥) → slot_entry g new j (path_number g banks page j) ≡ path_at g page j + 1
-    named j h (inl same) =
-        subst (λ k. slot_entry g new k (path_number g banks page k) ≡ path_at g page k + 1) (sym same) names.entry
-    named j h (inr other) =
-        names.others j (path_number g banks page j) (low j (omega arith)) (λ e. other e.0) ∙ before.named j (omega arith)
+module _ {g : Shape} {banks : Banks} {page n : ℕ} {old_mirror mid_mirror new_mirror : List Line} {old mid : Device}
+    (low : (j : ℕ) → j ≤ n → path_number g banks page j < slots g)
+    (before : IsNamedTo g banks page n old_mirror mid_mirror old mid)
+    (names : Names g mid_mirror new_mirror n (path_number g banks page n) (path_at g page n)) where
+  -- one entry more
+  entries_more : ArePathEntries g banks page (n + 1) old_mirror new_mirror
+  entries_more =
+      record {
+        named = λ j h.
+            elim (cases_eq j n) [
+              | inl same ↦
+                  subst (λ k. slot_entry g new_mirror k (path_number g banks page k) ≡ path_at g page k + 1) (sym same) names.entry
+              | inr other ↦
+                  names.others j (path_number g banks page j) (low j (omega arith)) (λ e. other e.0)
+                  ∙ before.entries.named j (omega arith)
+            ];
+        others =
+            λ bank m h apart.
+            names.others bank m h
+            (λ e. apart (omega (arith, e.0), e.1 ∙ ap (path_number g banks page) (sym e.0)))
+            ∙ before.entries.others bank m h (λ e. apart (omega (arith, e.0), e.1));
+      }
 
-pub IsNamedTo-more : (g : Shape) (banks : Banks) (page n : ℕ) (old_mirror mid_mirror new_mirror : List Line) (old mid new : Device)
-    → ((j : ℕ) → j ≤ n → path_number g banks page j < slots g)
-    → IsNamedTo g banks page n old_mirror mid_mirror old mid
-    → Names g mid_mirror new_mirror n (path_number g banks page n) (path_at g page n)
-    → IsSlotNamed g n (path_number g banks page n) (path_at g page n) mid_mirror new_mirror mid new
-    → IsNamedTo g banks page (suc n) old_mirror new_mirror old new
-IsNamedTo-more g banks page n old_mirror mid_mirror new_mirror old mid new low before names level =
-    record {
-      mirror =
-          level.mirror ∙ ap (λ shadow. named_slot g shadow n (path_number g banks page n) (path_at g page n)) before.mirror;
-      entries = entries_more g banks page n old_mirror mid_mirror new_mirror low before.entries names;
-      work =
-          subst (λ shadow. HasWorked 0
-          (naming_writes g banks page old_mirror n ++ naming_write g shadow n (path_number g banks page n) (path_at g page n))
-          old new) before.mirror
-          (HasWorked-then 0 0 (naming_writes g banks page old_mirror n)
-          (naming_write g mid_mirror n (path_number g banks page n) (path_at g page n)) old mid new before.work level.work);
-    }
+  mirror_more : new_mirror ≡ named_slot g mid_mirror n (path_number g banks page n) (path_at g page n)
+      → new_mirror ≡ named_path g banks page old_mirror (n + 1)
+  mirror_more is =
+      let next : suc n ≡ n + 1 = omega arith in
+      is ∙ ap (λ shadow. named_slot g shadow n (path_number g banks page n) (path_at g page n)) before.mirror
+      ∙ ap (named_path g banks page old_mirror) next
 
-pub IsNamingCut-at : (g : Shape) (banks : Banks) (page n : ℕ) (old_mirror mid_mirror new_mirror : List Line) (old mid new : Device)
-    → n ≤ g.levels → ((j : ℕ) → j ≤ n → path_number g banks page j < slots g)
-    → IsNamedTo g banks page n old_mirror mid_mirror old mid
-    → Names g mid_mirror new_mirror n (path_number g banks page n) (path_at g page n)
-    → IsSlotCut g n (path_number g banks page n) (path_at g page n) mid_mirror new_mirror mid new
-    → IsNamingCut g banks page old_mirror new_mirror old new
-IsNamingCut-at g banks page n old_mirror mid_mirror new_mirror old mid new le low before names cut =
-    record {
-      n = n;
-      on_path = le;
-      mirror =
-          cut.mirror ∙ ap (λ shadow. named_slot g shadow n (path_number g banks page n) (path_at g page n)) before.mirror
-          ∙ ap (named_path g banks page old_mirror) next;
-      entries =
-          subst (λ k. ArePathEntries g banks page k old_mirror new_mirror) next
-          (entries_more g banks page n old_mirror mid_mirror new_mirror low before.entries names);
-      unnamed = λ e.
-          both_ways (is_slot_named g mid_mirror n (path_number g banks page n) (path_at g page n)) cut.unnamed
-          (eq-eqb (slot_entry g mid_mirror n (path_number g banks page n)) (path_at g page n + 1)
-          (before.entries.others n (path_number g banks page n) (low n (omega arith)) (λ h. omega (arith, h.0)) ∙ e));
-      lines = cut.lines ∙ before.work.lines;
-      writes =
-          subst (RisesBy (length (naming_writes g banks page old_mirror n)) old.writes) (sym cut.writes) before.work.writes;
-      unsteady = not_steady (λ s. before.work.steady s) cut.unsteady;
-      off = cut.off;
-      never_falls = omega (arith, cut.never_falls, before.work.cuts);
-      rose = subst (λ count. HasRisen count new.cuts) before.work.cuts cut.rose;
-      size = cut.size ∙ before.work.size;
-      regs = cut.regs ∙ before.work.regs;
-      reads = cut.reads ∙ before.work.no_read refl;
-      latches = cut.latches ∙ before.work.latches;
-    }
-  where
-    next : suc n ≡ n + 1
-    next = omega arith
+  pub IsNamedTo-more : {new : Device} → IsSlotNamed g n (path_number g banks page n) (path_at g page n) mid_mirror new_mirror mid new
+      → IsNamedTo g banks page (n + 1) old_mirror new_mirror old new
+  IsNamedTo-more {new} level =
+      let next : suc n ≡ n + 1 = omega arith in
+      record {
+        mirror = mirror_more level.mirror;
+        entries = entries_more;
+        work =
+            subst (λ k. HasWorked 0 (naming_writes g banks page old_mirror k) old new) next
+            (subst (λ shadow. HasWorked 0
+            (naming_writes g banks page old_mirror n ++ naming_write g shadow n (path_number g banks page n) (path_at g page n))
+            old new) before.mirror
+            (HasWorked-then 0 0 (naming_writes g banks page old_mirror n)
+            (naming_write g mid_mirror n (path_number g banks page n) (path_at g page n)) old mid new before.work level.work));
+      }
 
-    not_steady : {a b : Bool} → (a ≡ true → b ≡ true) → b ≡ false → a ≡ false
-    not_steady {a} {b} keeps unsteady = by a refl
-      where
-        by : (test : Bool) → a ≡ test → a ≡ false
-        by true is = absurd (both_ways b unsteady (keeps is))
-        by false is = is
+  pub IsNamingCut-at : {new : Device} → n ≤ g.levels
+      → IsSlotCut g n (path_number g banks page n) (path_at g page n) mid_mirror new_mirror mid new
+      → IsNamingCut g banks page old_mirror new_mirror old new
+  IsNamingCut-at {new} le cut =
+      record {
+        n = n;
+        on_path = le;
+        mirror = mirror_more cut.mirror;
+        entries = entries_more;
+        unnamed = λ e.
+            both_ways (is_slot_named g mid_mirror n (path_number g banks page n) (path_at g page n)) cut.unnamed
+            (eq-eqb (slot_entry g mid_mirror n (path_number g banks page n)) (path_at g page n + 1)
+            (before.entries.others n (path_number g banks page n) (low n (omega arith)) (λ h. omega (arith, h.0)) ∙ e));
+        lines = cut.lines ∙ before.work.lines;
+        writes =
+            subst (RisesBy (length (naming_writes g banks page old_mirror n)) old.writes) (sym cut.writes) before.work.writes;
+        unsteady = not_steady before.work.steady cut.unsteady;
+        off = cut.off;
+        never_falls = omega (arith, cut.never_falls, before.work.cuts);
+        rose = subst (λ count. HasRisen count new.cuts) before.work.cuts cut.rose;
+        size = cut.size ∙ before.work.size;
+        regs = cut.regs ∙ before.work.regs;
+        reads = cut.reads ∙ before.work.no_read refl;
+        latches = cut.latches ∙ before.work.latches;
+      }
 
 -- at most one write a level
 pub length-naming_writes : (g : Shape) (banks : Banks) (page : ℕ) (shadow : List Line) (n : ℕ)

@@ -1,6 +1,7 @@
 -- Reads, line writes and digests, one call after another.
 use Rattle.std.proofs.Common.{rules}
-use Rattle.std.proofs.Common.{◌≡◌, ℕ, zero, suc, ◌+◌, List, [], ◌∷◌, ◌++◌, length, refl, sym, ap, subst, ◌∙◌, arith, Option, Some, None}
+use Rattle.std.proofs.Common.{inl, inr, ◌≡◌, ℕ, zero, suc, ◌+◌, Bool, true, false, List, [], ◌∷◌, ◌++◌, length, refl, sym, ap, subst, ◌∙◌, arith, Option, Some, None}
+use Rattle.std.proofs.lemmas.Bool.{cases_Bool, both_ways}
 use Rattle.std.proofs.lemmas.List.{length-append}
 use Rattle.pmem_base.specs.declared.lines.Line.{Line}
 use Rattle.pmem_base.specs.Counts.{risen}
@@ -60,3 +61,8 @@ risen_times-add m zero count = let none : m + 0 ≡ m = omega arith in ap (λ k.
 risen_times-add m (suc n) count =
     let more : m + suc n ≡ suc (m + n) = omega arith in
     ap (λ k. risen_times k count) more ∙ ap risen (risen_times-add m n count)
+
+-- power that isn't steady now was not steady before
+pub not_steady : {a b : Bool} → (a ≡ true → b ≡ true) → b ≡ false → a ≡ false
+not_steady {a} {b} keeps unsteady =
+    elim (cases_Bool a) [ | inl is ↦ absurd (both_ways b unsteady (keeps is)) | inr is ↦ is ]
