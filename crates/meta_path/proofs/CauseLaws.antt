@@ -25,11 +25,11 @@ use Rattle.meta_cache.specs.Sets.{holds, slot_with, touched, placed, victim_of, 
 use Rattle.meta_cache.specs.State.{CacheState, IsCacheOf}
 use Rattle.meta_path.specs.declared.faults.PathFault.{PathFault}
 use Rattle.meta_path.specs.declared.faults.PathFault.TheVariants as Fault
-use Rattle.meta_path.specs.Blocks.{path_at, slots_at, line_in, dirty_in, sum_below, dirty_in_bank, dirty_count, IsOfItsBank, AreInTheirBanks, AreCachedTrue, IsPathCached}
+use Rattle.meta_path.specs.Blocks.{path_at, slots_at, line_in, dirty_in, sum_below, bank_dirty_count, dirty_count, IsOfItsBank, AreInTheirBanks, AreCachedTrue, IsPathCached}
 use Rattle.meta_path.specs.Work.{risen_times, told_line, FetchState}
 use Rattle.meta_path.specs.Levels.{expected_digest, HasParent, IsLevelFault}
 use Rattle.meta_path.specs.Fetching.{absent_count, spilled, IsFetchedTo, IsReadAt, IsCutAt, IsPathFault}
-use Rattle.meta_path.specs.Keeping.{HasComeIn, HasGivenWay, WasWrittenBack, KeepsBlocks, IsUndisturbed, IsTrueTree, HasFalseDigest, HasCause}
+use Rattle.meta_path.specs.Keeping.{HasComeIn, HasGivenWay, WasWrittenBack, KeepsBlocks, IsUndisturbed, IsTrueTree, HasFalseDigest, IsFaultCaused}
 use Rattle.meta_path.proofs.SetFacts.{touched_contains, contains_touched, placed_contains, contains_placed, placed_gone, victim_contained}
 use Rattle.meta_path.proofs.PathFacts.{path_at-level, path_at-lt, its_bank_of, AreSets}
 use Rattle.meta_path.proofs.FetchLemmas.{IsFetchOf, same_later, HasParent-at, IsPathFault-at, cached_no_fault}
@@ -72,7 +72,7 @@ dirty_count-slot g banks bank set slot low within found dirty =
       arith,
       dirty_in-slot (set_of banks bank set) slot found dirty,
       at_least (λ s. dirty_in (set_of banks bank s)) g.sets set within,
-      at_least (dirty_in_bank g banks) (g.levels + 1) bank (omega arith),
+      at_least (bank_dirty_count g banks) (g.levels + 1) bank (omega arith),
     )
 
 -- after a cut of a live board
@@ -118,12 +118,12 @@ expected_digest-true g f truth root banks page (suc above) inside le parent_here
     (path_at-lt g page (suc above) inside le)
 
 -- so a refused line has another digest than the true one, and a shown one has its digest
-pub HasCause-fault : (g : Shape) (f : Formulas) (page : ℕ) (old new : FetchState) (old_ledger new_ledger : LedgerState)
+pub IsFaultCaused-fault : (g : Shape) (f : Formulas) (page : ℕ) (old new : FetchState) (old_ledger new_ledger : LedgerState)
     (fault : PathFault) → page < pages g → IsRight g f old_ledger.truth old.device.regs.root new.cache.banks
     → IsPathFault g f page old new old_ledger new_ledger fault
-    → HasCause g f new.device.lines old_ledger new_ledger fault
-HasCause-fault g f page old new old_ledger new_ledger Fault.Cut inside right h = tt
-HasCause-fault g f page old new old_ledger new_ledger (Fault.Meta x) inside right h =
+    → IsFaultCaused g f new.device.lines old_ledger new_ledger fault
+IsFaultCaused-fault g f page old new old_ledger new_ledger Fault.Cut inside right h = tt
+IsFaultCaused-fault g f page old new old_ledger new_ledger (Fault.Meta x) inside right h =
     subst (λ y. HasFalseDigest g f old_ledger.truth y new.device.lines) (sym h.0.position)
     (record {
       line = h.0.line;
@@ -135,7 +135,7 @@ HasCause-fault g f page old new old_ledger new_ledger (Fault.Meta x) inside righ
           (e ∙ sym (expected_digest-true g f old_ledger.truth old.device.regs.root new.cache.banks page h.0.n inside h.0.read.on_path
           (HasParent-at g old_ledger.truth page h.0.n old.cache new.cache inside h.0.read.on_path h.0.read.cache) right));
     })
-HasCause-fault g f page old new old_ledger new_ledger Fault.Shown inside right h =
+IsFaultCaused-fault g f page old new old_ledger new_ledger Fault.Shown inside right h =
     record {
       x = path_at g page h.n;
       line = h.line;

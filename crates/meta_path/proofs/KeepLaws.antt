@@ -25,11 +25,11 @@ use Rattle.meta_cache.specs.Sets.{holds, slot_with, touched, placed, victim_of, 
 use Rattle.meta_cache.specs.State.{CacheState, IsCacheOf}
 use Rattle.meta_path.specs.declared.faults.PathFault.{PathFault}
 use Rattle.meta_path.specs.declared.faults.PathFault.TheVariants as Fault
-use Rattle.meta_path.specs.Blocks.{path_at, slots_at, line_in, dirty_in, sum_below, dirty_in_bank, dirty_count, IsOfItsBank, AreInTheirBanks, AreCachedTrue, IsPathCached}
+use Rattle.meta_path.specs.Blocks.{path_at, slots_at, line_in, dirty_in, sum_below, bank_dirty_count, dirty_count, IsOfItsBank, AreInTheirBanks, AreCachedTrue, IsPathCached}
 use Rattle.meta_path.specs.Work.{risen_times, told_line, FetchState}
 use Rattle.meta_path.specs.Levels.{expected_digest, HasParent, IsLevelFault}
 use Rattle.meta_path.specs.Fetching.{absent_count, spilled, IsFetchedTo, IsReadAt, IsCutAt, IsPathFault}
-use Rattle.meta_path.specs.Keeping.{HasComeIn, HasGivenWay, WasWrittenBack, KeepsBlocks, IsUndisturbed, IsTrueTree, HasFalseDigest, HasCause}
+use Rattle.meta_path.specs.Keeping.{HasComeIn, HasGivenWay, WasWrittenBack, KeepsBlocks, IsUndisturbed, IsTrueTree, HasFalseDigest, IsFaultCaused}
 use Rattle.meta_path.proofs.SetFacts.{touched_contains, contains_touched, placed_contains, contains_placed, placed_gone, victim_contained}
 use Rattle.meta_path.proofs.PathFacts.{path_at-level, path_at-lt, its_bank_of, AreSets}
 use Rattle.meta_path.proofs.FetchLemmas.{IsFetchOf, same_later, HasParent-at, IsPathFault-at, cached_no_fault}

@@ -25,17 +25,17 @@ use Rattle.meta_cache.specs.Sets.{holds, slot_with, touched, placed, victim_of, 
 use Rattle.meta_cache.specs.State.{CacheState, IsCacheOf}
 use Rattle.meta_path.specs.declared.faults.PathFault.{PathFault}
 use Rattle.meta_path.specs.declared.faults.PathFault.TheVariants as Fault
-use Rattle.meta_path.specs.Blocks.{path_at, slots_at, line_in, dirty_in, sum_below, dirty_in_bank, dirty_count, IsOfItsBank, AreInTheirBanks, AreCachedTrue, IsPathCached}
+use Rattle.meta_path.specs.Blocks.{path_at, slots_at, line_in, dirty_in, sum_below, bank_dirty_count, dirty_count, IsOfItsBank, AreInTheirBanks, AreCachedTrue, IsPathCached}
 use Rattle.meta_path.specs.Work.{risen_times, told_line, FetchState}
 use Rattle.meta_path.specs.Levels.{IsLevelFetched, IsLevelFault}
 use Rattle.meta_path.specs.Fetching.{absent_count, spilled, IsFetchedTo, IsReadAt, IsCutAt, IsPathFault}
-use Rattle.meta_path.specs.Keeping.{HasComeIn, HasGivenWay, WasWrittenBack, KeepsBlocks, IsUndisturbed, IsTrueTree, HasFalseDigest, HasCause}
+use Rattle.meta_path.specs.Keeping.{HasComeIn, HasGivenWay, WasWrittenBack, KeepsBlocks, IsUndisturbed, IsTrueTree, HasFalseDigest, IsFaultCaused}
 use Rattle.meta_path.proofs.SetFacts.{touched_contains, contains_touched, placed_contains, contains_placed, placed_gone, victim_contained}
 use Rattle.meta_path.proofs.PathFacts.{path_at-level, path_at-lt, its_bank_of, AreSets}
 use Rattle.meta_path.proofs.FetchLemmas.{IsFetchOf, IsFetchedTo-more, IsPathFault-at, cached_no_fault}
 use Rattle.meta_path.proofs.KeepLemmas.{IsPart, IsPathSet, IsSpilledAt, path_set_or_not, used_or_placed, spilled_told, spilled_or_kept_told, length-spilled, absent_count-le, absent_count-more, absent_count-cached, dirty_count-fetched}
 use Rattle.meta_path.proofs.KeepLaws.{in_their_banks, KeepsBlocks-part}
-use Rattle.meta_path.proofs.CauseLaws.{cut_dirty, HasCause-fault}
+use Rattle.meta_path.proofs.CauseLaws.{cut_dirty, IsFaultCaused-fault}
 
 -- what a fetch starts from
 pub record IsStart (g : Shape) (page : ℕ) (old : FetchState) : Type 0 where
@@ -116,7 +116,7 @@ module _ {g : Shape} {f : Formulas} {page n : ℕ} {old mid : FetchState} {old_l
   fetched_next {new} le level =
       let next : suc n ≡ n + 1 = omega arith in
       subst (λ k. IsFetchedTo g f old_ledger.truth page k old new) next
-      (IsFetchedTo-more g f old_ledger.truth page n old mid new (fetch_of run.start) le run.fetched level)
+      (IsFetchedTo-more run.fetched level (fetch_of run.start) le)
 
 module _ {g : Shape} {f : Formulas} {page n : ℕ} {old mid new : FetchState} {old_ledger mid_ledger new_ledger : LedgerState}
     {fault : PathFault} (end : IsEnded g f page n old mid new old_ledger mid_ledger new_ledger fault) where
@@ -129,9 +129,9 @@ module _ {g : Shape} {f : Formulas} {page n : ℕ} {old mid new : FetchState} {o
   keeps_of_end = keeps_of_fault end.run.start f new old_ledger new_ledger fault fault_of_end
 
   pub cause_of_end : AreInRange f → All IsLine old_ledger.truth → IsTrueTree g f old_ledger.truth old.device.regs.root
-      → AreCachedTrue old.cache.banks old_ledger.truth → HasCause g f new.device.lines old_ledger new_ledger fault
+      → AreCachedTrue old.cache.banks old_ledger.truth → IsFaultCaused g f new.device.lines old_ledger new_ledger fault
   cause_of_end in_range whole tree is_true =
-      HasCause-fault g f page old new old_ledger new_ledger fault end.run.start.its_page
+      IsFaultCaused-fault g f page old new old_ledger new_ledger fault end.run.start.its_page
       (record { in_range = in_range; tree = tree; whole = whole; is_true = keeps_of_end.cached_true is_true })
       fault_of_end
 

@@ -31,11 +31,11 @@ only_one y x (zero, within, is) = is
 only_one y x (suc k, within, is) = absurd (omega arith)
 
 pub contains_cases : {X : Type 0} (y : X) (xs : List X) (x : X) → Contains (y ∷ xs) x → (y ≡ x) ⊎ Contains xs x
-contains_cases y xs x found = by (Contains-append_cases (y ∷ []) xs x found)
-  where
-    by : Contains (y ∷ []) x ⊎ Contains xs x → (y ≡ x) ⊎ Contains xs x
-    by (inl first) = inl (only_one y x first)
-    by (inr later) = inr later
+contains_cases y xs x found =
+    elim (Contains-append_cases (y ∷ []) xs x found) [
+      | inl first ↦ inl (only_one y x first)
+      | inr later ↦ inr later
+    ]
 
 pub contains_none : {X : Type 0} (x : X) → Contains [] x → ⊥
 contains_none x (k, within, is) = omega arith
@@ -92,6 +92,26 @@ map_contains {X = X} f (x ∷ xs) y found =
     by_place (inr later) rest =
         let found : (z : X) × Contains xs z × (f z ≡ y) = rest later in
         (found.0, contains_later x xs found.0 found.1, found.2)
+
+-- where each slot of a set became one that R holds of, each slot now is from one before, and each one before is there
+module _ (R : ℕ → Slot → Slot → Type 0) (old new : ℕ → ℕ → List Slot)
+    (each : (bank set : ℕ) → (f : Slot → Slot) × (new bank set ≡ map f (old bank set))
+    × ((slot : Slot) → Contains (old bank set) slot → R bank slot (f slot))) where
+  pub slots_from : (bank set : ℕ) (now : Slot) → Contains (new bank set) now
+      → (before : Slot) × Contains (old bank set) before × R bank before now
+  slots_from bank set now found =
+      let here = each bank set in
+      let from = map_contains here.0 (old bank set) now (subst (λ slots. Contains slots now) here.1 found) in
+      (from.0, from.1, subst (R bank from.0) from.2 (here.2 from.0 from.1))
+
+  pub slots_to : (bank set : ℕ) (before : Slot) → Contains (old bank set) before
+      → (now : Slot) × Contains (new bank set) now × R bank before now
+  slots_to bank set before found =
+      let here = each bank set in (
+        here.0 before,
+        subst (λ slots. Contains slots (here.0 before)) (sym here.1) (contains_map here.0 (old bank set) before found),
+        here.2 before found,
+      )
 
 pub pairs_tail : {X : Type 0} (R : X → X → Type 0) (x : X) (xs : List X) → AllPairs R (x ∷ xs) → AllPairs R xs
 pairs_tail R x xs pairs = λ i j d less h. pairs (suc i) (suc j) d (omega arith) (omega arith)
@@ -163,36 +183,35 @@ pub record IsFull (ways : ℕ) (slots : List Slot) (front : List Slot) (victim :
 
 pub victim_last : (ways : ℕ) (slots : List Slot) (victim : Slot) → length slots ≤ ways
     → victim_of ways slots ≡ Some victim → IsFull ways slots (take (ways - 1) slots) victim
-victim_last ways slots victim room some = by_length (cases_lt (length slots) ways)
-  where
-    by_length : (length slots < ways) ⊎ (ways ≤ length slots) → IsFull ways slots (take (ways - 1) slots) victim
-    by_length (inl less) =
-        absurd (none-some victim (sym (cond-true (nat_lt (length slots) ways) None (slice_get slots (ways - 1)) (lt-ltb (length slots) ways less)) ∙ some))
-    by_length (inr full) =
-        let last : slice_get slots (ways - 1) ≡ Some victim =
-        sym (cond-false (nat_lt (length slots) ways) None (slice_get slots (ways - 1)) (le-ltb (length slots) ways full)) ∙ some in
-        let within : ways - 1 < length slots = slice_get_within slots (ways - 1) victim last in
-        let front : length (take (ways - 1) slots) ≡ ways - 1 = length-take-le (ways - 1) slots (omega arith) in
-        let back : drop (ways - 1) slots ≡ victim ∷ [] =
-        drop_more slots (ways - 1) victim within
-        ∙ ap₂ (λ s rest. s ∷ rest) (get_or_from_slice_get slots (ways - 1) victim victim last) (drop_all (ways - 1 + 1) slots (omega arith)) in
-        record {
-          split = sym (take-append-drop (ways - 1) slots) ∙ ap (λ rest. take (ways - 1) slots ++ rest) back;
-          long = omega arith;
-        }
+victim_last ways slots victim room some =
+    elim (cases_lt (length slots) ways) [
+      | inl less ↦
+          absurd (none-some victim (sym (cond-true (nat_lt (length slots) ways) None (slice_get slots (ways - 1)) (lt-ltb (length slots) ways less)) ∙ some))
+      | inr full ↦
+          let last : slice_get slots (ways - 1) ≡ Some victim =
+          sym (cond-false (nat_lt (length slots) ways) None (slice_get slots (ways - 1)) (le-ltb (length slots) ways full)) ∙ some in
+          let within : ways - 1 < length slots = slice_get_within slots (ways - 1) victim last in
+          let front : length (take (ways - 1) slots) ≡ ways - 1 = length-take-le (ways - 1) slots (omega arith) in
+          let back : drop (ways - 1) slots ≡ victim ∷ [] =
+          drop_more slots (ways - 1) victim within
+          ∙ ap₂ (λ s rest. s ∷ rest) (get_or_from_slice_get slots (ways - 1) victim victim last) (drop_all (ways - 1 + 1) slots (omega arith)) in
+          record {
+            split = sym (take-append-drop (ways - 1) slots) ∙ ap (λ rest. take (ways - 1) slots ++ rest) back;
+            long = omega arith;
+          }
+    ]
 
 -- the others of a set where none gives way
 pub no_victim : (ways : ℕ) (slots : List Slot) → 1 ≤ ways → victim_of ways slots ≡ None
     → (length slots < ways) × (without_victim ways slots ≡ slots)
-no_victim ways slots some none = by_length (cases_lt (length slots) ways)
-  where
-    by_length : (length slots < ways) ⊎ (ways ≤ length slots)
-        → (length slots < ways) × (without_victim ways slots ≡ slots)
-    by_length (inl less) = (less, cond-true (nat_lt (length slots) ways) slots (take (ways - 1) slots) (lt-ltb (length slots) ways less))
-    by_length (inr full) =
-        absurd (none-some (get_or slots (ways - 1) blank)
-        (sym none ∙ cond-false (nat_lt (length slots) ways) None (slice_get slots (ways - 1)) (le-ltb (length slots) ways full)
-        ∙ slice_get-get_or slots (ways - 1) blank (omega arith)))
+no_victim ways slots some none =
+    elim (cases_lt (length slots) ways) [
+      | inl less ↦ (less, cond-true (nat_lt (length slots) ways) slots (take (ways - 1) slots) (lt-ltb (length slots) ways less))
+      | inr full ↦
+          absurd (none-some (get_or slots (ways - 1) blank)
+          (sym none ∙ cond-false (nat_lt (length slots) ways) None (slice_get slots (ways - 1)) (le-ltb (length slots) ways full)
+          ∙ slice_get-get_or slots (ways - 1) blank (omega arith)))
+    ]
 
 -- a full set, seen from its parts
 full_long : (ways : ℕ) (front : List Slot) (victim : Slot) → length front + 1 ≡ ways
