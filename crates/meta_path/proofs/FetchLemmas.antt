@@ -1,9 +1,7 @@
 -- A path is fetched level by level.
-use Rattle.std.proofs.Common.{rules}
-use Rattle.std.proofs.Common.{◌≡◌, ℕ, zero, suc, ◌+◌, ◌<◌, ◌≤◌, Bool, true, false, cond, List, [], ◌++◌, length, refl, sym, ap, ap₂, subst, subst₂, ◌∙◌, ◌⊎◌, inl, inr, arith}
+use Rattle.std.proofs.Common.{rules, ◌≡◌, ℕ, zero, suc, ◌+◌, ◌<◌, ◌≤◌, true, false, cond, List, [], ◌++◌, length, refl, sym, ap, subst, subst₂, ◌∙◌, inl, inr, arith}
 use Rattle.std.specs.Prelude.{option_map, unwrap_or}
 use Rattle.std.proofs.lemmas.Bool.{cases_eq, both_ways}
-use Rattle.std.proofs.lemmas.List.{append-nil}
 use Rattle.pmem_base.specs.declared.lines.Line.{Line}
 use Rattle.pmem_base.specs.declared.answers.Exhibit.TheVariants.{Clash}
 use Rattle.pmem_base.specs.Counts.{HasRisen}
@@ -20,7 +18,7 @@ use Rattle.bonsai_tree.specs.Positions.{parent, child_slot}
 use Rattle.bonsai_tree.specs.Nodes.{child_digest}
 use Rattle.meta_cache.specs.declared.slot.Slot.{Slot}
 use Rattle.meta_cache.specs.Banks.{Banks, set_of, set_index, is_cached}
-use Rattle.meta_cache.specs.Sets.{holds, slot_with, touched, placed}
+use Rattle.meta_cache.specs.Sets.{holds, slot_with}
 use Rattle.meta_cache.specs.State.{CacheState}
 use Rattle.meta_path.specs.declared.faults.PathFault.{PathFault}
 use Rattle.meta_path.specs.declared.faults.PathFault.TheVariants as Fault
@@ -28,7 +26,7 @@ use Rattle.meta_path.specs.Blocks.{path_at, slots_at, IsPathCached, AreInTheirBa
 use Rattle.meta_path.specs.Work.{risen_times, HasWorked, FetchState}
 use Rattle.meta_path.specs.Levels.{expected_digest, HasParent, room_write, level_write, level_reads, fetched_set, HasDirtyVictim, IsLevelFetched, IsLevelRead, IsLevelCut, IsLevelFault}
 use Rattle.meta_path.specs.Fetching.{absent_count, spilled, HasFetchedSets, AreLevelsChecked, IsFetchedTo, IsReadAt, IsCutAt, IsPathFault}
-use Rattle.meta_path.proofs.WorkLemmas.{not_steady, HasWorked-none, HasWorked-then, risen_times-add}
+use Rattle.meta_path.proofs.WorkLemmas.{not_steady, HasWorked-then, risen_times-add}
 use Rattle.meta_path.proofs.PathFacts.{path_at-below, path_at-parent, Tells-before, AreSets, spilled-apart, holds-fetched_set}
 
 -- what a fetch of a page's path rests on

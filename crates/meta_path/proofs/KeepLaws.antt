@@ -1,39 +1,26 @@
 -- What a fetch keeps, whatever it answers.
-use Rattle.std.proofs.Common.{rules}
-use Rattle.std.proofs.Common.{◌≡◌, ℕ, zero, suc, ◌+◌, ◌-◌, ◌<◌, ◌≤◌, Bool, true, false, cond, List, [], ◌∷◌, length, get_or, refl, sym, ap, subst, ◌∙◌, ◌⊎◌, inl, inr, arith, mod-lt, Option, Some, None, Result, Ok, Err}
-use Rattle.std.specs.Prelude.{◌==◌, ◌||◌, option_map, unwrap_or, All, Contains, IsSomeAnd, IfErr, IsErrAnd}
-use Rattle.std.proofs.lemmas.Bool.{cases_eq, cases_Bool, cond-true, cond-false, eqb-true, false≢true}
-use Rattle.std.proofs.lemmas.List.Sums.{sum_by-cons}
+use Rattle.std.proofs.Common.{◌≡◌, ℕ, ◌+◌, ◌-◌, ◌<◌, true, false, cond, List, [], ◌∷◌, get_or, refl, sym, ap, subst, ◌∙◌, ◌⊎◌, inl, inr, arith, Some}
+use Rattle.std.specs.Prelude.{◌==◌, ◌||◌, option_map, unwrap_or, All, Contains}
+use Rattle.std.proofs.lemmas.Bool.{cases_Bool, cond-false, eqb-true, false≢true}
 use Rattle.std.proofs.lemmas.List.Elements.{All-contains, All-contains_itself, All-head, All-tail}
 use Rattle.pmem_base.specs.declared.lines.Line.{Line}
-use Rattle.pmem_base.specs.Shape.{Shape, HasLevels, HasSets, HasWays}
-use Rattle.pmem_base.specs.Layout.{pages, meta_lines, meta_line, device_lines}
-use Rattle.pmem_base.specs.Lines.{IsLine, line_at, zero_line}
-use Rattle.suite.specs.Formulas.{Formulas, AreInRange}
-use Rattle.board.specs.Device.{Device, AreToldLines, IsDevice}
+use Rattle.pmem_base.specs.Shape.{Shape}
+use Rattle.pmem_base.specs.Layout.{meta_lines, meta_line}
+use Rattle.pmem_base.specs.Lines.{line_at, zero_line}
+use Rattle.board.specs.Device.{Device, AreToldLines}
 use Rattle.board.specs.Steps.{Tells}
-use Rattle.seal_ledger.specs.Ledger.{LedgerState}
-use Rattle.commit_regs.specs.Groups.{redone_told}
-use Rattle.commit_regs.proofs.GroupLemmas.{redone-nil}
-use Rattle.bonsai_tree.specs.Positions.{parent, child_slot, level_of}
-use Rattle.bonsai_tree.specs.Nodes.{child_digest}
-use Rattle.bonsai_tree.proofs.PathPositions.{path_of-top}
-use Rattle.bonsai_tree.proofs.Trees.{IsHashTree-child}
+use Rattle.bonsai_tree.specs.Positions.{level_of}
 use Rattle.meta_cache.specs.declared.slot.Slot.{Slot}
 use Rattle.meta_cache.specs.Banks.{Banks, set_of, set_index, is_cached}
-use Rattle.meta_cache.specs.Sets.{holds, slot_with, touched, placed, victim_of, next_way, IsSetOf}
-use Rattle.meta_cache.specs.State.{CacheState, IsCacheOf}
-use Rattle.meta_path.specs.declared.faults.PathFault.{PathFault}
-use Rattle.meta_path.specs.declared.faults.PathFault.TheVariants as Fault
-use Rattle.meta_path.specs.Blocks.{path_at, slots_at, line_in, dirty_in, sum_below, bank_dirty_count, dirty_count, IsOfItsBank, AreInTheirBanks, AreCachedTrue, IsPathCached}
-use Rattle.meta_path.specs.Work.{risen_times, told_line, FetchState}
-use Rattle.meta_path.specs.Levels.{expected_digest, HasParent, IsLevelFault}
-use Rattle.meta_path.specs.Fetching.{absent_count, spilled, IsFetchedTo, IsReadAt, IsCutAt, IsPathFault}
-use Rattle.meta_path.specs.Keeping.{HasComeIn, HasGivenWay, WasWrittenBack, KeepsBlocks, IsUndisturbed, IsTrueTree, HasFalseDigest, IsFaultCaused}
+use Rattle.meta_cache.specs.Sets.{holds, slot_with, placed, victim_of}
+use Rattle.meta_cache.specs.State.{CacheState}
+use Rattle.meta_path.specs.Blocks.{path_at, slots_at, line_in, IsOfItsBank, AreInTheirBanks, AreCachedTrue}
+use Rattle.meta_path.specs.Work.{told_line}
+use Rattle.meta_path.specs.Fetching.{absent_count, spilled}
+use Rattle.meta_path.specs.Keeping.{HasComeIn, HasGivenWay, WasWrittenBack, KeepsBlocks}
 use Rattle.meta_path.proofs.SetFacts.{touched_contains, contains_touched, placed_contains, contains_placed, placed_gone, victim_contained}
-use Rattle.meta_path.proofs.PathFacts.{path_at-level, path_at-lt, its_bank_of, AreSets}
-use Rattle.meta_path.proofs.FetchLemmas.{IsFetchOf, same_later, HasParent-at, IsPathFault-at, cached_no_fault}
-use Rattle.meta_path.proofs.KeepLemmas.{IsPart, IsPathSet, IsSpilledAt, path_set_or_not, used_or_placed, spilled_told, spilled_or_kept_told, length-spilled, absent_count-le, absent_count-more, absent_count-cached, dirty_count-fetched}
+use Rattle.meta_path.proofs.PathFacts.{path_at-level, path_at-lt, its_bank_of}
+use Rattle.meta_path.proofs.KeepLemmas.{IsPart, IsPathSet, IsSpilledAt, path_set_or_not, used_or_placed, spilled_told, spilled_or_kept_told, length-spilled, absent_count-le, absent_count-more, dirty_count-fetched}
 
 -- what holds of each slot of a set holds of all
 pub all_of : {X : Type 0} (P : X → Type 0) (xs : List X) → ((x : X) → Contains xs x → P x) → All P xs

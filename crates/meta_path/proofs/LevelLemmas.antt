@@ -1,8 +1,7 @@
 -- One level fetched: the read, the room, and the place.
-use Rattle.std.proofs.Common.{rules}
-use Rattle.std.proofs.Common.{◌≡◌, ℕ, ◌≤◌, Bool, true, false, cond, List, [], ◌∷◌, refl, sym, ap, ap₂, subst, subst₂, ◌∙◌, ◌⊎◌, inl, inr, arith, Option, Some, None, Result, Ok, Err}
+use Rattle.std.proofs.Common.{rules, ◌≡◌, ℕ, ◌≤◌, Bool, true, false, cond, List, [], ◌∷◌, refl, sym, ap, ap₂, subst, subst₂, ◌∙◌, ◌⊎◌, inl, inr, Option, Some, None, Result, Ok, Err}
 use Rattle.std.specs.Prelude.{IfSome, IfErr, IsErrAnd, option_map, unwrap_or}
-use Rattle.std.proofs.lemmas.Bool.{cases_Bool, cond-true, cond-false, false≢true}
+use Rattle.std.proofs.lemmas.Bool.{cases_Bool, cond-true, cond-false}
 use Rattle.std.proofs.lemmas.Option.{none-some, same_Some}
 use Rattle.std.proofs.lemmas.List.Elements.{All-contains}
 use Rattle.pmem_base.specs.declared.lines.Line.{Line}
@@ -25,7 +24,7 @@ use Rattle.meta_path.specs.Work.{risen_times, HasWorked, FetchState}
 use Rattle.meta_path.specs.Levels.{expected_digest, dirty_position, victim_write, room_write, without_dirty, HasRoomMade, IsLevelFetched, IsLevelRead, IsLevelCut}
 use Rattle.meta_path.specs.Storing.{IsCleaned}
 use Rattle.meta_path.proofs.SetFacts.{holds_slot, victim_contained, slot_with-victim, placed-without_dirty, clean_victim, holds-without_dirty}
-use Rattle.meta_path.proofs.WorkLemmas.{RisesBy-none, HasWorked-written, HasWorked-then}
+use Rattle.meta_path.proofs.WorkLemmas.{HasWorked-written, HasWorked-then}
 
 -- an answer that turns a cut into the fault has what the fault says
 pub fault_of_cut : {X : Type 0} (answer : Result X PathFault) (P : PathFault → Type 0)

@@ -1,8 +1,7 @@
 -- Blocks of a path are named, level by level.
-use Rattle.std.proofs.Common.{rules}
-use Rattle.std.proofs.Common.{◌≡◌, ℕ, zero, suc, ◌+◌, ◌<◌, ◌≤◌, Bool, true, false, cond, List, [], ◌∷◌, ◌++◌, length, refl, sym, ap, ap₂, subst, ◌∙◌, ◌⊎◌, inl, inr, arith, mod-lt, Option, Some, None, Result, Ok, Err}
+use Rattle.std.proofs.Common.{rules, ◌≡◌, ℕ, zero, suc, ◌+◌, ◌<◌, ◌≤◌, Bool, true, false, cond, List, [], ◌∷◌, ◌++◌, length, refl, sym, ap, subst, ◌∙◌, inl, inr, arith, mod-lt, Option, Some, None, Result, Ok, Err}
 use Rattle.std.specs.Prelude.{◌↔◌, IsNone, OnErr, option_map, unwrap_or, is_some}
-use Rattle.std.proofs.lemmas.Bool.{cases_eq, cond-true, cond-false, eq-eqb, ne_eqb, false≢true, both_ways}
+use Rattle.std.proofs.lemmas.Bool.{cases_eq, eq-eqb, false≢true, both_ways}
 use Rattle.std.proofs.lemmas.Option.{none-some}
 use Rattle.std.proofs.lemmas.List.{length-append}
 use Rattle.pmem_base.specs.declared.lines.Line.{Line}
@@ -23,7 +22,7 @@ use Rattle.meta_cache.proofs.FormLemmas.{way_low, number_low}
 use Rattle.meta_path.specs.Blocks.{path_at, slots_at, number_in, IsPathCached}
 use Rattle.meta_path.specs.Work.{HasWorked}
 use Rattle.meta_path.specs.Naming.{path_number, is_slot_named, named_slot, naming_write, named_path, naming_writes, IsSlotNamed, IsSlotCut, ArePathEntries, IsNamedTo, IsNamingCut}
-use Rattle.meta_path.proofs.WorkLemmas.{not_steady, HasWorked-none, HasWorked-written, HasWorked-then}
+use Rattle.meta_path.proofs.WorkLemmas.{not_steady, HasWorked-then}
 
 -- ---- one slot
 

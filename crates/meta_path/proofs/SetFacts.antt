@@ -4,9 +4,9 @@ use Rattle.std.proofs.Common.{◌≡◌, ◌≢◌, ℕ, zero, suc, ◌+◌, ◌
 use Rattle.std.specs.Prelude.{◌==◌, ◌||◌, nat_lt, not, filter, slice_get, All, AllPairs, Contains, IfSome}
 use Rattle.std.proofs.lemmas.Bool.{cases_Bool, cases_lt, eq-eqb, eqb-true, ne_eqb, cond-true, cond-false, both_ways, le-ltb, lt-ltb, not_from_false}
 use Rattle.std.proofs.lemmas.Option.{slice_get_within, slice_get-get_or, get_or_from_slice_get, none-some, slice_get_read}
-use Rattle.std.proofs.lemmas.List.{drop_all, length-append, length-take-le, take_at, take-append-drop, drop_more, get_or_append_left, get_or-append_right, map-append}
+use Rattle.std.proofs.lemmas.List.{drop_all, length-append, length-take-le, take-append-drop, drop_more, get_or_append_left, get_or-append_right, map-append}
 use Rattle.std.proofs.lemmas.List.Elements.{All-head, All-tail, Contains-append_left, Contains-append_right, Contains-append_cases}
-use Rattle.std.proofs.lemmas.List.Folds.{map_fixed, list_any_none, list_any_at, Any-from_list_any}
+use Rattle.std.proofs.lemmas.List.Folds.{map_fixed, list_any_none, Any-from_list_any}
 use Rattle.std.proofs.lemmas.List.Filters.{sum_by-filter_both}
 use Rattle.std.proofs.lemmas.List.Sums.{sum_by-append}
 use Rattle.pmem_base.specs.declared.lines.Line.{Line}

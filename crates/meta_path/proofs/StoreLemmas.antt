@@ -1,16 +1,15 @@
 -- New lines are stored, level by level.
 use Rattle.std.proofs.lemmas.Grind.{common_steps}
-use Rattle.std.proofs.Common.{rules}
-use Rattle.std.proofs.Common.{◌≡◌, ◌≢◌, ℕ, suc, ◌+◌, ◌<◌, ◌≤◌, Bool, true, false, cond, List, [], ◌∷◌, ◌++◌, length, get_or, take, map, set, refl, sym, ap, subst, subst₂, ◌∙◌, ◌⊎◌, inl, inr, arith}
+use Rattle.std.proofs.Common.{rules, ◌≡◌, ◌≢◌, ℕ, ◌+◌, ◌<◌, ◌≤◌, Bool, true, cond, List, [], ◌∷◌, ◌++◌, length, get_or, take, map, set, refl, sym, ap, subst, ◌∙◌, inl, inr, arith}
 use Rattle.std.specs.Prelude.{◌==◌, ◌||◌, nat_lt, not, Contains}
-use Rattle.std.proofs.lemmas.Bool.{cases_eq, cases_lt, cases_Bool, cond-true, cond-false, eq-eqb, eqb-true, false≢true}
-use Rattle.std.proofs.lemmas.List.{map-id, length-map, take_more, get_or-map, get_or_default}
+use Rattle.std.proofs.lemmas.Bool.{cases_eq, cases_Bool, cond-true, cond-false, eq-eqb, eqb-true, false≢true}
+use Rattle.std.proofs.lemmas.List.{map-id, length-map, take_more, get_or-map}
 use Rattle.std.proofs.lemmas.List.Elements.{All-contains}
 use Rattle.std.proofs.lemmas.Simd.{map-map}
 use Rattle.pmem_base.specs.declared.lines.Line.{Line}
 use Rattle.pmem_base.specs.Shape.{Shape}
 use Rattle.pmem_base.specs.Layout.{meta_lines}
-use Rattle.pmem_base.specs.Lines.{put_lines, zero_line}
+use Rattle.pmem_base.specs.Lines.{put_lines}
 use Rattle.bonsai_tree.specs.Positions.{level_of}
 use Rattle.pmem_base.proofs.LineSets.{put_lines-append}
 use Rattle.bonsai_tree.proofs.PathPositions.{length-path_of}
@@ -243,21 +242,21 @@ module _ {g : Shape} {page : ℕ} {persisted : Bool} {lines : List (ℕ × Line)
           let mark = stored_mark g persisted bank in
           elim (path_set_or_not g page (g.levels + 1) bank set) [
             | inl at ↦ (
-                store_at x line mark,
-                ap (set_of new.banks bank) at.its_set ∙ stored.stored bank at.reached
-                    ∙ ap (λ slots. stored_set slots x line mark) (ap (set_of old.banks bank) (sym at.its_set))
-                    ∙ stored_map (set_of old.banks bank set) x line mark,
-                λ slot found. stored_slot g page persisted lines bank slot _ (store_at-is x line mark slot) (omega (arith, at.reached)),
-              )
+              store_at x line mark,
+              ap (set_of new.banks bank) at.its_set ∙ stored.stored bank at.reached
+                  ∙ ap (λ slots. stored_set slots x line mark) (ap (set_of old.banks bank) (sym at.its_set))
+                  ∙ stored_map (set_of old.banks bank set) x line mark,
+              λ slot found. stored_slot g page persisted lines bank slot _ (store_at-is x line mark slot) (omega (arith, at.reached)),
+            )
             | inr apart ↦ (
-                λ slot. slot,
-                stored.elsewhere bank set apart ∙ sym (map-id (set_of old.banks bank set)),
-                λ slot found.
-                kept_slot g page persisted lines bank set slot
-                    (All-contains (λ (s : Slot). set_index g s.position ≡ set) (set_of old.banks bank set) slot
-                    (sets.each bank set).its_positions found)
-                    apart,
-              )
+              λ slot. slot,
+              stored.elsewhere bank set apart ∙ sym (map-id (set_of old.banks bank set)),
+              λ slot found.
+                  kept_slot g page persisted lines bank set slot
+                  (All-contains (λ (s : Slot). set_index g s.position ≡ set) (set_of old.banks bank set) slot
+                  (sets.each bank set).its_positions found)
+                  apart,
+            )
           ]
 
   -- each position is cached as it was

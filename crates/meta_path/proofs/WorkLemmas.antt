@@ -1,6 +1,5 @@
 -- Reads, line writes and digests, one call after another.
-use Rattle.std.proofs.Common.{rules}
-use Rattle.std.proofs.Common.{inl, inr, ◌≡◌, ℕ, zero, suc, ◌+◌, Bool, true, false, List, [], ◌∷◌, ◌++◌, length, refl, sym, ap, subst, ◌∙◌, arith, Option, Some, None}
+use Rattle.std.proofs.Common.{rules, inl, inr, ◌≡◌, ℕ, zero, suc, ◌+◌, Bool, true, false, List, [], ◌∷◌, ◌++◌, length, refl, sym, ap, subst, ◌∙◌, arith, Option, Some, None}
 use Rattle.std.proofs.lemmas.Bool.{cases_Bool, both_ways}
 use Rattle.std.proofs.lemmas.List.{length-append}
 use Rattle.pmem_base.specs.declared.lines.Line.{Line}
@@ -8,10 +7,9 @@ use Rattle.pmem_base.specs.Counts.{risen}
 use Rattle.pmem_base.proofs.LineSets.{put_lines-append}
 use Rattle.board.specs.Counts.{RisesBy}
 use Rattle.board.specs.Device.{Device}
-use Rattle.board.specs.Steps.{with_line, HasRead, HasWritten}
+use Rattle.board.specs.Steps.{with_line, HasWritten}
 use Rattle.board.proofs.CountLemmas.{RisesBy-then}
 use Rattle.commit_regs.specs.Groups.{redone_told}
-use Rattle.commit_regs.proofs.GroupLemmas.{redone-nil}
 use Rattle.meta_path.specs.Work.{risen_times, HasWorked}
 
 pub redone_told-append : (front back : List (ℕ × Line)) (told : Option (List Line))
@@ -65,4 +63,4 @@ risen_times-add m (suc n) count =
 -- power that isn't steady now was not steady before
 pub not_steady : {a b : Bool} → (a ≡ true → b ≡ true) → b ≡ false → a ≡ false
 not_steady {a} {b} keeps unsteady =
-    elim (cases_Bool a) [ | inl is ↦ absurd (both_ways b unsteady (keeps is)) | inr is ↦ is ]
+    elim (cases_Bool a) [ inl is ↦ absurd (both_ways b unsteady (keeps is)) | inr is ↦ is ]

@@ -1,6 +1,5 @@
 -- A block is written back and marked clean.
-use Rattle.std.proofs.Common.{rules}
-use Rattle.std.proofs.Common.{◌≡◌, ◌≢◌, ℕ, ◌+◌, ◌<◌, ◌≤◌, Bool, true, false, cond, List, [], ◌∷◌, get_or, map, refl, sym, ap, ap₂, subst, ◌∙◌, ◌⊎◌, inl, inr, arith, mod-lt}
+use Rattle.std.proofs.Common.{rules, ◌≡◌, ◌≢◌, ℕ, ◌+◌, ◌<◌, ◌≤◌, Bool, true, false, cond, List, [], ◌∷◌, get_or, map, refl, sym, ap, ap₂, subst, ◌∙◌, ◌⊎◌, inl, inr, arith, mod-lt}
 use Rattle.std.specs.Prelude.{◌==◌, ◌&&◌, ◌||◌, Contains}
 use Rattle.std.specs.List.{list_any}
 use Rattle.std.proofs.lemmas.Bool.{cases_eq, cases_Bool, cond-true, cond-false, eq-eqb, eqb-true, ne_eqb, and_parts, false≢true}
@@ -293,7 +292,7 @@ KeepsCleaned-from g cleaned x old new sets changes =
       λ slot. slot,
       changes.elsewhere bank set apart ∙ sym (map-id (set_of old.banks bank set)),
       λ slot found.
-      kept_slot g cleaned x bank set slot
+          kept_slot g cleaned x bank set slot
           (All-contains (λ (s : Slot). set_index g s.position ≡ set) (set_of old.banks bank set) slot (sets.each bank set).its_positions found)
           apart,
     )
@@ -307,10 +306,10 @@ KeepsCleaned-from g cleaned x old new sets changes =
               elim (cases_eq set (set_index g x)) [
                 | inr other ↦ kept bank set (λ e. other e.1)
                 | inl there ↦ (
-                    mark_at x false,
-                    ap₂ (set_of new.banks) here there ∙ changes.here
-                        ∙ ap (λ slots. map (mark_at x false) slots) (sym (ap₂ (set_of old.banks) here there)),
-                    λ slot found. mark_at-is cleaned x bank slot here,
-                  )
+                  mark_at x false,
+                  ap₂ (set_of new.banks) here there ∙ changes.here
+                      ∙ ap (λ slots. map (mark_at x false) slots) (sym (ap₂ (set_of old.banks) here there)),
+                  λ slot found. mark_at-is cleaned x bank slot here,
+                )
               ]
         ]

@@ -10,7 +10,7 @@ use Rattle.meta_path.specs.Levels.{HasParent, IsLevelFetched, IsLevelFault}
 use Rattle.meta_path.specs.Fetching.{IsFetchedTo}
 use Rattle.meta_path.proofs.FetchLemmas.{HasParent-at, IsPathCached-fetched}
 use Rattle.meta_path.proofs.PathFacts.{position_is, all_levels}
-use Rattle.meta_path.proofs.RunLaws.{IsStart, IsRun, IsEnded, banks_of_run, keeps_of_run, fetched_next, fault_of_end, keeps_of_end, cause_of_end, dirty_of_end, undisturbed_of_end, truth_of_end, IsUndisturbed-cached, fault_handed_on, same_fault}
+use Rattle.meta_path.proofs.RunLaws.{IsRun, IsEnded, banks_of_run, keeps_of_run, fetched_next, fault_of_end, keeps_of_end, cause_of_end, dirty_of_end, undisturbed_of_end, truth_of_end, IsUndisturbed-cached, fault_handed_on, same_fault}
 use Rattle.meta_path.proofs.fetching.fetch_path.Given.{Over}
 use Rattle.meta_path.proofs.fetching.fetch_path.Goals.{After-fetch_level-arg-in-levels-3-1}
 use Rattle.meta_path.proofs.fetching.fetch_path.Goals as goal
