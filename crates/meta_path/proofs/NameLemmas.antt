@@ -2,7 +2,6 @@
 use Rattle.std.proofs.Common.{rules, ◌≡◌, ℕ, zero, suc, ◌+◌, ◌<◌, ◌≤◌, Bool, true, false, cond, List, [], ◌∷◌, ◌++◌, length, refl, sym, ap, subst, ◌∙◌, inl, inr, arith, mod-lt, Option, Some, None, Result, Ok, Err}
 use Rattle.std.specs.Prelude.{◌↔◌, IsNone, OnErr, option_map, unwrap_or, is_some}
 use Rattle.std.proofs.lemmas.Bool.{cases_eq, eq-eqb, false≢true, both_ways}
-use Rattle.std.proofs.lemmas.Option.{none-some}
 use Rattle.std.proofs.lemmas.List.{length-append}
 use Rattle.pmem_base.specs.declared.lines.Line.{Line}
 use Rattle.pmem_base.specs.Counts.{HasRisen}
@@ -25,11 +24,6 @@ use Rattle.meta_path.specs.Naming.{path_number, is_slot_named, named_slot, namin
 use Rattle.meta_path.proofs.WorkLemmas.{not_steady, HasWorked-then}
 
 -- ---- one slot
-
--- an answer that is there names an entry that didn't name the position
-some_not_none : {W : Type 0} (answer : Option W) (write : W) → answer ≡ Some write → IsNone answer → ⊥
-some_not_none None write is none = none-some write is
-some_not_none (Some other) write is none = false≢true (sym none)
 
 pub unnamed : {W : Type 0} (g : Shape) (shadow : List Line) (bank n x : ℕ) (answer : Option W) (write : W) → answer ≡ Some write
     → (IsNone answer ↔ (slot_entry g shadow bank n ≡ x + 1)) → is_slot_named g shadow bank n x ≡ false

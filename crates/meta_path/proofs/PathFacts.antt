@@ -152,7 +152,6 @@ holds-fetched_set g truth banks bank x = by_test (cases_Bool (is_cached g banks 
 -- ---- an empty cache
 
 -- no set of it has a slot
-
 pub set_of-empty_banks : (g : Shape) (bank set : ℕ) → set_of (empty_banks g) bank set ≡ []
 set_of-empty_banks g bank set =
     set_of-get_or (empty_banks g) bank set ∙ by (cases_lt bank (g.levels + 1)) (cases_lt set g.sets)

@@ -7,7 +7,7 @@ use Rattle.pmem_base.specs.Counts.{risen}
 use Rattle.pmem_base.proofs.LineSets.{put_lines-append}
 use Rattle.board.specs.Counts.{RisesBy}
 use Rattle.board.specs.Device.{Device}
-use Rattle.board.specs.Steps.{with_line, HasWritten}
+use Rattle.board.specs.Steps.{HasWritten}
 use Rattle.board.proofs.CountLemmas.{RisesBy-then}
 use Rattle.commit_regs.specs.Groups.{redone_told}
 use Rattle.meta_path.specs.Work.{risen_times, HasWorked}
@@ -16,18 +16,6 @@ pub redone_told-append : (front back : List (ℕ × Line)) (told : Option (List 
     → redone_told (front ++ back) told ≡ redone_told back (redone_told front told)
 redone_told-append front back None = refl
 redone_told-append front back (Some lines) = ap Some (put_lines-append front back lines)
-
-redone_told-one : (at : ℕ) (line : Line) (told : Option (List Line))
-    → redone_told ((at, line) ∷ []) told ≡ with_line told at line
-redone_told-one at line None = refl
-redone_told-one at line (Some lines) = refl
-
-pub RisesBy-none : (before after : ℕ) → after ≡ before → RisesBy 0 before after
-RisesBy-none before after same = record { never_falls = omega arith; exact = λ below. omega arith }
-
--- nothing done
-pub HasWorked-none : (device : Device) → HasWorked 0 [] device device
-HasWorked-none device = search rules
 
 pub HasWorked-written : (old : Device) (at : ℕ) (line : Line) (new : Device) → HasWritten old at line new
     → HasWorked 0 ((at, line) ∷ []) old new
