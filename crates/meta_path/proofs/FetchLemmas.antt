@@ -1,8 +1,7 @@
 -- A path is fetched level by level.
-use Rattle.std.proofs.Common.{◌≡◌, ℕ, zero, suc, ◌+◌, ◌<◌, ◌≤◌, Bool, true, false, cond, List, [], ◌++◌, length, refl, sym, ap, ap₂, subst, subst₂, ◌∙◌, ◌⊎◌, inl, inr, arith}
+use Rattle.std.proofs.Common.{rules, ◌≡◌, ℕ, zero, suc, ◌+◌, ◌<◌, ◌≤◌, true, false, cond, List, [], ◌++◌, length, refl, sym, ap, subst, subst₂, ◌∙◌, inl, inr, arith}
 use Rattle.std.specs.Prelude.{option_map, unwrap_or}
 use Rattle.std.proofs.lemmas.Bool.{cases_eq, both_ways}
-use Rattle.std.proofs.lemmas.List.{append-nil}
 use Rattle.pmem_base.specs.declared.lines.Line.{Line}
 use Rattle.pmem_base.specs.declared.answers.Exhibit.TheVariants.{Clash}
 use Rattle.pmem_base.specs.Counts.{HasRisen, risen_times}
@@ -19,7 +18,7 @@ use Rattle.bonsai_tree.specs.Positions.{parent, child_slot}
 use Rattle.bonsai_tree.specs.Nodes.{child_digest}
 use Rattle.meta_cache.specs.declared.slot.Slot.{Slot}
 use Rattle.meta_cache.specs.Banks.{Banks, set_of, set_index, is_cached}
-use Rattle.meta_cache.specs.Sets.{holds, slot_with, touched, placed}
+use Rattle.meta_cache.specs.Sets.{holds, slot_with}
 use Rattle.meta_cache.specs.State.{CacheState}
 use Rattle.meta_path.specs.declared.faults.PathFault.{PathFault}
 use Rattle.meta_path.specs.declared.faults.PathFault.TheVariants as Fault
@@ -27,7 +26,7 @@ use Rattle.meta_path.specs.Blocks.{path_at, slots_at, IsPathCached, AreInTheirBa
 use Rattle.meta_path.specs.Work.{HasWorked, FetchState}
 use Rattle.meta_path.specs.Levels.{expected_digest, HasParent, room_write, level_write, level_reads, fetched_set, HasDirtyVictim, IsLevelFetched, IsLevelRead, IsLevelCut, IsLevelFault}
 use Rattle.meta_path.specs.Fetching.{absent_count, spilled, HasFetchedSets, AreLevelsChecked, IsFetchedTo, IsReadAt, IsCutAt, IsPathFault}
-use Rattle.meta_path.proofs.WorkLemmas.{HasWorked-none, HasWorked-then, risen_times-add}
+use Rattle.meta_path.proofs.WorkLemmas.{not_steady, HasWorked-then, risen_times-add}
 use Rattle.meta_path.proofs.PathFacts.{path_at-below, path_at-parent, Tells-before, AreSets, spilled-apart, holds-fetched_set}
 
 -- what a fetch of a page's path rests on
@@ -38,9 +37,6 @@ pub record IsFetchOf (g : Shape) (page : ℕ) (banks : Banks) : Type 0 where
   pub its_banks : AreInTheirBanks g banks
 
 -- ---- banks that aren't reached yet
-
-not_less : (n : ℕ) → n < n → ⊥
-not_less n h = omega arith
 
 pub same_later : (g : Shape) (truth : List Line) (page n : ℕ) (old new : CacheState) (bank set : ℕ)
     → HasFetchedSets g truth page n old new → n ≤ bank → set_of new.banks bank set ≡ set_of old.banks bank set
@@ -57,8 +53,7 @@ level_write-same g a b bank x same = ap (λ slots. cond (holds slots x) [] (room
 
 fetched_set-same : (g : Shape) (truth : List Line) (a b : Banks) (bank x : ℕ) → slots_at g a bank x ≡ slots_at g b bank x
     → fetched_set g truth a bank x ≡ fetched_set g truth b bank x
-fetched_set-same g truth a b bank x same =
-    ap (λ slots. cond (holds slots x) (touched slots x) (placed g.ways slots x (line_at truth x))) same
+fetched_set-same g truth a b bank x same = search rules
 
 is_cached-same : (g : Shape) (a b : Banks) (bank x : ℕ) → slots_at g a bank x ≡ slots_at g b bank x
     → is_cached g a bank x ≡ is_cached g b bank x
@@ -73,124 +68,95 @@ expected_digest-same g root a b (suc above) x same =
     ap (λ slots. child_digest (unwrap_or (option_map (λ (s : Slot). s.line) (slot_with slots (parent x))) zero_line) (child_slot x))
     (same above (set_index g (parent x)) (omega arith))
 
--- ---- the first level
-
-pub IsFetchedTo-none : (g : Shape) (f : Formulas) (truth : List Line) (page : ℕ) (state : FetchState)
-    → IsFetchedTo g f truth page 0 state state
-IsFetchedTo-none g f truth page state =
-    record {
-      cache = record { shape = refl; fetched = λ j h. absurd (omega arith); elsewhere = λ bank set apart. refl };
-      levels = record { told = λ j h absent. absurd (omega arith); checked = λ j h absent. absurd (omega arith) };
-      work = HasWorked-none state.device;
-      digests = refl;
-    }
-
 -- ---- one level more
 
-sets_more : (g : Shape) (f : Formulas) (truth : List Line) (page n : ℕ) (old mid new : FetchState)
-    → HasFetchedSets g truth page n old.cache mid.cache → IsLevelFetched g f truth n (path_at g page n) mid new
-    → HasFetchedSets g truth page (suc n) old.cache new.cache
-sets_more g f truth page n old mid new before level =
-    record {
-      shape = level.cache.shape ∙ before.shape;
-      fetched = λ j h. fetched j h (cases_eq j n);
-      elsewhere =
-          λ bank set apart.
-          level.cache.elsewhere bank set
-          (λ e. apart (omega (arith, e.0), e.1 ∙ ap (λ k. set_index g (path_at g page k)) (sym e.0)))
-          ∙ before.elsewhere bank set (λ e. apart (omega (arith, e.0), e.1));
-    }
-  where
-    here : slots_at g new.cache.banks n (path_at g page n) ≡ fetched_set g truth old.cache.banks n (path_at g page n)
-    here =
-        level.cache.here
-        ∙ fetched_set-same g truth mid.cache.banks old.cache.banks n (path_at g page n)
-        (same_later g truth page n old.cache mid.cache n (set_index g (path_at g page n)) before (omega arith))
+module _ {g : Shape} {f : Formulas} {truth : List Line} {page n : ℕ} {old mid : FetchState}
+    (before : IsFetchedTo g f truth page n old mid) where
+  -- the level's set is as it was
+  same_here : slots_at g mid.cache.banks n (path_at g page n) ≡ slots_at g old.cache.banks n (path_at g page n)
+  same_here = same_later g truth page n old.cache mid.cache n (set_index g (path_at g page n)) before.cache (omega arith)
 
-    fetched : (j : ℕ) → j < suc n → (j ≡ n) ⊎ (j ≡ n → ⊥)
-        → slots_at g new.cache.banks j (path_at g page j) ≡ fetched_set g truth old.cache.banks j (path_at g page j)
-    fetched j h (inl same) =
-        subst (λ k. slots_at g new.cache.banks k (path_at g page k) ≡ fetched_set g truth old.cache.banks k (path_at g page k))
-        (sym same) here
-    fetched j h (inr other) =
-        level.cache.elsewhere j (set_index g (path_at g page j)) (λ e. other e.0) ∙ before.fetched j (omega arith)
+module _ {g : Shape} {f : Formulas} {truth : List Line} {page n : ℕ} {old mid new : FetchState}
+    (before : IsFetchedTo g f truth page n old mid) (level : IsLevelFetched g f truth n (path_at g page n) mid new) where
+  sets_more : HasFetchedSets g truth page (suc n) old.cache new.cache
+  sets_more =
+      record {
+        shape = level.cache.shape ∙ before.cache.shape;
+        fetched = λ j h.
+            elim (cases_eq j n) [
+              | inl same ↦
+                  subst (λ k. slots_at g new.cache.banks k (path_at g page k) ≡ fetched_set g truth old.cache.banks k (path_at g page k))
+                  (sym same)
+                  (level.cache.here
+                  ∙ fetched_set-same g truth mid.cache.banks old.cache.banks n (path_at g page n) (same_here before))
+              | inr other ↦
+                  level.cache.elsewhere j (set_index g (path_at g page j)) (λ e. other e.0) ∙ before.cache.fetched j (omega arith)
+            ];
+        elsewhere =
+            λ bank set apart.
+            level.cache.elsewhere bank set
+            (λ e. apart (omega (arith, e.0), e.1 ∙ ap (λ k. set_index g (path_at g page k)) (sym e.0)))
+            ∙ before.cache.elsewhere bank set (λ e. apart (omega (arith, e.0), e.1));
+      }
 
-checked_more : (g : Shape) (f : Formulas) (truth : List Line) (page n : ℕ) (old mid new : FetchState)
-    → IsFetchOf g page old.cache.banks → n ≤ g.levels
-    → IsFetchedTo g f truth page n old mid → IsLevelFetched g f truth n (path_at g page n) mid new
-    → AreLevelsChecked g f truth page (suc n) old new
-checked_more g f truth page n old mid new of le before level =
-    record { told = λ j h absent. told j h (cases_eq j n) absent; checked = λ j h absent. checked j h (cases_eq j n) absent }
-  where
-    still : is_cached g old.cache.banks n (path_at g page n) ≡ false → is_cached g mid.cache.banks n (path_at g page n) ≡ false
-    still absent =
-        is_cached-same g mid.cache.banks old.cache.banks n (path_at g page n)
-        (same_later g truth page n old.cache mid.cache n (set_index g (path_at g page n)) before.cache (omega arith))
-        ∙ absent
+  checked_more : IsFetchOf g page old.cache.banks → n ≤ g.levels → AreLevelsChecked g f truth page (suc n) old new
+  checked_more of le =
+      record {
+        told = λ j h absent.
+            elim (cases_eq j n) [
+              | inl same ↦
+                  subst (λ k. Tells old.device.lines (meta_line g (path_at g page k)) (line_at truth (path_at g page k))) (sym same)
+                  (Tells-before (spilled g old.cache.banks page n) old.device.lines (meta_line g (path_at g page n))
+                  (line_at truth (path_at g page n))
+                  (spilled-apart g old.cache.banks page n of.its_page of.few le of.sets of.its_banks n (omega arith))
+                  (subst (λ lines. Tells lines (meta_line g (path_at g page n)) (line_at truth (path_at g page n))) before.work.lines
+                  (level.told (still (ap (λ k. is_cached g old.cache.banks k (path_at g page k)) (sym same) ∙ absent)))))
+              | inr other ↦ before.levels.told j (omega arith) absent
+            ];
+        checked = λ j h absent.
+            elim (cases_eq j n) [
+              | inl same ↦
+                  subst (λ k. f.digest_of (path_at g page k) (line_at truth (path_at g page k))
+                  ≡ expected_digest g old.device.regs.root new.cache.banks k (path_at g page k)) (sym same)
+                  (level.checked (still (ap (λ k. is_cached g old.cache.banks k (path_at g page k)) (sym same) ∙ absent))
+                  ∙ ap (λ root. expected_digest g root mid.cache.banks n (path_at g page n)) (ap (λ regs. regs.root) before.work.regs)
+                  ∙ expected_later n (omega arith))
+              | inr other ↦ before.levels.checked j (omega arith) absent ∙ expected_later j (omega arith)
+            ];
+      }
+    where
+      still : is_cached g old.cache.banks n (path_at g page n) ≡ false → is_cached g mid.cache.banks n (path_at g page n) ≡ false
+      still absent = is_cached-same g mid.cache.banks old.cache.banks n (path_at g page n) (same_here before) ∙ absent
 
-    here : is_cached g old.cache.banks n (path_at g page n) ≡ false
-        → Tells old.device.lines (meta_line g (path_at g page n)) (line_at truth (path_at g page n))
-    here absent =
-        Tells-before (spilled g old.cache.banks page n) old.device.lines (meta_line g (path_at g page n))
-        (line_at truth (path_at g page n))
-        (spilled-apart g old.cache.banks page n of.its_page of.few le of.sets of.its_banks n (omega arith))
-        (subst (λ lines. Tells lines (meta_line g (path_at g page n)) (line_at truth (path_at g page n))) before.work.lines
-        (level.told (still absent)))
+      -- the digests of the levels so far come from banks above
+      expected_later : (j : ℕ) → j ≤ n
+          → expected_digest g old.device.regs.root mid.cache.banks j (path_at g page j)
+          ≡ expected_digest g old.device.regs.root new.cache.banks j (path_at g page j)
+      expected_later j low =
+          expected_digest-same g old.device.regs.root mid.cache.banks new.cache.banks j (path_at g page j)
+          (λ above set h. sym (level.cache.elsewhere above set (λ e. omega (arith, e.0, low, h))))
 
-    told : (j : ℕ) → j < suc n → (j ≡ n) ⊎ (j ≡ n → ⊥) → is_cached g old.cache.banks j (path_at g page j) ≡ false
-        → Tells old.device.lines (meta_line g (path_at g page j)) (line_at truth (path_at g page j))
-    told j h (inl same) absent =
-        subst (λ k. Tells old.device.lines (meta_line g (path_at g page k)) (line_at truth (path_at g page k))) (sym same)
-        (here (ap (λ k. is_cached g old.cache.banks k (path_at g page k)) (sym same) ∙ absent))
-    told j h (inr other) absent = before.levels.told j (omega arith) absent
-
-    digest_here : is_cached g old.cache.banks n (path_at g page n) ≡ false
-        → f.digest_of (path_at g page n) (line_at truth (path_at g page n))
-        ≡ expected_digest g old.device.regs.root new.cache.banks n (path_at g page n)
-    digest_here absent =
-        level.checked (still absent)
-        ∙ ap (λ root. expected_digest g root mid.cache.banks n (path_at g page n)) (ap (λ regs. regs.root) before.work.regs)
-        ∙ expected_digest-same g old.device.regs.root mid.cache.banks new.cache.banks n (path_at g page n)
-        (λ above set h. sym (level.cache.elsewhere above set (λ e. omega (arith, e.0, h))))
-
-    checked : (j : ℕ) → j < suc n → (j ≡ n) ⊎ (j ≡ n → ⊥) → is_cached g old.cache.banks j (path_at g page j) ≡ false
-        → f.digest_of (path_at g page j) (line_at truth (path_at g page j))
-        ≡ expected_digest g old.device.regs.root new.cache.banks j (path_at g page j)
-    checked j h (inl same) absent =
-        subst (λ k. f.digest_of (path_at g page k) (line_at truth (path_at g page k))
-        ≡ expected_digest g old.device.regs.root new.cache.banks k (path_at g page k)) (sym same)
-        (digest_here (ap (λ k. is_cached g old.cache.banks k (path_at g page k)) (sym same) ∙ absent))
-    checked j h (inr other) absent =
-        before.levels.checked j (omega arith) absent
-        ∙ expected_digest-same g old.device.regs.root mid.cache.banks new.cache.banks j (path_at g page j)
-        (λ above set low. sym (level.cache.elsewhere above set (λ e. omega (arith, e.0, low, h))))
-
--- the first n levels and the next one
-pub IsFetchedTo-more : (g : Shape) (f : Formulas) (truth : List Line) (page n : ℕ) (old mid new : FetchState)
-    → IsFetchOf g page old.cache.banks → n ≤ g.levels
-    → IsFetchedTo g f truth page n old mid → IsLevelFetched g f truth n (path_at g page n) mid new
-    → IsFetchedTo g f truth page (suc n) old new
-IsFetchedTo-more g f truth page n old mid new of le before level =
-    record {
-      cache = sets_more g f truth page n old mid new before.cache level;
-      levels = checked_more g f truth page n old mid new of le before level;
-      work =
-          subst₂ (λ times entries. HasWorked (absent_count g old.cache.banks page n + times)
-          (spilled g old.cache.banks page n ++ entries) old.device new.device)
-          (level_reads-same g mid.cache.banks old.cache.banks n (path_at g page n) same)
-          (level_write-same g mid.cache.banks old.cache.banks n (path_at g page n) same)
-          (HasWorked-then (absent_count g old.cache.banks page n) (level_reads g mid.cache.banks n (path_at g page n))
-          (spilled g old.cache.banks page n) (level_write g mid.cache.banks n (path_at g page n)) old.device mid.device new.device
-          before.work level.work);
-      digests =
-          level.digests
-          ∙ ap (λ times. risen_times times mid.digests) (level_reads-same g mid.cache.banks old.cache.banks n (path_at g page n) same)
-          ∙ ap (risen_times (level_reads g old.cache.banks n (path_at g page n))) before.digests
-          ∙ sym (risen_times-add (absent_count g old.cache.banks page n) (level_reads g old.cache.banks n (path_at g page n)) old.digests);
-    }
-  where
-    same : slots_at g mid.cache.banks n (path_at g page n) ≡ slots_at g old.cache.banks n (path_at g page n)
-    same = same_later g truth page n old.cache mid.cache n (set_index g (path_at g page n)) before.cache (omega arith)
+  -- the first n levels and the next one
+  pub IsFetchedTo-more : IsFetchOf g page old.cache.banks → n ≤ g.levels → IsFetchedTo g f truth page (suc n) old new
+  IsFetchedTo-more of le =
+      let same = same_here before in
+      record {
+        cache = sets_more;
+        levels = checked_more of le;
+        work =
+            subst₂ (λ times entries. HasWorked (absent_count g old.cache.banks page n + times)
+            (spilled g old.cache.banks page n ++ entries) old.device new.device)
+            (level_reads-same g mid.cache.banks old.cache.banks n (path_at g page n) same)
+            (level_write-same g mid.cache.banks old.cache.banks n (path_at g page n) same)
+            (HasWorked-then (absent_count g old.cache.banks page n) (level_reads g mid.cache.banks n (path_at g page n))
+            (spilled g old.cache.banks page n) (level_write g mid.cache.banks n (path_at g page n)) old.device mid.device new.device
+            before.work level.work);
+        digests =
+            level.digests
+            ∙ ap (λ times. risen_times times mid.digests) (level_reads-same g mid.cache.banks old.cache.banks n (path_at g page n) same)
+            ∙ ap (risen_times (level_reads g old.cache.banks n (path_at g page n))) before.digests
+            ∙ sym (risen_times-add (absent_count g old.cache.banks page n) (level_reads g old.cache.banks n (path_at g page n)) old.digests);
+      }
 
 -- ---- a level that isn't fetched
 
@@ -198,46 +164,20 @@ IsFetchedTo-more g f truth page n old mid new of le before level =
 read_at : (g : Shape) (f : Formulas) (truth : List Line) (page n : ℕ) (line : Line) (old mid new : FetchState)
     → n ≤ g.levels → IsFetchedTo g f truth page n old mid → IsLevelRead g n (path_at g page n) line mid new
     → IsReadAt g f truth page n line old new
-read_at g f truth page n line old mid new le before level =
-    record {
-      on_path = le;
-      absent =
-          sym (is_cached-same g mid.cache.banks old.cache.banks n (path_at g page n)
-          (same_later g truth page n old.cache mid.cache n (set_index g (path_at g page n)) before.cache (omega arith)))
-          ∙ level.absent;
-      cache = subst (HasFetchedSets g truth page n old.cache) (sym level.cache) before.cache;
-      levels =
-          record {
-            told = before.levels.told;
-            checked = λ j h absent.
-                before.levels.checked j h absent
-                ∙ ap (λ (cache : CacheState). expected_digest g old.device.regs.root cache.banks j (path_at g page j)) (sym level.cache);
-          };
-      work =
-          subst (λ entries. HasWorked (absent_count g old.cache.banks page n + 1) entries old.device new.device)
-          (append-nil (spilled g old.cache.banks page n))
-          (HasWorked-then (absent_count g old.cache.banks page n) 1 (spilled g old.cache.banks page n) [] old.device mid.device
-          new.device before.work level.work);
-      digests =
-          level.digests ∙ ap (risen_times 1) before.digests
-          ∙ sym (risen_times-add (absent_count g old.cache.banks page n) 1 old.digests);
-      tells = level.tells;
-      whole = level.whole;
-    }
+read_at g f truth page n line old mid new le before level = search rules
 
 -- the digest that it has to have, as it was when it was read
 expected_at : (g : Shape) (f : Formulas) (truth : List Line) (page n : ℕ) (old mid new : FetchState)
     → IsFetchedTo g f truth page n old mid → new.cache ≡ mid.cache
     → expected_digest g mid.device.regs.root mid.cache.banks n (path_at g page n)
     ≡ expected_digest g old.device.regs.root new.cache.banks n (path_at g page n)
-expected_at g f truth page n old mid new before same =
-    ap₂ (λ root (cache : CacheState). expected_digest g root cache.banks n (path_at g page n))
-    (ap (λ regs. regs.root) before.work.regs) (sym same)
+expected_at g f truth page n old mid new before same = search rules
 
 cut_at : (g : Shape) (f : Formulas) (truth : List Line) (page n : ℕ) (old mid new : FetchState)
     → n ≤ g.levels → IsFetchedTo g f truth page n old mid → IsLevelCut g n (path_at g page n) mid new
     → IsCutAt g f truth page old new
 cut_at g f truth page n old mid new le before level =
+    let same = same_here before in
     record {
       n = n;
       on_path = le;
@@ -262,7 +202,7 @@ cut_at g f truth page n old mid new le before level =
       lines = level.lines ∙ before.work.lines;
       writes =
           subst (RisesBy (length (spilled g old.cache.banks page n)) old.device.writes) (sym level.writes) before.work.writes;
-      unsteady = not_steady (λ s. before.work.steady s) level.unsteady;
+      unsteady = not_steady before.work.steady level.unsteady;
       off = level.off;
       never_falls = omega (arith, level.never_falls, before.work.cuts);
       rose = subst (λ count. HasRisen count new.device.cuts) before.work.cuts level.rose;
@@ -271,16 +211,6 @@ cut_at g f truth page n old mid new le before level =
       latches = level.latches ∙ before.work.latches;
       victim = λ live. subst (HasDirtyVictim g) same (level.victim (before.work.live live));
     }
-  where
-    same : slots_at g mid.cache.banks n (path_at g page n) ≡ slots_at g old.cache.banks n (path_at g page n)
-    same = same_later g truth page n old.cache mid.cache n (set_index g (path_at g page n)) before.cache (omega arith)
-
-    not_steady : {a b : Bool} → (a ≡ true → b ≡ true) → b ≡ false → a ≡ false
-    not_steady {a} {b} keeps unsteady = by a refl
-      where
-        by : (test : Bool) → a ≡ test → a ≡ false
-        by true is = absurd (both_ways b unsteady (keeps is))
-        by false is = is
 
 -- the fault of a level is the fault of the path
 pub IsPathFault-at : (g : Shape) (f : Formulas) (page n : ℕ) (old mid new : FetchState)

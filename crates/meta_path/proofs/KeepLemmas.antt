@@ -17,7 +17,7 @@ use Rattle.meta_cache.specs.declared.slot.Slot.{Slot}
 use Rattle.meta_cache.specs.Banks.{Banks, set_of, set_index, is_cached}
 use Rattle.meta_cache.specs.Sets.{touched, placed, victim_of, IsSetOf}
 use Rattle.meta_cache.specs.State.{CacheState}
-use Rattle.meta_path.specs.Blocks.{path_at, slots_at, dirty_in, sum_below, dirty_in_bank, dirty_count, IsOfItsBank, IsPathCached}
+use Rattle.meta_path.specs.Blocks.{path_at, slots_at, dirty_in, sum_below, bank_dirty_count, dirty_count, IsOfItsBank, IsPathCached}
 use Rattle.meta_path.specs.Work.{told_line}
 use Rattle.meta_path.specs.Levels.{victim_write, room_write, level_write, fetched_set}
 use Rattle.meta_path.specs.Fetching.{absent_count, spilled, HasFetchedSets}
@@ -235,12 +235,11 @@ spilled_or_kept g banks page lines at (suc n) =
 pub spilled_or_kept_told : (g : Shape) (banks : Banks) (page : ℕ) (told : Option (List Line)) (at n : ℕ)
     → (told_line (redone_told (spilled g banks page n) told) at ≡ told_line told at) ⊎ IsSpilledAt g banks page n at
 spilled_or_kept_told g banks page None at n = inl refl
-spilled_or_kept_told g banks page (Some lines) at n = by (spilled_or_kept g banks page lines at n)
-  where
-    by : (line_at (put_lines (spilled g banks page n) lines) at ≡ line_at lines at) ⊎ IsSpilledAt g banks page n at
-        → (Some (line_at (put_lines (spilled g banks page n) lines) at) ≡ Some (line_at lines at)) ⊎ IsSpilledAt g banks page n at
-    by (inl kept) = inl (ap Some kept)
-    by (inr spilled) = inr spilled
+spilled_or_kept_told g banks page (Some lines) at n =
+    elim (spilled_or_kept g banks page lines at n) [
+      | inl kept ↦ inl (ap Some kept)
+      | inr spilled ↦ inr spilled
+    ]
 
 -- at most one write for each level that isn't cached, and no more such levels than levels
 pub length-spilled : (g : Shape) (banks : Banks) (page n : ℕ) → length (spilled g banks page n) ≤ absent_count g banks page n
@@ -335,8 +334,8 @@ dirty_in-fetched g truth banks bank x form some = by (is_cached g banks bank x)
 -- one bank
 bank_fetched : (g : Shape) (truth : List Line) (page n : ℕ) (old new : CacheState) (bank : ℕ) → AreSets g old.banks
     → 1 ≤ g.ways → 1 ≤ g.sets → HasFetchedSets g truth page n old new → bank < n
-    → dirty_in_bank g new.banks bank + length (level_write g old.banks bank (path_at g page bank))
-    ≡ dirty_in_bank g old.banks bank
+    → bank_dirty_count g new.banks bank + length (level_write g old.banks bank (path_at g page bank))
+    ≡ bank_dirty_count g old.banks bank
 bank_fetched g truth page n old new bank sets way some fetched reached =
     sum_below-one (λ set. dirty_in (set_of new.banks bank set)) (λ set. dirty_in (set_of old.banks bank set)) g.sets
     (set_index g (path_at g page bank)) (length (level_write g old.banks bank (path_at g page bank)))
@@ -348,7 +347,7 @@ bank_fetched g truth page n old new bank sets way some fetched reached =
 -- the banks that are fetched
 banks_fetched : (g : Shape) (truth : List Line) (page n : ℕ) (old new : CacheState) → AreSets g old.banks
     → 1 ≤ g.ways → 1 ≤ g.sets → HasFetchedSets g truth page n old new → (m : ℕ) → m ≤ n
-    → sum_below (dirty_in_bank g new.banks) m + length (spilled g old.banks page m) ≡ sum_below (dirty_in_bank g old.banks) m
+    → sum_below (bank_dirty_count g new.banks) m + length (spilled g old.banks page m) ≡ sum_below (bank_dirty_count g old.banks) m
 banks_fetched g truth page n old new sets way some fetched zero low = refl
 banks_fetched g truth page n old new sets way some fetched (suc m) low =
     omega (
@@ -361,14 +360,14 @@ banks_fetched g truth page n old new sets way some fetched (suc m) low =
 -- and the others
 banks_later : (g : Shape) (truth : List Line) (page n : ℕ) (old new : CacheState) → AreSets g old.banks
     → 1 ≤ g.ways → 1 ≤ g.sets → HasFetchedSets g truth page n old new → (d m : ℕ) → d + n ≡ m
-    → sum_below (dirty_in_bank g new.banks) m + length (spilled g old.banks page n) ≡ sum_below (dirty_in_bank g old.banks) m
+    → sum_below (bank_dirty_count g new.banks) m + length (spilled g old.banks page n) ≡ sum_below (bank_dirty_count g old.banks) m
 banks_later g truth page n old new sets way some fetched zero m is =
     let same : n ≡ m = omega arith in
-    subst (λ k. sum_below (dirty_in_bank g new.banks) k + length (spilled g old.banks page n) ≡ sum_below (dirty_in_bank g old.banks) k)
+    subst (λ k. sum_below (bank_dirty_count g new.banks) k + length (spilled g old.banks page n) ≡ sum_below (bank_dirty_count g old.banks) k)
     same (banks_fetched g truth page n old new sets way some fetched n (omega arith))
 banks_later g truth page n old new sets way some fetched (suc d) zero is = absurd (omega arith)
 banks_later g truth page n old new sets way some fetched (suc d) (suc m) is =
-    let bank : dirty_in_bank g new.banks m ≡ dirty_in_bank g old.banks m =
+    let bank : bank_dirty_count g new.banks m ≡ bank_dirty_count g old.banks m =
     sum_below-same (λ set. dirty_in (set_of new.banks m set)) (λ set. dirty_in (set_of old.banks m set)) g.sets
     (λ set h. ap dirty_in (fetched.elsewhere m set (λ e. omega (arith, e.0, is)))) in
     let rest = banks_later g truth page n old new sets way some fetched d m (omega arith) in

@@ -1,7 +1,7 @@
 -- One level fetched: the read, the room, and the place.
-use Rattle.std.proofs.Common.{◌≡◌, ℕ, ◌≤◌, Bool, true, false, cond, List, [], ◌∷◌, refl, sym, ap, ap₂, subst, subst₂, ◌∙◌, ◌⊎◌, inl, inr, arith, Option, Some, None, Result, Ok, Err}
+use Rattle.std.proofs.Common.{rules, ◌≡◌, ℕ, ◌≤◌, Bool, true, false, cond, List, [], ◌∷◌, refl, sym, ap, ap₂, subst, subst₂, ◌∙◌, ◌⊎◌, inl, inr, Option, Some, None, Result, Ok, Err}
 use Rattle.std.specs.Prelude.{IfSome, IfErr, IsErrAnd, option_map, unwrap_or}
-use Rattle.std.proofs.lemmas.Bool.{cases_Bool, cond-true, cond-false, false≢true}
+use Rattle.std.proofs.lemmas.Bool.{cases_Bool, cond-true, cond-false}
 use Rattle.std.proofs.lemmas.Option.{none-some, same_Some}
 use Rattle.std.proofs.lemmas.List.Elements.{All-contains}
 use Rattle.pmem_base.specs.declared.lines.Line.{Line}
@@ -25,7 +25,7 @@ use Rattle.meta_path.specs.Work.{HasWorked, FetchState}
 use Rattle.meta_path.specs.Levels.{expected_digest, dirty_position, victim_write, room_write, without_dirty, HasRoomMade, IsLevelFetched, IsLevelRead, IsLevelCut}
 use Rattle.meta_path.specs.Storing.{IsCleaned}
 use Rattle.meta_path.proofs.SetFacts.{holds_slot, victim_contained, slot_with-victim, placed-without_dirty, clean_victim, holds-without_dirty}
-use Rattle.meta_path.proofs.WorkLemmas.{RisesBy-none, HasWorked-written, HasWorked-then}
+use Rattle.meta_path.proofs.WorkLemmas.{HasWorked-written, HasWorked-then}
 
 -- an answer that turns a cut into the fault has what the fault says
 pub fault_of_cut : {X : Type 0} (answer : Result X PathFault) (P : PathFault → Type 0)
@@ -38,25 +38,7 @@ pub cut_at_read : (g : Shape) (bank x : ℕ) (cache : CacheState) (old new : Dev
     → is_cached g cache.banks bank x ≡ false → WasCut old new → old.live ≡ false
     → IsLevelCut g bank x (record { cache = cache; device = old; digests = digests })
     (record { cache = cache; device = new; digests = digests })
-cut_at_read g bank x cache old new digests absent cut dead =
-    record {
-      absent = absent;
-      cache = refl;
-      tries = 0;
-      at_most_one = omega arith;
-      reads = RisesBy-none old.reads new.reads cut.reads;
-      digests = refl;
-      unsteady = cut.unsteady;
-      off = cut.off;
-      never_falls = cut.never_falls;
-      rose = cut.rose;
-      size = cut.size;
-      lines = cut.lines;
-      regs = cut.regs;
-      writes = cut.writes;
-      latches = cut.latches;
-      victim = λ live. absurd (false≢true (sym dead ∙ live));
-    }
+cut_at_read g bank x cache old new digests absent cut dead = search rules
 
 -- ---- room
 
@@ -169,13 +151,7 @@ room_clean g bank x old_cache new_cache old new its form made =
 pub ChangesSet-twice : (old mid new : CacheState) (bank set : ℕ) (first second : List Slot)
     → ChangesSet old mid bank set first → ChangesSet mid new bank set second
     → KeepsWays (set_of old.banks bank set) second → ChangesSet old new bank set second
-ChangesSet-twice old mid new bank set first second one two ways =
-    record {
-      shape = two.shape ∙ one.shape;
-      here = two.here;
-      ways = ways;
-      elsewhere = λ bank' set' apart. two.elsewhere bank' set' apart ∙ one.elsewhere bank' set' apart;
-    }
+ChangesSet-twice old mid new bank set first second one two ways = search rules
 
 -- ---- the level
 

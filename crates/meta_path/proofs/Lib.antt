@@ -1,6 +1,8 @@
 pub mod FetchLemmas
 pub mod KeepLemmas
 pub mod KeepLaws
+pub mod CauseLaws
+pub mod RunLaws
 pub mod LevelLemmas
 pub mod NameLemmas
 pub mod PathFacts

@@ -1,8 +1,7 @@
 -- Blocks of a path are named, level by level.
-use Rattle.std.proofs.Common.{◌≡◌, ℕ, zero, suc, ◌+◌, ◌<◌, ◌≤◌, Bool, true, false, cond, List, [], ◌∷◌, ◌++◌, length, refl, sym, ap, ap₂, subst, ◌∙◌, ◌⊎◌, inl, inr, arith, mod-lt, Option, Some, None, Result, Ok, Err}
+use Rattle.std.proofs.Common.{rules, ◌≡◌, ℕ, zero, suc, ◌+◌, ◌<◌, ◌≤◌, Bool, true, false, cond, List, [], ◌∷◌, ◌++◌, length, refl, sym, ap, subst, ◌∙◌, inl, inr, arith, mod-lt, Option, Some, None, Result, Ok, Err}
 use Rattle.std.specs.Prelude.{◌↔◌, IsNone, OnErr, option_map, unwrap_or, is_some}
-use Rattle.std.proofs.lemmas.Bool.{cases_eq, cond-true, cond-false, eq-eqb, ne_eqb, false≢true, both_ways}
-use Rattle.std.proofs.lemmas.Option.{none-some}
+use Rattle.std.proofs.lemmas.Bool.{cases_eq, eq-eqb, false≢true, both_ways}
 use Rattle.std.proofs.lemmas.List.{length-append}
 use Rattle.pmem_base.specs.declared.lines.Line.{Line}
 use Rattle.pmem_base.specs.Counts.{HasRisen}
@@ -22,72 +21,32 @@ use Rattle.meta_cache.proofs.FormLemmas.{way_low, number_low}
 use Rattle.meta_path.specs.Blocks.{path_at, slots_at, number_in, IsPathCached}
 use Rattle.meta_path.specs.Work.{HasWorked}
 use Rattle.meta_path.specs.Naming.{path_number, is_slot_named, named_slot, naming_write, named_path, naming_writes, IsSlotNamed, IsSlotCut, ArePathEntries, IsNamedTo, IsNamingCut}
-use Rattle.meta_path.proofs.WorkLemmas.{HasWorked-none, HasWorked-written, HasWorked-then}
+use Rattle.meta_path.proofs.WorkLemmas.{not_steady, HasWorked-then}
 
 -- ---- one slot
 
--- an answer that is there names an entry that didn't name the position
-some_not_none : {W : Type 0} (answer : Option W) (write : W) → answer ≡ Some write → IsNone answer → ⊥
-some_not_none None write is none = none-some write is
-some_not_none (Some other) write is none = false≢true (sym none)
-
 pub unnamed : {W : Type 0} (g : Shape) (shadow : List Line) (bank n x : ℕ) (answer : Option W) (write : W) → answer ≡ Some write
     → (IsNone answer ↔ (slot_entry g shadow bank n ≡ x + 1)) → is_slot_named g shadow bank n x ≡ false
-unnamed g shadow bank n x answer write is already =
-    ne_eqb (slot_entry g shadow bank n) (x + 1) (λ e. some_not_none answer write is (already.1 e))
+unnamed g shadow bank n x answer write is already = search rules
 
 -- the shadow line was written
 pub IsSlotNamed-written : (g : Shape) (bank n x : ℕ) (old_mirror new_mirror : List Line) (old new : Device) (at : ℕ) (line : Line)
     → is_slot_named g old_mirror bank n x ≡ false → new_mirror ≡ with_named g old_mirror bank n x
     → at ≡ shadow_line g (entry_line g bank n) → line ≡ naming_line g old_mirror bank n x
     → HasWritten old at line new → IsSlotNamed g bank n x old_mirror new_mirror old new
-IsSlotNamed-written g bank n x old_mirror new_mirror old new at line not_named written place bytes done =
-    record {
-      mirror = written ∙ sym (cond-false (is_slot_named g old_mirror bank n x) old_mirror (with_named g old_mirror bank n x) not_named);
-      work =
-          subst (λ entries. HasWorked 0 entries old new)
-          (ap₂ (λ (a : ℕ) (l : Line). (a, l) ∷ []) place bytes
-          ∙ sym (cond-false (is_slot_named g old_mirror bank n x) []
-          ((shadow_line g (entry_line g bank n), naming_line g old_mirror bank n x) ∷ []) not_named))
-          (HasWorked-written old at line new done);
-    }
+IsSlotNamed-written g bank n x old_mirror new_mirror old new at line not_named written place bytes done = search rules
 
 -- the entry named the position already
 pub IsSlotNamed-already : (g : Shape) (bank n x : ℕ) (old_mirror new_mirror : List Line) (device : Device)
     → slot_entry g old_mirror bank n ≡ x + 1 → new_mirror ≡ old_mirror
     → IsSlotNamed g bank n x old_mirror new_mirror device device
-IsSlotNamed-already g bank n x old_mirror new_mirror device named same =
-    record {
-      mirror =
-          same ∙ sym (cond-true (is_slot_named g old_mirror bank n x) old_mirror (with_named g old_mirror bank n x)
-          (eq-eqb (slot_entry g old_mirror bank n) (x + 1) named));
-      work =
-          subst (λ entries. HasWorked 0 entries device device)
-          (sym (cond-true (is_slot_named g old_mirror bank n x) []
-          ((shadow_line g (entry_line g bank n), naming_line g old_mirror bank n x) ∷ [])
-          (eq-eqb (slot_entry g old_mirror bank n) (x + 1) named)))
-          (HasWorked-none device);
-    }
+IsSlotNamed-already g bank n x old_mirror new_mirror device named same = search rules
 
 -- the write was cut
 pub IsSlotCut-from : (g : Shape) (bank n x : ℕ) (old_mirror new_mirror : List Line) (old new : Device)
     → is_slot_named g old_mirror bank n x ≡ false → new_mirror ≡ with_named g old_mirror bank n x → WasCut old new
     → IsSlotCut g bank n x old_mirror new_mirror old new
-IsSlotCut-from g bank n x old_mirror new_mirror old new not_named written cut =
-    record {
-      mirror = written ∙ sym (cond-false (is_slot_named g old_mirror bank n x) old_mirror (with_named g old_mirror bank n x) not_named);
-      unnamed = not_named;
-      unsteady = cut.unsteady;
-      off = cut.off;
-      never_falls = cut.never_falls;
-      rose = cut.rose;
-      size = cut.size;
-      lines = cut.lines;
-      regs = cut.regs;
-      reads = cut.reads;
-      writes = cut.writes;
-      latches = cut.latches;
-    }
+IsSlotCut-from g bank n x old_mirror new_mirror old new not_named written cut = search rules
 
 -- what an answer that is an error has
 pub on_err : {X E : Type 0} (answer : Result X E) (P : Type 0) → P → OnErr answer P
@@ -96,97 +55,77 @@ on_err (Err e) P holds = holds
 
 -- ---- the path's slots, level by level
 
-pub IsNamedTo-none : (g : Shape) (banks : Banks) (page : ℕ) (mirror : List Line) (device : Device)
-    → IsNamedTo g banks page 0 mirror mirror device device
-IsNamedTo-none g banks page mirror device =
-    record {
-      mirror = refl;
-      entries = record { named = λ j h. absurd (omega arith); others = λ bank m h apart. refl };
-      work = HasWorked-none device;
-    }
+module _ {g : Shape} {banks : Banks} {page n : ℕ} {old_mirror mid_mirror new_mirror : List Line} {old mid : Device}
+    (low : (j : ℕ) → j ≤ n → path_number g banks page j < slots g)
+    (before : IsNamedTo g banks page n old_mirror mid_mirror old mid)
+    (names : Names g mid_mirror new_mirror n (path_number g banks page n) (path_at g page n)) where
+  -- one entry more
+  entries_more : ArePathEntries g banks page (n + 1) old_mirror new_mirror
+  entries_more =
+      record {
+        named = λ j h.
+            elim (cases_eq j n) [
+              | inl same ↦
+                  subst (λ k. slot_entry g new_mirror k (path_number g banks page k) ≡ path_at g page k + 1) (sym same) names.entry
+              | inr other ↦
+                  names.others j (path_number g banks page j) (low j (omega arith)) (λ e. other e.0)
+                  ∙ before.entries.named j (omega arith)
+            ];
+        others =
+            λ bank m h apart.
+            names.others bank m h
+            (λ e. apart (omega (arith, e.0), e.1 ∙ ap (path_number g banks page) (sym e.0)))
+            ∙ before.entries.others bank m h (λ e. apart (omega (arith, e.0), e.1));
+      }
 
--- one entry more
-entries_more : (g : Shape) (banks : Banks) (page n : ℕ) (old mid new : List Line)
-    → ((j : ℕ) → j ≤ n → path_number g banks page j < slots g)
-    → ArePathEntries g banks page n old mid → Names g mid new n (path_number g banks page n) (path_at g page n)
-    → ArePathEntries g banks page (suc n) old new
-entries_more g banks page n old mid new low before names =
-    record {
-      named = λ j h. named j h (cases_eq j n);
-      others =
-          λ bank m h apart.
-          names.others bank m h
-          (λ e. apart (omega (arith, e.0), e.1 ∙ ap (path_number g banks page) (sym e.0)))
-          ∙ before.others bank m h (λ e. apart (omega (arith, e.0), e.1));
-    }
-  where
-    named : (j : ℕ) → j < suc n → (j ≡ n) ⊎ (j ≡ n → ⊥) → slot_entry g new j (path_number g banks page j) ≡ path_at g page j + 1
-    named j h (inl same) =
-        subst (λ k. slot_entry g new k (path_number g banks page k) ≡ path_at g page k + 1) (sym same) names.entry
-    named j h (inr other) =
-        names.others j (path_number g banks page j) (low j (omega arith)) (λ e. other e.0) ∙ before.named j (omega arith)
+  mirror_more : new_mirror ≡ named_slot g mid_mirror n (path_number g banks page n) (path_at g page n)
+      → new_mirror ≡ named_path g banks page old_mirror (n + 1)
+  mirror_more is =
+      let next : suc n ≡ n + 1 = omega arith in
+      is ∙ ap (λ shadow. named_slot g shadow n (path_number g banks page n) (path_at g page n)) before.mirror
+      ∙ ap (named_path g banks page old_mirror) next
 
-pub IsNamedTo-more : (g : Shape) (banks : Banks) (page n : ℕ) (old_mirror mid_mirror new_mirror : List Line) (old mid new : Device)
-    → ((j : ℕ) → j ≤ n → path_number g banks page j < slots g)
-    → IsNamedTo g banks page n old_mirror mid_mirror old mid
-    → Names g mid_mirror new_mirror n (path_number g banks page n) (path_at g page n)
-    → IsSlotNamed g n (path_number g banks page n) (path_at g page n) mid_mirror new_mirror mid new
-    → IsNamedTo g banks page (suc n) old_mirror new_mirror old new
-IsNamedTo-more g banks page n old_mirror mid_mirror new_mirror old mid new low before names level =
-    record {
-      mirror =
-          level.mirror ∙ ap (λ shadow. named_slot g shadow n (path_number g banks page n) (path_at g page n)) before.mirror;
-      entries = entries_more g banks page n old_mirror mid_mirror new_mirror low before.entries names;
-      work =
-          subst (λ shadow. HasWorked 0
-          (naming_writes g banks page old_mirror n ++ naming_write g shadow n (path_number g banks page n) (path_at g page n))
-          old new) before.mirror
-          (HasWorked-then 0 0 (naming_writes g banks page old_mirror n)
-          (naming_write g mid_mirror n (path_number g banks page n) (path_at g page n)) old mid new before.work level.work);
-    }
+  pub IsNamedTo-more : {new : Device} → IsSlotNamed g n (path_number g banks page n) (path_at g page n) mid_mirror new_mirror mid new
+      → IsNamedTo g banks page (n + 1) old_mirror new_mirror old new
+  IsNamedTo-more {new} level =
+      let next : suc n ≡ n + 1 = omega arith in
+      record {
+        mirror = mirror_more level.mirror;
+        entries = entries_more;
+        work =
+            subst (λ k. HasWorked 0 (naming_writes g banks page old_mirror k) old new) next
+            (subst (λ shadow. HasWorked 0
+            (naming_writes g banks page old_mirror n ++ naming_write g shadow n (path_number g banks page n) (path_at g page n))
+            old new) before.mirror
+            (HasWorked-then 0 0 (naming_writes g banks page old_mirror n)
+            (naming_write g mid_mirror n (path_number g banks page n) (path_at g page n)) old mid new before.work level.work));
+      }
 
-pub IsNamingCut-at : (g : Shape) (banks : Banks) (page n : ℕ) (old_mirror mid_mirror new_mirror : List Line) (old mid new : Device)
-    → n ≤ g.levels → ((j : ℕ) → j ≤ n → path_number g banks page j < slots g)
-    → IsNamedTo g banks page n old_mirror mid_mirror old mid
-    → Names g mid_mirror new_mirror n (path_number g banks page n) (path_at g page n)
-    → IsSlotCut g n (path_number g banks page n) (path_at g page n) mid_mirror new_mirror mid new
-    → IsNamingCut g banks page old_mirror new_mirror old new
-IsNamingCut-at g banks page n old_mirror mid_mirror new_mirror old mid new le low before names cut =
-    record {
-      n = n;
-      on_path = le;
-      mirror =
-          cut.mirror ∙ ap (λ shadow. named_slot g shadow n (path_number g banks page n) (path_at g page n)) before.mirror
-          ∙ ap (named_path g banks page old_mirror) next;
-      entries =
-          subst (λ k. ArePathEntries g banks page k old_mirror new_mirror) next
-          (entries_more g banks page n old_mirror mid_mirror new_mirror low before.entries names);
-      unnamed = λ e.
-          both_ways (is_slot_named g mid_mirror n (path_number g banks page n) (path_at g page n)) cut.unnamed
-          (eq-eqb (slot_entry g mid_mirror n (path_number g banks page n)) (path_at g page n + 1)
-          (before.entries.others n (path_number g banks page n) (low n (omega arith)) (λ h. omega (arith, h.0)) ∙ e));
-      lines = cut.lines ∙ before.work.lines;
-      writes =
-          subst (RisesBy (length (naming_writes g banks page old_mirror n)) old.writes) (sym cut.writes) before.work.writes;
-      unsteady = not_steady (λ s. before.work.steady s) cut.unsteady;
-      off = cut.off;
-      never_falls = omega (arith, cut.never_falls, before.work.cuts);
-      rose = subst (λ count. HasRisen count new.cuts) before.work.cuts cut.rose;
-      size = cut.size ∙ before.work.size;
-      regs = cut.regs ∙ before.work.regs;
-      reads = cut.reads ∙ before.work.no_read refl;
-      latches = cut.latches ∙ before.work.latches;
-    }
-  where
-    next : suc n ≡ n + 1
-    next = omega arith
-
-    not_steady : {a b : Bool} → (a ≡ true → b ≡ true) → b ≡ false → a ≡ false
-    not_steady {a} {b} keeps unsteady = by a refl
-      where
-        by : (test : Bool) → a ≡ test → a ≡ false
-        by true is = absurd (both_ways b unsteady (keeps is))
-        by false is = is
+  pub IsNamingCut-at : {new : Device} → n ≤ g.levels
+      → IsSlotCut g n (path_number g banks page n) (path_at g page n) mid_mirror new_mirror mid new
+      → IsNamingCut g banks page old_mirror new_mirror old new
+  IsNamingCut-at {new} le cut =
+      record {
+        n = n;
+        on_path = le;
+        mirror = mirror_more cut.mirror;
+        entries = entries_more;
+        unnamed = λ e.
+            both_ways (is_slot_named g mid_mirror n (path_number g banks page n) (path_at g page n)) cut.unnamed
+            (eq-eqb (slot_entry g mid_mirror n (path_number g banks page n)) (path_at g page n + 1)
+            (before.entries.others n (path_number g banks page n) (low n (omega arith)) (λ h. omega (arith, h.0)) ∙ e));
+        lines = cut.lines ∙ before.work.lines;
+        writes =
+            subst (RisesBy (length (naming_writes g banks page old_mirror n)) old.writes) (sym cut.writes) before.work.writes;
+        unsteady = not_steady before.work.steady cut.unsteady;
+        off = cut.off;
+        never_falls = omega (arith, cut.never_falls, before.work.cuts);
+        rose = subst (λ count. HasRisen count new.cuts) before.work.cuts cut.rose;
+        size = cut.size ∙ before.work.size;
+        regs = cut.regs ∙ before.work.regs;
+        reads = cut.reads ∙ before.work.no_read refl;
+        latches = cut.latches ∙ before.work.latches;
+      }
 
 -- at most one write a level
 pub length-naming_writes : (g : Shape) (banks : Banks) (page : ℕ) (shadow : List Line) (n : ℕ)
@@ -212,9 +151,7 @@ length-naming_writes g banks page shadow (suc n) =
 pub number_is : (g : Shape) (cache : CacheState) (bank x n : ℕ) → cache.shape ≡ g
     → option_map (slot_number cache.shape (set_index cache.shape x)) (slot_with (slots_of cache bank x) x) ≡ Some n
     → number_in g cache.banks bank x ≡ n
-number_is g cache bank x n its is =
-    ap (λ o. unwrap_or o 0)
-    (subst (λ (k : Shape). option_map (slot_number k (set_index k x)) (slot_with (slots_at k cache.banks bank x) x) ≡ Some n) its is)
+number_is g cache bank x n its is = search rules
 
 pub number_in_low : (g : Shape) (banks : Banks) (bank x : ℕ) → 1 ≤ g.sets → IsSetOf g (set_index g x) (slots_at g banks bank x)
     → is_cached g banks bank x ≡ true → number_in g banks bank x < slots g

@@ -151,8 +151,9 @@ holds-fetched_set g truth banks bank x = by_test (cases_Bool (is_cached g banks 
 
 -- ---- an empty cache
 
-no_slots : (g : Shape) (bank set : ℕ) → set_of (empty_banks g) bank set ≡ []
-no_slots g bank set =
+-- no set of it has a slot
+pub set_of-empty_banks : (g : Shape) (bank set : ℕ) → set_of (empty_banks g) bank set ≡ []
+set_of-empty_banks g bank set =
     set_of-get_or (empty_banks g) bank set ∙ by (cases_lt bank (g.levels + 1)) (cases_lt set g.sets)
   where
     sets : List (List Slot)
@@ -174,5 +175,5 @@ no_slots g bank set =
 pub AreInTheirBanks-empty : (g : Shape) → AreInTheirBanks g (empty_banks g)
 AreInTheirBanks-empty g =
     record {
-      each = λ bank set. subst (All (IsOfItsBank g bank)) (sym (no_slots g bank set)) (All-nil (IsOfItsBank g bank));
+      each = λ bank set. subst (All (IsOfItsBank g bank)) (sym (set_of-empty_banks g bank set)) (All-nil (IsOfItsBank g bank));
     }

@@ -1,14 +1,14 @@
 -- A path is made anew over the cached lines, from the counter block up.
-use Rattle.std.proofs.Common.{◌≡◌, ℕ, suc, ◌+◌, ◌<◌, ◌≤◌, List, [], ◌∷◌, ◌++◌, length, map, true, refl, sym, ap, ◌∙◌, arith}
+use Rattle.std.proofs.Common.{◌≡◌, ℕ, suc, ◌+◌, ◌<◌, ◌≤◌, List, [], ◌∷◌, ◌++◌, length, map, true, sym, ap, ap₂, subst, ◌∙◌, arith}
 use Rattle.std.specs.Prelude.{All}
-use Rattle.std.proofs.lemmas.List.{append_assoc}
+use Rattle.std.proofs.lemmas.List.{append_assoc, append-nil}
 use Rattle.std.proofs.lemmas.List.Elements.{All-cons, All-nil}
 use Rattle.pmem_base.specs.declared.lines.Line.{Line}
 use Rattle.pmem_base.specs.Shape.{Shape}
 use Rattle.pmem_base.specs.Layout.{pages}
 use Rattle.pmem_base.specs.Lines.{IsLine, line_at}
 use Rattle.suite.specs.Formulas.{Formulas}
-use Rattle.bonsai_tree.specs.Positions.{parent, child_slot, level_of, is_on_path}
+use Rattle.bonsai_tree.specs.Positions.{parent, child_slot, level_of, counter_position, is_on_path}
 use Rattle.bonsai_tree.specs.Paths.{with_child_digest, node_above, new_path, new_root, path_with, root_with}
 use Rattle.bonsai_tree.proofs.PathPositions.{path_of-block, on_path-position, path_of-at}
 use Rattle.bonsai_tree.proofs.Trees.{path_with-positions, path_with-same}
@@ -29,54 +29,43 @@ pub record IsRenewedTo (g : Shape) (f : Formulas) (old : ℕ → Line) (page : �
   pub top : new_root f old j x line ≡ root_with g f old page block
   pub each : All (λ entry. IsLine entry.1) lines
 
-pub IsRenewedTo-none : (g : Shape) (f : Formulas) (old : ℕ → Line) (page : ℕ) (block : Line) (x : ℕ)
-    → x ≡ path_at g page g.levels → IsLine block → IsRenewedTo g f old page block 0 g.levels x block []
-unfolding path_with root_with
-IsRenewedTo-none g f old page block x is whole =
-    record {
-      levels = omega arith;
-      count = refl;
-      position = is;
-      whole = whole;
-      rest = append_nil (new_path f old g.levels x block) ∙ ap (λ y. new_path f old g.levels y block) (is ∙ path_of-block g page);
-      top = ap (λ y. new_root f old g.levels y block) (is ∙ path_of-block g page);
-      each = All-nil (λ entry. IsLine entry.1);
-    }
-  where
-    append_nil : (xs : List (ℕ × Line)) → xs ++ [] ≡ xs
-    append_nil [] = refl
-    append_nil (x ∷ xs) = ap (λ rest. x ∷ rest) (append_nil xs)
+module _ {g : Shape} {f : Formulas} {old : ℕ → Line} {page : ℕ} {block : Line} where
+  pub IsRenewedTo-none : {j x : ℕ} {lines : List (ℕ × Line)} → j ≡ g.levels → x ≡ path_at g page g.levels → IsLine block
+      → lines ≡ [] → IsRenewedTo g f old page block 0 j x block lines
+  unfolding path_with root_with
+  IsRenewedTo-none {j} {x} {lines} all is whole none =
+      let place : x ≡ path_at g page j = is ∙ ap (path_at g page) (sym all) in
+      let at : (j ≡ g.levels) × (x ≡ counter_position g page) = (all, is ∙ path_of-block g page) in
+      record {
+        levels = omega (arith, all);
+        count = ap (λ (xs : List (ℕ × Line)). length xs) none;
+        position = place;
+        whole = whole;
+        rest = ap (λ xs. new_path f old j x block ++ xs) none ∙ append-nil (new_path f old j x block) ∙ ap₂ (λ k y. new_path f old k y block) at.0 at.1;
+        top = ap₂ (λ k y. new_root f old k y block) at.0 at.1;
+        each = subst (λ (xs : List (ℕ × Line)). All (λ entry. IsLine entry.1) xs) (sym none) (All-nil (λ entry. IsLine entry.1));
+      }
 
--- one level more
-pub IsRenewedTo-more : (g : Shape) (f : Formulas) (old : ℕ → Line) (page : ℕ) (block : Line) (i j x : ℕ) (line next : Line)
-    (lines : List (ℕ × Line)) → IsRenewedTo g f old page block i (suc j) x line lines
-    → next ≡ node_above f old x line → IsLine next
-    → IsRenewedTo g f old page block (suc i) j (parent x) next ((x, line) ∷ lines)
-IsRenewedTo-more g f old page block i j x line next lines before is whole =
-    record {
-      levels = omega (arith, before.levels);
-      count = omega (arith, before.count);
-      position =
-          ap parent before.position ∙ path_at-parent g page j (omega (arith, before.levels));
-      whole = whole;
-      rest =
-          ap (λ l. new_path f old j (parent x) l ++ ((x, line) ∷ lines)) is
-          ∙ sym (append_assoc (new_path f old j (parent x) (node_above f old x line)) ((x, line) ∷ []) lines)
-          ∙ before.rest;
-      top = ap (new_root f old j (parent x)) is ∙ before.top;
-      each = All-cons (λ entry. IsLine entry.1) (x, line) lines before.whole before.each;
-    }
-
--- all levels
-pub lines_renewed : (g : Shape) (f : Formulas) (old : ℕ → Line) (page : ℕ) (block : Line) (i x : ℕ) (line : Line)
-    (lines : List (ℕ × Line)) → IsRenewedTo g f old page block i 0 x line lines
-    → (x, line) ∷ lines ≡ path_with g f old page block
-lines_renewed g f old page block i x line lines done = done.rest
-
-pub root_renewed : (g : Shape) (f : Formulas) (old : ℕ → Line) (page : ℕ) (block : Line) (i x : ℕ) (line : Line)
-    (lines : List (ℕ × Line)) → IsRenewedTo g f old page block i 0 x line lines
-    → f.digest_of x line ≡ root_with g f old page block
-root_renewed g f old page block i x line lines done = done.top
+  -- one level more
+  pub IsRenewedTo-more : {i j x next_x : ℕ} {line next : Line} {lines more : List (ℕ × Line)}
+      → IsRenewedTo g f old page block i (suc j) x line lines → next_x ≡ parent x → next ≡ node_above f old x line → IsLine next
+      → more ≡ (x, line) ∷ lines → IsRenewedTo g f old page block (i + 1) j next_x next more
+  IsRenewedTo-more {i} {j} {x} {next_x} {line} {next} {lines} {more} before above is whole put =
+      record {
+        levels = omega (arith, before.levels);
+        count = ap (λ (xs : List (ℕ × Line)). length xs) put ∙ omega (arith, before.count);
+        position = above ∙ ap parent before.position ∙ path_at-parent g page j (omega (arith, before.levels));
+        whole = whole;
+        rest =
+            ap₂ (λ y l. new_path f old j y l ++ more) above is
+            ∙ ap (λ xs. new_path f old j (parent x) (node_above f old x line) ++ xs) put
+            ∙ sym (append_assoc (new_path f old j (parent x) (node_above f old x line)) ((x, line) ∷ []) lines)
+            ∙ before.rest;
+        top = ap₂ (new_root f old j) above is ∙ before.top;
+        each =
+            subst (λ (xs : List (ℕ × Line)). All (λ entry. IsLine entry.1) xs) (sym put)
+            (All-cons (λ entry. IsLine entry.1) (x, line) lines before.whole before.each);
+      }
 
 -- the cached parent
 pub parent_line : (g : Shape) (banks : Banks) (page j x : ℕ) → page < pages g → g.levels ≤ 6 → suc j ≤ g.levels
@@ -119,11 +108,11 @@ IsRenewed-true g f banks truth page block lines root inside few cached is_true l
     same = path_with-same g f (cached_line g banks) (line_at truth) page block on
 
 -- the node that the code makes
-pub node_is : (g k : Shape) (f other : Formulas) (banks : Banks) (page left x bank : ℕ) (line node : Line)
+pub node_is : {g k : Shape} {f other : Formulas} (banks : Banks) {page left x bank : ℕ} (line : Line) {node : Line}
     → page < pages g → g.levels ≤ 6 → suc left ≤ g.levels → x ≡ path_at g page (suc left) → k ≡ g → bank ≡ left → other ≡ f
     → node ≡ with_child_digest (line_in k banks bank (parent x)) (child_slot x) (other.digest_of x line)
     → node ≡ node_above f (cached_line g banks) x line
-node_is g k f other banks page left x bank line node inside few le position its bank_is formulas is =
+node_is {g} {k} {f} {other} banks {page} {left} {x} {bank} line {node} inside few le position its bank_is formulas is =
     is
     ∙ ap (λ (h : Formulas). with_child_digest (line_in k banks bank (parent x)) (child_slot x) (h.digest_of x line)) formulas
     ∙ ap (λ (h : Shape). with_child_digest (line_in h banks bank (parent x)) (child_slot x) (f.digest_of x line)) its

@@ -1,11 +1,12 @@
 -- One set of slots: its slots, its dirty ones, and the block to give way.
+use Rattle.std.proofs.lemmas.Grind.{common_steps}
 use Rattle.std.proofs.Common.{◌≡◌, ◌≢◌, ℕ, zero, suc, ◌+◌, ◌-◌, ◌<◌, ◌≤◌, Bool, true, false, cond, List, [], ◌∷◌, ◌++◌, length, get_or, take, drop, map, refl, sym, ap, ap₂, subst, ◌∙◌, ◌⊎◌, inl, inr, arith, Option, Some, None}
 use Rattle.std.specs.Prelude.{◌==◌, ◌||◌, nat_lt, not, filter, slice_get, All, AllPairs, Contains, IfSome}
 use Rattle.std.proofs.lemmas.Bool.{cases_Bool, cases_lt, eq-eqb, eqb-true, ne_eqb, cond-true, cond-false, both_ways, le-ltb, lt-ltb, not_from_false}
 use Rattle.std.proofs.lemmas.Option.{slice_get_within, slice_get-get_or, get_or_from_slice_get, none-some, slice_get_read}
-use Rattle.std.proofs.lemmas.List.{drop_all, length-append, length-take-le, take_at, take-append-drop, drop_more, get_or_append_left, get_or-append_right, map-append}
+use Rattle.std.proofs.lemmas.List.{drop_all, length-append, length-take-le, take-append-drop, drop_more, get_or_append_left, get_or-append_right, map-append}
 use Rattle.std.proofs.lemmas.List.Elements.{All-head, All-tail, Contains-append_left, Contains-append_right, Contains-append_cases}
-use Rattle.std.proofs.lemmas.List.Folds.{map_fixed, list_any_none, list_any_at, Any-from_list_any}
+use Rattle.std.proofs.lemmas.List.Folds.{map_fixed, list_any_none, Any-from_list_any}
 use Rattle.std.proofs.lemmas.List.Filters.{sum_by-filter_both}
 use Rattle.std.proofs.lemmas.List.Sums.{sum_by-append}
 use Rattle.pmem_base.specs.declared.lines.Line.{Line}
@@ -30,11 +31,11 @@ only_one y x (zero, within, is) = is
 only_one y x (suc k, within, is) = absurd (omega arith)
 
 pub contains_cases : {X : Type 0} (y : X) (xs : List X) (x : X) → Contains (y ∷ xs) x → (y ≡ x) ⊎ Contains xs x
-contains_cases y xs x found = by (Contains-append_cases (y ∷ []) xs x found)
-  where
-    by : Contains (y ∷ []) x ⊎ Contains xs x → (y ≡ x) ⊎ Contains xs x
-    by (inl first) = inl (only_one y x first)
-    by (inr later) = inr later
+contains_cases y xs x found =
+    elim (Contains-append_cases (y ∷ []) xs x found) [
+      | inl first ↦ inl (only_one y x first)
+      | inr later ↦ inr later
+    ]
 
 pub contains_none : {X : Type 0} (x : X) → Contains [] x → ⊥
 contains_none x (k, within, is) = omega arith
@@ -92,6 +93,26 @@ map_contains {X = X} f (x ∷ xs) y found =
         let found : (z : X) × Contains xs z × (f z ≡ y) = rest later in
         (found.0, contains_later x xs found.0 found.1, found.2)
 
+-- where each slot of a set became one that R holds of, each slot now is from one before, and each one before is there
+module _ (R : ℕ → Slot → Slot → Type 0) (old new : ℕ → ℕ → List Slot)
+    (each : (bank set : ℕ) → (f : Slot → Slot) × (new bank set ≡ map f (old bank set))
+    × ((slot : Slot) → Contains (old bank set) slot → R bank slot (f slot))) where
+  pub slots_from : (bank set : ℕ) (now : Slot) → Contains (new bank set) now
+      → (before : Slot) × Contains (old bank set) before × R bank before now
+  slots_from bank set now found =
+      let here = each bank set in
+      let from = map_contains here.0 (old bank set) now (subst (λ slots. Contains slots now) here.1 found) in
+      (from.0, from.1, subst (R bank from.0) from.2 (here.2 from.0 from.1))
+
+  pub slots_to : (bank set : ℕ) (before : Slot) → Contains (old bank set) before
+      → (now : Slot) × Contains (new bank set) now × R bank before now
+  slots_to bank set before found =
+      let here = each bank set in (
+        here.0 before,
+        subst (λ slots. Contains slots (here.0 before)) (sym here.1) (contains_map here.0 (old bank set) before found),
+        here.2 before found,
+      )
+
 pub pairs_tail : {X : Type 0} (R : X → X → Type 0) (x : X) (xs : List X) → AllPairs R (x ∷ xs) → AllPairs R xs
 pairs_tail R x xs pairs = λ i j d less h. pairs (suc i) (suc j) d (omega arith) (omega arith)
 
@@ -102,9 +123,7 @@ pairs_head R x xs pairs = λ k d h. pairs 0 (suc k) d (omega arith) (omega arith
 
 -- a slot of the set makes its position held
 pub holds_slot : (slots : List Slot) (slot : Slot) → Contains slots slot → holds slots slot.position ≡ true
-holds_slot slots slot (k, within, is) =
-    list_any_at (λ (s : Slot). s.position == slot.position) slots k slot within
-    (eq-eqb (get_or slots k slot).position slot.position (ap (λ (s : Slot). s.position) is))
+holds_slot slots slot v2 = grind (arith, common_steps)
 
 -- a held position has a slot
 pub slot_held : (slots : List Slot) (x : ℕ) → holds slots x ≡ true
@@ -112,18 +131,6 @@ pub slot_held : (slots : List Slot) (x : ℕ) → holds slots x ≡ true
 slot_held slots x held =
     let found = Any-from_list_any (λ (s : Slot). s.position == x) slots held in
     (found.1, (found.0, found.2, found.3), eqb-true found.1.position x found.4)
-
--- a position that no slot has
-pub not_held : (slots : List Slot) (x : ℕ) → ((slot : Slot) → Contains slots slot → slot.position ≢ x)
-    → holds slots x ≡ false
-not_held slots x none =
-    list_any_none (λ (s : Slot). s.position == x) slots
-    (λ k d h. ne_eqb (get_or slots k d).position x (none (get_or slots k d) (k, h, get_or_same slots k d h)))
-  where
-    get_or_same : (slots : List Slot) (k : ℕ) (d : Slot) → k < length slots → get_or slots k (get_or slots k d) ≡ get_or slots k d
-    get_or_same [] k d h = absurd (omega arith)
-    get_or_same (s ∷ slots) zero d h = refl
-    get_or_same (s ∷ slots) (suc k) d h = get_or_same slots k d (omega arith)
 
 -- ---- a use changes the order alone
 
@@ -176,36 +183,35 @@ pub record IsFull (ways : ℕ) (slots : List Slot) (front : List Slot) (victim :
 
 pub victim_last : (ways : ℕ) (slots : List Slot) (victim : Slot) → length slots ≤ ways
     → victim_of ways slots ≡ Some victim → IsFull ways slots (take (ways - 1) slots) victim
-victim_last ways slots victim room some = by_length (cases_lt (length slots) ways)
-  where
-    by_length : (length slots < ways) ⊎ (ways ≤ length slots) → IsFull ways slots (take (ways - 1) slots) victim
-    by_length (inl less) =
-        absurd (none-some victim (sym (cond-true (nat_lt (length slots) ways) None (slice_get slots (ways - 1)) (lt-ltb (length slots) ways less)) ∙ some))
-    by_length (inr full) =
-        let last : slice_get slots (ways - 1) ≡ Some victim =
-        sym (cond-false (nat_lt (length slots) ways) None (slice_get slots (ways - 1)) (le-ltb (length slots) ways full)) ∙ some in
-        let within : ways - 1 < length slots = slice_get_within slots (ways - 1) victim last in
-        let front : length (take (ways - 1) slots) ≡ ways - 1 = length-take-le (ways - 1) slots (omega arith) in
-        let back : drop (ways - 1) slots ≡ victim ∷ [] =
-        drop_more slots (ways - 1) victim within
-        ∙ ap₂ (λ s rest. s ∷ rest) (get_or_from_slice_get slots (ways - 1) victim victim last) (drop_all (ways - 1 + 1) slots (omega arith)) in
-        record {
-          split = sym (take-append-drop (ways - 1) slots) ∙ ap (λ rest. take (ways - 1) slots ++ rest) back;
-          long = omega arith;
-        }
+victim_last ways slots victim room some =
+    elim (cases_lt (length slots) ways) [
+      | inl less ↦
+          absurd (none-some victim (sym (cond-true (nat_lt (length slots) ways) None (slice_get slots (ways - 1)) (lt-ltb (length slots) ways less)) ∙ some))
+      | inr full ↦
+          let last : slice_get slots (ways - 1) ≡ Some victim =
+          sym (cond-false (nat_lt (length slots) ways) None (slice_get slots (ways - 1)) (le-ltb (length slots) ways full)) ∙ some in
+          let within : ways - 1 < length slots = slice_get_within slots (ways - 1) victim last in
+          let front : length (take (ways - 1) slots) ≡ ways - 1 = length-take-le (ways - 1) slots (omega arith) in
+          let back : drop (ways - 1) slots ≡ victim ∷ [] =
+          drop_more slots (ways - 1) victim within
+          ∙ ap₂ (λ s rest. s ∷ rest) (get_or_from_slice_get slots (ways - 1) victim victim last) (drop_all (ways - 1 + 1) slots (omega arith)) in
+          record {
+            split = sym (take-append-drop (ways - 1) slots) ∙ ap (λ rest. take (ways - 1) slots ++ rest) back;
+            long = omega arith;
+          }
+    ]
 
 -- the others of a set where none gives way
 pub no_victim : (ways : ℕ) (slots : List Slot) → 1 ≤ ways → victim_of ways slots ≡ None
     → (length slots < ways) × (without_victim ways slots ≡ slots)
-no_victim ways slots some none = by_length (cases_lt (length slots) ways)
-  where
-    by_length : (length slots < ways) ⊎ (ways ≤ length slots)
-        → (length slots < ways) × (without_victim ways slots ≡ slots)
-    by_length (inl less) = (less, cond-true (nat_lt (length slots) ways) slots (take (ways - 1) slots) (lt-ltb (length slots) ways less))
-    by_length (inr full) =
-        absurd (none-some (get_or slots (ways - 1) blank)
-        (sym none ∙ cond-false (nat_lt (length slots) ways) None (slice_get slots (ways - 1)) (le-ltb (length slots) ways full)
-        ∙ slice_get-get_or slots (ways - 1) blank (omega arith)))
+no_victim ways slots some none =
+    elim (cases_lt (length slots) ways) [
+      | inl less ↦ (less, cond-true (nat_lt (length slots) ways) slots (take (ways - 1) slots) (lt-ltb (length slots) ways less))
+      | inr full ↦
+          absurd (none-some (get_or slots (ways - 1) blank)
+          (sym none ∙ cond-false (nat_lt (length slots) ways) None (slice_get slots (ways - 1)) (le-ltb (length slots) ways full)
+          ∙ slice_get-get_or slots (ways - 1) blank (omega arith)))
+    ]
 
 -- a full set, seen from its parts
 full_long : (ways : ℕ) (front : List Slot) (victim : Slot) → length front + 1 ≡ ways
@@ -227,10 +233,7 @@ victim_of-full ways front victim long =
 
 without_victim-full : (ways : ℕ) (front : List Slot) (victim : Slot) → length front + 1 ≡ ways
     → without_victim ways (front ++ victim ∷ []) ≡ front
-without_victim-full ways front victim long =
-    cond-false (nat_lt (length (front ++ victim ∷ [])) ways) (front ++ victim ∷ []) (take (ways - 1) (front ++ victim ∷ []))
-    (le-ltb (length (front ++ victim ∷ [])) ways (full_long ways front victim long))
-    ∙ take_at front (victim ∷ []) (ways - 1) (omega arith)
+without_victim-full ways front victim long = grind (arith, common_steps)
 
 next_way-full : (ways : ℕ) (front : List Slot) (victim : Slot) → length front + 1 ≡ ways
     → next_way ways (front ++ victim ∷ []) ≡ victim.way

@@ -1,13 +1,15 @@
 -- New lines are stored, level by level.
-use Rattle.std.proofs.Common.{◌≡◌, ◌≢◌, ℕ, suc, ◌+◌, ◌<◌, ◌≤◌, Bool, true, false, cond, List, [], ◌∷◌, ◌++◌, length, get_or, take, map, set, refl, sym, ap, subst, subst₂, ◌∙◌, ◌⊎◌, inl, inr, arith}
+use Rattle.std.proofs.lemmas.Grind.{common_steps}
+use Rattle.std.proofs.Common.{rules, ◌≡◌, ◌≢◌, ℕ, ◌+◌, ◌<◌, ◌≤◌, Bool, true, cond, List, [], ◌∷◌, ◌++◌, length, get_or, take, map, set, refl, sym, ap, subst, ◌∙◌, inl, inr, arith}
 use Rattle.std.specs.Prelude.{◌==◌, ◌||◌, nat_lt, not, Contains}
-use Rattle.std.proofs.lemmas.Bool.{cases_eq, cases_lt, cases_Bool, cond-true, cond-false, eq-eqb, eqb-true, false≢true}
-use Rattle.std.proofs.lemmas.List.{length-map, take_more, get_or-map, get_or_default}
+use Rattle.std.proofs.lemmas.Bool.{cases_eq, cases_Bool, cond-true, cond-false, eq-eqb, eqb-true, false≢true}
+use Rattle.std.proofs.lemmas.List.{map-id, length-map, take_more, get_or-map}
 use Rattle.std.proofs.lemmas.List.Elements.{All-contains}
+use Rattle.std.proofs.lemmas.Simd.{map-map}
 use Rattle.pmem_base.specs.declared.lines.Line.{Line}
 use Rattle.pmem_base.specs.Shape.{Shape}
 use Rattle.pmem_base.specs.Layout.{meta_lines}
-use Rattle.pmem_base.specs.Lines.{put_lines, zero_line}
+use Rattle.pmem_base.specs.Lines.{put_lines}
 use Rattle.bonsai_tree.specs.Positions.{level_of}
 use Rattle.pmem_base.proofs.LineSets.{put_lines-append}
 use Rattle.bonsai_tree.proofs.PathPositions.{length-path_of}
@@ -20,8 +22,9 @@ use Rattle.meta_cache.specs.State.{CacheState, ChangesSet}
 use Rattle.meta_cache.proofs.WayLemmas.{KeepsWays-with_line, KeepsWays-with_mark}
 use Rattle.meta_path.specs.Blocks.{path_at, slots_at, IsPathCached, IsOfItsBank, AreInTheirBanks}
 use Rattle.meta_path.specs.Storing.{new_line, IsPathOf, stored_set, stored_mark, IsStoredTo, AreTold, IsStoredSlot, KeepsSlots}
-use Rattle.meta_path.proofs.SetFacts.{map_contains, contains_map, holds-with_line, holds-with_mark}
+use Rattle.meta_path.proofs.SetFacts.{slots_from, slots_to, holds-with_line, holds-with_mark}
 use Rattle.meta_path.proofs.PathFacts.{AreSets, its_bank_of, path_at-lt}
+use Rattle.meta_path.proofs.KeepLemmas.{path_set_or_not}
 use Rattle.meta_path.proofs.WriteLemmas.{mark_at}
 use Rattle.meta_path.proofs.KeepLaws.{all_of}
 
@@ -79,37 +82,34 @@ position_of g page lines j d path h =
 
 pub IsStoredTo-none : (g : Shape) (page : ℕ) (persisted : Bool) (lines : List (ℕ × Line)) (cache : CacheState)
     → IsStoredTo g page persisted lines 0 cache cache
-IsStoredTo-none g page persisted lines cache =
-    record { shape = refl; stored = λ j h. absurd (omega arith); elsewhere = λ bank set apart. refl }
+IsStoredTo-none g page persisted lines cache = search rules
 
-pub IsStoredTo-more : (g : Shape) (page : ℕ) (persisted : Bool) (lines : List (ℕ × Line)) (n : ℕ) (old mid new : CacheState)
+pub IsStoredTo-more : {g : Shape} {page : ℕ} {persisted : Bool} {lines : List (ℕ × Line)} {n : ℕ} {old mid new : CacheState}
     → IsStoredTo g page persisted lines n old mid
     → ChangesSet mid new n (set_index g (path_at g page n))
     (stored_set (slots_at g mid.banks n (path_at g page n)) (path_at g page n) (new_line lines n) (stored_mark g persisted n))
-    → IsStoredTo g page persisted lines (suc n) old new
-IsStoredTo-more g page persisted lines n old mid new before level =
+    → IsStoredTo g page persisted lines (n + 1) old new
+IsStoredTo-more {g} {page} {persisted} {lines} {n} {old} {mid} {new} before level =
     record {
       shape = level.shape ∙ before.shape;
-      stored = λ j h. stored j h (cases_eq j n);
+      stored = λ j h.
+          elim (cases_eq j n) [
+            | inl same ↦
+                subst (λ k. slots_at g new.banks k (path_at g page k)
+                ≡ stored_set (slots_at g old.banks k (path_at g page k)) (path_at g page k) (new_line lines k) (stored_mark g persisted k))
+                (sym same)
+                (level.here
+                ∙ ap (λ slots. stored_set slots (path_at g page n) (new_line lines n) (stored_mark g persisted n))
+                (before.elsewhere n (set_index g (path_at g page n)) (λ e. omega (arith, e.0))))
+            | inr other ↦
+                level.elsewhere j (set_index g (path_at g page j)) (λ e. other e.0) ∙ before.stored j (omega arith)
+          ];
       elsewhere =
           λ bank set apart.
           level.elsewhere bank set
           (λ e. apart (omega (arith, e.0), e.1 ∙ ap (λ k. set_index g (path_at g page k)) (sym e.0)))
           ∙ before.elsewhere bank set (λ e. apart (omega (arith, e.0), e.1));
     }
-  where
-    stored : (j : ℕ) → j < suc n → (j ≡ n) ⊎ (j ≡ n → ⊥)
-        → slots_at g new.banks j (path_at g page j)
-        ≡ stored_set (slots_at g old.banks j (path_at g page j)) (path_at g page j) (new_line lines j) (stored_mark g persisted j)
-    stored j h (inl same) =
-        subst (λ k. slots_at g new.banks k (path_at g page k)
-        ≡ stored_set (slots_at g old.banks k (path_at g page k)) (path_at g page k) (new_line lines k) (stored_mark g persisted k))
-        (sym same)
-        (level.here
-        ∙ ap (λ slots. stored_set slots (path_at g page n) (new_line lines n) (stored_mark g persisted n))
-        (before.elsewhere n (set_index g (path_at g page n)) (λ e. omega (arith, e.0))))
-    stored j h (inr other) =
-        level.elsewhere j (set_index g (path_at g page j)) (λ e. other e.0) ∙ before.stored j (omega arith)
 
 -- the change of a level, in the path's words
 pub level_stored : (g : Shape) (page : ℕ) (persisted : Bool) (lines : List (ℕ × Line)) (n : ℕ) (entry d : ℕ × Line) (mark : Bool)
@@ -118,14 +118,7 @@ pub level_stored : (g : Shape) (page : ℕ) (persisted : Bool) (lines : List (�
     → ChangesSet mid new n (set_index mid.shape entry.0) (stored_set (slots_at mid.shape mid.banks n entry.0) entry.0 entry.1 mark)
     → ChangesSet mid new n (set_index g (path_at g page n))
     (stored_set (slots_at g mid.banks n (path_at g page n)) (path_at g page n) (new_line lines n) (stored_mark g persisted n))
-level_stored g page persisted lines n entry d mark mid new path h its is mark_is changes =
-    subst (λ (b : Bool). ChangesSet mid new n (set_index g (path_at g page n))
-    (stored_set (slots_at g mid.banks n (path_at g page n)) (path_at g page n) (new_line lines n) b)) mark_is
-    (subst₂ (λ (x : ℕ) (line : Line). ChangesSet mid new n (set_index g x) (stored_set (slots_at g mid.banks n x) x line mark))
-    (ap (λ (e : ℕ × Line). e.0) is ∙ position_of g page lines n d path h)
-    (ap (λ (e : ℕ × Line). e.1) (is ∙ get_or_default lines n d (0, zero_line) h))
-    (subst (λ (k : Shape). ChangesSet mid new n (set_index k entry.0)
-    (stored_set (slots_at k mid.banks n entry.0) entry.0 entry.1 mark)) its changes))
+level_stored g page persisted lines n entry d mark mid new path h its is mark_is changes = grind (arith, common_steps)
 
 -- the next position is cached still
 pub next_cached : (g : Shape) (page : ℕ) (persisted : Bool) (lines : List (ℕ × Line)) (n : ℕ) (entry d : ℕ × Line)
@@ -154,8 +147,7 @@ mark_is levels n last persisted mark same is = is ∙ ap (λ k. nat_lt n k || no
 -- ---- the ledger
 
 pub AreTold-none : (ledger : LedgerState) → AreTold [] ledger ledger
-AreTold-none ledger =
-    record { truth = refl; count = refl; marks = refl; data_lines = refl; exhibit = refl; spare = refl }
+AreTold-none ledger = search rules
 
 pub AreTold-more : (lines : List (ℕ × Line)) (n x : ℕ) (line : Line) (d : ℕ × Line) (old mid new : LedgerState)
     → n < length lines → get_or lines n d ≡ (x, line) → AreTold (take n lines) old mid → HasMeta mid new x line
@@ -191,190 +183,111 @@ pub record IsStoreOf (x : ℕ) (line : Line) (dirty : Bool) (before now : Slot) 
   pub its_mark : now.position ≡ x → now.dirty ≡ dirty
 
 pub store_at-is : (x : ℕ) (line : Line) (dirty : Bool) (slot : Slot) → IsStoreOf x line dirty slot (store_at x line dirty slot)
-store_at-is x line dirty slot = by (cases_Bool (slot.position == x))
-  where
-    by : ((slot.position == x) ≡ true) ⊎ ((slot.position == x) ≡ false)
-        → IsStoreOf x line dirty slot (store_at x line dirty slot)
-    by (inl here) =
-        subst (IsStoreOf x line dirty slot)
-        (sym (ap (mark_at x dirty) (cond-true (slot.position == x) (lined slot line) slot here)
-        ∙ cond-true (slot.position == x) (marked (lined slot line) dirty) (lined slot line) here))
-        (record {
-          way = refl;
-          position = refl;
-          same = λ other. absurd (other (eqb-true slot.position x here));
-          its_line = λ e. refl;
-          its_mark = λ e. refl;
-        })
-    by (inr other) =
-        subst (IsStoreOf x line dirty slot)
-        (sym (ap (mark_at x dirty) (cond-false (slot.position == x) (lined slot line) slot other)
-        ∙ cond-false (slot.position == x) (marked slot dirty) slot other))
-        (record {
-          way = refl;
-          position = refl;
-          same = λ e. refl;
-          its_line = λ e. absurd (false≢true (sym other ∙ eq-eqb slot.position x e));
-          its_mark = λ e. absurd (false≢true (sym other ∙ eq-eqb slot.position x e));
-        })
+store_at-is x line dirty slot =
+    elim (cases_Bool (slot.position == x)) [
+      | inl here ↦
+          subst (IsStoreOf x line dirty slot)
+          (sym (ap (mark_at x dirty) (cond-true (slot.position == x) (lined slot line) slot here)
+          ∙ cond-true (slot.position == x) (marked (lined slot line) dirty) (lined slot line) here))
+          (record {
+            way = refl;
+            position = refl;
+            same = λ other. absurd (other (eqb-true slot.position x here));
+            its_line = λ e. refl;
+            its_mark = λ e. refl;
+          })
+      | inr other ↦
+          subst (IsStoreOf x line dirty slot)
+          (sym (ap (mark_at x dirty) (cond-false (slot.position == x) (lined slot line) slot other)
+          ∙ cond-false (slot.position == x) (marked slot dirty) slot other))
+          (record {
+            way = refl;
+            position = refl;
+            same = λ e. refl;
+            its_line = λ e. absurd (false≢true (sym other ∙ eq-eqb slot.position x e));
+            its_mark = λ e. absurd (false≢true (sym other ∙ eq-eqb slot.position x e));
+          })
+    ]
 
-pub stored_contains : (slots : List Slot) (x : ℕ) (line : Line) (dirty : Bool) (now : Slot)
-    → Contains (stored_set slots x line dirty) now → (before : Slot) × Contains slots before × IsStoreOf x line dirty before now
+stored_map : (slots : List Slot) (x : ℕ) (line : Line) (dirty : Bool) → stored_set slots x line dirty ≡ map (store_at x line dirty) slots
 unfolding with_line with_mark
-stored_contains slots x line dirty now found =
-    let last = map_contains (mark_at x dirty) (map (line_of_at x line) slots) now found in
-    let first = map_contains (line_of_at x line) slots last.0 last.1 in (
-      first.0,
-      first.1,
-      subst (IsStoreOf x line dirty first.0) (ap (mark_at x dirty) first.2 ∙ last.2) (store_at-is x line dirty first.0),
-    )
-
-pub contains_stored : (slots : List Slot) (x : ℕ) (line : Line) (dirty : Bool) (before : Slot) → Contains slots before
-    → Contains (stored_set slots x line dirty) (store_at x line dirty before)
-unfolding with_line with_mark
-contains_stored slots x line dirty before found =
-    contains_map (mark_at x dirty) (map (line_of_at x line) slots) (line_of_at x line before)
-    (contains_map (line_of_at x line) slots before found)
+stored_map slots x line dirty = map-map (mark_at x dirty) (line_of_at x line) slots
 
 -- a slot of a set that is stored
 stored_slot : (g : Shape) (page : ℕ) (persisted : Bool) (lines : List (ℕ × Line)) (bank : ℕ) (before now : Slot)
     → IsStoreOf (path_at g page bank) (new_line lines bank) (stored_mark g persisted bank) before now
     → bank ≤ g.levels → IsStoredSlot g page persisted lines bank before now
-stored_slot g page persisted lines bank before now of low =
-    record {
-      way = of.way;
-      position = of.position;
-      off_path = λ apart. of.same (λ e. apart (low, e));
-      line = λ le e. of.its_line e;
-      mark = λ le e. of.its_mark e;
-    }
+stored_slot g page persisted lines bank before now of low = search rules
 
 -- a slot of any other set
 kept_slot : (g : Shape) (page : ℕ) (persisted : Bool) (lines : List (ℕ × Line)) (bank set : ℕ) (slot : Slot)
     → set_index g slot.position ≡ set → ((bank < g.levels + 1) × (set ≡ set_index g (path_at g page bank)) → ⊥)
     → IsStoredSlot g page persisted lines bank slot slot
-kept_slot g page persisted lines bank set slot its apart =
-    record {
-      way = refl;
-      position = refl;
-      off_path = λ off. refl;
-      line = λ le e. absurd (apart (omega (arith, le), sym its ∙ ap (set_index g) e));
-      mark = λ le e. absurd (apart (omega (arith, le), sym its ∙ ap (set_index g) e));
-    }
+kept_slot g page persisted lines bank set slot its apart = search rules
 
-pub KeepsSlots-stored : (g : Shape) (page : ℕ) (persisted : Bool) (lines : List (ℕ × Line)) (old new : CacheState)
-    → AreSets g old.banks → IsStoredTo g page persisted lines (g.levels + 1) old new
-    → KeepsSlots g page persisted lines old.banks new.banks
-KeepsSlots-stored g page persisted lines old new sets stored =
-    record {
-      slots_now = λ bank set now found. now_of bank set now found (which bank set);
-      slots_before = λ bank set before found. before_of bank set before found (which bank set);
-    }
-  where
-    Path : ℕ → ℕ → Type 0
-    Path bank set = (bank < g.levels + 1) × (set ≡ set_index g (path_at g page bank))
+module _ {g : Shape} {page : ℕ} {persisted : Bool} {lines : List (ℕ × Line)} {old new : CacheState}
+    (stored : IsStoredTo g page persisted lines (g.levels + 1) old new) where
+  pub KeepsSlots-stored : AreSets g old.banks → KeepsSlots g page persisted lines old.banks new.banks
+  KeepsSlots-stored sets =
+      record {
+        slots_now = slots_from (IsStoredSlot g page persisted lines) (set_of old.banks) (set_of new.banks) each;
+        slots_before = slots_to (IsStoredSlot g page persisted lines) (set_of old.banks) (set_of new.banks) each;
+      }
+    where
+      each : (bank set : ℕ) → (f : Slot → Slot) × (set_of new.banks bank set ≡ map f (set_of old.banks bank set))
+          × ((slot : Slot) → Contains (set_of old.banks bank set) slot → IsStoredSlot g page persisted lines bank slot (f slot))
+      each bank set =
+          let x : ℕ = path_at g page bank in
+          let line = new_line lines bank in
+          let mark = stored_mark g persisted bank in
+          elim (path_set_or_not g page (g.levels + 1) bank set) [
+            | inl at ↦ (
+              store_at x line mark,
+              ap (set_of new.banks bank) at.its_set ∙ stored.stored bank at.reached
+                  ∙ ap (λ slots. stored_set slots x line mark) (ap (set_of old.banks bank) (sym at.its_set))
+                  ∙ stored_map (set_of old.banks bank set) x line mark,
+              λ slot found. stored_slot g page persisted lines bank slot _ (store_at-is x line mark slot) (omega (arith, at.reached)),
+            )
+            | inr apart ↦ (
+              λ slot. slot,
+              stored.elsewhere bank set apart ∙ sym (map-id (set_of old.banks bank set)),
+              λ slot found.
+                  kept_slot g page persisted lines bank set slot
+                  (All-contains (λ (s : Slot). set_index g s.position ≡ set) (set_of old.banks bank set) slot
+                  (sets.each bank set).its_positions found)
+                  apart,
+            )
+          ]
 
-    which : (bank set : ℕ) → Path bank set ⊎ (Path bank set → ⊥)
-    which bank set = by (cases_lt bank (g.levels + 1)) (cases_eq set (set_index g (path_at g page bank)))
-      where
-        by : (bank < g.levels + 1) ⊎ (g.levels + 1 ≤ bank)
-            → (set ≡ set_index g (path_at g page bank)) ⊎ (set ≡ set_index g (path_at g page bank) → ⊥)
-            → Path bank set ⊎ (Path bank set → ⊥)
-        by (inl less) (inl same) = inl (less, same)
-        by (inl less) (inr other) = inr (λ e. other e.1)
-        by (inr more) at = inr (λ e. omega (arith, e.0, more))
+  -- each position is cached as it was
+  is_cached-stored : (bank x : ℕ) → is_cached g new.banks bank x ≡ is_cached g old.banks bank x
+  is_cached-stored bank x =
+      elim (path_set_or_not g page (g.levels + 1) bank (set_index g x)) [
+        | inl at ↦
+            let y : ℕ = path_at g page bank in
+            ap (λ n. holds (set_of new.banks bank n) x) at.its_set
+            ∙ ap (λ slots. holds slots x) (stored.stored bank at.reached)
+            ∙ holds-with_mark (with_line (slots_at g old.banks bank y) y (new_line lines bank)) y (stored_mark g persisted bank) x
+            ∙ holds-with_line (slots_at g old.banks bank y) y (new_line lines bank) x
+            ∙ ap (λ n. holds (set_of old.banks bank n) x) (sym at.its_set)
+        | inr apart ↦ ap (λ slots. holds slots x) (stored.elsewhere bank (set_index g x) apart)
+      ]
 
-    here : (bank set : ℕ) → Path bank set
-        → set_of new.banks bank set
-        ≡ stored_set (set_of old.banks bank set) (path_at g page bank) (new_line lines bank) (stored_mark g persisted bank)
-    here bank set at =
-        ap (set_of new.banks bank) at.1 ∙ stored.stored bank at.0
-        ∙ ap (λ slots. stored_set slots (path_at g page bank) (new_line lines bank) (stored_mark g persisted bank))
-        (ap (set_of old.banks bank) (sym at.1))
+  pub IsPathCached-stored : {other : ℕ} → IsPathCached g old.banks other → IsPathCached g new.banks other
+  IsPathCached-stored {other} cached =
+      record { each = λ j le. is_cached-stored j (path_at g other j) ∙ cached.each j le }
 
-    now_of : (bank set : ℕ) (now : Slot) → Contains (set_of new.banks bank set) now → Path bank set ⊎ (Path bank set → ⊥)
-        → (before : Slot) × Contains (set_of old.banks bank set) before × IsStoredSlot g page persisted lines bank before now
-    now_of bank set now found (inl at) =
-        let from = stored_contains (set_of old.banks bank set) (path_at g page bank) (new_line lines bank)
-        (stored_mark g persisted bank) now (subst (λ slots. Contains slots now) (here bank set at) found) in
-        (from.0, from.1, stored_slot g page persisted lines bank from.0 now from.2 (omega (arith, at.0)))
-    now_of bank set now found (inr apart) =
-        let stood : Contains (set_of old.banks bank set) now =
-        subst (λ slots. Contains slots now) (stored.elsewhere bank set apart) found in (
-          now,
-          stood,
-          kept_slot g page persisted lines bank set now
-              (All-contains (λ (s : Slot). set_index g s.position ≡ set) (set_of old.banks bank set) now
-              (sets.each bank set).its_positions stood)
-              apart,
-        )
-
-    before_of : (bank set : ℕ) (before : Slot) → Contains (set_of old.banks bank set) before
-        → Path bank set ⊎ (Path bank set → ⊥)
-        → (now : Slot) × Contains (set_of new.banks bank set) now × IsStoredSlot g page persisted lines bank before now
-    before_of bank set before found (inl at) = (
-      store_at (path_at g page bank) (new_line lines bank) (stored_mark g persisted bank) before,
-      subst (λ slots. Contains slots (store_at (path_at g page bank) (new_line lines bank) (stored_mark g persisted bank) before))
-          (sym (here bank set at))
-          (contains_stored (set_of old.banks bank set) (path_at g page bank) (new_line lines bank) (stored_mark g persisted bank)
-          before found),
-      stored_slot g page persisted lines bank before
-          (store_at (path_at g page bank) (new_line lines bank) (stored_mark g persisted bank) before)
-          (store_at-is (path_at g page bank) (new_line lines bank) (stored_mark g persisted bank) before)
-          (omega (arith, at.0)),
-    )
-    before_of bank set before found (inr apart) = (
-      before,
-      subst (λ slots. Contains slots before) (sym (stored.elsewhere bank set apart)) found,
-      kept_slot g page persisted lines bank set before
-          (All-contains (λ (s : Slot). set_index g s.position ≡ set) (set_of old.banks bank set) before
-          (sets.each bank set).its_positions found)
-          apart,
-    )
-
--- each position is cached as it was
-pub is_cached-stored : (g : Shape) (page : ℕ) (persisted : Bool) (lines : List (ℕ × Line)) (old new : CacheState)
-    → IsStoredTo g page persisted lines (g.levels + 1) old new → (bank x : ℕ)
-    → is_cached g new.banks bank x ≡ is_cached g old.banks bank x
-is_cached-stored g page persisted lines old new stored bank x =
-    by (cases_lt bank (g.levels + 1)) (cases_eq (set_index g x) (set_index g (path_at g page bank)))
-  where
-    y : ℕ
-    y = path_at g page bank
-
-    by : (bank < g.levels + 1) ⊎ (g.levels + 1 ≤ bank) → (set_index g x ≡ set_index g y) ⊎ (set_index g x ≡ set_index g y → ⊥)
-        → holds (set_of new.banks bank (set_index g x)) x ≡ holds (set_of old.banks bank (set_index g x)) x
-    by (inl less) (inl same) =
-        ap (λ n. holds (set_of new.banks bank n) x) same
-        ∙ ap (λ slots. holds slots x) (stored.stored bank less)
-        ∙ holds-with_mark (with_line (slots_at g old.banks bank y) y (new_line lines bank)) y (stored_mark g persisted bank) x
-        ∙ holds-with_line (slots_at g old.banks bank y) y (new_line lines bank) x
-        ∙ ap (λ n. holds (set_of old.banks bank n) x) (sym same)
-    by (inl less) (inr other) = ap (λ slots. holds slots x) (stored.elsewhere bank (set_index g x) (λ e. other e.1))
-    by (inr more) at = ap (λ slots. holds slots x) (stored.elsewhere bank (set_index g x) (λ e. omega (arith, e.0, more)))
-
-pub IsPathCached-stored : (g : Shape) (page other : ℕ) (persisted : Bool) (lines : List (ℕ × Line)) (old new : CacheState)
-    → IsStoredTo g page persisted lines (g.levels + 1) old new → IsPathCached g old.banks other → IsPathCached g new.banks other
-IsPathCached-stored g page other persisted lines old new stored cached =
-    record {
-      each = λ j le. is_cached-stored g page persisted lines old new stored j (path_at g other j) ∙ cached.each j le;
-    }
-
-pub AreInTheirBanks-stored : (g : Shape) (page : ℕ) (persisted : Bool) (lines : List (ℕ × Line)) (old new : Banks)
+pub AreInTheirBanks-stored : {g : Shape} {page : ℕ} {persisted : Bool} {lines : List (ℕ × Line)} {old new : Banks}
     → KeepsSlots g page persisted lines old new → AreInTheirBanks g old → AreInTheirBanks g new
-AreInTheirBanks-stored g page persisted lines old new keeps its =
+AreInTheirBanks-stored {g} {page} {persisted} {lines} {old} {new} keeps its =
     record {
       each = λ bank set.
           all_of (IsOfItsBank g bank) (set_of new bank set)
-          (λ now found. moved bank set now (keeps.slots_now bank set now found));
+          (λ now found.
+          let from = keeps.slots_now bank set now found in
+          let was : IsOfItsBank g bank from.0 = its_bank_of g old bank set from.0 its from.1 in
+          record {
+            on_tree = subst (λ x. x < meta_lines g) (sym from.2.position) was.on_tree;
+            its_bank = ap level_of from.2.position ∙ was.its_bank;
+          });
     }
-  where
-    moved : (bank set : ℕ) (now : Slot)
-        → ((before : Slot) × Contains (set_of old bank set) before × IsStoredSlot g page persisted lines bank before now)
-        → IsOfItsBank g bank now
-    moved bank set now from =
-        let was : IsOfItsBank g bank from.0 = its_bank_of g old bank set from.0 its from.1 in
-        record {
-          on_tree = subst (λ x. x < meta_lines g) (sym from.2.position) was.on_tree;
-          its_bank = ap level_of from.2.position ∙ was.its_bank;
-        }

@@ -1,80 +1,25 @@
 -- Reads, line writes and digests, one call after another.
-use Rattle.std.proofs.Common.{◌≡◌, ℕ, zero, suc, ◌+◌, List, [], ◌∷◌, ◌++◌, length, refl, sym, ap, subst, ◌∙◌, arith, Option, Some, None}
+use Rattle.std.proofs.Common.{rules, inl, inr, ◌≡◌, ℕ, zero, suc, ◌+◌, Bool, true, false, List, [], ◌∷◌, ◌++◌, length, refl, sym, ap, subst, ◌∙◌, arith, Option, Some, None}
+use Rattle.std.proofs.lemmas.Bool.{cases_Bool, both_ways}
 use Rattle.std.proofs.lemmas.List.{length-append}
 use Rattle.pmem_base.specs.declared.lines.Line.{Line}
 use Rattle.pmem_base.specs.Counts.{risen, risen_times}
 use Rattle.pmem_base.proofs.LineSets.{put_lines-append}
 use Rattle.board.specs.Counts.{RisesBy}
 use Rattle.board.specs.Device.{Device}
-use Rattle.board.specs.Steps.{with_line, HasRead, HasWritten}
+use Rattle.board.specs.Steps.{HasWritten}
 use Rattle.board.proofs.CountLemmas.{RisesBy-then}
 use Rattle.commit_regs.specs.Groups.{redone_told}
-use Rattle.commit_regs.proofs.GroupLemmas.{redone-nil}
-use Rattle.meta_path.specs.Work.{HasWorked}
+use Rattle.meta_path.specs.Work.{risen_times, HasWorked}
 
 pub redone_told-append : (front back : List (ℕ × Line)) (told : Option (List Line))
     → redone_told (front ++ back) told ≡ redone_told back (redone_told front told)
 redone_told-append front back None = refl
 redone_told-append front back (Some lines) = ap Some (put_lines-append front back lines)
 
-redone_told-one : (at : ℕ) (line : Line) (told : Option (List Line))
-    → redone_told ((at, line) ∷ []) told ≡ with_line told at line
-redone_told-one at line None = refl
-redone_told-one at line (Some lines) = refl
-
-pub RisesBy-none : (before after : ℕ) → after ≡ before → RisesBy 0 before after
-RisesBy-none before after same = record { never_falls = omega arith; exact = λ below. omega arith }
-
--- nothing done
-pub HasWorked-none : (device : Device) → HasWorked 0 [] device device
-HasWorked-none device =
-    record {
-      lines = sym (redone-nil device.lines);
-      writes = RisesBy-none device.writes device.writes refl;
-      no_write = λ none. refl;
-      reads = RisesBy-none device.reads device.reads refl;
-      no_read = λ none. refl;
-      size = refl;
-      regs = refl;
-      latches = refl;
-      cuts = refl;
-      steady = λ s. s;
-      live = λ l. l;
-    }
-
-pub HasWorked-read : (old : Device) (at : ℕ) (line : Line) (new : Device) → HasRead old at line new
-    → HasWorked 1 [] old new
-HasWorked-read old at line new read =
-    record {
-      lines = read.lines ∙ sym (redone-nil old.lines);
-      writes = RisesBy-none old.writes new.writes read.writes;
-      no_write = λ none. read.writes;
-      reads = read.reads;
-      no_read = λ none. absurd (omega arith);
-      size = read.size;
-      regs = read.regs;
-      latches = read.latches;
-      cuts = read.cuts;
-      steady = read.steady;
-      live = read.live;
-    }
-
 pub HasWorked-written : (old : Device) (at : ℕ) (line : Line) (new : Device) → HasWritten old at line new
     → HasWorked 0 ((at, line) ∷ []) old new
-HasWorked-written old at line new written =
-    record {
-      lines = written.lines ∙ sym (redone_told-one at line old.lines);
-      writes = written.writes;
-      no_write = λ none. absurd (omega arith);
-      reads = RisesBy-none old.reads new.reads written.reads;
-      no_read = λ none. written.reads;
-      size = written.size;
-      regs = written.regs;
-      latches = written.latches;
-      cuts = written.cuts;
-      steady = written.steady;
-      live = written.live;
-    }
+HasWorked-written old at line new written = search rules
 
 -- two calls are one
 pub HasWorked-then : (m n : ℕ) (front back : List (ℕ × Line)) (old mid new : Device) → HasWorked m front old mid
@@ -102,3 +47,8 @@ risen_times-add m zero count = let none : m + 0 ≡ m = omega arith in ap (λ k.
 risen_times-add m (suc n) count =
     let more : m + suc n ≡ suc (m + n) = omega arith in
     ap (λ k. risen_times k count) more ∙ ap risen (risen_times-add m n count)
+
+-- power that isn't steady now was not steady before
+pub not_steady : {a b : Bool} → (a ≡ true → b ≡ true) → b ≡ false → a ≡ false
+not_steady {a} {b} keeps unsteady =
+    elim (cases_Bool a) [ inl is ↦ absurd (both_ways b unsteady (keeps is)) | inr is ↦ is ]

@@ -1,8 +1,9 @@
 -- A block is written back and marked clean.
-use Rattle.std.proofs.Common.{◌≡◌, ◌≢◌, ℕ, ◌+◌, ◌<◌, ◌≤◌, Bool, true, false, cond, List, [], ◌∷◌, get_or, map, refl, sym, ap, ap₂, subst, ◌∙◌, ◌⊎◌, inl, inr, arith, mod-lt}
+use Rattle.std.proofs.Common.{rules, ◌≡◌, ◌≢◌, ℕ, ◌+◌, ◌<◌, ◌≤◌, Bool, true, false, cond, List, [], ◌∷◌, get_or, map, refl, sym, ap, ap₂, subst, ◌∙◌, ◌⊎◌, inl, inr, arith, mod-lt}
 use Rattle.std.specs.Prelude.{◌==◌, ◌&&◌, ◌||◌, Contains}
 use Rattle.std.specs.List.{list_any}
 use Rattle.std.proofs.lemmas.Bool.{cases_eq, cases_Bool, cond-true, cond-false, eq-eqb, eqb-true, ne_eqb, and_parts, false≢true}
+use Rattle.std.proofs.lemmas.List.{map-id}
 use Rattle.std.proofs.lemmas.List.Sums.{sum_by-cons}
 use Rattle.std.proofs.lemmas.List.Elements.{All-contains}
 use Rattle.std.proofs.lemmas.List.Folds.{Any-from_list_any, map_fixed}
@@ -15,9 +16,9 @@ use Rattle.meta_cache.specs.declared.slot.Slot.{Slot}
 use Rattle.meta_cache.specs.Banks.{Banks, set_of, set_index, is_cached, is_cached_dirty}
 use Rattle.meta_cache.specs.Sets.{holds, marked, with_mark, ArePositionsApart}
 use Rattle.meta_cache.specs.State.{CacheState, ChangesSet}
-use Rattle.meta_path.specs.Blocks.{slots_at, dirty_in, dirty_in_bank, dirty_count, IsOfItsBank, AreInTheirBanks, AreCachedTrue}
+use Rattle.meta_path.specs.Blocks.{slots_at, dirty_in, bank_dirty_count, dirty_count, IsOfItsBank, AreInTheirBanks, AreCachedTrue}
 use Rattle.meta_path.specs.Storing.{IsCleanedSlot, KeepsCleaned}
-use Rattle.meta_path.proofs.SetFacts.{holds_slot, map_contains, contains_map, pairs_head, pairs_tail}
+use Rattle.meta_path.proofs.SetFacts.{holds_slot, map_contains, slots_from, slots_to, pairs_head, pairs_tail}
 use Rattle.meta_path.proofs.PathFacts.{its_bank_of, AreSets}
 use Rattle.meta_path.proofs.KeepLemmas.{sum_below-one, sum_below-same}
 use Rattle.meta_path.proofs.KeepLaws.{all_of}
@@ -62,29 +63,18 @@ abbrev pub mark_at : ℕ → Bool → Slot → Slot
 mark_at x dirty slot = cond (slot.position == x) (marked slot dirty) slot
 
 pub mark_at-position : (x : ℕ) (dirty : Bool) (slot : Slot) → (mark_at x dirty slot).position ≡ slot.position
-mark_at-position x dirty slot = by (slot.position == x)
-  where
-    by : (test : Bool) → (cond test (marked slot dirty) slot).position ≡ slot.position
-    by true = refl
-    by false = refl
+mark_at-position x dirty slot =
+    elim (slot.position == x) as (λ test. (cond test (marked slot dirty) slot).position ≡ slot.position) [ true ↦ refl | false ↦ refl ]
 
 pub mark_at-line : (x : ℕ) (dirty : Bool) (slot : Slot) → (mark_at x dirty slot).line ≡ slot.line
-mark_at-line x dirty slot = by (slot.position == x)
-  where
-    by : (test : Bool) → (cond test (marked slot dirty) slot).line ≡ slot.line
-    by true = refl
-    by false = refl
+mark_at-line x dirty slot =
+    elim (slot.position == x) as (λ test. (cond test (marked slot dirty) slot).line ≡ slot.line) [ true ↦ refl | false ↦ refl ]
 
 -- a slot after a mark was one before
 pub with_mark_contains : (slots : List Slot) (x : ℕ) (dirty : Bool) (slot : Slot) → Contains (with_mark slots x dirty) slot
     → (before : Slot) × Contains slots before × (mark_at x dirty before ≡ slot)
 unfolding with_mark
 with_mark_contains slots x dirty slot found = map_contains (mark_at x dirty) slots slot found
-
-pub contains_marked : (slots : List Slot) (x : ℕ) (dirty : Bool) (slot : Slot) → Contains slots slot
-    → Contains (with_mark slots x dirty) (mark_at x dirty slot)
-unfolding with_mark
-contains_marked slots x dirty slot found = contains_map (mark_at x dirty) slots slot found
 
 -- ---- what holds of positions and lines
 
@@ -245,7 +235,7 @@ pub dirty_count-cleaned : (g : Shape) (old new : CacheState) (bank x : ℕ) → 
     → dirty_count g new.banks + 1 ≡ dirty_count g old.banks
 unfolding dirty_count
 dirty_count-cleaned g old new bank x sets some low dirty changes =
-    sum_below-one (dirty_in_bank g new.banks) (dirty_in_bank g old.banks) (g.levels + 1) bank 1 (omega arith)
+    sum_below-one (bank_dirty_count g new.banks) (bank_dirty_count g old.banks) (g.levels + 1) bank 1 (omega arith)
     (sum_below-one (λ set. dirty_in (set_of new.banks bank set)) (λ set. dirty_in (set_of old.banks bank set)) g.sets
     (set_index g x) 1 (mod-lt x (omega (arith, some)))
     (ap (λ slots. dirty_in slots + 1) changes.here
@@ -258,90 +248,68 @@ dirty_count-cleaned g old new bank x sets some low dirty changes =
 -- ---- each slot
 
 mark_at-is : (cleaned x bank : ℕ) (slot : Slot) → bank ≡ cleaned → IsCleanedSlot cleaned x bank slot (mark_at x false slot)
-mark_at-is cleaned x bank slot here = by (cases_Bool (slot.position == x))
-  where
-    by : ((slot.position == x) ≡ true) ⊎ ((slot.position == x) ≡ false)
-        → IsCleanedSlot cleaned x bank slot (mark_at x false slot)
-    by (inl same) =
-        subst (IsCleanedSlot cleaned x bank slot) (sym (cond-true (slot.position == x) (marked slot false) slot same))
-        (record {
-          way = refl;
-          position = refl;
-          line = refl;
-          same = λ other. absurd (other (here, eqb-true slot.position x same));
-          clean = λ b e. refl;
-        })
-    by (inr other) =
-        subst (IsCleanedSlot cleaned x bank slot) (sym (cond-false (slot.position == x) (marked slot false) slot other))
-        (record {
-          way = refl;
-          position = refl;
-          line = refl;
-          same = λ e. refl;
-          clean = λ b e. absurd (false≢true (sym other ∙ eq-eqb slot.position x e));
-        })
+mark_at-is cleaned x bank slot here =
+    elim (cases_Bool (slot.position == x)) [
+      | inl same ↦
+          subst (IsCleanedSlot cleaned x bank slot) (sym (cond-true (slot.position == x) (marked slot false) slot same))
+          (record {
+            way = refl;
+            position = refl;
+            line = refl;
+            same = λ other. absurd (other (here, eqb-true slot.position x same));
+            clean = λ b e. refl;
+          })
+      | inr other ↦
+          subst (IsCleanedSlot cleaned x bank slot) (sym (cond-false (slot.position == x) (marked slot false) slot other))
+          (record {
+            way = refl;
+            position = refl;
+            line = refl;
+            same = λ e. refl;
+            clean = λ b e. absurd (false≢true (sym other ∙ eq-eqb slot.position x e));
+          })
+    ]
 
 -- a slot of any other set
 kept_slot : (g : Shape) (cleaned x bank set : ℕ) (slot : Slot) → set_index g slot.position ≡ set
     → ((bank ≡ cleaned) × (set ≡ set_index g x) → ⊥) → IsCleanedSlot cleaned x bank slot slot
-kept_slot g cleaned x bank set slot its apart =
-    record {
-      way = refl;
-      position = refl;
-      line = refl;
-      same = λ other. refl;
-      clean = λ here e. absurd (apart (here, sym its ∙ ap (set_index g) e));
-    }
+kept_slot g cleaned x bank set slot its apart = search rules
 
 pub KeepsCleaned-from : (g : Shape) (cleaned x : ℕ) (old new : CacheState) → AreSets g old.banks
     → ChangesSet old new cleaned (set_index g x) (with_mark (slots_at g old.banks cleaned x) x false)
     → KeepsCleaned cleaned x old.banks new.banks
+unfolding with_mark
 KeepsCleaned-from g cleaned x old new sets changes =
     record {
-      slots_now = λ bank set now found. now_of bank set now found (which bank set);
-      slots_before = λ bank set before found. before_of bank set before found (which bank set);
+      slots_now = slots_from (IsCleanedSlot cleaned x) (set_of old.banks) (set_of new.banks) each;
+      slots_before = slots_to (IsCleanedSlot cleaned x) (set_of old.banks) (set_of new.banks) each;
     }
   where
-    Here : ℕ → ℕ → Type 0
-    Here bank set = (bank ≡ cleaned) × (set ≡ set_index g x)
-
-    which : (bank set : ℕ) → Here bank set ⊎ (Here bank set → ⊥)
-    which bank set = by (cases_eq bank cleaned) (cases_eq set (set_index g x))
-      where
-        by : (bank ≡ cleaned) ⊎ (bank ≡ cleaned → ⊥) → (set ≡ set_index g x) ⊎ (set ≡ set_index g x → ⊥)
-            → Here bank set ⊎ (Here bank set → ⊥)
-        by (inl here) (inl there) = inl (here, there)
-        by (inl here) (inr other) = inr (λ e. other e.1)
-        by (inr other) at = inr (λ e. other e.0)
-
-    its : (bank set : ℕ) (slot : Slot) → Contains (set_of old.banks bank set) slot → set_index g slot.position ≡ set
-    its bank set slot stands =
-        All-contains (λ (s : Slot). set_index g s.position ≡ set) (set_of old.banks bank set) slot (sets.each bank set).its_positions stands
-
-    marked_set : (bank set : ℕ) → Here bank set → set_of new.banks bank set ≡ with_mark (set_of old.banks bank set) x false
-    marked_set bank set at =
-        ap₂ (set_of new.banks) at.0 at.1 ∙ changes.here
-        ∙ ap (λ slots. with_mark slots x false) (sym (ap₂ (set_of old.banks) at.0 at.1))
-
-    now_of : (bank set : ℕ) (now : Slot) → Contains (set_of new.banks bank set) now → Here bank set ⊎ (Here bank set → ⊥)
-        → (before : Slot) × Contains (set_of old.banks bank set) before × IsCleanedSlot cleaned x bank before now
-    now_of bank set now found (inl at) =
-        let from = with_mark_contains (set_of old.banks bank set) x false now (subst (λ slots. Contains slots now) (marked_set bank set at) found) in
-        (from.0, from.1, subst (IsCleanedSlot cleaned x bank from.0) from.2 (mark_at-is cleaned x bank from.0 at.0))
-    now_of bank set now found (inr apart) =
-        let stood : Contains (set_of old.banks bank set) now = subst (λ slots. Contains slots now) (changes.elsewhere bank set apart) found in
-        (now, stood, kept_slot g cleaned x bank set now (its bank set now stood) apart)
-
-    before_of : (bank set : ℕ) (before : Slot) → Contains (set_of old.banks bank set) before → Here bank set ⊎ (Here bank set → ⊥)
-        → (now : Slot) × Contains (set_of new.banks bank set) now × IsCleanedSlot cleaned x bank before now
-    before_of bank set before found (inl at) = (
-      mark_at x false before,
-      subst (λ slots. Contains slots (mark_at x false before)) (sym (marked_set bank set at))
-          (contains_marked (set_of old.banks bank set) x false before found),
-      mark_at-is cleaned x bank before at.0,
+    kept : (bank set : ℕ) → ((bank ≡ cleaned) × (set ≡ set_index g x) → ⊥)
+        → (f : Slot → Slot) × (set_of new.banks bank set ≡ map f (set_of old.banks bank set))
+        × ((slot : Slot) → Contains (set_of old.banks bank set) slot → IsCleanedSlot cleaned x bank slot (f slot))
+    kept bank set apart = (
+      λ slot. slot,
+      changes.elsewhere bank set apart ∙ sym (map-id (set_of old.banks bank set)),
+      λ slot found.
+          kept_slot g cleaned x bank set slot
+          (All-contains (λ (s : Slot). set_index g s.position ≡ set) (set_of old.banks bank set) slot (sets.each bank set).its_positions found)
+          apart,
     )
-    before_of bank set before found (inr apart) = (
-      before,
-      subst (λ slots. Contains slots before) (sym (changes.elsewhere bank set apart)) found,
-      kept_slot g cleaned x bank set before (its bank set before found) apart,
-    )
+
+    each : (bank set : ℕ) → (f : Slot → Slot) × (set_of new.banks bank set ≡ map f (set_of old.banks bank set))
+        × ((slot : Slot) → Contains (set_of old.banks bank set) slot → IsCleanedSlot cleaned x bank slot (f slot))
+    each bank set =
+        elim (cases_eq bank cleaned) [
+          | inr other ↦ kept bank set (λ e. other e.0)
+          | inl here ↦
+              elim (cases_eq set (set_index g x)) [
+                | inr other ↦ kept bank set (λ e. other e.1)
+                | inl there ↦ (
+                  mark_at x false,
+                  ap₂ (set_of new.banks) here there ∙ changes.here
+                      ∙ ap (λ slots. map (mark_at x false) slots) (sym (ap₂ (set_of old.banks) here there)),
+                  λ slot found. mark_at-is cleaned x bank slot here,
+                )
+              ]
+        ]

@@ -59,8 +59,8 @@ sum_below f zero = 0
 sum_below f (suc n) = sum_below f n + f n
 
 -- how many slots of a bank, and of all banks, are dirty
-abbrev pub dirty_in_bank : Shape → Banks → ℕ → ℕ
-dirty_in_bank g banks bank = sum_below (λ set. dirty_in (set_of banks bank set)) g.sets
+abbrev pub bank_dirty_count : Shape → Banks → ℕ → ℕ
+bank_dirty_count g banks bank = sum_below (λ set. dirty_in (set_of banks bank set)) g.sets
 
 unfoldable pub dirty_count : Shape → Banks → ℕ
-dirty_count g banks = sum_below (dirty_in_bank g banks) (g.levels + 1)
+dirty_count g banks = sum_below (bank_dirty_count g banks) (g.levels + 1)

@@ -117,7 +117,7 @@ pub record HasClash (g : Shape) (f : Formulas) (told : Option (List Line)) (old 
   pub shown : HasExhibit old new (Clash x line (line_at old.truth x))
 
 -- what a fault then says of the board's lines
-abbrev pub HasCause : Shape → Formulas → Option (List Line) → LedgerState → LedgerState → PathFault → Type 0
-HasCause g f told old new Fault.Cut = ⊤
-HasCause g f told old new (Fault.Meta x) = HasFalseDigest g f old.truth x told
-HasCause g f told old new Fault.Shown = HasClash g f told old new
+abbrev pub IsFaultCaused : Shape → Formulas → Option (List Line) → LedgerState → LedgerState → PathFault → Type 0
+IsFaultCaused g f told old new Fault.Cut = ⊤
+IsFaultCaused g f told old new (Fault.Meta x) = HasFalseDigest g f old.truth x told
+IsFaultCaused g f told old new Fault.Shown = HasClash g f told old new

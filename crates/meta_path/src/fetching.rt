@@ -10,7 +10,7 @@ ghost use Rattle.meta_cache.specs.Sets.{victim_of};
 ghost use Rattle.meta_path.specs.Blocks.{slots_at, IsPathCached, AreInTheirBanks, AreCachedTrue, dirty_count};
 ghost use Rattle.meta_path.specs.Levels.{expected_digest, HasParent, HasDirtyVictim, HasRoomMade, dirty_position, IsLevelFetched, IsLevelRead, IsLevelFault};
 ghost use Rattle.meta_path.specs.Fetching.{IsFetchedTo, IsPathFault};
-ghost use Rattle.meta_path.specs.Keeping.{KeepsBlocks, IsUndisturbed, IsTrueTree, HasCause};
+ghost use Rattle.meta_path.specs.Keeping.{KeepsBlocks, IsUndisturbed, IsTrueTree, IsFaultCaused};
 
 use crate::faults::PathFault;
 use crate::writing::{cached_line, write_back};
@@ -57,7 +57,7 @@ pub fn fetch_path<B: Board, S: Suite, A: Audit>(
     ensures cause { IsTrueTree (shape_of geo.now) (S.formulas_of (S.keys suite.old)) (A.ledger audit.old).truth
         (B.device board.old).regs.root
         → AreCachedTrue cache.old.banks (A.ledger audit.old).truth
-        → IfErr result (HasCause (shape_of geo.now) (S.formulas_of (S.keys suite.old)) (B.device board.new).lines
+        → IfErr result (IsFaultCaused (shape_of geo.now) (S.formulas_of (S.keys suite.old)) (B.device board.new).lines
         (A.ledger audit.old) (A.ledger audit.new)) }
 
     ensures keeps { KeepsBlocks (shape_of geo.now) (A.ledger audit.old).truth page cache.old.banks cache.new.banks

@@ -9,7 +9,6 @@ ghost use Rattle.bonsai_tree.specs.Positions.{parent, child_slot};
 ghost use Rattle.bonsai_tree.specs.Paths.{path_with, root_with, with_child_digest};
 ghost use Rattle.seal_ledger.specs.Notes.{HasMeta};
 ghost use Rattle.meta_cache.specs.Banks.{set_index, is_cached};
-ghost use Rattle.meta_cache.specs.Sets.{with_mark};
 ghost use Rattle.meta_cache.specs.State.{ChangesSet};
 ghost use Rattle.meta_path.specs.Blocks.{slots_at, cached_line, line_in, IsPathCached, AreInTheirBanks, AreCachedTrue};
 ghost use Rattle.meta_path.specs.Storing.{stored_set, IsPathOf, IsOfCachedPath, IsRenewed, IsStoredTo, AreTold, KeepsSlots};
@@ -134,20 +133,10 @@ fn store_level<A: Audit>(
     ensures ledger { HasMeta (A.ledger audit.old) (A.ledger audit.new) x line.now }
 {
     cache.store(bank, x, line);
-    set_mark(cache, bank, x, dirty);
-    audit.note_meta(x, line);
-}
-
-/// Marks position `x`, which is cached, dirty or clean.
-fn set_mark(cache: &mut Cache, bank: u8, x: u32, dirty: bool)
-    requires bank { bank ≤ cache.old.shape.levels }
-    requires cached { IsTrue (is_cached cache.old.shape cache.old.banks bank x) }
-    ensures { ChangesSet cache.old cache.new bank (set_index cache.old.shape x)
-        (with_mark (slots_at cache.old.shape cache.old.banks bank x) x dirty) }
-{
     if dirty {
         cache.set_dirty(bank, x);
     } else {
         cache.set_clean(bank, x);
     }
+    audit.note_meta(x, line);
 }

@@ -1,36 +1,31 @@
 -- Laws of recovery's answers: what each says of the device, of the registers and of the lines.
-use Rattle.std.proofs.Common.{ℕ, ◌≡◌, ◌≢◌, ◌<◌, ◌≤◌, ◌+◌, ◌*◌, true, false, List, [], ◌∷◌, length, Option, Some, None, Ok, Err, refl, ap, sym, subst, ◌∙◌, ◌⊎◌, inl, inr, arith}
+use Rattle.std.proofs.Common.{rules, ℕ, ◌≡◌, ◌<◌, ◌≤◌, ◌+◌, ◌*◌, List, [], length, Option, Some, None, refl, ap, sym, subst, ◌∙◌, inl, inr, arith}
 use Rattle.std.specs.Prelude.{is_some}
-use Rattle.std.proofs.lemmas.Option.{same_Some}
 use Rattle.std.proofs.lemmas.List.Elements.{All-nil, All-same}
 use Rattle.pmem_base.specs.declared.lines.Line.{Line}
 use Rattle.pmem_base.specs.declared.registers.Regs.{Regs}
-use Rattle.pmem_base.specs.Shape.{Shape, IsShape}
+use Rattle.pmem_base.specs.Shape.{IsShape}
 use Rattle.pmem_base.specs.Layout as layout
 use Rattle.pmem_base.specs.Lines.{line_at}
-use Rattle.pmem_base.specs.Counts.{last_count}
-use Rattle.pmem_base.specs.Registers.{IsValidRegs, without_group}
+use Rattle.pmem_base.specs.Registers.{without_group}
 use Rattle.board.specs.Counts.{RisesBy}
-use Rattle.board.specs.Device.{Device, AreLinesOf, AreToldLines}
-use Rattle.pmem_base.proofs.LineSets.{length-put_lines}
-use Rattle.commit_regs.specs.Groups.{redone, redone_told, finishing_latches, RisesAtMost, HasFinished, IsInterrupted}
+use Rattle.board.specs.Device.{AreLinesOf, AreToldLines}
+use Rattle.commit_regs.specs.Groups.{redone, redone_told, RisesAtMost}
 use Rattle.suite.specs.Setup.{Setup}
 use Rattle.seal_ledger.specs.Ledger.{LedgerState}
 use Rattle.meta_cache.specs.Banks.{set_of}
 use Rattle.meta_cache.specs.State.{empty_banks}
 use Rattle.pmem_recovery.proofs.EmptyBanks.{set_of-empty_banks}
-use Rattle.pmem_engine.specs.Engine.{EngineState}
-use Rattle.pmem_engine.specs.Invariants.{IsAnchored, IsTrusted, IsSealStored, IsTrueSlot, IsMendable, IsDurable, IsSound, stored_meta}
-use Rattle.pmem_engine.specs.Mendable.{IsAllTrue, IsLineMendable, IsShadowZero, new_engine}
+use Rattle.pmem_engine.specs.Invariants.{IsAnchored, IsTrusted, IsTrueSlot, IsMendable}
+use Rattle.pmem_engine.specs.Mendable.{IsLineMendable, IsShadowZero, new_engine}
 use Rattle.pmem_engine.specs.Steps.{IsEmptied}
 use Rattle.pmem_engine.specs.Recached.{IsNewEngine}
 use Rattle.pmem_engine.proofs.SealLaws.{IsLineMendable-at}
-use Rattle.pmem_engine.proofs.MendableLaws.{IsValidRegs-emptied, IsAnchored-emptied, IsDurable-emptied, IsDurable-no_group, IsMendable-no_group, IsDurable-same_redone, IsSealStored-same, IsTrusted-new_engine, shadow_of-zero}
+use Rattle.pmem_engine.proofs.MendableLaws.{shadow_of-zero}
 use Rattle.pmem_recovery.specs.declared.faults.RecFault.{RecFault}
-use Rattle.pmem_recovery.specs.declared.faults.RecFault.TheVariants.{Memory, Cut, NoCounter, Root, Twin}
+use Rattle.pmem_recovery.specs.declared.faults.RecFault.TheVariants.{NoCounter, Root, Twin}
 use Rattle.pmem_recovery.specs.Trials.{stored_block, tried_minors, IsTwinOfLastSeal}
-use Rattle.pmem_recovery.specs.Written.{IsRecovered, differing}
-use Rattle.pmem_recovery.specs.Parts.{HasRoot, IsTwinOf, IsRefusal}
+use Rattle.pmem_recovery.specs.Parts.{HasRoot, IsRefusal}
 use Rattle.pmem_recovery.specs.Mending.{IsPartlyMended}
 use Rattle.pmem_recovery.proofs.TrialLaws.{tried_minors_some, twin_of_last_seal}
 use Rattle.pmem_recovery.proofs.UndecidedLaws.{undecided_line}
@@ -73,8 +68,6 @@ IsTrueRefusal regs ledger (Twin at major low high cipher tag) = IsTwinOfLastSeal
 IsTrueRefusal regs ledger fault = Unit {0}
 
 pub true_refusal : (setup : Setup) (lines : List Line) (regs : Regs) (ledger : LedgerState) (fault : RecFault) → IsShape setup.shape → IsMendable setup lines regs ledger → IsRefusal setup lines regs fault → IsTrueRefusal regs ledger fault
-true_refusal setup lines regs ledger Memory shape d r = tt
-true_refusal setup lines regs ledger Cut shape d r = tt
 true_refusal setup lines regs ledger (NoCounter at) shape d r =
     let line = undecided_line setup lines regs at r.0 in
     no_counter-caused setup lines regs ledger at r.1 (IsLineMendable-at setup lines regs ledger at d line.0.on_device)
@@ -87,17 +80,12 @@ true_refusal setup lines regs ledger (Twin at major low high cipher tag) shape d
     subst (λ m. IsTwinOfLastSeal regs.loss ledger at m low high cipher tag) (sym t.its_major)
     (subst (λ c. IsTwinOfLastSeal regs.loss ledger at (stored_block setup.shape lines (layout.page_of at)).major low high c tag) (sym t.its_cipher)
     (subst (λ z. IsTwinOfLastSeal regs.loss ledger at (stored_block setup.shape lines (layout.page_of at)).major low high (line_at lines at) z) (sym t.its_tag) last))
+true_refusal setup lines regs ledger fault shape d r = tt
 
 -- ---- registers
 
 pub IsEmptied-without : (old new : Regs) → new ≡ without_group old → IsEmptied old new
-IsEmptied-without old new e =
-    record {
-      same_root = ap (λ r. r.root) e;
-      same_progress = ap (λ r. r.progress.items) e;
-      same_loss = ap (λ r. r.loss) e;
-      no_group = ap (λ r. r.group.items) e;
-    }
+IsEmptied-without old new e = search rules
 
 -- answers depend on the root, the re-encryption registers and the stop-loss number alone
 pub HasRoot-without : (setup : Setup) (lines : List Line) (old new : Regs) → new ≡ without_group old → HasRoot setup lines new → HasRoot setup lines old
@@ -106,8 +94,6 @@ HasRoot-without setup lines old new e r =
     record { decided = h.decided; root = h.root }
 
 pub IsRefusal-without : (setup : Setup) (lines : List Line) (old new : Regs) (fault : RecFault) → new ≡ without_group old → IsRefusal setup lines new fault → IsRefusal setup lines old fault
-IsRefusal-without setup lines old new Memory e r = tt
-IsRefusal-without setup lines old new Cut e r = tt
 IsRefusal-without setup lines old new (NoCounter at) e r =
     subst (λ regs. IsRefusal setup lines regs (NoCounter at)) e r
 IsRefusal-without setup lines old new (Root kept found) e r =
@@ -116,6 +102,7 @@ IsRefusal-without setup lines old new (Root kept found) e r =
 IsRefusal-without setup lines old new (Twin at major low high cipher tag) e r =
     let h : IsRefusal setup lines (without_group old) (Twin at major low high cipher tag) = subst (λ regs. IsRefusal setup lines regs (Twin at major low high cipher tag)) e r in
     (h.0, record { more = h.1.more; tried = h.1.tried; its_major = h.1.its_major; its_cipher = h.1.its_cipher; its_tag = h.1.its_tag })
+IsRefusal-without setup lines old new fault e r = tt
 
 -- ---- a new engine
 
@@ -153,23 +140,13 @@ is_some-redone group (Some lines) = refl
 -- ---- counts
 
 pub RisesAtMost-then : (n m k before mid after : ℕ) → m ≤ k → RisesBy n before mid → RisesBy m mid after → RisesAtMost (n + k) before after
-RisesAtMost-then n m k before mid after few a b =
-    record {
-      never_falls = omega (arith, a.never_falls, b.never_falls);
-      bound = λ below.
-          let late = b.exact below in
-          let early = a.exact (omega (arith, below, b.never_falls)) in
-          omega (arith, late, early, few);
-    }
+RisesAtMost-then n m k before mid after few a b = search rules
 
 pub RisesAtMost-of : (n k before after : ℕ) → n ≤ k → RisesBy n before after → RisesAtMost k before after
-RisesAtMost-of n k before after few a =
-    record { never_falls = a.never_falls; bound = λ below. omega (arith, a.exact below, few) }
+RisesAtMost-of n k before after few a = search rules
 
 pub RisesAtMost-weaker : (n k before after : ℕ) → n ≤ k → RisesAtMost n before after → RisesAtMost k before after
-RisesAtMost-weaker n k before after few a =
-    record { never_falls = a.never_falls; bound = λ below. omega (arith, a.bound below, few) }
+RisesAtMost-weaker n k before after few a = search rules
 
 pub RisesAtMost-none : (k before after : ℕ) → after ≡ before → RisesAtMost k before after
-RisesAtMost-none k before after e =
-    record { never_falls = omega (arith, e); bound = λ below. omega (arith, e) }
+RisesAtMost-none k before after e = search rules

@@ -1,20 +1,17 @@
 -- The steps of making the named counter blocks, upwards.
-use Rattle.std.proofs.Common.{ℕ, zero, suc, ◌≡◌, ◌≢◌, ◌<◌, ◌≤◌, ◌+◌, ◌-◌, ◌*◌, true, false, List, [], ◌∷◌, ◌++◌, length, None, Some, refl, ap, sym, subst, ◌∙◌, arith}
+use Rattle.std.proofs.Common.{rules, ℕ, zero, suc, ◌≡◌, ◌≢◌, ◌<◌, ◌≤◌, ◌+◌, ◌-◌, true, false, List, [], ◌∷◌, ◌++◌, length, Some, ap, sym, subst, ◌∙◌, arith}
 use Rattle.std.proofs.lemmas.Bool.{true≢false}
 use Rattle.pmem_base.specs.declared.lines.Line.{Line}
 use Rattle.pmem_base.specs.declared.registers.Regs.{Regs}
-use Rattle.pmem_base.specs.Shape.{Shape, IsShape}
-use Rattle.pmem_base.specs.Layout.{pages, meta_lines, level_start}
-use Rattle.bonsai_tree.specs.Positions.{counter_position}
-use Rattle.bonsai_tree.proofs.Levels.{meta_lines-counters}
-use Rattle.shadow_tables.specs.Entries.{shadow_of}
+use Rattle.pmem_base.specs.Shape.{IsShape}
+use Rattle.pmem_base.specs.Layout.{pages}
+use Rattle.bonsai_tree.specs.Positions.{level_start, counter_position}
 use Rattle.suite.specs.Setup.{Setup}
 use Rattle.pmem_engine.specs.Invariants.{is_named}
 use Rattle.pmem_recovery.specs.declared.entries.Made.{Made}
 use Rattle.pmem_recovery.specs.declared.faults.RecFault.{RecFault}
-use Rattle.pmem_recovery.specs.declared.faults.RecFault.TheVariants.{Memory, Cut, NoCounter, Root, Twin}
-use Rattle.pmem_recovery.specs.Named.{names, IsNextAt, IsNext}
-use Rattle.pmem_recovery.specs.Trials.{tried_minors, first_undecided, AreDecided}
+use Rattle.pmem_recovery.specs.declared.faults.RecFault.TheVariants.{NoCounter, Root, Twin}
+use Rattle.pmem_recovery.specs.Trials.{tried_minors, AreDecided}
 use Rattle.pmem_recovery.specs.Upward.{AreMadeTo, block_made}
 use Rattle.pmem_recovery.specs.Parts.{AreOneTried, IsTwinOf, IsPageRefusal, IsRefusal}
 use Rattle.pmem_recovery.proofs.UndecidedLaws.{AreDecided-more, first_undecided_at}
@@ -67,14 +64,10 @@ no_elements : {X : Type 0} (xs : List X) → xs ≡ [] → length xs ≢ 1
 no_elements xs e one = let zero : length xs ≡ 0 = ap length e in omega (arith, zero, one)
 
 two_elements : {X : Type 0} (xs : List X) (a b : X) (more : List X) → xs ≡ a ∷ b ∷ more → length xs ≢ 1
-two_elements xs a b more e one =
-    let long : length xs ≡ suc (suc (length more)) = ap length e in
-    omega (arith, long, one)
+two_elements xs a b more e one = search rules
 
 -- a stop at the next named page is the first there is
 pub stopped_at : (setup : Setup) (lines : List Line) (regs : Regs) (page : ℕ) (fault : RecFault) → page < pages setup.shape → is_named setup.shape lines (counter_position setup.shape page) ≡ true → AreDecided setup lines regs page → IsPageRefusal setup lines regs page fault → IsRefusal setup lines regs fault
-stopped_at setup lines regs page Memory inside named d r = tt
-stopped_at setup lines regs page Cut inside named d r = tt
 stopped_at setup lines regs page (NoCounter at) inside named d r =
     let here = r.here in (
       first_undecided_at setup lines regs page r.place inside named r.in_page d r.before (no_elements _ here.1)
@@ -88,3 +81,4 @@ stopped_at setup lines regs page (Twin at major low high cipher tag) inside name
           ∙ ap Some (sym here.0),
       subst (λ a. IsTwinOf setup lines regs a major low high cipher tag) (sym here.0) here.1,
     )
+stopped_at setup lines regs page fault inside named d r = tt

@@ -1,6 +1,6 @@
 -- Laws of the device while recovery writes: durable at every point between two writes, and sound at the
 -- end with an engine that has nothing cached.
-use Rattle.std.proofs.Common.{ℕ, ◌≡◌, ◌≢◌, ◌<◌, Bool, true, false, eqb, List, [], ◌∷◌, get_or, All, None, refl, ap, sym, ◌∙◌, subst, inl, inr, ◌⊎◌, arith}
+use Rattle.std.proofs.Common.{rules, ℕ, ◌≡◌, ◌≢◌, ◌<◌, Bool, true, false, eqb, List, [], ◌∷◌, get_or, All, None, refl, ap, sym, ◌∙◌, subst, inl, inr, ◌⊎◌, arith}
 use Rattle.std.proofs.lemmas.Bool.{eqb-true, eq-eqb, false≢true}
 use Rattle.std.proofs.lemmas.List.Elements.{All-head, All-weaker}
 use Rattle.std.proofs.lemmas.List.Folds.{Any-from_list_any, list_any_at}
@@ -16,13 +16,13 @@ use Rattle.pmem_engine.specs.Engine.{EngineState}
 use Rattle.pmem_engine.specs.Invariants.{IsMendable, IsDurable, IsSound, stored_meta}
 use Rattle.pmem_engine.specs.Mendable.{IsAllTrue, IsShadowZero}
 use Rattle.pmem_engine.specs.Recached.{IsNewEngine}
-use Rattle.pmem_engine.proofs.MendableLaws.{is_named-zero, IsMendable-mending, IsMendable-no_group, IsDurable-no_group, IsSound-new_engine, shadow_of-same}
+use Rattle.pmem_engine.proofs.MendableLaws.{is_named-zero, IsMendable-mending, IsMendable-no_group, IsSound-new_engine, shadow_of-same}
 use Rattle.pmem_recovery.specs.declared.entries.Made.{Made}
 use Rattle.pmem_recovery.specs.Trials.{first_undecided}
 use Rattle.pmem_recovery.specs.Upward.{is_made, IsMadeLine, AreMade}
 use Rattle.pmem_recovery.specs.Written.{AreWritten, AreZeroed, IsRecovered}
 use Rattle.pmem_recovery.proofs.FixedLaws.{fixed_line_true}
-use Rattle.pmem_recovery.proofs.WrittenLaws.{as_read, all_true_written, IsShadowZero-zeroed}
+use Rattle.pmem_recovery.proofs.WrittenLaws.{as_read, all_true_written}
 
 -- a device on which some of the lines made are written can be mended still
 pub IsMendable-written : (setup : Setup) (old : List Line) (regs : Regs) (ledger : LedgerState) (written : List Made) (new : List Line) → IsShape setup.shape → IsMendable setup old regs ledger → first_undecided setup old regs ≡ None → All (IsMadeLine setup old regs) written → AreWritten setup.shape old written new → IsMendable setup new regs ledger
@@ -55,8 +55,7 @@ IsMendable-written setup old regs ledger written new shape d decided made w =
 
 -- true metadata lines stay so while shadow lines are zeroed
 pub IsAllTrue-zeroed_to : (setup : Setup) (old : List Line) (ledger : LedgerState) (n : ℕ) (new : List Line) → IsAllTrue setup old ledger → AreZeroed setup.shape old n new → IsAllTrue setup new ledger
-IsAllTrue-zeroed_to setup old ledger n new all z =
-    record { true_lines = λ x h. z.others (layout.meta_line setup.shape x) (inl (omega arith)) ∙ all.true_lines x h }
+IsAllTrue-zeroed_to setup old ledger n new all z = search rules
 
 -- and the device can be mended at each point
 pub IsMendable-zeroed_to : (setup : Setup) (old : List Line) (regs : Regs) (ledger : LedgerState) (n : ℕ) (new : List Line) → IsMendable setup old regs ledger → IsAllTrue setup old ledger → AreZeroed setup.shape old n new → IsMendable setup new regs ledger
@@ -71,16 +70,6 @@ IsMendable-zeroed_to setup old regs ledger n new d all z =
     d
 
 -- ---- a cut between two writes
-
-pub IsDurable-written : (setup : Setup) (old : List Line) (regs : Regs) (ledger : LedgerState) (written : List Made) (new : List Line) → IsShape setup.shape → regs.group.items ≡ [] → IsDurable setup old regs ledger → first_undecided setup old regs ≡ None → All (IsMadeLine setup old regs) written → AreWritten setup.shape old written new → AreLinesOf (layout.device_lines setup.shape) new → IsDurable setup new regs ledger
-IsDurable-written setup old regs ledger written new shape none d decided made w whole =
-    IsDurable-no_group setup new regs ledger none whole
-    (IsMendable-written setup old regs ledger written new shape (IsMendable-no_group setup old regs ledger none d) decided made w)
-
-pub IsDurable-zeroed_to : (setup : Setup) (old : List Line) (regs : Regs) (ledger : LedgerState) (n : ℕ) (new : List Line) → regs.group.items ≡ [] → IsDurable setup old regs ledger → IsAllTrue setup old ledger → AreZeroed setup.shape old n new → AreLinesOf (layout.device_lines setup.shape) new → IsDurable setup new regs ledger
-IsDurable-zeroed_to setup old regs ledger n new none d all z whole =
-    IsDurable-no_group setup new regs ledger none whole
-    (IsMendable-zeroed_to setup old regs ledger n new (IsMendable-no_group setup old regs ledger none d) all z)
 
 -- ---- the whole
 
@@ -100,8 +89,7 @@ IsSound-recovered setup engine old regs ledger new shape none durable r whole e 
 
 -- the shadow lines are zero then, on any device
 pub IsShadowZero-recovered : (setup : Setup) (old : List Line) (regs : Regs) (new : List Line) → IsRecovered setup old regs new → IsShadowZero setup new
-IsShadowZero-recovered setup old regs new r =
-    IsShadowZero-zeroed setup r.between (layout.shadow_lines setup.shape) new (omega arith) r.all_zeroed
+IsShadowZero-recovered setup old regs new r = search rules
 
 -- where the shadow lines are zero from the start, nothing is made
 pub nothing_made : (setup : Setup) (lines : List Line) (regs : Regs) (done : ℕ → Type 0) (made : List Made) → IsShadowZero setup lines → AreMade setup lines regs done made → made ≡ []

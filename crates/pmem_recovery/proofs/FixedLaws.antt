@@ -18,7 +18,7 @@ use Rattle.split_counters.proofs.Packing.{packed-unpacked}
 use Rattle.split_counters.proofs.StoredLaws.{length-unpacked}
 use Rattle.bonsai_tree.specs.Positions.{level_of, child_position, counter_position}
 use Rattle.bonsai_tree.specs.Nodes.{node_over}
-use Rattle.bonsai_tree.proofs.Levels.{IsAtLevel, child-IsAtLevel, level_of-le, level_of-IsAtLevel, counter_position-of_last, counter_position-lt, IsAtLevel-inner, level_start-le}
+use Rattle.bonsai_tree.proofs.Levels.{IsAtLevel, child-IsAtLevel, level_of-le, level_of-IsAtLevel, counter_position-of_last, IsAtLevel-inner, level_start-le}
 use Rattle.bonsai_tree.proofs.NodeLaws.{node_over-same}
 use Rattle.seal_ledger.specs.Ledger.{LedgerState}
 use Rattle.suite.specs.Setup.{Setup}

@@ -1,18 +1,16 @@
 -- The steps of formatting.
-use Rattle.std.proofs.Common.{ℕ, zero, suc, ◌≡◌, ◌≢◌, ◌<◌, ◌≤◌, ◌+◌, ◌-◌, ◌*◌, ◌/◌, ◌%◌, true, List, [], ◌∷◌, ◌++◌, length, get_or, set, map, All, Option, Some, refl, ap, sym, subst, ◌∙◌, ◌⊎◌, inl, inr, arith}
+use Rattle.std.proofs.Common.{rules, ℕ, ◌≡◌, ◌≢◌, ◌<◌, ◌≤◌, ◌+◌, ◌-◌, ◌*◌, ◌%◌, List, ◌++◌, length, set, map, Some, refl, ap, sym, subst, ◌∙◌, ◌⊎◌, inl, inr, arith}
 use Rattle.std.specs.Prelude.{is_some, replicate, slice_set}
 use Rattle.std.specs.List.{range_with_len}
 use Rattle.std.proofs.lemmas.Bool.{cases_eq, cases_lt}
-use Rattle.std.proofs.lemmas.Option.{same_Some}
-use Rattle.std.proofs.lemmas.List.{append_assoc, append-nil, map-append, length-set}
+use Rattle.std.proofs.lemmas.List.{append_assoc, map-append, length-set}
 use Rattle.pmem_base.specs.declared.lines.Line.{Line}
-use Rattle.pmem_base.specs.Shape.{Shape, IsShape}
+use Rattle.pmem_base.specs.Shape.{Shape}
 use Rattle.pmem_base.specs.Layout as layout
-use Rattle.pmem_base.specs.Lines.{IsLine, line_at, tag_slot, zero_line}
+use Rattle.pmem_base.specs.Lines.{line_at, tag_slot}
 use Rattle.pmem_base.proofs.ListLaws.{range_with_len-append}
 use Rattle.board.specs.Device.{Device, AreToldLines}
-use Rattle.board.specs.Steps.{with_line, HasWritten}
-use Rattle.board.proofs.StepLemmas.{is_some-with_line}
+use Rattle.board.specs.Steps.{HasWritten}
 use Rattle.split_counters.specs.Blocks.{zero_minors, packed}
 use Rattle.bonsai_tree.specs.Positions.{child_position, counter_position}
 use Rattle.bonsai_tree.specs.Nodes.{node_over}
@@ -22,12 +20,10 @@ use Rattle.bonsai_tree.proofs.NodeLaws.{node_over-same}
 use Rattle.suite.specs.Formulas.{Formulas}
 use Rattle.suite.specs.Setup.{Setup}
 use Rattle.seal_ledger.specs.Ledger.{LedgerState}
-use Rattle.seal_ledger.specs.Notes.{HasMeta}
 use Rattle.pmem_engine.specs.Formatted.{first_seal, first_block}
-use Rattle.pmem_engine.specs.Invariants.{stored_meta}
 use Rattle.pmem_recovery.specs.Parts.{Told}
 use Rattle.pmem_recovery.specs.Writing.{BothTold}
-use Rattle.pmem_recovery.specs.Formatting.{first_cipher, first_tag, IsFirstSealed, HasSealedFrom, StaysSteady, HasSealedGroup, HasSealedAll, HasToldMeta, HasWrittenMeta, HasClearedTables}
+use Rattle.pmem_recovery.specs.Formatting.{first_cipher, first_tag, IsFirstSealed, HasSealedFrom, StaysSteady, HasSealedGroup, HasSealedAll}
 use Rattle.pmem_recovery.proofs.AnswerLaws.{told_lines}
 use Rattle.pmem_recovery.proofs.WriteSteps.{told_earlier}
 
@@ -36,16 +32,11 @@ use Rattle.pmem_recovery.proofs.WriteSteps.{told_earlier}
 pub told_long : (device : Device) (n : ℕ) → AreToldLines device.size device.lines → device.size ≡ n → (lines : List Line) → device.lines ≡ Some lines → length lines ≡ n
 told_long device n whole size lines told = (told_lines device.size device.lines lines whole told).count ∙ size
 
-pub StaysSteady-none : (old : Device) → StaysSteady old old
-StaysSteady-none old = record { size = refl; regs = refl; steady = λ s. s; told = refl }
-
 pub StaysSteady-then : (old mid new : Device) → StaysSteady old mid → StaysSteady mid new → StaysSteady old new
-StaysSteady-then old mid new a b =
-    record { size = b.size ∙ a.size; regs = b.regs ∙ a.regs; steady = λ s. b.steady (a.steady s); told = b.told ∙ a.told }
+StaysSteady-then old mid new a b = search rules
 
 pub StaysSteady-written : (old : Device) (at : ℕ) (line : Line) (new : Device) → HasWritten old at line new → StaysSteady old new
-StaysSteady-written old at line new w =
-    record { size = w.size; regs = w.regs; steady = w.steady; told = ap is_some w.lines ∙ is_some-with_line old.lines at line }
+StaysSteady-written old at line new w = search rules
 
 -- the lines before and after a write
 pub record IsLineWritten (at : ℕ) (line : Line) (old : Device) (now : List Line) : Type 0 where
@@ -54,31 +45,15 @@ pub record IsLineWritten (at : ℕ) (line : Line) (old : Device) (now : List Lin
   pub set : slice_set lines at line ≡ now
 
 pub written_is : (old : Device) (at : ℕ) (line : Line) (new : Device) (now : List Line) → HasWritten old at line new → new.lines ≡ Some now → IsLineWritten at line old now
-written_is old at line new now w after =
-    let earlier = told_earlier old new now (ap is_some w.lines ∙ is_some-with_line old.lines at line) after in
-    record {
-      lines = earlier.0;
-      told = earlier.1;
-      set = same_Some (slice_set earlier.0 at line) now (sym (w.lines ∙ ap (λ o. with_line o at line) earlier.1) ∙ after);
-    }
+written_is old at line new now w after = search rules
 
 pub written_here : (old : Device) (at : ℕ) (line : Line) (now : List Line) (w : IsLineWritten at line old now) → at < length now → line_at now at ≡ line
-written_here old at line now w inside =
-    ap (λ l. line_at l at) (sym w.set)
-    ∙ line_at-set_same w.lines at line (subst (λ n. at < n) (sym (ap length w.set) ∙ length-set w.lines at line) inside)
+written_here old at line now w inside = search rules
 
 pub written_other : (old : Device) (at : ℕ) (line : Line) (now : List Line) (w : IsLineWritten at line old now) (d : ℕ) → d ≢ at → line_at now d ≡ line_at w.lines d
-written_other old at line now w d apart =
-    ap (λ l. line_at l d) (sym w.set) ∙ line_at-set_other w.lines at d line apart
+written_other old at line now w d apart = search rules
 
 -- ---- the ledger
-
-pub HasSealedFrom-none : (setup : Setup) (a : ℕ) (old : LedgerState) → HasSealedFrom setup a 0 old old
-HasSealedFrom-none setup a old =
-    record { marks = sym (append-nil old.marks); spare = plus_zero old.spare; truth = refl; data_lines = refl; exhibit = refl }
-  where
-    plus_zero : (n : ℕ) → n + 0 ≡ n
-    plus_zero n = omega arith
 
 pub HasSealedFrom-then : (setup : Setup) (a k b m : ℕ) (old mid new : LedgerState) → b ≡ a + k → HasSealedFrom setup a k old mid → HasSealedFrom setup b m mid new → HasSealedFrom setup a (k + m) old new
 HasSealedFrom-then setup a k b m old mid new e x y =
@@ -106,13 +81,6 @@ pub record IsGroupTo (setup : Setup) (group i : ℕ) (old new : Device) : Type 0
       → (j : ℕ) → j < i → line_at now (4 * group + j) ≡ first_cipher setup (4 * group + j))
   pub others :
       BothTold old new (λ lines now. (d : ℕ) → (d < 4 * group) ⊎ (4 * group + i ≤ d) → line_at now d ≡ line_at lines d)
-
-pub IsGroupTo-none : (setup : Setup) (group : ℕ) (old : Device) → IsGroupTo setup group 0 old old
-IsGroupTo-none setup group old =
-    record {
-      written = λ now after long j low. absurd (omega (arith, low));
-      others = λ lines told now after d outside. ap (λ l. line_at l d) (same_Some now lines (sym after ∙ told));
-    }
 
 pub IsGroupTo-more : (setup : Setup) (group i at : ℕ) (old mid new : Device) → group < 16 * layout.pages setup.shape → i < 4 → at ≡ 4 * group + i → IsGroupTo setup group i old mid → HasWritten mid at (first_cipher setup at) new → IsGroupTo setup group (i + 1) old new
 IsGroupTo-more setup group i at old mid new inside small here g w =

@@ -1,16 +1,15 @@
 -- What formatting leaves, from its steps.
-use Rattle.std.proofs.Common.{ℕ, ◌≡◌, ◌<◌, ◌≤◌, ◌+◌, ◌*◌, true, List, [], ◌++◌, length, map, get_or, All, Some, None, refl, ap, sym, subst, ◌∙◌, inl, arith}
+use Rattle.std.proofs.Common.{rules, ℕ, ◌≡◌, ◌<◌, ◌*◌, true, List, [], length, map, All, Some, ap, sym, subst, ◌∙◌, inl, arith}
 use Rattle.std.specs.Prelude.{is_some, option_map, IsNone, IsTrue}
 use Rattle.std.specs.List.{range_with_len}
 use Rattle.std.proofs.lemmas.List.{ext_get_or, length-map}
 use Rattle.std.proofs.lemmas.List.FromFn.{length-range_with_len}
 use Rattle.std.proofs.lemmas.List.Elements.{All-nil}
 use Rattle.pmem_base.specs.declared.lines.Line.{Line}
-use Rattle.pmem_base.specs.declared.lines.Ctr.{Ctr}
 use Rattle.pmem_base.specs.declared.registers.Regs.{Regs}
-use Rattle.pmem_base.specs.Shape.{Shape, IsShape, is_loss}
+use Rattle.pmem_base.specs.Shape.{IsShape, is_loss}
 use Rattle.pmem_base.specs.Layout as layout
-use Rattle.pmem_base.specs.Lines.{IsLine, IsCtr, line_at, tag_slot, zero_line}
+use Rattle.pmem_base.specs.Lines.{IsLine, line_at, tag_slot, zero_line}
 use Rattle.pmem_base.specs.Marks.{SealOf, last_seal}
 use Rattle.pmem_base.specs.Registers.{IsGroup}
 use Rattle.pmem_base.proofs.LineLemmas.{IsLine-zero_line}
@@ -25,10 +24,10 @@ use Rattle.bonsai_tree.specs.Positions.{counter_position}
 use Rattle.bonsai_tree.specs.Nodes.{IsHashTree}
 use Rattle.bonsai_tree.proofs.Levels.{counter_position-lt}
 use Rattle.seal_ledger.specs.Ledger.{LedgerState}
-use Rattle.plain_model.specs.View.{plain_line, plain_of_seal}
+use Rattle.plain_model.specs.View.{plain_of_seal}
 use Rattle.pmem_engine.specs.Engine.{EngineState}
 use Rattle.pmem_engine.specs.Truth.{true_block}
-use Rattle.pmem_engine.specs.Mendable.{IsAllTrue, IsShadowZero, new_engine}
+use Rattle.pmem_engine.specs.Mendable.{IsShadowZero, new_engine}
 use Rattle.pmem_engine.specs.Formatted.{first_seal, first_block, IsFormatted}
 use Rattle.pmem_engine.specs.Invariants.{IsAnchored, IsTrusted, IsMendable, IsSound, stored_meta}
 use Rattle.pmem_engine.proofs.Formats.{anchored-formatted, last_first}
@@ -79,8 +78,7 @@ noted_truth setup truth old sealed new made l =
     (λ i inside. l.told.lines i (subst (λ n. i < n) long inside))
 
 noted_marks : (setup : Setup) (truth : List Line) (old sealed new : LedgerState) → HasNoted setup truth old sealed new → new.marks ≡ map (first_seal setup) (range_with_len 0 (layout.data_lines setup.shape))
-noted_marks setup truth old sealed new l =
-    l.told.marks ∙ l.seals.marks ∙ ap (λ m. m ++ map (first_seal setup) (range_with_len 0 (layout.data_lines setup.shape))) l.no_marks
+noted_marks setup truth old sealed new l = search rules
 
 -- the seal of a line that was sealed once
 abbrev the_seal : Setup → ℕ → SealOf

@@ -1,5 +1,5 @@
 -- Laws of the writes of recovery as a whole: how many there are, and how the lines stand between them.
-use Rattle.std.proofs.Common.{ℕ, ◌≡◌, ◌<◌, ◌≤◌, ◌+◌, ◌*◌, Bool, true, false, cond, List, [], ◌∷◌, length, get_or, take, All, Some, refl, ap, sym, subst, ◌∙◌, inl, inr, arith}
+use Rattle.std.proofs.Common.{rules, ℕ, ◌≡◌, ◌<◌, ◌≤◌, ◌+◌, ◌*◌, Bool, true, false, cond, List, [], ◌∷◌, length, get_or, take, All, Some, refl, ap, sym, subst, ◌∙◌, inl, inr, arith}
 use Rattle.std.specs.Prelude.{filter, is_some}
 use Rattle.std.proofs.lemmas.Option.{same_Some}
 use Rattle.std.proofs.Math.Nat.{one-le-mul}
@@ -7,7 +7,6 @@ use Rattle.std.proofs.lemmas.List.{length-take, take_all, get_or_default}
 use Rattle.std.proofs.lemmas.List.Elements.{All-take, All-head, All-tail}
 use Rattle.pmem_base.specs.declared.lines.Line.{Line}
 use Rattle.pmem_base.specs.declared.registers.Regs.{Regs}
-use Rattle.pmem_base.specs.Counts.{last_count}
 use Rattle.pmem_base.specs.Shape.{Shape, IsShape}
 use Rattle.pmem_base.specs.Layout as layout
 use Rattle.pmem_base.specs.Lines.{line_at, zero_line}
@@ -19,13 +18,11 @@ use Rattle.suite.specs.Setup.{Setup}
 use Rattle.pmem_engine.specs.Mendable.{IsShadowZero}
 use Rattle.pmem_engine.proofs.MendableLaws.{line_at-shadow_of, shadow_of-same}
 use Rattle.pmem_recovery.specs.declared.entries.Made.{Made}
-use Rattle.pmem_recovery.specs.declared.faults.RecFault.{RecFault}
-use Rattle.pmem_recovery.specs.declared.faults.RecFault.TheVariants.{Memory, Cut, NoCounter, Root, Twin}
-use Rattle.pmem_recovery.specs.Parts.{Told, HasOnlyRead, HasRoot}
+use Rattle.pmem_recovery.specs.Parts.{Told, KeepsDevice, HasRoot}
 use Rattle.pmem_recovery.specs.Upward.{is_other, IsMadeLine}
-use Rattle.pmem_recovery.specs.Written.{AreWritten, AreZeroed, IsRecovered, count_changed, count_nonzero, differing}
+use Rattle.pmem_recovery.specs.Written.{AreWritten, IsRecovered, count_changed, count_nonzero, differing}
 use Rattle.pmem_recovery.specs.Writing.{BothTold, HasWrittenTo, HasWrittenSome, HasZeroedTo, HasZeroedSome}
-use Rattle.pmem_recovery.specs.Mending.{HasMadeAll, IsPartlyMended, most_writes, HasMadeWrites, WritesFewer, IsStoppedShort}
+use Rattle.pmem_recovery.specs.Mending.{HasMadeAll, most_writes, HasMadeWrites, WritesFewer}
 use Rattle.pmem_recovery.proofs.WrittenLaws.{differing-none, is_other-same, off_tree_same, made_on_tree, AreCompared-made}
 use Rattle.pmem_recovery.proofs.WriteSteps.{told_earlier}
 use Rattle.pmem_recovery.proofs.EndLaws.{nothing_made}
@@ -53,10 +50,7 @@ few_nonzero : (shadow : List Line) (n : ℕ) → count_nonzero (take n shadow) �
 few_nonzero shadow n = omega (arith, length-filter-le (λ (l : Line). is_other l zero_line) (take n shadow), length-take n shadow)
 
 none_changed : (made : List Made) (i : ℕ) → made ≡ [] → count_changed (take i made) ≡ 0
-none_changed made i e =
-    let none = length-take i made in
-    let empty : length made ≡ 0 = ap length e in
-    omega (arith, length-filter-le (λ (entry : Made). entry.changed) (take i made), none, empty)
+none_changed made i e = search rules
 
 no_filter : {X : Type 0} (p : X → Bool) (xs : List X) → All (λ x. p x ≡ false) xs → length (filter p xs) ≡ 0
 no_filter p [] all = refl
@@ -80,7 +74,7 @@ none_nonzero setup lines shadow n long its zero =
 
 -- ---- the writes
 
-pub made_writes-none : (setup : Setup) (regs : Regs) (old new : Device) → HasOnlyRead old new → HasMadeWrites setup regs old new
+pub made_writes-none : (setup : Setup) (regs : Regs) (old new : Device) → KeepsDevice old new → HasMadeWrites setup regs old new
 made_writes-none setup regs old new r =
     record {
       size = r.size;
@@ -103,7 +97,7 @@ made_writes-none setup regs old new r =
     plus_zero : (n : ℕ) → n ≡ n + 0
     plus_zero n = omega arith
 
-pub made_writes-some : (setup : Setup) (regs : Regs) (old mid new : Device) (shadow : List Line) (made : List Made) → HasOnlyRead old mid → IsMadeFor setup regs old shadow made → HasWrittenSome setup.shape made mid new → HasMadeWrites setup regs old new
+pub made_writes-some : (setup : Setup) (regs : Regs) (old mid new : Device) (shadow : List Line) (made : List Made) → KeepsDevice old mid → IsMadeFor setup regs old shadow made → HasWrittenSome setup.shape made mid new → HasMadeWrites setup regs old new
 made_writes-some setup regs old mid new shadow made r m w =
     let s = w.written.steps in
     record {
@@ -139,7 +133,7 @@ pub record IsBetween (setup : Setup) (regs : Regs) (shadow : List Line) (made : 
   pub on_tree : All (λ e. e.at < layout.meta_lines setup.shape) made
   pub all : HasMadeAll setup lines regs shadow made
 
-pub between_is : (setup : Setup) (regs : Regs) (old mid late : Device) (shadow : List Line) (made : List Made) (lines between : List Line) → HasOnlyRead old mid → IsMadeFor setup regs old shadow made → HasWrittenTo setup.shape made (length made) mid late → old.lines ≡ Some lines → late.lines ≡ Some between → length lines ≡ layout.device_lines setup.shape → IsBetween setup regs shadow made lines between
+pub between_is : (setup : Setup) (regs : Regs) (old mid late : Device) (shadow : List Line) (made : List Made) (lines between : List Line) → KeepsDevice old mid → IsMadeFor setup regs old shadow made → HasWrittenTo setup.shape made (length made) mid late → old.lines ≡ Some lines → late.lines ≡ Some between → length lines ≡ layout.device_lines setup.shape → IsBetween setup regs shadow made lines between
 between_is setup regs old mid late shadow made lines between r m w told after whole =
     let all = m.told lines told whole in
     let some = w.lines lines (r.lines ∙ told) between after whole (AreCompared-made setup lines regs _ made all.all_made) in
@@ -157,7 +151,7 @@ between_is setup regs old mid late shadow made lines between r m w told after wh
       all = all;
     }
 
-pub made_writes-zeroed : (setup : Setup) (regs : Regs) (old mid late new : Device) (shadow : List Line) (made : List Made) → HasOnlyRead old mid → IsMadeFor setup regs old shadow made → HasWrittenTo setup.shape made (length made) mid late → (k : ℕ) → k ≤ layout.shadow_lines setup.shape → HasZeroedTo setup.shape shadow k late new → HasMadeWrites setup regs old new
+pub made_writes-zeroed : (setup : Setup) (regs : Regs) (old mid late new : Device) (shadow : List Line) (made : List Made) → KeepsDevice old mid → IsMadeFor setup regs old shadow made → HasWrittenTo setup.shape made (length made) mid late → (k : ℕ) → k ≤ layout.shadow_lines setup.shape → HasZeroedTo setup.shape shadow k late new → HasMadeWrites setup regs old new
 made_writes-zeroed setup regs old mid late new shadow made r m w k within z =
     let s = w.steps in
     let t = z.steps in
@@ -205,16 +199,8 @@ most_writes-some g shape = omega (arith, one-le-mul shape.at_least_one_set shape
 WritesFewer-of : (k most : ℕ) (old new : Device) → k < most → RisesBy k old.writes new.writes → WritesFewer most old new
 WritesFewer-of k most old new less w = record { fewer = λ below. omega (arith, less, w.exact below) }
 
--- nothing is written yet
-pub stopped-read : (g : Shape) (fault : RecFault) (old new : Device) → IsShape g → HasOnlyRead old new → IsStoppedShort g fault old new
-stopped-read g Memory old new shape r = r
-stopped-read g Cut old new shape r = record { fewer = λ below. omega (arith, r.writes, most_writes-some g shape) }
-stopped-read g (NoCounter at) old new shape r = r
-stopped-read g (Root kept found) old new shape r = r
-stopped-read g (Twin at major low high cipher tag) old new shape r = r
-
 -- not all lines made are
-pub stopped-some : (setup : Setup) (regs : Regs) (old mid new : Device) (shadow : List Line) (made : List Made) → HasOnlyRead old mid → IsMadeFor setup regs old shadow made → HasWrittenSome setup.shape made mid new → WritesFewer (most_writes setup.shape) old new
+pub stopped-some : (setup : Setup) (regs : Regs) (old mid new : Device) (shadow : List Line) (made : List Made) → KeepsDevice old mid → IsMadeFor setup regs old shadow made → HasWrittenSome setup.shape made mid new → WritesFewer (most_writes setup.shape) old new
 stopped-some setup regs old mid new shadow made r m w =
     let count = count_changed (take w.place made) in
     WritesFewer-of count (most_writes setup.shape) old new
@@ -222,7 +208,7 @@ stopped-some setup regs old mid new shadow made r m w =
     (subst (λ n. RisesBy count n new.writes) r.writes w.written.steps.writes)
 
 -- not all shadow lines are
-pub stopped-zeroed : (setup : Setup) (regs : Regs) (old mid late new : Device) (shadow : List Line) (made : List Made) → HasOnlyRead old mid → IsMadeFor setup regs old shadow made → HasWrittenTo setup.shape made (length made) mid late → HasZeroedSome setup.shape shadow late new → WritesFewer (most_writes setup.shape) old new
+pub stopped-zeroed : (setup : Setup) (regs : Regs) (old mid late new : Device) (shadow : List Line) (made : List Made) → KeepsDevice old mid → IsMadeFor setup regs old shadow made → HasWrittenTo setup.shape made (length made) mid late → HasZeroedSome setup.shape shadow late new → WritesFewer (most_writes setup.shape) old new
 stopped-zeroed setup regs old mid late new shadow made r m w z =
     let first = count_changed (take (length made) made) in
     let n = count_nonzero (take z.place shadow) in
@@ -232,7 +218,7 @@ stopped-zeroed setup regs old mid late new shadow made r m w z =
 
 -- ---- at the end
 
-pub made_writes-recovered : (setup : Setup) (regs : Regs) (old mid late new : Device) (shadow : List Line) (made : List Made) → HasOnlyRead old mid → IsMadeFor setup regs old shadow made → HasWrittenTo setup.shape made (length made) mid late → HasZeroedTo setup.shape shadow (layout.shadow_lines setup.shape) late new → BothTold old new (λ lines now. length lines ≡ layout.device_lines setup.shape → IsRecovered setup lines regs now × HasRoot setup lines regs)
+pub made_writes-recovered : (setup : Setup) (regs : Regs) (old mid late new : Device) (shadow : List Line) (made : List Made) → KeepsDevice old mid → IsMadeFor setup regs old shadow made → HasWrittenTo setup.shape made (length made) mid late → HasZeroedTo setup.shape shadow (layout.shadow_lines setup.shape) late new → BothTold old new (λ lines now. length lines ≡ layout.device_lines setup.shape → IsRecovered setup lines regs now × HasRoot setup lines regs)
 made_writes-recovered setup regs old mid late new shadow made r m w z lines told now after whole =
     let earlier = told_earlier late new now z.steps.told after in
     let b = between_is setup regs old mid late shadow made lines earlier.0 r m w told earlier.1 whole in

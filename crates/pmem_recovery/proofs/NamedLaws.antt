@@ -1,5 +1,5 @@
 -- Laws of the positions that are named: the next one, and how many there are.
-use Rattle.std.proofs.Common.{ℕ, zero, suc, ◌≡◌, ◌<◌, ◌≤◌, ◌+◌, ◌-◌, ◌*◌, ◌/◌, Bool, true, false, ◌||◌, eqb, List, [], ◌∷◌, ◌++◌, length, Option, Some, None, refl, sym, ap, ◌∙◌, subst, arith}
+use Rattle.std.proofs.Common.{rules, ℕ, suc, ◌≡◌, ◌<◌, ◌≤◌, ◌+◌, ◌-◌, ◌*◌, Bool, true, false, ◌||◌, eqb, List, [], ◌∷◌, length, Option, Some, None, refl, sym, ap, ◌∙◌, subst, arith}
 use Rattle.std.specs.Prelude.{filter}
 use Rattle.std.specs.List.{list_any, range_with_len}
 use Rattle.std.proofs.lemmas.Bool.{cond-true, cond-false, eq-eqb, ne_eqb}
@@ -62,11 +62,6 @@ names-node g shadow x six above =
 
 -- ---- how many
 
-pub count_named-none : (g : Shape) (shadow : List Line) (a : ℕ) → count_named g shadow a a ≡ 0
-count_named-none g shadow a =
-    let none : a - a ≡ 0 = omega arith in
-    ap (λ n. length (filter (λ x. names g shadow x) (range_with_len a n))) none
-
 -- in two parts
 pub count_named-parts : (g : Shape) (shadow : List Line) (a m b : ℕ) → a ≤ m → m ≤ b → count_named g shadow a b ≡ count_named g shadow a m + count_named g shadow m b
 count_named-parts g shadow a m b low high =
@@ -91,10 +86,7 @@ count_named-gap g shadow a b none =
     ∙ nothing_passes (range_with_len a (b - a))
 
 count_one : (g : Shape) (shadow : List Line) (x : ℕ) → names g shadow x ≡ true → count_named g shadow x (x + 1) ≡ 1
-count_one g shadow x named =
-    let one : x + 1 - x ≡ 1 = omega arith in
-    ap (λ n. length (filter (λ y. names g shadow y) (range_with_len x n))) one
-    ∙ ap length (cond-true (names g shadow x) (x ∷ []) [] named)
+count_one g shadow x named = search rules
 
 -- up to the next one
 pub count_named-next : (g : Shape) (shadow : List Line) (a from end x : ℕ) → a ≤ from → IsNextAt (names g shadow) from end x → count_named g shadow a (x + 1) ≡ count_named g shadow a from + 1

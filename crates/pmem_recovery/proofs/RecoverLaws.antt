@@ -1,39 +1,34 @@
 -- Laws of recovery as a whole: the relation that it keeps, from those of its stages.
-use Rattle.std.proofs.Common.{ℕ, ◌≡◌, ◌<◌, ◌≤◌, ◌+◌, ◌*◌, true, false, List, [], length, Option, Some, Ok, Err, refl, ap, sym, subst, ◌∙◌, inl, inr, arith}
+use Rattle.std.proofs.Common.{rules, ℕ, ◌≡◌, ◌<◌, ◌≤◌, ◌+◌, ◌*◌, List, [], length, Some, Ok, Err, refl, ap, sym, subst, ◌∙◌, inr, arith}
 use Rattle.std.specs.Prelude.{is_some}
-use Rattle.std.proofs.lemmas.Option.{same_Some}
 use Rattle.pmem_base.specs.declared.lines.Line.{Line}
-use Rattle.pmem_base.specs.declared.registers.Regs.{Regs}
-use Rattle.pmem_base.specs.Shape.{Shape, IsShape}
+use Rattle.pmem_base.specs.Shape.{IsShape}
 use Rattle.pmem_base.specs.Layout as layout
 use Rattle.pmem_base.specs.Lines.{line_at}
 use Rattle.pmem_base.specs.Registers.{IsValidRegs, without_group}
-use Rattle.board.specs.Counts.{RisesBy}
 use Rattle.board.specs.Device.{Device, AreLinesOf, AreToldLines}
 use Rattle.pmem_base.proofs.LineSets.{length-put_lines}
-use Rattle.commit_regs.specs.Groups.{redone, redone_told, finishing_latches, RisesAtMost, HasFinished, IsInterrupted}
-use Rattle.suite.specs.Formulas.{Formulas}
+use Rattle.commit_regs.specs.Groups.{redone, finishing_latches, RisesAtMost, HasFinished, IsInterrupted}
 use Rattle.suite.specs.Setup.{Setup}
 use Rattle.seal_ledger.specs.Ledger.{LedgerState}
-use Rattle.pmem_engine.specs.Invariants.{IsAnchored, IsSealStored, IsMendable, IsDurable, IsSound, stored_meta}
+use Rattle.pmem_engine.specs.Invariants.{IsAnchored, IsSealStored, IsMendable, IsDurable, IsSound}
 use Rattle.pmem_engine.specs.Mendable.{IsShadowZero, new_engine}
 use Rattle.pmem_engine.specs.Steps.{IsEmptied}
-use Rattle.pmem_engine.proofs.MendableLaws.{AreLinesOf-redone, IsValidRegs-emptied, IsAnchored-emptied, IsDurable-emptied, IsDurable-no_group, IsMendable-emptied, IsDurable-same_redone, IsSealStored-same}
+use Rattle.pmem_engine.proofs.MendableLaws.{IsValidRegs-emptied, IsAnchored-emptied, IsDurable-emptied, IsDurable-no_group, IsMendable-emptied, IsSealStored-same}
 use Rattle.pmem_recovery.specs.declared.faults.Work.{Work}
-use Rattle.pmem_engine.specs.Outcomes.{TakesAtMost, TakesFewer}
+use Rattle.pmem_engine.specs.Outcomes.{TakesAtMost}
 use Rattle.pmem_recovery.specs.declared.faults.RecFault.{RecFault}
 use Rattle.pmem_recovery.specs.declared.faults.RecFault.TheVariants.{Memory, Cut, NoCounter, Root, Twin}
 use Rattle.pmem_recovery.specs.Trials.{IsTwinOfLastSeal}
 use Rattle.pmem_recovery.specs.Written.{IsRecovered, differing}
-use Rattle.pmem_recovery.specs.Parts.{HasOnlyRead, GoesOn, IsCutOff, StopsBy, SuiteState, HasWorked, HasWorkedAtMost, HasRoot, IsShown, IsRefusal, IsStopped}
+use Rattle.pmem_recovery.specs.Parts.{KeepsDevice, IsUncut, StopsBy, SuiteState, SuiteWork, SuiteWorkAtMost, HasRoot, IsFaultShown, IsRefusal, IsStageStopped}
 use Rattle.pmem_recovery.specs.Writing.{BothTold}
 use Rattle.pmem_recovery.specs.Mending.{IsPartlyMended, most_writes, HasMadeWrites, IsStoppedShort}
-use Rattle.pmem_recovery.specs.Recovered.{Answer, RegsAfter, PowerAfter, HasOnlyRedone, IsUnchanged, most_steps, StepsAfter, CountsAtMost, IsFewWork, IsTwinValid, IsNoCounterCaused, IsMendedAs, IsCleared, HasMended, HasRecovered, IsUncounted}
-use Rattle.pmem_recovery.proofs.PartLaws.{GoesOn-none, GoesOn-then, IsCutOff-after}
-use Rattle.pmem_recovery.proofs.WrittenLaws.{top_recovered, differing-none}
-use Rattle.pmem_recovery.proofs.MendingLaws.{most_writes-some}
+use Rattle.pmem_recovery.specs.Recovered.{RegsAfter, PowerAfter, HasOnlyRedone, IsUnchanged, most_steps, StepsAfter, CountsAtMost, IsTwinValid, IsNoCounterUnmendable, IsMendedAs, HasRecovered, IsUncounted}
+use Rattle.pmem_recovery.proofs.PartLaws.{IsUncut-then, IsCutOff-after}
+use Rattle.pmem_recovery.proofs.WrittenLaws.{top_recovered}
 use Rattle.pmem_recovery.proofs.EndLaws.{IsSound-recovered, IsShadowZero-recovered}
-use Rattle.pmem_recovery.proofs.AnswerLaws.{partly-data, partly-mendable, no_counter-caused, IsTrueRefusal, true_refusal, IsEmptied-without, HasRoot-without, IsRefusal-without, IsTrusted-fresh, IsNewEngine-fresh, told_lines, redone_told-told, is_some-redone, RisesAtMost-then, RisesAtMost-of, RisesAtMost-weaker, RisesAtMost-none}
+use Rattle.pmem_recovery.proofs.AnswerLaws.{partly-data, partly-mendable, no_counter-caused, IsTrueRefusal, true_refusal, IsEmptied-without, HasRoot-without, IsRefusal-without, IsTrusted-fresh, IsNewEngine-fresh, told_lines, redone_told-told, is_some-redone, RisesAtMost-then}
 
 -- ---- no memory, and a cut while the group is redone
 
@@ -41,92 +36,10 @@ pub counts-none : (most count : ℕ) → CountsAtMost most count count
 counts-none most count = record { calls = 0; few = omega arith; counted = refl }
 
 pub recovered_memory : (setup : Setup) (ledger : LedgerState) (old : Device) (suite : SuiteState) → IsValidRegs setup.shape old.regs → HasRecovered setup ledger old old suite suite (Err Memory)
-recovered_memory setup ledger old suite valid =
-    record {
-      size = refl;
-      told = refl;
-      reads = omega arith;
-      regs = refl;
-      valid = valid;
-      power = GoesOn-none old;
-      unchanged = refl;
-      writes = RisesAtMost-none _ old.writes old.writes refl;
-      latches = RisesAtMost-none _ old.latches old.latches refl;
-      steps = record { writes = omega arith; latches = omega arith; sum = λ below still. omega arith };
-      keys = refl;
-      pads = refl;
-      trials = tt;
-      digests = tt;
-      uncounted = refl;
-      few_work = tt;
-      few_trials = counts-none _ suite.tags;
-      few_digests = counts-none _ suite.digests;
-      anchored = λ a. a;
-      engine = tt;
-      trusted = λ a. tt;
-      twin = tt;
-      lines = λ lines told now after.
-          let same : now ≡ lines = same_Some now lines (sym after ∙ told) in
-          record {
-            from_durable = λ d. subst (λ l. IsDurable setup l old.regs ledger) (sym same) d;
-            data_same = λ n low. ap (λ l. line_at (redone old.regs.group.items l) n) same;
-            seals_kept = λ a inside stored. subst (λ l. IsSealStored setup.shape (redone old.regs.group.items l) ledger.marks a) (sym same) stored;
-            cleared = tt;
-            decided = tt;
-            no_counter = tt;
-            few_steps = RisesAtMost-none _ old.writes old.writes refl;
-            no_steps = λ none zero. (refl, refl);
-          };
-    }
+recovered_memory setup ledger old suite valid = search rules
 
 pub recovered_interrupted : (setup : Setup) (ledger : LedgerState) (old new : Device) (suite : SuiteState) → IsShape setup.shape → old.size ≡ layout.device_lines setup.shape → AreToldLines new.size new.lines → IsValidRegs setup.shape old.regs → (old.regs.group.items ≡ [] → ⊥) → IsInterrupted old.regs.group.items old new → HasRecovered setup ledger old new suite suite (Err Cut)
-recovered_interrupted setup ledger old new suite shape size whole valid armed cut =
-    let group = old.regs.group.items in
-    record {
-      size = cut.size;
-      told = sym (is_some-redone group new.lines) ∙ ap is_some cut.again ∙ is_some-redone group old.lines;
-      reads = omega (arith, cut.reads);
-      regs = inl cut.regs;
-      valid = subst (IsValidRegs setup.shape) (sym cut.regs) valid;
-      power = record { unsteady = cut.unsteady; off = cut.off; never_falls = cut.never_falls; rose = cut.rose };
-      unchanged = tt;
-      writes = RisesAtMost-weaker (length group) _ old.writes new.writes (omega arith) cut.writes;
-      latches = RisesAtMost-none _ old.latches new.latches cut.latches;
-      steps =
-          record {
-            writes = cut.writes.never_falls;
-            latches = omega (arith, cut.latches);
-            sum = λ below still. omega (arith, cut.writes.bound below, cut.latches, most_writes-some setup.shape shape);
-          };
-      keys = refl;
-      pads = refl;
-      trials = tt;
-      digests = tt;
-      uncounted = tt;
-      few_work = tt;
-      few_trials = counts-none _ suite.tags;
-      few_digests = counts-none _ suite.digests;
-      anchored = λ a. subst (λ regs. IsAnchored setup regs ledger) (sym cut.regs) a;
-      engine = tt;
-      trusted = λ a. tt;
-      twin = tt;
-      lines = λ lines told now after.
-          let same : redone group now ≡ redone group lines = same_Some (redone group now) (redone group lines) (sym (redone_told-told group new.lines now after) ∙ cut.again ∙ redone_told-told group old.lines lines told) in
-          let kept : redone new.regs.group.items now ≡ redone group lines = ap (λ r. redone r.group.items now) cut.regs ∙ same in
-          record {
-            from_durable = λ d.
-                subst (λ regs. IsDurable setup now regs ledger) (sym cut.regs)
-                (IsDurable-same_redone setup lines now old.regs ledger same
-                (subst (λ s. AreLinesOf s now) (cut.size ∙ size) (told_lines new.size new.lines now whole after)) d);
-            data_same = λ n low. ap (λ l. line_at l n) kept;
-            seals_kept = λ a inside stored. subst (λ l. IsSealStored setup.shape l ledger.marks a) (sym kept) stored;
-            cleared = tt;
-            decided = tt;
-            no_counter = tt;
-            few_steps = RisesAtMost-weaker (length group) _ old.writes new.writes (omega arith) cut.writes;
-            no_steps = λ none zero. absurd (armed none);
-          };
-    }
+recovered_interrupted setup ledger old new suite shape size whole valid armed cut = search rules
 
 -- ---- the group redone, and the named lines made and written
 
@@ -151,7 +64,7 @@ module _ (setup : Setup) (ledger : LedgerState) (old mid new : Device) (run : Is
   mid_emptied : IsEmptied old.regs mid.regs
   mid_emptied = IsEmptied-without old.regs mid.regs run.finished.regs
 
-  pub goes_before : GoesOn old mid
+  pub goes_before : IsUncut old mid
   goes_before = record { cuts = run.finished.cuts; steady = run.finished.steady; live = run.finished.live }
 
   pub its_told : is_some new.lines ≡ is_some old.lines
@@ -167,17 +80,10 @@ module _ (setup : Setup) (ledger : LedgerState) (old mid new : Device) (run : Is
   its_writes = RisesAtMost-then (length old.regs.group.items) run.written.count _ old.writes mid.writes new.writes run.written.few run.finished.writes run.written.writes
 
   pub its_latches : RisesAtMost (finishing_latches old.regs.group.items) old.latches new.latches
-  its_latches =
-      subst (RisesAtMost (finishing_latches old.regs.group.items) old.latches) (sym run.written.latches)
-      (RisesAtMost-of (finishing_latches old.regs.group.items) (finishing_latches old.regs.group.items) old.latches mid.latches (omega arith) run.finished.latches)
+  its_latches = search rules
 
   its_steps_in_all : TakesAtMost (most_steps setup old.regs) old new
-  its_steps_in_all =
-      record {
-        writes = its_writes.never_falls;
-        latches = its_latches.never_falls;
-        sum = λ below still. omega (arith, its_writes.bound below, its_latches.bound still);
-      }
+  its_steps_in_all = search rules
 
   pub its_anchored : IsAnchored setup old.regs ledger → IsAnchored setup new.regs ledger
   its_anchored = IsAnchored-emptied setup old.regs new.regs ledger emptied
@@ -217,17 +123,10 @@ module _ (setup : Setup) (ledger : LedgerState) (old mid new : Device) (run : Is
       IsSealStored-same setup.shape (redone old.regs.group.items lines) (redone new.regs.group.items now) ledger.marks a inside (its_data lines now m) stored
 
   pub its_steps : (lines now : List Line) → AreItsLines lines now → RisesAtMost (length old.regs.group.items + differing (redone old.regs.group.items lines) now) old.writes new.writes
-  its_steps lines now m =
-      RisesAtMost-then (length old.regs.group.items) run.written.count _ old.writes mid.writes new.writes (omega (arith, m.count)) run.finished.writes run.written.writes
+  its_steps lines now m = search rules
 
   pub its_no_steps : (lines now : List Line) → AreItsLines lines now → old.regs.group.items ≡ [] → IsShadowZero setup lines → (new.writes ≡ old.writes) × (new.latches ≡ old.latches)
-  its_no_steps lines now m none zero =
-      let same = run.idle none in
-      let again : redone old.regs.group.items lines ≡ lines = ap (λ items. redone items lines) none in
-      let idle = m.no_count (subst (IsShadowZero setup) (sym again) zero) in (
-        run.written.none idle ∙ ap (λ (d : Device). d.writes) same,
-        run.written.latches ∙ ap (λ (d : Device). d.latches) same,
-      )
+  its_no_steps lines now m none zero = search rules
 
   -- a durable device is durable still, with its group redone and with some lines written
   pub mid_durable : (lines : List Line) → IsDurable setup lines old.regs ledger → IsDurable setup (redone old.regs.group.items lines) mid.regs ledger
@@ -244,37 +143,24 @@ module _ (setup : Setup) (ledger : LedgerState) (old mid new : Device) (run : Is
 
   -- ---- a fault
 
-  regs_after : (fault : RecFault) → IsShown setup.formulas fault → RegsAfter (Err fault) old.regs new.regs
+  regs_after : (fault : RecFault) → IsFaultShown setup.formulas fault → RegsAfter (Err fault) old.regs new.regs
   regs_after Memory shown = absurd shown
   regs_after Cut shown = inr new_regs
-  regs_after (NoCounter at) shown = new_regs
-  regs_after (Root kept found) shown = new_regs
-  regs_after (Twin at major low high cipher tag) shown = new_regs
+  regs_after fault shown = new_regs
 
   power_after : (fault : RecFault) → StopsBy fault mid new → PowerAfter (Err fault) old new
-  power_after Memory s = GoesOn-then old mid new goes_before s
   power_after Cut s = IsCutOff-after old mid new goes_before s
-  power_after (NoCounter at) s = GoesOn-then old mid new goes_before s
-  power_after (Root kept found) s = GoesOn-then old mid new goes_before s
-  power_after (Twin at major low high cipher tag) s = GoesOn-then old mid new goes_before s
+  power_after fault s = IsUncut-then old mid new goes_before s
 
-  only_redone : HasOnlyRead mid new → HasOnlyRedone old new
-  only_redone r =
-      record {
-        lines = r.lines ∙ run.finished.lines;
-        writes = subst (RisesBy (length old.regs.group.items) old.writes) (sym r.writes) run.finished.writes;
-        latches = subst (RisesBy (finishing_latches old.regs.group.items) old.latches) (sym r.latches) run.finished.latches;
-      }
+  only_redone : KeepsDevice mid new → HasOnlyRedone old new
+  only_redone r = search rules
 
-  unchanged_after : (fault : RecFault) → IsShown setup.formulas fault → IsStoppedShort setup.shape fault mid new → IsUnchanged (Err fault) old new
+  unchanged_after : (fault : RecFault) → IsFaultShown setup.formulas fault → IsStoppedShort setup.shape fault mid new → IsUnchanged (Err fault) old new
   unchanged_after Memory shown short = absurd shown
   unchanged_after Cut shown short = tt
-  unchanged_after (NoCounter at) shown short = only_redone short
-  unchanged_after (Root kept found) shown short = only_redone short
-  unchanged_after (Twin at major low high cipher tag) shown short = only_redone short
+  unchanged_after fault shown short = only_redone short
 
   steps_after : (fault : RecFault) → IsStoppedShort setup.shape fault mid new → StepsAfter (Err fault) (most_steps setup old.regs) old new
-  steps_after Memory short = its_steps_in_all
   steps_after Cut short =
       record {
         writes = its_writes.never_falls;
@@ -284,40 +170,28 @@ module _ (setup : Setup) (ledger : LedgerState) (old mid new : Device) (run : Is
             let latch = run.finished.latches.exact (omega (arith, still, run.written.latches)) in
             omega (arith, short.fewer below, redo, latch, run.written.latches);
       }
-  steps_after (NoCounter at) short = its_steps_in_all
-  steps_after (Root kept found) short = its_steps_in_all
-  steps_after (Twin at major low high cipher tag) short = its_steps_in_all
+  steps_after fault short = its_steps_in_all
 
-  twin_valid : (fault : RecFault) → IsShown setup.formulas fault → IsTwinValid setup.formulas fault
-  twin_valid Memory shown = tt
-  twin_valid Cut shown = tt
-  twin_valid (NoCounter at) shown = tt
-  twin_valid (Root kept found) shown = tt
+  twin_valid : (fault : RecFault) → IsFaultShown setup.formulas fault → IsTwinValid setup.formulas fault
   twin_valid (Twin at major low high cipher tag) shown = shown
+  twin_valid fault shown = tt
 
-  no_counter_after : (lines : List Line) (fault : RecFault) → IsRefusal setup lines old.regs fault → IsNoCounterCaused setup lines old.regs ledger (Err fault)
-  no_counter_after lines Memory r = tt
-  no_counter_after lines Cut r = tt
+  no_counter_after : (lines : List Line) (fault : RecFault) → IsRefusal setup lines old.regs fault → IsNoCounterUnmendable setup lines old.regs ledger (Err fault)
   no_counter_after lines (NoCounter at) r = no_counter-caused setup lines old.regs ledger at r.1
-  no_counter_after lines (Root kept found) r = tt
-  no_counter_after lines (Twin at major low high cipher tag) r = tt
+  no_counter_after lines fault r = tt
 
   mended_after : (now : List Line) (fault : RecFault) → IsTrueRefusal mid.regs ledger fault → IsDurable setup now new.regs ledger → IsMendedAs setup old.regs new.regs ledger now (Err fault)
-  mended_after now Memory r d = d
-  mended_after now Cut r d = d
   mended_after now (NoCounter at) r d = r
   mended_after now (Root kept found) r d = r
   mended_after now (Twin at major low high cipher tag) r d =
       (subst (λ n. IsTwinOfLastSeal n ledger at major low high cipher tag) mid_emptied.same_loss r, d)
+  mended_after now fault r d = d
 
-  uncounted_after : (suite_old suite_new : SuiteState) (fault : RecFault) → IsShown setup.formulas fault → IsUncounted (Err fault) suite_old suite_new
+  uncounted_after : (suite_old suite_new : SuiteState) (fault : RecFault) → IsFaultShown setup.formulas fault → IsUncounted (Err fault) suite_old suite_new
   uncounted_after suite_old suite_new Memory shown = absurd shown
-  uncounted_after suite_old suite_new Cut shown = tt
-  uncounted_after suite_old suite_new (NoCounter at) shown = tt
-  uncounted_after suite_old suite_new (Root kept found) shown = tt
-  uncounted_after suite_old suite_new (Twin at major low high cipher tag) shown = tt
+  uncounted_after suite_old suite_new fault shown = tt
 
-  pub recovered_fault : (suite_old suite_new : SuiteState) (fault : RecFault) → IsStopped setup.formulas fault (λ lines. length lines ≡ layout.device_lines setup.shape → IsRefusal setup lines mid.regs fault) mid new → IsStoppedShort setup.shape fault mid new → HasWorkedAtMost (64 * mid.regs.loss * layout.slots setup.shape) (4 * setup.shape.levels * layout.slots setup.shape + 1) suite_old suite_new → HasRecovered setup ledger old new suite_old suite_new (Err fault)
+  pub recovered_fault : (suite_old suite_new : SuiteState) (fault : RecFault) → IsStageStopped setup.formulas fault (λ lines. length lines ≡ layout.device_lines setup.shape → IsRefusal setup lines mid.regs fault) mid new → IsStoppedShort setup.shape fault mid new → SuiteWorkAtMost (64 * mid.regs.loss * layout.slots setup.shape) (4 * setup.shape.levels * layout.slots setup.shape + 1) suite_old suite_new → HasRecovered setup ledger old new suite_old suite_new (Err fault)
   recovered_fault suite_old suite_new fault s short work =
       record {
         size = run.written.size ∙ run.finished.size;
@@ -362,7 +236,7 @@ module _ (setup : Setup) (ledger : LedgerState) (old mid new : Device) (run : Is
 
   -- ---- a new engine
 
-  pub recovered_ok : (suite_old suite_new : SuiteState) (work : Work) → GoesOn mid new → BothTold mid new (λ lines now. length lines ≡ layout.device_lines setup.shape → IsRecovered setup lines mid.regs now × HasRoot setup lines mid.regs) → HasWorked work.trials work.digests suite_old suite_new → work.trials ≤ 64 * mid.regs.loss * layout.slots setup.shape → work.digests ≤ 4 * setup.shape.levels * layout.slots setup.shape + 1 → HasRecovered setup ledger old new suite_old suite_new (Ok (new_engine setup.shape, work))
+  pub recovered_ok : (suite_old suite_new : SuiteState) (work : Work) → IsUncut mid new → BothTold mid new (λ lines now. length lines ≡ layout.device_lines setup.shape → IsRecovered setup lines mid.regs now × HasRoot setup lines mid.regs) → SuiteWork work.trials work.digests suite_old suite_new → work.trials ≤ 64 * mid.regs.loss * layout.slots setup.shape → work.digests ≤ 4 * setup.shape.levels * layout.slots setup.shape + 1 → HasRecovered setup ledger old new suite_old suite_new (Ok (new_engine setup.shape, work))
   recovered_ok suite_old suite_new work goes recovered worked few_trials few_digests =
       let few : work.trials ≤ 64 * old.regs.loss * layout.slots setup.shape = subst (λ n. work.trials ≤ 64 * n * layout.slots setup.shape) mid_emptied.same_loss few_trials in
       record {
@@ -371,7 +245,7 @@ module _ (setup : Setup) (ledger : LedgerState) (old mid new : Device) (run : Is
         reads = its_reads;
         regs = new_regs;
         valid = its_valid;
-        power = GoesOn-then old mid new goes_before goes;
+        power = IsUncut-then old mid new goes_before goes;
         unchanged = tt;
         writes = its_writes;
         latches = its_latches;

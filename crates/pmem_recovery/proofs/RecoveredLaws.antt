@@ -10,10 +10,10 @@ use Rattle.shadow_tables.specs.Entries.{shadow_of}
 use Rattle.suite.specs.Formulas.{Formulas}
 use Rattle.suite.specs.Setup.{Setup}
 use Rattle.pmem_recovery.specs.declared.faults.RecFault.{RecFault}
-use Rattle.pmem_recovery.specs.declared.faults.RecFault.TheVariants.{Memory, Cut, NoCounter, Root, Twin}
+use Rattle.pmem_recovery.specs.declared.faults.RecFault.TheVariants.{Memory, NoCounter, Root, Twin}
 use Rattle.pmem_recovery.specs.Trials.{first_undecided}
 use Rattle.pmem_recovery.specs.Fixed.{found_root}
-use Rattle.pmem_recovery.specs.Parts.{IsRootAnswer, IsRootFault, IsRefusal, IsShown}
+use Rattle.pmem_recovery.specs.Parts.{IsRootAnswer, IsRootFault, IsRefusal, IsFaultShown}
 use Rattle.pmem_engine.proofs.MendableLaws.{line_at-shadow_of}
 
 -- ---- the shadow lines
@@ -35,8 +35,6 @@ shadow_read g lines shadow whole long each =
 -- ---- the root
 
 pub root_refusal : (setup : Setup) (lines : List Line) (regs : Regs) (top : Line) (fault : RecFault) → first_undecided setup lines regs ≡ None → setup.formulas.digest_of 0 top ≡ found_root setup lines regs → IsRootAnswer setup.formulas top regs.root (Err fault) → IsRefusal setup lines regs fault
-root_refusal setup lines regs top Memory decided root answer = tt
-root_refusal setup lines regs top Cut decided root answer = tt
 root_refusal setup lines regs top (NoCounter at) decided root answer = absurd answer
 root_refusal setup lines regs top (Root kept found) decided root answer =
     record {
@@ -46,10 +44,9 @@ root_refusal setup lines regs top (Root kept found) decided root answer =
       differ = λ same. answer.2 (sym answer.1 ∙ same ∙ answer.0);
     }
 root_refusal setup lines regs top (Twin at major low high cipher tag) decided root answer = absurd answer
+root_refusal setup lines regs top fault decided root answer = tt
 
-pub shown_root : (f : Formulas) (fault : RecFault) → IsRootFault fault → IsShown f fault
+pub shown_root : (f : Formulas) (fault : RecFault) → IsRootFault fault → IsFaultShown f fault
 shown_root f Memory kind = kind
-shown_root f Cut kind = tt
-shown_root f (NoCounter at) kind = tt
-shown_root f (Root kept found) kind = tt
 shown_root f (Twin at major low high cipher tag) kind = absurd kind
+shown_root f fault kind = tt

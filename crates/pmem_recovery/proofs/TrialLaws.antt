@@ -1,14 +1,11 @@
 -- Laws of the trials on a device that can be mended: the true minor of each line is among those tried,
 -- one that is tried alone is the true one, and two that are tried are a twin of the line's last seal.
-use Rattle.std.proofs.Common.{ℕ, ◌≡◌, ◌≢◌, ◌<◌, ◌≤◌, ◌+◌, ◌-◌, ◌*◌, ◌/◌, Bool, true, not, ◌&&◌, eqb, List, [], ◌∷◌, length, All, Option, Some, None, refl, ap, sym, ◌∙◌, subst, IsTrue, arith}
+use Rattle.std.proofs.Common.{rules, ℕ, ◌≡◌, ◌≢◌, ◌<◌, ◌≤◌, ◌+◌, ◌-◌, ◌*◌, ◌/◌, Bool, true, not, ◌&&◌, eqb, List, [], ◌∷◌, length, All, Option, Some, None, refl, ap, sym, ◌∙◌, subst, IsTrue, arith}
 use Rattle.std.specs.Prelude.{option_map, filter}
 use Rattle.std.specs.List.{range_with_len, Contains}
-use Rattle.std.proofs.Math.Nat.{lt-div-mul-add, div-mul-le_self}
-use Rattle.std.proofs.lemmas.Nat.{div-mul-add}
 use Rattle.std.proofs.lemmas.Bool.{eqb-true, and_parts, not-true}
 use Rattle.std.proofs.lemmas.List.Elements.{All-head, All-tail}
 use Rattle.pmem_base.specs.declared.lines.Line.{Line}
-use Rattle.pmem_base.specs.declared.answers.Exhibit.TheVariants.{Twin}
 use Rattle.pmem_base.specs.declared.registers.Progress.{Progress}
 use Rattle.pmem_base.specs.declared.registers.Regs.{Regs}
 use Rattle.pmem_base.specs.Shape.{is_loss}
@@ -25,7 +22,6 @@ use Rattle.bonsai_tree.specs.Positions.{counter_position}
 use Rattle.page_reencrypt.specs.Registers.{register_held, counter_under}
 use Rattle.page_reencrypt.proofs.Holding.{not_done-All}
 use Rattle.seal_ledger.specs.Ledger.{LedgerState}
-use Rattle.collision_witness.specs.Exhibits.{IsExhibit}
 use Rattle.suite.specs.Setup.{Setup}
 use Rattle.pmem_engine.specs.Truth.{true_block, true_counter}
 use Rattle.pmem_engine.specs.Invariants.{IsHeldBack, stored_meta}
@@ -37,25 +33,18 @@ use Rattle.pmem_recovery.specs.Trials.{stored_block, is_tag_met, minors_tried, t
 
 -- the stored minor is at most the true one, with an equal quotient by the stop-loss number
 pub minor_close : (setup : Setup) (lines : List Line) (regs : Regs) (ledger : LedgerState) (a : ℕ) → IsLineMendable setup lines regs ledger a → (stored_minor setup.shape lines a ≤ true_minor setup.shape ledger.truth a) × (stored_minor setup.shape lines a / regs.loss ≡ true_minor setup.shape ledger.truth a / regs.loss)
-minor_close setup lines regs ledger a d =
-    d.counter_stored.close_minors (index_in_page a) (omega arith)
+minor_close setup lines regs ledger a d = search rules
 
 pub same_majors : (setup : Setup) (lines : List Line) (regs : Regs) (ledger : LedgerState) (a : ℕ) → IsLineMendable setup lines regs ledger a → (stored_block setup.shape lines (page_of a)).major ≡ (true_block setup.shape ledger.truth (page_of a)).major
 same_majors setup lines regs ledger a d = d.counter_stored.same_major
 
 -- a minor that isn't below the stored one and has its quotient is below the window's end
 window_end : (s t n : ℕ) → 0 < n → s ≤ t → s / n ≡ t / n → t < s + ((s / n) * n + n - s)
-window_end s t n pos le e =
-    let end : t < t / n * n + n = lt-div-mul-add pos in
-    let same : s / n * n ≡ t / n * n = ap (λ q. q * n) e in
-    omega arith
+window_end s t n pos le e = search rules
 
 -- and one in the window has its quotient
 window_quotient : (s t n : ℕ) → 0 < n → s ≤ t → t < s + ((s / n) * n + n - s) → t / n ≡ s / n
-window_quotient s t n pos low high =
-    let start : s / n * n ≤ s = div-mul-le_self s n in
-    let rest : t ≡ s / n * n + (t - s / n * n) = omega arith in
-    ap (λ w. w / n) rest ∙ div-mul-add (s / n) n (t - s / n * n) (omega arith)
+window_quotient s t n pos low high = search rules
 
 -- ---- lines that a register holds
 
@@ -90,13 +79,11 @@ true_minor_met setup lines regs ledger a d unheld =
 
 -- a held line has its stored minor alone
 pub tried_minors-held : (setup : Setup) (lines : List Line) (regs : Regs) (a : ℕ) (register : Progress) → register_held regs.progress.items a ≡ Some register → tried_minors setup lines regs a ≡ stored_minor setup.shape lines a ∷ []
-tried_minors-held setup lines regs a register q =
-    ap (λ o. minors_tried setup lines regs.loss a o (stored_block setup.shape lines (page_of a))) q
+tried_minors-held setup lines regs a register q = search rules
 
 -- any other has those of its stored minor's window whose tag is met
 pub tried_minors-unheld : (setup : Setup) (lines : List Line) (regs : Regs) (a : ℕ) → register_held regs.progress.items a ≡ None → tried_minors setup lines regs a ≡ minors_tried setup lines regs.loss a None (stored_block setup.shape lines (page_of a))
-tried_minors-unheld setup lines regs a q =
-    ap (λ o. minors_tried setup lines regs.loss a o (stored_block setup.shape lines (page_of a))) q
+tried_minors-unheld setup lines regs a q = search rules
 
 -- the true minor is among those that are tried
 pub Contains-tried_minors : (setup : Setup) (lines : List Line) (regs : Regs) (ledger : LedgerState) (a : ℕ) → IsLineMendable setup lines regs ledger a → Contains (tried_minors setup lines regs a) (true_minor setup.shape ledger.truth a)
@@ -174,12 +161,6 @@ two_tried setup lines regs a low high rest known e = go (register_held regs.prog
     go : (o : Option Progress) → register_held regs.progress.items a ≡ o → AreTwoTried setup lines regs a low high
     go (Some register) q = absurd (one_not_two (stored_minor setup.shape lines a) low high rest (sym (tried_minors-held setup lines regs a register q) ∙ e))
     go None q = from_window (sym (tried_minors-unheld setup lines regs a q) ∙ e)
-
--- the least two are a twin that holds, of the device's cipher and slot, also on a tampered device
-pub twin_holds : (setup : Setup) (lines : List Line) (regs : Regs) (a low high : ℕ) (rest : List ℕ) → IsTrue (is_loss regs.loss) → tried_minors setup lines regs a ≡ low ∷ high ∷ rest → IsExhibit setup.formulas (Twin a (stored_block setup.shape lines (page_of a)).major low high (line_at lines a) (tag_slot (line_at lines (layout.tag_line setup.shape a)) a))
-twin_holds setup lines regs a low high rest known e =
-    let t = two_tried setup lines regs a low high rest known e in
-    record { in_order = t.in_order; in_range = t.in_range; fits_low = t.low_met; fits_high = t.high_met }
 
 -- two tried minors are not of a held line
 two_unheld : (setup : Setup) (lines : List Line) (regs : Regs) (a low high : ℕ) (rest : List ℕ) → tried_minors setup lines regs a ≡ low ∷ high ∷ rest → register_held regs.progress.items a ≡ None

@@ -1,5 +1,5 @@
 -- Laws of the trials of one line, as they are made.
-use Rattle.std.proofs.Common.{ℕ, ◌≡◌, ◌≤◌, ◌<◌, ◌+◌, ◌-◌, ◌*◌, ◌/◌, ◌⊎◌, inl, inr, List, [], ◌∷◌, length, get_or, set, All, Option, Some, None, true, false, Ok, Err, refl, sym, ap, subst, ◌∙◌, arith}
+use Rattle.std.proofs.Common.{rules, ℕ, ◌≡◌, ◌≤◌, ◌<◌, ◌+◌, ◌-◌, ◌*◌, ◌/◌, ◌⊎◌, inl, inr, List, [], ◌∷◌, length, get_or, set, All, Option, Some, None, false, refl, sym, ap, subst, ◌∙◌, arith}
 use Rattle.std.specs.Prelude.{slice_index, is_some, slice_get, unwrap_or}
 use Rattle.std.proofs.Math.Nat.{div-mul-le_self}
 use Rattle.std.proofs.lemmas.List.FromFn.{length-range_with_len}
@@ -19,15 +19,13 @@ use Rattle.split_counters.specs.declared.Block.{Block}
 use Rattle.suite.specs.Formulas.{Formulas}
 use Rattle.suite.specs.Setup.{Setup}
 use Rattle.stop_loss.specs.declared.Found.{Found}
-use Rattle.stop_loss.specs.declared.Found.TheVariants as Found
 use Rattle.stop_loss.specs.Trials.{is_match, matching_minors, found_among, IsWithin}
-use Rattle.stop_loss.specs.Windows.{window_minors, minors_within}
+use Rattle.stop_loss.specs.Windows.{window_minors}
 use Rattle.pmem_recovery.specs.declared.faults.RecFault.{RecFault}
 use Rattle.pmem_recovery.specs.declared.faults.RecFault.TheVariants.{Memory, Cut, NoCounter, Root, Twin}
-use Rattle.pmem_recovery.specs.Trials.{window_of, stored_block, is_tag_met, tried_minors}
-use Rattle.pmem_recovery.specs.Parts.{IsTwinOf, IsTwinAmong, IsLineRefusal, GoesOn, StopsBy, IsShown, decided_of, IsDecided, IsUndecided}
+use Rattle.pmem_recovery.specs.Trials.{stored_block, tried_minors}
+use Rattle.pmem_recovery.specs.Parts.{IsLineRefusal, IsUncut, StopsBy, IsFaultShown, decided_of, IsDecided, IsUndecided}
 use Rattle.pmem_recovery.specs.Fixed.{fixed_minor, fixed_block}
-use Rattle.pmem_recovery.proofs.TrialLaws.{tried_minors-unheld}
 use Rattle.pmem_recovery.proofs.FixedLaws.{block_from}
 
 -- ---- what was found
@@ -67,14 +65,14 @@ module _ (f : Formulas) (at major : ℕ) (cipher : Line) (tag : List ℕ) where
       subst (λ z. IsDecided f at major cipher tag matching (decided_of z at major cipher tag)) (sym e)
       (decided_from matching last small first (subst (IsWithin first last) e within) (matches candidates))
 
-  pub shown_undecided : (matching : List ℕ) (fault : RecFault) → IsUndecided f at major cipher tag matching fault → IsShown f fault
+  pub shown_undecided : (matching : List ℕ) (fault : RecFault) → IsUndecided f at major cipher tag matching fault → IsFaultShown f fault
   shown_undecided matching Memory u = u
   shown_undecided matching Cut u = tt
   shown_undecided matching (NoCounter a) u = tt
   shown_undecided matching (Root kept found) u = tt
   shown_undecided matching (Twin a m low high c t) u = u.4.holds
 
-  pub stops_undecided : (matching : List ℕ) (fault : RecFault) (old new : Device) → IsUndecided f at major cipher tag matching fault → GoesOn old new → StopsBy fault old new
+  pub stops_undecided : (matching : List ℕ) (fault : RecFault) (old new : Device) → IsUndecided f at major cipher tag matching fault → IsUncut old new → StopsBy fault old new
   stops_undecided matching Memory old new u goes = goes
   stops_undecided matching Cut old new u goes = absurd u
   stops_undecided matching (NoCounter a) old new u goes = goes
@@ -89,12 +87,7 @@ none_left (Some register) q = absurd (true≢false q)
 
 -- the minors that fit are those of the definition, where the block, the cipher and the tag are the device's
 pub tried_is : (setup : Setup) (lines : List Line) (regs : Regs) (at : ℕ) (block : Block) (cipher : Line) (tag candidates : List ℕ) → register_held regs.progress.items at ≡ None → block ≡ stored_block setup.shape lines (page_of at) → cipher ≡ line_at lines at → tag ≡ tag_slot (line_at lines (tag_line setup.shape at)) at → candidates ≡ window_minors (slice_index block.minors (index_in_page at)) regs.loss → tried_minors setup lines regs at ≡ matching_minors setup.formulas at block.major cipher tag candidates
-tried_is setup lines regs at block cipher tag candidates free b c t w =
-    tried_minors-unheld setup lines regs at free
-    ∙ ap (λ (z : Block). matching_minors setup.formulas at z.major (line_at lines at) (tag_slot (line_at lines (tag_line setup.shape at)) at) (window_minors (slice_index z.minors (index_in_page at)) regs.loss)) (sym b)
-    ∙ ap (λ z. matching_minors setup.formulas at block.major z (tag_slot (line_at lines (tag_line setup.shape at)) at) (window_minors (slice_index block.minors (index_in_page at)) regs.loss)) (sym c)
-    ∙ ap (λ z. matching_minors setup.formulas at block.major cipher z (window_minors (slice_index block.minors (index_in_page at)) regs.loss)) (sym t)
-    ∙ ap (λ z. matching_minors setup.formulas at block.major cipher tag z) (sym w)
+tried_is setup lines regs at block cipher tag candidates free b c t w = search rules
 
 pub refusal_is : (setup : Setup) (lines : List Line) (regs : Regs) (at : ℕ) (block : Block) (cipher : Line) (tag matching : List ℕ) (fault : RecFault) → tried_minors setup lines regs at ≡ matching → block ≡ stored_block setup.shape lines (page_of at) → cipher ≡ line_at lines at → tag ≡ tag_slot (line_at lines (tag_line setup.shape at)) at → IsUndecided setup.formulas at block.major cipher tag matching fault → IsLineRefusal setup lines regs at fault
 refusal_is setup lines regs at block cipher tag matching Memory tried b c t u = u

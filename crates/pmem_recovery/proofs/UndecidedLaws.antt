@@ -1,8 +1,8 @@
 -- Laws of the lines that are tried and of the first undecided one.
-use Rattle.std.proofs.Common.{ℕ, suc, ◌≡◌, ◌≢◌, ◌<◌, ◌≤◌, ◌+◌, ◌-◌, ◌*◌, Bool, true, false, not, eqb, List, [], ◌∷◌, ◌++◌, length, All, Some, None, refl, ap, sym, ◌∙◌, subst, inl, inr, ◌⊎◌, arith}
+use Rattle.std.proofs.Common.{rules, ℕ, suc, ◌≡◌, ◌≢◌, ◌<◌, ◌≤◌, ◌+◌, ◌-◌, ◌*◌, Bool, true, false, not, eqb, List, ◌∷◌, ◌++◌, length, All, Some, None, refl, ap, sym, ◌∙◌, subst, inl, inr, ◌⊎◌, arith}
 use Rattle.std.specs.Prelude.{filter, find}
 use Rattle.std.specs.List.{range_with_len, flat_map}
-use Rattle.std.proofs.lemmas.Bool.{eqb-true, eqb-false, not-true, not-false, eq-eqb, ne_eqb, not_from_true, not_from_false, cond-true, cases_eq}
+use Rattle.std.proofs.lemmas.Bool.{eqb-true, eqb-false, not-true, not-false, eq-eqb, ne_eqb, not_from_true, not_from_false, cases_eq}
 use Rattle.std.proofs.lemmas.List.{append_assoc}
 use Rattle.std.proofs.lemmas.List.Elements.{All-append, filter-append}
 use Rattle.std.proofs.lemmas.List.Concat.{flat_map-append}
@@ -13,12 +13,9 @@ use Rattle.pmem_base.specs.Layout as layout
 use Rattle.pmem_base.specs.Layout.{page_of}
 use Rattle.pmem_base.proofs.ListLaws.{find_found, find_none, find_none_from, find_behind, range_with_len-append, All-from_filter, All-into_filter, All-from_flat_map, All-into_flat_map, All-from_range, All-into_range}
 use Rattle.bonsai_tree.specs.Positions.{counter_position}
-use Rattle.seal_ledger.specs.Ledger.{LedgerState}
 use Rattle.suite.specs.Setup.{Setup}
-use Rattle.pmem_engine.specs.Invariants.{is_named, IsMendable}
-use Rattle.pmem_engine.proofs.SealLaws.{IsLineMendable-at}
+use Rattle.pmem_engine.specs.Invariants.{is_named}
 use Rattle.pmem_recovery.specs.Trials.{tried_minors, named_pages, lines_tried, first_undecided, AreDecided}
-use Rattle.pmem_recovery.proofs.TrialLaws.{tried_minors_some}
 
 -- what holds of all lines tried holds of each line of a named page
 pub lines_tried_has : (g : Shape) (lines : List Line) (P : ℕ → Type 0) (page i : ℕ) → All P (lines_tried g lines) → page < layout.pages g → is_named g lines (counter_position g page) ≡ true → i < 64 → P (64 * page + i)
@@ -64,17 +61,6 @@ undecided_line setup lines regs a e =
     let found = find_found (λ a. not (eqb (length (tried_minors setup lines regs a)) 1)) (IsOfNamedPage setup.shape lines) (lines_tried setup.shape lines) a (lines_tried_named setup.shape lines) e in
     (found.1, eqb-false (length (tried_minors setup lines regs a)) 1 (not-true (eqb (length (tried_minors setup lines regs a)) 1) found.0))
 
--- without tampering it has two minors or more
-pub undecided_two : (setup : Setup) (lines : List Line) (regs : Regs) (ledger : LedgerState) (a : ℕ) → IsMendable setup lines regs ledger → first_undecided setup lines regs ≡ Some a → (low : ℕ) × (high : ℕ) × (rest : List ℕ) × (tried_minors setup lines regs a ≡ low ∷ high ∷ rest)
-undecided_two setup lines regs ledger a d e =
-    let line = undecided_line setup lines regs a e in
-    two (tried_minors setup lines regs a) (tried_minors_some setup lines regs ledger a (IsLineMendable-at setup lines regs ledger a d line.0.on_device)) line.1
-  where
-    two : (l : List ℕ) → length l ≢ 0 → length l ≢ 1 → (low : ℕ) × (high : ℕ) × (rest : List ℕ) × (l ≡ low ∷ high ∷ rest)
-    two [] none one = absurd (none refl)
-    two (x ∷ []) none one = absurd (one refl)
-    two (x ∷ y ∷ rest) none one = (x, y, rest, refl)
-
 -- ---- page by page, and line by line
 
 is_undecided : Setup → List Line → Regs → ℕ → Bool
@@ -111,10 +97,7 @@ tried_part_split g lines a m n =
 
 tried_part_named : (g : Shape) (lines : List Line) (page n : ℕ) → is_named g lines (counter_position g page) ≡ true → tried_part g lines page (suc n) ≡ range_with_len (64 * page) 64 ++ tried_part g lines (page + 1) n
 unfolding tried_part
-tried_part_named g lines page n q =
-    let named = λ (page : ℕ). is_named g lines (counter_position g page) in
-    let rest = filter named (range_with_len (page + 1) n) in
-    ap (flat_map (λ page. range_with_len (64 * page) 64)) (cond-true (is_named g lines (counter_position g page)) (page ∷ rest) rest q)
+tried_part_named g lines page n q = search rules
 
 decided_part : (setup : Setup) (lines : List Line) (regs : Regs) (below : ℕ) → AreDecided setup lines regs below → All (λ a. is_undecided setup lines regs a ≡ false) (tried_part setup.shape lines 0 below)
 unfolding tried_part
@@ -129,9 +112,6 @@ decided_part setup lines regs below d =
     one page a h from to q =
         let same : 64 * page + (a - 64 * page) ≡ a = omega arith in
         one_decided setup lines regs a (subst (λ z. length (tried_minors setup lines regs z) ≡ 1) same (d.each page h q (a - 64 * page) (omega arith)))
-
-pub AreDecided-none : (setup : Setup) (lines : List Line) (regs : Regs) → AreDecided setup lines regs 0
-AreDecided-none setup lines regs = record { each = λ page h q i small. absurd (omega arith) }
 
 -- one more page, named or not
 pub AreDecided-more : (setup : Setup) (lines : List Line) (regs : Regs) (page : ℕ) → AreDecided setup lines regs page → (is_named setup.shape lines (counter_position setup.shape page) ≡ true → (i : ℕ) → i < 64 → length (tried_minors setup lines regs (64 * page + i)) ≡ 1) → AreDecided setup lines regs (page + 1)

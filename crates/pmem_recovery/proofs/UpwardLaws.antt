@@ -1,6 +1,6 @@
 -- Laws of making the fixed lines from the counter blocks upwards: it gives the fixed line of every named
 -- position, and so the found root. They hold of any device.
-use Rattle.std.proofs.Common.{ℕ, suc, ◌≡◌, ◌≢◌, ◌<◌, ◌≤◌, ◌+◌, Bool, true, false, ◌||◌, cond, eqb, List, [], ◌∷◌, ◌++◌, length, get_or, All, Some, refl, ap, sym, ◌∙◌, subst, inl, inr, ◌⊎◌, arith}
+use Rattle.std.proofs.Common.{rules, ℕ, suc, ◌≡◌, ◌≢◌, ◌<◌, ◌≤◌, ◌+◌, Bool, true, false, ◌||◌, cond, eqb, List, [], ◌∷◌, ◌++◌, All, Some, refl, ap, sym, ◌∙◌, subst, inl, inr, ◌⊎◌, arith}
 use Rattle.std.specs.Prelude.{find, unwrap_or, option_map}
 use Rattle.std.proofs.lemmas.Bool.{false≢true, eqb-true, eq-eqb, or_left, or_right}
 use Rattle.std.proofs.lemmas.List.Elements.{All-head, All-tail, All-nil, All-append, All-weaker, All-cons}
@@ -56,19 +56,9 @@ made_or_stored_fixed setup lines regs done made x m h d =
 
 -- ---- one more line made
 
-pub AreMade-none : (setup : Setup) (lines : List Line) (regs : Regs) → AreMade setup lines regs (λ x. ⊥) []
-AreMade-none setup lines regs =
-    record { each = All-nil (IsMadeLine setup lines regs); only_done = All-nil (λ e. ⊥); distinct = λ i j d less within. absurd (omega arith); every = λ x h d q. absurd d }
-
 -- the positions that are done said in another way
 pub AreMade-same : (setup : Setup) (lines : List Line) (regs : Regs) (done same : ℕ → Type 0) (made : List Made) → ((x : ℕ) → x < layout.meta_lines setup.shape → done x → same x) → ((x : ℕ) → x < layout.meta_lines setup.shape → same x → done x) → AreMade setup lines regs done made → AreMade setup lines regs same made
-AreMade-same setup lines regs done same made to from m =
-    record {
-      each = m.each;
-      only_done = λ k d h. to (get_or made k d).at (m.each k d h).on_tree (m.only_done k d h);
-      distinct = m.distinct;
-      every = λ x h d q. m.every x h (from x h d) q;
-    }
+AreMade-same setup lines regs done same made to from m = search rules
 
 pub AreMade-append : (setup : Setup) (lines : List Line) (regs : Regs) (done also : ℕ → Type 0) (made more : List Made) → ((x : ℕ) → done x → also x → ⊥) → AreMade setup lines regs done made → AreMade setup lines regs also more → AreMade setup lines regs (λ x. done x ⊎ also x) (made ++ more)
 AreMade-append setup lines regs done also made more apart m n =

@@ -1,31 +1,17 @@
 -- The steps of making lines upwards, as the loops over levels and positions take them.
-use Rattle.std.proofs.Common.{ℕ, zero, suc, ◌≡◌, ◌<◌, ◌≤◌, ◌+◌, ◌-◌, true, false, List, [], ◌∷◌, ◌++◌, refl, subst, inl, inr, ◌⊎◌, arith}
+use Rattle.std.proofs.Common.{rules, ℕ, zero, suc, ◌≡◌, ◌<◌, ◌≤◌, ◌+◌, ◌-◌, true, false, List, [], ◌∷◌, ◌++◌, refl, subst, inl, inr, ◌⊎◌, arith}
 use Rattle.std.proofs.lemmas.Bool.{cases_eq, cases_lt}
 use Rattle.pmem_base.specs.declared.lines.Line.{Line}
 use Rattle.pmem_base.specs.declared.registers.Regs.{Regs}
-use Rattle.pmem_base.specs.Shape.{Shape, IsShape}
+use Rattle.pmem_base.specs.Shape.{IsShape}
 use Rattle.pmem_base.specs.Layout as layout
-use Rattle.pmem_base.specs.Layout.{level_start}
-use Rattle.bonsai_tree.specs.Positions.{counter_position}
-use Rattle.bonsai_tree.proofs.Levels.{IsAtLevel, child-IsAtLevel, level_start-next, level_start-le, meta_lines-level, counter_position-lt, IsAtLevel-inner}
+use Rattle.bonsai_tree.specs.Positions.{level_start, counter_position}
+use Rattle.bonsai_tree.proofs.Levels.{IsAtLevel, child-IsAtLevel, level_start-next, level_start-le, counter_position-lt, IsAtLevel-inner}
 use Rattle.suite.specs.Setup.{Setup}
 use Rattle.pmem_engine.specs.Invariants.{is_named}
 use Rattle.pmem_recovery.specs.declared.entries.Made.{Made}
 use Rattle.pmem_recovery.specs.Upward.{AreMade, AreMadeTo, AreAllMade, IsDoneTo, block_made, node_made}
-use Rattle.pmem_recovery.proofs.UpwardLaws.{AreMade-none, AreMade-same, AreMade-push, AreMade-skip, block_made_fixed, node_made_fixed}
-
--- the metadata lines end with the lowest level
-lowest_end : (g : Shape) (x : ℕ) → x < layout.meta_lines g → x < level_start (suc g.levels)
-lowest_end g x h = subst (λ n. x < n) (meta_lines-level g) h
-
--- before the first counter block nothing is done
-pub AreMadeTo-start : (setup : Setup) (lines : List Line) (regs : Regs) → AreMadeTo setup lines regs setup.shape.levels (level_start setup.shape.levels) []
-AreMadeTo-start setup lines regs =
-    AreMade-same setup lines regs (λ x. ⊥) (IsDoneTo setup.shape.levels (level_start setup.shape.levels)) [] (λ x h d. absurd d) (λ x h d. out x h d) (AreMade-none setup lines regs)
-  where
-    out : (x : ℕ) → x < layout.meta_lines setup.shape → IsDoneTo setup.shape.levels (level_start setup.shape.levels) x → ⊥
-    out x h (inl below) = let end = lowest_end setup.shape x h in omega arith
-    out x h (inr before) = omega (arith, before.0, before.1)
+use Rattle.pmem_recovery.proofs.UpwardLaws.{AreMade-same, AreMade-push, block_made_fixed, node_made_fixed}
 
 -- one more position done, said by the next position
 one_more : (setup : Setup) (lines : List Line) (regs : Regs) (i m : ℕ) (made : List Made) → level_start i ≤ m → AreMade setup lines regs (λ x. IsDoneTo i m x ⊎ (x ≡ m)) made → AreMadeTo setup lines regs i (m + 1) made
@@ -48,8 +34,7 @@ not_yet i m l (inr d) = omega (arith, d.1)
 
 -- a position that isn't named
 pub AreMadeTo-skip : (setup : Setup) (lines : List Line) (regs : Regs) (i m : ℕ) (made : List Made) → level_start i ≤ m → is_named setup.shape lines m ≡ false → AreMadeTo setup lines regs i m made → AreMadeTo setup lines regs i (m + 1) made
-AreMadeTo-skip setup lines regs i m made low q d =
-    one_more setup lines regs i m made low (AreMade-skip setup lines regs (IsDoneTo i m) made m q d)
+AreMadeTo-skip setup lines regs i m made low q d = search rules
 
 -- a named counter block
 pub AreMadeTo-block : (setup : Setup) (lines : List Line) (regs : Regs) (page : ℕ) (made : List Made) → IsShape setup.shape → page < layout.pages setup.shape → is_named setup.shape lines (counter_position setup.shape page) ≡ true → AreMadeTo setup lines regs setup.shape.levels (counter_position setup.shape page) made → AreMadeTo setup lines regs setup.shape.levels (counter_position setup.shape page + 1) (made ++ block_made setup lines regs page ∷ [])
@@ -108,7 +93,4 @@ AreMadeTo-gap setup lines regs i m made (suc n) low none d =
     (AreMadeTo-skip setup lines regs i m made low (none m (omega arith) (omega arith)) d))
 
 pub AreMadeTo-upto : (setup : Setup) (lines : List Line) (regs : Regs) (i m n : ℕ) (made : List Made) → level_start i ≤ m → m ≤ n → ((x : ℕ) → m ≤ x → x < n → is_named setup.shape lines x ≡ false) → AreMadeTo setup lines regs i m made → AreMadeTo setup lines regs i n made
-AreMadeTo-upto setup lines regs i m n made low le none d =
-    let same : m + (n - m) ≡ n = omega arith in
-    subst (λ k. AreMadeTo setup lines regs i k made) same
-    (AreMadeTo-gap setup lines regs i m made (n - m) low (λ x from to. none x from (omega arith)) d)
+AreMadeTo-upto setup lines regs i m n made low le none d = search rules

@@ -1,29 +1,28 @@
 -- The steps of writing the lines made and of zeroing the shadow lines.
-use Rattle.std.proofs.Common.{ℕ, zero, suc, ◌≡◌, ◌≢◌, ◌<◌, ◌≤◌, ◌+◌, Bool, true, false, cond, List, [], ◌∷◌, ◌++◌, length, get_or, take, All, Option, Some, None, refl, ap, sym, subst, ◌∙◌, inl, inr, arith}
+use Rattle.std.proofs.Common.{rules, ℕ, zero, ◌≡◌, ◌≢◌, ◌<◌, ◌+◌, Bool, true, false, cond, List, [], ◌∷◌, length, get_or, take, Option, Some, None, refl, ap, sym, subst, ◌∙◌, inr, arith}
 use Rattle.std.specs.Prelude.{filter, slice_set, is_some}
 use Rattle.std.proofs.lemmas.Bool.{false≢true}
 use Rattle.std.proofs.lemmas.Option.{same_Some}
-use Rattle.std.proofs.lemmas.List.{take_more, length-append, length-set}
-use Rattle.std.proofs.lemmas.List.Elements.{filter-append, All-take, All-get_or}
+use Rattle.std.proofs.lemmas.List.{take_more, length-append}
+use Rattle.std.proofs.lemmas.List.Elements.{filter-append}
 use Rattle.pmem_base.specs.declared.lines.Line.{Line}
 use Rattle.pmem_base.specs.Shape.{Shape}
 use Rattle.pmem_base.specs.Layout as layout
 use Rattle.pmem_base.specs.Lines.{line_at, zero_line}
 use Rattle.board.specs.Counts.{RisesBy}
 use Rattle.board.specs.Device.{Device}
-use Rattle.board.specs.Steps.{with_line, HasWritten, WasCut}
-use Rattle.board.proofs.CountLemmas.{RisesBy-then}
+use Rattle.board.specs.Steps.{HasWritten, WasCut}
 use Rattle.board.proofs.StepLemmas.{is_some-with_line}
 use Rattle.shadow_tables.specs.Entries.{shadow_of}
 use Rattle.pmem_engine.specs.Invariants.{stored_meta}
 use Rattle.pmem_engine.proofs.MendableLaws.{line_at-shadow_of}
 use Rattle.pmem_recovery.specs.declared.entries.Made.{Made}
-use Rattle.pmem_recovery.specs.Parts.{Told, GoesOn}
+use Rattle.pmem_recovery.specs.Parts.{IsUncut}
 use Rattle.pmem_recovery.specs.Upward.{is_other}
-use Rattle.pmem_recovery.specs.Written.{AreCompared, AreWritten, AreZeroed, count_changed, count_nonzero, differing}
-use Rattle.pmem_recovery.specs.Writing.{HasOnlyWritten, BothTold, HasWrittenIf, HasWrittenTo, HasZeroedTo}
-use Rattle.pmem_recovery.proofs.PartLaws.{GoesOn-none}
-use Rattle.pmem_recovery.proofs.WrittenLaws.{AreWritten-none, AreWritten-more, AreWritten-skip, distinct_front, wrote_one, AreZeroed-none, AreZeroed-more, AreZeroed-skip, shadow_as_read, zeroed_one, off_tree_same, differing-none, same_from_is_other}
+use Rattle.pmem_recovery.specs.Written.{AreWritten, AreZeroed, count_changed, count_nonzero, differing}
+use Rattle.pmem_recovery.specs.Writing.{HasOnlyWritten, HasWrittenIf, HasWrittenTo, HasZeroedTo}
+use Rattle.pmem_recovery.proofs.PartLaws.{IsUncut-none}
+use Rattle.pmem_recovery.proofs.WrittenLaws.{AreWritten-none, AreWritten-more, AreWritten-skip, distinct_front, wrote_one, AreZeroed-more, AreZeroed-skip, shadow_as_read, zeroed_one, off_tree_same, differing-none, same_from_is_other}
 
 -- ---- the device
 
@@ -31,49 +30,20 @@ RisesBy-none : (n : ℕ) → RisesBy 0 n n
 RisesBy-none n = record { never_falls = omega arith; exact = λ h. omega arith }
 
 pub HasOnlyWritten-none : (old : Device) → HasOnlyWritten 0 old old
-HasOnlyWritten-none old =
-    record { size = refl; regs = refl; reads = refl; latches = refl; writes = RisesBy-none old.writes; none = λ e. refl; told = refl }
+HasOnlyWritten-none old = search rules
 
 pub HasOnlyWritten-then : (n m : ℕ) (old mid new : Device) → HasOnlyWritten n old mid → HasOnlyWritten m mid new → HasOnlyWritten (n + m) old new
-HasOnlyWritten-then n m old mid new a b =
-    record {
-      size = b.size ∙ a.size;
-      regs = b.regs ∙ a.regs;
-      reads = b.reads ∙ a.reads;
-      latches = b.latches ∙ a.latches;
-      writes = RisesBy-then n m old.writes mid.writes new.writes a.writes b.writes;
-      none = λ e. b.none (omega (arith, e)) ∙ a.none (omega (arith, e));
-      told = b.told ∙ a.told;
-    }
+HasOnlyWritten-then n m old mid new a b = search rules
 
 HasOnlyWritten-one : (old : Device) (at : ℕ) (line : Line) (new : Device) → HasWritten old at line new → HasOnlyWritten 1 old new
-HasOnlyWritten-one old at line new w =
-    record {
-      size = w.size;
-      regs = w.regs;
-      reads = w.reads;
-      latches = w.latches;
-      writes = w.writes;
-      none = λ e. absurd (omega (arith, e));
-      told = ap is_some w.lines ∙ is_some-with_line old.lines at line;
-    }
+HasOnlyWritten-one old at line new w = search rules
 
 pub HasOnlyWritten-cut : (old new : Device) → WasCut old new → HasOnlyWritten 0 old new
-HasOnlyWritten-cut old new c =
-    record {
-      size = c.size;
-      regs = c.regs;
-      reads = c.reads;
-      latches = c.latches;
-      writes = subst (λ n. RisesBy 0 old.writes n) (sym c.writes) (RisesBy-none old.writes);
-      none = λ e. c.writes;
-      told = ap is_some c.lines;
-    }
+HasOnlyWritten-cut old new c = search rules
 
 -- the lines after a write
 written_lines : (old : Device) (at : ℕ) (line : Line) (new : Device) (lines now : List Line) → HasWritten old at line new → old.lines ≡ Some lines → new.lines ≡ Some now → slice_set lines at line ≡ now
-written_lines old at line new lines now w told after =
-    same_Some (slice_set lines at line) now (sym (w.lines ∙ ap (λ o. with_line o at line) told) ∙ after)
+written_lines old at line new lines now w told after = search rules
 
 same_lines : (old new : Device) (lines now : List Line) → new.lines ≡ old.lines → old.lines ≡ Some lines → new.lines ≡ Some now → lines ≡ now
 same_lines old new lines now same told after = same_Some lines now (sym (same ∙ told) ∙ after)
@@ -156,19 +126,8 @@ HasWrittenTo-more g made i d at line false old mid new inside on_tree here its_l
             before.1 ∙ sym same,
           );
     }
+  -- ---- the shadow lines
 
--- ---- the shadow lines
-
-pub HasZeroedTo-none : (g : Shape) (shadow : List Line) (old : Device) → HasZeroedTo g shadow 0 old old
-HasZeroedTo-none g shadow old =
-    record {
-      steps = HasOnlyWritten-none old;
-      lines = λ lines told now after whole its.
-          let same = same_lines old old lines now refl told after in (
-            subst (AreZeroed g lines 0) same (AreZeroed-none g lines),
-            λ first made long tree written. ap (differing first) (sym same) ∙ none (differing first lines),
-          );
-    }
   where
     none : (n : ℕ) → n ≡ n + 0
     none n = omega arith
@@ -227,6 +186,6 @@ HasZeroedTo-more g shadow n at line false old mid new long inside here its_line 
           );
     }
 
-pub GoesOn-written_if : (changed : Bool) (old : Device) (at : ℕ) (line : Line) (new : Device) → HasWrittenIf changed old at line new → GoesOn old new
-GoesOn-written_if true old at line new w = record { cuts = w.cuts; steady = w.steady; live = w.live }
-GoesOn-written_if false old at line new same = subst (GoesOn old) (sym same) (GoesOn-none old)
+pub IsUncut-written_if : (changed : Bool) (old : Device) (at : ℕ) (line : Line) (new : Device) → HasWrittenIf changed old at line new → IsUncut old new
+IsUncut-written_if true old at line new w = record { cuts = w.cuts; steady = w.steady; live = w.live }
+IsUncut-written_if false old at line new same = subst (IsUncut old) (sym same) (IsUncut-none old)

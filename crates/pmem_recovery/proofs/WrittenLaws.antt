@@ -1,5 +1,5 @@
 -- Laws of writing the lines made, and of zeroing the shadow lines.
-use Rattle.std.proofs.Common.{ℕ, ◌≡◌, ◌≢◌, ◌<◌, ◌≤◌, ◌+◌, ◌*◌, Bool, true, false, not, cond, eqb, List, [], ◌∷◌, ◌++◌, length, get_or, take, All, None, refl, ap, sym, ◌∙◌, subst, inl, inr, ◌⊎◌, arith}
+use Rattle.std.proofs.Common.{rules, ℕ, ◌≡◌, ◌≢◌, ◌<◌, ◌≤◌, ◌+◌, ◌*◌, Bool, true, false, not, cond, eqb, List, [], ◌∷◌, ◌++◌, length, get_or, take, All, None, refl, ap, sym, ◌∙◌, subst, inl, inr, ◌⊎◌, arith}
 use Rattle.std.specs.Prelude.{filter, slice_set}
 use Rattle.std.specs.List.{range_with_len, AllPairs}
 use Rattle.std.proofs.lemmas.Bool.{true≢false, eqb-true, cases_eq}
@@ -57,9 +57,7 @@ AreWritten-more g old written new entry whole h apart w =
 
 -- a position that isn't written is as it was read
 pub as_read : (g : Shape) (old : List Line) (written : List Made) (new : List Line) (x : ℕ) → All (λ e. e.at ≢ x) written → AreWritten g old written new → stored_meta g new x ≡ stored_meta g old x
-as_read g old written new x apart w =
-    w.others (layout.meta_line g x)
-    (All-weaker (λ e. e.at ≢ x) (λ e. layout.meta_line g e.at ≢ layout.meta_line g x) (λ e ne same. ne (omega arith)) written apart)
+as_read g old written new x apart w = search rules
 
 -- or it is the one that was read, and isn't written
 pub AreWritten-skip : (g : Shape) (old : List Line) (written : List Made) (new : List Line) (entry : Made) → All (λ e. e.at ≢ entry.at) written → stored_meta g old entry.at ≡ entry.line → AreWritten g old written new → AreWritten g old (written ++ entry ∷ []) new
@@ -117,9 +115,6 @@ all_true_written setup old regs ledger made new shape d decided m w =
 
 order : (m n : ℕ) → (m ≡ n → ⊥) → m < n + 1 → m < n
 order m n ne less = omega arith
-
-pub AreZeroed-none : (g : Shape) (lines : List Line) → AreZeroed g lines 0 lines
-AreZeroed-none g lines = record { count = refl; each = λ m h. absurd (omega arith); others = λ d h. refl }
 
 pub AreZeroed-more : (g : Shape) (old : List Line) (n : ℕ) (new : List Line) → length old ≡ layout.device_lines g → n < layout.shadow_lines g → AreZeroed g old n new → AreZeroed g old (n + 1) (slice_set new (layout.shadow_line g n) zero_line)
 AreZeroed-more g old n new whole h z =
@@ -219,22 +214,10 @@ zeroed_one g old made between n new whole h all w z other =
 
 -- the positions of lines made are on the tree
 pub made_on_tree : (setup : Setup) (lines : List Line) (regs : Regs) (made : List Made) → All (IsMadeLine setup lines regs) made → All (λ e. e.at < layout.meta_lines setup.shape) made
-made_on_tree setup lines regs made all =
-    All-weaker (IsMadeLine setup lines regs) (λ e. e.at < layout.meta_lines setup.shape) (λ e l. l.on_tree) made all
+made_on_tree setup lines regs made all = search rules
 
 pub AreCompared-made : (setup : Setup) (lines : List Line) (regs : Regs) (done : ℕ → Type 0) (made : List Made) → AreMade setup lines regs done made → AreCompared setup.shape lines made
-AreCompared-made setup lines regs done made m =
-    record {
-      on_tree = made_on_tree setup lines regs made m.each;
-      distinct = m.distinct;
-      compared = All-weaker (IsMadeLine setup lines regs) (λ e. e.changed ≡ is_other (stored_meta setup.shape lines e.at) e.line) (λ e l. l.compared) made m.each;
-    }
-
--- data lines and tag lines are as they were, on any device
-pub same_data_recovered : (setup : Setup) (old : List Line) (regs : Regs) (new : List Line) (n : ℕ) → IsRecovered setup old regs new → n < 80 * layout.pages setup.shape → line_at new n ≡ line_at old n
-same_data_recovered setup old regs new n r low =
-    r.all_zeroed.others n (inl (omega arith))
-    ∙ off_tree_same setup.shape old r.made r.between n (made_on_tree setup old regs r.made r.all_made.each) r.all_written (inl low)
+AreCompared-made setup lines regs done made m = search rules
 
 -- and the top line has the found root
 pub top_recovered : (setup : Setup) (old : List Line) (regs : Regs) (new : List Line) → IsRecovered setup old regs new → setup.formulas.digest_of 0 (stored_meta setup.shape new 0) ≡ found_root setup old regs

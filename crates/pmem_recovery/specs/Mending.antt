@@ -16,7 +16,7 @@ use Rattle.pmem_recovery.specs.declared.faults.RecFault.TheVariants.{Cut}
 use Rattle.pmem_recovery.specs.Trials.{first_undecided}
 use Rattle.pmem_recovery.specs.Upward.{IsMadeLine, AreAllMade}
 use Rattle.pmem_recovery.specs.Written.{AreWritten, AreZeroed, differing}
-use Rattle.pmem_recovery.specs.Parts.{HasOnlyRead, HasRoot}
+use Rattle.pmem_recovery.specs.Parts.{KeepsDevice, HasRoot}
 use Rattle.pmem_recovery.specs.Writing.{BothTold}
 
 -- all named lines are made, and the root is right
@@ -79,4 +79,4 @@ pub record WritesFewer (most : ℕ) (old new : Device) : Type 0 where
 -- a refusal leaves the device alone, and a cut comes before all is written
 abbrev pub IsStoppedShort : Shape → RecFault → Device → Device → Type 0
 IsStoppedShort g Cut old new = WritesFewer (most_writes g) old new
-IsStoppedShort g fault old new = HasOnlyRead old new
+IsStoppedShort g fault old new = KeepsDevice old new

@@ -31,7 +31,7 @@ Told told P = (lines : List Line) → told ≡ Some lines → P lines
 -- ---- the device
 
 -- lines are read, and nothing else is changed
-pub record HasOnlyRead (old new : Device) : Type 0 where
+pub record KeepsDevice (old new : Device) : Type 0 where
   pub size : new.size ≡ old.size
   pub lines : new.lines ≡ old.lines
   pub regs : new.regs ≡ old.regs
@@ -40,7 +40,7 @@ pub record HasOnlyRead (old new : Device) : Type 0 where
   pub reads : old.reads ≤ new.reads
 
 -- no cut came
-pub record GoesOn (old new : Device) : Type 0 where
+pub record IsUncut (old new : Device) : Type 0 where
   pub cuts : new.cuts ≡ old.cuts
   pub steady : old.steady ≡ true → new.steady ≡ true
   pub live : old.live ≡ true → new.live ≡ true
@@ -55,7 +55,7 @@ pub record IsCutOff (old new : Device) : Type 0 where
 -- a stage that stops goes on but where power is cut
 abbrev pub StopsBy : RecFault → Device → Device → Type 0
 StopsBy Cut old new = IsCutOff old new
-StopsBy fault old new = GoesOn old new
+StopsBy fault old new = IsUncut old new
 
 -- ---- the suite
 
@@ -71,19 +71,19 @@ suite_state keys pads tags digests =
     record { keys = keys; pads = pads; tags = tags; digests = digests }
 
 -- so many tags and digests are made, and no pad
-pub record HasWorked (n m : ℕ) (old new : SuiteState) : Type 0 where
+pub record SuiteWork (n m : ℕ) (old new : SuiteState) : Type 0 where
   pub keys : new.keys ≡ old.keys
   pub pads : new.pads ≡ old.pads
   pub tags : new.tags ≡ risen_times n old.tags
   pub digests : new.digests ≡ risen_times m old.digests
 
 -- so many at most
-pub record HasWorkedAtMost (n m : ℕ) (old new : SuiteState) : Type 0 where
+pub record SuiteWorkAtMost (n m : ℕ) (old new : SuiteState) : Type 0 where
   pub trials : ℕ
   pub digests : ℕ
   pub few_trials : trials ≤ n
   pub few_digests : digests ≤ m
-  pub worked : HasWorked trials digests old new
+  pub worked : SuiteWork trials digests old new
 
 -- ---- what the trials of a line find
 
@@ -135,7 +135,7 @@ IsRootFault (Root kept found) = ⊤
 IsRootFault fault = ⊥
 
 -- one more line is made, for position x
-pub record HasMade (x : ℕ) (old new : List Made) : Type 0 where
+pub record AddsLine (x : ℕ) (old new : List Made) : Type 0 where
   pub entry : Made
   pub items : new ≡ old ++ entry ∷ []
   pub at : entry.at ≡ x
@@ -195,14 +195,14 @@ IsRefusal setup lines regs (Twin at major low high cipher tag) =
     × IsTwinOf setup lines regs at major low high cipher tag
 
 -- a twin holds, and there is memory
-abbrev pub IsShown : Formulas → RecFault → Type 0
-IsShown f Memory = ⊥
-IsShown f (Twin at major low high cipher tag) = IsExhibit f (Exhibit.Twin at major low high cipher tag)
-IsShown f fault = ⊤
+abbrev pub IsFaultShown : Formulas → RecFault → Type 0
+IsFaultShown f Memory = ⊥
+IsFaultShown f (Twin at major low high cipher tag) = IsExhibit f (Exhibit.Twin at major low high cipher tag)
+IsFaultShown f fault = ⊤
 
 -- a stage stops
-pub record IsStopped (f : Formulas) (fault : RecFault) (why : List Line → Type 0)
+pub record IsStageStopped (f : Formulas) (fault : RecFault) (why : List Line → Type 0)
     (old new : Device) : Type 0 where
   pub device : StopsBy fault old new
-  pub shown : IsShown f fault
+  pub shown : IsFaultShown f fault
   pub reason : Told old.lines why

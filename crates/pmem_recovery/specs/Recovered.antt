@@ -23,7 +23,7 @@ use Rattle.pmem_recovery.specs.declared.faults.RecFault.{RecFault}
 use Rattle.pmem_recovery.specs.declared.faults.RecFault.TheVariants.{Memory, Cut, NoCounter, Root, Twin}
 use Rattle.pmem_recovery.specs.Trials.{IsTwinOfLastSeal}
 use Rattle.pmem_recovery.specs.Written.{differing}
-use Rattle.pmem_recovery.specs.Parts.{GoesOn, IsCutOff, SuiteState, HasRoot, IsRefusal}
+use Rattle.pmem_recovery.specs.Parts.{IsUncut, IsCutOff, SuiteState, HasRoot, IsRefusal}
 use Rattle.pmem_recovery.specs.Writing.{BothTold}
 use Rattle.pmem_recovery.specs.Mending.{most_writes}
 
@@ -44,7 +44,7 @@ RegsAfter answer old new = new ≡ without_group old
 -- live live
 abbrev pub PowerAfter : Answer → Device → Device → Type 0
 PowerAfter (Err Cut) old new = IsCutOff old new
-PowerAfter answer old new = GoesOn old new
+PowerAfter answer old new = IsUncut old new
 
 -- nothing but the redo of the armed group, and reads
 pub record HasOnlyRedone (old new : Device) : Type 0 where
@@ -111,10 +111,10 @@ IsDecidedAs setup lines regs (Ok done) = HasRoot setup lines regs
 IsDecidedAs setup lines regs (Err fault) = IsRefusal setup lines regs fault
 
 -- no counter comes only of a line whose seal isn't stored, or whose page's counter block isn't
-abbrev pub IsNoCounterCaused : Setup → List Line → Regs → LedgerState → Answer → Type 0
-IsNoCounterCaused setup lines regs ledger (Err (NoCounter at)) =
+abbrev pub IsNoCounterUnmendable : Setup → List Line → Regs → LedgerState → Answer → Type 0
+IsNoCounterUnmendable setup lines regs ledger (Err (NoCounter at)) =
     IsLineMendable setup lines regs ledger at → ⊥
-IsNoCounterCaused setup lines regs ledger answer = ⊤
+IsNoCounterUnmendable setup lines regs ledger answer = ⊤
 
 -- what recovery makes of a durable device
 abbrev pub IsMendedAs : Setup → Regs → Regs → LedgerState → List Line → Answer → Type 0
@@ -146,7 +146,7 @@ pub record HasMended (setup : Setup) (ledger : LedgerState) (old new : Device) (
   pub cleared : OnOk answer (IsCleared setup now new.regs)
   pub decided : IsDecidedAs setup (redone old.regs.group.items lines) old.regs answer
   pub no_counter :
-      IsNoCounterCaused setup (redone old.regs.group.items lines) old.regs ledger answer
+      IsNoCounterUnmendable setup (redone old.regs.group.items lines) old.regs ledger answer
   pub few_steps :
       RisesAtMost
       (length old.regs.group.items + differing (redone old.regs.group.items lines) now)

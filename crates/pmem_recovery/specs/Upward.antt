@@ -32,17 +32,17 @@ abbrev pub is_made : List Made → ℕ → Bool
 is_made made x = list_any (λ entry. entry.at == x) made
 
 -- a line made for position x of the device
-abbrev pub entry_of : Shape → List Line → ℕ → Line → Made
-entry_of g lines x line =
+abbrev pub made_entry : Shape → List Line → ℕ → Line → Made
+made_entry g lines x line =
     record { at = x; line = line; changed = is_other (stored_meta g lines x) line }
 
 abbrev pub block_made : Setup → List Line → Regs → ℕ → Made
 block_made setup lines regs page =
-    entry_of setup.shape lines (counter_position setup.shape page) (packed (fixed_block setup lines regs page))
+    made_entry setup.shape lines (counter_position setup.shape page) (packed (fixed_block setup lines regs page))
 
 abbrev pub node_made : Setup → List Line → List Made → ℕ → Made
 node_made setup lines made x =
-    entry_of setup.shape lines x (node_over setup.formulas x (made_or_stored setup.shape lines made))
+    made_entry setup.shape lines x (node_over setup.formulas x (made_or_stored setup.shape lines made))
 
 -- a line made for a named position of the tree: the fixed line there
 pub record IsMadeLine (setup : Setup) (lines : List Line) (regs : Regs) (entry : Made) :

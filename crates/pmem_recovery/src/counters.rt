@@ -12,7 +12,7 @@ ghost use Rattle.stop_loss.specs.Windows.{minors_within};
 ghost use Rattle.pmem_recovery.specs.Trials.{stored_block, tried_minors, AreDecided};
 ghost use Rattle.pmem_recovery.specs.Fixed.{fixed_block};
 ghost use Rattle.pmem_recovery.specs.Upward.{block_made, AreMadeTo};
-ghost use Rattle.pmem_recovery.specs.Parts.{setup_of, Told, HasOnlyRead, GoesOn, IsCutOff, suite_state, HasWorked, HasWorkedAtMost, decided_of, IsDecided, AreOneTried, IsLineRefusal, IsPageRefusal, IsRefusal, IsStopped, HasMade};
+ghost use Rattle.pmem_recovery.specs.Parts.{setup_of, Told, KeepsDevice, IsUncut, IsCutOff, suite_state, SuiteWork, SuiteWorkAtMost, decided_of, IsDecided, AreOneTried, IsLineRefusal, IsPageRefusal, IsRefusal, IsStageStopped, AddsLine};
 
 use crate::RecFault;
 use crate::entries::{Made, is_other};
@@ -39,11 +39,11 @@ pub(crate) fn fix_counters<B: Board, S: Suite>(
     requires shadow { length shadow.now ≡ shadow_lines (shape_of geo.now) }
     requires empty { made.old.items ≡ [] }
     requires room { slots (shape_of geo.now) ≤ vec_capacity made.old }
-    ensures read { HasOnlyRead (B.device board.old) (B.device board.new) }
-    ensures goes { OnOk result (GoesOn (B.device board.old) (B.device board.new)) }
-    ensures worked { IfOk result (λ trials. HasWorked trials 0 (suite_state (S.keys suite.old) (S.pads suite.old) (S.tags suite.old) (S.digests suite.old))
+    ensures read { KeepsDevice (B.device board.old) (B.device board.new) }
+    ensures goes { OnOk result (IsUncut (B.device board.old) (B.device board.new)) }
+    ensures worked { IfOk result (λ trials. SuiteWork trials 0 (suite_state (S.keys suite.old) (S.pads suite.old) (S.tags suite.old) (S.digests suite.old))
         (suite_state (S.keys suite.new) (S.pads suite.new) (S.tags suite.new) (S.digests suite.new))) }
-    ensures at_most { HasWorkedAtMost (64 * regs.now.loss * slots (shape_of geo.now)) 0 (suite_state (S.keys suite.old) (S.pads suite.old) (S.tags suite.old) (S.digests suite.old))
+    ensures at_most { SuiteWorkAtMost (64 * regs.now.loss * slots (shape_of geo.now)) 0 (suite_state (S.keys suite.old) (S.pads suite.old) (S.tags suite.old) (S.digests suite.old))
         (suite_state (S.keys suite.new) (S.pads suite.new) (S.tags suite.new) (S.digests suite.new)) }
     ensures few_trials { IfOk result (λ trials. trials ≤ 64 * regs.now.loss * slots (shape_of geo.now)) }
     ensures few_made { OnOk result (length made.new.items ≤ slots (shape_of geo.now)) }
@@ -52,7 +52,7 @@ pub(crate) fn fix_counters<B: Board, S: Suite>(
     ensures told { OnOk result (Told (B.device board.old).lines (λ lines. shadow.now ≡ shadow_of (shape_of geo.now) lines
         → AreDecided (setup_of geo.now (S.formulas_of (S.keys suite.old))) lines regs.now (pages (shape_of geo.now))
         × AreMadeTo (setup_of geo.now (S.formulas_of (S.keys suite.old))) lines regs.now (shape_of geo.now).levels (meta_lines (shape_of geo.now)) made.new.items)) }
-    ensures stopped { IfErr result (λ fault. IsStopped (S.formulas_of (S.keys suite.old)) fault
+    ensures stopped { IfErr result (λ fault. IsStageStopped (S.formulas_of (S.keys suite.old)) fault
         (λ lines. shadow.now ≡ shadow_of (shape_of geo.now) lines → IsRefusal (setup_of geo.now (S.formulas_of (S.keys suite.old))) lines regs.now fault) (B.device board.old) (B.device board.new)) }
 {
     let mut from = (geo.pages() - 1) / 3;
@@ -78,19 +78,19 @@ fn fix_counter<B: Board, S: Suite>(
     requires block { counter_position (shape_of geo.now) 0 ≤ x }
     requires position { x < meta_lines (shape_of geo.now) }
     requires room { vec_len made.old < vec_capacity made.old }
-    ensures read { HasOnlyRead (B.device board.old) (B.device board.new) }
-    ensures goes { OnOk result (GoesOn (B.device board.old) (B.device board.new)) }
-    ensures worked { IfOk result (λ trials. HasWorked trials 0 (suite_state (S.keys suite.old) (S.pads suite.old) (S.tags suite.old) (S.digests suite.old))
+    ensures read { KeepsDevice (B.device board.old) (B.device board.new) }
+    ensures goes { OnOk result (IsUncut (B.device board.old) (B.device board.new)) }
+    ensures worked { IfOk result (λ trials. SuiteWork trials 0 (suite_state (S.keys suite.old) (S.pads suite.old) (S.tags suite.old) (S.digests suite.old))
         (suite_state (S.keys suite.new) (S.pads suite.new) (S.tags suite.new) (S.digests suite.new))) }
-    ensures at_most { HasWorkedAtMost (64 * regs.now.loss) 0 (suite_state (S.keys suite.old) (S.pads suite.old) (S.tags suite.old) (S.digests suite.old))
+    ensures at_most { SuiteWorkAtMost (64 * regs.now.loss) 0 (suite_state (S.keys suite.old) (S.pads suite.old) (S.tags suite.old) (S.digests suite.old))
         (suite_state (S.keys suite.new) (S.pads suite.new) (S.tags suite.new) (S.digests suite.new)) }
     ensures few { IfOk result (λ trials. trials ≤ 64 * regs.now.loss) }
-    ensures made { OnOk result (HasMade x made.old.items made.new.items) }
+    ensures made { OnOk result (AddsLine x made.old.items made.new.items) }
     ensures capacity { vec_capacity made.new ≡ vec_capacity made.old }
     ensures told { OnOk result (Told (B.device board.old).lines (λ lines. (page : ℕ) → page < pages (shape_of geo.now) → x ≡ counter_position (shape_of geo.now) page
         → (made.new.items ≡ made.old.items ++ block_made (setup_of geo.now (S.formulas_of (S.keys suite.old))) lines regs.now page ∷ [])
         × AreOneTried (setup_of geo.now (S.formulas_of (S.keys suite.old))) lines regs.now page)) }
-    ensures stopped { IfErr result (λ fault. IsStopped (S.formulas_of (S.keys suite.old)) fault
+    ensures stopped { IfErr result (λ fault. IsStageStopped (S.formulas_of (S.keys suite.old)) fault
         (λ lines. (page : ℕ) → page < pages (shape_of geo.now) → x ≡ counter_position (shape_of geo.now) page
         → IsPageRefusal (setup_of geo.now (S.formulas_of (S.keys suite.old))) lines regs.now page fault) (B.device board.old) (B.device board.new)) }
 {
@@ -119,17 +119,17 @@ fn fix_minors<B: Board, S: Suite>(
     requires loss { IsTrue (is_loss regs.now.loss) }
     requires page { page < pages (shape_of geo.now) }
     requires block { IsBlock stored.now }
-    ensures read { HasOnlyRead (B.device board.old) (B.device board.new) }
-    ensures goes { OnOk result (GoesOn (B.device board.old) (B.device board.new)) }
-    ensures worked { IfOk result (λ fixed. HasWorked fixed.1 0 (suite_state (S.keys suite.old) (S.pads suite.old) (S.tags suite.old) (S.digests suite.old))
+    ensures read { KeepsDevice (B.device board.old) (B.device board.new) }
+    ensures goes { OnOk result (IsUncut (B.device board.old) (B.device board.new)) }
+    ensures worked { IfOk result (λ fixed. SuiteWork fixed.1 0 (suite_state (S.keys suite.old) (S.pads suite.old) (S.tags suite.old) (S.digests suite.old))
         (suite_state (S.keys suite.new) (S.pads suite.new) (S.tags suite.new) (S.digests suite.new))) }
-    ensures at_most { HasWorkedAtMost (64 * regs.now.loss) 0 (suite_state (S.keys suite.old) (S.pads suite.old) (S.tags suite.old) (S.digests suite.old))
+    ensures at_most { SuiteWorkAtMost (64 * regs.now.loss) 0 (suite_state (S.keys suite.old) (S.pads suite.old) (S.tags suite.old) (S.digests suite.old))
         (suite_state (S.keys suite.new) (S.pads suite.new) (S.tags suite.new) (S.digests suite.new)) }
     ensures few { IfOk result (λ fixed. fixed.1 ≤ 64 * regs.now.loss) }
     ensures small { IfOk result (λ fixed. All (λ m. m ≤ 127) fixed.0.minors) }
     ensures told { IfOk result (λ fixed. Told (B.device board.old).lines (λ lines. stored.now ≡ stored_block (shape_of geo.now) lines page
         → (fixed.0 ≡ fixed_block (setup_of geo.now (S.formulas_of (S.keys suite.old))) lines regs.now page) × AreOneTried (setup_of geo.now (S.formulas_of (S.keys suite.old))) lines regs.now page)) }
-    ensures stopped { IfErr result (λ fault. IsStopped (S.formulas_of (S.keys suite.old)) fault
+    ensures stopped { IfErr result (λ fault. IsStageStopped (S.formulas_of (S.keys suite.old)) fault
         (λ lines. stored.now ≡ stored_block (shape_of geo.now) lines page → IsPageRefusal (setup_of geo.now (S.formulas_of (S.keys suite.old))) lines regs.now page fault) (B.device board.old) (B.device board.new)) }
 {
     let mut fixed = *stored;
@@ -157,17 +157,17 @@ fn try_line<B: Board, S: Suite>(
     requires loss { IsTrue (is_loss regs.now.loss) }
     requires line { at < data_lines (shape_of geo.now) }
     requires minors { All (λ m. m ≤ 127) stored.now.minors }
-    ensures read { HasOnlyRead (B.device board.old) (B.device board.new) }
-    ensures goes { OnOk result (GoesOn (B.device board.old) (B.device board.new)) }
-    ensures worked { IfOk result (λ tried. HasWorked tried.1 0 (suite_state (S.keys suite.old) (S.pads suite.old) (S.tags suite.old) (S.digests suite.old))
+    ensures read { KeepsDevice (B.device board.old) (B.device board.new) }
+    ensures goes { OnOk result (IsUncut (B.device board.old) (B.device board.new)) }
+    ensures worked { IfOk result (λ tried. SuiteWork tried.1 0 (suite_state (S.keys suite.old) (S.pads suite.old) (S.tags suite.old) (S.digests suite.old))
         (suite_state (S.keys suite.new) (S.pads suite.new) (S.tags suite.new) (S.digests suite.new))) }
-    ensures at_most { HasWorkedAtMost regs.now.loss 0 (suite_state (S.keys suite.old) (S.pads suite.old) (S.tags suite.old) (S.digests suite.old))
+    ensures at_most { SuiteWorkAtMost regs.now.loss 0 (suite_state (S.keys suite.old) (S.pads suite.old) (S.tags suite.old) (S.digests suite.old))
         (suite_state (S.keys suite.new) (S.pads suite.new) (S.tags suite.new) (S.digests suite.new)) }
     ensures few { IfOk result (λ tried. tried.1 ≤ regs.now.loss) }
     ensures small { IfOk result (λ tried. tried.0 ≤ 127) }
     ensures told { IfOk result (λ tried. Told (B.device board.old).lines (λ lines. stored.now ≡ stored_block (shape_of geo.now) lines (page_of at)
         → tried_minors (setup_of geo.now (S.formulas_of (S.keys suite.old))) lines regs.now at ≡ tried.0 ∷ [])) }
-    ensures stopped { IfErr result (λ fault. IsStopped (S.formulas_of (S.keys suite.old)) fault
+    ensures stopped { IfErr result (λ fault. IsStageStopped (S.formulas_of (S.keys suite.old)) fault
         (λ lines. stored.now ≡ stored_block (shape_of geo.now) lines (page_of at) → IsLineRefusal (setup_of geo.now (S.formulas_of (S.keys suite.old))) lines regs.now at fault) (B.device board.old) (B.device board.new)) }
 {
     let minor = stored.minors[(at % 64) as usize];
@@ -184,8 +184,8 @@ fn try_line<B: Board, S: Suite>(
 fn read_sealed<B: Board>(board: &mut B, geo: &Geo, at: u32) -> Result<(Line, Tag), Cut>
     requires size { (B.device board.old).size ≡ device_lines (shape_of geo.now) }
     requires line { at < data_lines (shape_of geo.now) }
-    ensures read { HasOnlyRead (B.device board.old) (B.device board.new) }
-    ensures ok { OnOk result (GoesOn (B.device board.old) (B.device board.new)) }
+    ensures read { KeepsDevice (B.device board.old) (B.device board.new) }
+    ensures ok { OnOk result (IsUncut (B.device board.old) (B.device board.new)) }
     ensures cut { OnErr result (IsCutOff (B.device board.old) (B.device board.new)) }
     ensures told { IfOk result (λ sealed. Told (B.device board.old).lines (λ lines. (sealed.0 ≡ line_at lines at)
         × (sealed.1 ≡ tag_slot (line_at lines (tag_line (shape_of geo.now) at)) at))) }
@@ -205,7 +205,7 @@ fn try_window<S: Suite>(
     tag: &Tag,
 ) -> Result<u8, RecFault>
     requires { ends.1 ≤ 127 }
-    ensures worked { HasWorked (length (minors_within ends.0 ends.1)) 0 (suite_state (S.keys suite.old) (S.pads suite.old) (S.tags suite.old) (S.digests suite.old))
+    ensures worked { SuiteWork (length (minors_within ends.0 ends.1)) 0 (suite_state (S.keys suite.old) (S.pads suite.old) (S.tags suite.old) (S.digests suite.old))
         (suite_state (S.keys suite.new) (S.pads suite.new) (S.tags suite.new) (S.digests suite.new)) }
     ensures decided { IsDecided (S.formulas_of (S.keys suite.old)) at major cipher.now tag.now
         (matching_minors (S.formulas_of (S.keys suite.old)) at major cipher.now tag.now (minors_within ends.0 ends.1)) result }

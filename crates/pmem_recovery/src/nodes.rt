@@ -7,7 +7,7 @@ ghost use Rattle.shadow_tables.specs.Entries.{shadow_of};
 ghost use Rattle.bonsai_tree.specs.Nodes.{node_over};
 ghost use Rattle.pmem_recovery.specs.Named.{count_named};
 ghost use Rattle.pmem_recovery.specs.Upward.{made_or_stored, node_made, AreMadeTo};
-ghost use Rattle.pmem_recovery.specs.Parts.{setup_of, Told, HasOnlyRead, GoesOn, IsCutOff, suite_state, HasWorked, HasWorkedAtMost, IsCompared, IsRootAnswer, IsRootFault, StopsBy, HasMade};
+ghost use Rattle.pmem_recovery.specs.Parts.{setup_of, Told, KeepsDevice, IsUncut, IsCutOff, suite_state, SuiteWork, SuiteWorkAtMost, IsCompared, IsRootAnswer, IsRootFault, StopsBy, AddsLine};
 
 use crate::RecFault;
 use crate::entries::{Made, is_other, line_made};
@@ -29,12 +29,12 @@ pub(crate) fn fix_nodes<B: Board, S: Suite>(
     requires size { (B.device board.old).size ≡ device_lines (shape_of geo.now) }
     requires shadow { length shadow.now ≡ shadow_lines (shape_of geo.now) }
     requires room { length made.old.items + count_named (shape_of geo.now) shadow.now 0 (level_start (shape_of geo.now).levels) ≤ vec_capacity made.old }
-    ensures read { HasOnlyRead (B.device board.old) (B.device board.new) }
-    ensures goes { OnOk result (GoesOn (B.device board.old) (B.device board.new)) }
+    ensures read { KeepsDevice (B.device board.old) (B.device board.new) }
+    ensures goes { OnOk result (IsUncut (B.device board.old) (B.device board.new)) }
     ensures cut { OnErr result (IsCutOff (B.device board.old) (B.device board.new)) }
-    ensures worked { IfOk result (λ digests. HasWorked 0 digests (suite_state (S.keys suite.old) (S.pads suite.old) (S.tags suite.old) (S.digests suite.old))
+    ensures worked { IfOk result (λ digests. SuiteWork 0 digests (suite_state (S.keys suite.old) (S.pads suite.old) (S.tags suite.old) (S.digests suite.old))
         (suite_state (S.keys suite.new) (S.pads suite.new) (S.tags suite.new) (S.digests suite.new))) }
-    ensures at_most { HasWorkedAtMost 0 (4 * count_named (shape_of geo.now) shadow.now 0 (level_start (shape_of geo.now).levels)) (suite_state (S.keys suite.old) (S.pads suite.old) (S.tags suite.old) (S.digests suite.old))
+    ensures at_most { SuiteWorkAtMost 0 (4 * count_named (shape_of geo.now) shadow.now 0 (level_start (shape_of geo.now).levels)) (suite_state (S.keys suite.old) (S.pads suite.old) (S.tags suite.old) (S.digests suite.old))
         (suite_state (S.keys suite.new) (S.pads suite.new) (S.tags suite.new) (S.digests suite.new)) }
     ensures digests { IfOk result (λ digests. digests ≡ 4 * count_named (shape_of geo.now) shadow.now 0 (level_start (shape_of geo.now).levels)) }
     ensures counted { OnOk result (length made.new.items
@@ -66,12 +66,12 @@ fn fix_level<B: Board, S: Suite>(
     requires shadow { length shadow.now ≡ shadow_lines (shape_of geo.now) }
     requires level { level < (shape_of geo.now).levels }
     requires room { length made.old.items + count_named (shape_of geo.now) shadow.now (level_start level) (level_start (suc level)) ≤ vec_capacity made.old }
-    ensures read { HasOnlyRead (B.device board.old) (B.device board.new) }
-    ensures goes { OnOk result (GoesOn (B.device board.old) (B.device board.new)) }
+    ensures read { KeepsDevice (B.device board.old) (B.device board.new) }
+    ensures goes { OnOk result (IsUncut (B.device board.old) (B.device board.new)) }
     ensures cut { OnErr result (IsCutOff (B.device board.old) (B.device board.new)) }
-    ensures worked { IfOk result (λ digests. HasWorked 0 digests (suite_state (S.keys suite.old) (S.pads suite.old) (S.tags suite.old) (S.digests suite.old))
+    ensures worked { IfOk result (λ digests. SuiteWork 0 digests (suite_state (S.keys suite.old) (S.pads suite.old) (S.tags suite.old) (S.digests suite.old))
         (suite_state (S.keys suite.new) (S.pads suite.new) (S.tags suite.new) (S.digests suite.new))) }
-    ensures at_most { HasWorkedAtMost 0 (4 * count_named (shape_of geo.now) shadow.now (level_start level) (level_start (suc level))) (suite_state (S.keys suite.old) (S.pads suite.old) (S.tags suite.old) (S.digests suite.old))
+    ensures at_most { SuiteWorkAtMost 0 (4 * count_named (shape_of geo.now) shadow.now (level_start level) (level_start (suc level))) (suite_state (S.keys suite.old) (S.pads suite.old) (S.tags suite.old) (S.digests suite.old))
         (suite_state (S.keys suite.new) (S.pads suite.new) (S.tags suite.new) (S.digests suite.new)) }
     ensures digests { IfOk result (λ digests. digests ≡ 4 * count_named (shape_of geo.now) shadow.now (level_start level) (level_start (suc level))) }
     ensures counted { OnOk result (length made.new.items
@@ -115,14 +115,14 @@ fn fix_node<B: Board, S: Suite>(
     requires size { (B.device board.old).size ≡ device_lines (shape_of geo.now) }
     requires node { x < level_start (shape_of geo.now).levels }
     requires room { length made.old.items < vec_capacity made.old }
-    ensures read { HasOnlyRead (B.device board.old) (B.device board.new) }
-    ensures goes { OnOk result (GoesOn (B.device board.old) (B.device board.new)) }
+    ensures read { KeepsDevice (B.device board.old) (B.device board.new) }
+    ensures goes { OnOk result (IsUncut (B.device board.old) (B.device board.new)) }
     ensures cut { OnErr result (IsCutOff (B.device board.old) (B.device board.new)) }
-    ensures worked { OnOk result (HasWorked 0 4 (suite_state (S.keys suite.old) (S.pads suite.old) (S.tags suite.old) (S.digests suite.old))
+    ensures worked { OnOk result (SuiteWork 0 4 (suite_state (S.keys suite.old) (S.pads suite.old) (S.tags suite.old) (S.digests suite.old))
         (suite_state (S.keys suite.new) (S.pads suite.new) (S.tags suite.new) (S.digests suite.new))) }
-    ensures at_most { HasWorkedAtMost 0 4 (suite_state (S.keys suite.old) (S.pads suite.old) (S.tags suite.old) (S.digests suite.old))
+    ensures at_most { SuiteWorkAtMost 0 4 (suite_state (S.keys suite.old) (S.pads suite.old) (S.tags suite.old) (S.digests suite.old))
         (suite_state (S.keys suite.new) (S.pads suite.new) (S.tags suite.new) (S.digests suite.new)) }
-    ensures made { OnOk result (HasMade x made.old.items made.new.items) }
+    ensures made { OnOk result (AddsLine x made.old.items made.new.items) }
     ensures capacity { vec_capacity made.new ≡ vec_capacity made.old }
     ensures told { OnOk result (Told (B.device board.old).lines (λ lines.
         made.new.items ≡ made.old.items ++ node_made (setup_of geo.now (S.formulas_of (S.keys suite.old))) lines made.old.items x ∷ [])) }
@@ -147,12 +147,12 @@ fn node_line<B: Board, S: Suite>(
 ) -> Result<Line, Cut>
     requires size { (B.device board.old).size ≡ device_lines (shape_of geo.now) }
     requires node { x < level_start (shape_of geo.now).levels }
-    ensures read { HasOnlyRead (B.device board.old) (B.device board.new) }
-    ensures goes { OnOk result (GoesOn (B.device board.old) (B.device board.new)) }
+    ensures read { KeepsDevice (B.device board.old) (B.device board.new) }
+    ensures goes { OnOk result (IsUncut (B.device board.old) (B.device board.new)) }
     ensures cut { OnErr result (IsCutOff (B.device board.old) (B.device board.new)) }
-    ensures worked { OnOk result (HasWorked 0 4 (suite_state (S.keys suite.old) (S.pads suite.old) (S.tags suite.old) (S.digests suite.old))
+    ensures worked { OnOk result (SuiteWork 0 4 (suite_state (S.keys suite.old) (S.pads suite.old) (S.tags suite.old) (S.digests suite.old))
         (suite_state (S.keys suite.new) (S.pads suite.new) (S.tags suite.new) (S.digests suite.new))) }
-    ensures at_most { HasWorkedAtMost 0 4 (suite_state (S.keys suite.old) (S.pads suite.old) (S.tags suite.old) (S.digests suite.old))
+    ensures at_most { SuiteWorkAtMost 0 4 (suite_state (S.keys suite.old) (S.pads suite.old) (S.tags suite.old) (S.digests suite.old))
         (suite_state (S.keys suite.new) (S.pads suite.new) (S.tags suite.new) (S.digests suite.new)) }
     ensures told { IfOk result (λ line. Told (B.device board.old).lines (λ lines.
         line ≡ node_over (S.formulas_of (S.keys suite.old)) x (made_or_stored (shape_of geo.now) lines made.now))) }
@@ -170,8 +170,8 @@ fn node_line<B: Board, S: Suite>(
 fn made_or_read<B: Board>(board: &mut B, geo: &Geo, x: u32, made: &[Made]) -> Result<Line, Cut>
     requires size { (B.device board.old).size ≡ device_lines (shape_of geo.now) }
     requires position { x < meta_lines (shape_of geo.now) }
-    ensures read { HasOnlyRead (B.device board.old) (B.device board.new) }
-    ensures goes { OnOk result (GoesOn (B.device board.old) (B.device board.new)) }
+    ensures read { KeepsDevice (B.device board.old) (B.device board.new) }
+    ensures goes { OnOk result (IsUncut (B.device board.old) (B.device board.new)) }
     ensures cut { OnErr result (IsCutOff (B.device board.old) (B.device board.new)) }
     ensures told { IfOk result (λ line. Told (B.device board.old).lines (λ lines. line ≡ made_or_stored (shape_of geo.now) lines made.now x)) }
 {
@@ -190,13 +190,13 @@ pub(crate) fn check_root<B: Board, S: Suite>(
     made: &[Made],
 ) -> Result<(), RecFault>
     requires size { (B.device board.old).size ≡ device_lines (shape_of geo.now) }
-    ensures read { HasOnlyRead (B.device board.old) (B.device board.new) }
-    ensures goes { OnOk result (GoesOn (B.device board.old) (B.device board.new)) }
+    ensures read { KeepsDevice (B.device board.old) (B.device board.new) }
+    ensures goes { OnOk result (IsUncut (B.device board.old) (B.device board.new)) }
     ensures kind { IfErr result IsRootFault }
     ensures stops { IfErr result (λ fault. StopsBy fault (B.device board.old) (B.device board.new)) }
-    ensures worked { OnOk result (HasWorked 0 1 (suite_state (S.keys suite.old) (S.pads suite.old) (S.tags suite.old) (S.digests suite.old))
+    ensures worked { OnOk result (SuiteWork 0 1 (suite_state (S.keys suite.old) (S.pads suite.old) (S.tags suite.old) (S.digests suite.old))
         (suite_state (S.keys suite.new) (S.pads suite.new) (S.tags suite.new) (S.digests suite.new))) }
-    ensures at_most { HasWorkedAtMost 0 1 (suite_state (S.keys suite.old) (S.pads suite.old) (S.tags suite.old) (S.digests suite.old))
+    ensures at_most { SuiteWorkAtMost 0 1 (suite_state (S.keys suite.old) (S.pads suite.old) (S.tags suite.old) (S.digests suite.old))
         (suite_state (S.keys suite.new) (S.pads suite.new) (S.tags suite.new) (S.digests suite.new)) }
     ensures told { Told (B.device board.old).lines (λ lines.
         IsRootAnswer (S.formulas_of (S.keys suite.old)) (made_or_stored (shape_of geo.now) lines made.now 0) regs.now.root result) }

@@ -5,7 +5,7 @@ ghost use Rattle.pmem_base.specs.Shape.{is_loss};
 ghost use Rattle.pmem_base.specs.Layout.{slots, meta_lines, shadow_lines, device_lines};
 ghost use Rattle.pmem_base.specs.Registers.{IsValidRegs};
 ghost use Rattle.shadow_tables.specs.Entries.{shadow_of};
-ghost use Rattle.pmem_recovery.specs.Parts.{setup_of, Told, HasOnlyRead, GoesOn, IsCutOff, StopsBy, suite_state, HasWorked, HasWorkedAtMost, HasRoot, IsRefusal, IsStopped};
+ghost use Rattle.pmem_recovery.specs.Parts.{setup_of, Told, KeepsDevice, IsUncut, IsCutOff, StopsBy, suite_state, SuiteWork, SuiteWorkAtMost, HasRoot, IsRefusal, IsStageStopped};
 ghost use Rattle.pmem_recovery.specs.Writing.{BothTold};
 ghost use Rattle.pmem_recovery.specs.Written.{IsRecovered};
 ghost use Rattle.pmem_recovery.specs.Mending.{HasMadeAll, HasMadeWrites, IsStoppedShort};
@@ -91,17 +91,17 @@ fn mend<B: Board, S: Suite>(
     requires shadow_room { shadow_lines (shape_of geo.now) ≤ vec_capacity room.old.shadow }
     requires made_room { ((shape_of geo.now).levels + 1) * slots (shape_of geo.now) ≤ vec_capacity room.old.made }
     ensures written { HasMadeWrites (setup_of geo.now (S.formulas_of (S.keys suite.old))) (B.device board.old).regs (B.device board.old) (B.device board.new) }
-    ensures goes { OnOk result (GoesOn (B.device board.old) (B.device board.new)) }
-    ensures worked { IfOk result (λ work. HasWorked work.trials work.digests (suite_state (S.keys suite.old) (S.pads suite.old) (S.tags suite.old) (S.digests suite.old))
+    ensures goes { OnOk result (IsUncut (B.device board.old) (B.device board.new)) }
+    ensures worked { IfOk result (λ work. SuiteWork work.trials work.digests (suite_state (S.keys suite.old) (S.pads suite.old) (S.tags suite.old) (S.digests suite.old))
         (suite_state (S.keys suite.new) (S.pads suite.new) (S.tags suite.new) (S.digests suite.new))) }
-    ensures at_most { HasWorkedAtMost (64 * (B.device board.old).regs.loss * slots (shape_of geo.now)) (4 * (shape_of geo.now).levels * slots (shape_of geo.now) + 1) (suite_state (S.keys suite.old) (S.pads suite.old) (S.tags suite.old) (S.digests suite.old))
+    ensures at_most { SuiteWorkAtMost (64 * (B.device board.old).regs.loss * slots (shape_of geo.now)) (4 * (shape_of geo.now).levels * slots (shape_of geo.now) + 1) (suite_state (S.keys suite.old) (S.pads suite.old) (S.tags suite.old) (S.digests suite.old))
         (suite_state (S.keys suite.new) (S.pads suite.new) (S.tags suite.new) (S.digests suite.new)) }
     ensures few_trials { IfOk result (λ work. work.trials ≤ 64 * (B.device board.old).regs.loss * slots (shape_of geo.now)) }
     ensures few_digests { IfOk result (λ work. work.digests ≤ 4 * (shape_of geo.now).levels * slots (shape_of geo.now) + 1) }
     ensures recovered { OnOk result (BothTold (B.device board.old) (B.device board.new) (λ lines now. length lines ≡ device_lines (shape_of geo.now)
         → IsRecovered (setup_of geo.now (S.formulas_of (S.keys suite.old))) lines (B.device board.old).regs now
         × HasRoot (setup_of geo.now (S.formulas_of (S.keys suite.old))) lines (B.device board.old).regs)) }
-    ensures stopped { IfErr result (λ fault. IsStopped (S.formulas_of (S.keys suite.old)) fault (λ lines. length lines ≡ device_lines (shape_of geo.now)
+    ensures stopped { IfErr result (λ fault. IsStageStopped (S.formulas_of (S.keys suite.old)) fault (λ lines. length lines ≡ device_lines (shape_of geo.now)
         → IsRefusal (setup_of geo.now (S.formulas_of (S.keys suite.old))) lines (B.device board.old).regs fault) (B.device board.old) (B.device board.new)) }
     ensures short { IfErr result (λ fault. IsStoppedShort (shape_of geo.now) fault (B.device board.old) (B.device board.new)) }
 {
@@ -126,11 +126,11 @@ fn make_lines<B: Board, S: Suite>(
     requires made { room.old.made.items ≡ [] }
     requires shadow_room { shadow_lines (shape_of geo.now) ≤ vec_capacity room.old.shadow }
     requires made_room { ((shape_of geo.now).levels + 1) * slots (shape_of geo.now) ≤ vec_capacity room.old.made }
-    ensures read { HasOnlyRead (B.device board.old) (B.device board.new) }
-    ensures goes { OnOk result (GoesOn (B.device board.old) (B.device board.new)) }
-    ensures worked { IfOk result (λ work. HasWorked work.trials work.digests (suite_state (S.keys suite.old) (S.pads suite.old) (S.tags suite.old) (S.digests suite.old))
+    ensures read { KeepsDevice (B.device board.old) (B.device board.new) }
+    ensures goes { OnOk result (IsUncut (B.device board.old) (B.device board.new)) }
+    ensures worked { IfOk result (λ work. SuiteWork work.trials work.digests (suite_state (S.keys suite.old) (S.pads suite.old) (S.tags suite.old) (S.digests suite.old))
         (suite_state (S.keys suite.new) (S.pads suite.new) (S.tags suite.new) (S.digests suite.new))) }
-    ensures at_most { HasWorkedAtMost (64 * regs.now.loss * slots (shape_of geo.now)) (4 * (shape_of geo.now).levels * slots (shape_of geo.now) + 1) (suite_state (S.keys suite.old) (S.pads suite.old) (S.tags suite.old) (S.digests suite.old))
+    ensures at_most { SuiteWorkAtMost (64 * regs.now.loss * slots (shape_of geo.now)) (4 * (shape_of geo.now).levels * slots (shape_of geo.now) + 1) (suite_state (S.keys suite.old) (S.pads suite.old) (S.tags suite.old) (S.digests suite.old))
         (suite_state (S.keys suite.new) (S.pads suite.new) (S.tags suite.new) (S.digests suite.new)) }
     ensures few_trials { IfOk result (λ work. work.trials ≤ 64 * regs.now.loss * slots (shape_of geo.now)) }
     ensures few_digests { IfOk result (λ work. work.digests ≤ 4 * (shape_of geo.now).levels * slots (shape_of geo.now) + 1) }
@@ -139,7 +139,7 @@ fn make_lines<B: Board, S: Suite>(
     ensures on_tree { OnOk result (All (λ entry. entry.at < meta_lines (shape_of geo.now)) room.new.made.items) }
     ensures told { OnOk result (Told (B.device board.old).lines (λ lines. length lines ≡ device_lines (shape_of geo.now)
         → HasMadeAll (setup_of geo.now (S.formulas_of (S.keys suite.old))) lines regs.now room.new.shadow.items room.new.made.items)) }
-    ensures stopped { IfErr result (λ fault. IsStopped (S.formulas_of (S.keys suite.old)) fault (λ lines. length lines ≡ device_lines (shape_of geo.now)
+    ensures stopped { IfErr result (λ fault. IsStageStopped (S.formulas_of (S.keys suite.old)) fault (λ lines. length lines ≡ device_lines (shape_of geo.now)
         → IsRefusal (setup_of geo.now (S.formulas_of (S.keys suite.old))) lines regs.now fault) (B.device board.old) (B.device board.new)) }
 {
     read_shadow(board, geo, &mut room.shadow)?;
@@ -157,8 +157,8 @@ fn read_shadow<B: Board>(board: &mut B, geo: &Geo, shadow: &mut Vec<Line>) -> Re
     requires size { (B.device board.old).size ≡ device_lines (shape_of geo.now) }
     requires empty { shadow.old.items ≡ [] }
     requires room { shadow_lines (shape_of geo.now) ≤ vec_capacity shadow.old }
-    ensures read { HasOnlyRead (B.device board.old) (B.device board.new) }
-    ensures goes { OnOk result (GoesOn (B.device board.old) (B.device board.new)) }
+    ensures read { KeepsDevice (B.device board.old) (B.device board.new) }
+    ensures goes { OnOk result (IsUncut (B.device board.old) (B.device board.new)) }
     ensures cut { OnErr result (IsCutOff (B.device board.old) (B.device board.new)) }
     ensures long { OnOk result (length shadow.new.items ≡ shadow_lines (shape_of geo.now)) }
     ensures told { OnOk result (Told (B.device board.old).lines (λ lines. length lines ≡ device_lines (shape_of geo.now)

@@ -3,7 +3,7 @@ ghost use Rattle.std.specs.Prelude.{◌≡◌, ◌<◌, All, OnOk, OnErr, length
 ghost use Rattle.pmem_base.specs.Geo.{shape_of};
 ghost use Rattle.pmem_base.specs.Layout.{meta_lines, shadow_lines, device_lines};
 ghost use Rattle.board.specs.Steps.{WasCut};
-ghost use Rattle.pmem_recovery.specs.Parts.{GoesOn, IsCutOff};
+ghost use Rattle.pmem_recovery.specs.Parts.{IsUncut, IsCutOff};
 ghost use Rattle.pmem_recovery.specs.Writing.{HasWrittenTo, HasWrittenSome, HasZeroedTo, HasZeroedSome, HasWrittenIf};
 
 use crate::entries::{Made, is_other};
@@ -15,7 +15,7 @@ pub(crate) fn write_made<B: Board>(board: &mut B, geo: &Geo, made: &[Made]) -> R
     requires size { (B.device board.old).size ≡ device_lines (shape_of geo.now) }
     requires on_tree { All (λ entry. entry.at < meta_lines (shape_of geo.now)) made.now }
     ensures ok { OnOk result (HasWrittenTo (shape_of geo.now) made.now (length made.now) (B.device board.old) (B.device board.new)) }
-    ensures goes { OnOk result (GoesOn (B.device board.old) (B.device board.new)) }
+    ensures goes { OnOk result (IsUncut (B.device board.old) (B.device board.new)) }
     ensures some { OnErr result (HasWrittenSome (shape_of geo.now) made.now (B.device board.old) (B.device board.new)) }
     ensures cut { OnErr result (IsCutOff (B.device board.old) (B.device board.new)) }
 {
@@ -30,7 +30,7 @@ pub(crate) fn clear_shadow<B: Board>(board: &mut B, geo: &Geo, shadow: &[Line]) 
     requires size { (B.device board.old).size ≡ device_lines (shape_of geo.now) }
     requires shadow { length shadow.now ≡ shadow_lines (shape_of geo.now) }
     ensures ok { OnOk result (HasZeroedTo (shape_of geo.now) shadow.now (shadow_lines (shape_of geo.now)) (B.device board.old) (B.device board.new)) }
-    ensures goes { OnOk result (GoesOn (B.device board.old) (B.device board.new)) }
+    ensures goes { OnOk result (IsUncut (B.device board.old) (B.device board.new)) }
     ensures some { OnErr result (HasZeroedSome (shape_of geo.now) shadow.now (B.device board.old) (B.device board.new)) }
     ensures cut { OnErr result (IsCutOff (B.device board.old) (B.device board.new)) }
 {

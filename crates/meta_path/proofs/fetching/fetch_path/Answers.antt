@@ -1,47 +1,43 @@
 -- The levels so far and the next one, whether it is fetched or not.
-use Rattle.std.proofs.Common.{◌≡◌, ℕ, suc, ◌+◌, List, sym, subst, subst₂, ◌∙◌, arith}
+use Rattle.std.proofs.Common.{ℕ, List, rules, sym, subst, subst₂, ◌∙◌, arith}
 use Rattle.pmem_base.specs.Geo.{shape_of}
+use Rattle.suite.specs.Formulas.{Formulas}
 use Rattle.seal_ledger.specs.Ledger.{LedgerState}
+use Rattle.meta_cache.specs.State.{CacheState}
 use Rattle.meta_path.specs.Blocks.{path_at}
+use Rattle.meta_path.specs.Work.{FetchState}
 use Rattle.meta_path.specs.Levels.{HasParent, IsLevelFetched, IsLevelFault}
 use Rattle.meta_path.specs.Fetching.{IsFetchedTo}
-use Rattle.meta_path.proofs.FetchLemmas.{IsFetchedTo-more, HasParent-at, IsPathCached-fetched}
+use Rattle.meta_path.proofs.FetchLemmas.{HasParent-at, IsPathCached-fetched}
 use Rattle.meta_path.proofs.PathFacts.{position_is, all_levels}
-use Rattle.meta_path.proofs.KeepLaws.{IsRun, IsEnded, run_of, banks_of_run, keeps_of_run, fault_of_end, keeps_of_end, cause_of_end, dirty_of_end, undisturbed_fault, truth_of_end, IsUndisturbed-cached, fault_handed_on, same_fault}
-use Rattle.meta_path.proofs.fetching.fetch_path.Given as given
+use Rattle.meta_path.proofs.RunLaws.{IsRun, IsEnded, banks_of_run, keeps_of_run, fetched_next, fault_of_end, keeps_of_end, cause_of_end, dirty_of_end, undisturbed_of_end, truth_of_end, IsUndisturbed-cached, fault_handed_on, same_fault}
+use Rattle.meta_path.proofs.fetching.fetch_path.Given.{Over}
+use Rattle.meta_path.proofs.fetching.fetch_path.Goals.{After-fetch_level-arg-in-levels-3-1}
 use Rattle.meta_path.proofs.fetching.fetch_path.Goals as goal
 
--- what a fetch has done before a level
-run_before : (g : given.Over) (c : goal.After-fetch_level-arg-in-levels-3-1 g)
-    → IsRun (shape_of c.args.geo.now) (g.S.Suite.formulas_of (g.S.Suite.keys c.args.suite.now)) c.args.page c.levels.bank
-    (record { cache = c.args.cache.now; device = g.B.Board.device c.args.board.now; digests = g.S.Suite.digests c.args.suite.now })
-    (record { cache = c.levels.cache; device = g.B.Board.device c.levels.board; digests = g.S.Suite.digests c.levels.suite })
-    (g.A.Audit.ledger c.args.audit.now) (g.A.Audit.ledger c.levels.audit)
-run_before g c =
-    run_of (shape_of c.args.geo.now) (g.S.Suite.formulas_of (g.S.Suite.keys c.args.suite.now)) c.args.page c.levels.bank
-    (record { cache = c.args.cache.now; device = g.B.Board.device c.args.board.now; digests = g.S.Suite.digests c.args.suite.now })
-    (record { cache = c.levels.cache; device = g.B.Board.device c.levels.board; digests = g.S.Suite.digests c.levels.suite })
-    (g.A.Audit.ledger c.args.audit.now) (g.A.Audit.ledger c.levels.audit)
-    (record {
-      its_page = c.requires.page;
-      levels = c.args.geo.now.has_levels;
-      sets = c.args.geo.now.has_sets;
-      ways = c.args.geo.now.has_ways;
-      shape = c.requires.shape;
-      form = c.are_banks.ensures.cache;
-      its_banks = c.requires.banks;
-      told = g.met.B.Board.whole c.args.board.now;
-      its_size = c.requires.size;
-    })
-    (omega (arith, c.levels-test.true, c.levels-bank-end.ensures)) c.levels.invariant.fetched c.levels.invariant.ledger
+-- what the fetch works on at a moment
+abbrev at : (g : Over) → CacheState → g.row.B.Denot → g.row.S.Denot → FetchState
+at g cache board suite = record { cache = cache; device = g.B.Board.device board; digests = g.S.Suite.digests suite }
+
+abbrev formulas : (g : Over) → g.row.S.Denot → Formulas
+formulas g suite = g.S.Suite.formulas_of (g.S.Suite.keys suite)
+
+-- ---- before a level
+
+module _ (g : Over) (c : After-fetch_level-arg-in-levels-3-1 g) where
+  run_before : IsRun (shape_of c.args.geo.now) (formulas g c.args.suite.now) c.args.page c.levels.bank
+      (at g c.args.cache.now c.args.board.now c.args.suite.now) (at g c.levels.cache c.levels.board c.levels.suite)
+      (g.A.Audit.ledger c.args.audit.now) (g.A.Audit.ledger c.levels.audit)
+  run_before =
+      record {
+        start = search (rules, g.met.B.Board.whole);
+        level = omega (arith, c.levels-test.true, c.levels-bank-end.ensures);
+        fetched = c.levels.invariant.fetched;
+        ledger = c.levels.invariant.ledger;
+      }
 
 pub fetch_level-requires-clause-banks : goal.fetch_level-requires-clause-banks
-fetch_level-requires-clause-banks g c =
-    banks_of_run (shape_of c.args.geo.now) (g.S.Suite.formulas_of (g.S.Suite.keys c.args.suite.now)) c.args.page c.levels.bank
-    (record { cache = c.args.cache.now; device = g.B.Board.device c.args.board.now; digests = g.S.Suite.digests c.args.suite.now })
-    (record { cache = c.levels.cache; device = g.B.Board.device c.levels.board; digests = g.S.Suite.digests c.levels.suite })
-    (g.A.Audit.ledger c.args.audit.now) (g.A.Audit.ledger c.levels.audit)
-    (run_before g c)
+fetch_level-requires-clause-banks g c = banks_of_run (run_before g c)
 
 pub fetch_level-requires-clause-parent : goal.fetch_level-requires-clause-parent
 fetch_level-requires-clause-parent g c =
@@ -51,141 +47,73 @@ fetch_level-requires-clause-parent g c =
     c.args.cache.now c.levels.cache c.requires.page (omega (arith, c.levels-test.true, c.levels-bank-end.ensures))
     c.levels.invariant.fetched.cache)
 
--- how it ends at a level
-end_here : (g : given.Over) (c : goal.After-from_residual g)
-    → IsEnded (shape_of c.args.geo.now) (g.S.Suite.formulas_of (g.S.Suite.keys c.args.suite.now)) c.args.page c.levels.bank
-    (record { cache = c.args.cache.now; device = g.B.Board.device c.args.board.now; digests = g.S.Suite.digests c.args.suite.now })
-    (record { cache = c.levels.cache; device = g.B.Board.device c.levels.board; digests = g.S.Suite.digests c.levels.suite })
-    (record { cache = c.fetch_level.new.cache; device = g.B.Board.device c.fetch_level.new.board; digests = g.S.Suite.digests c.fetch_level.new.suite })
-    (g.A.Audit.ledger c.args.audit.now) (g.A.Audit.ledger c.levels.audit) (g.A.Audit.ledger c.fetch_level.new.audit) c.in_err-fetch_level.field-0.0
-end_here g c =
-    record {
-      run =
-          run_of (shape_of c.args.geo.now) (g.S.Suite.formulas_of (g.S.Suite.keys c.args.suite.now)) c.args.page c.levels.bank
-          (record { cache = c.args.cache.now; device = g.B.Board.device c.args.board.now; digests = g.S.Suite.digests c.args.suite.now })
-          (record { cache = c.levels.cache; device = g.B.Board.device c.levels.board; digests = g.S.Suite.digests c.levels.suite })
-          (g.A.Audit.ledger c.args.audit.now) (g.A.Audit.ledger c.levels.audit)
-          (record {
-            its_page = c.requires.page;
-            levels = c.args.geo.now.has_levels;
-            sets = c.args.geo.now.has_sets;
-            ways = c.args.geo.now.has_ways;
-            shape = c.requires.shape;
-            form = c.are_banks.ensures.cache;
-            its_banks = c.requires.banks;
-            told = g.met.B.Board.whole c.args.board.now;
-            its_size = c.requires.size;
-          })
-          (omega (arith, c.levels-test.true, c.levels-bank-end.ensures)) c.levels.invariant.fetched c.levels.invariant.ledger;
-      on_path = omega (arith, c.levels-test.true, c.levels-bank-end.ensures);
-      level_fault =
-          subst₂ (λ (keys : List ℕ) x. IsLevelFault (shape_of c.args.geo.now) (g.S.Suite.formulas_of keys) c.levels.bank x
-          (record { cache = c.levels.cache; device = g.B.Board.device c.levels.board; digests = g.S.Suite.digests c.levels.suite })
-          (record { cache = c.fetch_level.new.cache; device = g.B.Board.device c.fetch_level.new.board; digests = g.S.Suite.digests c.fetch_level.new.suite })
-          (g.A.Audit.ledger c.levels.audit) (g.A.Audit.ledger c.fetch_level.new.audit) c.in_err-fetch_level.field-0.0)
-          c.levels.invariant.keys
-          (position_is _ c.as_slice.result.now c.from.result c.levels.bank (c.as_slice.ensures.value ∙ c.path-path.ensures.value) c.from.ensures)
-          c.in_err-fetch_level.ensures.fault;
-    }
+-- ---- an end at a level
+
+module _ (g : Over) (c : goal.After-from_residual g) where
+  end_here : IsEnded (shape_of c.args.geo.now) (formulas g c.args.suite.now) c.args.page c.levels.bank
+      (at g c.args.cache.now c.args.board.now c.args.suite.now) (at g c.levels.cache c.levels.board c.levels.suite)
+      (at g c.fetch_level.new.cache c.fetch_level.new.board c.fetch_level.new.suite)
+      (g.A.Audit.ledger c.args.audit.now) (g.A.Audit.ledger c.levels.audit) (g.A.Audit.ledger c.fetch_level.new.audit)
+      c.in_err-fetch_level.field-0.0
+  end_here =
+      record {
+        run =
+            record {
+              start = search (rules, g.met.B.Board.whole);
+              level = omega (arith, c.levels-test.true, c.levels-bank-end.ensures);
+              fetched = c.levels.invariant.fetched;
+              ledger = c.levels.invariant.ledger;
+            };
+        on_path = omega (arith, c.levels-test.true, c.levels-bank-end.ensures);
+        level_fault =
+            subst₂ (λ (keys : List ℕ) x. IsLevelFault (shape_of c.args.geo.now) (g.S.Suite.formulas_of keys) c.levels.bank x
+            (at g c.levels.cache c.levels.board c.levels.suite)
+            (at g c.fetch_level.new.cache c.fetch_level.new.board c.fetch_level.new.suite)
+            (g.A.Audit.ledger c.levels.audit) (g.A.Audit.ledger c.fetch_level.new.audit) c.in_err-fetch_level.field-0.0)
+            c.levels.invariant.keys
+            (position_is _ c.as_slice.result.now c.from.result c.levels.bank (c.as_slice.ensures.value ∙ c.path-path.ensures.value) c.from.ensures)
+            c.in_err-fetch_level.ensures.fault;
+      }
 
 pub returns-in_err-fetch_level-clause-fault : goal.returns-in_err-fetch_level-clause-fault
 returns-in_err-fetch_level-clause-fault g c =
-    fault_handed_on c.from_residual.result c.in_err-fetch_level.field-0.0 _ c.from_residual.ensures.1
-    (fault_of_end (shape_of c.args.geo.now) (g.S.Suite.formulas_of (g.S.Suite.keys c.args.suite.now)) c.args.page c.levels.bank
-    (record { cache = c.args.cache.now; device = g.B.Board.device c.args.board.now; digests = g.S.Suite.digests c.args.suite.now })
-    (record { cache = c.levels.cache; device = g.B.Board.device c.levels.board; digests = g.S.Suite.digests c.levels.suite })
-    (record { cache = c.fetch_level.new.cache; device = g.B.Board.device c.fetch_level.new.board; digests = g.S.Suite.digests c.fetch_level.new.suite })
-    (g.A.Audit.ledger c.args.audit.now) (g.A.Audit.ledger c.levels.audit) (g.A.Audit.ledger c.fetch_level.new.audit) c.in_err-fetch_level.field-0.0 (end_here g c))
+    fault_handed_on c.from_residual.result _ _ c.from_residual.ensures.1 (fault_of_end (end_here g c))
 
 pub returns-in_err-fetch_level-clause-cause : goal.returns-in_err-fetch_level-clause-cause
 returns-in_err-fetch_level-clause-cause g c tree is_true =
-    fault_handed_on c.from_residual.result c.in_err-fetch_level.field-0.0 _ c.from_residual.ensures.1
-    (cause_of_end (shape_of c.args.geo.now) (g.S.Suite.formulas_of (g.S.Suite.keys c.args.suite.now)) c.args.page c.levels.bank
-    (record { cache = c.args.cache.now; device = g.B.Board.device c.args.board.now; digests = g.S.Suite.digests c.args.suite.now })
-    (record { cache = c.levels.cache; device = g.B.Board.device c.levels.board; digests = g.S.Suite.digests c.levels.suite })
-    (record { cache = c.fetch_level.new.cache; device = g.B.Board.device c.fetch_level.new.board; digests = g.S.Suite.digests c.fetch_level.new.suite })
-    (g.A.Audit.ledger c.args.audit.now) (g.A.Audit.ledger c.levels.audit) (g.A.Audit.ledger c.fetch_level.new.audit) c.in_err-fetch_level.field-0.0 (end_here g c)
-    (g.met.S.Suite.in_range c.args.suite.now) (g.met.A.Audit.whole c.args.audit.now) tree is_true)
+    fault_handed_on c.from_residual.result _ _ c.from_residual.ensures.1
+    (cause_of_end (end_here g c) (g.met.S.Suite.in_range c.args.suite.now) (g.met.A.Audit.whole c.args.audit.now) tree is_true)
 
 pub returns-in_err-fetch_level-clause-undisturbed : goal.returns-in_err-fetch_level-clause-undisturbed
-returns-in_err-fetch_level-clause-undisturbed g c cached =
-    undisturbed_fault (shape_of c.args.geo.now) (g.S.Suite.formulas_of (g.S.Suite.keys c.args.suite.now)) c.args.page c.levels.bank
-    (record { cache = c.args.cache.now; device = g.B.Board.device c.args.board.now; digests = g.S.Suite.digests c.args.suite.now })
-    (record { cache = c.levels.cache; device = g.B.Board.device c.levels.board; digests = g.S.Suite.digests c.levels.suite })
-    (record { cache = c.fetch_level.new.cache; device = g.B.Board.device c.fetch_level.new.board; digests = g.S.Suite.digests c.fetch_level.new.suite })
-    (g.A.Audit.ledger c.args.audit.now) (g.A.Audit.ledger c.levels.audit) (g.A.Audit.ledger c.fetch_level.new.audit) c.in_err-fetch_level.field-0.0 (end_here g c) cached
+returns-in_err-fetch_level-clause-undisturbed g c cached = undisturbed_of_end (end_here g c) cached
 
 pub returns-in_err-fetch_level-clause-truth : goal.returns-in_err-fetch_level-clause-truth
-returns-in_err-fetch_level-clause-truth g c =
-    truth_of_end (shape_of c.args.geo.now) (g.S.Suite.formulas_of (g.S.Suite.keys c.args.suite.now)) c.args.page c.levels.bank
-    (record { cache = c.args.cache.now; device = g.B.Board.device c.args.board.now; digests = g.S.Suite.digests c.args.suite.now })
-    (record { cache = c.levels.cache; device = g.B.Board.device c.levels.board; digests = g.S.Suite.digests c.levels.suite })
-    (record { cache = c.fetch_level.new.cache; device = g.B.Board.device c.fetch_level.new.board; digests = g.S.Suite.digests c.fetch_level.new.suite })
-    (g.A.Audit.ledger c.args.audit.now) (g.A.Audit.ledger c.levels.audit) (g.A.Audit.ledger c.fetch_level.new.audit) c.in_err-fetch_level.field-0.0 (end_here g c)
+returns-in_err-fetch_level-clause-truth g c = truth_of_end (end_here g c)
 
 pub returns-in_err-fetch_level-clause-keeps : goal.returns-in_err-fetch_level-clause-keeps
-returns-in_err-fetch_level-clause-keeps g c =
-    keeps_of_end (shape_of c.args.geo.now) (g.S.Suite.formulas_of (g.S.Suite.keys c.args.suite.now)) c.args.page c.levels.bank
-    (record { cache = c.args.cache.now; device = g.B.Board.device c.args.board.now; digests = g.S.Suite.digests c.args.suite.now })
-    (record { cache = c.levels.cache; device = g.B.Board.device c.levels.board; digests = g.S.Suite.digests c.levels.suite })
-    (record { cache = c.fetch_level.new.cache; device = g.B.Board.device c.fetch_level.new.board; digests = g.S.Suite.digests c.fetch_level.new.suite })
-    (g.A.Audit.ledger c.args.audit.now) (g.A.Audit.ledger c.levels.audit) (g.A.Audit.ledger c.fetch_level.new.audit) c.in_err-fetch_level.field-0.0 (end_here g c)
+returns-in_err-fetch_level-clause-keeps g c = keeps_of_end (end_here g c)
 
 pub returns-in_err-fetch_level-clause-dirty_left :
     goal.returns-in_err-fetch_level-clause-dirty_left
 returns-in_err-fetch_level-clause-dirty_left g c is_cut live =
-    dirty_of_end (shape_of c.args.geo.now) (g.S.Suite.formulas_of (g.S.Suite.keys c.args.suite.now)) c.args.page c.levels.bank
-    (record { cache = c.args.cache.now; device = g.B.Board.device c.args.board.now; digests = g.S.Suite.digests c.args.suite.now })
-    (record { cache = c.levels.cache; device = g.B.Board.device c.levels.board; digests = g.S.Suite.digests c.levels.suite })
-    (record { cache = c.fetch_level.new.cache; device = g.B.Board.device c.fetch_level.new.board; digests = g.S.Suite.digests c.fetch_level.new.suite })
-    (g.A.Audit.ledger c.args.audit.now) (g.A.Audit.ledger c.levels.audit) (g.A.Audit.ledger c.fetch_level.new.audit) c.in_err-fetch_level.field-0.0 (end_here g c)
-    (same_fault c.from_residual.result c.in_err-fetch_level.field-0.0 _ c.from_residual.ensures.1 is_cut) live
+    dirty_of_end (end_here g c) (same_fault c.from_residual.result _ _ c.from_residual.ensures.1 is_cut) live
+
+-- ---- one level more, and all
 
 pub levels-preserved : goal.levels-preserved
 levels-preserved g c =
-    let run : IsRun (shape_of c.args.geo.now) (g.S.Suite.formulas_of (g.S.Suite.keys c.args.suite.now)) c.args.page c.levels.bank
-    (record { cache = c.args.cache.now; device = g.B.Board.device c.args.board.now; digests = g.S.Suite.digests c.args.suite.now })
-    (record { cache = c.levels.cache; device = g.B.Board.device c.levels.board; digests = g.S.Suite.digests c.levels.suite })
-    (g.A.Audit.ledger c.args.audit.now) (g.A.Audit.ledger c.levels.audit) =
-    run_of (shape_of c.args.geo.now) (g.S.Suite.formulas_of (g.S.Suite.keys c.args.suite.now)) c.args.page c.levels.bank
-    (record { cache = c.args.cache.now; device = g.B.Board.device c.args.board.now; digests = g.S.Suite.digests c.args.suite.now })
-    (record { cache = c.levels.cache; device = g.B.Board.device c.levels.board; digests = g.S.Suite.digests c.levels.suite })
-    (g.A.Audit.ledger c.args.audit.now) (g.A.Audit.ledger c.levels.audit)
-    (record {
-      its_page = c.requires.page;
-      levels = c.args.geo.now.has_levels;
-      sets = c.args.geo.now.has_sets;
-      ways = c.args.geo.now.has_ways;
-      shape = c.requires.shape;
-      form = c.are_banks.ensures.cache;
-      its_banks = c.requires.banks;
-      told = g.met.B.Board.whole c.args.board.now;
-      its_size = c.requires.size;
-    })
-    (omega (arith, c.levels-test.true, c.levels-bank-end.ensures)) c.levels.invariant.fetched c.levels.invariant.ledger in
-    let next : suc c.levels.bank ≡ c.levels.bank + 1 = omega arith in
     record {
       fetched =
-          subst (λ n. IsFetchedTo (shape_of c.args.geo.now) (g.S.Suite.formulas_of (g.S.Suite.keys c.args.suite.now))
-          (g.A.Audit.ledger c.args.audit.now).truth c.args.page n
-          (record { cache = c.args.cache.now; device = g.B.Board.device c.args.board.now; digests = g.S.Suite.digests c.args.suite.now })
-          (record { cache = c.fetch_level.new.cache; device = g.B.Board.device c.fetch_level.new.board; digests = g.S.Suite.digests c.fetch_level.new.suite })) next
-          (IsFetchedTo-more (shape_of c.args.geo.now) (g.S.Suite.formulas_of (g.S.Suite.keys c.args.suite.now))
-          (g.A.Audit.ledger c.args.audit.now).truth c.args.page c.levels.bank
-          (record { cache = c.args.cache.now; device = g.B.Board.device c.args.board.now; digests = g.S.Suite.digests c.args.suite.now })
-          (record { cache = c.levels.cache; device = g.B.Board.device c.levels.board; digests = g.S.Suite.digests c.levels.suite })
-          (record { cache = c.fetch_level.new.cache; device = g.B.Board.device c.fetch_level.new.board; digests = g.S.Suite.digests c.fetch_level.new.suite })
-          run.of (omega (arith, c.levels-test.true, c.levels-bank-end.ensures)) c.levels.invariant.fetched
-          (subst (λ (ledger : LedgerState). IsLevelFetched (shape_of c.args.geo.now) (g.S.Suite.formulas_of (g.S.Suite.keys c.args.suite.now))
-          ledger.truth c.levels.bank (path_at (shape_of c.args.geo.now) c.args.page c.levels.bank)
-          (record { cache = c.levels.cache; device = g.B.Board.device c.levels.board; digests = g.S.Suite.digests c.levels.suite })
-          (record { cache = c.fetch_level.new.cache; device = g.B.Board.device c.fetch_level.new.board; digests = g.S.Suite.digests c.fetch_level.new.suite })) c.levels.invariant.ledger
+          fetched_next (run_before g (goal.at.levels-preserved g c).After-fetch_level-arg-in-levels-3-1)
+          (omega (arith, c.levels-test.true, c.levels-bank-end.ensures))
+          (subst (λ (ledger : LedgerState). IsLevelFetched (shape_of c.args.geo.now) (formulas g c.args.suite.now) ledger.truth
+          c.levels.bank (path_at (shape_of c.args.geo.now) c.args.page c.levels.bank) (at g c.levels.cache c.levels.board c.levels.suite)
+          (at g c.fetch_level.new.cache c.fetch_level.new.board c.fetch_level.new.suite)) c.levels.invariant.ledger
           (subst₂ (λ (keys : List ℕ) x. IsLevelFetched (shape_of c.args.geo.now) (g.S.Suite.formulas_of keys)
-          (g.A.Audit.ledger c.levels.audit).truth c.levels.bank x
-          (record { cache = c.levels.cache; device = g.B.Board.device c.levels.board; digests = g.S.Suite.digests c.levels.suite })
-          (record { cache = c.fetch_level.new.cache; device = g.B.Board.device c.fetch_level.new.board; digests = g.S.Suite.digests c.fetch_level.new.suite })) c.levels.invariant.keys
+          (g.A.Audit.ledger c.levels.audit).truth c.levels.bank x (at g c.levels.cache c.levels.board c.levels.suite)
+          (at g c.fetch_level.new.cache c.fetch_level.new.board c.fetch_level.new.suite)) c.levels.invariant.keys
           (position_is _ c.as_slice.result.now c.from.result c.levels.bank (c.as_slice.ensures.value ∙ c.path-path.ensures.value) c.from.ensures)
-          c.in_ok-fetch_level.ensures.ok)));
+          c.in_ok-fetch_level.ensures.ok));
       ledger = c.in_ok-fetch_level.ensures.ledger ∙ c.levels.invariant.ledger;
       keys = c.in_ok-fetch_level.ensures.keys ∙ c.levels.invariant.keys;
       pads = c.in_ok-fetch_level.ensures.pads ∙ c.levels.invariant.pads;
@@ -194,10 +122,8 @@ levels-preserved g c =
 
 pub returns-clause-ok : goal.returns-clause-ok
 returns-clause-ok g c =
-    subst (λ n. IsFetchedTo (shape_of c.args.geo.now) (g.S.Suite.formulas_of (g.S.Suite.keys c.args.suite.now))
-    (g.A.Audit.ledger c.args.audit.now).truth c.args.page n
-    (record { cache = c.args.cache.now; device = g.B.Board.device c.args.board.now; digests = g.S.Suite.digests c.args.suite.now })
-    (record { cache = c.levels.cache; device = g.B.Board.device c.levels.board; digests = g.S.Suite.digests c.levels.suite }))
+    subst (λ n. IsFetchedTo (shape_of c.args.geo.now) (formulas g c.args.suite.now) (g.A.Audit.ledger c.args.audit.now).truth
+    c.args.page n (at g c.args.cache.now c.args.board.now c.args.suite.now) (at g c.levels.cache c.levels.board c.levels.suite))
     (all_levels (shape_of c.args.geo.now).levels c.levels.bank c.levels-bank-end.result c.levels-bank-end.ensures
     c.levels.auto.bank-end c.levels-test.false) c.levels.invariant.fetched
 
@@ -208,31 +134,19 @@ returns-clause-cached g c =
 
 pub returns-clause-keeps : goal.returns-clause-keeps
 returns-clause-keeps g c =
-    keeps_of_run (shape_of c.args.geo.now) (g.S.Suite.formulas_of (g.S.Suite.keys c.args.suite.now)) c.args.page c.levels.bank
-    (record { cache = c.args.cache.now; device = g.B.Board.device c.args.board.now; digests = g.S.Suite.digests c.args.suite.now })
-    (record { cache = c.levels.cache; device = g.B.Board.device c.levels.board; digests = g.S.Suite.digests c.levels.suite })
-    (g.A.Audit.ledger c.args.audit.now) (g.A.Audit.ledger c.levels.audit)
-    (run_of (shape_of c.args.geo.now) (g.S.Suite.formulas_of (g.S.Suite.keys c.args.suite.now)) c.args.page c.levels.bank
-    (record { cache = c.args.cache.now; device = g.B.Board.device c.args.board.now; digests = g.S.Suite.digests c.args.suite.now })
-    (record { cache = c.levels.cache; device = g.B.Board.device c.levels.board; digests = g.S.Suite.digests c.levels.suite })
-    (g.A.Audit.ledger c.args.audit.now) (g.A.Audit.ledger c.levels.audit)
-    (record {
-      its_page = c.requires.page;
-      levels = c.args.geo.now.has_levels;
-      sets = c.args.geo.now.has_sets;
-      ways = c.args.geo.now.has_ways;
-      shape = c.requires.shape;
-      form = c.are_banks.ensures.cache;
-      its_banks = c.requires.banks;
-      told = g.met.B.Board.whole c.args.board.now;
-      its_size = c.requires.size;
-    })
-    (omega (arith, c.levels.auto.bank-end, c.levels-bank-end.ensures)) c.levels.invariant.fetched c.levels.invariant.ledger)
+    let run : IsRun (shape_of c.args.geo.now) (formulas g c.args.suite.now) c.args.page c.levels.bank
+    (at g c.args.cache.now c.args.board.now c.args.suite.now) (at g c.levels.cache c.levels.board c.levels.suite)
+    (g.A.Audit.ledger c.args.audit.now) (g.A.Audit.ledger c.levels.audit) =
+    record {
+      start = search (rules, g.met.B.Board.whole);
+      level = omega (arith, c.levels.auto.bank-end, c.levels-bank-end.ensures);
+      fetched = c.levels.invariant.fetched;
+      ledger = c.levels.invariant.ledger;
+    } in
+    keeps_of_run run
 
 pub returns-clause-undisturbed : goal.returns-clause-undisturbed
 returns-clause-undisturbed g c cached =
-    IsUndisturbed-cached (shape_of c.args.geo.now) (g.S.Suite.formulas_of (g.S.Suite.keys c.args.suite.now))
-    (g.A.Audit.ledger c.args.audit.now).truth c.args.page
-    (record { cache = c.args.cache.now; device = g.B.Board.device c.args.board.now; digests = g.S.Suite.digests c.args.suite.now })
-    (record { cache = c.levels.cache; device = g.B.Board.device c.levels.board; digests = g.S.Suite.digests c.levels.suite })
+    IsUndisturbed-cached (shape_of c.args.geo.now) (formulas g c.args.suite.now) (g.A.Audit.ledger c.args.audit.now).truth
+    c.args.page (at g c.args.cache.now c.args.board.now c.args.suite.now) (at g c.levels.cache c.levels.board c.levels.suite)
     cached (returns-clause-ok g c)

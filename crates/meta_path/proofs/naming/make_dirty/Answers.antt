@@ -1,30 +1,43 @@
 -- The levels so far and the next one, whether its entry is written or cut.
-use Rattle.std.proofs.Common.{◌≡◌, suc, ◌+◌, ◌≤◌, subst, ◌∙◌, arith}
+use Rattle.std.proofs.Common.{◌≡◌, ℕ, ◌+◌, ◌<◌, ◌≤◌, subst, ◌∙◌, arith}
+use Rattle.std.specs.Prelude.{slice_index_or}
 use Rattle.pmem_base.specs.Geo.{shape_of}
+use Rattle.pmem_base.specs.Layout.{slots}
 use Rattle.shadow_tables.specs.Naming.{Names}
-use Rattle.meta_path.specs.Blocks.{number_in}
-use Rattle.meta_path.specs.Naming.{IsSlotNamed, IsSlotCut, IsNamedTo}
+use Rattle.meta_path.specs.Blocks.{path_at, number_in}
+use Rattle.meta_path.specs.Naming.{path_number, IsSlotNamed, IsSlotCut, IsNamedTo}
 use Rattle.meta_path.proofs.PathFacts.{position_is, all_levels}
 use Rattle.meta_path.proofs.NameLemmas.{IsNamedTo-more, IsNamingCut-at, on_err, path_number_low, length-naming_writes}
+use Rattle.meta_path.proofs.naming.make_dirty.Given.{Over}
+use Rattle.meta_path.proofs.naming.make_dirty.Goals.{After-from}
 use Rattle.meta_path.proofs.naming.make_dirty.Goals as goal
+
+-- at a level, whose position was read
+module _ (g : Over) (c : After-from g) where
+  le : c.levels.bank ≤ (shape_of c.args.geo.now).levels
+  le = omega (arith, c.levels-test.true, c.levels-bank-end.ensures)
+
+  at : slice_index_or c.as_slice.result.now c.from.result 0 ≡ path_at (shape_of c.args.geo.now) c.args.page c.levels.bank
+  at =
+      position_is _ c.as_slice.result.now c.from.result c.levels.bank (c.as_slice.ensures.value ∙ c.path-path.ensures.value)
+      c.from.ensures
+
+  low : (j : ℕ) → j ≤ c.levels.bank → path_number (shape_of c.args.geo.now) c.args.cache.now.banks c.args.page j < slots (shape_of c.args.geo.now)
+  low j h =
+      path_number_low (shape_of c.args.geo.now) c.args.cache.now c.args.page c.args.geo.now.has_sets.0 c.requires.shape
+      c.are_banks.ensures.cache c.requires.cached j (omega (arith, h, le))
 
 pub returns-in_err-name_level-clause-cut : goal.returns-in_err-name_level-clause-cut
 returns-in_err-name_level-clause-cut g c =
     let shape = shape_of c.args.geo.now in
-    let banks = c.args.cache.now.banks in
-    let le : c.levels.bank ≤ shape.levels = omega (arith, c.levels-test.true, c.levels-bank-end.ensures) in
-    let at = position_is _ c.as_slice.result.now c.from.result c.levels.bank
-    (c.as_slice.ensures.value ∙ c.path-path.ensures.value) c.from.ensures in
+    let place = (goal.at.returns-in_err-name_level-clause-cut g c).After-from in
     on_err c.from_residual.result _
-    (IsNamingCut-at shape banks c.args.page c.levels.bank c.args.mirror.now c.levels.mirror c.name_level.new.mirror
-    (g.B.Board.device c.args.board.now) (g.B.Board.device c.levels.board) (g.B.Board.device c.name_level.new.board) le
-    (λ j h. path_number_low shape c.args.cache.now c.args.page c.args.geo.now.has_sets.0 c.requires.shape c.are_banks.ensures.cache
-    c.requires.cached j (omega (arith, h, le)))
-    c.levels.invariant.named
-    (subst (λ x. Names shape c.levels.mirror c.name_level.new.mirror c.levels.bank (number_in shape banks c.levels.bank x) x) at
-    c.name_level.ensures.names)
-    (subst (λ x. IsSlotCut shape c.levels.bank (number_in shape banks c.levels.bank x) x c.levels.mirror c.name_level.new.mirror
-    (g.B.Board.device c.levels.board) (g.B.Board.device c.name_level.new.board)) at c.in_err-name_level.ensures.cut))
+    (IsNamingCut-at (low g place) c.levels.invariant.named
+    (subst (λ x. Names shape c.levels.mirror c.name_level.new.mirror c.levels.bank (number_in shape c.args.cache.now.banks c.levels.bank x) x)
+    (at g place) c.name_level.ensures.names) (le g place)
+    (subst (λ x. IsSlotCut shape c.levels.bank (number_in shape c.args.cache.now.banks c.levels.bank x) x c.levels.mirror
+    c.name_level.new.mirror (g.B.Board.device c.levels.board) (g.B.Board.device c.name_level.new.board)) (at g place)
+    c.in_err-name_level.ensures.cut))
 
 pub returns-in_err-name_level-clause-one_a_level :
     goal.returns-in_err-name_level-clause-one_a_level
@@ -35,25 +48,15 @@ returns-in_err-name_level-clause-one_a_level g c =
 pub levels-preserved : goal.levels-preserved
 levels-preserved g c =
     let shape = shape_of c.args.geo.now in
-    let banks = c.args.cache.now.banks in
-    let le : c.levels.bank ≤ shape.levels = omega (arith, c.levels-test.true, c.levels-bank-end.ensures) in
-    let at = position_is _ c.as_slice.result.now c.from.result c.levels.bank
-    (c.as_slice.ensures.value ∙ c.path-path.ensures.value) c.from.ensures in
-    let next : suc c.levels.bank ≡ c.levels.bank + 1 = omega arith in
+    let place = (goal.at.levels-preserved g c).After-from in
     record {
       named =
-          subst (λ n. IsNamedTo shape banks c.args.page n c.args.mirror.now c.name_level.new.mirror
-          (g.B.Board.device c.args.board.now) (g.B.Board.device c.name_level.new.board)) next
-          (IsNamedTo-more shape banks c.args.page c.levels.bank c.args.mirror.now c.levels.mirror c.name_level.new.mirror
-          (g.B.Board.device c.args.board.now) (g.B.Board.device c.levels.board) (g.B.Board.device c.name_level.new.board)
-          (λ j h. path_number_low shape c.args.cache.now c.args.page c.args.geo.now.has_sets.0 c.requires.shape
-          c.are_banks.ensures.cache c.requires.cached j (omega (arith, h, le)))
-          c.levels.invariant.named
-          (subst (λ x. Names shape c.levels.mirror c.name_level.new.mirror c.levels.bank (number_in shape banks c.levels.bank x) x) at
-          c.name_level.ensures.names)
-          (subst (λ x. IsSlotNamed shape c.levels.bank (number_in shape banks c.levels.bank x) x c.levels.mirror
-          c.name_level.new.mirror (g.B.Board.device c.levels.board) (g.B.Board.device c.name_level.new.board)) at
-          c.in_ok-name_level.ensures.ok));
+          IsNamedTo-more (low g place) c.levels.invariant.named
+          (subst (λ x. Names shape c.levels.mirror c.name_level.new.mirror c.levels.bank (number_in shape c.args.cache.now.banks c.levels.bank x) x)
+          (at g place) c.name_level.ensures.names)
+          (subst (λ x. IsSlotNamed shape c.levels.bank (number_in shape c.args.cache.now.banks c.levels.bank x) x c.levels.mirror
+          c.name_level.new.mirror (g.B.Board.device c.levels.board) (g.B.Board.device c.name_level.new.board)) (at g place)
+          c.in_ok-name_level.ensures.ok);
       long = c.name_level.ensures.long;
     }
 

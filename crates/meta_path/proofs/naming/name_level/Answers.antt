@@ -5,17 +5,23 @@ use Rattle.shadow_tables.specs.Naming.{Names}
 use Rattle.meta_path.specs.Blocks.{number_in}
 use Rattle.meta_path.specs.Naming.{IsSlotNamed, IsSlotCut}
 use Rattle.meta_path.proofs.NameLemmas.{unnamed, IsSlotNamed-written, IsSlotNamed-already, IsSlotCut-from, on_err, number_is}
+use Rattle.meta_path.proofs.naming.name_level.Given.{Over}
+use Rattle.meta_path.proofs.naming.name_level.Goals.{After-name_slot}
 use Rattle.meta_path.proofs.naming.name_level.Goals as goal
+
+module _ (g : Over) (c : After-name_slot g) where
+  -- the slot's number
+  number : c.slot_of-slot.result ≡ number_in (shape_of c.args.geo.now) c.args.cache.now.banks c.args.bank c.args.x
+  number =
+      sym (number_is (shape_of c.args.geo.now) c.args.cache.now c.args.bank c.args.x c.slot_of-slot.result c.requires.shape
+      c.slot_of-slot.ensures.value)
 
 pub returns-in_err-write_line-clause-cut : goal.returns-in_err-write_line-clause-cut
 returns-in_err-write_line-clause-cut g c =
     let shape = shape_of c.args.geo.now in
-    let cache = c.args.cache.now in
-    let number : number_in shape cache.banks c.args.bank c.args.x ≡ c.slot_of-slot.result =
-    number_is shape cache c.args.bank c.args.x c.slot_of-slot.result c.requires.shape c.slot_of-slot.ensures.value in
     on_err c.from_residual.result _
     (subst (λ n. IsSlotCut shape c.args.bank n c.args.x c.args.mirror.now c.name_slot.new.self
-    (g.B.Board.device c.args.board.now) (g.B.Board.device c.write_line.new.self)) (sym number)
+    (g.B.Board.device c.args.board.now) (g.B.Board.device c.write_line.new.self)) (number g (goal.at.returns-in_err-write_line-clause-cut g c).After-name_slot)
     (IsSlotCut-from shape c.args.bank c.slot_of-slot.result c.args.x c.args.mirror.now c.name_slot.new.self
     (g.B.Board.device c.args.board.now) (g.B.Board.device c.write_line.new.self)
     (unnamed shape c.args.mirror.now c.args.bank c.slot_of-slot.result c.args.x c.name_slot.result _ c.in-Some.is c.name_slot.ensures.already)
@@ -24,19 +30,13 @@ returns-in_err-write_line-clause-cut g c =
 pub returns-in_err-write_line-clause-names : goal.returns-in_err-write_line-clause-names
 returns-in_err-write_line-clause-names g c =
     let shape = shape_of c.args.geo.now in
-    let cache = c.args.cache.now in
-    let number : number_in shape cache.banks c.args.bank c.args.x ≡ c.slot_of-slot.result =
-    number_is shape cache c.args.bank c.args.x c.slot_of-slot.result c.requires.shape c.slot_of-slot.ensures.value in
-    subst (λ n. Names shape c.args.mirror.now c.name_slot.new.self c.args.bank n c.args.x) (sym number) c.name_slot.ensures.names
+    subst (λ n. Names shape c.args.mirror.now c.name_slot.new.self c.args.bank n c.args.x) (number g (goal.at.returns-in_err-write_line-clause-names g c).After-name_slot) c.name_slot.ensures.names
 
 pub returns-in_ok-write_line-clause-ok : goal.returns-in_ok-write_line-clause-ok
 returns-in_ok-write_line-clause-ok g c =
     let shape = shape_of c.args.geo.now in
-    let cache = c.args.cache.now in
-    let number : number_in shape cache.banks c.args.bank c.args.x ≡ c.slot_of-slot.result =
-    number_is shape cache c.args.bank c.args.x c.slot_of-slot.result c.requires.shape c.slot_of-slot.ensures.value in
     subst (λ n. IsSlotNamed shape c.args.bank n c.args.x c.args.mirror.now c.name_slot.new.self
-    (g.B.Board.device c.args.board.now) (g.B.Board.device c.write_line.new.self)) (sym number)
+    (g.B.Board.device c.args.board.now) (g.B.Board.device c.write_line.new.self)) (number g (goal.at.returns-in_ok-write_line-clause-ok g c).After-name_slot)
     (IsSlotNamed-written shape c.args.bank c.slot_of-slot.result c.args.x c.args.mirror.now c.name_slot.new.self
     (g.B.Board.device c.args.board.now) (g.B.Board.device c.write_line.new.self) c.in-Some.at c.in-Some.line
     (unnamed shape c.args.mirror.now c.args.bank c.slot_of-slot.result c.args.x c.name_slot.result _ c.in-Some.is c.name_slot.ensures.already)
@@ -45,19 +45,13 @@ returns-in_ok-write_line-clause-ok g c =
 pub returns-in_ok-write_line-clause-names : goal.returns-in_ok-write_line-clause-names
 returns-in_ok-write_line-clause-names g c =
     let shape = shape_of c.args.geo.now in
-    let cache = c.args.cache.now in
-    let number : number_in shape cache.banks c.args.bank c.args.x ≡ c.slot_of-slot.result =
-    number_is shape cache c.args.bank c.args.x c.slot_of-slot.result c.requires.shape c.slot_of-slot.ensures.value in
-    subst (λ n. Names shape c.args.mirror.now c.name_slot.new.self c.args.bank n c.args.x) (sym number) c.name_slot.ensures.names
+    subst (λ n. Names shape c.args.mirror.now c.name_slot.new.self c.args.bank n c.args.x) (number g (goal.at.returns-in_ok-write_line-clause-names g c).After-name_slot) c.name_slot.ensures.names
 
 pub returns-in_default-clause-ok : goal.returns-in_default-clause-ok
 returns-in_default-clause-ok g c =
     let shape = shape_of c.args.geo.now in
-    let cache = c.args.cache.now in
-    let number : number_in shape cache.banks c.args.bank c.args.x ≡ c.slot_of-slot.result =
-    number_is shape cache c.args.bank c.args.x c.slot_of-slot.result c.requires.shape c.slot_of-slot.ensures.value in
     subst (λ n. IsSlotNamed shape c.args.bank n c.args.x c.args.mirror.now c.name_slot.new.self
-    (g.B.Board.device c.args.board.now) (g.B.Board.device c.args.board.now)) (sym number)
+    (g.B.Board.device c.args.board.now) (g.B.Board.device c.args.board.now)) (number g (goal.at.returns-in_default-clause-ok g c).After-name_slot)
     (IsSlotNamed-already shape c.args.bank c.slot_of-slot.result c.args.x c.args.mirror.now c.name_slot.new.self
     (g.B.Board.device c.args.board.now) (c.in_default.ensures.already.0 refl)
     c.in_default.ensures.same)

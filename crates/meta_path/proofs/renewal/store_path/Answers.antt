@@ -1,5 +1,5 @@
 -- The levels so far and the next one.
-use Rattle.std.proofs.Common.{◌≡◌, ℕ, suc, ◌+◌, ◌-◌, ◌<◌, List, [], take, length, get_or, refl, sym, ap, subst, ◌∙◌, arith}
+use Rattle.std.proofs.Common.{◌≡◌, ℕ, ◌+◌, ◌-◌, ◌<◌, List, [], take, length, get_or, refl, sym, ap, subst, ◌∙◌, arith}
 use Rattle.std.proofs.Math.Seq.{take-length}
 use Rattle.pmem_base.specs.declared.lines.Line.{Line}
 use Rattle.meta_path.specs.Storing.{IsStoredTo, AreTold}
@@ -60,23 +60,17 @@ levels-preserved g c =
     let within : c.levels.bank < length lines =
     omega (arith, c.levels-test.true, ap (λ (xs : List (ℕ × Line)). length xs) c.as_slice-x-items.ensures.value) in
     let entry = ap (λ (xs : List (ℕ × Line)). get_or xs c.levels.bank past) c.as_slice-x-items.ensures.value in
-    let next : suc c.levels.bank ≡ c.levels.bank + 1 = omega arith in
     record {
       stored = λ page path.
-          subst (λ n. IsStoredTo shape page c.args.persisted lines n c.args.cache.now c.store_level.new.cache) next
-          (IsStoredTo-more shape page c.args.persisted lines c.levels.bank c.args.cache.now c.levels.cache c.store_level.new.cache
-          (c.levels.invariant.stored page path)
+          IsStoredTo-more (c.levels.invariant.stored page path)
           (level_stored shape page c.args.persisted lines c.levels.bank
           (get_or c.as_slice-x-items.result.now c.levels.bank past) past c.is_left_dirty-dirty.result c.levels.cache c.store_level.new.cache
           path within (c.levels.invariant.stored page path).shape entry
           (mark_is shape.levels c.levels.bank (c.len-last.result - 1) c.args.persisted c.is_left_dirty-dirty.result
           (omega (arith, c.len-last.ensures.value, length-path_lines shape page lines path)) c.is_left_dirty-dirty.ensures)
-          c.store_level.ensures.cache));
+          c.store_level.ensures.cache);
       told =
-          AreTold-more lines c.levels.bank (get_or c.as_slice-x-items.result.now c.levels.bank past).0
-          (get_or c.as_slice-x-items.result.now c.levels.bank past).1 past (g.A.Audit.ledger c.args.audit.now)
-          (g.A.Audit.ledger c.levels.audit) (g.A.Audit.ledger c.store_level.new.audit) within (sym entry)
-          c.levels.invariant.told c.store_level.ensures.ledger;
+          AreTold-more lines c.levels.bank _ _ past _ _ _ within (sym entry) c.levels.invariant.told c.store_level.ensures.ledger;
     }
 
 pub returns-clause-cache : goal.returns-clause-cache
@@ -95,18 +89,14 @@ returns-clause-cache g c page path =
 
 pub returns-clause-slots : goal.returns-clause-slots
 returns-clause-slots g c page path =
-    KeepsSlots-stored c.args.cache.now.shape page c.args.persisted c.args.path.now.lines.items c.args.cache.now c.levels.cache
-    (record { each = λ bank set. c.are_banks.ensures.cache.each_set bank set }) (returns-clause-cache g c page path)
+    KeepsSlots-stored (returns-clause-cache g c page path) (record { each = c.are_banks.ensures.cache.each_set })
 
 pub returns-clause-cached : goal.returns-clause-cached
 returns-clause-cached g c page cached =
-    IsPathCached-stored c.args.cache.now.shape c.requires.path.page page c.args.persisted c.args.path.now.lines.items c.args.cache.now
-    c.levels.cache (returns-clause-cache g c c.requires.path.page c.requires.path.path) cached
+    IsPathCached-stored (returns-clause-cache g c c.requires.path.page c.requires.path.path) cached
 
 pub returns-clause-banks : goal.returns-clause-banks
-returns-clause-banks g c its =
-    AreInTheirBanks-stored c.args.cache.now.shape c.requires.path.page c.args.persisted c.args.path.now.lines.items
-    c.args.cache.now.banks c.levels.cache.banks (returns-clause-slots g c c.requires.path.page c.requires.path.path) its
+returns-clause-banks g c its = AreInTheirBanks-stored (returns-clause-slots g c c.requires.path.page c.requires.path.path) its
 
 pub returns-clause-shape : goal.returns-clause-shape
 returns-clause-shape g c = (c.levels.invariant.stored c.requires.path.page c.requires.path.path).shape

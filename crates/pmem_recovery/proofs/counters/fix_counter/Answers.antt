@@ -1,4 +1,4 @@
-use Rattle.std.proofs.Common.{ℕ, ◌≡◌, ◌<◌, ◌≤◌, ◌+◌, ◌-◌, ◌*◌, ◌/◌, ◌^◌, ◌++◌, ◌∷◌, [], Bool, List, sym, ap, subst, refl, ◌∙◌, lit<, arith}
+use Rattle.std.proofs.Common.{ℕ, ◌≡◌, ◌<◌, ◌+◌, ◌-◌, ◌*◌, ◌/◌, ◌^◌, ◌++◌, ◌∷◌, [], Bool, List, sym, ap, subst, refl, ◌∙◌, lit<, arith}
 use Rattle.std.proofs.lemmas.Result.{err_from_is_err_and}
 use Rattle.pmem_base.specs.declared.lines.Line.{Line}
 use Rattle.pmem_base.specs.Geo.{shape_of}
@@ -13,11 +13,11 @@ use Rattle.pmem_recovery.specs.Trials.{stored_block}
 use Rattle.pmem_recovery.specs.Fixed.{fixed_block}
 use Rattle.pmem_recovery.specs.Upward.{is_other}
 use Rattle.pmem_recovery.specs.Parts.{setup_of, IsPageRefusal, AreOneTried}
-use Rattle.pmem_recovery.proofs.PartLaws.{HasOnlyRead-read, GoesOn-read, IsCutOff-cut, told-read, told_before, HasWorked-none, HasWorkedAtMost-of, IsStopped-after, IfErr-exit}
+use Rattle.pmem_recovery.proofs.PartLaws.{KeepsDevice-read, IsUncut-read, IsCutOff-cut, told-read, told_before, SuiteWork-none, SuiteWorkAtMost-of, IsStageStopped-after, IfErr-exit}
 use Rattle.pmem_recovery.proofs.counters.fix_counter.Goals as goal
 
 pub returns-in_err-read-clause-at_most : goal.returns-in_err-read-clause-at_most
-returns-in_err-read-clause-at_most g c = HasWorkedAtMost-of 0 0 (64 * c.args.regs.now.loss) 0 _ _ (omega arith) (omega arith) (HasWorked-none _)
+returns-in_err-read-clause-at_most g c = SuiteWorkAtMost-of 0 0 (64 * c.args.regs.now.loss) 0 _ _ (omega arith) (omega arith) (SuiteWork-none _)
 
 pub returns-in_err-read-clause-stopped : goal.returns-in_err-read-clause-stopped
 returns-in_err-read-clause-stopped g c =
@@ -39,7 +39,7 @@ returns-in_err-fixed-clause-stopped g c =
     let fault = c.in_err-fixed.field-0.0 in
     let read = c.in_ok-read.ensures.ok in
     IfErr-exit c.from_residual-in_err-fixed.result fault _ (err_from_is_err_and c.from_residual-in_err-fixed.result c.from_residual-in_err-fixed.ensures.1)
-    (IsStopped-after f f fault _ _ _ _ _ refl (HasOnlyRead-read _ _ _ _ read) (GoesOn-read _ _ _ _ read)
+    (IsStageStopped-after f f fault _ _ _ _ _ refl (KeepsDevice-read _ _ _ _ read) (IsUncut-read _ _ _ _ read)
     (λ lines told w page inside at.
     let its_page = page_is g'.levels c.pages.result c.args.x page c.pages.ensures.value at in
     let its_line : c.in_ok-read.read ≡ stored_meta g' lines c.args.x = told-read _ _ _ _ read lines told ∙ ap (line_at lines) c.meta_line.ensures.value in
@@ -67,7 +67,7 @@ returns-clause-told g c = λ lines told page inside at.
     let its_page = page_is g'.levels c.pages.result c.args.x page c.pages.ensures.value at in
     let its_line : c.in_ok-read.read ≡ stored_meta g' lines c.args.x = told-read _ _ _ _ read lines told ∙ ap (line_at lines) c.meta_line.ensures.value in
     let its_block : c.unpack.result ≡ stored_block g' lines page = c.unpack.ensures.value ∙ ap unpacked its_line ∙ ap (λ z. unpacked (stored_meta g' lines z)) at in
-    let fixed = c.in_ok-fixed.ensures.told lines (told_before _ _ (HasOnlyRead-read _ _ _ _ read) lines told) (its_block ∙ ap (stored_block g' lines) (sym its_page)) in
+    let fixed = c.in_ok-fixed.ensures.told lines (told_before _ _ (KeepsDevice-read _ _ _ _ read) lines told) (its_block ∙ ap (stored_block g' lines) (sym its_page)) in
     let line : c.pack-line.result ≡ packed (fixed_block setup lines c.args.regs.now page) =
     c.pack-line.ensures ∙ ap packed (fixed.0 ∙ ap (fixed_block setup lines c.args.regs.now) its_page) in
     let other : c.is_other.result ≡ is_other (stored_meta g' lines (counter_position g' page)) (packed (fixed_block setup lines c.args.regs.now page)) =

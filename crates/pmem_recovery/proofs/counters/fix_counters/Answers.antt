@@ -1,25 +1,24 @@
-use Rattle.std.proofs.Common.{ℕ, ◌≡◌, ◌<◌, ◌≤◌, ◌+◌, ◌-◌, ◌*◌, ◌^◌, ◌++◌, ◌∷◌, [], true, false, IsTrue, All, List, length, vec_capacity, sym, ap, subst, refl, ◌∙◌, arith}
+use Rattle.std.proofs.Common.{Some, ℕ, ◌≡◌, ◌<◌, ◌≤◌, ◌+◌, ◌-◌, ◌*◌, ◌^◌, ◌++◌, ◌∷◌, [], true, false, IsTrue, List, length, sym, ap, subst, ◌∙◌, arith}
 use Rattle.std.proofs.lemmas.Result.{err_from_is_err_and}
-use Rattle.std.proofs.lemmas.List.{length-append}
-use Rattle.std.proofs.lemmas.List.Elements.{All-append, All-cons, All-nil}
 use Rattle.std.proofs.lemmas.Nat.{mul-le}
 use Rattle.pmem_base.specs.declared.lines.Line.{Line}
 use Rattle.pmem_base.specs.Geo.{shape_of}
-use Rattle.pmem_base.specs.Shape.{Shape}
-use Rattle.pmem_base.specs.Layout.{pages, meta_lines, slots, level_start}
-use Rattle.bonsai_tree.specs.Positions.{counter_position}
+use Rattle.suite.specs.Setup.{Setup}
+use Rattle.pmem_base.specs.Shape.{Shape, is_loss}
+use Rattle.pmem_base.specs.Layout.{pages, meta_lines, slots}
+use Rattle.bonsai_tree.specs.Positions.{level_start, counter_position}
 use Rattle.bonsai_tree.proofs.Levels.{meta_lines-counters}
-use Rattle.pmem_base.specs.Shape.{is_loss}
 use Rattle.stop_loss.proofs.Windows.{is_loss_cases}
 use Rattle.shadow_tables.specs.Entries.{shadow_of}
 use Rattle.pmem_engine.specs.Invariants.{is_named}
-use Rattle.pmem_recovery.specs.declared.entries.Made.{Made}
 use Rattle.pmem_recovery.specs.Named.{names, count_named, IsNextAt}
 use Rattle.pmem_recovery.specs.Upward.{AreMadeTo, block_made}
-use Rattle.pmem_recovery.specs.Parts.{setup_of, HasMade, IsPageRefusal, AreOneTried}
-use Rattle.pmem_recovery.proofs.PartLaws.{HasOnlyRead-then, GoesOn-then, HasWorked-then, HasWorkedAtMost-of, HasWorkedAtMost-after, IsStopped-after, IfErr-exit, IsShape-geo, slots-small, few_in_all, few_and_one, told_before}
-use Rattle.pmem_recovery.proofs.NamedLaws.{count_named-next, count_named-last, count_named-le, count_named-counters}
+use Rattle.pmem_recovery.specs.Parts.{setup_of, IsPageRefusal, AreOneTried}
+use Rattle.pmem_recovery.proofs.PartLaws.{longer, on_tree_more, KeepsDevice-then, IsUncut-then, SuiteWork-then, SuiteWorkAtMost-of, SuiteWorkAtMost-after, IsStageStopped-after, IfErr-exit, IsShape-geo, slots-small, few_in_all, few_and_one, told_before}
+use Rattle.pmem_recovery.proofs.NamedLaws.{count_named-next, count_named-le, count_named-counters}
 use Rattle.pmem_recovery.proofs.CounterSteps.{AreBlocksTo, AreBlocksTo-gap, AreBlocksTo-next, stopped_at}
+use Rattle.pmem_recovery.proofs.counters.fix_counters.Given.{Over}
+use Rattle.pmem_recovery.proofs.counters.fix_counters.Goals.{In-Some}
 use Rattle.pmem_recovery.proofs.counters.fix_counters.Goals as goal
 
 -- the next one has room
@@ -29,17 +28,44 @@ next_fits g shadow n from x e low next most =
     let up = count_named-le g shadow (level_start g.levels) (x + 1) (meta_lines g) (omega (arith, low, next.low)) (omega (arith, next.high)) in
     omega (arith, e, more, up, most)
 
-longer : {n : ℕ} {old new : List Made} → HasMade n old new → length new ≡ length old + 1
-longer {n} {old} {new} m = ap length m.items ∙ length-append old (m.entry ∷ [])
+-- at a named counter block
+module _ (g : Over) (c : In-Some g) where
+  abbrev shape : Shape
+  shape = shape_of c.args.geo.now
+
+  abbrev setup : Setup
+  setup = setup_of c.args.geo.now (g.S.Suite.formulas_of (g.S.Suite.keys c.args.suite.now))
+
+  abbrev page : ℕ
+  page = c.in-Some.x - level_start shape.levels
+
+  next : IsNextAt (names shape c.args.shadow.now) c.positions.from (meta_lines shape) c.in-Some.x
+  next = subst (λ n. IsNextAt (names shape c.args.shadow.now) c.positions.from n c.in-Some.x) c.metas.ensures.value c.in-Some.ensures
+
+  room : length c.positions.made.items < slots shape
+  room =
+      next_fits shape c.args.shadow.now (length c.positions.made.items) c.positions.from c.in-Some.x c.positions.invariant.counted c.positions.invariant.low next
+      (count_named-counters shape c.args.shadow.now (IsShape-geo c.args.geo.now))
+
+  at : c.in-Some.x ≡ counter_position shape page
+  at = omega (arith, c.positions.invariant.low, next.low)
+
+  inside : page < pages shape
+  inside = omega (arith, next.high, meta_lines-counters shape, c.positions.invariant.low, next.low)
+
+  module _ (lines : List Line) (told : (g.B.Board.device c.args.board.now).lines ≡ Some lines) (shadow : c.args.shadow.now ≡ shadow_of shape lines) where
+    named : is_named shape lines (counter_position shape page) ≡ true
+    named = subst (λ z. is_named shape lines z ≡ true) at (subst (λ s. names shape s c.in-Some.x ≡ true) shadow next.passes)
+
+    before : AreBlocksTo setup lines c.args.regs.now page c.positions.made.items
+    before =
+        AreBlocksTo-gap setup lines c.args.regs.now (c.positions.from - level_start shape.levels) page c.positions.made.items (omega (arith, next.low))
+        (λ p from to. subst (λ s. names shape s (counter_position shape p) ≡ false) shadow (next.before (counter_position shape p) (omega (arith, from, c.positions.invariant.low)) (omega (arith, to, at))))
+        (c.positions.invariant.told lines told shadow)
 
 pub fix_counter-requires-clause-room : goal.fix_counter-requires-clause-room
 fix_counter-requires-clause-room g c =
-    let shape = shape_of c.args.geo.now in
-    let inv = c.positions.invariant in
-    let next : IsNextAt (names shape c.args.shadow.now) c.positions.from (meta_lines shape) c.in-Some.x =
-    subst (λ n. IsNextAt (names shape c.args.shadow.now) c.positions.from n c.in-Some.x) c.metas.ensures.value c.in-Some.ensures in
-    let room = next_fits shape c.args.shadow.now (length c.positions.made.items) c.positions.from c.in-Some.x inv.counted inv.low next (count_named-counters shape c.args.shadow.now (IsShape-geo c.args.geo.now)) in
-    omega (arith, room, c.positions.made.ok, inv.capacity, c.requires.room)
+    omega (arith, room g (goal.at.fix_counter-requires-clause-room g c).In-Some, c.positions.made.ok, c.positions.invariant.capacity, c.requires.room)
 
 loss_small : (n : ℕ) → IsTrue (is_loss n) → n ≤ 16
 loss_small n h = let cases = is_loss_cases n h in omega arith
@@ -51,89 +77,58 @@ fits n loss slots h low small =
 
 pub overflow_add-trials : goal.overflow_add-trials
 overflow_add-trials g c =
-    let shape = shape_of c.args.geo.now in
-    let inv = c.positions.invariant in
-    let next : IsNextAt (names shape c.args.shadow.now) c.positions.from (meta_lines shape) c.in-Some.x =
-    subst (λ n. IsNextAt (names shape c.args.shadow.now) c.positions.from n c.in-Some.x) c.metas.ensures.value c.in-Some.ensures in
-    let room = next_fits shape c.args.shadow.now (length c.positions.made.items) c.positions.from c.in-Some.x inv.counted inv.low next (count_named-counters shape c.args.shadow.now (IsShape-geo c.args.geo.now)) in
-    let small = fits (c.positions.trials + c.in_ok-trials.field-0) c.args.regs.now.loss (slots shape)
-    (few_and_one c.positions.trials c.in_ok-trials.field-0 (64 * c.args.regs.now.loss) (length c.positions.made.items) (slots shape) inv.few c.in_ok-trials.ensures.few room)
-    (loss_small c.args.regs.now.loss c.requires.loss) (slots-small shape (IsShape-geo c.args.geo.now)) in
+    let small = fits (c.positions.trials + c.in_ok-trials.field-0) c.args.regs.now.loss (slots (shape_of c.args.geo.now))
+    (few_and_one c.positions.trials c.in_ok-trials.field-0 (64 * c.args.regs.now.loss) (length c.positions.made.items) (slots (shape_of c.args.geo.now)) c.positions.invariant.few
+    c.in_ok-trials.ensures.few (room g (goal.at.overflow_add-trials g c).In-Some))
+    (loss_small c.args.regs.now.loss c.requires.loss) (slots-small (shape_of c.args.geo.now) (IsShape-geo c.args.geo.now)) in
     omega (arith, small)
 
 pub returns-in_err-trials-clause-at_most : goal.returns-in_err-trials-clause-at_most
 returns-in_err-trials-clause-at_most g c =
-    let shape = shape_of c.args.geo.now in
-    let inv = c.positions.invariant in
-    let next : IsNextAt (names shape c.args.shadow.now) c.positions.from (meta_lines shape) c.in-Some.x =
-    subst (λ n. IsNextAt (names shape c.args.shadow.now) c.positions.from n c.in-Some.x) c.metas.ensures.value c.in-Some.ensures in
-    let room = next_fits shape c.args.shadow.now (length c.positions.made.items) c.positions.from c.in-Some.x inv.counted inv.low next (count_named-counters shape c.args.shadow.now (IsShape-geo c.args.geo.now)) in
-    HasWorkedAtMost-after c.positions.trials 0 (64 * c.args.regs.now.loss) 0 (64 * c.args.regs.now.loss * slots shape) 0 _ _ _
-    (few_and_one c.positions.trials (64 * c.args.regs.now.loss) (64 * c.args.regs.now.loss) (length c.positions.made.items) (slots shape) inv.few (omega arith) room)
-    (omega arith) inv.worked c.in_err-trials.ensures.at_most
+    SuiteWorkAtMost-after c.positions.trials 0 (64 * c.args.regs.now.loss) 0 (64 * c.args.regs.now.loss * slots (shape_of c.args.geo.now)) 0 _ _ _
+    (few_and_one c.positions.trials (64 * c.args.regs.now.loss) (64 * c.args.regs.now.loss) (length c.positions.made.items) (slots (shape_of c.args.geo.now)) c.positions.invariant.few (omega arith)
+    (room g (goal.at.returns-in_err-trials-clause-at_most g c).In-Some))
+    (omega arith) c.positions.invariant.worked c.in_err-trials.ensures.at_most
 
 pub returns-in_err-trials-clause-stopped : goal.returns-in_err-trials-clause-stopped
 returns-in_err-trials-clause-stopped g c =
-    let shape = shape_of c.args.geo.now in
+    let place = (goal.at.returns-in_err-trials-clause-stopped g c).In-Some in
     let inv = c.positions.invariant in
     let fault = c.in_err-trials.field-0.0 in
-    let start = level_start shape.levels in
-    let next : IsNextAt (names shape c.args.shadow.now) c.positions.from (meta_lines shape) c.in-Some.x =
-    subst (λ n. IsNextAt (names shape c.args.shadow.now) c.positions.from n c.in-Some.x) c.metas.ensures.value c.in-Some.ensures in
     IfErr-exit c.from_residual.result fault _ (err_from_is_err_and c.from_residual.result c.from_residual.ensures.1)
-    (IsStopped-after _ (g.S.Suite.formulas_of (g.S.Suite.keys c.args.suite.now)) fault _ _ _ _ _ (ap (λ keys. g.S.Suite.formulas_of keys) inv.worked.keys) inv.read inv.goes
+    (IsStageStopped-after _ (g.S.Suite.formulas_of (g.S.Suite.keys c.args.suite.now)) fault _ _ _ _ _ (ap (λ keys. g.S.Suite.formulas_of keys) inv.worked.keys) inv.read inv.goes
     (λ lines told w shadow.
-    let setup = setup_of c.args.geo.now (g.S.Suite.formulas_of (g.S.Suite.keys c.args.suite.now)) in
-    let page : ℕ = c.in-Some.x - start in
-    let at : c.in-Some.x ≡ counter_position shape page = omega (arith, inv.low, next.low) in
-    let inside : page < pages shape = omega (arith, next.high, meta_lines-counters shape, inv.low, next.low) in
-    let named : is_named shape lines (counter_position shape page) ≡ true =
-    subst (λ z. is_named shape lines z ≡ true) at (subst (λ s. names shape s c.in-Some.x ≡ true) shadow next.passes) in
-    let before = AreBlocksTo-gap setup lines c.args.regs.now (c.positions.from - start) page c.positions.made.items (omega (arith, next.low))
-    (λ p from to. subst (λ s. names shape s (counter_position shape p) ≡ false) shadow (next.before (counter_position shape p) (omega (arith, from, inv.low)) (omega (arith, to, at))))
-    (inv.told lines told shadow) in
-    stopped_at setup lines c.args.regs.now page fault inside named before.decided
-    (subst (λ keys. IsPageRefusal (setup_of c.args.geo.now (g.S.Suite.formulas_of keys)) lines c.args.regs.now page fault) inv.worked.keys (w page inside at)))
+    stopped_at (setup g place) lines c.args.regs.now (page g place) fault (inside g place) (named g place lines told shadow) (before g place lines told shadow).decided
+    (subst (λ keys. IsPageRefusal (setup_of c.args.geo.now (g.S.Suite.formulas_of keys)) lines c.args.regs.now (page g place) fault) inv.worked.keys (w (page g place) (inside g place) (at g place))))
     c.in_err-trials.ensures.stopped)
 
 pub positions-preserved : goal.positions-preserved
 positions-preserved g c =
-    let shape = shape_of c.args.geo.now in
+    let place = (goal.at.positions-preserved g c).In-Some in
+    let its_shape = shape_of c.args.geo.now in
     let inv = c.positions.invariant in
     let ok = c.in_ok-trials.ensures in
-    let start = level_start shape.levels in
-    let next : IsNextAt (names shape c.args.shadow.now) c.positions.from (meta_lines shape) c.in-Some.x =
-    subst (λ n. IsNextAt (names shape c.args.shadow.now) c.positions.from n c.in-Some.x) c.metas.ensures.value c.in-Some.ensures in
+    let its_next = next g place in
     record {
-      read = HasOnlyRead-then _ _ _ inv.read ok.read;
-      goes = GoesOn-then _ _ _ inv.goes ok.goes;
-      low = omega (arith, inv.low, next.low);
-      high = omega (arith, next.high);
-      counted = longer ok.made ∙ ap (λ n. n + 1) inv.counted ∙ sym (count_named-next shape c.args.shadow.now start c.positions.from (meta_lines shape) c.in-Some.x inv.low next);
-      worked = HasWorked-then c.positions.trials 0 c.in_ok-trials.field-0 0 _ _ _ inv.worked ok.worked;
+      read = KeepsDevice-then _ _ _ inv.read ok.read;
+      goes = IsUncut-then _ _ _ inv.goes ok.goes;
+      low = omega (arith, inv.low, its_next.low);
+      high = omega (arith, its_next.high);
+      counted = longer ok.made ∙ ap (λ n. n + 1) inv.counted ∙ sym (count_named-next its_shape c.args.shadow.now (level_start its_shape.levels) c.positions.from (meta_lines its_shape) c.in-Some.x inv.low its_next);
+      worked = SuiteWork-then c.positions.trials 0 c.in_ok-trials.field-0 0 _ _ _ inv.worked ok.worked;
       few = subst (λ n. c.positions.trials + c.in_ok-trials.field-0 ≤ n * (64 * c.args.regs.now.loss)) (sym (longer ok.made)) (one_more c.positions.trials c.in_ok-trials.field-0 (64 * c.args.regs.now.loss) (length c.positions.made.items) inv.few ok.few);
-      on_tree =
-          subst (λ made. All (λ entry. entry.at < meta_lines shape) made) (sym ok.made.items)
-          (All-append (λ entry. entry.at < meta_lines shape) c.positions.made.items (ok.made.entry ∷ []) inv.on_tree
-          (All-cons (λ entry. entry.at < meta_lines shape) ok.made.entry [] (omega (arith, ok.made.at, next.high)) (All-nil (λ entry. entry.at < meta_lines shape))));
+      on_tree = on_tree_more its_shape ok.made (omega (arith, its_next.high)) inv.on_tree;
       capacity = ok.capacity ∙ inv.capacity;
       told = λ lines told shadow.
-          let setup = setup_of c.args.geo.now (g.S.Suite.formulas_of (g.S.Suite.keys c.args.suite.now)) in
-          let page : ℕ = c.in-Some.x - start in
-          let at : c.in-Some.x ≡ counter_position shape page = omega (arith, inv.low, next.low) in
-          let inside : page < pages shape = omega (arith, next.high, meta_lines-counters shape, inv.low, next.low) in
-          let named : is_named shape lines (counter_position shape page) ≡ true =
-          subst (λ z. is_named shape lines z ≡ true) at (subst (λ s. names shape s c.in-Some.x ≡ true) shadow next.passes) in
-          let before = AreBlocksTo-gap setup lines c.args.regs.now (c.positions.from - start) page c.positions.made.items (omega (arith, next.low))
-          (λ p from to. subst (λ s. names shape s (counter_position shape p) ≡ false) shadow (next.before (counter_position shape p) (omega (arith, from, inv.low)) (omega (arith, to, at))))
-          (inv.told lines told shadow) in
-          let made : (c.fix_counter.new.made.items ≡ c.positions.made.items ++ block_made setup lines c.args.regs.now page ∷ []) × AreOneTried setup lines c.args.regs.now page =
-          subst (λ keys. (c.fix_counter.new.made.items ≡ c.positions.made.items ++ block_made (setup_of c.args.geo.now (g.S.Suite.formulas_of keys)) lines c.args.regs.now page ∷ []) × AreOneTried (setup_of c.args.geo.now (g.S.Suite.formulas_of keys)) lines c.args.regs.now page) inv.worked.keys
-          (ok.told lines (told_before _ _ inv.read lines told) page inside at) in
-          let up : page + 1 ≡ c.in-Some.x + 1 - start = omega (arith, inv.low, next.low) in
-          subst (λ p. AreBlocksTo setup lines c.args.regs.now p c.fix_counter.new.made.items) up
-          (subst (AreBlocksTo setup lines c.args.regs.now (page + 1)) (sym made.0)
-          (AreBlocksTo-next setup lines c.args.regs.now page c.positions.made.items (IsShape-geo c.args.geo.now) inside named made.1 before));
+          let made : (c.fix_counter.new.made.items ≡ c.positions.made.items ++ block_made (setup g place) lines c.args.regs.now (page g place) ∷ []) × AreOneTried (setup g place) lines c.args.regs.now (page g place) =
+          subst (λ keys. (c.fix_counter.new.made.items ≡ c.positions.made.items ++ block_made (setup_of c.args.geo.now (g.S.Suite.formulas_of keys)) lines c.args.regs.now (page g place) ∷ [])
+          × AreOneTried (setup_of c.args.geo.now (g.S.Suite.formulas_of keys)) lines c.args.regs.now (page g place)) inv.worked.keys
+          (ok.told lines (told_before _ _ inv.read lines told) (page g place) (inside g place) (at g place)) in
+          let up : page g place + 1 ≡ c.in-Some.x + 1 - level_start its_shape.levels = omega (arith, inv.low, its_next.low) in
+          subst (λ p. AreBlocksTo (setup g place) lines c.args.regs.now p c.fix_counter.new.made.items) up
+          (subst (AreBlocksTo (setup g place) lines c.args.regs.now (page g place + 1)) (sym made.0)
+          (AreBlocksTo-next (setup g place) lines c.args.regs.now (page g place) c.positions.made.items (IsShape-geo c.args.geo.now) (inside g place)
+          (named g place lines told shadow) made.1 (before g place lines told shadow)));
     }
   where
     one_more : (done more each few : ℕ) → done ≤ few * each → more ≤ each → done + more ≤ (few + 1) * each
@@ -155,7 +150,7 @@ returns-clause-few_trials g c =
 
 pub returns-clause-at_most : goal.returns-clause-at_most
 returns-clause-at_most g c =
-    HasWorkedAtMost-of c.positions.trials 0 (64 * c.args.regs.now.loss * slots (shape_of c.args.geo.now)) 0 _ _ (returns-clause-few_trials g c) (omega arith) c.positions.invariant.worked
+    SuiteWorkAtMost-of c.positions.trials 0 (64 * c.args.regs.now.loss * slots (shape_of c.args.geo.now)) 0 _ _ (returns-clause-few_trials g c) (omega arith) c.positions.invariant.worked
 
 pub returns-clause-told : goal.returns-clause-told
 returns-clause-told g c = λ lines told shadow.

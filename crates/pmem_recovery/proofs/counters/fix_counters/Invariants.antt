@@ -3,7 +3,7 @@ use Rattle.pmem_base.specs.Geo.{shape_of}
 use Rattle.pmem_base.specs.Layout.{meta_lines, level_start}
 use Rattle.shadow_tables.specs.Entries.{shadow_of}
 use Rattle.pmem_recovery.specs.Named.{count_named}
-use Rattle.pmem_recovery.specs.Parts.{setup_of, Told, HasOnlyRead, GoesOn, suite_state, HasWorked}
+use Rattle.pmem_recovery.specs.Parts.{setup_of, Told, KeepsDevice, IsUncut, suite_state, SuiteWork}
 use Rattle.pmem_recovery.proofs.CounterSteps.{AreBlocksTo}
 use Rattle.pmem_recovery.proofs.counters.fix_counters.Given as goal
 
@@ -13,12 +13,12 @@ invariant-positions g l =
     let now = g.B.Board.device l.board in
     let shape = shape_of l.geo in
     record {
-      read : HasOnlyRead start now;
-      goes : GoesOn start now;
+      read : KeepsDevice start now;
+      goes : IsUncut start now;
       low : level_start shape.levels ≤ l.from;
       high : l.from ≤ meta_lines shape;
       counted : length l.made.items ≡ count_named shape l.shadow (level_start shape.levels) l.from;
-      worked : HasWorked l.trials 0
+      worked : SuiteWork l.trials 0
           (suite_state (g.S.Suite.keys l.initial.suite) (g.S.Suite.pads l.initial.suite) (g.S.Suite.tags l.initial.suite) (g.S.Suite.digests l.initial.suite))
           (suite_state (g.S.Suite.keys l.suite) (g.S.Suite.pads l.suite) (g.S.Suite.tags l.suite) (g.S.Suite.digests l.suite));
       few : l.trials ≤ length l.made.items * (64 * l.regs.loss);

@@ -2,23 +2,21 @@ use Rattle.std.proofs.Common.{ℕ, ◌≡◌, ◌<◌, ◌≤◌, ◌+◌, ◌*�
 use Rattle.std.proofs.lemmas.Result.{err_from_is_err_and}
 use Rattle.std.proofs.lemmas.List.{length-set}
 use Rattle.std.proofs.lemmas.List.Elements.{All-set}
-use Rattle.pmem_base.specs.declared.lines.Line.{Line}
 use Rattle.pmem_base.specs.Geo.{shape_of}
-use Rattle.pmem_base.specs.Layout.{pages}
 use Rattle.pmem_base.proofs.LayoutLemmas.{pages-most}
 use Rattle.suite.specs.Setup.{Setup}
 use Rattle.pmem_recovery.specs.Trials.{stored_block, tried_minors}
 use Rattle.pmem_recovery.specs.Parts.{setup_of, IsLineRefusal}
-use Rattle.pmem_recovery.proofs.PartLaws.{HasOnlyRead-none, HasOnlyRead-then, GoesOn-none, GoesOn-then, HasWorked-none, HasWorked-then, HasWorkedAtMost-of, HasWorkedAtMost-after, IsStopped-after, IfErr-exit, told_before}
+use Rattle.pmem_recovery.proofs.PartLaws.{KeepsDevice-none, KeepsDevice-then, IsUncut-none, IsUncut-then, SuiteWork-none, SuiteWork-then, SuiteWorkAtMost-after, IsStageStopped-after, IfErr-exit, told_before}
 use Rattle.pmem_recovery.proofs.TryLaws.{page_of-line, minors_more, fixed_block_is}
 use Rattle.pmem_recovery.proofs.counters.fix_minors.Goals as goal
 
 pub lines-init : goal.lines-init
 lines-init g c =
     record {
-      read = HasOnlyRead-none _;
-      goes = GoesOn-none _;
-      worked = HasWorked-none _;
+      read = KeepsDevice-none _;
+      goes = IsUncut-none _;
+      worked = SuiteWork-none _;
       few = omega arith;
       major = refl;
       long = c.requires.block.count;
@@ -35,7 +33,7 @@ overflow_add-at g c =
 
 pub returns-in_err-minor-clause-at_most : goal.returns-in_err-minor-clause-at_most
 returns-in_err-minor-clause-at_most g c =
-    HasWorkedAtMost-after c.lines.trials 0 c.args.regs.now.loss 0 (64 * c.args.regs.now.loss) 0 _ _ _
+    SuiteWorkAtMost-after c.lines.trials 0 c.args.regs.now.loss 0 (64 * c.args.regs.now.loss) 0 _ _ _
     (bound c.lines.trials c.lines.i c.args.regs.now.loss c.lines.invariant.few c.lines-test.true) (omega arith) c.lines.invariant.worked c.in_err-minor.ensures.at_most
   where
     bound : (trials i loss : ℕ) → trials ≤ i * loss → i < 64 → trials + loss ≤ 64 * loss
@@ -50,7 +48,7 @@ returns-in_err-minor-clause-stopped g c =
     let fault = c.in_err-minor.field-0.0 in
     let place : c.from.result ≡ c.lines.i = c.from.ensures in
     IfErr-exit c.from_residual.result fault _ (err_from_is_err_and c.from_residual.result c.from_residual.ensures.1)
-    (IsStopped-after _ (formulas (g.S.Suite.keys c.args.suite.now)) fault _ _ _ _ _ (ap formulas inv.worked.keys) inv.read inv.goes
+    (IsStageStopped-after _ (formulas (g.S.Suite.keys c.args.suite.now)) fault _ _ _ _ _ (ap formulas inv.worked.keys) inv.read inv.goes
     (λ lines told w block.
     let at_page = page_of-line c.args.page c.from.result (omega (arith, place, c.lines-test.true)) in
     let here = w (block ∙ ap (stored_block (shape_of c.args.geo.now) lines) (sym at_page)) in
@@ -72,9 +70,9 @@ lines-preserved g c =
     let place : c.from.result ≡ c.lines.i = c.from.ensures in
     let same_place : c.from-in-lines.result ≡ c.lines.i = c.from-in-lines.ensures in
     record {
-      read = HasOnlyRead-then _ _ _ inv.read ok.read;
-      goes = GoesOn-then _ _ _ inv.goes ok.goes;
-      worked = HasWorked-then c.lines.trials 0 c.in_ok-minor.tries 0 _ _ _ inv.worked ok.worked;
+      read = KeepsDevice-then _ _ _ inv.read ok.read;
+      goes = IsUncut-then _ _ _ inv.goes ok.goes;
+      worked = SuiteWork-then c.lines.trials 0 c.in_ok-minor.tries 0 _ _ _ inv.worked ok.worked;
       few = bound c.lines.trials c.in_ok-minor.tries c.lines.i c.args.regs.now.loss inv.few ok.few;
       major = inv.major;
       long = length-set c.lines.fixed.minors c.from-in-lines.result c.in_ok-minor.minor ∙ inv.long;

@@ -1,7 +1,7 @@
 use Rattle.std.proofs.Common.{ℕ, ◌≡◌, ◌<◌, ◌≤◌, ◌+◌, ◌*◌, ◌∷◌, [], All, length, get_or}
 use Rattle.pmem_base.specs.Geo.{shape_of}
 use Rattle.pmem_recovery.specs.Trials.{stored_block, tried_minors}
-use Rattle.pmem_recovery.specs.Parts.{setup_of, Told, HasOnlyRead, GoesOn, suite_state, HasWorked}
+use Rattle.pmem_recovery.specs.Parts.{setup_of, Told, KeepsDevice, IsUncut, suite_state, SuiteWork}
 use Rattle.pmem_recovery.proofs.counters.fix_minors.Given as goal
 
 abbrev pub invariant-lines : goal.invariant-lines
@@ -10,9 +10,9 @@ invariant-lines g l =
     let now = g.B.Board.device l.board in
     let setup = setup_of l.geo (g.S.Suite.formulas_of (g.S.Suite.keys l.initial.suite)) in
     record {
-      read : HasOnlyRead start now;
-      goes : GoesOn start now;
-      worked : HasWorked l.trials 0
+      read : KeepsDevice start now;
+      goes : IsUncut start now;
+      worked : SuiteWork l.trials 0
           (suite_state (g.S.Suite.keys l.initial.suite) (g.S.Suite.pads l.initial.suite) (g.S.Suite.tags l.initial.suite) (g.S.Suite.digests l.initial.suite))
           (suite_state (g.S.Suite.keys l.suite) (g.S.Suite.pads l.suite) (g.S.Suite.tags l.suite) (g.S.Suite.digests l.suite));
       few : l.trials ≤ l.i * l.regs.loss;

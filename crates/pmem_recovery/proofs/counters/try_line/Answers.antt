@@ -3,23 +3,23 @@ use Rattle.std.proofs.lemmas.List.FromFn.{length-range_with_len}
 use Rattle.std.proofs.lemmas.Result.{err_from_is_err_and}
 use Rattle.page_reencrypt.specs.Registers.{register_held}
 use Rattle.stop_loss.specs.Windows.{minors_within, window_minors}
-use Rattle.pmem_recovery.specs.Parts.{setup_of, suite_state, HasWorked}
-use Rattle.pmem_recovery.proofs.PartLaws.{HasWorked-none, HasWorkedAtMost-of, IfErr-exit}
+use Rattle.pmem_recovery.specs.Parts.{setup_of, suite_state, SuiteWork}
+use Rattle.pmem_recovery.proofs.PartLaws.{SuiteWork-none, SuiteWorkAtMost-of, IfErr-exit}
 use Rattle.pmem_recovery.proofs.TryLaws.{tried_is, refusal_is, shown_undecided, stops_undecided, none_left, length-window_minors}
 use Rattle.pmem_recovery.proofs.counters.try_line.Goals as goal
 
 pub returns-then-is_left-clause-at_most : goal.returns-then-is_left-clause-at_most
-returns-then-is_left-clause-at_most g c = HasWorkedAtMost-of 0 0 c.args.regs.now.loss 0 _ _ (omega arith) (omega arith) (HasWorked-none _)
+returns-then-is_left-clause-at_most g c = SuiteWorkAtMost-of 0 0 c.args.regs.now.loss 0 _ _ (omega arith) (omega arith) (SuiteWork-none _)
 
 pub returns-in_err-cipher-clause-at_most : goal.returns-in_err-cipher-clause-at_most
-returns-in_err-cipher-clause-at_most g c = HasWorkedAtMost-of 0 0 c.args.regs.now.loss 0 _ _ (omega arith) (omega arith) (HasWorked-none _)
+returns-in_err-cipher-clause-at_most g c = SuiteWorkAtMost-of 0 0 c.args.regs.now.loss 0 _ _ (omega arith) (omega arith) (SuiteWork-none _)
 
 few : (stored loss first last : ℕ) → minors_within first last ≡ window_minors stored loss → length (minors_within first last) ≤ loss
 few stored loss first last e = subst (λ l. length l ≤ loss) (sym e) (length-window_minors stored loss)
 
 pub returns-in_err-found-clause-at_most : goal.returns-in_err-found-clause-at_most
 returns-in_err-found-clause-at_most g c =
-    HasWorkedAtMost-of _ 0 c.args.regs.now.loss 0 _ _ (few _ c.args.regs.now.loss _ _ c.window-ends.ensures.minors) (omega arith) c.in_err-found.ensures.worked
+    SuiteWorkAtMost-of _ 0 c.args.regs.now.loss 0 _ _ (few _ c.args.regs.now.loss _ _ c.window-ends.ensures.minors) (omega arith) c.in_err-found.ensures.worked
 
 pub returns-in_err-found-clause-stopped : goal.returns-in_err-found-clause-stopped
 returns-in_err-found-clause-stopped g c =
@@ -47,11 +47,11 @@ pub returns-clause-worked : goal.returns-clause-worked
 returns-clause-worked g c =
     let same : length (minors_within c.window-ends.result.0 c.window-ends.result.1) ≡ c.from.result + 1 - c.from-2.result =
     width c.window-ends.result.0 c.window-ends.result.1 ∙ omega (arith, c.from.ensures, c.from-2.ensures) in
-    subst (λ n. HasWorked n 0 (suite_state (g.S.Suite.keys c.args.suite.now) (g.S.Suite.pads c.args.suite.now) (g.S.Suite.tags c.args.suite.now) (g.S.Suite.digests c.args.suite.now)) (suite_state (g.S.Suite.keys c.try_window.new.suite) (g.S.Suite.pads c.try_window.new.suite) (g.S.Suite.tags c.try_window.new.suite) (g.S.Suite.digests c.try_window.new.suite))) same c.in_ok-found.ensures.worked
+    subst (λ n. SuiteWork n 0 (suite_state (g.S.Suite.keys c.args.suite.now) (g.S.Suite.pads c.args.suite.now) (g.S.Suite.tags c.args.suite.now) (g.S.Suite.digests c.args.suite.now)) (suite_state (g.S.Suite.keys c.try_window.new.suite) (g.S.Suite.pads c.try_window.new.suite) (g.S.Suite.tags c.try_window.new.suite) (g.S.Suite.digests c.try_window.new.suite))) same c.in_ok-found.ensures.worked
 
 pub returns-clause-at_most : goal.returns-clause-at_most
 returns-clause-at_most g c =
-    HasWorkedAtMost-of _ 0 c.args.regs.now.loss 0 _ _ (few _ c.args.regs.now.loss _ _ c.window-ends.ensures.minors) (omega arith) c.in_ok-found.ensures.worked
+    SuiteWorkAtMost-of _ 0 c.args.regs.now.loss 0 _ _ (few _ c.args.regs.now.loss _ _ c.window-ends.ensures.minors) (omega arith) c.in_ok-found.ensures.worked
 
 pub returns-clause-told : goal.returns-clause-told
 returns-clause-told g c = λ lines told its_block.

@@ -1,6 +1,5 @@
-use Rattle.std.proofs.Common.{ℕ, ◌≡◌, ◌<◌, All, length}
+use Rattle.std.proofs.Common.{ℕ, ◌≡◌, ◌<◌, All}
 use Rattle.pmem_base.specs.Geo.{shape_of}
-use Rattle.pmem_base.specs.Layout.{meta_lines}
 use Rattle.pmem_base.specs.Lines.{IsLine, line_at}
 use Rattle.bonsai_tree.specs.Positions.{counter_position}
 use Rattle.split_counters.specs.Blocks.{packed}

@@ -1,8 +1,8 @@
-use Rattle.std.proofs.Common.{ℕ, ◌≡◌, ◌<◌, ◌≤◌, ◌-◌, ◌*◌, ◌/◌, ◌^◌, List, [], length, refl, ap, sym, subst, ◌∙◌, arith}
+use Rattle.std.proofs.Common.{ℕ, ◌≡◌, ◌<◌, ◌≤◌, ◌-◌, List, [], refl, subst, ◌∙◌, arith}
 use Rattle.std.proofs.lemmas.List.{get_or_default}
 use Rattle.pmem_base.specs.Shape.{Shape}
 use Rattle.pmem_base.specs.Geo.{shape_of}
-use Rattle.pmem_base.specs.Layout.{meta_lines, data_lines, pages, level_start}
+use Rattle.pmem_base.specs.Layout.{meta_lines, data_lines}
 use Rattle.pmem_base.proofs.LayoutLemmas.{pages-least}
 use Rattle.bonsai_tree.specs.Positions.{counter_position}
 use Rattle.bonsai_tree.proofs.Levels.{meta_lines-counters}
@@ -14,7 +14,7 @@ use Rattle.pmem_engine.specs.Mendable.{new_engine}
 use Rattle.pmem_recovery.specs.Parts.{setup_of}
 use Rattle.pmem_recovery.specs.Formatting.{first_regs}
 use Rattle.pmem_recovery.proofs.PartLaws.{IsShape-geo}
-use Rattle.pmem_recovery.proofs.FormattedLaws.{IsFirstTruth, HasFormatted-of}
+use Rattle.pmem_recovery.proofs.FormattedLaws.{HasFormatted-of}
 use Rattle.pmem_recovery.proofs.formatting.fill_device.Goals as goal
 
 -- the tree has a top line

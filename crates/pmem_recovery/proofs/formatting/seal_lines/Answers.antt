@@ -1,9 +1,7 @@
-use Rattle.std.proofs.Common.{ℕ, ◌≡◌, ◌+◌, ◌*◌, List, Some, length, sym, subst, ◌∙◌, arith}
-use Rattle.pmem_base.specs.Geo.{shape_of}
-use Rattle.pmem_base.proofs.LayoutLemmas.{pages-most}
+use Rattle.std.proofs.Common.{ℕ, ◌≡◌, ◌+◌, ◌*◌, List, subst, ◌∙◌, arith}
 use Rattle.suite.specs.Formulas.{Formulas}
 use Rattle.pmem_recovery.specs.Parts.{setup_of}
-use Rattle.pmem_recovery.specs.Formatting.{HasSealedFrom, HasSealedGroup, HasSealedAll}
+use Rattle.pmem_recovery.specs.Formatting.{HasSealedFrom, HasSealedGroup}
 use Rattle.pmem_recovery.proofs.FormatSteps.{told_long, StaysSteady-then, HasSealedFrom-then, HasSealedAll-more}
 use Rattle.pmem_recovery.proofs.formatting.seal_lines.Goals as goal
 

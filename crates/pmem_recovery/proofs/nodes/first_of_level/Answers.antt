@@ -1,4 +1,4 @@
-use Rattle.std.proofs.Common.{◌≡◌, ◌≤◌, ◌<◌, ◌^◌, arith}
+use Rattle.std.proofs.Common.{arith}
 use Rattle.std.proofs.Math.Nat.{one-le-pow}
 use Rattle.pmem_base.proofs.LayoutLemmas.{pages-most}
 use Rattle.pmem_recovery.proofs.nodes.first_of_level.Goals as goal

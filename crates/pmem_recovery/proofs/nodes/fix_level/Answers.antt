@@ -1,29 +1,24 @@
-use Rattle.std.proofs.Common.{ℕ, suc, ◌≡◌, ◌<◌, ◌≤◌, ◌+◌, ◌-◌, ◌*◌, ◌^◌, ◌++◌, ◌∷◌, [], All, List, length, vec_capacity, sym, ap, subst, false, ◌∙◌, add-one, arith}
-use Rattle.std.proofs.lemmas.List.{length-append}
-use Rattle.std.proofs.lemmas.List.Elements.{All-append, All-cons, All-nil}
+use Rattle.std.proofs.Common.{ℕ, suc, ◌≡◌, ◌<◌, ◌≤◌, ◌+◌, ◌-◌, ◌++◌, ◌∷◌, [], List, sym, ap, subst, false, ◌∙◌, add-one, arith}
 use Rattle.pmem_base.specs.declared.lines.Line.{Line}
 use Rattle.pmem_base.specs.declared.geometry.Geo.{Geo}
 use Rattle.pmem_base.specs.Geo.{shape_of}
 use Rattle.pmem_base.specs.Shape.{Shape}
-use Rattle.pmem_base.specs.Layout.{meta_lines, level_start}
+use Rattle.bonsai_tree.specs.Positions.{level_start}
 use Rattle.bonsai_tree.proofs.Levels.{level_start-le, meta_lines-counters}
-use Rattle.shadow_tables.specs.Entries.{shadow_of}
-use Rattle.pmem_recovery.specs.declared.entries.Made.{Made}
 use Rattle.pmem_recovery.specs.Named.{names, count_named, IsNextAt}
 use Rattle.pmem_recovery.specs.Upward.{AreMadeTo, node_made}
-use Rattle.pmem_recovery.specs.Parts.{setup_of, HasMade}
-use Rattle.pmem_recovery.proofs.PartLaws.{HasOnlyRead-then, GoesOn-then, HasWorked-then, HasWorkedAtMost-of, HasWorkedAtMost-after, IsShape-geo, told_before}
+use Rattle.pmem_recovery.specs.Parts.{setup_of}
+use Rattle.pmem_recovery.proofs.PartLaws.{longer, on_tree_more, KeepsDevice-then, IsUncut-then, SuiteWork-then, SuiteWorkAtMost-of, SuiteWorkAtMost-after, IsShape-geo, told_before}
 use Rattle.pmem_recovery.proofs.NamedLaws.{count_named-next, count_named-last, count_named-le, count_named-small}
 use Rattle.pmem_recovery.proofs.UpwardSteps.{AreMadeTo-upto}
 use Rattle.pmem_recovery.proofs.NodeSteps.{AreMadeTo-next_node}
+use Rattle.pmem_recovery.proofs.nodes.fix_level.Given.{Over}
+use Rattle.pmem_recovery.proofs.nodes.fix_level.Goals.{In-Some, In_default}
 use Rattle.pmem_recovery.proofs.nodes.fix_level.Goals as goal
 
 -- the end of a level
 end_is : (level end : ℕ) → end ≡ level_start (level + 1) → end ≡ level_start (suc level)
 end_is level end e = e ∙ ap level_start (add-one level)
-
-longer : {n : ℕ} {old new : List Made} → HasMade n old new → length new ≡ length old + 1
-longer {n} {old} {new} m = ap length m.items ∙ length-append old (m.entry ∷ [])
 
 -- the next node has room, and is one of a few
 pub record HasNext (g : Shape) (shadow : List Line) (level from x : ℕ) : Type 0 where
@@ -46,43 +41,45 @@ has_next geo shadow level from x end above low e n =
       few = count_named-small g shadow (level_start level) (x + 1) (IsShape-geo geo) (omega (arith, low, next.low)) (omega (arith, next.high, up));
     }
 
+module _ (g : Over) (c : In-Some g) where
+  next_here : HasNext (shape_of c.args.geo.now) c.args.shadow.now c.args.level c.positions.from c.in-Some.x
+  next_here =
+      has_next c.args.geo.now c.args.shadow.now c.args.level c.positions.from c.in-Some.x c.first_of_level-end.result c.requires.level c.positions.invariant.low c.first_of_level-end.ensures.value c.in-Some.ensures
+
 pub fix_node-requires-clause-node : goal.fix_node-requires-clause-node
 fix_node-requires-clause-node g c =
-    (has_next c.args.geo.now c.args.shadow.now c.args.level c.positions.from c.in-Some.x c.first_of_level-end.result c.requires.level c.positions.invariant.low c.first_of_level-end.ensures.value c.in-Some.ensures).node
+    (next_here g (goal.at.fix_node-requires-clause-node g c).In-Some).node
 
 pub fix_node-requires-clause-room : goal.fix_node-requires-clause-room
 fix_node-requires-clause-room g c =
-    let h = has_next c.args.geo.now c.args.shadow.now c.args.level c.positions.from c.in-Some.x c.first_of_level-end.result c.requires.level c.positions.invariant.low c.first_of_level-end.ensures.value c.in-Some.ensures in
+    let h = next_here g (goal.at.fix_node-requires-clause-room g c).In-Some in
     omega (arith, h.more, h.within, c.positions.invariant.counted, c.positions.invariant.capacity, c.requires.room)
 
 pub overflow_add-digests : goal.overflow_add-digests
 overflow_add-digests g c =
-    let h = has_next c.args.geo.now c.args.shadow.now c.args.level c.positions.from c.in-Some.x c.first_of_level-end.result c.requires.level c.positions.invariant.low c.first_of_level-end.ensures.value c.in-Some.ensures in
+    let h = next_here g (goal.at.overflow_add-digests g c).In-Some in
     omega (arith, h.more, h.few, c.positions.invariant.done)
 
 pub returns-in_err-fix_node-clause-at_most : goal.returns-in_err-fix_node-clause-at_most
 returns-in_err-fix_node-clause-at_most g c =
-    let h = has_next c.args.geo.now c.args.shadow.now c.args.level c.positions.from c.in-Some.x c.first_of_level-end.result c.requires.level c.positions.invariant.low c.first_of_level-end.ensures.value c.in-Some.ensures in
-    HasWorkedAtMost-after 0 c.positions.digests 0 4 0 _ _ _ _ (omega arith) (omega (arith, h.more, h.within, c.positions.invariant.done)) c.positions.invariant.worked c.in_err-fix_node.ensures.at_most
+    let h = next_here g (goal.at.returns-in_err-fix_node-clause-at_most g c).In-Some in
+    SuiteWorkAtMost-after 0 c.positions.digests 0 4 0 _ _ _ _ (omega arith) (omega (arith, h.more, h.within, c.positions.invariant.done)) c.positions.invariant.worked c.in_err-fix_node.ensures.at_most
 
 pub positions-preserved : goal.positions-preserved
 positions-preserved g c =
     let shape = shape_of c.args.geo.now in
     let inv = c.positions.invariant in
     let ok = c.in_ok-fix_node.ensures in
-    let h = has_next c.args.geo.now c.args.shadow.now c.args.level c.positions.from c.in-Some.x c.first_of_level-end.result c.requires.level inv.low c.first_of_level-end.ensures.value c.in-Some.ensures in
+    let h = next_here g (goal.at.positions-preserved g c).In-Some in
     record {
-      read = HasOnlyRead-then _ _ _ inv.read ok.read;
-      goes = GoesOn-then _ _ _ inv.goes ok.goes;
+      read = KeepsDevice-then _ _ _ inv.read ok.read;
+      goes = IsUncut-then _ _ _ inv.goes ok.goes;
       low = omega (arith, inv.low, h.next.low);
       high = omega (arith, h.next.high);
       counted = longer ok.made ∙ omega (arith, inv.counted, h.more);
       done = omega (arith, inv.done, h.more);
-      worked = HasWorked-then 0 c.positions.digests 0 4 _ _ _ inv.worked ok.worked;
-      on_tree = λ all.
-          subst (λ made. All (λ entry. entry.at < meta_lines shape) made) (sym ok.made.items)
-          (All-append (λ entry. entry.at < meta_lines shape) c.positions.made.items (ok.made.entry ∷ []) (inv.on_tree all)
-          (All-cons (λ entry. entry.at < meta_lines shape) ok.made.entry [] (omega (arith, ok.made.at, h.node, meta_lines-counters shape)) (All-nil (λ entry. entry.at < meta_lines shape))));
+      worked = SuiteWork-then 0 c.positions.digests 0 4 _ _ _ inv.worked ok.worked;
+      on_tree = λ all. on_tree_more shape ok.made (omega (arith, h.node, meta_lines-counters shape)) (inv.on_tree all);
       capacity = ok.capacity ∙ inv.capacity;
       told = λ lines told regs shadow before.
           let setup = setup_of c.args.geo.now (g.S.Suite.formulas_of (g.S.Suite.keys c.args.suite.now)) in
@@ -100,19 +97,25 @@ all_counted : (g : Shape) (shadow : List Line) (level from end : ℕ) → level_
 all_counted g shadow level from end low high e none =
     count_named-last g shadow (level_start level) from (level_start (suc level)) low high (λ y a b. none y a (omega (arith, b, end_is level end e)))
 
+module _ (g : Over) (c : In_default g) where
+  all_here : count_named (shape_of c.args.geo.now) c.args.shadow.now (level_start c.args.level) (level_start (suc c.args.level))
+      ≡ count_named (shape_of c.args.geo.now) c.args.shadow.now (level_start c.args.level) c.positions.from
+  all_here =
+      all_counted (shape_of c.args.geo.now) c.args.shadow.now c.args.level c.positions.from c.first_of_level-end.result c.positions.invariant.low c.positions.invariant.high c.first_of_level-end.ensures.value c.in_default.ensures
+
 pub returns-clause-digests : goal.returns-clause-digests
 returns-clause-digests g c =
-    let all = all_counted (shape_of c.args.geo.now) c.args.shadow.now c.args.level c.positions.from c.first_of_level-end.result c.positions.invariant.low c.positions.invariant.high c.first_of_level-end.ensures.value c.in_default.ensures in
+    let all = all_here g (goal.at.returns-clause-digests g c).In_default in
     omega (arith, all, c.positions.invariant.done)
 
 pub returns-clause-at_most : goal.returns-clause-at_most
 returns-clause-at_most g c =
     let all = returns-clause-digests g c in
-    HasWorkedAtMost-of 0 c.positions.digests 0 _ _ _ (omega arith) (omega (arith, all)) c.positions.invariant.worked
+    SuiteWorkAtMost-of 0 c.positions.digests 0 _ _ _ (omega arith) (omega (arith, all)) c.positions.invariant.worked
 
 pub returns-clause-counted : goal.returns-clause-counted
 returns-clause-counted g c =
-    let all = all_counted (shape_of c.args.geo.now) c.args.shadow.now c.args.level c.positions.from c.first_of_level-end.result c.positions.invariant.low c.positions.invariant.high c.first_of_level-end.ensures.value c.in_default.ensures in
+    let all = all_here g (goal.at.returns-clause-counted g c).In_default in
     omega (arith, all, c.positions.invariant.counted)
 
 pub returns-clause-told : goal.returns-clause-told

@@ -5,7 +5,7 @@ use Rattle.pmem_base.specs.Layout.{meta_lines, level_start}
 use Rattle.shadow_tables.specs.Entries.{shadow_of}
 use Rattle.pmem_recovery.specs.Named.{count_named}
 use Rattle.pmem_recovery.specs.Upward.{AreMadeTo}
-use Rattle.pmem_recovery.specs.Parts.{setup_of, Told, HasOnlyRead, GoesOn, suite_state, HasWorked}
+use Rattle.pmem_recovery.specs.Parts.{setup_of, Told, KeepsDevice, IsUncut, suite_state, SuiteWork}
 use Rattle.pmem_recovery.proofs.nodes.fix_level.Given as goal
 
 abbrev pub invariant-positions : goal.invariant-positions
@@ -15,13 +15,13 @@ invariant-positions g l =
     let shape = shape_of l.geo in
     let setup = setup_of l.geo (g.S.Suite.formulas_of (g.S.Suite.keys l.initial.suite)) in
     record {
-      read : HasOnlyRead start now;
-      goes : GoesOn start now;
+      read : KeepsDevice start now;
+      goes : IsUncut start now;
       low : level_start l.level ≤ l.from;
       high : l.from ≤ level_start (suc l.level);
       counted : length l.made.items ≡ length l.initial.made.items + count_named shape l.shadow (level_start l.level) l.from;
       done : l.digests ≡ 4 * count_named shape l.shadow (level_start l.level) l.from;
-      worked : HasWorked 0 l.digests
+      worked : SuiteWork 0 l.digests
           (suite_state (g.S.Suite.keys l.initial.suite) (g.S.Suite.pads l.initial.suite) (g.S.Suite.tags l.initial.suite) (g.S.Suite.digests l.initial.suite))
           (suite_state (g.S.Suite.keys l.suite) (g.S.Suite.pads l.suite) (g.S.Suite.tags l.suite) (g.S.Suite.digests l.suite));
       on_tree : All (λ entry. entry.at < meta_lines shape) l.initial.made.items

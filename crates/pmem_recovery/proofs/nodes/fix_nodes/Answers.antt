@@ -1,16 +1,18 @@
-use Rattle.std.proofs.Common.{ℕ, zero, suc, ◌≡◌, ◌<◌, ◌≤◌, ◌+◌, ◌-◌, ◌*◌, List, length, sym, ap, subst, ◌∙◌, arith}
+use Rattle.std.proofs.Common.{ℕ, suc, ◌≡◌, ◌<◌, ◌≤◌, ◌+◌, ◌-◌, List, sym, ap, subst, ◌∙◌, arith}
 use Rattle.pmem_base.specs.declared.lines.Line.{Line}
 use Rattle.pmem_base.specs.declared.geometry.Geo.{Geo}
 use Rattle.pmem_base.specs.Geo.{shape_of}
 use Rattle.pmem_base.specs.Shape.{Shape}
-use Rattle.pmem_base.specs.Layout.{meta_lines, level_start}
-use Rattle.bonsai_tree.proofs.Levels.{level_start-le, meta_lines-level}
+use Rattle.bonsai_tree.specs.Positions.{level_start}
+use Rattle.bonsai_tree.proofs.Levels.{level_start-le}
 use Rattle.pmem_recovery.specs.Named.{count_named}
 use Rattle.pmem_recovery.specs.Upward.{AreMadeTo}
 use Rattle.pmem_recovery.specs.Parts.{setup_of}
-use Rattle.pmem_recovery.proofs.PartLaws.{HasOnlyRead-none, HasOnlyRead-then, GoesOn-none, GoesOn-then, HasWorked-none, HasWorked-then, HasWorkedAtMost-of, HasWorkedAtMost-after, IsShape-geo, told_before}
-use Rattle.pmem_recovery.proofs.NamedLaws.{count_named-none, count_named-parts, count_named-within, count_named-small}
+use Rattle.pmem_recovery.proofs.PartLaws.{KeepsDevice-then, IsUncut-then, SuiteWork-then, SuiteWorkAtMost-after, IsShape-geo, told_before}
+use Rattle.pmem_recovery.proofs.NamedLaws.{count_named-parts, count_named-within, count_named-small}
 use Rattle.pmem_recovery.proofs.UpwardSteps.{AreMadeTo-next}
+use Rattle.pmem_recovery.proofs.nodes.fix_nodes.Given.{Over}
+use Rattle.pmem_recovery.proofs.nodes.fix_nodes.Goals.{After-levels}
 use Rattle.pmem_recovery.proofs.nodes.fix_nodes.Goals as goal
 
 -- the level that is next, and how many nodes are named from it on
@@ -46,19 +48,25 @@ next_level geo shadow above levels level e low l =
       few = count_named-small g shadow (level_start level) (level_start g.levels) (IsShape-geo geo) all (omega arith);
     }
 
+module _ (g : Over) (c : After-levels g) where
+  next_here : IsNextLevel (shape_of c.args.geo.now) c.args.shadow.now c.upward.above (c.levels.result - 1 - c.upward.above)
+  next_here =
+      next_level c.args.geo.now c.args.shadow.now c.upward.above c.levels.result (c.levels.result - 1 - c.upward.above) c.levels.ensures
+      (omega (arith, c.upward-test.true, c.levels.ensures, c.levels-above-end.ensures)) (omega arith)
+
 pub fix_level-requires-clause-room : goal.fix_level-requires-clause-room
 fix_level-requires-clause-room g c =
-    let n = next_level c.args.geo.now c.args.shadow.now c.upward.above c.levels.result (c.levels.result - 1 - c.upward.above) c.levels.ensures (omega (arith, c.upward-test.true, c.levels.ensures, c.levels-above-end.ensures)) (omega arith) in
+    let n = next_here g (goal.at.fix_level-requires-clause-room g c).After-levels in
     omega (arith, n.parts, n.within, c.upward.invariant.counted, c.upward.invariant.capacity, c.requires.room)
 
 pub returns-in_err-digests-clause-at_most : goal.returns-in_err-digests-clause-at_most
 returns-in_err-digests-clause-at_most g c =
-    let n = next_level c.args.geo.now c.args.shadow.now c.upward.above c.levels.result (c.levels.result - 1 - c.upward.above) c.levels.ensures (omega (arith, c.upward-test.true, c.levels.ensures, c.levels-above-end.ensures)) (omega arith) in
-    HasWorkedAtMost-after 0 c.upward.digests 0 _ 0 _ _ _ _ (omega arith) (omega (arith, n.parts, n.within, c.upward.invariant.done)) c.upward.invariant.worked c.in_err-digests.ensures.at_most
+    let n = next_here g (goal.at.returns-in_err-digests-clause-at_most g c).After-levels in
+    SuiteWorkAtMost-after 0 c.upward.digests 0 _ 0 _ _ _ _ (omega arith) (omega (arith, n.parts, n.within, c.upward.invariant.done)) c.upward.invariant.worked c.in_err-digests.ensures.at_most
 
 pub overflow_add-digests : goal.overflow_add-digests
 overflow_add-digests g c =
-    let n = next_level c.args.geo.now c.args.shadow.now c.upward.above c.levels.result (c.levels.result - 1 - c.upward.above) c.levels.ensures (omega (arith, c.upward-test.true, c.levels.ensures, c.levels-above-end.ensures)) (omega arith) in
+    let n = next_here g (goal.at.overflow_add-digests g c).After-levels in
     omega (arith, n.parts, n.few, c.upward.invariant.done, c.in_ok-digests.ensures.digests)
 
 pub upward-preserved : goal.upward-preserved
@@ -68,16 +76,16 @@ upward-preserved g c =
     let level : ℕ = c.levels.result - 1 - c.upward.above in
     let inv = c.upward.invariant in
     let ok = c.in_ok-digests.ensures in
-    let n = next_level c.args.geo.now shadow c.upward.above c.levels.result level c.levels.ensures (omega (arith, c.upward-test.true, c.levels.ensures, c.levels-above-end.ensures)) (omega arith) in
+    let n = next_here g (goal.at.upward-preserved g c).After-levels in
     let count : count_named shape shadow (level_start (shape.levels - (c.upward.above + 1))) (level_start shape.levels) ≡ count_named shape shadow (level_start level) (level_start shape.levels) =
     ap (λ i. count_named shape shadow (level_start i) (level_start shape.levels)) n.again in
     record {
       few = omega (arith, n.below);
-      read = HasOnlyRead-then _ _ _ inv.read ok.read;
-      goes = GoesOn-then _ _ _ inv.goes ok.goes;
+      read = KeepsDevice-then _ _ _ inv.read ok.read;
+      goes = IsUncut-then _ _ _ inv.goes ok.goes;
       counted = omega (arith, ok.counted, inv.counted, n.parts, count);
       done = omega (arith, ok.digests, inv.done, n.parts, count);
-      worked = HasWorked-then 0 c.upward.digests 0 c.in_ok-digests.field-0 _ _ _ inv.worked ok.worked;
+      worked = SuiteWork-then 0 c.upward.digests 0 c.in_ok-digests.field-0 _ _ _ inv.worked ok.worked;
       on_tree = λ all. ok.on_tree (inv.on_tree all);
       capacity = ok.capacity ∙ inv.capacity;
       told = λ lines told regs its_shadow before.

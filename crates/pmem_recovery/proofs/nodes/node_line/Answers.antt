@@ -1,6 +1,6 @@
-use Rattle.std.proofs.Common.{◌<◌, ◌≤◌, ◌+◌, ◌*◌, arith}
+use Rattle.std.proofs.Common.{arith}
 use Rattle.pmem_base.specs.Geo.{shape_of}
-use Rattle.pmem_recovery.proofs.NodeSteps.{node-small, child-on_tree}
+use Rattle.pmem_recovery.proofs.NodeSteps.{node-small}
 use Rattle.pmem_recovery.proofs.nodes.node_line.Goals as goal
 
 pub overflow_mul-child : goal.overflow_mul-child

@@ -2,7 +2,7 @@ use Rattle.std.proofs.Common.{ℕ, ◌≡◌, ◌<◌, [], length, get_or}
 use Rattle.pmem_base.specs.Geo.{shape_of}
 use Rattle.bonsai_tree.specs.Nodes.{child_digest_over}
 use Rattle.pmem_recovery.specs.Upward.{made_or_stored}
-use Rattle.pmem_recovery.specs.Parts.{Told, HasOnlyRead, GoesOn, suite_state, HasWorked}
+use Rattle.pmem_recovery.specs.Parts.{Told, KeepsDevice, IsUncut, suite_state, SuiteWork}
 use Rattle.pmem_recovery.proofs.nodes.node_line.Given as goal
 
 abbrev pub invariant-children : goal.invariant-children
@@ -10,9 +10,9 @@ invariant-children g l =
     let start = g.B.Board.device l.initial.board in
     let now = g.B.Board.device l.board in
     record {
-      read : HasOnlyRead start now;
-      goes : GoesOn start now;
-      worked : HasWorked 0 l.i
+      read : KeepsDevice start now;
+      goes : IsUncut start now;
+      worked : SuiteWork 0 l.i
           (suite_state (g.S.Suite.keys l.initial.suite) (g.S.Suite.pads l.initial.suite) (g.S.Suite.tags l.initial.suite) (g.S.Suite.digests l.initial.suite))
           (suite_state (g.S.Suite.keys l.suite) (g.S.Suite.pads l.suite) (g.S.Suite.tags l.suite) (g.S.Suite.digests l.suite));
       long : length l.digests ≡ 4;

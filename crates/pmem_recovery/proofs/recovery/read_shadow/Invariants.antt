@@ -2,7 +2,7 @@ use Rattle.std.proofs.Common.{ℕ, ◌≡◌, ◌<◌, length, vec_capacity}
 use Rattle.pmem_base.specs.Geo.{shape_of}
 use Rattle.pmem_base.specs.Layout.{shadow_line}
 use Rattle.pmem_base.specs.Lines.{line_at}
-use Rattle.pmem_recovery.specs.Parts.{Told, HasOnlyRead, GoesOn}
+use Rattle.pmem_recovery.specs.Parts.{Told, KeepsDevice, IsUncut}
 use Rattle.pmem_recovery.proofs.recovery.read_shadow.Given as goal
 
 abbrev pub invariant-lines : goal.invariant-lines
@@ -10,8 +10,8 @@ invariant-lines g l =
     let start = g.B.Board.device l.initial.board in
     let now = g.B.Board.device l.board in
     record {
-      read : HasOnlyRead start now;
-      goes : GoesOn start now;
+      read : KeepsDevice start now;
+      goes : IsUncut start now;
       long : length l.shadow.items ≡ l.n;
       capacity : vec_capacity l.shadow ≡ vec_capacity l.initial.shadow;
       told : Told start.lines (λ lines. (k : ℕ) → k < l.n → line_at l.shadow.items k ≡ line_at lines (shadow_line (shape_of l.geo) k));

@@ -1,9 +1,7 @@
 use Rattle.std.proofs.Common.{◌≡◌, Ok, Err, sym, ap, subst, ◌∙◌}
-use Rattle.std.specs.Result.{IsErrAnd}
 use Rattle.std.proofs.lemmas.Bool.{false≢true}
 use Rattle.std.proofs.lemmas.Result.{err_from_is_err_and}
-use Rattle.board.specs.Device.{Device, AreToldLines}
-use Rattle.pmem_base.specs.Geo.{shape_of}
+use Rattle.board.specs.Device.{Device}
 use Rattle.suite.specs.Setup.{Setup}
 use Rattle.seal_ledger.specs.Ledger.{LedgerState}
 use Rattle.pmem_engine.specs.Engine.{EngineState}
@@ -13,6 +11,8 @@ use Rattle.pmem_recovery.specs.Parts.{setup_of, SuiteState, suite_state}
 use Rattle.pmem_recovery.specs.Recovered.{Answer, HasRecovered}
 use Rattle.pmem_recovery.proofs.PartLaws.{IsShape-geo}
 use Rattle.pmem_recovery.proofs.RecoverLaws.{IsRun, recovered_memory, recovered_interrupted, recovered_fault, recovered_ok}
+use Rattle.pmem_recovery.proofs.recovery.recover.Given.{Over}
+use Rattle.pmem_recovery.proofs.recovery.recover.Goals.{After-mend}
 use Rattle.pmem_recovery.proofs.recovery.recover.Goals as goal
 
 -- the answer at the exit of a `?`
@@ -37,37 +37,31 @@ returns-in_err-finish g c =
     at_exit _ _ _ _ _ _ c.from_residual-in_err-finish.result Cut (err_from_is_err_and c.from_residual-in_err-finish.result c.from_residual-in_err-finish.ensures.1)
     (recovered_interrupted _ _ _ _ _ (IsShape-geo c.args.geo.now) c.requires.size (g.met.B.Board.whole c.finish.new.board) c.requires.regs (λ none. false≢true (c.in_err-finish.ensures.empty none).0) c.in_err-finish.ensures.cut)
 
+module _ (g : Over) (c : After-mend g) where
+  abbrev setup : Setup
+  setup = setup_of c.args.geo.now (g.S.Suite.formulas_of (g.S.Suite.keys c.args.suite.now))
+
+  run : IsRun setup (g.B.Board.device c.args.board.now) (g.B.Board.device c.finish.new.board) (g.B.Board.device c.mend.new.board)
+  run =
+      record {
+        size = c.requires.size;
+        whole_before = g.met.B.Board.whole c.args.board.now;
+        whole_after = g.met.B.Board.whole c.mend.new.board;
+        shape = IsShape-geo c.args.geo.now;
+        valid = c.requires.regs;
+        finished = c.in_ok-finish.ensures.ok;
+        idle = λ none. ap (λ board. g.B.Board.device board) (c.in_ok-finish.ensures.empty none).1;
+        written = c.mend.ensures.written;
+      }
+
 pub returns-in_err-work : goal.returns-in_err-work
 returns-in_err-work g c =
-    let setup : Setup = setup_of c.args.geo.now (g.S.Suite.formulas_of (g.S.Suite.keys c.args.suite.now)) in
-    let run : IsRun setup (g.B.Board.device c.args.board.now) (g.B.Board.device c.finish.new.board) (g.B.Board.device c.mend.new.board) =
-    record {
-      size = c.requires.size;
-      whole_before = g.met.B.Board.whole c.args.board.now;
-      whole_after = g.met.B.Board.whole c.mend.new.board;
-      shape = IsShape-geo c.args.geo.now;
-      valid = c.requires.regs;
-      finished = c.in_ok-finish.ensures.ok;
-      idle = λ none. ap (λ board. g.B.Board.device board) (c.in_ok-finish.ensures.empty none).1;
-      written = c.in_err-work.ensures.written;
-    } in
     at_exit _ _ _ _ _ _ c.from_residual-in_err-work.result c.in_err-work.field-0.0 (err_from_is_err_and c.from_residual-in_err-work.result c.from_residual-in_err-work.ensures.1)
-    (recovered_fault setup (g.A.Audit.ledger c.args.audit.now) (g.B.Board.device c.args.board.now) (g.B.Board.device c.finish.new.board) (g.B.Board.device c.mend.new.board) run _ _ c.in_err-work.field-0.0 c.in_err-work.ensures.stopped c.in_err-work.ensures.short c.in_err-work.ensures.at_most)
+    (recovered_fault _ (g.A.Audit.ledger c.args.audit.now) _ _ _ (run g (goal.at.returns-in_err-work g c).After-mend) _ _ c.in_err-work.field-0.0 c.in_err-work.ensures.stopped c.in_err-work.ensures.short c.in_err-work.ensures.at_most)
 
 pub returns : goal.returns
 returns g c =
-    let setup : Setup = setup_of c.args.geo.now (g.S.Suite.formulas_of (g.S.Suite.keys c.args.suite.now)) in
-    let run : IsRun setup (g.B.Board.device c.args.board.now) (g.B.Board.device c.finish.new.board) (g.B.Board.device c.mend.new.board) =
-    record {
-      size = c.requires.size;
-      whole_before = g.met.B.Board.whole c.args.board.now;
-      whole_after = g.met.B.Board.whole c.mend.new.board;
-      shape = IsShape-geo c.args.geo.now;
-      valid = c.requires.regs;
-      finished = c.in_ok-finish.ensures.ok;
-      idle = λ none. ap (λ board. g.B.Board.device board) (c.in_ok-finish.ensures.empty none).1;
-      written = c.in_ok-work.ensures.written;
-    } in
+    let place = (goal.at.returns g c).After-mend in
     let ok = c.in_ok-work.ensures in
-    subst (λ (e : EngineState). HasRecovered setup (g.A.Audit.ledger c.args.audit.now) (g.B.Board.device c.args.board.now) (g.B.Board.device c.mend.new.board) (suite_state (g.S.Suite.keys c.args.suite.now) (g.S.Suite.pads c.args.suite.now) (g.S.Suite.tags c.args.suite.now) (g.S.Suite.digests c.args.suite.now)) (suite_state (g.S.Suite.keys c.mend.new.suite) (g.S.Suite.pads c.mend.new.suite) (g.S.Suite.tags c.mend.new.suite) (g.S.Suite.digests c.mend.new.suite)) (Ok (e, c.in_ok-work.work))) (sym c.new-4.ensures)
-    (recovered_ok setup (g.A.Audit.ledger c.args.audit.now) (g.B.Board.device c.args.board.now) (g.B.Board.device c.finish.new.board) (g.B.Board.device c.mend.new.board) run _ _ c.in_ok-work.work ok.goes ok.recovered ok.worked ok.few_trials ok.few_digests)
+    subst (λ (e : EngineState). HasRecovered (setup g place) (g.A.Audit.ledger c.args.audit.now) (g.B.Board.device c.args.board.now) (g.B.Board.device c.mend.new.board) (suite_state (g.S.Suite.keys c.args.suite.now) (g.S.Suite.pads c.args.suite.now) (g.S.Suite.tags c.args.suite.now) (g.S.Suite.digests c.args.suite.now)) (suite_state (g.S.Suite.keys c.mend.new.suite) (g.S.Suite.pads c.mend.new.suite) (g.S.Suite.tags c.mend.new.suite) (g.S.Suite.digests c.mend.new.suite)) (Ok (e, c.in_ok-work.work))) (sym c.new-4.ensures)
+    (recovered_ok _ (g.A.Audit.ledger c.args.audit.now) _ _ _ (run g place) _ _ c.in_ok-work.work ok.goes ok.recovered ok.worked ok.few_trials ok.few_digests)

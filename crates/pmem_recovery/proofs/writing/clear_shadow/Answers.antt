@@ -1,4 +1,4 @@
-use Rattle.std.proofs.Common.{◌≡◌, ◌<◌, ◌≤◌, [], get_or, ap, ◌∙◌, arith}
+use Rattle.std.proofs.Common.{◌≡◌, ◌<◌, [], get_or, ap, ◌∙◌, arith}
 use Rattle.std.proofs.lemmas.List.{get_or_default}
 use Rattle.pmem_base.specs.declared.lines.Line.{Line}
 use Rattle.pmem_base.specs.Geo.{shape_of}
@@ -7,8 +7,8 @@ use Rattle.pmem_base.specs.Lines.{line_at, zero_line}
 use Rattle.meta_path.proofs.NameLemmas.{on_err}
 use Rattle.pmem_recovery.specs.Upward.{is_other}
 use Rattle.pmem_recovery.specs.Writing.{HasZeroedSome}
-use Rattle.pmem_recovery.proofs.PartLaws.{GoesOn-then}
-use Rattle.pmem_recovery.proofs.WriteSteps.{HasZeroedTo-cut, HasZeroedTo-more, GoesOn-written_if}
+use Rattle.pmem_recovery.proofs.PartLaws.{IsUncut-then}
+use Rattle.pmem_recovery.proofs.WriteSteps.{HasZeroedTo-cut, HasZeroedTo-more, IsUncut-written_if}
 use Rattle.pmem_recovery.proofs.writing.clear_shadow.Goals as goal
 
 pub returns-in_err-write_changed-clause-some : goal.returns-in_err-write_changed-clause-some
@@ -32,5 +32,5 @@ lines-preserved g c =
           c.shadow_line.ensures.value c.default-zero.ensures
           (c.is_other-changed.ensures ∙ ap (λ l. is_other l c.default-zero.result) read ∙ ap (is_other (line_at c.args.shadow.now c.lines.n)) c.default-zero.ensures)
           c.lines.invariant.zeroed c.in_ok-write_changed.ensures.ok;
-      goes = GoesOn-then _ _ _ c.lines.invariant.goes (GoesOn-written_if _ _ _ _ _ c.in_ok-write_changed.ensures.ok);
+      goes = IsUncut-then _ _ _ c.lines.invariant.goes (IsUncut-written_if _ _ _ _ _ c.in_ok-write_changed.ensures.ok);
     }

@@ -1,14 +1,14 @@
-use Rattle.std.proofs.Common.{◌≡◌, ◌≤◌, [], false, length, refl, subst, arith}
+use Rattle.std.proofs.Common.{◌≡◌, [], false, length, refl, subst, arith}
 use Rattle.pmem_base.specs.Geo.{shape_of}
 use Rattle.meta_path.proofs.NameLemmas.{on_err}
 use Rattle.pmem_recovery.specs.declared.entries.Made.{Made}
 use Rattle.pmem_recovery.specs.Writing.{HasWrittenTo, HasWrittenSome}
-use Rattle.pmem_recovery.proofs.PartLaws.{GoesOn-none, GoesOn-then}
-use Rattle.pmem_recovery.proofs.WriteSteps.{HasWrittenTo-none, HasWrittenTo-cut, HasWrittenTo-more, GoesOn-written_if}
+use Rattle.pmem_recovery.proofs.PartLaws.{IsUncut-none, IsUncut-then}
+use Rattle.pmem_recovery.proofs.WriteSteps.{HasWrittenTo-none, HasWrittenTo-cut, HasWrittenTo-more, IsUncut-written_if}
 use Rattle.pmem_recovery.proofs.writing.write_made.Goals as goal
 
 pub entries-init : goal.entries-init
-entries-init g c = record { written = HasWrittenTo-none _ _ _; goes = GoesOn-none _ }
+entries-init g c = record { written = HasWrittenTo-none _ _ _; goes = IsUncut-none _ }
 
 pub returns-in_err-write_changed-clause-some : goal.returns-in_err-write_changed-clause-some
 returns-in_err-write_changed-clause-some g c =
@@ -26,7 +26,7 @@ entries-preserved g c =
       written =
           HasWrittenTo-more (shape_of c.args.geo.now) c.args.made.now c.entries.entry-index none c.meta_line.result _ _ _ _ _ c.entries-test.true
           (c.requires.on_tree c.entries.entry-index none c.entries-test.true) c.meta_line.ensures.value refl refl c.entries.invariant.written c.in_ok-write_changed.ensures.ok;
-      goes = GoesOn-then _ _ _ c.entries.invariant.goes (GoesOn-written_if _ _ _ _ _ c.in_ok-write_changed.ensures.ok);
+      goes = IsUncut-then _ _ _ c.entries.invariant.goes (IsUncut-written_if _ _ _ _ _ c.in_ok-write_changed.ensures.ok);
     }
 
 pub returns-clause-ok : goal.returns-clause-ok
