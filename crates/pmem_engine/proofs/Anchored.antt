@@ -1,4 +1,5 @@
 -- One seal keeps the registers and the ledger anchored.
+use Rattle.std.proofs.Common.{rules}
 use Rattle.std.proofs.Common.{ℕ, ◌≡◌, ◌≢◌, ◌<◌, ◌+◌, cond, List, [], ◌∷◌, ◌++◌, get_or, map, Option, Some, None, inl, inr, refl, sym, ap, subst, ◌∙◌, arith}
 use Rattle.std.specs.Prelude.{not, ◌==◌, IsTrue, IsNone, slice_index}
 use Rattle.std.specs.List.{All, AllPairs, filter}
@@ -54,11 +55,7 @@ true_block-other g f page line root old new other apart tree = ap unpacked (tree
 
 -- a line's counter depends on its own minor and the major of its block
 counter_of-block : (registers : List Progress) (a b : Block) (line : ℕ) → block_counter a (index_in_page line) ≡ block_counter b (index_in_page line) → counter_of registers a line ≡ counter_of registers b line
-counter_of-block registers a b line same = under (register_held registers line)
-  where
-    under : (held : Option Progress) → counter_under held a line ≡ counter_under held b line
-    under None = same
-    under (Some register) = refl
+counter_of-block registers a b line same = search rules
 
 -- ---- the parts of a seal
 
@@ -174,14 +171,7 @@ module _ (setup : Setup) (a minor : ℕ) (cipher : Line) (tag : List ℕ) (old_r
       }
 
   held_of_other : (register : Progress) → register.page ≢ sealed_page → IsHeldBack geometry old.truth register → IsHeldBack geometry new.truth register
-  held_of_other register apart held =
-      record {
-        next_major = held.next_major ∙ ap (λ b. b.major) (sym (block_other register.page apart));
-        minors_zero =
-            All-weaker (λ i. slice_index (true_block geometry old.truth register.page).minors i ≡ 0) (λ i. slice_index (true_block geometry new.truth register.page).minors i ≡ 0)
-            (λ i zero_before. ap (λ b. slice_index b.minors i) (block_other register.page apart) ∙ zero_before)
-            (not_done register) held.minors_zero;
-      }
+  held_of_other register apart held = search rules
 
   held_back : All (IsHeldBack geometry new.truth) new_regs.progress.items
   held_back =

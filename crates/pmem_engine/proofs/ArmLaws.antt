@@ -1,4 +1,6 @@
 -- A group is armed: Durable of the new registers and ledger, over the device's lines as they are.
+use Rattle.std.proofs.lemmas.Grind.{common_steps}
+use Rattle.std.proofs.Common.{rules}
 use Rattle.std.proofs.Common.{◌≡◌, ◌≢◌, ℕ, ◌+◌, ◌%◌, ◌<◌, true, false, List, Some, length, refl, sym, ap, subst, ◌∙◌, ◌⊎◌, inl, inr, arith}
 use Rattle.std.specs.Prelude.{IsTrue}
 use Rattle.std.proofs.lemmas.Bool.{cases_eq, cases_Bool}
@@ -44,14 +46,7 @@ pub true_or_named-after : (g : Shape) (old new old_truth new_truth : List Line) 
     → (is_on_path g page x ≡ true → (stored_meta g new x ≡ line_at new_truth x) ⊎ IsTrue (is_named g new x))
     → (stored_meta g old x ≡ line_at old_truth x) ⊎ IsTrue (is_named g old x)
     → (stored_meta g new x ≡ line_at new_truth x) ⊎ IsTrue (is_named g new x)
-true_or_named-after g old new old_truth new_truth page x h stored names changes on_path before =
-    elim (cases_Bool (is_on_path g page x)) [
-      | inl on ↦ on_path on
-      | inr off ↦ elim before [
-        | inl same ↦ inl (stored off ∙ same ∙ sym (changes.elsewhere x h off))
-        | inr entry ↦ inr (names ∙ entry)
-      ]
-    ]
+true_or_named-after g old new old_truth new_truth page x h stored names changes on_path before = search rules
 
 -- after a seal's group without the counter block
 pub true_or_named-sealed : (g : Shape) (lines old_truth new_truth : List Line) (a page x : ℕ) (seal : SealOf)
@@ -59,10 +54,7 @@ pub true_or_named-sealed : (g : Shape) (lines old_truth new_truth : List Line) (
     → (stored_meta g lines x ≡ line_at old_truth x) ⊎ IsTrue (is_named g lines x)
     → (stored_meta g (sealed_lines g lines a seal) x ≡ line_at new_truth x)
     ⊎ IsTrue (is_named g (sealed_lines g lines a seal) x)
-true_or_named-sealed g lines old_truth new_truth a page x seal ha h changes named before =
-    true_or_named-after g lines (sealed_lines g lines a seal) old_truth new_truth page x h
-    (λ off. stored_meta-sealed_lines g lines a seal x ha) (is_named-sealed_lines g lines a seal x ha) changes
-    (λ on. inr (is_named-sealed_lines g lines a seal x ha ∙ named.each x h on)) before
+true_or_named-sealed g lines old_truth new_truth a page x seal ha h changes named before = grind (arith, common_steps)
 
 -- after a group that writes the page's new counter block, over lines with the metadata and names as they were
 pub true_or_named-with_block : (g : Shape) (old lines old_truth new_truth : List Line) (page x : ℕ)
@@ -239,11 +231,7 @@ IsMendable-begun setup lines old new before after page whole hpage anchored loss
 pub IsDurable-armed : (setup : Setup) (lines : List Line) (old new : Regs) (before after : LedgerState)
     (group : List (ℕ × Line)) → IsDurable setup lines old before → IsArmed old new group
     → IsMendable setup (redone group lines) new after → IsDurable setup lines new after
-IsDurable-armed setup lines old new before after group durable armed mendable =
-    record {
-      device_whole = durable.device_whole;
-      mendable = subst (λ items. IsMendable setup (redone items lines) new after) (sym armed.its_group) mendable;
-    }
+IsDurable-armed setup lines old new before after group durable armed mendable = search rules
 
 -- what a seal needs of the device, from the seal
 pub IsSealable-sealed : (setup : Setup) (lines : List Line) (a minor : ℕ) (cipher : Line) (tag : List ℕ)

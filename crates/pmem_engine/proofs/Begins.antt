@@ -1,4 +1,5 @@
 -- A page's begin keeps the registers and the ledger anchored.
+use Rattle.std.proofs.Common.{rules}
 use Rattle.std.proofs.Common.{ℕ, ◌≡◌, ◌≢◌, ◌<◌, ◌+◌, ◌*◌, List, [], ◌∷◌, ◌++◌, get_or, map, Some, None, inl, inr, sym, ap, subst, ◌∙◌, arith}
 use Rattle.std.specs.Prelude.{IsTrue, IsNone, slice_index}
 use Rattle.std.specs.List.{All, AllPairs}
@@ -104,14 +105,7 @@ module _ (setup : Setup) (page : ℕ) (old_regs new_regs : Regs) (old new : Ledg
       }
 
   held_of_other : (register : Progress) → register.page ≢ page → IsHeldBack geometry old.truth register → IsHeldBack geometry new.truth register
-  held_of_other register apart held =
-      record {
-        next_major = held.next_major ∙ ap (λ b. b.major) (sym (block_other register.page apart));
-        minors_zero =
-            All-weaker (λ i. slice_index (true_block geometry old.truth register.page).minors i ≡ 0) (λ i. slice_index (true_block geometry new.truth register.page).minors i ≡ 0)
-            (λ i zero_before. ap (λ b. slice_index b.minors i) (block_other register.page apart) ∙ zero_before)
-            (not_done register) held.minors_zero;
-      }
+  held_of_other register apart held = search rules
 
   held_begun : IsHeldBack geometry new.truth opening
   held_begun =

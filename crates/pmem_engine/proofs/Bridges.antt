@@ -1,4 +1,5 @@
 -- What a seal, a reseal and a begin change, as the laws on the device ask for it.
+use Rattle.std.proofs.Common.{rules}
 use Rattle.std.proofs.Common.{◌≡◌, true, ℕ, ◌+◌, List, [], ◌∷◌, ◌++◌, refl, sym, ap, subst, ◌∙◌, arith}
 use Rattle.std.specs.Prelude.{slice_set}
 use Rattle.std.proofs.lemmas.Bool.{false≢true}
@@ -50,13 +51,7 @@ ChangesPath-same g truth page = record { elsewhere = λ x h off. refl }
 -- one more line of the path
 pub ChangesPath-set : (g : Shape) (old new : List Line) (page x : ℕ) (line : Line)
     → is_on_path g page x ≡ true → ChangesPath g old new page → ChangesPath g old (slice_set new x line) page
-ChangesPath-set g old new page x line on changes =
-    record {
-      elsewhere =
-          λ y h off.
-          line_at-set_other new x y line (λ e. false≢true (sym off ∙ ap (is_on_path g page) e ∙ on))
-          ∙ changes.elsewhere y h off;
-    }
+ChangesPath-set g old new page x line on changes = search rules
 
 pub ChangesPath-trans : (g : Shape) (first second third : List Line) (page : ℕ) → ChangesPath g first second page
     → ChangesPath g second third page → ChangesPath g first third page
@@ -81,9 +76,7 @@ module _ (setup : Setup) (a minor : ℕ) (cipher : Line) (tag : List ℕ) (old_r
       (SealsOne-push (data_lines setup.shape) old.marks a (sealed_counter setup.shape old.truth a minor) cipher tag)
 
   pub IsSealed-ChangesPath : ChangesPath setup.shape old.truth new.truth (page_of a)
-  IsSealed-ChangesPath =
-      ChangesPath-tree setup.shape setup.formulas (page_of a)
-      (packed (sealed_block setup.shape old.truth a minor)) new_regs.root old.truth new.truth it.truth
+  IsSealed-ChangesPath = search rules
 
   block_before : IsAnchored setup old_regs old → IsBlock (true_block setup.shape old.truth (page_of a))
   block_before anchored = true_block-IsBlock setup old_regs old (page_of a) anchored

@@ -1,4 +1,5 @@
 -- A true line is written back, and the cache changes: blocks become clean, give way, or come in.
+use Rattle.std.proofs.Common.{rules}
 use Rattle.std.proofs.Common.{◌≡◌, ◌≢◌, ℕ, ◌+◌, ◌*◌, ◌<◌, true, false, List, [], length, sym, ap, subst, subst₂, ◌∙◌, ◌⊎◌, inl, inr, arith}
 use Rattle.std.specs.Prelude.{IsTrue, slice_set}
 use Rattle.std.specs.List.{All, Contains}
@@ -40,13 +41,7 @@ stored_meta-true_line g lines truth x size h =
 pub stays_true-true_line : (g : Shape) (lines truth : List Line) (x y : ℕ) → length lines ≡ device_lines g
     → x < meta_lines g → stored_meta g lines y ≡ line_at truth y
     → stored_meta g (with_true_line g lines truth x) y ≡ line_at truth y
-stays_true-true_line g lines truth x y size h stored = at (cases_eq y x)
-  where
-    at : (y ≡ x) ⊎ (y ≡ x → ⊥) → stored_meta g (with_true_line g lines truth x) y ≡ line_at truth y
-    at (inl same) =
-        ap (stored_meta g (with_true_line g lines truth x)) same
-        ∙ stored_meta-true_line g lines truth x size h ∙ ap (line_at truth) (sym same)
-    at (inr apart) = stored_meta-set_other g lines x (line_at truth x) y apart ∙ stored
+stays_true-true_line g lines truth x y size h stored = search rules
 
 pub IsMendable-true_line_written : (setup : Setup) (lines : List Line) (regs : Regs) (ledger : LedgerState) (x : ℕ)
     → length lines ≡ device_lines setup.shape → x < meta_lines setup.shape → IsMendable setup lines regs ledger
@@ -110,15 +105,7 @@ IsSound-written_back setup engine lines regs ledger x sound h =
 
 IsTrueSlot-from_before : (g : Shape) (truth : List Line) (bank set : ℕ) (slots : List Slot) (slot : Slot)
     → IsFromBefore slots slot → All (IsTrueSlot g truth bank set) slots → IsTrueSlot g truth bank set slot
-IsTrueSlot-from_before g truth bank set slots slot from all =
-    let before : IsTrueSlot g truth bank set from.before =
-    All-stands (IsTrueSlot g truth bank set) slots from.before all from.stands in
-    record {
-      on_tree = subst (λ x. x < meta_lines g) from.position before.on_tree;
-      true_line = sym from.same_line ∙ before.true_line ∙ ap (line_at truth) from.position;
-      its_bank = ap level_of (sym from.position) ∙ before.its_bank;
-      its_set = ap (set_index g) (sym from.position) ∙ before.its_set;
-    }
+IsTrueSlot-from_before g truth bank set slots slot from all = search rules
 
 -- The engine stays trusted, whatever the device holds.
 pub IsTrusted-recached : (setup : Setup) (old new : EngineState) (regs : Regs) (ledger : LedgerState)
@@ -239,11 +226,7 @@ not_cleaned_other setup old new x y apart still cleaned =
 pub IsTrueOrDirty-sound : (setup : Setup) (engine : EngineState) (lines : List Line) (regs : Regs)
     (ledger : LedgerState) (x : ℕ) → IsSound setup engine lines regs ledger → x < meta_lines setup.shape
     → IsTrueOrDirty setup.shape engine.cache lines ledger.truth x
-IsTrueOrDirty-sound setup engine lines regs ledger x sound h =
-    elim (cases_Bool (is_cached_dirty setup.shape engine.cache (level_of x) x)) [
-      | inl dirty ↦ inr dirty
-      | inr clean ↦ inl (sound.true_unless_dirty x h clean)
-    ]
+IsTrueOrDirty-sound setup engine lines regs ledger x sound h = search rules
 
 -- a true line is written back
 pub IsTrueOrDirty-written_back : (g : Shape) (cache : Banks) (lines truth : List Line) (x y : ℕ)
@@ -276,16 +259,7 @@ IsTrueOrDirty-recached g old new lines truth y cleaned (inr dirty) =
 pub IsTrueOrDirty-cleaned : (g : Shape) (old new : Banks) (lines truth : List Line) (x y : ℕ)
     → length lines ≡ device_lines g → x < meta_lines g → (y ≢ x → ¬ WasCleaned g old new y)
     → IsTrueOrDirty g old lines truth y → IsTrueOrDirty g new (with_true_line g lines truth x) truth y
-IsTrueOrDirty-cleaned g old new lines truth x y size h kept before =
-    IsTrueOrDirty-recached g old new (with_true_line g lines truth x) truth y (λ cleaned. at cleaned (cases_eq y x))
-    (IsTrueOrDirty-written_back g old lines truth x y size h before)
-  where
-    at : WasCleaned g old new y → (y ≡ x) ⊎ (y ≡ x → ⊥)
-        → stored_meta g (with_true_line g lines truth x) y ≡ line_at truth y
-    at cleaned (inl same) =
-        ap (stored_meta g (with_true_line g lines truth x)) same ∙ stored_meta-true_line g lines truth x size h
-        ∙ ap (line_at truth) (sym same)
-    at cleaned (inr apart) = absurd (kept apart cleaned)
+IsTrueOrDirty-cleaned g old new lines truth x y size h kept before = search rules
 
 -- ---- what is cached dirty afterwards was so before
 

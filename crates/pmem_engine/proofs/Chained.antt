@@ -1,4 +1,6 @@
 -- Two parts of a call, one after the other, are one part: what holds of each holds of both.
+use Rattle.std.proofs.lemmas.Grind.{common_steps}
+use Rattle.std.proofs.Common.{rules}
 use Rattle.std.proofs.Common.{ℕ, ◌≡◌, ◌≢◌, ◌<◌, ◌+◌, ◌++◌, ◌⊎◌, inl, inr, Bool, true, false, List, IsTrue, refl, sym, ap, subst, ◌∙◌, arith}
 use Rattle.std.specs.List.{list_any}
 use Rattle.std.proofs.lemmas.Bool.{or_cases, or_parts, or_left, or_right, true≢false}
@@ -53,54 +55,11 @@ touched_by_second g made more x (page, touches, on_path) = (
 
 places_chained : (setup : Setup) (made more : List Mark) (old mid new : Parts)
     → KeepsPlaces setup made old mid → KeepsPlaces setup more mid new → KeepsPlaces setup (made ++ more) old new
-places_chained setup made more old mid new first second =
-    record {
-      seals = λ a within stored. second.seals a within (seal_at a within stored);
-      data_lines =
-          λ a within unsealed.
-          let apart = sealed_by_neither made more a unsealed in
-          second.data_lines a within apart.1 ∙ first.data_lines a within apart.0;
-      tag_slots =
-          λ a within unsealed.
-          let apart = sealed_by_neither made more a unsealed in
-          second.tag_slots a within apart.1 ∙ first.tag_slots a within apart.0;
-    }
-  where
-    seal_at : (a : ℕ) → a < layout.data_lines setup.shape → HoldsSeal setup.shape old a ⊎ IsTrue (is_sealed_by (made ++ more) a)
-        → HoldsSeal setup.shape mid a ⊎ IsTrue (is_sealed_by more a)
-    seal_at a within (inl held) = inl (first.seals a within (inl held))
-    seal_at a within (inr sealed) =
-        elim (sealed_by_either made more a sealed) [
-          | inl by_first ↦ inl (first.seals a within (inr by_first))
-          | inr by_second ↦ inr by_second
-        ]
+places_chained setup made more old mid new first second = grind (arith, common_steps)
 
 metadata_chained : (setup : Setup) (made more : List Mark) (old mid new : Parts)
     → KeepsMeta setup made old mid → KeepsMeta setup more mid new → KeepsMeta setup (made ++ more) old new
-metadata_chained setup made more old mid new first second =
-    record {
-      true_or_dirty = λ x within it. second.true_or_dirty x within (first.true_or_dirty x within it);
-      changed =
-          λ x within.
-          elim (second.changed x within) [
-            | inr now ↦ inr now
-            | inl same ↦
-                elim (first.changed x within) [
-                  | inl before ↦ inl (same ∙ before)
-                  | inr mid_true ↦ inr (second.true_or_dirty x within mid_true)
-                ]
-          ];
-      dirty =
-          λ bank x now.
-          elim (second.dirty bank x now) [
-            | inr touched ↦ inr (touched_by_second setup.shape made more x touched)
-            | inl mid_dirty ↦
-                elim (first.dirty bank x mid_dirty) [
-                  | inl before ↦ inl before
-                  | inr touched ↦ inr (touched_by_first setup.shape made more x touched)
-                ]
-          ];
-    }
+metadata_chained setup made more old mid new first second = grind (arith, common_steps)
 
 metadata_where : (setup : Setup) (outcome : Outcome) (made more : List Mark) (old mid new : Parts)
     → KeepsMeta setup made old mid → KeepsMetaWhere setup outcome more mid new
@@ -133,10 +92,7 @@ going_unshown e = absurd (true≢false (ap is_going e))
 -- ---- counts
 
 never_falls : (old mid new : ℕ) → NeverFalls old mid → NeverFalls mid new → NeverFalls old new
-never_falls old mid new first second within =
-    let one = first within in
-    let two = second one.1 in
-    (omega (arith, one.0, two.0), two.1)
+never_falls old mid new first second within = search rules
 
 -- ---- parts of a call
 

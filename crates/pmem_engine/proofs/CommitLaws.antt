@@ -1,4 +1,5 @@
 -- A group is written whole and emptied: Sound and Trusted of the engine that holds the path's new lines.
+use Rattle.std.proofs.Common.{rules}
 use Rattle.std.proofs.Common.{◌≡◌, ◌≢◌, ℕ, ◌+◌, ◌*◌, ◌%◌, ◌<◌, true, false, List, [], Some, length, refl, sym, ap, subst, subst₂, ◌∙◌, ◌⊎◌, inl, inr, arith}
 use Rattle.std.specs.List.{All, Contains}
 use Rattle.std.proofs.lemmas.Bool.{cases_eq, cases_Bool, false≢true}
@@ -68,11 +69,7 @@ place_stored : (setup : Setup) (old : EngineState) (regs : Regs) (before : Ledge
     (page bank set : ℕ) (slot : Slot) → IsTrusted setup old regs before
     → IsStoredSlot setup.shape truth page (set_of old.cache bank set) slot
     → (level_of slot.position ≡ bank) × (set_index setup.shape slot.position ≡ set)
-place_stored setup old regs before truth page bank set slot trusted from =
-    let was : IsTrueSlot setup.shape before.truth bank set from.before =
-    All-stands (IsTrueSlot setup.shape before.truth bank set) (set_of old.cache bank set) from.before
-    (trusted.cached_true bank set) from.stands in
-    (ap level_of (sym from.position) ∙ was.its_bank, ap (set_index setup.shape) (sym from.position) ∙ was.its_set)
+place_stored setup old regs before truth page bank set slot trusted from = search rules
 
 -- where the path's counter block is clean afterwards, only its nodes need to be named
 named_nodes_on_path : (setup : Setup) (old new : EngineState) (regs : Regs) (before : LedgerState)
@@ -205,20 +202,7 @@ pub IsTrueOrDirty-stored : (g : Shape) (old new : EngineState) (lines lines' old
     → (is_on_path g page x ≡ false → stored_meta g lines' x ≡ stored_meta g lines x)
     → (is_on_path g page x ≡ true → IsTrueOrDirty g new.cache lines' new_truth x)
     → IsTrueOrDirty g old.cache lines old_truth x → IsTrueOrDirty g new.cache lines' new_truth x
-IsTrueOrDirty-stored g old new lines lines' old_truth new_truth page x h changes stored off on before =
-    elim (cases_Bool (is_on_path g page x)) [
-      | inl here ↦ on here
-      | inr away ↦ at away before
-    ]
-  where
-    at : is_on_path g page x ≡ false → IsTrueOrDirty g old.cache lines old_truth x
-        → IsTrueOrDirty g new.cache lines' new_truth x
-    at away (inl same) = inl (off away ∙ same ∙ sym (changes.elsewhere x h away))
-    at away (inr dirty) =
-        elim (cases_Bool (is_cached_dirty g new.cache (level_of x) x)) [
-          | inl still ↦ inr still
-          | inr clean ↦ absurd (false≢true (sym (stored.kept_dirty x h away clean) ∙ dirty))
-        ]
+IsTrueOrDirty-stored g old new lines lines' old_truth new_truth page x h changes stored off on before = search rules
 
 -- after a write without the counter block
 pub IsTrueOrDirty-written : (g : Shape) (old new : EngineState) (lines old_truth new_truth : List Line)
@@ -226,9 +210,7 @@ pub IsTrueOrDirty-written : (g : Shape) (old new : EngineState) (lines old_truth
     → IsPathStored g old new new_truth page → IsPathDirty g new.cache page
     → IsTrueOrDirty g old.cache lines old_truth x
     → IsTrueOrDirty g new.cache (sealed_lines g lines a seal) new_truth x
-IsTrueOrDirty-written g old new lines old_truth new_truth a page x seal ha h changes stored dirty before =
-    IsTrueOrDirty-stored g old new lines (sealed_lines g lines a seal) old_truth new_truth page x h changes stored
-    (λ off. stored_meta-sealed_lines g lines a seal x ha) (λ on. inr (dirty.each x h on)) before
+IsTrueOrDirty-written g old new lines old_truth new_truth a page x seal ha h changes stored dirty before = search rules
 
 -- after a group that writes the page's new counter block, over lines with the metadata as it was
 pub IsTrueOrDirty-with_block : (g : Shape) (old new : EngineState) (lines between old_truth new_truth : List Line)

@@ -1,5 +1,6 @@
 -- A group that was armed, and finished or cut: what the device comes to, and what is left to show of a part of a
 -- call that commits one mark.
+use Rattle.std.proofs.Common.{rules}
 use Rattle.std.proofs.Common.{ℕ, ◌≡◌, ◌<◌, ◌≤◌, ◌+◌, ◌++◌, ◌⊎◌, inl, inr, true, false, List, [], ◌∷◌, length, IsTrue, Option, Some, None, refl, sym, ap, ap₂, subst, subst₂, ◌∙◌, arith}
 use Rattle.std.specs.Prelude.{MatchOption, IfSome, is_some, option_map}
 use Rattle.std.proofs.lemmas.Option.{none-some, same_Some}
@@ -190,43 +191,14 @@ module _ (setup : Setup) (group : List (ℕ × Line)) (mark : Mark) (old new : P
 
 -- what is sound is trusted
 pub sound_trusted : (setup : Setup) (parts : Parts) → AreSound setup parts → AreTrusted setup parts
-sound_trusted setup parts sound = at parts.device.lines sound
-  where
-    at : (told : Option (List Line))
-        → MatchOption told ⊥ (λ lines. IsSound setup parts.engine lines (regs_of parts) parts.ledger) → AreTrusted setup parts
-    at None it = absurd it
-    at (Some lines) it = it.trusted
+sound_trusted setup parts sound = search rules
 
 -- ---- a group finished
 
 -- one latch arms a group, and the finish empties it
 pub committed_from : (group : List (ℕ × Line)) (old mid new : Device) (armed : Regs) → armed.group.items ≡ group
     → finishing_latches group ≡ 1 → HasLatched old armed mid → HasFinished mid new → HasCommitted group old new
-committed_from group old mid new armed its_group one latched finished =
-    let same : mid.regs.group.items ≡ group = ap (λ regs. regs.group.items) latched.regs ∙ its_group in
-    record {
-      lines = finished.lines ∙ ap₂ redone_told same latched.lines;
-      no_group = ap (λ regs. regs.group.items) finished.regs;
-      writes =
-          subst₂ (λ items n. RisesBy (length items) n new.writes) same latched.writes finished.writes;
-      latches =
-          record {
-            never_falls = omega (arith, latched.latches.never_falls, finished.latches.never_falls);
-            exact = λ below. exact same below;
-          };
-      size = finished.size ∙ latched.size;
-      reads = finished.reads ∙ latched.reads;
-      cuts = finished.cuts ∙ latched.cuts;
-      steady = λ was. finished.steady (latched.steady was);
-      live = λ was. finished.live (latched.live was);
-    }
-  where
-    exact : mid.regs.group.items ≡ group → new.latches < last_count → new.latches ≡ old.latches + 2
-    exact same below =
-        let second : new.latches ≡ mid.latches + finishing_latches mid.regs.group.items = finished.latches.exact below in
-        let first : mid.latches ≡ old.latches + 1 =
-        latched.latches.exact (omega (arith, below, finished.latches.never_falls)) in
-        omega (arith, first, second, ap finishing_latches same, one)
+committed_from group old mid new armed its_group one latched finished = search rules
 
 -- ---- the part of a call
 
@@ -250,33 +222,7 @@ module _ (setup : Setup) (group : List (ℕ × Line)) (mark : Mark) (old new : P
       → (AreTrusted setup old → KeepsMeta setup (mark ∷ []) old new)
       → (AreTrusted setup old → (page : ℕ) → page < layout.pages setup.shape → HoldsCounters setup old page → HoldsCounters setup new page)
       → HasDone setup going (mark ∷ []) old new
-  done_committed done trusted sound places metadata counters =
-      record {
-        gone =
-            record {
-              shape = it.shape;
-              size = done.size;
-              told = ap is_some done.lines ∙ redone_is_some group old.device.lines;
-              valid = it.valid;
-              group = λ uncut. ap (λ items. record { items = items }) (done.no_group ∙ sym it.unarmed);
-              small_group = λ none. tt;
-              power = (done.steady, done.live, done.cuts);
-              reads = omega (arith, done.reads);
-              tags = it.tags;
-              digests = it.digests;
-              marks = it.marks;
-              spare = it.spare;
-              true_lines = it.true_lines;
-              data_lines = it.data_lines;
-              exhibit = λ unshown. it.exhibit;
-              trusted = trusted;
-              sound = sound;
-              places = places;
-              metadata = metadata;
-            };
-        loss = it.loss;
-        counters = counters;
-      }
+  done_committed done trusted sound places metadata counters = search rules
 
   -- or was cut while the group was armed
   pub done_cut_armed : IsCutArmed group old.device new.device
@@ -284,71 +230,18 @@ module _ (setup : Setup) (group : List (ℕ × Line)) (mark : Mark) (old new : P
       → (AreSound setup old → AreDurable setup new) → (AreTrusted setup old → KeepsPlaces setup (mark ∷ []) old new)
       → (AreTrusted setup old → (page : ℕ) → page < layout.pages setup.shape → HoldsCounters setup old page → HoldsCounters setup new page)
       → HasDone setup cut (mark ∷ []) old new
-  done_cut_armed armed anchored durable places counters =
-      record {
-        gone =
-            record {
-              shape = it.shape;
-              size = armed.size;
-              told = told_again armed;
-              valid = it.valid;
-              group = λ uncut. absurd (uncut refl);
-              small_group = λ none. subst (λ items. length items ≤ 3) (sym armed.armed) it.short;
-              power = (armed.unsteady, armed.off, armed.rose);
-              reads = omega (arith, armed.reads);
-              tags = it.tags;
-              digests = it.digests;
-              marks = it.marks;
-              spare = it.spare;
-              true_lines = it.true_lines;
-              data_lines = it.data_lines;
-              exhibit = λ unshown. it.exhibit;
-              trusted = anchored;
-              sound = durable;
-              places = places;
-              metadata = λ was. tt;
-            };
-        loss = it.loss;
-        counters = counters;
-      }
+  done_cut_armed armed anchored durable places counters = search rules
 
   -- sound of the told lines, once the group is finished
   pub sound_committed : HasCommitted group old.device new.device
       → ((lines : List Line) → old.device.lines ≡ Some lines → IsSound setup old.engine lines (regs_of old) old.ledger
       → IsSound setup new.engine (redone group lines) (regs_of new) new.ledger)
       → AreSound setup old → AreSound setup new
-  sound_committed done each sound =
-      subst (λ told. MatchOption told ⊥ (λ lines. IsSound setup new.engine lines (regs_of new) new.ledger)) (sym done.lines)
-      (at old.device.lines each sound)
-    where
-      at : (told : Option (List Line))
-          → ((lines : List Line) → told ≡ Some lines → IsSound setup old.engine lines (regs_of old) old.ledger
-          → IsSound setup new.engine (redone group lines) (regs_of new) new.ledger)
-          → MatchOption told ⊥ (λ lines. IsSound setup old.engine lines (regs_of old) old.ledger)
-          → MatchOption (redone_told group told) ⊥ (λ lines. IsSound setup new.engine lines (regs_of new) new.ledger)
-      at None each it = it
-      at (Some lines) each it = each lines refl it
+  sound_committed done each sound = search rules
 
   -- durable of the told lines, while it is armed
   pub durable_armed : IsCutArmed group old.device new.device → IsDevice new.device
       → ((lines : List Line) → old.device.lines ≡ Some lines → IsSound setup old.engine lines (regs_of old) old.ledger
       → IsDurable setup lines (regs_of new) new.ledger)
       → AreSound setup old → AreDurable setup new
-  durable_armed armed whole each sound =
-      at old.device.lines new.device.lines armed.again
-      (subst (λ size. AreToldLines size new.device.lines) (armed.size ∙ it.size) whole) each sound
-    where
-      at : (told told' : Option (List Line)) → redone_told group told' ≡ redone_told group told
-          → AreToldLines (layout.device_lines setup.shape) told'
-          → ((lines : List Line) → told ≡ Some lines → IsSound setup old.engine lines (regs_of old) old.ledger
-          → IsDurable setup lines (regs_of new) new.ledger)
-          → MatchOption told ⊥ (λ lines. IsSound setup old.engine lines (regs_of old) old.ledger)
-          → MatchOption told' ⊥ (λ lines. IsDurable setup lines (regs_of new) new.ledger)
-      at None told' again lines each it = absurd it
-      at (Some before) None again lines each it = absurd (none-some (redone group before) again)
-      at (Some before) (Some after) again lines each it =
-          IsDurable-again setup before after (regs_of new) new.ledger lines
-          (ap (λ items. redone items after) armed.armed
-          ∙ same_Some (redone group after) (redone group before) again
-          ∙ ap (λ items. redone items before) (sym armed.armed))
-          (each before refl it)
+  durable_armed armed whole each sound = search rules

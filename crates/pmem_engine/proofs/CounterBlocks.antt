@@ -1,4 +1,5 @@
 -- What the device keeps of each page's true counter block, by each kind of step and over any lines.
+use Rattle.std.proofs.Common.{rules}
 use Rattle.std.proofs.Common.{◌≡◌, ◌≢◌, ℕ, ◌*◌, ◌%◌, ◌<◌, List, length, sym, ap, subst, subst₂, ◌∙◌, ◌⊎◌, inl, inr, arith}
 use Rattle.std.specs.Prelude.{slice_set}
 use Rattle.std.proofs.lemmas.Bool.{cases_eq}
@@ -67,19 +68,7 @@ pub IsCounterStored-written_back : (setup : Setup) (lines : List Line) (loss : �
     → length lines ≡ device_lines setup.shape → x < meta_lines setup.shape
     → IsCounterStored setup lines loss truth page
     → IsCounterStored setup (with_true_line setup.shape lines truth x) loss truth page
-IsCounterStored-written_back setup lines loss truth page x size h before =
-    at (cases_eq (counter_position setup.shape page) x)
-  where
-    at : (counter_position setup.shape page ≡ x) ⊎ (counter_position setup.shape page ≡ x → ⊥)
-        → IsCounterStored setup (with_true_line setup.shape lines truth x) loss truth page
-    at (inl same) =
-        IsCounterStored-true setup (with_true_line setup.shape lines truth x) loss truth page
-        (ap (stored_meta setup.shape (with_true_line setup.shape lines truth x)) same
-        ∙ (stored_true setup lines truth x size h ∙ ap (line_at truth) (sym same)))
-    at (inr apart) =
-        subst (λ (l : Line). IsStoredBlock loss (unpacked l) (true_block setup.shape truth page))
-        (sym (stored_meta-set_other setup.shape lines x (line_at truth x) (counter_position setup.shape page) apart))
-        before
+IsCounterStored-written_back setup lines loss truth page x size h before = search rules
 
 -- a shadow line is written
 pub IsCounterStored-set_shadow : (setup : Setup) (lines : List Line) (loss : ℕ) (truth : List Line) (page n : ℕ)
@@ -129,10 +118,7 @@ pub IsCounterStored-resealed : (setup : Setup) (lines : List Line) (loss : ℕ) 
     (a page : ℕ) (seal : SealOf) → a < data_lines setup.shape → new_truth ≡ old_truth
     → IsCounterStored setup lines loss old_truth page
     → IsCounterStored setup (sealed_lines setup.shape lines a seal) loss new_truth page
-IsCounterStored-resealed setup lines loss old_truth new_truth a page seal ha same before =
-    IsCounterStored-same setup lines (sealed_lines setup.shape lines a seal) loss old_truth new_truth page
-    (stored_meta-sealed_lines setup.shape lines a seal (counter_position setup.shape page) ha)
-    (ap (λ truth. line_at truth (counter_position setup.shape page)) same) before
+IsCounterStored-resealed setup lines loss old_truth new_truth a page seal ha same before = search rules
 
 -- a group that writes the page's new counter block, over lines whose metadata is as it was
 pub IsCounterStored-with_block : (setup : Setup) (old lines : List Line) (loss : ℕ) (old_truth new_truth : List Line)

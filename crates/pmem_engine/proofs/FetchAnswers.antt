@@ -1,4 +1,5 @@
 -- What a fetch answers, by its end.
+use Rattle.std.proofs.Common.{rules}
 use Rattle.std.proofs.Common.{ℕ, zero, suc, ◌≡◌, ◌<◌, ◌≤◌, ◌+◌, ◌++◌, ◌⊎◌, inl, inr, Bool, true, false, List, [], ◌∷◌, length, Option, Some, None, Ok, Err, refl, sym, ap, ap₂, subst, subst₂, ◌∙◌, arith}
 use Rattle.std.specs.Prelude.{option_map, is_some, unwrap_or, ◌==◌, ◌*◌}
 use Rattle.std.proofs.lemmas.Bool.{true≢false, eq-eqb, cond-true, cond-false}
@@ -336,13 +337,7 @@ module _ (setup : Setup) (page : ℕ) (old new : EngineState) (ledger noted : Le
   true_tree trusted = record { tree = trusted.anchored.truth_is_tree; root_digest = trusted.anchored.root }
 
   cached_true : AreTrusted setup start → AreCachedTrue old.cache ledger.truth
-  cached_true trusted =
-      record {
-        each =
-            λ bank set.
-            All-weaker (IsTrueSlot setup.shape ledger.truth bank set) (λ slot. slot.line ≡ line_at ledger.truth slot.position)
-            (λ slot it. it.true_line) (set_of old.cache bank set) (trusted.cached_true bank set);
-      }
+  cached_true trusted = search rules
 
   -- the line read at level n was refused
   pub fetched_meta : (IsPathCached setup.shape old.cache page → ⊥) → noted ≡ ledger → (x : ℕ)

@@ -1,4 +1,5 @@
 -- A fetch of the engine, from what the fetch of its path ensures.
+use Rattle.std.proofs.Common.{rules}
 use Rattle.std.proofs.Common.{ℕ, ◌≡◌, ◌<◌, ◌≤◌, ◌+◌, true, Ok, Err, refl, sym, ap, subst, subst₂, ◌∙◌}
 use Rattle.std.specs.Prelude.{is_some}
 use Rattle.pmem_base.specs.Layout as layout
@@ -52,20 +53,7 @@ module _ (setup : Setup) (page : ℕ) (old new : EngineState) (ledger noted : Le
   -- with the ledger as it was
   over : noted ≡ ledger → before.reads ≤ after.reads → NeverFalls digests digests_now
       → IsFetchOver before after digests digests_now ledger noted
-  over same reads digests_rise =
-      record {
-        size = keeps.size;
-        regs = keeps.regs;
-        told = told;
-        whole = whole;
-        latches = keeps.latches;
-        reads = reads;
-        digests_rise = digests_rise;
-        marks = ap (λ l. l.marks) same;
-        truth = ap (λ l. l.truth) same;
-        data_lines = ap (λ l. l.data_lines) same;
-        spare = ap (λ l. l.spare) same;
-      }
+  over same reads digests_rise = search rules
 
   -- the path was fetched
   pub fetch_ok : IsPathCached setup.shape new.cache page → noted ≡ ledger

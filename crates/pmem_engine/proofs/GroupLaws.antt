@@ -1,4 +1,5 @@
 -- The armed group: a line of it is written, all of it is, and it is emptied. Durable stays.
+use Rattle.std.proofs.Common.{rules}
 use Rattle.std.proofs.Common.{◌≡◌, ℕ, List, [], sym, ap, subst, take}
 use Rattle.std.specs.Prelude.{slice_set}
 use Rattle.std.proofs.lemmas.List.Elements.{All-take}
@@ -20,15 +21,7 @@ use Rattle.pmem_engine.proofs.Latches.{anchored-emptied}
 pub IsMendable-anchored : (setup : Setup) (lines : List Line) (old new : Regs) (ledger : LedgerState)
     → IsAnchored setup new ledger → new.loss ≡ old.loss → IsMendable setup lines old ledger
     → IsMendable setup lines new ledger
-IsMendable-anchored setup lines old new ledger anchored loss before =
-    record {
-      anchored = anchored;
-      seals_stored = before.seals_stored;
-      true_or_named = before.true_or_named;
-      counters_stored =
-          λ page h.
-          subst (λ n. IsCounterStored setup lines n ledger.truth page) (sym loss) (before.counters_stored page h);
-    }
+IsMendable-anchored setup lines old new ledger anchored loss before = search rules
 
 -- where no group is armed, the device as it stands is one that recovery can rest on, ..
 pub IsMendable-unarmed : (setup : Setup) (lines : List Line) (regs : Regs) (ledger : LedgerState)
@@ -40,11 +33,7 @@ IsMendable-unarmed setup lines regs ledger durable empty =
 pub IsDurable-unarmed : (setup : Setup) (lines : List Line) (regs : Regs) (ledger : LedgerState)
     → AreLinesOf (device_lines setup.shape) lines → regs.group.items ≡ [] → IsMendable setup lines regs ledger
     → IsDurable setup lines regs ledger
-IsDurable-unarmed setup lines regs ledger whole empty mendable =
-    record {
-      device_whole = whole;
-      mendable = subst (λ group. IsMendable setup (redone group lines) regs ledger) (sym empty) mendable;
-    }
+IsDurable-unarmed setup lines regs ledger whole empty mendable = search rules
 
 -- ---- lines of the group are written
 
@@ -52,11 +41,7 @@ IsDurable-unarmed setup lines regs ledger whole empty mendable =
 pub IsDurable-again : (setup : Setup) (old new : List Line) (regs : Regs) (ledger : LedgerState)
     → AreLinesOf (device_lines setup.shape) new → redone regs.group.items new ≡ redone regs.group.items old
     → IsDurable setup old regs ledger → IsDurable setup new regs ledger
-IsDurable-again setup old new regs ledger whole again durable =
-    record {
-      device_whole = whole;
-      mendable = subst (λ lines. IsMendable setup lines regs ledger) (sym again) durable.mendable;
-    }
+IsDurable-again setup old new regs ledger whole again durable = search rules
 
 -- whatever is written at a place of the armed group, Durable stays, since the group is redone
 pub IsDurable-group_line : (setup : Setup) (lines : List Line) (regs : Regs) (ledger : LedgerState) (at : ℕ)
@@ -84,11 +69,7 @@ IsDurable-front setup lines regs ledger i durable =
 pub IsDurable-emptied_redone : (setup : Setup) (lines : List Line) (old new : Regs) (ledger : LedgerState)
     → IsDurable setup lines old ledger → redone old.group.items lines ≡ lines → IsEmptied old new
     → IsDurable setup lines new ledger
-IsDurable-emptied_redone setup lines old new ledger durable done emptied =
-    IsDurable-unarmed setup lines new ledger durable.device_whole emptied.no_group
-    (IsMendable-anchored setup lines old new ledger
-    (anchored-emptied setup old new ledger emptied durable.mendable.anchored) emptied.same_loss
-    (subst (λ all. IsMendable setup all old ledger) done durable.mendable))
+IsDurable-emptied_redone setup lines old new ledger durable done emptied = search rules
 
 -- .. as once each line of it stands in its place
 pub IsDurable-emptied_written : (setup : Setup) (lines : List Line) (old new : Regs) (ledger : LedgerState)

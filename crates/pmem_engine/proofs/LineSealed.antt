@@ -1,4 +1,5 @@
 -- The exits of a seal under the next counter: its tag line isn't read, its group is cut, or the line is sealed.
+use Rattle.std.proofs.Common.{rules}
 use Rattle.std.proofs.Common.{ℕ, ◌≡◌, ◌<◌, ◌≤◌, ◌+◌, ◌%◌, ◌++◌, inl, inr, Bool, true, false, List, [], ◌∷◌, length, IsTrue, Some, Ok, Err, cond, refl, sym, ap, ap₂, subst, ◌∙◌, arith}
 use Rattle.std.specs.Prelude.{option_map, ◌↔◌, ◌==◌, ◌&&◌, if◌then◌else◌}
 use Rattle.std.specs.List.{list_any}
@@ -102,11 +103,7 @@ undivided loss at ctr cipher tag unmade =
 
 -- how many steps
 pub some_steps : (loss : ℕ) (ctr : Ctr) → 4 ≤ seal_steps loss ctr
-some_steps loss ctr = go (ctr.minor % loss == 0) refl
-  where
-    go : (b : Bool) → (ctr.minor % loss == 0) ≡ b → 4 ≤ seal_steps loss ctr
-    go true is = subst (λ t. 4 ≤ cond t 5 4) (sym is) (omega arith)
-    go false is = subst (λ t. 4 ≤ cond t 5 4) (sym is) (omega arith)
+some_steps loss ctr = search rules
 
 module _ (setup : Setup) (at : ℕ) (plain tag_line : Line) (persisted : Bool) (engine engine_now : EngineState) (old mid new : Device)
     (before after : LedgerState) (tags digests tags_now digests_now : ℕ) (lines : List (ℕ × Line)) (root : List ℕ)
@@ -162,39 +159,14 @@ module _ (setup : Setup) (at : ℕ) (plain tag_line : Line) (persisted : Bool) (
 
   -- the tag line was read, no more
   was_read : HasDone setup going [] first middle
-  was_read =
-      done_reading setup first middle
-      (record {
-        engine = refl;
-        ledger = refl;
-        size = read.size;
-        lines = read.lines;
-        regs = read.regs;
-        writes = read.writes;
-        latches = read.latches;
-        cuts = read.cuts;
-        steady = read.steady;
-        live = read.live;
-        reads = read.reads.never_falls;
-        tags = same_never_falls tags tags refl;
-        digests = same_never_falls digests digests refl;
-      })
+  was_read = search rules
 
   -- whether the block is in the group
   is_due : (ctr.minor % old.regs.loss == 0) ≡ persisted
-  is_due = go persisted refl
-    where
-      go : (b : Bool) → persisted ≡ b → (ctr.minor % old.regs.loss == 0) ≡ persisted
-      go true is = eq-eqb (ctr.minor % old.regs.loss) 0 (due.0 is) ∙ sym is
-      go false is =
-          ne_eqb (ctr.minor % old.regs.loss) 0 (λ zero. absurd (true≢false (sym (due.1 zero) ∙ is))) ∙ sym is
+  is_due = search rules
 
   steps_are : seal_steps old.regs.loss ctr ≡ length group + 2
-  steps_are = ap (λ b. cond b 5 4) is_due ∙ go persisted
-    where
-      go : (b : Bool) → cond b 5 4 ≡ length (seal_group setup.shape next b block) + 2
-      go true = omega arith
-      go false = omega arith
+  steps_are = search rules
 
   -- the plain lines
   plain_after : after.marks ≡ before.marks ++ mark ∷ [] → (a : ℕ)

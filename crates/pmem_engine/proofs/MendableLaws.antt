@@ -1,4 +1,6 @@
 -- Laws of a device that can be mended: what redoing the group gives, and which line writes keep it.
+use Rattle.std.proofs.lemmas.Grind.{common_steps}
+use Rattle.std.proofs.Common.{rules}
 use Rattle.std.proofs.Common.{ℕ, ◌≡◌, ◌≢◌, ◌<◌, ◌≤◌, ◌+◌, ◌-◌, ◌*◌, false, Some, List, [], length, get_or, take, drop, replicate, map, All, ap, sym, ◌∙◌, subst, inl, inr, ◌⊎◌, IsTrue, arith}
 use Rattle.std.specs.Prelude.{slice_set}
 use Rattle.std.specs.List.{AllPairs}
@@ -46,11 +48,7 @@ AreLinesOf-redone size group lines all h =
 
 -- with no group the two are one
 pub IsDurable-no_group : (setup : Setup) (lines : List Line) (regs : Regs) (ledger : LedgerState) → regs.group.items ≡ [] → AreLinesOf (layout.device_lines setup.shape) lines → IsMendable setup lines regs ledger → IsDurable setup lines regs ledger
-IsDurable-no_group setup lines regs ledger e whole d =
-    record {
-      device_whole = whole;
-      mendable = subst (λ items. IsMendable setup (redone items lines) regs ledger) (sym e) d;
-    }
+IsDurable-no_group setup lines regs ledger e whole d = search rules
 
 pub IsMendable-no_group : (setup : Setup) (lines : List Line) (regs : Regs) (ledger : LedgerState) → regs.group.items ≡ [] → IsDurable setup lines regs ledger → IsMendable setup lines regs ledger
 IsMendable-no_group setup lines regs ledger e d =
@@ -136,9 +134,7 @@ IsMendable-true_line setup lines regs ledger x line whole d h same =
 
 -- the place written, and the other ones
 pub stored_meta-set_same : (setup : Setup) (lines : List Line) (x : ℕ) (line : Line) → AreLinesOf (layout.device_lines setup.shape) lines → x < layout.meta_lines setup.shape → stored_meta setup.shape (slice_set lines (layout.meta_line setup.shape x) line) x ≡ line
-stored_meta-set_same setup lines x line whole h =
-    line_at-set_same lines (layout.meta_line setup.shape x) line
-    (subst (λ k. layout.meta_line setup.shape x < k) (sym whole.count) (omega arith))
+stored_meta-set_same setup lines x line whole h = search rules
 
 pub stored_meta-set_other : (setup : Setup) (lines : List Line) (x y : ℕ) (line : Line) → y ≢ x → stored_meta setup.shape (slice_set lines (layout.meta_line setup.shape x) line) y ≡ stored_meta setup.shape lines y
 stored_meta-set_other setup lines x y line ne =
@@ -152,34 +148,17 @@ IsAllTrue-zeroed setup lines ledger n y all =
 
 -- once every metadata line is true, a shadow line can be zeroed
 pub IsMendable-zeroed : (setup : Setup) (lines : List Line) (regs : Regs) (ledger : LedgerState) (n : ℕ) → IsMendable setup lines regs ledger → IsAllTrue setup lines ledger → IsMendable setup (slice_set lines (layout.shadow_line setup.shape n) zero_line) regs ledger
-IsMendable-zeroed setup lines regs ledger n d all =
-    let after = IsAllTrue-zeroed setup lines ledger n zero_line all in
-    IsMendable-mending setup lines (slice_set lines (layout.shadow_line setup.shape n) zero_line) regs ledger
-    (record {
-      same_data = λ m low. line_at-set_other lines (layout.shadow_line setup.shape n) m zero_line (λ e. omega arith);
-      same_or_true = λ x h. inr (after.true_lines x h);
-      same_names_or_true = inr after;
-    })
-    d
+IsMendable-zeroed setup lines regs ledger n d all = grind (arith, common_steps)
 
 -- ---- the end
 
 -- line n of the shadow lines
 pub line_at-shadow_of : (g : Shape) (lines : List Line) (n : ℕ) → n < layout.shadow_lines g → line_at (shadow_of g lines) n ≡ line_at lines (layout.shadow_line g n)
-line_at-shadow_of g lines n h =
-    let low = layout.shadow_line g 0 in
-    let count = layout.device_lines g - layout.shadow_line g 0 in
-    get_or-take count (drop low lines) n zero_line (omega arith)
-    ∙ get_or-drop low lines n zero_line
-    ∙ ap (λ k. get_or lines k zero_line) (omega arith)
+line_at-shadow_of g lines n h = grind (arith, common_steps)
 
 -- past them there is the zero line
 line_at-shadow_past : (g : Shape) (lines : List Line) (n : ℕ) → layout.shadow_lines g ≤ n → line_at (shadow_of g lines) n ≡ zero_line
-line_at-shadow_past g lines n h =
-    let low = layout.shadow_line g 0 in
-    let count = layout.device_lines g - layout.shadow_line g 0 in
-    let short = length-take count (drop low lines) in
-    get_or_past (shadow_of g lines) n zero_line (omega (arith, short))
+line_at-shadow_past g lines n h = grind (arith, common_steps)
 
 pub AreAllZero-shadow_of : (setup : Setup) (lines : List Line) → IsShadowZero setup lines → AreAllZero (shadow_of setup.shape lines)
 AreAllZero-shadow_of setup lines z = record { zero_lines = λ n. at n (cases_lt n (layout.shadow_lines setup.shape)) }
@@ -193,20 +172,7 @@ pub is_named-zero : (setup : Setup) (lines : List Line) (x : ℕ) → IsShadowZe
 is_named-zero setup lines x z = is_named_in-zero setup.shape (shadow_of setup.shape lines) (level_of x) x (AreAllZero-shadow_of setup lines z)
 
 pub IsSound-new_engine : (setup : Setup) (engine : EngineState) (lines : List Line) (regs : Regs) (ledger : LedgerState) → IsNewEngine setup engine lines → AreLinesOf (layout.device_lines setup.shape) lines → IsMendable setup lines regs ledger → IsAllTrue setup lines ledger → regs.group.items ≡ [] → IsSound setup engine lines regs ledger
-IsSound-new_engine setup engine lines regs ledger new whole d all none =
-    record {
-      trusted = record {
-        its_shape = new.its_shape;
-        anchored = d.anchored;
-        no_group = none;
-        not_down = new.not_down;
-        cached_true = λ bank set. All-same (IsTrueSlot setup.shape ledger.truth bank set) (set_of engine.cache bank set) [] (new.empty_cache bank set) (All-nil (IsTrueSlot setup.shape ledger.truth bank set));
-      };
-      durable = IsDurable-no_group setup lines regs ledger none whole d;
-      true_unless_dirty = λ x h clean. all.true_lines x h;
-      dirty_named = λ bank set. All-same (IsDirtyNamed setup.shape engine.mirror bank set) (set_of engine.cache bank set) [] (new.empty_cache bank set) (All-nil (IsDirtyNamed setup.shape engine.mirror bank set));
-      mirror_true = new.its_mirror;
-    }
+IsSound-new_engine setup engine lines regs ledger new whole d all none = search rules
 
 -- zero shadow lines as a list, as a new engine's copy of them is made
 pub shadow_of-zero : (setup : Setup) (lines : List Line) → AreLinesOf (layout.device_lines setup.shape) lines → IsShadowZero setup lines → shadow_of setup.shape lines ≡ replicate (layout.shadow_lines setup.shape) zero_line
@@ -234,43 +200,13 @@ shadow_of-zero setup lines whole z =
 -- ---- the group is emptied
 
 pub IsValidRegs-emptied : (g : Shape) (old new : Regs) → IsEmptied old new → IsValidRegs g old → IsValidRegs g new
-IsValidRegs-emptied g old new e valid =
-    record {
-      group =
-          subst (IsGroup (layout.device_lines g)) (sym e.no_group)
-          (record {
-            distinct = λ i j x less within. absurd (omega arith);
-            on_device = All-nil (λ entry. entry.0 < layout.device_lines g);
-            lines_range = All-nil (λ entry. IsLine entry.1);
-          });
-      each_page = subst (λ items. All (IsProgress g) items) (sym e.same_progress) valid.each_page;
-      distinct_pages = subst (λ items. AllPairs (λ a b. a.page ≢ b.page) items) (sym e.same_progress) valid.distinct_pages;
-      known_loss = subst (λ n. IsTrue (is_loss n)) (sym e.same_loss) valid.known_loss;
-    }
+IsValidRegs-emptied g old new e valid = search rules
 
 pub IsAnchored-emptied : (setup : Setup) (old new : Regs) (ledger : LedgerState) → IsEmptied old new → IsAnchored setup old ledger → IsAnchored setup new ledger
-IsAnchored-emptied setup old new ledger e d =
-    record {
-      of_shape = d.of_shape;
-      truth_is_tree = d.truth_is_tree;
-      root = e.same_root ∙ d.root;
-      last_counters = λ a h. d.last_counters a h ∙ ap (λ items. Some (true_counter setup.shape items ledger.truth a)) (sym e.same_progress);
-      seals_tagged = d.seals_tagged;
-      valid_regs = IsValidRegs-emptied setup.shape old new e d.valid_regs;
-      held_back = subst (λ items. All (IsHeldBack setup.shape ledger.truth) items) (sym e.same_progress) d.held_back;
-      fresh = d.fresh;
-      open_pages = d.open_pages ∙ ap (map register_page) (sym e.same_progress);
-      no_exhibit = d.no_exhibit;
-    }
+IsAnchored-emptied setup old new ledger e d = search rules
 
 pub IsMendable-emptied : (setup : Setup) (lines : List Line) (old new : Regs) (ledger : LedgerState) → IsEmptied old new → IsMendable setup lines old ledger → IsMendable setup lines new ledger
-IsMendable-emptied setup lines old new ledger e d =
-    record {
-      anchored = IsAnchored-emptied setup old new ledger e d.anchored;
-      seals_stored = d.seals_stored;
-      true_or_named = d.true_or_named;
-      counters_stored = λ page h. subst (λ n. IsCounterStored setup lines n ledger.truth page) (sym e.same_loss) (d.counters_stored page h);
-    }
+IsMendable-emptied setup lines old new ledger e d = search rules
 
 -- so a durable device whose group is redone and emptied is durable, with its lines as they are
 pub IsDurable-emptied : (setup : Setup) (lines : List Line) (old new : Regs) (ledger : LedgerState) → IsEmptied old new → IsDurable setup lines old ledger → IsDurable setup (redone old.group.items lines) new ledger
@@ -295,27 +231,12 @@ IsDurable-zeroed setup lines regs ledger n none d all =
 
 -- a seal on the device stays where data and tag lines stay, tampered with or not
 pub IsSealStored-same : (g : Shape) (old new : List Line) (marks : List Mark) (a : ℕ) → a < layout.data_lines g → ((n : ℕ) → n < 80 * layout.pages g → line_at new n ≡ line_at old n) → IsSealStored g old marks a → IsSealStored g new marks a
-IsSealStored-same g old new marks a h same stored =
-    record {
-      cipher = stored.cipher ∙ ap (λ l. Some l) (sym (same a (omega arith)));
-      tag = stored.tag ∙ ap (λ l. Some (tag_slot l a)) (sym (same (layout.tag_line g a) (omega arith)));
-    }
+IsSealStored-same g old new marks a h same stored = search rules
 
 -- a cut while the group is redone: what counts are the lines with the group redone
 pub IsDurable-same_redone : (setup : Setup) (old new : List Line) (regs : Regs) (ledger : LedgerState) → redone regs.group.items new ≡ redone regs.group.items old → AreLinesOf (layout.device_lines setup.shape) new → IsDurable setup old regs ledger → IsDurable setup new regs ledger
-IsDurable-same_redone setup old new regs ledger same whole d =
-    record {
-      device_whole = whole;
-      mendable = subst (λ lines. IsMendable setup lines regs ledger) (sym same) d.mendable;
-    }
+IsDurable-same_redone setup old new regs ledger same whole d = search rules
 
 -- the engine that starts anew is trusted, whatever the device holds
 pub IsTrusted-new_engine : (setup : Setup) (engine : EngineState) (lines : List Line) (regs : Regs) (ledger : LedgerState) → IsNewEngine setup engine lines → IsAnchored setup regs ledger → regs.group.items ≡ [] → IsTrusted setup engine regs ledger
-IsTrusted-new_engine setup engine lines regs ledger new anchored none =
-    record {
-      its_shape = new.its_shape;
-      anchored = anchored;
-      no_group = none;
-      not_down = new.not_down;
-      cached_true = λ bank set. All-same (IsTrueSlot setup.shape ledger.truth bank set) (set_of engine.cache bank set) [] (new.empty_cache bank set) (All-nil (IsTrueSlot setup.shape ledger.truth bank set));
-    }
+IsTrusted-new_engine setup engine lines regs ledger new anchored none = search rules

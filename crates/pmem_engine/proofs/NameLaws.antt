@@ -1,4 +1,7 @@
 -- Shadow entries and dirty blocks: what a sound engine's mirror names, and a shadow line is written.
+use Rattle.std.proofs.lemmas.Grind.{common_steps}
+use Rattle.std.proofs.Common.{arith}
+use Rattle.std.proofs.Common.{rules}
 use Rattle.std.proofs.Common.{◌≡◌, ◌≢◌, ℕ, ◌+◌, ◌<◌, true, false, List, sym, ap, subst, subst₂, ◌∙◌, ◌⊎◌, inl, inr}
 use Rattle.std.specs.Prelude.{IsTrue, slice_set}
 use Rattle.std.specs.List.{All, Contains}
@@ -113,16 +116,7 @@ ArePathSlotsNamed-kept g cache old new bank set page slot form stands names name
 pub IsTrusted-same_cache : (setup : Setup) (old new : EngineState) (regs : Regs) (ledger : LedgerState)
     → new.shape ≡ old.shape → new.cache ≡ old.cache → new.down ≡ old.down
     → IsTrusted setup old regs ledger → IsTrusted setup new regs ledger
-IsTrusted-same_cache setup old new regs ledger shape cache down trusted =
-    record {
-      its_shape = shape ∙ trusted.its_shape;
-      anchored = trusted.anchored;
-      no_group = trusted.no_group;
-      not_down = down ∙ trusted.not_down;
-      cached_true =
-          subst (λ banks. (bank set : ℕ) → All (IsTrueSlot setup.shape ledger.truth bank set) (set_of banks bank set))
-          (sym cache) trusted.cached_true;
-    }
+IsTrusted-same_cache setup old new regs ledger shape cache down trusted = search rules
 
 -- the engine stays trusted while its mirror is written, whatever the device holds
 pub IsTrusted-named : (setup : Setup) (old new : EngineState) (regs : Regs) (ledger : LedgerState) (n : ℕ)
@@ -139,16 +133,7 @@ pub IsMendable-set_shadow : (setup : Setup) (lines : List Line) (n : ℕ) (line 
     ⊎ IsTrue (is_named setup.shape (slice_set lines (shadow_line setup.shape n) line) x))
     → IsMendable setup lines regs ledger
     → IsMendable setup (slice_set lines (shadow_line setup.shape n) line) regs ledger
-IsMendable-set_shadow setup lines n line regs ledger true_or_named before =
-    record {
-      anchored = before.anchored;
-      seals_stored =
-          λ a h. IsSealStored-set_shadow setup.shape lines n line ledger.marks a h (before.seals_stored a h);
-      true_or_named = true_or_named;
-      counters_stored =
-          λ page h.
-          IsCounterStored-set_shadow setup lines regs.loss ledger.truth page n line h (before.counters_stored page h);
-    }
+IsMendable-set_shadow setup lines n line regs ledger true_or_named before = grind (arith, common_steps)
 
 -- A cached block's shadow line is written, so that its slot's entry names it: Sound stays, with the new
 -- mirror, and with it Durable.

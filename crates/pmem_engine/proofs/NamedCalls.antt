@@ -1,4 +1,5 @@
 -- A path was named, or a cut came before one of its entries was written: what the call keeps.
+use Rattle.std.proofs.Common.{rules}
 use Rattle.std.proofs.Common.{ℕ, ◌≡◌, ◌<◌, ◌≤◌, ◌+◌, ◌⊎◌, inl, inr, true, false, List, [], length, Some, Ok, Err, refl, sym, ap, ap₂, subst, ◌∙◌, arith}
 use Rattle.std.specs.Prelude.{MatchOption, IfSome, option_map, is_some, is_ok, Result}
 use Rattle.std.proofs.lemmas.Bool.{true≢false}
@@ -67,18 +68,11 @@ module _ (setup : Setup) (page n : ℕ) (old new : EngineState) (before after : 
 
   holds_now : AreTrusted setup start → (P Q : List Line → Type 0) → ((were : List Line) → P were → Q (now_of were))
       → IfSome (lines_redone start) P → IfSome (lines_redone finish) Q
-  holds_now trusted P Q give held =
-      subst (λ o. IfSome o Q) (sym (redone_after trusted))
-      (told_cases P Q before.lines after.lines told
-      (λ were are was is had. subst Q (sym (lines_now were are was is)) (give were had))
-      (subst (λ o. IfSome o P) (redone_before trusted) held))
+  holds_now trusted P Q give held = search rules
 
   seen_same : {A : Type 0} → AreTrusted setup start → (f : List Line → A) → ((were : List Line) → f (now_of were) ≡ f were)
       → option_map f (lines_redone finish) ≡ option_map f (lines_redone start)
-  seen_same trusted f same =
-      ap (option_map f) (redone_after trusted)
-      ∙ told_same f before.lines after.lines told (λ were are was is. ap f (lines_now were are was is) ∙ same were)
-      ∙ sym (ap (option_map f) (redone_before trusted))
+  seen_same trusted f same = search rules
 
   pub meta_same : AreTrusted setup start → (x : ℕ) → x < layout.meta_lines setup.shape
       → meta_line_in setup.shape finish x ≡ meta_line_in setup.shape start x
@@ -164,28 +158,7 @@ module _ (setup : Setup) (page n : ℕ) (old new : EngineState) (before after : 
       → (AreTrusted setup start → KeepsMetaWhere setup outcome [] start finish)
       → (before.regs.group.items ≡ [] → HasSmallGroup outcome finish)
       → HasGone setup outcome [] start finish
-  gone outcome power leaves_trusted leaves_sound keeps_places keeps_meta small =
-      record {
-        shape = shape;
-        size = size;
-        told = told;
-        valid = λ was. subst (λ regs. IsValidRegs setup.shape regs) (sym same_regs) was;
-        group = λ uncut. ap (λ regs. regs.group) same_regs;
-        small_group = small;
-        power = power;
-        reads = omega (arith, reads);
-        tags = λ within. (omega arith, within);
-        digests = λ within. (omega arith, within);
-        marks = sym (append-nil ledger.marks);
-        spare = omega arith;
-        true_lines = refl;
-        data_lines = refl;
-        exhibit = λ unshown. refl;
-        trusted = leaves_trusted;
-        sound = leaves_sound;
-        places = keeps_places;
-        metadata = keeps_meta;
-      }
+  gone outcome power leaves_trusted leaves_sound keeps_places keeps_meta small = search rules
 
   pub named_going : (before.steady ≡ true → after.steady ≡ true) → (before.live ≡ true → after.live ≡ true)
       → after.cuts ≡ before.cuts

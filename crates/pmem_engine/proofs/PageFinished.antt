@@ -1,4 +1,5 @@
 -- The lines of a page sealed anew one after the other: the first of them, one more, all, or not all.
+use Rattle.std.proofs.Common.{rules}
 use Rattle.std.proofs.Common.{ℕ, ◌≡◌, ◌<◌, ◌≤◌, ◌+◌, ◌*◌, ◌++◌, ◌⊎◌, inl, inr, false, List, [], ◌∷◌, length, map, get_or, Some, IsTrue, Result, Ok, Err, refl, sym, ap, subst, ◌∙◌, arith}
 use Rattle.std.specs.Prelude.{◌||◌, slice_get}
 use Rattle.std.proofs.lemmas.Bool.{cases_Bool, true≢false, false≢true, eq-eqb}
@@ -55,22 +56,7 @@ left_at_first old n [] is some = absurd (omega (arith, some))
 left_at_first old n (i ∷ left) is some = record { same_page = refl; places = is; as_many = refl }
 
 pub same_parts : (setup : Setup) (old : Parts) → HasOnlyRead old old
-same_parts setup old =
-    record {
-      engine = refl;
-      ledger = refl;
-      size = refl;
-      lines = refl;
-      regs = refl;
-      writes = refl;
-      latches = refl;
-      cuts = refl;
-      steady = λ was. was;
-      live = λ was. was;
-      reads = omega arith;
-      tags = same_never_falls old.tags old.tags refl;
-      digests = same_never_falls old.digests old.digests refl;
-    }
+same_parts setup old = search rules
 
 pub first_none : (setup : Setup) (n : ℕ) (old : Parts) → IsValidRegs setup.shape (regs_of old)
     → n < length (regs_of old).progress.items → HasResealedFirst setup n 0 old old
@@ -119,15 +105,7 @@ reseal_same setup memory n i old new was now truth page within held_was held_now
     at = line_of_page (register_in old n) i
 
 steps_more : (n m : ℕ) (old mid new : Device) → TakesSteps n old mid → TakesSteps m mid new → TakesSteps (n + m) old new
-steps_more n m old mid new first second =
-    record {
-      writes = omega (arith, first.writes, second.writes);
-      latches = omega (arith, first.latches, second.latches);
-      sum =
-          λ writes latches.
-          let before = first.sum (omega (arith, writes, second.writes)) (omega (arith, latches, second.latches)) in
-          omega (arith, before, second.sum writes latches);
-    }
+steps_more n m old mid new first second = search rules
 
 -- the mark asked of the line at a place of the register's page
 abbrev asked_of : Setup → ℕ → Parts → Memory → ℕ → Mark

@@ -1,4 +1,5 @@
 -- A path is named in the shadow tables, from the top down: what stays sound, and which lines change.
+use Rattle.std.proofs.Common.{rules}
 use Rattle.std.proofs.Common.{ℕ, zero, suc, ◌≡◌, ◌<◌, ◌≤◌, ◌+◌, ◌*◌, ◌%◌, ◌^◌, Bool, true, false, List, [], ◌∷◌, ◌++◌, length, refl, sym, ap, ap₂, subst, subst₂, ◌∙◌, arith}
 use Rattle.std.specs.Prelude.{All, ◌==◌}
 use Rattle.std.proofs.lemmas.Bool.{cond-true, cond-false, eq-eqb}
@@ -42,19 +43,7 @@ write_cases : (g : Shape) (shadow : List Line) (bank n x : ℕ) (P : List (ℕ �
     → (is_slot_named g shadow bank n x ≡ false
     → P ((shadow_line g (entry_line g bank n), naming_line g shadow bank n x) ∷ []) (with_named g shadow bank n x))
     → P (naming_write g shadow bank n x) (named_slot g shadow bank n x)
-write_cases g shadow bank n x P named unnamed = go (is_slot_named g shadow bank n x) refl
-  where
-    go : (b : Bool) → is_slot_named g shadow bank n x ≡ b → P (naming_write g shadow bank n x) (named_slot g shadow bank n x)
-    go true is =
-        subst₂ P
-        (sym (cond-true (is_slot_named g shadow bank n x) []
-        ((shadow_line g (entry_line g bank n), naming_line g shadow bank n x) ∷ []) is))
-        (sym (cond-true (is_slot_named g shadow bank n x) shadow (with_named g shadow bank n x) is)) (named is)
-    go false is =
-        subst₂ P
-        (sym (cond-false (is_slot_named g shadow bank n x) []
-        ((shadow_line g (entry_line g bank n), naming_line g shadow bank n x) ∷ []) is))
-        (sym (cond-false (is_slot_named g shadow bank n x) shadow (with_named g shadow bank n x) is)) (unnamed is)
+write_cases g shadow bank n x P named unnamed = search rules
 
 -- no metadata line
 pub meta_kept : (g : Shape) (cache : Banks) (page : ℕ) (mirror lines : List Line) (n x : ℕ) → x < meta_lines g
@@ -118,13 +107,7 @@ none_written g cache page mirror (suc n) within named =
 -- ---- the copy of the shadow lines
 
 index_low : (g : Shape) (bank n : ℕ) → entry_index g bank n < 16
-index_low g bank n = go (bank == g.levels) refl
-  where
-    go : (b : Bool) → (bank == g.levels) ≡ b → entry_index g bank n < 16
-    go true is =
-        subst (λ k. k < 16) (sym (cond-true (bank == g.levels) (n % 16) ((bank * slots g + n) % 16) is)) (omega arith)
-    go false is =
-        subst (λ k. k < 16) (sym (cond-false (bank == g.levels) (n % 16) ((bank * slots g + n) % 16) is)) (omega arith)
+index_low g bank n = search rules
 
 pub record IsMirror (g : Shape) (mirror : List Line) : Type 0 where
   pub long : length mirror ≡ shadow_lines g

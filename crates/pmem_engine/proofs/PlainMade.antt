@@ -1,4 +1,5 @@
 -- A write's plain line: its own where it is a whole line, else the unsealed one with its bytes.
+use Rattle.std.proofs.Common.{rules}
 use Rattle.std.proofs.Common.{ℕ, ◌≡◌, ◌<◌, ◌≤◌, ◌+◌, ◌-◌, ◌++◌, List, [], ◌∷◌, length, take, drop, Option, Some, None, Result, Ok, Err, refl, sym, ap, subst, ◌∙◌, arith}
 use Rattle.std.specs.Prelude.{slice_range, option_map, IfSome, is_ok}
 use Rattle.std.proofs.lemmas.Bool.{true≢false}
@@ -154,21 +155,4 @@ module _ (setup : Setup) (write : Posted) (ctr : Ctr) (old new : Parts) (shorter
 
   pub plain_unsealed : (answer : Result Unsealed Fault) → HasUnsealed setup write.at ctr old new answer
       → HasMadePlain setup write old new (made_of write answer)
-  plain_unsealed answer it =
-      record {
-        done =
-            subst (λ outcome. HasDone setup outcome [] old new) (sym (same_outcome write answer)) it.done;
-        answered = λ trusted cached. answers_plain answer (it.answered trusted (last trusted cached));
-        unrefused =
-            λ sound cached.
-            unrefused_so write answer (it.unrefused sound (last (sound_trusted setup old sound) cached));
-        not_down = λ down. it.not_down (down_before write answer down);
-        whole = λ is. absurd (omega (arith, is, shorter));
-        engine = it.engine;
-        lines = it.lines;
-        regs = it.regs;
-        digests = it.digests;
-        same_ledger = λ unshown. it.same_ledger (λ is. unshown (same_outcome write answer ∙ is));
-        no_steps = it.no_steps;
-        cut_unpowered = λ is. it.cut_unpowered (cut_before write answer is);
-      }
+  plain_unsealed answer it = search rules

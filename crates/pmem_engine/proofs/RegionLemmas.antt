@@ -1,5 +1,6 @@
 -- What the parts of the device show after a write to one of its regions: metadata lines, names, data
 -- lines and tags, each by itself and over any lines.
+use Rattle.std.proofs.Common.{rules}
 use Rattle.std.proofs.Common.{◌≡◌, ◌≢◌, ℕ, ◌%◌, ◌<◌, ◌*◌, List, length, Some, refl, sym, ap, subst, ◌∙◌, ◌⊎◌, inl, inr, arith}
 use Rattle.std.specs.Prelude.{option_map, slice_set}
 use Rattle.std.proofs.lemmas.Bool.{cases_eq}
@@ -74,33 +75,17 @@ IsPlaceKept-trans g first second third a one two =
 -- a metadata line or a shadow line is written
 pub IsPlaceKept-set_meta : (g : Shape) (lines : List Line) (x : ℕ) (line : Line) (a : ℕ) → a < data_lines g
     → IsPlaceKept g lines (slice_set lines (meta_line g x) line) a
-IsPlaceKept-set_meta g lines x line a h =
-    record {
-      its_line = line_at-set_other lines (meta_line g x) a line (meta_line≢data g a x h);
-      slot =
-          ap (λ l. tag_slot l a)
-          (line_at-set_other lines (meta_line g x) (tag_line g a) line (meta_line≢tag g a x h));
-    }
+IsPlaceKept-set_meta g lines x line a h = search rules
 
 pub IsPlaceKept-set_shadow : (g : Shape) (lines : List Line) (n : ℕ) (line : Line) (a : ℕ) → a < data_lines g
     → IsPlaceKept g lines (slice_set lines (shadow_line g n) line) a
-IsPlaceKept-set_shadow g lines n line a h =
-    record {
-      its_line = line_at-set_other lines (shadow_line g n) a line (shadow_line≢data g a n h);
-      slot =
-          ap (λ l. tag_slot l a)
-          (line_at-set_other lines (shadow_line g n) (tag_line g a) line (shadow_line≢tag g a n h));
-    }
+IsPlaceKept-set_shadow g lines n line a h = search rules
 
 -- a line whose last seal, data line and tag slot are as before has its seal stored as before
 pub IsSealStored-kept : (g : Shape) (old new : List Line) (old_marks new_marks : List Mark) (a : ℕ)
     → last_seal new_marks a ≡ last_seal old_marks a → IsPlaceKept g old new a → IsSealStored g old old_marks a
     → IsSealStored g new new_marks a
-IsSealStored-kept g old new old_marks new_marks a seal place stored =
-    record {
-      cipher = ap (option_map (λ (s : SealOf). s.cipher)) seal ∙ stored.cipher ∙ ap Some (sym place.its_line);
-      tag = ap (option_map (λ (s : SealOf). s.tag)) seal ∙ stored.tag ∙ ap Some (sym place.slot);
-    }
+IsSealStored-kept g old new old_marks new_marks a seal place stored = search rules
 
 pub IsSealStored-set_meta : (g : Shape) (lines : List Line) (x : ℕ) (line : Line) (marks : List Mark) (a : ℕ)
     → a < data_lines g → IsSealStored g lines marks a → IsSealStored g (slice_set lines (meta_line g x) line) marks a

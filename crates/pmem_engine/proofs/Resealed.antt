@@ -1,4 +1,5 @@
 -- The exits of a reseal: its line isn't unsealed, its group is cut, or the line is sealed anew.
+use Rattle.std.proofs.Common.{rules}
 use Rattle.std.proofs.Common.{ℕ, ◌≡◌, ◌<◌, ◌≤◌, ◌+◌, ◌++◌, inl, inr, true, false, [], ◌∷◌, length, get_or, Some, Ok, Err, refl, sym, ap, ap₂, subst, subst₂, ◌∙◌, arith}
 use Rattle.std.specs.Prelude.{◌==◌, not, option_map, IfSome}
 use Rattle.std.proofs.lemmas.Bool.{true≢false, eq-eqb, and_from}
@@ -73,11 +74,7 @@ module _ (setup : Setup) (n : ℕ) (engine : EngineState) (old : Device) (before
 
   -- the line is one of the page
   pub held_in_range : held.at < layout.data_lines setup.shape
-  held_in_range =
-      let page = in_use.its_page in
-      let place = next.inside in
-      let it = next.its_line in
-      omega (arith, page, place, it)
+  held_in_range = search rules
 
   its_page : page_of held.at ≡ register.page
   its_page = let place = next.inside in let it = next.its_line in omega (arith, place, it)
@@ -365,12 +362,7 @@ module _ (setup : Setup) (n : ℕ) (engine : EngineState) (old : Device) (before
       kept_meta : AreTrusted setup start → (x : ℕ) → HasLineSealed setup.shape sealing mid new ledger after
           → lines_redone final ≡ redone_told (entries_of setup.shape sealing) mid.lines
           → meta_line_in setup.shape final x ≡ meta_line_in setup.shape start x
-      kept_meta trusted x done comes =
-          ap (option_map (λ ls. stored_meta setup.shape ls x)) comes
-          ∙ resealed_meta_kept setup sealing register engine mid new ledger after tags_mid digests_mid tags_now digests_now
-          resealing done (it.done.gone.trusted trusted).anchored x mid.lines refl
-          ∙ ap (option_map (λ ls. stored_meta setup.shape ls x)) (sym (redone_none mid.lines) ∙ sym (ap (λ items. redone_told items mid.lines) still_unarmed))
-          ∙ meta_of_same setup.shape x start middle it.regs it.lines
+      kept_meta trusted x done comes = search rules
 
       -- ---- or while it was armed
 

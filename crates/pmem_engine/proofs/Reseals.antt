@@ -1,4 +1,5 @@
 -- A held line sealed anew: its group armed, and finished or cut.
+use Rattle.std.proofs.Common.{rules}
 use Rattle.std.proofs.Common.{ℕ, ◌≡◌, ◌≢◌, ◌<◌, ◌+◌, ◌++◌, inl, inr, true, false, List, [], ◌∷◌, length, IsTrue, Option, Some, None, refl, sym, ap, subst, ◌∙◌, arith}
 use Rattle.std.specs.Prelude.{◌||◌, AllPairs, All, option_map}
 use Rattle.std.proofs.lemmas.Bool.{true≢false, false≢true, cases_eq, eq-eqb, ne_eqb}
@@ -40,11 +41,7 @@ use Rattle.pmem_engine.proofs.Committed.{IsCommit, KeepsSeals, KeepsTrue, whole_
 
 -- one seal, and whether it is a line's
 pub sealed_here : (at a : ℕ) (ctr : Ctr) (cipher : Line) (tag : List ℕ) → is_sealed_by (Seal at ctr cipher tag ∷ []) a ≡ true → a ≡ at
-sealed_here at a ctr cipher tag it =
-    elim (cases_eq at a) [
-      | inl same ↦ sym same
-      | inr other ↦ absurd (false≢true (sym (ap (λ t. t || false) (ne_eqb at a other)) ∙ it))
-    ]
+sealed_here at a ctr cipher tag it = search rules
 
 pub unsealed_other : (at a : ℕ) (ctr : Ctr) (cipher : Line) (tag : List ℕ) → is_sealed_by (Seal at ctr cipher tag ∷ []) a ≡ false → a ≢ at
 unsealed_other at a ctr cipher tag it same =

@@ -1,4 +1,5 @@
 -- A page's new path stored in the cache, as the laws on the device ask for it.
+use Rattle.std.proofs.Common.{rules}
 use Rattle.std.proofs.Common.{ℕ, ◌≡◌, ◌<◌, ◌≤◌, ◌+◌, ◌*◌, inl, inr, Bool, true, false, List, length, refl, sym, ap, ap₂, subst, subst₂, ◌∙◌, arith}
 use Rattle.std.specs.Prelude.{not, ◌||◌, nat_lt, option_map, unwrap_or, All, Contains}
 use Rattle.std.proofs.lemmas.Bool.{cases_Bool, true≢false, false≢true, lt-ltb, le-ltb}
@@ -54,12 +55,7 @@ cached_true_line g cache truth page form true_slots cached =
 -- every cached line is
 pub cached_lines_true : (g : Shape) (cache : Banks) (truth : List Line)
     → ((bank set : ℕ) → All (IsTrueSlot g truth bank set) (set_of cache bank set)) → meta.AreCachedTrue cache truth
-cached_lines_true g cache truth true_slots =
-    record {
-      each = λ bank set.
-          All-weaker (IsTrueSlot g truth bank set) (λ (slot : Slot). slot.line ≡ line_at truth slot.position) (λ slot is. is.true_line)
-          (set_of cache bank set) (true_slots bank set);
-    }
+cached_lines_true g cache truth true_slots = search rules
 
 -- the slots of a bank's set, by their positions
 module _ (g : Shape) (f : Formulas) (page : ℕ) (persisted : Bool) (block : Line) (lines : List (ℕ × Line)) (truth new_truth : List Line)

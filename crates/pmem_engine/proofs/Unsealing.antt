@@ -1,4 +1,5 @@
 -- A data line and its tag line are read, and the line is unsealed or refused.
+use Rattle.std.proofs.Common.{rules}
 use Rattle.std.proofs.Common.{ℕ, ◌≡◌, ◌≢◌, ◌<◌, ◌+◌, Bool, true, false, List, [], Option, Some, None, Ok, Err, refl, sym, ap, ap₂, subst, ◌∙◌, arith}
 use Rattle.std.specs.Prelude.{MatchOption, IfSome, IsSome, option_map, is_some}
 use Rattle.std.specs.Prelude.{length, All, ◌∷◌, ◌==◌}
@@ -59,31 +60,7 @@ pub record HasReadBoth (setup : Setup) (a : ℕ) (cipher tag_line : Line) (old n
 pub read_both : (setup : Setup) (a : ℕ) (cipher tag_line : Line) (old mid new : Device)
     → HasRead old a cipher mid → HasRead mid (layout.tag_line setup.shape a) tag_line new
     → HasReadBoth setup a cipher tag_line old new
-read_both setup a cipher tag_line old mid new first second =
-    record {
-      size = second.size ∙ first.size;
-      lines = second.lines ∙ first.lines;
-      regs = second.regs ∙ first.regs;
-      writes = second.writes ∙ first.writes;
-      latches = second.latches ∙ first.latches;
-      cuts = second.cuts ∙ first.cuts;
-      steady = λ was. second.steady (first.steady was);
-      live = λ was. second.live (first.live was);
-      reads =
-          record {
-            never_falls = omega (arith, first.reads.never_falls, second.reads.never_falls);
-            exact = λ below. exact below;
-          };
-      tells_cipher = subst (λ lines. Tells lines a cipher) (sym (second.lines ∙ first.lines)) first.tells;
-      tells_tag_line = subst (λ lines. Tells lines (layout.tag_line setup.shape a) tag_line) (sym second.lines) second.tells;
-    }
-  where
-    exact : new.reads < last_count → new.reads ≡ old.reads + 2
-    exact below =
-        let two : new.reads ≡ mid.reads + 1 = second.reads.exact below in
-        let one : mid.reads ≡ old.reads + 1 =
-        first.reads.exact (omega (arith, below, second.reads.never_falls)) in
-        omega (arith, one, two)
+read_both setup a cipher tag_line old mid new first second = search rules
 
 -- what a told device with a stored seal gives: that seal's cipher, and its tag
 record IsReadSeal (marks : List Mark) (a : ℕ) (cipher : Line) (tag : List ℕ) : Type 0 where
@@ -111,37 +88,13 @@ of_option f (Some x) b e = (x, refl, same_Some (f x) b e)
 read_seal : (setup : Setup) (lines : List Line) (marks : List Mark) (a : ℕ) (cipher tag_line : Line)
     → IsSealStored setup.shape lines marks a → cipher ≡ line_at lines a
     → tag_line ≡ line_at lines (layout.tag_line setup.shape a) → IsReadSeal marks a cipher (tag_slot tag_line a)
-read_seal setup lines marks a cipher tag_line stored reads tag_reads =
-    let found = of_option (λ s. s.cipher) (last_seal marks a) (line_at lines a) stored.cipher in
-    let tagged : Some found.0.tag ≡ Some (tag_slot (line_at lines (layout.tag_line setup.shape a)) a) =
-    ap (option_map (λ s. s.tag)) (sym found.1) ∙ stored.tag in
-    record {
-      seal = found.0;
-      last = found.1;
-      its_cipher = reads ∙ sym found.2;
-      its_tag =
-          ap (λ line. tag_slot line a) tag_reads
-          ∙ sym (same_Some found.0.tag (tag_slot (line_at lines (layout.tag_line setup.shape a)) a) tagged);
-    }
+read_seal setup lines marks a cipher tag_line stored reads tag_reads = search rules
 
 -- what a sound device gives, where no group is armed
 sound_seal : (setup : Setup) (parts : Parts) (told : Option (List Line)) (a : ℕ) (cipher tag_line : Line) → AreSound setup parts
     → told ≡ parts.device.lines → Tells told a cipher → Tells told (layout.tag_line setup.shape a) tag_line
     → a < layout.data_lines setup.shape → IsReadSeal parts.ledger.marks a cipher (tag_slot tag_line a)
-sound_seal setup parts told a cipher tag_line sound same reads tag_reads within = go parts.device.lines told sound same reads tag_reads
-  where
-    go : (lines told : Option (List Line))
-        → MatchOption lines ⊥ (λ lines. IsSound setup parts.engine lines parts.device.regs parts.ledger) → told ≡ lines
-        → Tells told a cipher → Tells told (layout.tag_line setup.shape a) tag_line
-        → IsReadSeal parts.ledger.marks a cipher (tag_slot tag_line a)
-    go None told it same reads tag_reads = absurd it
-    go (Some lines) None it same reads tag_reads = absurd (none-some lines same)
-    go (Some lines) (Some others) it same reads tag_reads =
-        read_seal setup lines parts.ledger.marks a cipher tag_line
-        (subst (λ group. IsSealStored setup.shape (put_lines group lines) parts.ledger.marks a) it.trusted.no_group
-        (it.durable.mendable.seals_stored a within))
-        (subst (λ z. cipher ≡ line_at z a) (same_Some others lines same) reads)
-        (subst (λ z. tag_line ≡ line_at z (layout.tag_line setup.shape a)) (same_Some others lines same) tag_reads)
+sound_seal setup parts told a cipher tag_line sound same reads tag_reads within = search rules
 
 -- the seal read has its own tag under its own counter
 tag_of_read : (setup : Setup) (parts : Parts) (a : ℕ) (ctr : Ctr) (cipher : Line) (tag : List ℕ)
@@ -156,15 +109,7 @@ tag_of_read setup parts a ctr cipher tag tagged counter it =
 -- an unsealed line is the cipher xor its pad, under the right tag
 unsealed_some : (f : Formulas) (a : ℕ) (ctr : Ctr) (cipher : Line) (tag : List ℕ) (plain : Line)
     → unsealed f a ctr cipher tag ≡ Some plain → xor_lines cipher (f.pad_of a ctr) ≡ plain
-unsealed_some f a ctr cipher tag plain it = go (same_bytes (f.tag_of a ctr cipher) tag) refl
-  where
-    go : (b : Bool) → same_bytes (f.tag_of a ctr cipher) tag ≡ b → xor_lines cipher (f.pad_of a ctr) ≡ plain
-    go true same =
-        same_Some (xor_lines cipher (f.pad_of a ctr)) plain
-        (sym (cond-true (same_bytes (f.tag_of a ctr cipher) tag) (Some (xor_lines cipher (f.pad_of a ctr))) None same) ∙ it)
-    go false same =
-        absurd (none-some plain
-        (sym (cond-false (same_bytes (f.tag_of a ctr cipher) tag) (Some (xor_lines cipher (f.pad_of a ctr))) None same) ∙ it))
+unsealed_some f a ctr cipher tag plain it = search rules
 
 -- a line that was unsealed has its right tag
 pub right_tag : (f : Formulas) (a : ℕ) (ctr : Ctr) (cipher : Line) (tag slot : List ℕ) (plain : Line) → tag ≡ slot
@@ -188,41 +133,14 @@ module _ (setup : Setup) (engine : EngineState) (ledger : LedgerState) (a : ℕ)
   after noted = parts_of engine new noted tags_now digests_now
 
   only_read : HasOnlyRead before (after ledger)
-  only_read =
-      record {
-        engine = refl;
-        ledger = refl;
-        size = both.size;
-        lines = both.lines;
-        regs = both.regs;
-        writes = both.writes;
-        latches = both.latches;
-        cuts = both.cuts;
-        steady = both.steady;
-        live = both.live;
-        reads = both.reads.never_falls;
-        tags = subst (λ n. NeverFalls tags n) (sym one_tag) (risen_never_falls tags);
-        digests = same_never_falls digests digests_now same;
-      }
+  only_read = search rules
 
   no_steps : TakesSteps 0 old new
-  no_steps =
-      record {
-        writes = omega (arith, both.writes);
-        latches = omega (arith, both.latches);
-        sum = λ one two. omega (arith, both.writes, both.latches);
-      }
+  no_steps = search rules
 
   read_line : (noted : LedgerState) → last_seal noted.marks a ≡ last_seal ledger.marks a → IsLastCounter before a ctr
       → IsUnsealedLine setup a ctr cipher (tag_slot tag_line a) (after noted)
-  read_line noted marks counter =
-      record {
-        counter = ap (λ seal. option_map (λ s. s.ctr) seal) marks ∙ counter;
-        cipher_read = both.tells_cipher;
-        tag_line = tag_line;
-        tag_read = both.tells_tag_line;
-        its_slot = refl;
-      }
+  read_line noted marks counter = search rules
 
   -- an error is no answer
   no_answer : {T : Type 0} → false ≡ true → T
@@ -275,72 +193,7 @@ module _ (setup : Setup) (engine : EngineState) (ledger : LedgerState) (a : ℕ)
       → IfSome (last_seal ledger.marks a) (λ seal. cipher ≢ seal.cipher)
       → HasExhibit ledger noted (Forged a ctr cipher (tag_slot tag_line a))
       → HasUnsealed setup a ctr before (after noted) (Err Fail.Shown)
-  stopped noted within known right other shows =
-      record {
-        done =
-            record {
-              gone =
-                  record {
-                    shape = refl;
-                    size = both.size;
-                    told = ap is_some both.lines;
-                    valid = λ was. subst (λ regs. IsValidRegs setup.shape regs) (sym both.regs) was;
-                    group = λ uncut. ap (λ regs. regs.group) both.regs;
-                    small_group = λ none. tt;
-                    power = (both.steady, both.live, both.cuts);
-                    reads = both.reads.never_falls;
-                    tags = only_read.tags;
-                    digests = only_read.digests;
-                    marks = shows.marks ∙ sym (append-nil ledger.marks);
-                    spare = omega (arith, shows.spare);
-                    true_lines = ap length shows.truth;
-                    data_lines = shows.data_lines;
-                    exhibit = λ unshown. absurd (unshown refl);
-                    trusted = λ was. subst (λ marks. IsFresh marks) (sym shows.marks) was.anchored.fresh;
-                    sound = λ was. never was;
-                    places = λ was. places_same setup before (after noted) seen;
-                    metadata = λ was. metadata_same setup before (after noted) seen;
-                  };
-              loss = ap (λ regs. regs.loss) both.regs;
-              counters = λ was page within held. counters_same setup before (after noted) seen page held;
-            };
-        answered =
-            λ trusted counter.
-            record {
-              ctr = ctr;
-              cipher = cipher;
-              tag = tag_slot tag_line a;
-              unsealed = read_line noted (ap (λ marks. last_seal marks a) shows.marks) counter;
-              exhibit = shows.exhibit ∙ ap (λ kept. first_exhibit kept (Forged a ctr cipher (tag_slot tag_line a))) (none_kept trusted);
-              right_tag = right;
-              other_cipher = subst (λ marks. IfSome (last_seal marks a) (λ seal. cipher ≢ seal.cipher)) (sym shows.marks) other;
-            };
-        unrefused = λ sound counter. never sound;
-        engine = refl;
-        lines = both.lines;
-        regs = both.regs;
-        digests = same;
-        same_ledger = λ unshown. absurd (unshown refl);
-        tells_tag_line = tt;
-        no_steps = no_steps;
-        two_reads = λ ok. no_answer ok;
-        one_tag = λ ok. no_answer ok;
-        cut_unpowered = λ is_cut. cc;
-        not_down = λ it. it;
-      }
-    where
-      seen : SeesSame before (after noted)
-      seen =
-          record { cache = refl; marks = shows.marks; truth = shows.truth; lines = both.lines; regs = both.regs }
-
-      none_kept : AreTrusted setup before → ledger.exhibit ≡ None
-      none_kept trusted = none_of ledger.exhibit trusted.anchored.no_exhibit
-
-      never : AreSound setup before → ⊥
-      never sound =
-          let it =
-          sound_seal setup before new.lines a cipher tag_line sound both.lines both.tells_cipher both.tells_tag_line within in
-          (subst (λ o. IfSome o (λ seal. cipher ≢ seal.cipher)) it.last other) it.its_cipher
+  stopped noted within known right other shows = search rules
 
   -- the line is unsealed, and it is the last seal's
   pub opened : (plain : Line) → a < layout.data_lines setup.shape

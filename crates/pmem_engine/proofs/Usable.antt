@@ -1,4 +1,5 @@
 -- After a call the parts are usable again, whatever it answered.
+use Rattle.std.proofs.Common.{rules}
 use Rattle.std.proofs.Common.{ℕ, ◌≡◌, ◌≢◌, ◌++◌, ◌||◌, Bool, true, false, not, List, [], ◌∷◌, Option, Some, None, Result, refl, sym, ap, subst, subst₂, ◌∙◌}
 use Rattle.std.specs.Prelude.{is_some, IsSome}
 use Rattle.std.proofs.lemmas.Bool.{true≢false, or_parts}
@@ -56,15 +57,7 @@ some_ledger = record { marks = []; truth = []; data_lines = 0; exhibit = None; s
 pub ready_after : (setup : Setup) (outcome : Outcome) (made : List Mark) (old new : Parts)
     → HasGone setup outcome made old new → new.engine.down ≡ (old.engine.down || not (is_going outcome))
     → IsReady setup.shape old.engine old.device → IsReady setup.shape new.engine new.device
-ready_after setup outcome made old new gone down ready =
-    record {
-      its_size = gone.size ∙ ready.its_size;
-      valid_regs = gone.valid ready.valid_regs;
-      no_group =
-          λ up.
-          let on = went_on outcome old.engine.down (sym down ∙ up) in
-          ap (λ group. group.items) (gone.group on.1) ∙ ready.no_group on.0;
-    }
+ready_after setup outcome made old new gone down ready = search rules
 
 -- so are the ledger and the engine
 pub usable_after : (setup : Setup) (outcome : Outcome) (made : List Mark) (old new : Parts)
@@ -85,9 +78,7 @@ usable_after setup outcome made old new gone down usable =
 
 same_parts : (P : EngineState → Device → LedgerState → Type 0) (old new : Parts) → IsLeftAlone old new
     → P old.engine old.device old.ledger → P new.engine new.device new.ledger
-same_parts P old new same it =
-    subst (λ ledger. P new.engine new.device ledger) (sym same.ledger)
-    (subst₂ (λ engine device. P engine device old.ledger) (sym same.engine) (sym same.device) it)
+same_parts P old new same it = search rules
 
 module _ {T : Type 0} (setup : Setup) (made : List Mark) (old new : Parts) (answer : Result T Fault)
     (down : AnswersDown old new answer)
@@ -103,17 +94,7 @@ module _ {T : Type 0} (setup : Setup) (made : List Mark) (old new : Parts) (answ
       go false is_up = usable_after setup (outcome_of answer) made old new (gone is_up) down.after usable
 
   pub ready_call : IsReady setup.shape old.engine old.device → IsReady setup.shape new.engine new.device
-  ready_call ready = go old.engine.down refl
-    where
-      go : (was : Bool) → old.engine.down ≡ was → IsReady setup.shape new.engine new.device
-      go true is_down =
-          same_parts (λ engine device ledger. IsReady setup.shape engine device) old new
-          (down.still (down.exactly.1 is_down)) ready
-      go false is_up = ready_after setup (outcome_of answer) made old new (gone is_up) down.after ready
+  ready_call ready = search rules
 
   pub shape_call : new.engine.shape ≡ old.engine.shape
-  shape_call = go old.engine.down refl
-    where
-      go : (was : Bool) → old.engine.down ≡ was → new.engine.shape ≡ old.engine.shape
-      go true is_down = ap (λ engine. engine.shape) (down.still (down.exactly.1 is_down)).engine
-      go false is_up = (gone is_up).shape
+  shape_call = search rules

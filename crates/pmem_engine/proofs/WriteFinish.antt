@@ -1,4 +1,5 @@
 -- The page that a write finishes first: its marks, and that none is a seal of the written line.
+use Rattle.std.proofs.Common.{rules}
 use Rattle.std.proofs.Common.{ℕ, zero, suc, ◌≡◌, ◌≢◌, ◌<◌, ◌≤◌, ◌+◌, ◌*◌, Bool, true, false, cond, List, [], ◌∷◌, length, map, get_or, Option, Some, None, Result, Ok, Err, refl, sym, ap, ap₂, subst, ◌∙◌, arith}
 use Rattle.std.specs.Prelude.{◌==◌, ◌||◌, ◌&&◌, not, nat_le, nat_lt, All}
 use Rattle.std.specs.List.{position_or_len}
@@ -110,25 +111,7 @@ finish_front asked made (Err Fail.Down) it = absurd it
 -- ---- the register is one of them
 
 found_inside : (registers : List Progress) (page n : ℕ) → register_to_finish registers page ≡ Some n → n < length registers
-found_inside registers page n found =
-    go (position_or_len (λ register. register.page == page) registers)
-    (nat_lt (position_or_len (λ register. register.page == page) registers) (length registers)) refl found
-  where
-    go : (k : ℕ) (b : Bool) → nat_lt k (length registers) ≡ b
-        → register_found (cond (nat_lt k (length registers)) (Some k) None) (length registers) ≡ Some n → n < length registers
-    go k true is got =
-        let same : k ≡ n = same_Some k n (sym (ap (λ t. register_found (cond t (Some k) None) (length registers)) is) ∙ got) in
-        grind (arith, same, is)
-    go k false is got =
-        oldest (nat_le 4 (length registers)) refl
-        (sym (ap (λ t. register_found (cond t (Some k) None) (length registers)) is) ∙ got)
-      where
-        oldest : (b : Bool) → nat_le 4 (length registers) ≡ b → cond (nat_le 4 (length registers)) (Some 0) None ≡ Some n
-            → n < length registers
-        oldest true four got =
-            let same : 0 ≡ n = same_Some 0 n (sym (ap (λ t. cond t (Some 0) None) four) ∙ got) in
-            grind (arith, same, four)
-        oldest false few got = absurd (none-some n (sym (ap (λ t. cond t (Some 0) None) few) ∙ got))
+found_inside registers page n found = search rules
 
 -- ---- a page finished, or none
 

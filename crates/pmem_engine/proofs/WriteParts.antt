@@ -1,4 +1,6 @@
 -- What each part of a write keeps, up to the seal of its own line, and what two of them keep together.
+use Rattle.std.proofs.lemmas.Grind.{common_steps}
+use Rattle.std.proofs.Common.{rules}
 use Rattle.std.proofs.Common.{ℕ, ◌≡◌, ◌<◌, ◌++◌, ◌⊎◌, inl, inr, Bool, true, false, List, [], ◌∷◌, IsTrue, Result, Ok, Err, refl, sym, ap, ap₂, ◌∙◌, arith}
 use Rattle.std.specs.Prelude.{◌||◌, option_map}
 use Rattle.std.specs.List.{list_any}
@@ -151,79 +153,23 @@ part_chained setup at outcome made more old mid new first second =
 -- ---- each part
 
 pub alone_done : (setup : Setup) (old new : Parts) → IsLeftAlone old new → HasDone setup going [] old new
-alone_done setup old new alone =
-    done_reading setup old new
-    (record {
-      engine = alone.engine;
-      ledger = alone.ledger;
-      size = ap (λ device. device.size) alone.device;
-      lines = ap (λ device. device.lines) alone.device;
-      regs = ap (λ device. device.regs) alone.device;
-      writes = ap (λ device. device.writes) alone.device;
-      latches = ap (λ device. device.latches) alone.device;
-      cuts = ap (λ device. device.cuts) alone.device;
-      steady = λ was. ap (λ device. device.steady) alone.device ∙ was;
-      live = λ was. ap (λ device. device.live) alone.device ∙ was;
-      reads = omega (arith, ap (λ device. device.reads) alone.device);
-      tags = same_never_falls old.tags new.tags alone.tags;
-      digests = same_never_falls old.digests new.digests alone.digests;
-    })
+alone_done setup old new alone = search rules
 
 -- a part that was left out
 pub alone_part : (setup : Setup) (at : ℕ) (old new : Parts) → IsLeftAlone old new → IsWritePart setup at going [] old new
-alone_part setup at old new alone =
-    record {
-      done = alone_done setup old new alone;
-      memory_kept = λ trusted memory was. unmarked_memory setup going old new (alone_done setup old new alone) memory was;
-      sealed_before = λ trusted a within sealed. absurd (true≢false (sym sealed));
-      not_own = λ trusted memory was. refl;
-      block_kept =
-          λ trusted none.
-          meta_of_same setup.shape (counter_position setup.shape (page_of at)) old new
-          (ap (λ device. device.regs) alone.device) (ap (λ device. device.lines) alone.device);
-      down = ap (λ engine. engine.down) alone.engine;
-    }
+alone_part setup at old new alone = search rules
 
 pub fetch_part : (setup : Setup) (at : ℕ) (old new : Parts) (answer : Result Unit Fault)
     → HasFetched setup (page_of at) old new answer → IsWritePart setup at (outcome_of answer) [] old new
-fetch_part setup at old new answer it =
-    record {
-      done = it.done;
-      memory_kept = λ trusted memory was. unmarked_memory setup (outcome_of answer) old new it.done memory was;
-      sealed_before = λ trusted a within sealed. absurd (true≢false (sym sealed));
-      not_own = λ trusted memory was. refl;
-      block_kept = λ trusted none. it.block_kept trusted;
-      down = it.down;
-    }
+fetch_part setup at old new answer it = search rules
 
 pub plain_part : (setup : Setup) (write : Posted) (old new : Parts) (answer : Result Line Fault)
     → HasMadePlain setup write old new answer → IsWritePart setup write.at (outcome_of answer) [] old new
-plain_part setup write old new answer it =
-    record {
-      done = it.done;
-      memory_kept = λ trusted memory was. unmarked_memory setup (outcome_of answer) old new it.done memory was;
-      sealed_before = λ trusted a within sealed. absurd (true≢false (sym sealed));
-      not_own = λ trusted memory was. refl;
-      block_kept =
-          λ trusted none.
-          meta_of_same setup.shape (counter_position setup.shape (page_of write.at)) old new it.regs it.lines;
-      down = ap (λ engine. engine.down) it.engine;
-    }
+plain_part setup write old new answer it = search rules
 
 pub name_part : (setup : Setup) (at : ℕ) (old new : Parts) (answer : Result Unit Fault) → at < layout.data_lines setup.shape
     → HasNamedPath setup (page_of at) old new answer → IsWritePart setup at (outcome_of answer) [] old new
-name_part setup at old new answer inside it =
-    record {
-      done = it.done;
-      memory_kept = λ trusted memory was. unmarked_memory setup (outcome_of answer) old new it.done memory was;
-      sealed_before = λ trusted a within sealed. absurd (true≢false (sym sealed));
-      not_own = λ trusted memory was. refl;
-      block_kept =
-          λ trusted none.
-          it.metadata trusted (counter_position setup.shape (page_of at))
-          (counter_position-lt setup.shape (page_of at) (omega (arith, inside)));
-      down = it.down;
-    }
+name_part setup at old new answer inside it = grind (arith, common_steps)
 
 -- a begin makes one mark or none
 pub begin_made : (page : ℕ) (made : List Mark) (answer : Result Unit Fault) → HasBeginMarks page made answer

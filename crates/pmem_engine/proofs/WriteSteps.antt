@@ -1,4 +1,5 @@
 -- Steps of a write's parts together, and its bound.
+use Rattle.std.proofs.Common.{rules}
 use Rattle.std.proofs.Common.{ℕ, ◌≡◌, ◌<◌, ◌≤◌, ◌+◌, ◌*◌, ◌++◌, Bool, true, false, cond, List, [], ◌∷◌, length, ap, ◌∙◌, arith}
 use Rattle.std.proofs.lemmas.List.{length-append}
 use Rattle.std.proofs.lemmas.List.Sums.{sum_by-cons, sum_by-append}
@@ -11,32 +12,10 @@ use Rattle.pmem_engine.specs.Outcomes.{TakesSteps, TakesAtMost, TakesFewer}
 use Rattle.pmem_engine.specs.Calls.{write_bound}
 
 pub most_then : (n m : ℕ) (old mid new : Device) → TakesAtMost n old mid → TakesAtMost m mid new → TakesAtMost (n + m) old new
-most_then n m old mid new first second =
-    record {
-      writes = omega (arith, first.writes, second.writes);
-      latches = omega (arith, first.latches, second.latches);
-      sum =
-          λ one two.
-          omega (
-            arith,
-            first.sum (omega (arith, one, second.writes)) (omega (arith, two, second.latches)),
-            second.sum one two,
-          );
-    }
+most_then n m old mid new first second = search rules
 
 pub fewer_then : (n m : ℕ) (old mid new : Device) → TakesAtMost n old mid → TakesFewer m mid new → TakesFewer (n + m) old new
-fewer_then n m old mid new first second =
-    record {
-      writes = omega (arith, first.writes, second.writes);
-      latches = omega (arith, first.latches, second.latches);
-      sum =
-          λ one two.
-          omega (
-            arith,
-            first.sum (omega (arith, one, second.writes)) (omega (arith, two, second.latches)),
-            second.sum one two,
-          );
-    }
+fewer_then n m old mid new first second = search rules
 
 pub steps_most : (n : ℕ) (old new : Device) → TakesSteps n old new → TakesAtMost n old new
 steps_most n old new it =

@@ -1,4 +1,5 @@
 -- A whole write, one law an exit: each takes the parts so far, in the order in which a write does them.
+use Rattle.std.proofs.Common.{rules}
 use Rattle.std.proofs.Common.{ℕ, ◌≡◌, ◌≢◌, ◌<◌, ◌≤◌, ◌+◌, ◌*◌, ◌%◌, ◌++◌, ◌⊎◌, inl, inr, Bool, true, false, cond, List, [], ◌∷◌, length, IsTrue, Option, Some, None, Result, Ok, Err, refl, sym, ap, ap₂, subst, ◌∙◌, arith}
 use Rattle.std.specs.Prelude.{◌==◌, ◌||◌, option_map, is_some, IsSome, IsOk, IfOk, IfSome}
 use Rattle.std.specs.List.{list_any}
@@ -301,21 +302,7 @@ module _ (setup : Setup) (write : Posted) (within : write.at < layout.data_lines
 
             -- the next counter is the one that is asked for
             same_counter : (b : Bool) → begin_counter b setup write.at p4 ≡ begin_counter b setup write.at p2
-            same_counter b = go b (named.cache ∙ ap (λ engine. engine.cache) some3.engine)
-              where
-                go : (b : Bool) → p4.engine.cache ≡ p2.engine.cache
-                    → begin_counter b setup write.at p4 ≡ begin_counter b setup write.at p2
-                go true same =
-                    ap (λ banks. record {
-                      major =
-                          (unpacked (line_in setup.shape banks setup.shape.levels (counter_position setup.shape page))).major
-                          + 1;
-                      minor = 1;
-                    }) same
-                go false same =
-                    ap (λ banks.
-                    let block = unpacked (line_in setup.shape banks setup.shape.levels (counter_position setup.shape page)) in
-                    record { major = block.major; minor = minor_of block (index_in_page write.at) + 1 }) same
+            same_counter b = search rules
 
             -- ---- the page isn't begun
 
@@ -434,15 +421,7 @@ module _ (setup : Setup) (write : Posted) (within : write.at < layout.data_lines
                     ∙ ap (λ b. b || false) (ne_eqb write.at a (λ same. apart (sym same)))
 
                 sealed_at : (a : ℕ) → is_sealed_by it.made a ≡ true → a ≡ write.at
-                sealed_at a sealed =
-                    elim (cases_eq a write.at) [
-                      | inl same ↦ same
-                      | inr apart ↦
-                          elim made_is [
-                            | inl none ↦ absurd (true≢false (sym sealed ∙ none_sealed none a))
-                            | inr one ↦ absurd (true≢false (sym sealed ∙ other_unsealed one a apart))
-                          ]
-                    ]
+                sealed_at a sealed = search rules
 
                 -- ---- the marks
 
@@ -577,11 +556,7 @@ module _ (setup : Setup) (write : Posted) (within : write.at < layout.data_lines
                 -- ---- steps
 
                 few_steps : (loss : ℕ) (ctr : Ctr) → seal_steps loss ctr ≤ 5
-                few_steps loss ctr = go (ctr.minor % loss == 0)
-                  where
-                    go : (b : Bool) → cond b 5 4 ≤ 5
-                    go true = omega arith
-                    go false = omega arith
+                few_steps loss ctr = search rules
 
                 sealed_steps : AreTrusted setup old → (memory : Memory) → IsMemory setup memory old → (reply : Result Ctr Fault)
                     → HasNextMarks setup.formulas write.at next plain it.made reply
