@@ -1,12 +1,11 @@
 -- One seal keeps the registers and the ledger anchored.
-use Rattle.std.proofs.Common.{rules}
-use Rattle.std.proofs.Common.{ℕ, ◌≡◌, ◌≢◌, ◌<◌, ◌+◌, cond, List, [], ◌∷◌, ◌++◌, get_or, map, Option, Some, None, inl, inr, refl, sym, ap, subst, ◌∙◌, arith}
+use Rattle.std.proofs.Common.{rules, ℕ, ◌≡◌, ◌≢◌, ◌<◌, ◌+◌, cond, List, [], ◌∷◌, ◌++◌, get_or, map, Some, inl, inr, refl, sym, ap, subst, ◌∙◌, arith}
 use Rattle.std.specs.Prelude.{not, ◌==◌, IsTrue, IsNone, slice_index}
 use Rattle.std.specs.List.{All, AllPairs, filter}
 use Rattle.std.specs.Option.{option_map}
 use Rattle.std.proofs.lemmas.Option.{same_Some}
 use Rattle.std.proofs.lemmas.Bool.{cases_Bool, cases_eq, eqb-true, eqb-false, not-true, eqb-false}
-use Rattle.std.proofs.lemmas.List.Elements.{All-push, All-filter, All-weaker, filter_passes}
+use Rattle.std.proofs.lemmas.List.Elements.{All-push, All-filter, filter_passes}
 use Rattle.std.proofs.lemmas.List.{get_or-set_other}
 use Rattle.pmem_base.specs.declared.lines.Line.{Line}
 use Rattle.pmem_base.specs.declared.lines.Ctr.{Ctr}
@@ -28,7 +27,7 @@ use Rattle.split_counters.proofs.Packing.{packed-IsLine, unpacked-IsBlock, unpac
 use Rattle.bonsai_tree.specs.Positions.{counter_position}
 use Rattle.bonsai_tree.specs.Paths.{IsTreeWith, lines_with, root_with}
 use Rattle.bonsai_tree.proofs.Trees.{lines_with-IsTreeWith}
-use Rattle.page_reencrypt.specs.Registers.{register_held, counter_of, counter_under}
+use Rattle.page_reencrypt.specs.Registers.{counter_of}
 use Rattle.page_reencrypt.proofs.Holding.{counter_of-other, counter_of-done, registers_with_done-IsProgress, registers_with_done-distinct, All-registers_with_done, old_major-same}
 use Rattle.seal_ledger.specs.Ledger.{LedgerState, IsMark, IsOfShape}
 use Rattle.suite.specs.Setup.{Setup}

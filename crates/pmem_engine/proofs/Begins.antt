@@ -1,6 +1,5 @@
 -- A page's begin keeps the registers and the ledger anchored.
-use Rattle.std.proofs.Common.{rules}
-use Rattle.std.proofs.Common.{ℕ, ◌≡◌, ◌≢◌, ◌<◌, ◌+◌, ◌*◌, List, [], ◌∷◌, ◌++◌, get_or, map, Some, None, inl, inr, sym, ap, subst, ◌∙◌, arith}
+use Rattle.std.proofs.Common.{rules, ℕ, ◌≡◌, ◌≢◌, ◌<◌, ◌+◌, ◌*◌, List, [], ◌∷◌, ◌++◌, get_or, map, Some, None, inl, inr, sym, ap, subst, ◌∙◌, arith}
 use Rattle.std.specs.Prelude.{IsTrue, IsNone, slice_index}
 use Rattle.std.specs.List.{All, AllPairs}
 use Rattle.std.specs.Option.{option_map}
@@ -14,7 +13,7 @@ use Rattle.pmem_base.specs.Shape.{Shape, is_loss}
 use Rattle.pmem_base.specs.Layout.{data_lines, page_of, index_in_page}
 use Rattle.pmem_base.specs.Lines.{line_at}
 use Rattle.pmem_base.specs.Marks.{last_seal, IsFresh}
-use Rattle.pmem_base.specs.Registers.{places_of_page, not_done, old_major, IsValidRegs, IsProgress}
+use Rattle.pmem_base.specs.Registers.{places_of_page, old_major, IsValidRegs, IsProgress}
 use Rattle.seal_ledger.proofs.MarkLemmas.{last_seal-begun, IsFresh-push}
 use Rattle.page_reencrypt.proofs.DoneBits.{places-small}
 use Rattle.split_counters.specs.declared.Block.{Block}

@@ -1,8 +1,5 @@
 -- What a seal, a reseal and a begin change, as the laws on the device ask for it.
-use Rattle.std.proofs.Common.{rules}
-use Rattle.std.proofs.Common.{◌≡◌, true, ℕ, ◌+◌, List, [], ◌∷◌, ◌++◌, refl, sym, ap, subst, ◌∙◌, arith}
-use Rattle.std.specs.Prelude.{slice_set}
-use Rattle.std.proofs.lemmas.Bool.{false≢true}
+use Rattle.std.proofs.Common.{rules, ◌≡◌, ℕ, ◌+◌, List, [], ◌∷◌, ◌++◌, sym, ap, subst, ◌∙◌, arith}
 use Rattle.pmem_base.specs.declared.lines.Line.{Line}
 use Rattle.pmem_base.specs.declared.lines.Ctr.{Ctr}
 use Rattle.pmem_base.specs.declared.registers.Regs.{Regs}
@@ -10,13 +7,10 @@ use Rattle.pmem_base.specs.declared.answers.Mark.{Mark}
 use Rattle.pmem_base.specs.declared.answers.Mark.TheVariants.{Begin, Seal}
 use Rattle.pmem_base.specs.Shape.{Shape}
 use Rattle.pmem_base.specs.Layout.{data_lines, page_of, index_in_page}
-use Rattle.pmem_base.specs.Registers.{without_group}
-use Rattle.pmem_base.proofs.LineSets.{line_at-set_other}
-use Rattle.split_counters.specs.Blocks.{IsBlock, IsBumpedBlock, minor_of, packed}
+use Rattle.split_counters.specs.Blocks.{IsBlock, IsBumpedBlock, minor_of}
 use Rattle.split_counters.proofs.Packing.{with_minor-IsBlock, with_minor-same}
 use Rattle.split_counters.proofs.StoredBlocks.{IsBumpedBlock-with_minor}
 use Rattle.suite.specs.Formulas.{Formulas}
-use Rattle.bonsai_tree.specs.Positions.{is_on_path}
 use Rattle.bonsai_tree.specs.Paths.{IsTreeWith}
 use Rattle.seal_ledger.specs.Ledger.{LedgerState}
 use Rattle.seal_ledger.proofs.MarkLemmas.{last_seal-sealed, last_seal-other, last_seal-begun}
@@ -24,7 +18,7 @@ use Rattle.suite.specs.Setup.{Setup}
 use Rattle.pmem_engine.specs.Truth.{true_block}
 use Rattle.pmem_engine.specs.Invariants.{IsAnchored}
 use Rattle.pmem_engine.specs.Sealed.{sealed_block, sealed_counter, made_seal, IsSealed, IsResealed, IsBegun}
-use Rattle.pmem_engine.specs.Steps.{IsEmptied, SealsOne, SealsNone, ChangesPath}
+use Rattle.pmem_engine.specs.Steps.{SealsOne, SealsNone, ChangesPath}
 use Rattle.pmem_engine.proofs.Anchored.{true_block-IsBlock, true_block-new}
 
 -- ---- the marks
@@ -44,19 +38,6 @@ pub SealsNone-push : (size : ℕ) (marks : List Mark) (page : ℕ) → SealsNone
 SealsNone-push size marks page = record { elsewhere = λ b h. last_seal-begun marks page b }
 
 -- ---- the true lines
-
-pub ChangesPath-same : (g : Shape) (truth : List Line) (page : ℕ) → ChangesPath g truth truth page
-ChangesPath-same g truth page = record { elsewhere = λ x h off. refl }
-
--- one more line of the path
-pub ChangesPath-set : (g : Shape) (old new : List Line) (page x : ℕ) (line : Line)
-    → is_on_path g page x ≡ true → ChangesPath g old new page → ChangesPath g old (slice_set new x line) page
-ChangesPath-set g old new page x line on changes = search rules
-
-pub ChangesPath-trans : (g : Shape) (first second third : List Line) (page : ℕ) → ChangesPath g first second page
-    → ChangesPath g second third page → ChangesPath g first third page
-ChangesPath-trans g first second third page a b =
-    record { elsewhere = λ x h off. b.elsewhere x h off ∙ a.elsewhere x h off }
 
 -- a tree with a page's new block
 pub ChangesPath-tree : (g : Shape) (f : Formulas) (page : ℕ) (block : Line) (root : List ℕ) (old new : List Line)
@@ -135,7 +116,3 @@ IsBegun-ChangesPath setup page old_regs new_regs old new it =
     ChangesPath-tree setup.shape setup.formulas page _ new_regs.root old.truth new.truth it.truth
 
 -- ---- the registers
-
--- the registers without their group
-pub IsEmptied-without_group : (regs : Regs) → IsEmptied regs (without_group regs)
-IsEmptied-without_group regs = record { same_root = refl; same_progress = refl; same_loss = refl; no_group = refl }

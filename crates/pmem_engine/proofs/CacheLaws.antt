@@ -1,13 +1,12 @@
 -- A true line is written back, and the cache changes: blocks become clean, give way, or come in.
-use Rattle.std.proofs.Common.{rules}
-use Rattle.std.proofs.Common.{◌≡◌, ◌≢◌, ℕ, ◌+◌, ◌*◌, ◌<◌, true, false, List, [], length, sym, ap, subst, subst₂, ◌∙◌, ◌⊎◌, inl, inr, arith}
-use Rattle.std.specs.Prelude.{IsTrue, slice_set}
+use Rattle.std.proofs.Common.{rules, ◌≡◌, ◌≢◌, ℕ, ◌+◌, ◌*◌, ◌<◌, true, false, List, [], length, sym, ap, subst, subst₂, ◌∙◌, ◌⊎◌, inl, inr, arith}
+use Rattle.std.specs.Prelude.{IsTrue}
 use Rattle.std.specs.List.{All, Contains}
 use Rattle.std.proofs.lemmas.Bool.{cases_eq, cases_Bool, false≢true}
 use Rattle.pmem_base.specs.declared.lines.Line.{Line}
 use Rattle.pmem_base.specs.declared.registers.Regs.{Regs}
 use Rattle.pmem_base.specs.Shape.{Shape}
-use Rattle.pmem_base.specs.Layout.{device_lines, meta_lines, meta_line, shadow_line}
+use Rattle.pmem_base.specs.Layout.{device_lines, meta_lines, meta_line}
 use Rattle.pmem_base.specs.Lines.{line_at, IsLine}
 use Rattle.pmem_base.proofs.Regions.{meta_on_device, meta_before_shadow}
 use Rattle.pmem_base.proofs.LineLemmas.{IsLine-line_at}
@@ -25,7 +24,7 @@ use Rattle.pmem_engine.specs.Engine.{EngineState}
 use Rattle.pmem_engine.specs.Invariants.{IsAnchored, IsTrueSlot, IsTrusted, stored_meta, is_named, IsMendable, IsDurable, IsDirtyNamed, IsSound}
 use Rattle.pmem_engine.specs.Steps.{with_true_line}
 use Rattle.pmem_engine.specs.Recached.{IsTrueOrDirty, WasCleaned, HasComeIn, IsRecached}
-use Rattle.pmem_engine.proofs.RegionLemmas.{stored_meta-set_same, stored_meta-set_other, stored_meta-set_shadow, is_named-set_meta, IsSealStored-set_meta}
+use Rattle.pmem_engine.proofs.RegionLemmas.{stored_meta-set_same, is_named-set_meta, IsSealStored-set_meta}
 use Rattle.pmem_engine.proofs.CounterBlocks.{IsCounterStored-written_back}
 use Rattle.pmem_engine.proofs.GroupLaws.{IsMendable-unarmed, IsDurable-unarmed}
 
@@ -169,14 +168,6 @@ IsSound-recached setup old new lines regs ledger sound recached true_if_cleaned 
         (sound.dirty_named bank set) from.stands (from.dirty dirty))
     named bank set slot dirty (inr came) = absurd (false≢true (sym came.clean ∙ dirty))
 
--- Blocks are used, placed, or give way while clean: no dirty block is lost.
-pub IsSound-kept_dirty : (setup : Setup) (old new : EngineState) (lines : List Line) (regs : Regs)
-    (ledger : LedgerState) → IsSound setup old lines regs ledger → IsRecached setup old new ledger
-    → ((x : ℕ) → x < meta_lines setup.shape → ¬ WasCleaned setup.shape old.cache new.cache x)
-    → IsSound setup new lines regs ledger
-IsSound-kept_dirty setup old new lines regs ledger sound recached kept =
-    IsSound-recached setup old new lines regs ledger sound recached (λ x h cleaned. absurd (kept x h cleaned))
-
 -- A dirty block is written back, and its slot is then clean or gives way; the other dirty blocks stay.
 pub IsSound-cleaned : (setup : Setup) (old new : EngineState) (lines : List Line) (regs : Regs)
     (ledger : LedgerState) (x : ℕ) → IsSound setup old lines regs ledger → x < meta_lines setup.shape
@@ -198,16 +189,6 @@ IsSound-cleaned setup old new lines regs ledger x sound h recached kept =
 
 -- ---- no dirty block is lost, or none but x
 
-pub not_cleaned : (setup : Setup) (old new : EngineState) (x : ℕ)
-    → ((bank set : ℕ) (slot : Slot) → Contains (set_of old.cache bank set) slot → slot.dirty ≡ true
-    → IsStillDirty (set_of new.cache bank set) slot)
-    → ¬ WasCleaned setup.shape old.cache new.cache x
-not_cleaned setup old new x still cleaned =
-    false≢true
-    (sym cleaned.1
-    ∙ is_cached_dirty_still setup.shape old.cache new.cache (level_of x) x
-    (λ slot stands dirty here. still (level_of x) (set_index setup.shape x) slot stands dirty) cleaned.0)
-
 pub not_cleaned_other : (setup : Setup) (old new : EngineState) (x y : ℕ) → y ≢ x
     → ((bank set : ℕ) (slot : Slot) → Contains (set_of old.cache bank set) slot → slot.dirty ≡ true
     → slot.position ≢ x → IsStillDirty (set_of new.cache bank set) slot)
@@ -227,33 +208,6 @@ pub IsTrueOrDirty-sound : (setup : Setup) (engine : EngineState) (lines : List L
     (ledger : LedgerState) (x : ℕ) → IsSound setup engine lines regs ledger → x < meta_lines setup.shape
     → IsTrueOrDirty setup.shape engine.cache lines ledger.truth x
 IsTrueOrDirty-sound setup engine lines regs ledger x sound h = search rules
-
--- a true line is written back
-pub IsTrueOrDirty-written_back : (g : Shape) (cache : Banks) (lines truth : List Line) (x y : ℕ)
-    → length lines ≡ device_lines g → x < meta_lines g → IsTrueOrDirty g cache lines truth y
-    → IsTrueOrDirty g cache (with_true_line g lines truth x) truth y
-IsTrueOrDirty-written_back g cache lines truth x y size h (inl stored) =
-    inl (stays_true-true_line g lines truth x y size h stored)
-IsTrueOrDirty-written_back g cache lines truth x y size h (inr dirty) = inr dirty
-
--- a shadow line is written
-pub IsTrueOrDirty-set_shadow : (g : Shape) (cache : Banks) (lines truth : List Line) (n : ℕ) (line : Line) (y : ℕ)
-    → y < meta_lines g → IsTrueOrDirty g cache lines truth y
-    → IsTrueOrDirty g cache (slice_set lines (shadow_line g n) line) truth y
-IsTrueOrDirty-set_shadow g cache lines truth n line y h (inl stored) =
-    inl (stored_meta-set_shadow g lines n line y h ∙ stored)
-IsTrueOrDirty-set_shadow g cache lines truth n line y h (inr dirty) = inr dirty
-
--- the cache changes: a block that is cleaned is true on the device
-pub IsTrueOrDirty-recached : (g : Shape) (old new : Banks) (lines truth : List Line) (y : ℕ)
-    → (WasCleaned g old new y → stored_meta g lines y ≡ line_at truth y) → IsTrueOrDirty g old lines truth y
-    → IsTrueOrDirty g new lines truth y
-IsTrueOrDirty-recached g old new lines truth y cleaned (inl stored) = inl stored
-IsTrueOrDirty-recached g old new lines truth y cleaned (inr dirty) =
-    elim (cases_Bool (is_cached_dirty g new (level_of y) y)) [
-      | inl still ↦ inr still
-      | inr clean ↦ inl (cleaned (dirty, clean))
-    ]
 
 -- a block is written back and cleaned, and no other dirty block is lost
 pub IsTrueOrDirty-cleaned : (g : Shape) (old new : Banks) (lines truth : List Line) (x y : ℕ)

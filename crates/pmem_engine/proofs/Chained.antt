@@ -1,55 +1,22 @@
 -- Two parts of a call, one after the other, are one part: what holds of each holds of both.
 use Rattle.std.proofs.lemmas.Grind.{common_steps}
-use Rattle.std.proofs.Common.{rules}
-use Rattle.std.proofs.Common.{ℕ, ◌≡◌, ◌≢◌, ◌<◌, ◌+◌, ◌++◌, ◌⊎◌, inl, inr, Bool, true, false, List, IsTrue, refl, sym, ap, subst, ◌∙◌, arith}
-use Rattle.std.specs.List.{list_any}
-use Rattle.std.proofs.lemmas.Bool.{or_cases, or_parts, or_left, or_right, true≢false}
+use Rattle.std.proofs.Common.{rules, ℕ, ◌≡◌, ◌≢◌, ◌+◌, ◌++◌, ◌⊎◌, Bool, true, false, List, IsTrue, refl, sym, ap, subst, ◌∙◌, arith}
+use Rattle.std.proofs.lemmas.Bool.{or_cases, true≢false}
 use Rattle.std.proofs.lemmas.List.{append_assoc, length-append}
 use Rattle.std.proofs.lemmas.List.Folds.{list_any-append}
 use Rattle.pmem_base.specs.declared.answers.Mark.{Mark}
-use Rattle.pmem_base.specs.Shape.{Shape}
-use Rattle.pmem_base.specs.Layout as layout
 use Rattle.pmem_base.specs.Counts.{HasRisen}
 use Rattle.board.specs.Device.{Device}
 use Rattle.suite.specs.Setup.{Setup}
-use Rattle.pmem_engine.specs.Parts.{Parts, HoldsSeal}
-use Rattle.pmem_engine.specs.Outcomes.{Outcome, going, cut, shown, is_going, is_sealed_by, is_seal_of, is_touching, IsTouchedBy, KeepsPlaces, KeepsMeta, KeepsMetaWhere, HasPower, HasGone, HasDone, KeepsCounters, NeverFalls}
+use Rattle.pmem_engine.specs.Parts.{Parts}
+use Rattle.pmem_engine.specs.Outcomes.{Outcome, going, cut, shown, is_going, is_sealed_by, is_seal_of, KeepsPlaces, KeepsMeta, KeepsMetaWhere, HasPower, HasGone, HasDone, KeepsCounters, NeverFalls}
 
 -- ---- marks of both
-
-sealed_by_first : (made more : List Mark) (a : ℕ) → IsTrue (is_sealed_by made a) → IsTrue (is_sealed_by (made ++ more) a)
-sealed_by_first made more a it =
-    list_any-append (is_seal_of a) made more ∙ or_left (is_sealed_by made a) (is_sealed_by more a) it
-
-sealed_by_second : (made more : List Mark) (a : ℕ) → IsTrue (is_sealed_by more a) → IsTrue (is_sealed_by (made ++ more) a)
-sealed_by_second made more a it =
-    list_any-append (is_seal_of a) made more ∙ or_right (is_sealed_by made a) (is_sealed_by more a) it
 
 pub sealed_by_either : (made more : List Mark) (a : ℕ) → IsTrue (is_sealed_by (made ++ more) a)
     → IsTrue (is_sealed_by made a) ⊎ IsTrue (is_sealed_by more a)
 sealed_by_either made more a it =
     or_cases (is_sealed_by made a) (is_sealed_by more a) (sym (list_any-append (is_seal_of a) made more) ∙ it)
-
-sealed_by_neither : (made more : List Mark) (a : ℕ) → is_sealed_by (made ++ more) a ≡ false
-    → (is_sealed_by made a ≡ false) × (is_sealed_by more a ≡ false)
-sealed_by_neither made more a it =
-    or_parts (is_sealed_by made a) (is_sealed_by more a) (sym (list_any-append (is_seal_of a) made more) ∙ it)
-
-touched_by_first : (g : Shape) (made more : List Mark) (x : ℕ) → IsTouchedBy g made x → IsTouchedBy g (made ++ more) x
-touched_by_first g made more x (page, touches, on_path) = (
-  page,
-  list_any-append (is_touching page) made more
-      ∙ or_left (list_any (is_touching page) made) (list_any (is_touching page) more) touches,
-  on_path,
-)
-
-touched_by_second : (g : Shape) (made more : List Mark) (x : ℕ) → IsTouchedBy g more x → IsTouchedBy g (made ++ more) x
-touched_by_second g made more x (page, touches, on_path) = (
-  page,
-  list_any-append (is_touching page) made more
-      ∙ or_right (list_any (is_touching page) made) (list_any (is_touching page) more) touches,
-  on_path,
-)
 
 -- ---- places
 

@@ -1,32 +1,17 @@
 -- A metadata line that a call changed is afterwards true on the device or cached dirty, step by step.
-use Rattle.std.proofs.Common.{◌≡◌, ℕ, ◌<◌, List, length, refl, sym, ap, ◌∙◌, ◌⊎◌, inl, inr}
-use Rattle.std.specs.Prelude.{slice_set}
+use Rattle.std.proofs.Common.{◌≡◌, ℕ, ◌<◌, List, length, sym, ap, ◌∙◌, ◌⊎◌, inl, inr}
 use Rattle.std.proofs.lemmas.Bool.{cases_eq}
 use Rattle.pmem_base.specs.declared.lines.Line.{Line}
 use Rattle.pmem_base.specs.Shape.{Shape}
-use Rattle.pmem_base.specs.Layout.{data_lines, device_lines, meta_lines, shadow_line}
+use Rattle.pmem_base.specs.Layout.{data_lines, device_lines, meta_lines}
 use Rattle.pmem_base.specs.Lines.{line_at}
 use Rattle.pmem_base.specs.Marks.{SealOf}
 use Rattle.meta_cache.specs.Banks.{Banks}
 use Rattle.pmem_engine.specs.Invariants.{stored_meta}
 use Rattle.pmem_engine.specs.Steps.{sealed_lines, with_true_line}
-use Rattle.pmem_engine.specs.Recached.{IsTrueOrDirty, IsSameOrHeld}
-use Rattle.pmem_engine.proofs.RegionLemmas.{stored_meta-set_other, stored_meta-set_shadow, stored_meta-sealed_lines}
+use Rattle.pmem_engine.specs.Recached.{IsTrueOrDirty}
+use Rattle.pmem_engine.proofs.RegionLemmas.{stored_meta-set_other, stored_meta-sealed_lines}
 use Rattle.pmem_engine.proofs.CacheLaws.{stored_meta-true_line}
-
--- at the start
-pub same_or_held-start : (g : Shape) (cache : Banks) (lines truth : List Line) (x : ℕ)
-    → IsSameOrHeld g cache lines lines truth x
-same_or_held-start g cache lines truth x = inl refl
-
--- one step more: the line is as before it, or held after it, and stays held where it was
-pub same_or_held-step : (g : Shape) (old new : Banks) (start lines lines' truth truth' : List Line) (x : ℕ)
-    → (stored_meta g lines' x ≡ stored_meta g lines x) ⊎ IsTrueOrDirty g new lines' truth' x
-    → (IsTrueOrDirty g old lines truth x → IsTrueOrDirty g new lines' truth' x)
-    → IsSameOrHeld g old start lines truth x → IsSameOrHeld g new start lines' truth' x
-same_or_held-step g old new start lines lines' truth truth' x step kept (inr held) = inr (kept held)
-same_or_held-step g old new start lines lines' truth truth' x (inl stays) kept (inl same) = inl (stays ∙ same)
-same_or_held-step g old new start lines lines' truth truth' x (inr held) kept (inl same) = inr held
 
 -- ---- what each kind of step does to the line
 
@@ -44,13 +29,6 @@ same_or_held-true_line g cache lines truth x y size h =
           ∙ stored_meta-true_line g lines truth x size h ∙ ap (line_at truth) (sym same)))
       | inr apart ↦ inl (stored_meta-set_other g lines x (line_at truth x) y apart)
     ]
-
--- a shadow line is written
-pub same_or_held-set_shadow : (g : Shape) (cache : Banks) (lines truth : List Line) (n : ℕ) (line : Line) (x : ℕ)
-    → x < meta_lines g
-    → (stored_meta g (slice_set lines (shadow_line g n) line) x ≡ stored_meta g lines x)
-    ⊎ IsTrueOrDirty g cache (slice_set lines (shadow_line g n) line) truth x
-same_or_held-set_shadow g cache lines truth n line x h = inl (stored_meta-set_shadow g lines n line x h)
 
 -- a seal's group without the counter block is written
 pub same_or_held-sealed : (g : Shape) (cache : Banks) (lines truth : List Line) (a : ℕ) (seal : SealOf) (x : ℕ)

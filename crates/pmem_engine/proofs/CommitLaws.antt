@@ -1,6 +1,5 @@
 -- A group is written whole and emptied: Sound and Trusted of the engine that holds the path's new lines.
-use Rattle.std.proofs.Common.{rules}
-use Rattle.std.proofs.Common.{◌≡◌, ◌≢◌, ℕ, ◌+◌, ◌*◌, ◌%◌, ◌<◌, true, false, List, [], Some, length, refl, sym, ap, subst, subst₂, ◌∙◌, ◌⊎◌, inl, inr, arith}
+use Rattle.std.proofs.Common.{rules, ◌≡◌, ◌≢◌, ℕ, ◌+◌, ◌*◌, ◌%◌, ◌<◌, true, false, List, [], Some, length, refl, sym, ap, subst, subst₂, ◌∙◌, ◌⊎◌, inl, inr, arith}
 use Rattle.std.specs.List.{All, Contains}
 use Rattle.std.proofs.lemmas.Bool.{cases_eq, cases_Bool, false≢true}
 use Rattle.pmem_base.specs.declared.lines.Line.{Line}
@@ -39,7 +38,7 @@ use Rattle.pmem_engine.proofs.Bridges.{IsSealed-ChangesPath, IsBegun-ChangesPath
 use Rattle.pmem_engine.proofs.GroupLaws.{IsDurable-finished}
 use Rattle.pmem_engine.proofs.ArmLaws.{IsDurable-armed_write, IsDurable-armed_write_with_block, IsDurable-armed_turn, IsDurable-armed_begin}
 use Rattle.pmem_engine.proofs.CacheLaws.{stored_meta-true_line, IsTrueOrDirty-sound}
-use Rattle.pmem_engine.proofs.NameLaws.{IsPathNamed_from_slots, ArePathNodesNamed_from_slots}
+use Rattle.pmem_engine.proofs.NameLaws.{IsPathNamed_from_slots}
 
 -- ---- the cache with a path's new lines
 
@@ -318,14 +317,6 @@ pub IsPathNamed-sound : (setup : Setup) (engine : EngineState) (lines : List Lin
 IsPathNamed-sound setup engine lines regs ledger page sound form cached named =
     IsPathNamed_from_slots setup.shape engine.cache lines page form cached
     (subst (λ mirror. ArePathSlotsNamed setup.shape engine.cache mirror page) sound.mirror_true named)
-
-pub ArePathNodesNamed-sound : (setup : Setup) (engine : EngineState) (lines : List Line) (regs : Regs)
-    (ledger : LedgerState) (page : ℕ) → IsSound setup engine lines regs ledger
-    → IsBanksOf setup.shape engine.cache → IsPathCached setup.shape engine.cache page
-    → AreNodeSlotsNamed setup.shape engine.cache engine.mirror page → ArePathNodesNamed setup.shape lines page
-ArePathNodesNamed-sound setup engine lines regs ledger page sound form cached named =
-    ArePathNodesNamed_from_slots setup.shape engine.cache lines page form cached
-    (subst (λ mirror. AreNodeSlotsNamed setup.shape engine.cache mirror page) sound.mirror_true named)
 
 page_within : (g : Shape) (a : ℕ) → a < data_lines g → page_of a < pages g
 page_within g a h = omega (arith, h)

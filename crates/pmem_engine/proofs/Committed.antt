@@ -1,22 +1,16 @@
 -- A group that was armed, and finished or cut: what the device comes to, and what is left to show of a part of a
 -- call that commits one mark.
-use Rattle.std.proofs.Common.{rules}
-use Rattle.std.proofs.Common.{ℕ, ◌≡◌, ◌<◌, ◌≤◌, ◌+◌, ◌++◌, ◌⊎◌, inl, inr, true, false, List, [], ◌∷◌, length, IsTrue, Option, Some, None, refl, sym, ap, ap₂, subst, subst₂, ◌∙◌, arith}
-use Rattle.std.specs.Prelude.{MatchOption, IfSome, is_some, option_map}
-use Rattle.std.proofs.lemmas.Option.{none-some, same_Some}
+use Rattle.std.proofs.Common.{rules, ℕ, ◌≡◌, ◌<◌, ◌≤◌, ◌+◌, ◌++◌, ◌⊎◌, inl, inr, true, false, List, [], ◌∷◌, length, IsTrue, Option, Some, None, refl, sym, ap, ap₂, subst, subst₂, ◌∙◌}
+use Rattle.std.specs.Prelude.{IfSome, option_map}
 use Rattle.pmem_base.specs.declared.lines.Line.{Line}
-use Rattle.pmem_base.specs.declared.registers.Regs.{Regs}
 use Rattle.pmem_base.specs.declared.answers.Mark.{Mark}
-use Rattle.pmem_base.specs.Counts.{last_count}
 use Rattle.pmem_base.specs.Shape.{Shape}
 use Rattle.pmem_base.specs.Layout as layout
 use Rattle.pmem_base.specs.Lines.{line_at, tag_slot}
 use Rattle.pmem_base.specs.Registers.{IsValidRegs}
-use Rattle.board.specs.Counts.{RisesBy}
-use Rattle.board.specs.Device.{Device, IsDevice, AreToldLines, AreLinesOf}
-use Rattle.board.specs.Steps.{HasLatched}
+use Rattle.board.specs.Device.{IsDevice, AreToldLines, AreLinesOf}
 use Rattle.meta_cache.specs.Banks.{Banks, is_cached_dirty}
-use Rattle.commit_regs.specs.Groups.{redone, redone_told, finishing_latches, HasFinished}
+use Rattle.commit_regs.specs.Groups.{redone, redone_told}
 use Rattle.suite.specs.Setup.{Setup}
 use Rattle.pmem_engine.specs.Invariants.{IsAnchored, IsSound, IsDurable, IsSealStored, IsCounterStored, stored_meta}
 use Rattle.pmem_engine.specs.Steps.{IsPlaceKept}
@@ -24,14 +18,8 @@ use Rattle.pmem_engine.specs.Recached.{IsTrueOrDirty}
 use Rattle.pmem_engine.specs.Parts.{Parts, regs_of, lines_redone, AreTrusted, AreSound, AreDurable, HoldsCounters}
 use Rattle.pmem_engine.specs.Outcomes.{going, cut, is_sealed_by, IsTouchedBy, NeverFalls, KeepsPlaces, KeepsMeta, HasDone}
 use Rattle.pmem_engine.specs.Committing.{HasCommitted, IsCutArmed}
-use Rattle.pmem_engine.proofs.GroupLaws.{IsDurable-again}
 
 -- ---- what the lines come to
-
--- the same told lines are told
-redone_is_some : (group : List (ℕ × Line)) (told : Option (List Line)) → is_some (redone_told group told) ≡ is_some told
-redone_is_some group None = refl
-redone_is_some group (Some lines) = refl
 
 pub redone_none : (told : Option (List Line)) → redone_told [] told ≡ told
 redone_none None = refl
@@ -195,11 +183,6 @@ sound_trusted setup parts sound = search rules
 
 -- ---- a group finished
 
--- one latch arms a group, and the finish empties it
-pub committed_from : (group : List (ℕ × Line)) (old mid new : Device) (armed : Regs) → armed.group.items ≡ group
-    → finishing_latches group ≡ 1 → HasLatched old armed mid → HasFinished mid new → HasCommitted group old new
-committed_from group old mid new armed its_group one latched finished = search rules
-
 -- ---- the part of a call
 
 module _ (setup : Setup) (group : List (ℕ × Line)) (mark : Mark) (old new : Parts) (it : IsCommit setup group mark old new) where
@@ -211,10 +194,6 @@ module _ (setup : Setup) (group : List (ℕ × Line)) (mark : Mark) (old new : P
   -- armed, it comes to the same
   pub comes_armed : IsCutArmed group old.device new.device → lines_redone new ≡ redone_told group old.device.lines
   comes_armed armed = ap (λ items. redone_told items new.device.lines) armed.armed ∙ armed.again
-
-  told_again : IsCutArmed group old.device new.device → is_some new.device.lines ≡ is_some old.device.lines
-  told_again armed =
-      sym (redone_is_some group new.device.lines) ∙ ap is_some armed.again ∙ redone_is_some group old.device.lines
 
   -- it went on
   pub done_committed : HasCommitted group old.device new.device → (AreTrusted setup old → AreTrusted setup new)

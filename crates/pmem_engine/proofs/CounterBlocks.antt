@@ -1,10 +1,8 @@
 -- What the device keeps of each page's true counter block, by each kind of step and over any lines.
-use Rattle.std.proofs.Common.{rules}
-use Rattle.std.proofs.Common.{◌≡◌, ◌≢◌, ℕ, ◌*◌, ◌%◌, ◌<◌, List, length, sym, ap, subst, subst₂, ◌∙◌, ◌⊎◌, inl, inr, arith}
-use Rattle.std.specs.Prelude.{slice_set}
+use Rattle.std.proofs.Common.{rules, ◌≡◌, ◌≢◌, ℕ, ◌*◌, ◌%◌, ◌<◌, List, length, sym, subst, subst₂, ◌∙◌, ◌⊎◌, inl, inr, arith}
 use Rattle.std.proofs.lemmas.Bool.{cases_eq}
 use Rattle.pmem_base.specs.declared.lines.Line.{Line}
-use Rattle.pmem_base.specs.Layout.{data_lines, device_lines, meta_lines, pages, shadow_line}
+use Rattle.pmem_base.specs.Layout.{data_lines, device_lines, meta_lines, pages}
 use Rattle.pmem_base.specs.Lines.{line_at}
 use Rattle.pmem_base.specs.Marks.{SealOf}
 use Rattle.pmem_base.proofs.Regions.{meta_on_device}
@@ -17,7 +15,7 @@ use Rattle.suite.specs.Setup.{Setup}
 use Rattle.pmem_engine.specs.Truth.{true_block}
 use Rattle.pmem_engine.specs.Invariants.{stored_meta, IsCounterStored}
 use Rattle.pmem_engine.specs.Steps.{ChangesPath, sealed_lines, with_true_line}
-use Rattle.pmem_engine.proofs.RegionLemmas.{stored_meta-set_same, stored_meta-set_other, stored_meta-set_shadow, stored_meta-sealed_lines, length-sealed_lines}
+use Rattle.pmem_engine.proofs.RegionLemmas.{stored_meta-set_same, stored_meta-set_other, stored_meta-sealed_lines, length-sealed_lines}
 
 -- a counter block that stands true on the device
 pub IsCounterStored-true : (setup : Setup) (lines : List Line) (loss : ℕ) (truth : List Line) (page : ℕ)
@@ -69,17 +67,6 @@ pub IsCounterStored-written_back : (setup : Setup) (lines : List Line) (loss : �
     → IsCounterStored setup lines loss truth page
     → IsCounterStored setup (with_true_line setup.shape lines truth x) loss truth page
 IsCounterStored-written_back setup lines loss truth page x size h before = search rules
-
--- a shadow line is written
-pub IsCounterStored-set_shadow : (setup : Setup) (lines : List Line) (loss : ℕ) (truth : List Line) (page n : ℕ)
-    (line : Line) → page < pages setup.shape → IsCounterStored setup lines loss truth page
-    → IsCounterStored setup (slice_set lines (shadow_line setup.shape n) line) loss truth page
-IsCounterStored-set_shadow setup lines loss truth page n line h before =
-    subst (λ (l : Line). IsStoredBlock loss (unpacked l) (true_block setup.shape truth page))
-    (sym
-    (stored_meta-set_shadow setup.shape lines n line (counter_position setup.shape page)
-    (counter_position-lt setup.shape page h)))
-    before
 
 -- the true block of another page
 pub other_block_kept : (setup : Setup) (old_truth new_truth : List Line) (page other : ℕ)
@@ -148,15 +135,6 @@ IsCounterStored-with_block setup old lines loss old_truth new_truth page other s
         (λ e. apart (omega (arith, e)))
         ∙ stored)
         (other_block_kept setup old_truth new_truth page other hpage hother apart changes) before
-
--- the page's own block then, whatever stood there before
-pub IsCounterStored-own_block : (setup : Setup) (lines : List Line) (loss : ℕ) (truth : List Line) (page : ℕ)
-    → length lines ≡ device_lines setup.shape → page < pages setup.shape
-    → IsCounterStored setup (with_true_line setup.shape lines truth (counter_position setup.shape page)) loss truth page
-IsCounterStored-own_block setup lines loss truth page size hpage =
-    IsCounterStored-true setup (with_true_line setup.shape lines truth (counter_position setup.shape page)) loss truth
-    page
-    (stored_true setup lines truth (counter_position setup.shape page) size (counter_position-lt setup.shape page hpage))
 
 -- a seal's group with the counter block
 pub IsCounterStored-sealed_with_block : (setup : Setup) (lines : List Line) (loss : ℕ)

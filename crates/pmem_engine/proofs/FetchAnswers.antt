@@ -1,10 +1,8 @@
 -- What a fetch answers, by its end.
-use Rattle.std.proofs.Common.{rules}
-use Rattle.std.proofs.Common.{ℕ, zero, suc, ◌≡◌, ◌<◌, ◌≤◌, ◌+◌, ◌++◌, ◌⊎◌, inl, inr, Bool, true, false, List, [], ◌∷◌, length, Option, Some, None, Ok, Err, refl, sym, ap, ap₂, subst, subst₂, ◌∙◌, arith}
-use Rattle.std.specs.Prelude.{option_map, is_some, unwrap_or, ◌==◌, ◌*◌}
+use Rattle.std.proofs.Common.{rules, ℕ, zero, suc, ◌≡◌, ◌<◌, ◌≤◌, ◌+◌, ◌++◌, ◌⊎◌, inl, inr, Bool, true, false, List, [], ◌∷◌, length, Option, Some, None, Ok, Err, refl, sym, ap, ap₂, subst, subst₂, ◌∙◌, arith}
+use Rattle.std.specs.Prelude.{option_map, is_some, unwrap_or, ◌==◌, ◌*◌, slice_index_or}
 use Rattle.std.proofs.lemmas.Bool.{true≢false, eq-eqb, cond-true, cond-false}
 use Rattle.std.proofs.lemmas.List.{length-append}
-use Rattle.std.proofs.lemmas.List.Elements.{All-weaker}
 use Rattle.std.proofs.lemmas.Option.{none-some, same_Some}
 use Rattle.std.proofs.lemmas.List.Folds.{list_any_at}
 use Rattle.pmem_base.specs.declared.lines.Line.{Line}
@@ -28,7 +26,6 @@ use Rattle.meta_cache.proofs.WayLemmas.{KeepsWays-touched}
 use Rattle.meta_path.specs.Blocks.{path_at, slots_at, number_in, IsPathCached, AreCachedTrue, dirty_count}
 use Rattle.meta_path.specs.Work.{risen_times, told_line}
 use Rattle.std.specs.List.{Contains}
-use Rattle.std.specs.Prelude.{slice_index_or}
 use Rattle.meta_path.specs.Levels.{victim_write, room_write, level_write}
 use Rattle.meta_path.specs.Fetching.{absent_count, spilled, IsFetchedTo, IsCutAt, IsRefusedAt, IsShownAt}
 use Rattle.meta_path.specs.Keeping.{KeepsBlocks, HasGivenWay, WasWrittenBack, IsTrueTree, HasFalseDigest, HasClash}

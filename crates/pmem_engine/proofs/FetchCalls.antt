@@ -1,6 +1,5 @@
 -- A fetch of the engine, from what the fetch of its path ensures.
-use Rattle.std.proofs.Common.{rules}
-use Rattle.std.proofs.Common.{ℕ, ◌≡◌, ◌<◌, ◌≤◌, ◌+◌, true, Ok, Err, refl, sym, ap, subst, subst₂, ◌∙◌}
+use Rattle.std.proofs.Common.{rules, ℕ, ◌≡◌, ◌<◌, ◌≤◌, ◌+◌, true, Ok, Err, refl, sym, ap, subst, subst₂, ◌∙◌}
 use Rattle.std.specs.Prelude.{is_some}
 use Rattle.pmem_base.specs.Layout as layout
 use Rattle.board.specs.Device.{Device, IsDevice}

@@ -1,5 +1,4 @@
 -- The ends of a fetch: its path is cached, or it was cut, refused or stopped.
-use Rattle.std.proofs.Common.{rules}
 use Rattle.std.proofs.Common.{ℕ, zero, suc, ◌≡◌, ◌≢◌, ◌<◌, ◌≤◌, ◌+◌, ◌⊎◌, inl, inr, true, false, List, [], length, Option, Some, None, refl, sym, ap, subst, subst₂, ◌∙◌, arith}
 use Rattle.std.specs.Prelude.{MatchOption, option_map, is_some, ◌==◌}
 use Rattle.std.specs.List.{Contains, list_any}

@@ -20,7 +20,7 @@ use Rattle.meta_path.specs.Keeping.{KeepsBlocks, HasGivenWay, WasWrittenBack}
 use Rattle.meta_path.specs.Keeping as path
 use Rattle.suite.specs.Setup.{Setup}
 use Rattle.pmem_engine.specs.Engine.{EngineState}
-use Rattle.pmem_engine.specs.Invariants.{IsTrueSlot, IsTrusted, IsDurable, IsSound, IsSealStored, IsCounterStored, stored_meta}
+use Rattle.pmem_engine.specs.Invariants.{IsTrueSlot, IsTrusted, IsSound, IsSealStored, IsCounterStored, stored_meta}
 use Rattle.pmem_engine.specs.Recached.{IsRecached, HasComeIn, IsTrueOrDirty, WasCleaned}
 use Rattle.pmem_engine.specs.Parts.{Parts, parts_of, lines_redone, meta_line_in, HoldsCounters, HoldsMeta}
 use Rattle.pmem_engine.specs.Outcomes.{KeepsPlaces, KeepsMeta}
@@ -216,10 +216,6 @@ module _ (setup : Setup) (page : ℕ) (old new : EngineState) (ledger : LedgerSt
                   ∙ sym (shadow_of-same setup.shape lines lines_now (whole.count ∙ sym sound.durable.device_whole.count)
                   (λ n past. same_unless_meta n (λ x here e. omega (arith, past, e, here))));
             }
-
-    durable_lines : AreLinesOf (layout.device_lines setup.shape) lines_now → after.regs ≡ before.regs
-        → IsSound setup old lines before.regs ledger → IsDurable setup lines_now after.regs ledger
-    durable_lines whole same sound = (sound_lines whole same sound).durable
 
   -- ---- place by place
 

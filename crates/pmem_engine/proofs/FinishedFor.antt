@@ -1,8 +1,8 @@
 -- The page that was finished before another one begins: that one has no register, and four aren't in use.
-use Rattle.std.proofs.Common.{ℕ, ◌≡◌, ◌<◌, ◌≤◌, length, Option, Some, None, Result, Ok, Err, refl, sym, ap, subst, ◌∙◌, arith}
+use Rattle.std.proofs.Common.{ℕ, ◌≡◌, ◌<◌, length, Option, Some, None, Result, Ok, Err, refl, sym, ap, ◌∙◌}
 use Rattle.std.specs.Prelude.{◌==◌, position, slice_get, IsOk, OnOk}
 use Rattle.std.specs.Option.{option_and_then}
-use Rattle.std.proofs.lemmas.Option.{same_Some, slice_get-get_or}
+use Rattle.std.proofs.lemmas.Option.{slice_get-get_or}
 use Rattle.pmem_base.specs.Registers.{empty_progress}
 use Rattle.page_reencrypt.specs.Registers.{register_of}
 use Rattle.page_reencrypt.proofs.Holding.{registered-All}
@@ -11,7 +11,7 @@ use Rattle.suite.specs.Setup.{Setup}
 use Rattle.pmem_engine.specs.declared.fault.Fault.{Fault}
 use Rattle.pmem_engine.specs.Parts.{Parts, regs_of}
 use Rattle.pmem_engine.specs.Resealing.{register_in}
-use Rattle.pmem_engine.specs.Writing.{register_found, register_to_finish, HasFinishedPage, HasFinishedWhere}
+use Rattle.pmem_engine.specs.Writing.{register_found, register_to_finish, HasFinishedPage}
 
 -- what holds of an answer that is Ok
 pub on_ok : {P : Type 0} (answer : Result Unit Fault) → (IsOk answer → P) → OnOk answer P
@@ -22,8 +22,6 @@ module _ (setup : Setup) (n page : ℕ) (old new : Parts) (answer : Result Unit 
     (inside : n < length (regs_of old).progress.items)
     (found : register_to_finish (regs_of old).progress.items page ≡ Some n)
     (it : HasFinishedPage setup n old new answer) where
-  pub finished_where : HasFinishedWhere setup (register_to_finish (regs_of old).progress.items page) old new answer
-  finished_where = subst (λ place. HasFinishedWhere setup place old new answer) (sym found) it
 
   -- the page's own register, or that of another page
   closed_at : (place : Option ℕ) → position (λ register. register.page == page) (regs_of old).progress.items ≡ place
@@ -32,8 +30,6 @@ module _ (setup : Setup) (n page : ℕ) (old new : Parts) (answer : Result Unit 
   closed_at (Some m) place its ok =
       ap (register_of (regs_of new).progress.items) (sym own) ∙ it.closed ok
     where
-      same : m ≡ n
-      same = same_Some m n its
 
       here : register_of (regs_of old).progress.items page ≡ Some (register_in old n)
       here =
@@ -51,6 +47,3 @@ module _ (setup : Setup) (n page : ℕ) (old new : Parts) (answer : Result Unit 
 
   pub closed_for : IsOk answer → register_of (regs_of new).progress.items page ≡ None
   closed_for = closed_at (position (λ register. register.page == page) (regs_of old).progress.items) refl found
-
-  pub room_for : length (regs_of old).progress.items ≤ 4 → OnOk answer (length (regs_of new).progress.items < 4)
-  room_for few = on_ok answer (λ ok. let less = it.one_less ok in omega (arith, less, few))

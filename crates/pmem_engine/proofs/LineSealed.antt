@@ -1,9 +1,8 @@
 -- The exits of a seal under the next counter: its tag line isn't read, its group is cut, or the line is sealed.
-use Rattle.std.proofs.Common.{rules}
-use Rattle.std.proofs.Common.{ℕ, ◌≡◌, ◌<◌, ◌≤◌, ◌+◌, ◌%◌, ◌++◌, inl, inr, Bool, true, false, List, [], ◌∷◌, length, IsTrue, Some, Ok, Err, cond, refl, sym, ap, ap₂, subst, ◌∙◌, arith}
+use Rattle.std.proofs.Common.{rules, ℕ, ◌≡◌, ◌<◌, ◌≤◌, ◌+◌, ◌%◌, ◌++◌, inl, inr, Bool, true, false, List, [], ◌∷◌, length, IsTrue, Some, Ok, Err, cond, refl, sym, ap, ap₂, subst, ◌∙◌, arith}
 use Rattle.std.specs.Prelude.{option_map, ◌↔◌, ◌==◌, ◌&&◌, if◌then◌else◌}
 use Rattle.std.specs.List.{list_any}
-use Rattle.std.proofs.lemmas.Bool.{true≢false, cond-true, cond-false, eq-eqb, ne_eqb, or_parts}
+use Rattle.std.proofs.lemmas.Bool.{true≢false, cond-true, cond-false, eq-eqb, or_parts}
 use Rattle.pmem_base.specs.declared.lines.Line.{Line}
 use Rattle.pmem_base.specs.declared.lines.Ctr.{Ctr}
 use Rattle.pmem_base.specs.declared.answers.Mark.{Mark}
@@ -35,7 +34,7 @@ use Rattle.pmem_engine.specs.Calls.{IsUsable, IsPathNamedInMirror, is_persisting
 use Rattle.pmem_engine.specs.Committing.{next_seal_of, HasCommitted, IsCutArmed}
 use Rattle.pmem_engine.specs.Inner.{cached_block}
 use Rattle.pmem_engine.specs.Sealing.{next_counter_of, raised_block, seal_steps, seal_group, HasPathSealed, HasSealCommitted, IsNothingDone, IsSealCut, HasSealedNext}
-use Rattle.pmem_engine.proofs.StillLaws.{done_reading, done_cut}
+use Rattle.pmem_engine.proofs.StillLaws.{done_cut}
 use Rattle.pmem_engine.proofs.Chained.{done_chained}
 use Rattle.pmem_engine.proofs.PlainLines.{plain_line-sealed, plain_line-other}
 use Rattle.pmem_engine.proofs.Unsealing.{risen_never_falls, same_never_falls}
@@ -48,9 +47,6 @@ module _ (setup : Setup) (at : ℕ) (plain : Line) (engine : EngineState) (old :
     (usable : IsUsable setup.shape engine old before) (up : engine.down ≡ false) where
   abbrev start : Parts
   start = parts_of engine old before tags digests
-
-  unarmed : old.regs.group.items ≡ []
-  unarmed = usable.ready.no_group up
 
   -- the board was cut, and nothing done
   pub seal_unread : (new : Device) (tags_now digests_now : ℕ) → tags_now ≡ tags → NeverFalls digests digests_now → WasCut old new

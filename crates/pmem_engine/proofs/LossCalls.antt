@@ -1,9 +1,9 @@
 -- A new stop-loss number: the dirty counter blocks are written first where it is smaller, and the latch comes last.
-use Rattle.std.proofs.Common.{ℕ, ◌≡◌, ◌<◌, ◌≤◌, ◌+◌, false, [], refl, sym, ap, subst, ◌∙◌, arith}
+use Rattle.std.proofs.Common.{ℕ, ◌≡◌, ◌+◌, false, [], refl, sym, ap, subst, ◌∙◌, arith}
 use Rattle.pmem_base.specs.Shape.{Shape}
 use Rattle.pmem_base.specs.Layout.{device_lines, meta_line}
 use Rattle.board.specs.Device.{Device, IsDevice}
-use Rattle.board.specs.Steps.{WasCut, HasWritten}
+use Rattle.board.specs.Steps.{HasWritten}
 use Rattle.meta_cache.specs.Banks.{set_index, is_cached}
 use Rattle.meta_cache.specs.Sets.{with_mark}
 use Rattle.meta_cache.specs.State.{CacheState, ChangesSet, slots_of}
@@ -12,7 +12,7 @@ use Rattle.meta_path.specs.Storing.{IsCleaned}
 use Rattle.pmem_engine.specs.Engine.{EngineState}
 use Rattle.pmem_engine.specs.Parts.{parts_of}
 use Rattle.pmem_engine.specs.Outcomes.{going}
-use Rattle.pmem_engine.specs.Flushed.{HasWrittenBack, HasWrittenBlocks, HasMadeWay, IsCutInBlocks, IsBankClean}
+use Rattle.pmem_engine.specs.Flushed.{HasWrittenBack, HasWrittenBlocks}
 use Rattle.pmem_engine.proofs.FetchCalls.{of_states}
 use Rattle.pmem_engine.proofs.Chained.{done_chained}
 use Rattle.pmem_engine.proofs.Flushes.{nothing_done}
@@ -93,33 +93,3 @@ blocks_more count x old mid new before middle after its_size whole first it fewe
     }
 
 -- ---- what a smaller number asks for
-
-pub way_none : (n : ℕ) (engine : EngineState) (device : Device) → device.regs.loss ≤ n → HasMadeWay n 0 engine engine device device
-way_none n engine device greater =
-    record {
-      written = blocks_none engine device;
-      greater = λ more. refl;
-      smaller = λ less. absurd (omega (arith, greater, less));
-    }
-
-pub way_blocks : (n count : ℕ) (old new : EngineState) (before after : Device) → n < before.regs.loss
-    → HasWrittenBlocks count old new before after → IsBankClean new new.shape.levels
-    → count ≡ dirty_in_bank old.shape old.cache old.shape.levels
-    → HasMadeWay n count old new before after
-way_blocks n count old new before after less written clean every =
-    record {
-      written = written;
-      greater = λ more. absurd (omega (arith, more, less));
-      smaller = λ smaller. (clean, every);
-    }
-
-pub blocks_cut : (n count : ℕ) (old new : EngineState) (before mid after : Device) → n < before.regs.loss
-    → HasWrittenBlocks count old new before mid → WasCut mid after → IsCutInBlocks n old new before after
-blocks_cut n count old new before mid after less written was_cut =
-    record {
-      count = count;
-      mid = mid;
-      written = written;
-      greater = λ more. absurd (omega (arith, more, less));
-      cut = was_cut;
-    }

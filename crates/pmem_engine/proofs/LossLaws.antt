@@ -1,18 +1,15 @@
 -- The latch of a new stop-loss number.
-use Rattle.std.proofs.Common.{◌≡◌, ℕ, ◌*◌, ◌<◌, false, List, sym, subst, ◌∙◌}
+use Rattle.std.proofs.Common.{◌≡◌, ℕ, ◌*◌, ◌<◌, List, sym, subst, ◌∙◌}
 use Rattle.pmem_base.specs.declared.lines.Line.{Line}
 use Rattle.pmem_base.specs.declared.registers.Regs.{Regs}
 use Rattle.pmem_base.specs.Layout.{device_lines, pages}
 use Rattle.pmem_base.specs.Registers.{IsGroup}
-use Rattle.bonsai_tree.specs.Positions.{level_of, counter_position}
-use Rattle.bonsai_tree.proofs.Levels.{counter_position-lt}
 use Rattle.seal_ledger.specs.Ledger.{LedgerState}
-use Rattle.meta_cache.specs.Banks.{is_cached_dirty}
 use Rattle.suite.specs.Setup.{Setup}
 use Rattle.pmem_engine.specs.Engine.{EngineState}
 use Rattle.pmem_engine.specs.Invariants.{IsAnchored, IsTrusted, IsCounterStored, IsSound}
 use Rattle.pmem_engine.specs.Steps.{HasLossSet}
-use Rattle.pmem_engine.proofs.CounterBlocks.{IsCounterStored-true, IsCounterStored-coarser}
+use Rattle.pmem_engine.proofs.CounterBlocks.{IsCounterStored-coarser}
 use Rattle.pmem_engine.proofs.GroupLaws.{IsMendable-unarmed, IsDurable-unarmed}
 use Rattle.pmem_engine.proofs.Latches.{anchored-latched}
 
@@ -64,29 +61,3 @@ pub IsCounterStored-loss_raised : (setup : Setup) (lines : List Line) (old new t
 IsCounterStored-loss_raised setup lines old new times truth page longer before =
     subst (λ loss. IsCounterStored setup lines loss truth page) (sym longer)
     (IsCounterStored-coarser setup lines old times truth page before)
-
--- .. and Sound stays
-pub IsSound-loss_raised : (setup : Setup) (engine : EngineState) (lines : List Line) (old new : Regs)
-    (ledger : LedgerState) (times : ℕ) → IsSound setup engine lines old ledger → HasLossSet old new
-    → new.loss ≡ old.loss * times → IsSound setup engine lines new ledger
-IsSound-loss_raised setup engine lines old new ledger times sound set longer =
-    let mendable = IsMendable-unarmed setup lines old ledger sound.durable sound.trusted.no_group in
-    IsSound-loss_set setup engine lines old new ledger sound set
-    (λ page h.
-    IsCounterStored-loss_raised setup lines old.loss new.loss times ledger.truth page longer
-    (mendable.counters_stored page h))
-
--- a smaller number, once no counter block is dirty
-pub IsSound-loss_lowered : (setup : Setup) (engine : EngineState) (lines : List Line) (old new : Regs)
-    (ledger : LedgerState) → IsSound setup engine lines old ledger → HasLossSet old new
-    → ((page : ℕ) → page < pages setup.shape
-    → is_cached_dirty setup.shape engine.cache (level_of (counter_position setup.shape page))
-    (counter_position setup.shape page)
-    ≡ false)
-    → IsSound setup engine lines new ledger
-IsSound-loss_lowered setup engine lines old new ledger sound set clean =
-    IsSound-loss_set setup engine lines old new ledger sound set
-    (λ page h.
-    IsCounterStored-true setup lines new.loss ledger.truth page
-    (sound.true_unless_dirty (counter_position setup.shape page) (counter_position-lt setup.shape page h)
-    (clean page h)))

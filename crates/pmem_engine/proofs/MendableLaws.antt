@@ -1,44 +1,34 @@
 -- Laws of a device that can be mended: what redoing the group gives, and which line writes keep it.
 use Rattle.std.proofs.lemmas.Grind.{common_steps}
-use Rattle.std.proofs.Common.{rules}
-use Rattle.std.proofs.Common.{ℕ, ◌≡◌, ◌≢◌, ◌<◌, ◌≤◌, ◌+◌, ◌-◌, ◌*◌, false, Some, List, [], length, get_or, take, drop, replicate, map, All, ap, sym, ◌∙◌, subst, inl, inr, ◌⊎◌, IsTrue, arith}
-use Rattle.std.specs.Prelude.{slice_set}
-use Rattle.std.specs.List.{AllPairs}
-use Rattle.std.proofs.lemmas.Bool.{cases_eq, cases_lt}
-use Rattle.std.proofs.lemmas.List.{length-set, drop-set-lt, get_or-take, get_or-drop, get_or_past, length-take, length-drop, length-replicate, get_or-replicate, ext_get_or}
-use Rattle.std.proofs.lemmas.List.Elements.{All-nil, All-same, All-set}
+use Rattle.std.proofs.Common.{rules, ℕ, ◌≡◌, ◌<◌, ◌≤◌, ◌+◌, ◌-◌, ◌*◌, false, Some, List, [], length, take, drop, replicate, All, ap, sym, ◌∙◌, subst, inl, inr, ◌⊎◌, IsTrue, arith}
+use Rattle.std.proofs.lemmas.Bool.{cases_lt}
+use Rattle.std.proofs.lemmas.List.{get_or-drop, length-take, length-drop, length-replicate, get_or-replicate, ext_get_or}
 use Rattle.pmem_base.specs.declared.lines.Line.{Line}
 use Rattle.pmem_base.specs.declared.registers.Regs.{Regs}
-use Rattle.pmem_base.specs.Shape.{Shape, is_loss}
-use Rattle.pmem_base.specs.Registers.{IsGroup, IsProgress, IsValidRegs}
+use Rattle.pmem_base.specs.Shape.{Shape}
+use Rattle.pmem_base.specs.Registers.{IsValidRegs}
 use Rattle.pmem_base.specs.declared.answers.Mark.{Mark}
 use Rattle.pmem_base.specs.Layout as layout
 use Rattle.pmem_base.specs.Lines.{IsLine, line_at, zero_line, tag_slot}
-use Rattle.pmem_base.proofs.LineLemmas.{IsLine-zero_line}
 use Rattle.split_counters.specs.Blocks.{IsStoredBlock, unpacked}
 use Rattle.split_counters.proofs.StoredBlocks.{IsStoredBlock-same}
 use Rattle.bonsai_tree.specs.Positions.{level_of, counter_position}
 use Rattle.bonsai_tree.proofs.Levels.{counter_position-lt}
-use Rattle.pmem_base.proofs.LineSets.{line_at-set_same, line_at-set_other, length-put_lines, put_lines-AreLines}
+use Rattle.pmem_base.proofs.LineSets.{length-put_lines, put_lines-AreLines}
 use Rattle.board.specs.Device.{AreLinesOf}
 use Rattle.commit_regs.specs.Groups.{redone}
 use Rattle.seal_ledger.specs.Ledger.{LedgerState}
 use Rattle.shadow_tables.specs.Entries.{is_named_in, shadow_of}
 use Rattle.shadow_tables.proofs.EntryLaws.{AreAllZero, is_named_in-zero}
-use Rattle.meta_cache.specs.Banks.{set_of}
 use Rattle.suite.specs.Setup.{Setup}
 use Rattle.pmem_engine.specs.Engine.{EngineState}
-use Rattle.pmem_engine.specs.Truth.{true_block, true_counter}
-use Rattle.pmem_engine.specs.Invariants.{IsAnchored, IsHeldBack, register_page, IsSealStored, IsCounterStored, IsTrueSlot, IsDirtyNamed, IsMendable, IsDurable, IsTrusted, IsSound, stored_meta, is_named}
+use Rattle.pmem_engine.specs.Truth.{true_block}
+use Rattle.pmem_engine.specs.Invariants.{IsAnchored, IsSealStored, IsCounterStored, IsMendable, IsDurable, IsSound, stored_meta, is_named}
 use Rattle.pmem_engine.specs.Mendable.{IsAllTrue, IsShadowZero}
 use Rattle.pmem_engine.specs.Steps.{IsEmptied}
 use Rattle.pmem_engine.specs.Recached.{IsNewEngine}
 
 -- ---- lists of lines
-
-pub AreLinesOf-set : (size : ℕ) (lines : List Line) (n : ℕ) (y : Line) → IsLine y → AreLinesOf size lines → AreLinesOf size (slice_set lines n y)
-AreLinesOf-set size lines n y h all =
-    record { count = length-set lines n y ∙ all.count; each = All-set IsLine lines n y h all.each }
 
 pub AreLinesOf-redone : (size : ℕ) (group : List (ℕ × Line)) (lines : List Line) → All (λ entry. IsLine entry.1) group → AreLinesOf size lines → AreLinesOf size (redone group lines)
 AreLinesOf-redone size group lines all h =
@@ -96,11 +86,6 @@ IsMendable-mending setup old new regs ledger m d =
 
 -- ---- a fixed line is written
 
--- shadow lines are not read below their start
-pub shadow_of-set : (g : Shape) (lines : List Line) (n : ℕ) (y : Line) → n < layout.shadow_line g 0 → shadow_of g (slice_set lines n y) ≡ shadow_of g lines
-shadow_of-set g lines n y h =
-    ap (take (layout.device_lines g - layout.shadow_line g 0)) (drop-set-lt (layout.shadow_line g 0) lines n y h)
-
 -- the shadow lines are the same where each line from their start on is
 pub shadow_of-same : (g : Shape) (old new : List Line) → length new ≡ length old → ((n : ℕ) → layout.shadow_line g 0 ≤ n → line_at new n ≡ line_at old n) → shadow_of g new ≡ shadow_of g old
 shadow_of-same g old new long same =
@@ -112,43 +97,7 @@ shadow_of-same g old new long same =
     ∙ same (layout.shadow_line g 0 + i) (omega arith)
     ∙ sym (get_or-drop (layout.shadow_line g 0) old i zero_line)))
 
--- the true line of x written at its place
-pub IsMendable-true_line : (setup : Setup) (lines : List Line) (regs : Regs) (ledger : LedgerState) (x : ℕ) (line : Line) → AreLinesOf (layout.device_lines setup.shape) lines → IsMendable setup lines regs ledger → x < layout.meta_lines setup.shape → line ≡ line_at ledger.truth x → IsMendable setup (slice_set lines (layout.meta_line setup.shape x) line) regs ledger
-IsMendable-true_line setup lines regs ledger x line whole d h same =
-    IsMendable-mending setup lines (slice_set lines (layout.meta_line setup.shape x) line) regs ledger
-    (record {
-      same_data = λ n low. line_at-set_other lines (layout.meta_line setup.shape x) n line (λ e. omega arith);
-      same_or_true = λ y hy. at y (cases_eq y x);
-      same_names_or_true = inl (shadow_of-set setup.shape lines (layout.meta_line setup.shape x) line (omega arith));
-    })
-    d
-  where
-    at : (y : ℕ) → (y ≡ x) ⊎ (y ≡ x → ⊥) → (stored_meta setup.shape (slice_set lines (layout.meta_line setup.shape x) line) y ≡ stored_meta setup.shape lines y) ⊎ (stored_meta setup.shape (slice_set lines (layout.meta_line setup.shape x) line) y ≡ line_at ledger.truth y)
-    at y (inl e) =
-        let on_device : layout.meta_line setup.shape x < length lines = subst (λ k. layout.meta_line setup.shape x < k) (sym whole.count) (omega arith) in
-        inr (ap (λ z. stored_meta setup.shape (slice_set lines (layout.meta_line setup.shape x) line) z) e
-        ∙ line_at-set_same lines (layout.meta_line setup.shape x) line on_device
-        ∙ same
-        ∙ ap (line_at ledger.truth) (sym e))
-    at y (inr ne) = inl (line_at-set_other lines (layout.meta_line setup.shape x) (layout.meta_line setup.shape y) line (λ e. ne (omega arith)))
-
--- the place written, and the other ones
-pub stored_meta-set_same : (setup : Setup) (lines : List Line) (x : ℕ) (line : Line) → AreLinesOf (layout.device_lines setup.shape) lines → x < layout.meta_lines setup.shape → stored_meta setup.shape (slice_set lines (layout.meta_line setup.shape x) line) x ≡ line
-stored_meta-set_same setup lines x line whole h = search rules
-
-pub stored_meta-set_other : (setup : Setup) (lines : List Line) (x y : ℕ) (line : Line) → y ≢ x → stored_meta setup.shape (slice_set lines (layout.meta_line setup.shape x) line) y ≡ stored_meta setup.shape lines y
-stored_meta-set_other setup lines x y line ne =
-    line_at-set_other lines (layout.meta_line setup.shape x) (layout.meta_line setup.shape y) line (λ e. ne (omega arith))
-
 -- ---- a shadow line is zeroed
-
-pub IsAllTrue-zeroed : (setup : Setup) (lines : List Line) (ledger : LedgerState) (n : ℕ) (y : Line) → IsAllTrue setup lines ledger → IsAllTrue setup (slice_set lines (layout.shadow_line setup.shape n) y) ledger
-IsAllTrue-zeroed setup lines ledger n y all =
-    record { true_lines = λ x h. line_at-set_other lines (layout.shadow_line setup.shape n) (layout.meta_line setup.shape x) y (λ e. omega arith) ∙ all.true_lines x h }
-
--- once every metadata line is true, a shadow line can be zeroed
-pub IsMendable-zeroed : (setup : Setup) (lines : List Line) (regs : Regs) (ledger : LedgerState) (n : ℕ) → IsMendable setup lines regs ledger → IsAllTrue setup lines ledger → IsMendable setup (slice_set lines (layout.shadow_line setup.shape n) zero_line) regs ledger
-IsMendable-zeroed setup lines regs ledger n d all = grind (arith, common_steps)
 
 -- ---- the end
 
@@ -217,18 +166,6 @@ IsDurable-emptied setup lines old new ledger e d =
 
 -- ---- the writes of recovery, where no group is armed
 
-pub IsDurable-true_line : (setup : Setup) (lines : List Line) (regs : Regs) (ledger : LedgerState) (x : ℕ) (line : Line) → regs.group.items ≡ [] → IsDurable setup lines regs ledger → x < layout.meta_lines setup.shape → IsLine line → line ≡ line_at ledger.truth x → IsDurable setup (slice_set lines (layout.meta_line setup.shape x) line) regs ledger
-IsDurable-true_line setup lines regs ledger x line none d h range same =
-    IsDurable-no_group setup (slice_set lines (layout.meta_line setup.shape x) line) regs ledger none
-    (AreLinesOf-set (layout.device_lines setup.shape) lines (layout.meta_line setup.shape x) line range d.device_whole)
-    (IsMendable-true_line setup lines regs ledger x line d.device_whole (IsMendable-no_group setup lines regs ledger none d) h same)
-
-pub IsDurable-zeroed : (setup : Setup) (lines : List Line) (regs : Regs) (ledger : LedgerState) (n : ℕ) → regs.group.items ≡ [] → IsDurable setup lines regs ledger → IsAllTrue setup lines ledger → IsDurable setup (slice_set lines (layout.shadow_line setup.shape n) zero_line) regs ledger
-IsDurable-zeroed setup lines regs ledger n none d all =
-    IsDurable-no_group setup (slice_set lines (layout.shadow_line setup.shape n) zero_line) regs ledger none
-    (AreLinesOf-set (layout.device_lines setup.shape) lines (layout.shadow_line setup.shape n) zero_line IsLine-zero_line d.device_whole)
-    (IsMendable-zeroed setup lines regs ledger n (IsMendable-no_group setup lines regs ledger none d) all)
-
 -- a seal on the device stays where data and tag lines stay, tampered with or not
 pub IsSealStored-same : (g : Shape) (old new : List Line) (marks : List Mark) (a : ℕ) → a < layout.data_lines g → ((n : ℕ) → n < 80 * layout.pages g → line_at new n ≡ line_at old n) → IsSealStored g old marks a → IsSealStored g new marks a
 IsSealStored-same g old new marks a h same stored = search rules
@@ -236,7 +173,3 @@ IsSealStored-same g old new marks a h same stored = search rules
 -- a cut while the group is redone: what counts are the lines with the group redone
 pub IsDurable-same_redone : (setup : Setup) (old new : List Line) (regs : Regs) (ledger : LedgerState) → redone regs.group.items new ≡ redone regs.group.items old → AreLinesOf (layout.device_lines setup.shape) new → IsDurable setup old regs ledger → IsDurable setup new regs ledger
 IsDurable-same_redone setup old new regs ledger same whole d = search rules
-
--- the engine that starts anew is trusted, whatever the device holds
-pub IsTrusted-new_engine : (setup : Setup) (engine : EngineState) (lines : List Line) (regs : Regs) (ledger : LedgerState) → IsNewEngine setup engine lines → IsAnchored setup regs ledger → regs.group.items ≡ [] → IsTrusted setup engine regs ledger
-IsTrusted-new_engine setup engine lines regs ledger new anchored none = search rules

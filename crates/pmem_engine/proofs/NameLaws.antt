@@ -1,8 +1,6 @@
 -- Shadow entries and dirty blocks: what a sound engine's mirror names, and a shadow line is written.
 use Rattle.std.proofs.lemmas.Grind.{common_steps}
-use Rattle.std.proofs.Common.{arith}
-use Rattle.std.proofs.Common.{rules}
-use Rattle.std.proofs.Common.{◌≡◌, ◌≢◌, ℕ, ◌+◌, ◌<◌, true, false, List, sym, ap, subst, subst₂, ◌∙◌, ◌⊎◌, inl, inr}
+use Rattle.std.proofs.Common.{arith, rules, ◌≡◌, ℕ, ◌+◌, ◌<◌, true, false, List, sym, ap, subst, subst₂, ◌∙◌, ◌⊎◌, inl, inr}
 use Rattle.std.specs.Prelude.{IsTrue, slice_set}
 use Rattle.std.specs.List.{All, Contains}
 use Rattle.std.proofs.lemmas.Bool.{cases_eq, cases_Bool}
@@ -11,7 +9,7 @@ use Rattle.pmem_base.specs.declared.registers.Regs.{Regs}
 use Rattle.pmem_base.specs.Shape.{Shape}
 use Rattle.pmem_base.specs.Layout.{device_lines, meta_lines, shadow_line}
 use Rattle.pmem_base.specs.Lines.{line_at, IsLine}
-use Rattle.bonsai_tree.specs.Positions.{level_of, counter_position, is_on_path}
+use Rattle.bonsai_tree.specs.Positions.{level_of, is_on_path}
 use Rattle.board.proofs.LineLemmas.{AreLinesOf-set}
 use Rattle.seal_ledger.specs.Ledger.{LedgerState}
 use Rattle.shadow_tables.specs.Entries.{slot_entry, is_named_in, shadow_of}
@@ -23,12 +21,11 @@ use Rattle.meta_cache.specs.Banks.{Banks, set_of, set_index, slot_number, is_cac
 use Rattle.meta_cache.proofs.SlotLemmas.{All-stands, All-from_stands, dirty_slot, cached_slot, same_slot, in_place_of, slot_number_within}
 use Rattle.suite.specs.Setup.{Setup}
 use Rattle.pmem_engine.specs.Engine.{EngineState}
-use Rattle.pmem_engine.specs.Invariants.{IsTrueSlot, IsTrusted, stored_meta, is_named, IsMendable, IsDirtyNamed, IsSound}
-use Rattle.pmem_engine.specs.Steps.{IsPathNamed, ArePathNodesNamed}
+use Rattle.pmem_engine.specs.Invariants.{IsTrusted, stored_meta, is_named, IsMendable, IsDirtyNamed, IsSound}
+use Rattle.pmem_engine.specs.Steps.{IsPathNamed}
 use Rattle.pmem_engine.specs.Recached.{IsMirrorWritten, IsPathCached}
 use Rattle.pmem_engine.specs.Named.{slot_line, IsSlotNamed, ArePathSlotsNamed, AreNodeSlotsNamed}
-use Rattle.pmem_engine.proofs.RegionLemmas.{stored_meta-set_shadow, IsSealStored-set_shadow}
-use Rattle.pmem_engine.proofs.CounterBlocks.{IsCounterStored-set_shadow}
+use Rattle.pmem_engine.proofs.RegionLemmas.{stored_meta-set_shadow}
 use Rattle.pmem_engine.proofs.GroupLaws.{IsMendable-unarmed, IsDurable-unarmed}
 
 -- ---- a slot whose entry names it
@@ -97,18 +94,6 @@ IsSlotNamed-kept g cache old new bank set slot bank' set' other form stands stan
     by_cases (inr banks) numbers = apart (λ e. banks (sym e.0))
     by_cases (inl banks) (inr numbers) = apart (λ e. numbers (sym e.1))
     by_cases (inl banks) (inl numbers) = one banks numbers
-
--- and so is each slot of a path that was
-pub ArePathSlotsNamed-kept : (g : Shape) (cache : Banks) (old new : List Line) (bank set page : ℕ) (slot : Slot)
-    → IsBanksOf g cache → Contains (set_of cache bank set) slot
-    → Names g old new bank (slot_number g set slot) slot.position → ArePathSlotsNamed g cache old page
-    → ArePathSlotsNamed g cache new page
-ArePathSlotsNamed-kept g cache old new bank set page slot form stands names named =
-    record {
-      each = λ bank' set' other stands' on.
-          IsSlotNamed-kept g cache old new bank set slot bank' set' other form stands stands' names
-          (named.each bank' set' other stands' on);
-    }
 
 -- ---- the law: a shadow line is written
 
@@ -221,19 +206,3 @@ IsPathNamed_from_slots g cache lines page form cached named =
         ap (is_named_in g (shadow_of g lines) (level_of x)) (sym s.2)
         ∙ is_named-slot g cache (shadow_of g lines) (level_of x) (set_index g x) s.0 form s.1
         (named.each (level_of x) (set_index g x) s.0 s.1 (ap (is_on_path g page) s.2 ∙ on))
-
--- the same of its nodes
-pub ArePathNodesNamed_from_slots : (g : Shape) (cache : Banks) (lines : List Line) (page : ℕ) → IsBanksOf g cache
-    → IsPathCached g cache page → AreNodeSlotsNamed g cache (shadow_of g lines) page
-    → ArePathNodesNamed g lines page
-ArePathNodesNamed_from_slots g cache lines page form cached named =
-    record { each = λ x h on node. by_slot x on node (cached_slot g cache (level_of x) x (cached.each x h on)) }
-  where
-    by_slot : (x : ℕ) → is_on_path g page x ≡ true → x ≢ counter_position g page
-        → ((slot : Slot) × Contains (set_of cache (level_of x) (set_index g x)) slot × (slot.position ≡ x))
-        → is_named g lines x ≡ true
-    by_slot x on node s =
-        ap (is_named_in g (shadow_of g lines) (level_of x)) (sym s.2)
-        ∙ is_named-slot g cache (shadow_of g lines) (level_of x) (set_index g x) s.0 form s.1
-        (named.each (level_of x) (set_index g x) s.0 s.1 (ap (is_on_path g page) s.2 ∙ on)
-        (λ e. node (sym s.2 ∙ e)))

@@ -1,16 +1,12 @@
 -- A path was named, or a cut came before one of its entries was written: what the call keeps.
-use Rattle.std.proofs.Common.{rules}
-use Rattle.std.proofs.Common.{ℕ, ◌≡◌, ◌<◌, ◌≤◌, ◌+◌, ◌⊎◌, inl, inr, true, false, List, [], length, Some, Ok, Err, refl, sym, ap, ap₂, subst, ◌∙◌, arith}
+use Rattle.std.proofs.Common.{rules, ℕ, ◌≡◌, ◌<◌, ◌≤◌, ◌+◌, ◌⊎◌, inl, inr, true, false, List, [], length, Some, Ok, Err, refl, sym, ap, ap₂, subst, ◌∙◌, arith}
 use Rattle.std.specs.Prelude.{MatchOption, IfSome, option_map, is_some, is_ok, Result}
 use Rattle.std.proofs.lemmas.Bool.{true≢false}
-use Rattle.std.proofs.lemmas.List.{append-nil}
 use Rattle.std.proofs.lemmas.Option.{same_Some}
 use Rattle.pmem_base.specs.declared.lines.Line.{Line}
 use Rattle.pmem_base.specs.Counts.{HasRisen}
 use Rattle.pmem_base.specs.Layout as layout
-use Rattle.pmem_base.specs.Layout.{device_lines}
 use Rattle.pmem_base.specs.Lines.{line_at, tag_slot, put_lines}
-use Rattle.pmem_base.specs.Registers.{IsValidRegs}
 use Rattle.bonsai_tree.specs.Positions.{level_of, counter_position}
 use Rattle.bonsai_tree.proofs.Levels.{counter_position-lt}
 use Rattle.board.specs.Device.{Device}
@@ -31,7 +27,7 @@ use Rattle.pmem_engine.specs.Recached.{IsTrueOrDirty}
 use Rattle.pmem_engine.specs.Parts.{Parts, parts_of, AreTrusted, AreSound, HoldsCounters, lines_redone, meta_line_in}
 use Rattle.pmem_engine.specs.Outcomes.{Outcome, going, cut, is_going, outcome_of, KeepsPlaces, KeepsMeta, HasGone, HasDone, HasPower, HasSmallGroup, LeavesTrusted, LeavesSound, KeepsMetaWhere}
 use Rattle.pmem_engine.specs.Inner.{HasNamedPath}
-use Rattle.pmem_engine.proofs.Told.{told_cases, told_same, told_surely, told_redone, unarmed}
+use Rattle.pmem_engine.proofs.Told.{told_surely, told_redone, unarmed}
 use Rattle.pmem_engine.proofs.CounterBlocks.{IsCounterStored-same}
 use Rattle.pmem_engine.proofs.RegionLemmas.{IsSealStored-kept}
 use Rattle.pmem_engine.proofs.NameLaws.{IsTrusted-same_cache}
@@ -58,13 +54,6 @@ module _ (setup : Setup) (page n : ℕ) (old new : EngineState) (before after : 
   lines_now were are was is =
       same_Some are (now_of were)
       (sym is ∙ lines ∙ ap (redone_told (naming_writes setup.shape old.cache page old.mirror n)) was)
-
-  redone_before : AreTrusted setup start → lines_redone start ≡ before.lines
-  redone_before trusted = unarmed before.regs.group.items before.lines trusted.no_group
-
-  redone_after : AreTrusted setup start → lines_redone finish ≡ after.lines
-  redone_after trusted =
-      unarmed after.regs.group.items after.lines (ap (λ regs. regs.group.items) same_regs ∙ trusted.no_group)
 
   holds_now : AreTrusted setup start → (P Q : List Line → Type 0) → ((were : List Line) → P were → Q (now_of were))
       → IfSome (lines_redone start) P → IfSome (lines_redone finish) Q

@@ -1,6 +1,5 @@
 -- The lines of a page sealed anew one after the other: the first of them, one more, all, or not all.
-use Rattle.std.proofs.Common.{rules}
-use Rattle.std.proofs.Common.{ℕ, ◌≡◌, ◌<◌, ◌≤◌, ◌+◌, ◌*◌, ◌++◌, ◌⊎◌, inl, inr, false, List, [], ◌∷◌, length, map, get_or, Some, IsTrue, Result, Ok, Err, refl, sym, ap, subst, ◌∙◌, arith}
+use Rattle.std.proofs.Common.{rules, ℕ, ◌≡◌, ◌<◌, ◌≤◌, ◌+◌, ◌*◌, ◌++◌, ◌⊎◌, inl, inr, false, List, [], ◌∷◌, length, map, get_or, Some, IsTrue, Result, Ok, Err, refl, sym, ap, subst, ◌∙◌, arith}
 use Rattle.std.specs.Prelude.{◌||◌, slice_get}
 use Rattle.std.proofs.lemmas.Bool.{cases_Bool, true≢false, false≢true, eq-eqb}
 use Rattle.std.proofs.lemmas.List.{append_assoc, append-nil, map-append, length-append, length-map}
@@ -25,7 +24,6 @@ use Rattle.pmem_engine.specs.Writing.{reseals_of, IsFrontOf, IsStoppedAt, HasFin
 use Rattle.pmem_engine.specs.Finishing.{IsStillOpen, IsClosed, HasLeft, HasResealedFirst}
 use Rattle.pmem_engine.proofs.Chained.{done_chained, sealed_by_either, going_unshown}
 use Rattle.pmem_engine.proofs.StillLaws.{done_reading}
-use Rattle.pmem_engine.proofs.Unsealing.{same_never_falls}
 use Rattle.pmem_engine.proofs.Asked.{asked-held}
 use Rattle.pmem_engine.proofs.Usable.{usable_after}
 use Rattle.pmem_engine.proofs.WriteParts.{held_back}

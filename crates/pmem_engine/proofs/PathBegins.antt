@@ -1,5 +1,4 @@
 -- A page begun with its new path: its group armed, and finished or cut.
-use Rattle.std.proofs.Common.{rules}
 use Rattle.std.proofs.Common.{ℕ, ◌≡◌, ◌≢◌, ◌<◌, ◌≤◌, ◌-◌, ◌^◌, ◌++◌, ◌⊎◌, inl, inr, true, false, List, [], ◌∷◌, IsTrue, Option, Some, None, refl, sym, ap, subst, ◌∙◌, arith}
 use Rattle.std.specs.Prelude.{option_map, AllPairs, All, ◌||◌}
 use Rattle.std.proofs.lemmas.Bool.{true≢false, cases_Bool, eq-eqb}
@@ -14,7 +13,6 @@ use Rattle.pmem_base.specs.declared.answers.Mark.{Mark}
 use Rattle.pmem_base.specs.declared.answers.Mark.TheVariants.{Begin}
 use Rattle.pmem_base.specs.Shape.{is_loss}
 use Rattle.pmem_base.specs.Layout as layout
-use Rattle.pmem_base.specs.Layout.{page_of, index_in_page}
 use Rattle.pmem_base.specs.Lines.{line_at}
 use Rattle.pmem_base.specs.Registers.{IsGroup, IsProgress}
 use Rattle.suite.specs.Formulas.{AreInRange}

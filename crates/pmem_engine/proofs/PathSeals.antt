@@ -1,5 +1,4 @@
 -- A line sealed together with its page's new path: its group armed, and finished or cut.
-use Rattle.std.proofs.Common.{rules}
 use Rattle.std.proofs.Common.{ℕ, ◌≡◌, ◌≢◌, ◌<◌, ◌≤◌, ◌+◌, ◌%◌, ◌++◌, ◌⊎◌, inl, inr, Bool, true, false, List, [], ◌∷◌, length, IsTrue, Option, Some, None, refl, sym, ap, ap₂, subst, ◌∙◌, arith}
 use Rattle.std.specs.Prelude.{option_map, AllPairs, All, ◌&&◌, ◌||◌}
 use Rattle.std.specs.List.{list_any}

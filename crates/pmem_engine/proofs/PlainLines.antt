@@ -5,9 +5,9 @@ use Rattle.std.proofs.lemmas.Bool.{cases_eq}
 use Rattle.pmem_base.specs.declared.lines.Line.{Line}
 use Rattle.pmem_base.specs.declared.lines.Ctr.{Ctr}
 use Rattle.pmem_base.specs.declared.answers.Mark.{Mark}
-use Rattle.pmem_base.specs.declared.answers.Mark.TheVariants.{Begin, Seal}
+use Rattle.pmem_base.specs.declared.answers.Mark.TheVariants.{Seal}
 use Rattle.pmem_base.specs.Lines.{IsLine, IsCtr}
-use Rattle.seal_ledger.proofs.MarkLemmas.{last_seal-sealed, last_seal-other, last_seal-begun}
+use Rattle.seal_ledger.proofs.MarkLemmas.{last_seal-sealed, last_seal-other}
 use Rattle.suite.specs.Formulas.{Formulas, AreInRange, cipher_of}
 use Rattle.suite.proofs.CipherLemmas.{cipher_of-back}
 use Rattle.plain_model.specs.View.{plain_line, plain_of_seal}
@@ -17,11 +17,6 @@ pub plain_line-other : (f : Formulas) (marks : List Mark) (at : ℕ) (ctr : Ctr)
     → a ≢ at → plain_line f (marks ++ Seal at ctr cipher tag ∷ []) a ≡ plain_line f marks a
 plain_line-other f marks at ctr cipher tag a apart =
     ap (option_map (plain_of_seal f a)) (last_seal-other marks at ctr cipher tag a apart)
-
--- a begin keeps all of them
-pub plain_line-begun : (f : Formulas) (marks : List Mark) (page a : ℕ)
-    → plain_line f (marks ++ Begin page ∷ []) a ≡ plain_line f marks a
-plain_line-begun f marks page a = ap (option_map (plain_of_seal f a)) (last_seal-begun marks page a)
 
 -- the sealed line has what its cipher was made of
 pub plain_line-sealed : (f : Formulas) (marks : List Mark) (at : ℕ) (ctr : Ctr) (plain : Line) (tag : List ℕ)

@@ -1,6 +1,5 @@
 -- A write's plain line: its own where it is a whole line, else the unsealed one with its bytes.
-use Rattle.std.proofs.Common.{rules}
-use Rattle.std.proofs.Common.{ℕ, ◌≡◌, ◌<◌, ◌≤◌, ◌+◌, ◌-◌, ◌++◌, List, [], ◌∷◌, length, take, drop, Option, Some, None, Result, Ok, Err, refl, sym, ap, subst, ◌∙◌, arith}
+use Rattle.std.proofs.Common.{rules, ℕ, ◌≡◌, ◌<◌, ◌≤◌, ◌+◌, ◌-◌, ◌++◌, List, [], ◌∷◌, length, take, drop, Option, Some, None, Result, Ok, Err, refl, sym, ap, ◌∙◌, arith}
 use Rattle.std.specs.Prelude.{slice_range, option_map, IfSome, is_ok}
 use Rattle.std.proofs.lemmas.Bool.{true≢false}
 use Rattle.std.proofs.lemmas.List.{take_all, drop_all, length-drop, append-nil}
@@ -19,14 +18,10 @@ use Rattle.meta_path.specs.Blocks.{IsPathCached}
 use Rattle.plain_model.specs.State.{put_write}
 use Rattle.plain_model.specs.View.{plain_of_seal}
 use Rattle.pmem_engine.specs.declared.fault.Fault.{Fault}
-use Rattle.pmem_engine.specs.declared.fault.Fault.TheVariants as Fail
 use Rattle.pmem_engine.specs.declared.reading.Unsealed.{Unsealed}
 use Rattle.pmem_engine.specs.Parts.{Parts, AreTrusted}
-use Rattle.pmem_engine.specs.Outcomes.{outcome_of, HasDone}
-use Rattle.pmem_engine.specs.Calls.{IsDownAnswer, IsUnrefused}
-use Rattle.pmem_engine.specs.Inner.{HasUnsealed, IsLastCounter, AnswersUnseal}
-use Rattle.pmem_engine.specs.Writing.{AnswersPlain, HasMadePlain}
-use Rattle.pmem_engine.proofs.Committed.{sound_trusted}
+use Rattle.pmem_engine.specs.Inner.{HasUnsealed, IsLastCounter}
+use Rattle.pmem_engine.specs.Writing.{HasMadePlain}
 use Rattle.pmem_engine.proofs.PageFinished.{same_parts}
 use Rattle.pmem_engine.proofs.StillLaws.{done_reading}
 
@@ -108,50 +103,8 @@ abbrev pub made_of : Posted → Result Unsealed Fault → Result Line Fault
 made_of write (Ok unsealed) = Ok (put_write unsealed.plain write)
 made_of write (Err fault) = Err fault
 
-same_outcome : (write : Posted) (answer : Result Unsealed Fault) → outcome_of (made_of write answer) ≡ outcome_of answer
-same_outcome write (Ok unsealed) = refl
-same_outcome write (Err fault) = refl
-
-unrefused_so : (write : Posted) (answer : Result Unsealed Fault) → IsUnrefused answer → IsUnrefused (made_of write answer)
-unrefused_so write (Ok unsealed) it = tt
-unrefused_so write (Err Fail.Cut) it = tt
-unrefused_so write (Err Fail.Down) it = it
-unrefused_so write (Err (Fail.Meta x)) it = it
-unrefused_so write (Err (Fail.Tag at)) it = it
-unrefused_so write (Err (Fail.Spent page)) it = tt
-unrefused_so write (Err Fail.Shown) it = it
-
-down_before : (write : Posted) (answer : Result Unsealed Fault) → IsDownAnswer (made_of write answer) → IsDownAnswer answer
-down_before write (Ok unsealed) it = it
-down_before write (Err Fail.Down) it = tt
-down_before write (Err Fail.Cut) it = it
-down_before write (Err (Fail.Meta x)) it = it
-down_before write (Err (Fail.Tag at)) it = it
-down_before write (Err (Fail.Spent page)) it = it
-down_before write (Err Fail.Shown) it = it
-
-cut_before : (write : Posted) (answer : Result Unsealed Fault) → made_of write answer ≡ Err Fail.Cut → answer ≡ Err Fail.Cut
-cut_before write (Ok unsealed) it = absurd (true≢false (ap is_ok it))
-cut_before write (Err fault) it = ap again it
-  where
-    again : Result Line Fault → Result Unsealed Fault
-    again (Ok line) = Err fault
-    again (Err f) = Err f
-
 module _ (setup : Setup) (write : Posted) (ctr : Ctr) (old new : Parts) (shorter : write.len < 64)
     (last : AreTrusted setup old → IsPathCached setup.shape old.engine.cache (page_of write.at) → IsLastCounter old write.at ctr) where
-  answers_plain : (answer : Result Unsealed Fault) → AnswersUnseal setup write.at old new answer
-      → AnswersPlain setup write old new (made_of write answer)
-  answers_plain (Ok unsealed) it = (
-    subst (λ found. IfSome found (λ line. put_write unsealed.plain write ≡ put_write line write)) (sym it.0) refl,
-    λ is. it.1,
-  )
-  answers_plain (Err Fail.Cut) it = shorter
-  answers_plain (Err Fail.Down) it = it
-  answers_plain (Err (Fail.Meta x)) it = it
-  answers_plain (Err (Fail.Tag at)) it = (shorter, it.0, it.1)
-  answers_plain (Err (Fail.Spent page)) it = it
-  answers_plain (Err Fail.Shown) it = (shorter, it)
 
   pub plain_unsealed : (answer : Result Unsealed Fault) → HasUnsealed setup write.at ctr old new answer
       → HasMadePlain setup write old new (made_of write answer)

@@ -1,7 +1,6 @@
 -- What the parts of the device show after a write to one of its regions: metadata lines, names, data
 -- lines and tags, each by itself and over any lines.
-use Rattle.std.proofs.Common.{rules}
-use Rattle.std.proofs.Common.{◌≡◌, ◌≢◌, ℕ, ◌%◌, ◌<◌, ◌*◌, List, length, Some, refl, sym, ap, subst, ◌∙◌, ◌⊎◌, inl, inr, arith}
+use Rattle.std.proofs.Common.{rules, ◌≡◌, ◌≢◌, ℕ, ◌<◌, List, length, Some, refl, sym, ap, subst, ◌∙◌, ◌⊎◌, inl, inr, arith}
 use Rattle.std.specs.Prelude.{option_map, slice_set}
 use Rattle.std.proofs.lemmas.Bool.{cases_eq}
 use Rattle.std.proofs.lemmas.List.{length-set}
@@ -9,10 +8,10 @@ use Rattle.pmem_base.specs.declared.lines.Line.{Line}
 use Rattle.pmem_base.specs.declared.answers.Mark.{Mark}
 use Rattle.pmem_base.specs.Shape.{Shape}
 use Rattle.pmem_base.specs.Layout.{device_lines, data_lines, meta_lines, tag_line, meta_line, shadow_line}
-use Rattle.pmem_base.specs.Lines.{line_at, tag_slot, IsLine, IsTag}
+use Rattle.pmem_base.specs.Lines.{line_at, tag_slot}
 use Rattle.pmem_base.specs.Marks.{SealOf, last_seal}
-use Rattle.pmem_base.proofs.LineSets.{line_at-set_same, line_at-set_other, put_bytes-IsLine}
-use Rattle.pmem_base.proofs.Regions.{tag_line≢data, meta_line≢data, shadow_line≢data, meta_line≢tag, shadow_line≢tag, shadow_line≢meta, meta_line_injective, tag_on_device, data_before_shadow, tag_before_shadow, meta_before_shadow}
+use Rattle.pmem_base.proofs.LineSets.{line_at-set_same, line_at-set_other}
+use Rattle.pmem_base.proofs.Regions.{tag_line≢data, meta_line≢data, meta_line≢tag, shadow_line≢meta, meta_line_injective, tag_on_device, data_before_shadow, tag_before_shadow, meta_before_shadow}
 use Rattle.line_seal.specs.Seals.{with_tag}
 use Rattle.line_seal.proofs.TagSlots.{tag_slot-with_same, tag_slot-with_other}
 use Rattle.board.specs.Device.{AreLinesOf}
@@ -92,13 +91,6 @@ pub IsSealStored-set_meta : (g : Shape) (lines : List Line) (x : ℕ) (line : Li
 IsSealStored-set_meta g lines x line marks a h =
     IsSealStored-kept g lines (slice_set lines (meta_line g x) line) marks marks a refl
     (IsPlaceKept-set_meta g lines x line a h)
-
-pub IsSealStored-set_shadow : (g : Shape) (lines : List Line) (n : ℕ) (line : Line) (marks : List Mark) (a : ℕ)
-    → a < data_lines g → IsSealStored g lines marks a
-    → IsSealStored g (slice_set lines (shadow_line g n) line) marks a
-IsSealStored-set_shadow g lines n line marks a h =
-    IsSealStored-kept g lines (slice_set lines (shadow_line g n) line) marks marks a refl
-    (IsPlaceKept-set_shadow g lines n line a h)
 
 -- ---- one line is sealed: the lines once its group is written
 
@@ -218,8 +210,3 @@ pub is_named-sealed_lines : (g : Shape) (lines : List Line) (a : ℕ) (seal : Se
     → is_named g (sealed_lines g lines a seal) x ≡ is_named g lines x
 is_named-sealed_lines g lines a seal x h =
     ap (λ shadow. is_named_in g shadow (level_of x) x) (shadow_of-sealed_lines g lines a seal h)
-
--- the tag line of the group is a line
-pub IsLine-sealed_tag_line : (tags : Line) (a : ℕ) (tag : List ℕ) → IsLine tags → IsTag tag → IsLine (with_tag tags a tag)
-IsLine-sealed_tag_line tags a tag whole is_tag =
-    put_bytes-IsLine tags (16 * (a % 4)) tag whole is_tag.bytes (omega (arith, is_tag.long))

@@ -1,6 +1,5 @@
 -- The exits of a reseal: its line isn't unsealed, its group is cut, or the line is sealed anew.
-use Rattle.std.proofs.Common.{rules}
-use Rattle.std.proofs.Common.{ℕ, ◌≡◌, ◌<◌, ◌≤◌, ◌+◌, ◌++◌, inl, inr, true, false, [], ◌∷◌, length, get_or, Some, Ok, Err, refl, sym, ap, ap₂, subst, subst₂, ◌∙◌, arith}
+use Rattle.std.proofs.Common.{rules, ℕ, ◌≡◌, ◌<◌, ◌≤◌, ◌+◌, ◌++◌, inl, inr, true, false, [], ◌∷◌, length, get_or, Some, Ok, Err, refl, sym, ap, ap₂, subst, subst₂, ◌∙◌, arith}
 use Rattle.std.specs.Prelude.{◌==◌, not, option_map, IfSome}
 use Rattle.std.proofs.lemmas.Bool.{true≢false, eq-eqb, and_from}
 use Rattle.std.proofs.lemmas.Option.{same_Some, get_or_from_slice_get}
@@ -48,7 +47,7 @@ use Rattle.pmem_engine.proofs.PlainLines.{plain_line-resealed}
 use Rattle.pmem_engine.proofs.Unsealing.{risen_never_falls, same_never_falls}
 use Rattle.pmem_engine.specs.Faults.{IsTagRefused, IsForgedShown}
 use Rattle.pmem_engine.proofs.Committed.{sound_trusted, redone_none}
-use Rattle.pmem_engine.proofs.Reseals.{IsResealing, sealed_here, resealed_meta_kept, done_resealed, cut_resealed}
+use Rattle.pmem_engine.proofs.Reseals.{IsResealing, sealed_here, done_resealed, cut_resealed}
 
 -- a metadata line where lines and registers are as they were
 pub meta_of_same : (g : Shape) (x : ℕ) (old new : Parts) → regs_of new ≡ regs_of old → new.device.lines ≡ old.device.lines

@@ -1,6 +1,5 @@
 -- A page's new path stored in the cache, as the laws on the device ask for it.
-use Rattle.std.proofs.Common.{rules}
-use Rattle.std.proofs.Common.{ℕ, ◌≡◌, ◌<◌, ◌≤◌, ◌+◌, ◌*◌, inl, inr, Bool, true, false, List, length, refl, sym, ap, ap₂, subst, subst₂, ◌∙◌, arith}
+use Rattle.std.proofs.Common.{rules, ℕ, ◌≡◌, ◌<◌, ◌≤◌, ◌+◌, ◌*◌, inl, inr, Bool, true, false, List, length, refl, sym, ap, ap₂, subst, subst₂, ◌∙◌, arith}
 use Rattle.std.specs.Prelude.{not, ◌||◌, nat_lt, option_map, unwrap_or, All, Contains}
 use Rattle.std.proofs.lemmas.Bool.{cases_Bool, true≢false, false≢true, lt-ltb, le-ltb}
 use Rattle.pmem_base.specs.declared.lines.Line.{Line}
@@ -17,11 +16,10 @@ use Rattle.meta_cache.specs.declared.slot.Slot.{Slot}
 use Rattle.meta_cache.specs.Banks.{Banks, set_of, set_index, slot_number, is_cached, is_cached_dirty, IsBanksOf}
 use Rattle.meta_cache.specs.Sets.{slot_with}
 use Rattle.meta_cache.proofs.SlotLemmas.{All-stands, dirty_slot, cached_slot, is_cached_dirty_from, slot_with-is}
-use Rattle.std.proofs.lemmas.List.Elements.{All-weaker}
 use Rattle.meta_path.specs.Blocks.{path_at, number_in, line_in}
 use Rattle.meta_path.specs.Blocks as meta
 use Rattle.meta_path.specs.Naming.{path_number}
-use Rattle.meta_path.specs.Storing.{new_line, stored_mark, IsPathOf, KeepsSlots}
+use Rattle.meta_path.specs.Storing.{new_line, stored_mark}
 use Rattle.meta_path.specs.Storing as storing
 use Rattle.meta_path.proofs.StoreLemmas.{length-path_lines, position_of}
 use Rattle.pmem_engine.specs.Engine.{EngineState}

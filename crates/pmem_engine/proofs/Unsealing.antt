@@ -1,20 +1,16 @@
 -- A data line and its tag line are read, and the line is unsealed or refused.
-use Rattle.std.proofs.Common.{rules}
-use Rattle.std.proofs.Common.{ℕ, ◌≡◌, ◌≢◌, ◌<◌, ◌+◌, Bool, true, false, List, [], Option, Some, None, Ok, Err, refl, sym, ap, ap₂, subst, ◌∙◌, arith}
-use Rattle.std.specs.Prelude.{MatchOption, IfSome, IsSome, option_map, is_some}
-use Rattle.std.specs.Prelude.{length, All, ◌∷◌, ◌==◌}
-use Rattle.std.proofs.lemmas.Bool.{true≢false, cond-true, cond-false, and_parts, eqb-true}
-use Rattle.std.proofs.lemmas.List.{append-nil}
+use Rattle.std.proofs.Common.{rules, ℕ, ◌≡◌, ◌≢◌, ◌<◌, Bool, true, false, List, [], Option, Some, None, Ok, Err, refl, sym, ap, ap₂, subst, ◌∙◌, arith}
+use Rattle.std.specs.Prelude.{MatchOption, IfSome, IsSome, option_map, All, ◌∷◌, ◌==◌}
+use Rattle.std.proofs.lemmas.Bool.{true≢false, cond-false, and_parts, eqb-true}
 use Rattle.std.proofs.lemmas.Option.{none-some, same_Some}
 use Rattle.pmem_base.specs.declared.lines.Line.{Line}
 use Rattle.pmem_base.specs.declared.lines.Ctr.{Ctr}
 use Rattle.pmem_base.specs.declared.answers.Mark.{Mark}
 use Rattle.pmem_base.specs.declared.answers.Exhibit.TheVariants.{Forged}
-use Rattle.pmem_base.specs.Counts.{risen, last_count}
-use Rattle.pmem_base.specs.Lines.{line_at, tag_slot, same_bytes, xor_lines, put_lines}
-use Rattle.pmem_base.specs.Registers.{IsValidRegs}
+use Rattle.pmem_base.specs.Counts.{risen}
+use Rattle.pmem_base.specs.Lines.{tag_slot, same_bytes, xor_lines}
 use Rattle.pmem_base.specs.Layout as layout
-use Rattle.pmem_base.specs.Marks.{SealOf, last_seal, IsFresh}
+use Rattle.pmem_base.specs.Marks.{SealOf, last_seal}
 use Rattle.suite.specs.Formulas.{Formulas}
 use Rattle.commit_regs.specs.Groups.{redone_told}
 use Rattle.suite.specs.Setup.{Setup}
@@ -22,7 +18,7 @@ use Rattle.board.specs.Counts.{RisesBy}
 use Rattle.board.specs.Device.{Device}
 use Rattle.board.specs.Steps.{HasRead, Tells}
 use Rattle.seal_ledger.specs.Ledger.{LedgerState}
-use Rattle.seal_ledger.specs.Notes.{HasExhibit, first_exhibit}
+use Rattle.seal_ledger.specs.Notes.{HasExhibit}
 use Rattle.seal_ledger.proofs.MarkLemmas.{last_seal_has}
 use Rattle.line_seal.specs.Seals.{unsealed}
 use Rattle.plain_model.specs.View.{plain_line, plain_of_seal}
@@ -34,7 +30,7 @@ use Rattle.pmem_engine.specs.Outcomes.{NeverFalls, TakesSteps}
 use Rattle.pmem_engine.specs.Faults.{IsUnsealedLine}
 use Rattle.pmem_engine.specs.Still.{HasOnlyRead}
 use Rattle.pmem_engine.specs.Inner.{HasUnsealed, IsLastCounter}
-use Rattle.pmem_engine.proofs.StillLaws.{SeesSame, places_same, metadata_same, counters_same, done_reading}
+use Rattle.pmem_engine.proofs.StillLaws.{done_reading}
 
 -- a count that rose by one, or stands still, doesn't fall
 pub risen_never_falls : (n : ℕ) → NeverFalls n (risen n)
@@ -69,10 +65,6 @@ record IsReadSeal (marks : List Mark) (a : ℕ) (cipher : Line) (tag : List ℕ)
   its_cipher : cipher ≡ seal.cipher
   its_tag : tag ≡ seal.tag
 
-none_of : {A : Type 0} (o : Option A) → is_some o ≡ false → o ≡ None
-none_of None it = refl
-none_of (Some x) it = absurd (true≢false it)
-
 same_bytes-equal : (xs ys : List ℕ) → same_bytes xs ys ≡ true → xs ≡ ys
 same_bytes-equal [] [] it = refl
 same_bytes-equal [] (y ∷ ys) it = absurd (true≢false (sym it))
@@ -84,11 +76,6 @@ same_bytes-equal (x ∷ xs) (y ∷ ys) it =
 of_option : {A B : Type 0} (f : A → B) (o : Option A) (b : B) → option_map f o ≡ Some b → (x : A) × (o ≡ Some x) × (f x ≡ b)
 of_option f None b e = absurd (none-some b e)
 of_option f (Some x) b e = (x, refl, same_Some (f x) b e)
-
-read_seal : (setup : Setup) (lines : List Line) (marks : List Mark) (a : ℕ) (cipher tag_line : Line)
-    → IsSealStored setup.shape lines marks a → cipher ≡ line_at lines a
-    → tag_line ≡ line_at lines (layout.tag_line setup.shape a) → IsReadSeal marks a cipher (tag_slot tag_line a)
-read_seal setup lines marks a cipher tag_line stored reads tag_reads = search rules
 
 -- what a sound device gives, where no group is armed
 sound_seal : (setup : Setup) (parts : Parts) (told : Option (List Line)) (a : ℕ) (cipher tag_line : Line) → AreSound setup parts

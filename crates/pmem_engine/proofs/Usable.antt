@@ -1,8 +1,7 @@
 -- After a call the parts are usable again, whatever it answered.
-use Rattle.std.proofs.Common.{rules}
-use Rattle.std.proofs.Common.{ℕ, ◌≡◌, ◌≢◌, ◌++◌, ◌||◌, Bool, true, false, not, List, [], ◌∷◌, Option, Some, None, Result, refl, sym, ap, subst, subst₂, ◌∙◌}
+use Rattle.std.proofs.Common.{rules, ℕ, ◌≡◌, ◌≢◌, ◌++◌, ◌||◌, Bool, true, false, not, List, [], ◌∷◌, Option, Some, None, Result, refl, sym, ap, subst, ◌∙◌}
 use Rattle.std.specs.Prelude.{is_some, IsSome}
-use Rattle.std.proofs.lemmas.Bool.{true≢false, or_parts}
+use Rattle.std.proofs.lemmas.Bool.{true≢false}
 use Rattle.pmem_base.specs.declared.answers.Mark.{Mark}
 use Rattle.pmem_base.specs.Shape.{Shape}
 use Rattle.pmem_base.specs.Marks.{SealOf, seal_of, later_of, last_seal}
@@ -13,7 +12,7 @@ use Rattle.seal_ledger.specs.Ledger.{LedgerState}
 use Rattle.pmem_engine.specs.declared.fault.Fault.{Fault}
 use Rattle.pmem_engine.specs.Engine.{EngineState}
 use Rattle.pmem_engine.specs.Parts.{Parts}
-use Rattle.pmem_engine.specs.Outcomes.{Outcome, going, cut, shown, is_going, outcome_of, HasGone}
+use Rattle.pmem_engine.specs.Outcomes.{Outcome, is_going, outcome_of, HasGone}
 use Rattle.pmem_engine.specs.Calls.{IsReady, IsUsable, IsLeftAlone, AnswersDown}
 
 -- a line that was sealed still is, whatever marks follow
@@ -35,12 +34,6 @@ still_sealed (mark ∷ marks) more a it = go (seal_of mark a) (last_seal marks a
     go earlier (Some later) same it again = some_later earlier (last_seal (marks ++ more) a) (again (ap is_some same))
     go (Some earlier) None same it again = some_earlier earlier (last_seal (marks ++ more) a)
     go None None same it again = absurd (true≢false (sym it))
-
--- an engine that isn't down afterwards went on
-went_on : (outcome : Outcome) (was : Bool) → (was || not (is_going outcome)) ≡ false → (was ≡ false) × (outcome ≢ cut)
-went_on going was it = ((or_parts was false it).0, λ e. true≢false (ap is_going e))
-went_on cut was it = absurd (true≢false (or_parts was true it).1)
-went_on shown was it = absurd (true≢false (or_parts was true it).1)
 
 -- some setup of a shape and some ledger, for what is promised without either
 abbrev pub some_setup : Shape → Setup

@@ -1,10 +1,8 @@
 -- The page that a write finishes first: its marks, and that none is a seal of the written line.
-use Rattle.std.proofs.Common.{rules}
-use Rattle.std.proofs.Common.{ℕ, zero, suc, ◌≡◌, ◌≢◌, ◌<◌, ◌≤◌, ◌+◌, ◌*◌, Bool, true, false, cond, List, [], ◌∷◌, length, map, get_or, Option, Some, None, Result, Ok, Err, refl, sym, ap, ap₂, subst, ◌∙◌, arith}
-use Rattle.std.specs.Prelude.{◌==◌, ◌||◌, ◌&&◌, not, nat_le, nat_lt, All}
-use Rattle.std.specs.List.{position_or_len}
+use Rattle.std.proofs.Common.{rules, ℕ, zero, suc, ◌≡◌, ◌≢◌, ◌<◌, ◌+◌, ◌*◌, Bool, true, false, cond, List, [], ◌∷◌, length, map, get_or, Option, Some, None, Result, Ok, Err, refl, sym, ap, ap₂, subst, ◌∙◌, arith}
+use Rattle.std.specs.Prelude.{◌||◌, ◌&&◌, not, All}
 use Rattle.std.proofs.lemmas.Bool.{true≢false, or_parts, eq-eqb, ne_eqb}
-use Rattle.std.proofs.lemmas.Option.{none-some, same_Some}
+use Rattle.std.proofs.lemmas.Option.{none-some}
 use Rattle.std.proofs.lemmas.List.{append-nil, length-append, length-map}
 use Rattle.std.proofs.lemmas.List.Folds.{list_any-append}
 use Rattle.std.proofs.lemmas.List.Elements.{All-head, All-tail}
@@ -29,7 +27,7 @@ use Rattle.pmem_engine.specs.Parts.{Parts, regs_of, AreTrusted, AreSound}
 use Rattle.pmem_engine.specs.Outcomes.{outcome_of, is_seal_of, is_sealed_by, TakesSteps}
 use Rattle.pmem_engine.specs.Calls.{IsMemory, IsDownAnswer, IsUnrefused, moment_in}
 use Rattle.pmem_engine.specs.Resealing.{register_in}
-use Rattle.pmem_engine.specs.Writing.{HasLeftOut, reseals_of, IsFrontOf, HasFinishMarks, AnswersFinish, CountsFinish, HasFinishedPage, HasFinishedWhere, HasFinishedFor, register_to_finish, register_found}
+use Rattle.pmem_engine.specs.Writing.{HasLeftOut, reseals_of, IsFrontOf, HasFinishMarks, AnswersFinish, CountsFinish, HasFinishedPage, HasFinishedWhere, HasFinishedFor, register_to_finish}
 use Rattle.pmem_engine.proofs.WriteAsks.{marks_of_finish}
 use Rattle.pmem_engine.proofs.WriteParts.{IsWritePart, alone_part}
 
@@ -93,9 +91,6 @@ front_seals asked made all it =
     sym (sum_by-append (λ m. cond (is_seal m) 1 0) made it.left) ∙ ap seal_count (sym it.front) ∙ all
     ∙ ap length it.front ∙ length-append made it.left in
     omega (arith, whole, count_by-le-length is_seal made, count_by-le-length is_seal it.left)
-
-pub front_short : (asked made : List Mark) → IsFrontOf asked made → length made ≤ length asked
-front_short asked made it = omega (arith, ap length it.front, length-append made it.left)
 
 -- ---- the marks made are a front
 

@@ -1,7 +1,6 @@
 -- What each part of a write keeps, up to the seal of its own line, and what two of them keep together.
 use Rattle.std.proofs.lemmas.Grind.{common_steps}
-use Rattle.std.proofs.Common.{rules}
-use Rattle.std.proofs.Common.{ℕ, ◌≡◌, ◌<◌, ◌++◌, ◌⊎◌, inl, inr, Bool, true, false, List, [], ◌∷◌, IsTrue, Result, Ok, Err, refl, sym, ap, ap₂, ◌∙◌, arith}
+use Rattle.std.proofs.Common.{rules, ℕ, ◌≡◌, ◌<◌, ◌++◌, ◌⊎◌, inl, inr, Bool, true, false, List, [], ◌∷◌, IsTrue, Result, Ok, Err, refl, sym, ap, ap₂, ◌∙◌, arith}
 use Rattle.std.specs.Prelude.{◌||◌, option_map}
 use Rattle.std.specs.List.{list_any}
 use Rattle.std.proofs.lemmas.Bool.{true≢false, or_parts, eq-eqb}
@@ -12,11 +11,10 @@ use Rattle.pmem_base.specs.declared.answers.Mark.{Mark}
 use Rattle.pmem_base.specs.declared.answers.Mark.TheVariants.{Begin, Seal}
 use Rattle.pmem_base.specs.declared.commands.Posted.{Posted}
 use Rattle.pmem_base.specs.Layout as layout
-use Rattle.pmem_base.specs.Layout.{page_of, index_in_page}
+use Rattle.pmem_base.specs.Layout.{page_of}
 use Rattle.pmem_base.specs.Lines.{line_at, tag_slot}
 use Rattle.pmem_base.specs.Marks.{SealOf, last_seal}
 use Rattle.bonsai_tree.specs.Positions.{counter_position}
-use Rattle.bonsai_tree.proofs.Levels.{counter_position-lt}
 use Rattle.seal_ledger.proofs.MarkLemmas.{last_seal-other, last_seal-begun}
 use Rattle.suite.specs.Setup.{Setup}
 use Rattle.plain_model.specs.State.{Memory}
@@ -31,9 +29,6 @@ use Rattle.pmem_engine.specs.Inner.{HasFetched, HasNamedPath}
 use Rattle.pmem_engine.specs.Sealing.{HasBeginMarks, HasBegunPage}
 use Rattle.pmem_engine.specs.Writing.{HasMadePlain}
 use Rattle.pmem_engine.proofs.Told.{told_cases, told_redone}
-use Rattle.pmem_engine.proofs.StillLaws.{done_reading}
-use Rattle.pmem_engine.proofs.Unsealing.{same_never_falls}
-use Rattle.pmem_engine.proofs.Resealed.{meta_of_same}
 use Rattle.pmem_engine.proofs.Chained.{done_chained}
 
 -- a part of a write of line `at`, its own seal aside
@@ -105,12 +100,6 @@ held_back setup outcome made old new done trusted a within unsealed =
     last_same : last_seal new.ledger.marks a ≡ last_seal old.ledger.marks a
     last_same =
         ap (λ ms. last_seal ms a) done.gone.marks ∙ last_seal-unsealed old.ledger.marks made a unsealed
-
--- no mark, no seal: memory stays
-pub unmarked_memory : (setup : Setup) (outcome : Outcome) (old new : Parts) → HasDone setup outcome [] old new
-    → (memory : Memory) → IsMemory setup memory old → IsMemory setup memory new
-unmarked_memory setup outcome old new done memory was a within =
-    ap (λ ms. plain_line setup.formulas ms a) (done.gone.marks ∙ append-nil old.ledger.marks) ∙ was a within
 
 -- ---- two parts
 

@@ -1,10 +1,9 @@
 -- Which seals come above the last ones: a write of a line, of a line not done in an open page, and a turn's reseal.
-use Rattle.std.proofs.Common.{ℕ, ◌≡◌, ◌<◌, ◌+◌, true, false, List, length, Option, Some, None, refl, sym, ap, subst, ◌∙◌, arith}
+use Rattle.std.proofs.Common.{ℕ, ◌≡◌, ◌<◌, ◌+◌, true, false, List, Option, Some, None, refl, sym, ap, subst, ◌∙◌, arith}
 use Rattle.std.specs.Prelude.{not, ◌==◌, IsTrue, slice_index}
 use Rattle.std.proofs.lemmas.Bool.{and_parts, eqb-true, not-true}
 use Rattle.std.proofs.lemmas.Bool.Decides.{nat_tests}
 use Rattle.std.proofs.lemmas.List.{set-get_or}
-use Rattle.std.proofs.lemmas.List.Elements.{All-weaker}
 use Rattle.pmem_base.specs.declared.lines.Line.{Line}
 use Rattle.pmem_base.specs.declared.lines.Ctr.{Ctr}
 use Rattle.pmem_base.specs.declared.registers.Progress.{Progress}
@@ -13,7 +12,7 @@ use Rattle.pmem_base.specs.Shape.{Shape}
 use Rattle.pmem_base.specs.Layout.{page_of, index_in_page}
 use Rattle.pmem_base.specs.Lines.{line_at}
 use Rattle.pmem_base.specs.Marks.{is_below}
-use Rattle.pmem_base.specs.Registers.{is_done, not_done, old_major, IsProgress}
+use Rattle.pmem_base.specs.Registers.{is_done, old_major}
 use Rattle.pmem_base.proofs.LineLemmas.{IsLine-line_at}
 use Rattle.split_counters.specs.declared.Block.{Block}
 use Rattle.split_counters.specs.Blocks.{packed, unpacked, block_counter, minor_of, with_minor}
@@ -21,8 +20,8 @@ use Rattle.split_counters.proofs.Packing.{packed-unpacked}
 use Rattle.bonsai_tree.specs.Positions.{counter_position}
 use Rattle.bonsai_tree.specs.Paths.{IsTreeWith}
 use Rattle.bonsai_tree.proofs.Trees.{IsTreeWith-itself}
-use Rattle.page_reencrypt.specs.Registers.{is_holding, register_held, counter_under, registers_with_done}
-use Rattle.page_reencrypt.proofs.Holding.{counter_of-free, registers_with_done-free, held-All, not_done-All, old_major-unpacked}
+use Rattle.page_reencrypt.specs.Registers.{is_holding, register_held, counter_under}
+use Rattle.page_reencrypt.proofs.Holding.{counter_of-free, held-All, not_done-All, old_major-unpacked}
 use Rattle.seal_ledger.specs.Ledger.{LedgerState}
 use Rattle.suite.specs.Setup.{Setup}
 use Rattle.pmem_engine.specs.Truth.{true_block, true_counter}
@@ -41,12 +40,6 @@ below_next_major a b next = grind (arith, nat_tests)
 -- its counter is that of its page's true block, and the registers stay with the line done
 pub free-true_counter : (g : Shape) (registers : List Progress) (truth : List Line) (a : ℕ) → register_held registers a ≡ None → true_counter g registers truth a ≡ block_counter (true_block g truth (page_of a)) (index_in_page a)
 free-true_counter g registers truth a free = counter_of-free registers (true_block g truth (page_of a)) a free
-
-pub free-registers : (setup : Setup) (regs : Regs) (ledger : LedgerState) (a : ℕ) → IsAnchored setup regs ledger → register_held regs.progress.items a ≡ None → registers_with_done regs.progress.items a ≡ regs.progress.items
-free-registers setup regs ledger a anchored free =
-    registers_with_done-free regs.progress.items a
-    (All-weaker (IsProgress setup.shape) (λ register. 0 < length (not_done register)) (λ register it. it.some_left) regs.progress.items anchored.valid_regs.each_page)
-    free
 
 -- a write of it, under its bumped counter
 pub anchored-written : (setup : Setup) (a : ℕ) (cipher : Line) (tag : List ℕ) (old_regs new_regs : Regs) (old new : LedgerState) → IsAnchored setup old_regs old → register_held old_regs.progress.items a ≡ None → IsSealed setup a (minor_of (true_block setup.shape old.truth (page_of a)) (index_in_page a) + 1) cipher tag old_regs new_regs old new → IsAnchored setup new_regs new

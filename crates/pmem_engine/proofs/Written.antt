@@ -1,6 +1,5 @@
 -- A whole write, one law an exit: each takes the parts so far, in the order in which a write does them.
-use Rattle.std.proofs.Common.{rules}
-use Rattle.std.proofs.Common.{ℕ, ◌≡◌, ◌≢◌, ◌<◌, ◌≤◌, ◌+◌, ◌*◌, ◌%◌, ◌++◌, ◌⊎◌, inl, inr, Bool, true, false, cond, List, [], ◌∷◌, length, IsTrue, Option, Some, None, Result, Ok, Err, refl, sym, ap, ap₂, subst, ◌∙◌, arith}
+use Rattle.std.proofs.Common.{rules, ℕ, ◌≡◌, ◌≢◌, ◌<◌, ◌≤◌, ◌+◌, ◌*◌, ◌%◌, ◌++◌, ◌⊎◌, inl, inr, Bool, true, false, cond, List, [], ◌∷◌, length, IsTrue, Option, Some, None, Result, Ok, Err, refl, sym, ap, ap₂, subst, ◌∙◌, arith}
 use Rattle.std.specs.Prelude.{◌==◌, ◌||◌, option_map, is_some, IsSome, IsOk, IfOk, IfSome}
 use Rattle.std.specs.List.{list_any}
 use Rattle.std.proofs.lemmas.Bool.{true≢false, cond-true, cond-false, cases_eq, eq-eqb, ne_eqb, or_parts}
@@ -17,10 +16,9 @@ use Rattle.pmem_base.specs.Marks.{SealOf, last_seal}
 use Rattle.pmem_base.proofs.LineSets.{line_at-set_same, line_at-set_other}
 use Rattle.seal_ledger.specs.Ledger.{LedgerState}
 use Rattle.seal_ledger.proofs.MarkLemmas.{last_seal-sealed}
-use Rattle.split_counters.specs.Blocks.{unpacked, minor_of}
 use Rattle.bonsai_tree.specs.Positions.{counter_position}
 use Rattle.page_reencrypt.specs.Registers.{register_held}
-use Rattle.meta_path.specs.Blocks.{line_in, IsPathCached}
+use Rattle.meta_path.specs.Blocks.{IsPathCached}
 use Rattle.suite.specs.Formulas.{cipher_of}
 use Rattle.suite.specs.Setup.{Setup}
 use Rattle.plain_model.specs.State.{Memory, put_write, memory_with}

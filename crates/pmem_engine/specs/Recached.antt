@@ -20,11 +20,6 @@ abbrev pub IsTrueOrDirty : Shape → Banks → List Line → List Line → ℕ �
 IsTrueOrDirty g cache lines truth x =
     (stored_meta g lines x ≡ line_at truth x) ⊎ (is_cached_dirty g cache (level_of x) x ≡ true)
 
--- metadata line x is as it was at the start, or it is the true one on the device or cached dirty
-abbrev pub IsSameOrHeld : Shape → Banks → List Line → List Line → List Line → ℕ → Type 0
-IsSameOrHeld g cache start lines truth x =
-    (stored_meta g lines x ≡ stored_meta g start x) ⊎ IsTrueOrDirty g cache lines truth x
-
 -- position x was cached dirty and is so no longer
 abbrev pub WasCleaned : Shape → Banks → Banks → ℕ → Type 0
 WasCleaned g old new x =
