@@ -237,15 +237,13 @@ pub IsSealable-sealed : (setup : Setup) (lines : List Line) (a minor : ℕ) (cip
     (old_regs new_regs : Regs) (old new : LedgerState) → AreLinesOf (device_lines setup.shape) lines
     → IsSealed setup a minor cipher tag old_regs new_regs old new
     → IsSealable setup.shape lines a (made_seal setup.shape old.truth a minor cipher tag)
-IsSealable-sealed setup lines a minor cipher tag old_regs new_regs old new whole it =
-    record { whole = whole; its_line = it.its_line; its_tag = it.its_tag.long }
+IsSealable-sealed setup lines a minor cipher tag old_regs new_regs old new whole it = search rules
 
 pub IsSealable-resealed : (setup : Setup) (lines : List Line) (a : ℕ) (cipher : Line) (tag : List ℕ)
     (old_regs new_regs : Regs) (old new : LedgerState) → AreLinesOf (device_lines setup.shape) lines
     → IsResealed setup a cipher tag old_regs new_regs old new
     → IsSealable setup.shape lines a (made_seal setup.shape old.truth a 0 cipher tag)
-IsSealable-resealed setup lines a cipher tag old_regs new_regs old new whole it =
-    record { whole = whole; its_line = it.its_line; its_tag = it.its_tag.long }
+IsSealable-resealed setup lines a cipher tag old_regs new_regs old new whole it = search rules
 
 page_within : (g : Shape) (a : ℕ) → a < data_lines g → page_of a < pages g
 page_within g a h = omega (arith, h)

@@ -1,4 +1,5 @@
 -- The counters and lines that the view asks for are those of the registers and the true blocks.
+use Rattle.std.proofs.Common.{rules}
 use Rattle.std.proofs.Common.{ℕ, ◌≡◌, ◌<◌, ◌+◌, Bool, true, false, cond, List, [], ◌∷◌, length, map, Some, None, refl, sym, ap, ◌∙◌, arith}
 use Rattle.std.specs.Prelude.{not, ◌==◌, ◌&&◌, ◌||◌}
 use Rattle.std.specs.List.{list_any, slice_get}
@@ -29,10 +30,7 @@ left_register a register =
     ∙ cond_and (register.page == page_of a) (not (is_done register (index_in_page a)))
   where
     cond_and : (s t : Bool) → cond s t false ≡ (s && t)
-    cond_and true true = refl
-    cond_and true false = refl
-    cond_and false true = refl
-    cond_and false false = refl
+    cond_and v0 v1 = search rules
 
 left_registers : (registers : List Progress) (a : ℕ) → list_any (λ opened. cond (opened.page == page_of a) (is_left_in opened (index_in_page a)) false) (map register_page registers) ≡ list_any (λ register. is_holding register a) registers
 left_registers [] a = refl

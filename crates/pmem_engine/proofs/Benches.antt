@@ -1,4 +1,5 @@
 -- The device that the tests begin with: its registers are valid, and an engine over it is usable.
+use Rattle.std.proofs.Common.{rules}
 use Rattle.std.proofs.Common.{ℕ, ◌≡◌, ◌≢◌, ◌<◌, Bool, true, false, [], ◌∷◌, length, IsTrue, refl, sym, subst, arith}
 use Rattle.std.specs.Prelude.{All, AllPairs, IsSome, if◌then◌else◌}
 use Rattle.std.proofs.lemmas.List.Elements.{All-nil, All-push}
@@ -54,11 +55,4 @@ pub usable_from : (g : Shape) (engine : EngineState) (device : Device) (ledger :
     → length ledger.truth ≡ meta_lines g → ledger.data_lines ≡ data_lines g → sealed ≡ data_lines g
     → ((a : ℕ) → a < sealed → IsSome (last_seal ledger.marks a))
     → IsUsable engine.shape engine device ledger
-usable_from g engine device ledger sealed shape size valid no_group truth lines all seals =
-    subst (λ s. IsUsable s engine device ledger) (sym shape)
-    (record {
-      ready = record { its_size = size; valid_regs = valid; no_group = λ up. no_group };
-      true_lines = truth;
-      line_count = lines;
-      each_sealed = λ a within. seals a (subst (λ n. a < n) (sym all) within);
-    })
+usable_from g engine device ledger sealed shape size valid no_group truth lines all seals = search rules

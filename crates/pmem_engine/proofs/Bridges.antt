@@ -112,7 +112,6 @@ IsBegun-SealsNone setup page old_regs new_regs old new it =
 
 pub IsBegun-ChangesPath : (setup : Setup) (page : ℕ) (old_regs new_regs : Regs) (old new : LedgerState)
     → IsBegun setup page old_regs new_regs old new → ChangesPath setup.shape old.truth new.truth page
-IsBegun-ChangesPath setup page old_regs new_regs old new it =
-    ChangesPath-tree setup.shape setup.formulas page _ new_regs.root old.truth new.truth it.truth
+IsBegun-ChangesPath setup page old_regs new_regs old new it = search rules
 
 -- ---- the registers

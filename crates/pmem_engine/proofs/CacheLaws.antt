@@ -33,8 +33,7 @@ use Rattle.pmem_engine.proofs.GroupLaws.{IsMendable-unarmed, IsDurable-unarmed}
 -- the line is then the true one, ..
 pub stored_meta-true_line : (g : Shape) (lines truth : List Line) (x : ℕ) → length lines ≡ device_lines g
     → x < meta_lines g → stored_meta g (with_true_line g lines truth x) x ≡ line_at truth x
-stored_meta-true_line g lines truth x size h =
-    stored_meta-set_same g lines x (line_at truth x) (omega (arith, size, meta_on_device g x h))
+stored_meta-true_line g lines truth x size h = search rules
 
 -- .. and each that was true before still is
 pub stays_true-true_line : (g : Shape) (lines truth : List Line) (x y : ℕ) → length lines ≡ device_lines g
@@ -124,10 +123,7 @@ IsTrusted-recached setup old new regs ledger trusted recached =
     true_slot : (bank set : ℕ) (slot : Slot)
         → IsFromBefore (set_of old.cache bank set) slot ⊎ HasComeIn setup.shape ledger.truth bank set slot
         → IsTrueSlot setup.shape ledger.truth bank set slot
-    true_slot bank set slot (inl from) =
-        IsTrueSlot-from_before setup.shape ledger.truth bank set (set_of old.cache bank set) slot from
-        (trusted.cached_true bank set)
-    true_slot bank set slot (inr came) = came.its_own
+    true_slot bank set slot v3 = search rules
 
 -- Sound stays while blocks are used, cleaned once they are true on the device, dropped, or fetched.
 pub IsSound-recached : (setup : Setup) (old new : EngineState) (lines : List Line) (regs : Regs)

@@ -47,8 +47,7 @@ power_chained cut old mid new first second =
     (unsteady old.steady refl, second.1, subst (λ n. HasRisen n new.cuts) first.2 second.2)
   where
     unsteady : (b : Bool) → old.steady ≡ b → old.steady ≡ false
-    unsteady false it = it
-    unsteady true it = absurd (true≢false (sym (first.0 it) ∙ second.0))
+    unsteady v0 it = search rules
 
 going_uncut : going ≢ cut
 going_uncut e = absurd (true≢false (ap is_going e))

@@ -1,4 +1,5 @@
 -- A metadata line that a call changed is afterwards true on the device or cached dirty, step by step.
+use Rattle.std.proofs.Common.{rules}
 use Rattle.std.proofs.Common.{◌≡◌, ℕ, ◌<◌, List, length, sym, ap, ◌∙◌, ◌⊎◌, inl, inr}
 use Rattle.std.proofs.lemmas.Bool.{cases_eq}
 use Rattle.pmem_base.specs.declared.lines.Line.{Line}
@@ -20,15 +21,7 @@ pub same_or_held-true_line : (g : Shape) (cache : Banks) (lines truth : List Lin
     → length lines ≡ device_lines g → x < meta_lines g
     → (stored_meta g (with_true_line g lines truth x) y ≡ stored_meta g lines y)
     ⊎ IsTrueOrDirty g cache (with_true_line g lines truth x) truth y
-same_or_held-true_line g cache lines truth x y size h =
-    elim (cases_eq y x) [
-      | inl same ↦
-          inr
-          (inl
-          (ap (stored_meta g (with_true_line g lines truth x)) same
-          ∙ stored_meta-true_line g lines truth x size h ∙ ap (line_at truth) (sym same)))
-      | inr apart ↦ inl (stored_meta-set_other g lines x (line_at truth x) y apart)
-    ]
+same_or_held-true_line g cache lines truth x y size h = search rules
 
 -- a seal's group without the counter block is written
 pub same_or_held-sealed : (g : Shape) (cache : Banks) (lines truth : List Line) (a : ℕ) (seal : SealOf) (x : ℕ)
@@ -42,8 +35,4 @@ pub same_or_held-sealed_with_block : (g : Shape) (cache : Banks) (lines truth : 
     (block x : ℕ) → length (sealed_lines g lines a seal) ≡ device_lines g → a < data_lines g → block < meta_lines g
     → (stored_meta g (with_true_line g (sealed_lines g lines a seal) truth block) x ≡ stored_meta g lines x)
     ⊎ IsTrueOrDirty g cache (with_true_line g (sealed_lines g lines a seal) truth block) truth x
-same_or_held-sealed_with_block g cache lines truth a seal block x size ha h =
-    elim (same_or_held-true_line g cache (sealed_lines g lines a seal) truth block x size h) [
-      | inl same ↦ inl (same ∙ stored_meta-sealed_lines g lines a seal x ha)
-      | inr held ↦ inr held
-    ]
+same_or_held-sealed_with_block g cache lines truth a seal block x size ha h = search rules

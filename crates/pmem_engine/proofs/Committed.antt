@@ -22,8 +22,7 @@ use Rattle.pmem_engine.specs.Committing.{HasCommitted, IsCutArmed}
 -- ---- what the lines come to
 
 pub redone_none : (told : Option (List Line)) → redone_told [] told ≡ told
-redone_none None = refl
-redone_none (Some lines) = refl
+redone_none v0 = search rules
 
 -- of one mark, before and after a commit
 pub record IsCommit (setup : Setup) (group : List (ℕ × Line)) (mark : Mark) (old new : Parts) : Type 0 where
@@ -63,8 +62,7 @@ module _ (setup : Setup) (group : List (ℕ × Line)) (mark : Mark) (old new : P
 
   -- the told lines are whole
   pub whole_lines : (lines : List Line) → old.device.lines ≡ Some lines → AreLinesOf (layout.device_lines setup.shape) lines
-  whole_lines lines told =
-      subst (λ size. AreLinesOf size lines) it.size (subst (λ o. AreToldLines old.device.size o) told it.whole)
+  whole_lines lines told = search rules
 
   abbrev Kept : List Line → Type 0
   Kept lines = KeepsSeals setup.shape mark old.ledger.marks new.ledger.marks lines (redone group lines)
@@ -73,46 +71,23 @@ module _ (setup : Setup) (group : List (ℕ × Line)) (mark : Mark) (old new : P
       → ((lines : List Line) → told ≡ Some lines → Kept lines)
       → IfSome told (λ lines. IsSealStored setup.shape lines old.ledger.marks a) ⊎ IsTrue (is_sealed_by (mark ∷ []) a)
       → IfSome (redone_told group told) (λ lines. IsSealStored setup.shape lines new.ledger.marks a)
-  seals_kept a within None each before = tt
-  seals_kept a within (Some lines) each before = (each lines refl).seals a within before
+  seals_kept a within v2 each before = search rules
 
   lines_kept : (a : ℕ) → a < layout.data_lines setup.shape → is_sealed_by (mark ∷ []) a ≡ false → (told : Option (List Line))
       → ((lines : List Line) → told ≡ Some lines → Kept lines)
       → option_map (λ lines. line_at lines a) (redone_told group told) ≡ option_map (λ lines. line_at lines a) told
-  lines_kept a within unsealed None each = refl
-  lines_kept a within unsealed (Some lines) each = ap Some ((each lines refl).places a within unsealed).its_line
+  lines_kept a within unsealed v3 each = search rules
 
   slots_kept : (a : ℕ) → a < layout.data_lines setup.shape → is_sealed_by (mark ∷ []) a ≡ false → (told : Option (List Line))
       → ((lines : List Line) → told ≡ Some lines → Kept lines)
       → option_map (λ lines. tag_slot (line_at lines (layout.tag_line setup.shape a)) a) (redone_told group told)
       ≡ option_map (λ lines. tag_slot (line_at lines (layout.tag_line setup.shape a)) a) told
-  slots_kept a within unsealed None each = refl
-  slots_kept a within unsealed (Some lines) each = ap Some ((each lines refl).places a within unsealed).slot
+  slots_kept a within unsealed v3 each = search rules
 
   -- place by place
   pub committed_places : ((lines : List Line) → old.device.lines ≡ Some lines → Kept lines)
       → KeepsPlaces setup (mark ∷ []) old new
-  committed_places each =
-      record {
-        seals =
-            λ a within before.
-            subst (λ told. IfSome told (λ lines. IsSealStored setup.shape lines new.ledger.marks a)) (sym comes)
-            (seals_kept a within old.device.lines each
-            (elim before [
-              | inl held ↦ inl (subst (λ told. IfSome told (λ lines. IsSealStored setup.shape lines old.ledger.marks a)) stood held)
-              | inr made ↦ inr made
-            ]));
-        data_lines =
-            λ a within unsealed.
-            ap (λ told. option_map (λ lines. line_at lines a) told) comes
-            ∙ lines_kept a within unsealed old.device.lines each
-            ∙ ap (λ told. option_map (λ lines. line_at lines a) told) (sym stood);
-        tag_slots =
-            λ a within unsealed.
-            ap (λ told. option_map (λ lines. tag_slot (line_at lines (layout.tag_line setup.shape a)) a) told) comes
-            ∙ slots_kept a within unsealed old.device.lines each
-            ∙ ap (λ told. option_map (λ lines. tag_slot (line_at lines (layout.tag_line setup.shape a)) a) told) (sym stood);
-      }
+  committed_places each = search rules
 
   abbrev KeptCounters : ℕ → List Line → Type 0
   KeptCounters page lines =
@@ -122,16 +97,12 @@ module _ (setup : Setup) (group : List (ℕ × Line)) (mark : Mark) (old new : P
   counters_kept : (page : ℕ) → (told : Option (List Line)) → ((lines : List Line) → told ≡ Some lines → KeptCounters page lines)
       → IfSome told (λ lines. IsCounterStored setup lines (regs_of old).loss old.ledger.truth page)
       → IfSome (redone_told group told) (λ lines. IsCounterStored setup lines (regs_of old).loss new.ledger.truth page)
-  counters_kept page None each before = tt
-  counters_kept page (Some lines) each before = each lines refl before
+  counters_kept page v1 each before = search rules
 
   -- what is stored of a counter block
   pub committed_counters : (page : ℕ) → ((lines : List Line) → old.device.lines ≡ Some lines → KeptCounters page lines)
       → HoldsCounters setup old page → HoldsCounters setup new page
-  committed_counters page each before =
-      subst₂ (λ told loss. IfSome told (λ lines. IsCounterStored setup lines loss new.ledger.truth page)) (sym comes) (sym it.loss)
-      (counters_kept page old.device.lines each
-      (subst (λ told. IfSome told (λ lines. IsCounterStored setup lines (regs_of old).loss old.ledger.truth page)) stood before))
+  committed_counters page each before = search rules
 
   abbrev KeptTrue : List Line → Type 0
   KeptTrue lines =
@@ -141,41 +112,21 @@ module _ (setup : Setup) (group : List (ℕ × Line)) (mark : Mark) (old new : P
       → ((lines : List Line) → told ≡ Some lines → KeptTrue lines)
       → IfSome told (λ lines. IsTrueOrDirty setup.shape old.engine.cache lines old.ledger.truth x)
       → IfSome (redone_told group told) (λ lines. IsTrueOrDirty setup.shape new.engine.cache lines new.ledger.truth x)
-  held_kept x within None each before = tt
-  held_kept x within (Some lines) each before = (each lines refl).held x within before
+  held_kept x within v2 each before = search rules
 
   changed_held : (x : ℕ) → x < layout.meta_lines setup.shape → (told : Option (List Line))
       → ((lines : List Line) → told ≡ Some lines → KeptTrue lines)
       → (option_map (λ lines. stored_meta setup.shape lines x) (redone_told group told)
       ≡ option_map (λ lines. stored_meta setup.shape lines x) told)
       ⊎ IfSome (redone_told group told) (λ lines. IsTrueOrDirty setup.shape new.engine.cache lines new.ledger.truth x)
-  changed_held x within None each = inl refl
-  changed_held x within (Some lines) each =
-      elim ((each lines refl).changed x within) [ inl same ↦ inl (ap Some same) | inr held ↦ inr held ]
+  changed_held x within v2 each = search rules
 
   -- the metadata lines
   pub committed_metadata : ((lines : List Line) → old.device.lines ≡ Some lines → KeptTrue lines)
       → ((bank x : ℕ) → is_cached_dirty setup.shape new.engine.cache bank x ≡ true
       → (is_cached_dirty setup.shape old.engine.cache bank x ≡ true) ⊎ IsTouchedBy setup.shape (mark ∷ []) x)
       → KeepsMeta setup (mark ∷ []) old new
-  committed_metadata each dirty =
-      record {
-        true_or_dirty =
-            λ x within before.
-            subst (λ told. IfSome told (λ lines. IsTrueOrDirty setup.shape new.engine.cache lines new.ledger.truth x)) (sym comes)
-            (held_kept x within old.device.lines each
-            (subst (λ told. IfSome told (λ lines. IsTrueOrDirty setup.shape old.engine.cache lines old.ledger.truth x)) stood before));
-        changed =
-            λ x within.
-            elim (changed_held x within old.device.lines each) [
-              | inl same ↦
-                  inl (ap (λ told. option_map (λ lines. stored_meta setup.shape lines x) told) comes ∙ same
-                  ∙ ap (λ told. option_map (λ lines. stored_meta setup.shape lines x) told) (sym stood))
-              | inr held ↦
-                  inr (subst (λ told. IfSome told (λ lines. IsTrueOrDirty setup.shape new.engine.cache lines new.ledger.truth x)) (sym comes) held)
-            ];
-        dirty = dirty;
-      }
+  committed_metadata each dirty = search rules
 
 -- what is sound is trusted
 pub sound_trusted : (setup : Setup) (parts : Parts) → AreSound setup parts → AreTrusted setup parts
@@ -188,8 +139,7 @@ sound_trusted setup parts sound = search rules
 module _ (setup : Setup) (group : List (ℕ × Line)) (mark : Mark) (old new : Parts) (it : IsCommit setup group mark old new) where
   -- finished, it comes to the lines with the group redone
   pub comes_committed : HasCommitted group old.device new.device → lines_redone new ≡ redone_told group old.device.lines
-  comes_committed done =
-      ap₂ redone_told done.no_group done.lines ∙ redone_none (redone_told group old.device.lines)
+  comes_committed done = search rules
 
   -- armed, it comes to the same
   pub comes_armed : IsCutArmed group old.device new.device → lines_redone new ≡ redone_told group old.device.lines

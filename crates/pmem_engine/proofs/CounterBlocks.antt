@@ -22,9 +22,7 @@ pub IsCounterStored-true : (setup : Setup) (lines : List Line) (loss : ℕ) (tru
     → stored_meta setup.shape lines (counter_position setup.shape page)
     ≡ line_at truth (counter_position setup.shape page)
     → IsCounterStored setup lines loss truth page
-IsCounterStored-true setup lines loss truth page same =
-    subst (λ (l : Line). IsStoredBlock loss (unpacked l) (true_block setup.shape truth page)) (sym same)
-    (IsStoredBlock-same loss (true_block setup.shape truth page))
+IsCounterStored-true setup lines loss truth page same = search rules
 
 -- one whose device line and true line are as they were
 pub IsCounterStored-same : (setup : Setup) (old new : List Line) (loss : ℕ) (old_truth new_truth : List Line)
@@ -33,8 +31,7 @@ pub IsCounterStored-same : (setup : Setup) (old new : List Line) (loss : ℕ) (o
     ≡ stored_meta setup.shape old (counter_position setup.shape page)
     → line_at new_truth (counter_position setup.shape page) ≡ line_at old_truth (counter_position setup.shape page)
     → IsCounterStored setup old loss old_truth page → IsCounterStored setup new loss new_truth page
-IsCounterStored-same setup old new loss old_truth new_truth page stored same before =
-    subst₂ (λ (l m : Line). IsStoredBlock loss (unpacked l) (unpacked m)) (sym stored) (sym same) before
+IsCounterStored-same setup old new loss old_truth new_truth page stored same before = search rules
 
 -- one whose device line is as it was, while a minor of the true block rises by one to no multiple of
 -- the stop-loss number
@@ -58,8 +55,7 @@ IsCounterStored-coarser setup lines loss times truth page before = IsStoredBlock
 
 stored_true : (setup : Setup) (lines truth : List Line) (x : ℕ) → length lines ≡ device_lines setup.shape
     → x < meta_lines setup.shape → stored_meta setup.shape (with_true_line setup.shape lines truth x) x ≡ line_at truth x
-stored_true setup lines truth x size h =
-    stored_meta-set_same setup.shape lines x (line_at truth x) (omega (arith, size, meta_on_device setup.shape x h))
+stored_true setup lines truth x size h = search rules
 
 -- a true line is written back
 pub IsCounterStored-written_back : (setup : Setup) (lines : List Line) (loss : ℕ) (truth : List Line) (page x : ℕ)

@@ -1,4 +1,5 @@
 -- The counter of a line whose page's path is cached.
+use Rattle.std.proofs.Common.{rules}
 use Rattle.std.proofs.Common.{ℕ, ◌≡◌, ◌<◌, true, Some, sym, ap, subst, ◌∙◌, arith}
 use Rattle.std.specs.Prelude.{option_map}
 use Rattle.std.proofs.lemmas.List.Elements.{All-weaker}
@@ -23,13 +24,7 @@ use Rattle.pmem_engine.specs.Inner.{cached_block}
 
 pub cached_true : (setup : Setup) (engine : EngineState) (regs : Regs) (ledger : LedgerState) → IsTrusted setup engine regs ledger
     → AreCachedTrue engine.cache ledger.truth
-cached_true setup engine regs ledger trusted =
-    record {
-      each =
-          λ bank set.
-          All-weaker (IsTrueSlot setup.shape ledger.truth bank set) (λ slot. slot.line ≡ line_at ledger.truth slot.position)
-          (λ slot it. it.true_line) (set_of engine.cache bank set) (trusted.cached_true bank set);
-    }
+cached_true setup engine regs ledger trusted = search rules
 
 -- the counter block that is cached is the true one
 pub cached_block-true : (setup : Setup) (engine : EngineState) (regs : Regs) (ledger : LedgerState) (page : ℕ)

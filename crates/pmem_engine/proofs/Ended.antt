@@ -1,4 +1,5 @@
 -- A call that ended: its engine is down where it was cut or shown.
+use Rattle.std.proofs.Common.{rules}
 use Rattle.std.proofs.Common.{ℕ, ◌≡◌, inl, inr, Bool, true, false, ◌||◌, not, List, [], Result, Ok, Err, refl, sym, ap, subst, ◌∙◌}
 use Rattle.std.proofs.lemmas.Bool.{false≢true}
 use Rattle.pmem_base.specs.declared.lines.Line.{Line}
@@ -24,12 +25,10 @@ pub ended_going : (engine : EngineState) → ended_by engine going ≡ engine
 ended_going engine = ap (λ down. record { shape = engine.shape; cache = engine.cache; mirror = engine.mirror; down = down }) (same engine.down)
   where
     same : (down : Bool) → (down || false) ≡ down
-    same true = refl
-    same false = refl
+    same v0 = search rules
 
 pub ended_parts_going : (parts : Parts) → ended_parts parts going ≡ parts
-ended_parts_going parts =
-    ap (λ engine. parts_of engine parts.device parts.ledger parts.tags parts.digests) (ended_going parts.engine)
+ended_parts_going parts = search rules
 
 pub gone_ended : (setup : Setup) (outcome : Outcome) (made : List Mark) (old new : Parts) → HasGone setup outcome made old new
     → HasGone setup outcome made old (ended_parts new outcome)
@@ -111,75 +110,33 @@ done_ended setup shown made old new it =
 pub answers_down : {T : Type 0} (answer : Result T Fault) (old new : Parts) → old.engine.down ≡ false
     → new.engine.down ≡ old.engine.down → (IsDownAnswer answer → ⊥)
     → AnswersDown old (ended_parts new (outcome_of answer)) answer
-answers_down answer old new was same never =
-    record {
-      exactly = (λ it. absurd (never it), λ down. absurd (false≢true (sym was ∙ down)));
-      still = λ it. absurd (never it);
-      after = ap (λ down. down || not (is_going (outcome_of answer))) same;
-    }
+answers_down answer old new was same never = search rules
 
 -- ---- what was seen doesn't depend on the engine afterwards
 
 fetched_line_ended : (setup : Setup) (page x : ℕ) (line : Line) (old new : Parts) (outcome : Outcome)
     → IsFetchedLine setup page x line old new → IsFetchedLine setup page x line old (ended_parts new outcome)
-fetched_line_ended setup page x line old new outcome it =
-    record { on_path = it.on_path; uncached = it.uncached; before = it.before; read = it.read }
+fetched_line_ended setup page x line old new outcome it = search rules
 
 pub meta_refused_ended : (setup : Setup) (page x : ℕ) (old new : Parts) (outcome : Outcome)
     → IsMetaRefused setup page x old new → IsMetaRefused setup page x old (ended_parts new outcome)
-meta_refused_ended setup page x old new outcome it =
-    record {
-      line = it.line;
-      fetched = fetched_line_ended setup page x it.line old new outcome it.fetched;
-      other_digest = it.other_digest;
-    }
+meta_refused_ended setup page x old new outcome it = search rules
 
 pub clash_shown_ended : (setup : Setup) (page : ℕ) (old new : Parts) (outcome : Outcome)
     → IsClashShown setup page old new → IsClashShown setup page old (ended_parts new outcome)
-clash_shown_ended setup page old new outcome it =
-    record {
-      x = it.x;
-      line = it.line;
-      fetched = fetched_line_ended setup page it.x it.line old new outcome it.fetched;
-      exhibit = it.exhibit;
-      same_digest = it.same_digest;
-      other_line = it.other_line;
-    }
+clash_shown_ended setup page old new outcome it = search rules
 
 unsealed_line_ended : (setup : Setup) (a : ℕ) (ctr : Ctr) (cipher : Line) (tag : List ℕ) (new : Parts) (outcome : Outcome)
     → IsUnsealedLine setup a ctr cipher tag new → IsUnsealedLine setup a ctr cipher tag (ended_parts new outcome)
-unsealed_line_ended setup a ctr cipher tag new outcome it =
-    record {
-      counter = it.counter;
-      cipher_read = it.cipher_read;
-      tag_line = it.tag_line;
-      tag_read = it.tag_read;
-      its_slot = it.its_slot;
-    }
+unsealed_line_ended setup a ctr cipher tag new outcome it = search rules
 
 pub tag_refused_ended : (setup : Setup) (a : ℕ) (new : Parts) (outcome : Outcome)
     → IsTagRefused setup a new → IsTagRefused setup a (ended_parts new outcome)
-tag_refused_ended setup a new outcome it =
-    record {
-      ctr = it.ctr;
-      cipher = it.cipher;
-      tag = it.tag;
-      unsealed = unsealed_line_ended setup a it.ctr it.cipher it.tag new outcome it.unsealed;
-      other_tag = it.other_tag;
-    }
+tag_refused_ended setup a new outcome it = search rules
 
 pub forged_shown_ended : (setup : Setup) (a : ℕ) (new : Parts) (outcome : Outcome)
     → IsForgedShown setup a new → IsForgedShown setup a (ended_parts new outcome)
-forged_shown_ended setup a new outcome it =
-    record {
-      ctr = it.ctr;
-      cipher = it.cipher;
-      tag = it.tag;
-      unsealed = unsealed_line_ended setup a it.ctr it.cipher it.tag new outcome it.unsealed;
-      exhibit = it.exhibit;
-      right_tag = it.right_tag;
-      other_cipher = it.other_cipher;
-    }
+forged_shown_ended setup a new outcome it = search rules
 
 pub within_ended : (outcome end : Outcome) (n : ℕ) (old new : Parts) → TakesWithin outcome n old new
     → TakesWithin outcome n old (ended_parts new end)
@@ -195,15 +152,7 @@ within_live_ended outcome end n old new it = (it.0, λ live. within_ended outcom
 
 answers_read_ended : (setup : Setup) (a : ℕ) (old new : Parts) (answer : Result Line Fault) (outcome : Outcome)
     → AnswersRead setup a old new answer → AnswersRead setup a old (ended_parts new outcome) answer
-answers_read_ended setup a old new (Ok line) outcome it = it
-answers_read_ended setup a old new (Err Fail.Cut) outcome it = it
-answers_read_ended setup a old new (Err Fail.Down) outcome it = it
-answers_read_ended setup a old new (Err (Fail.Meta x)) outcome it = meta_refused_ended setup (page_of a) x old new outcome it
-answers_read_ended setup a old new (Err (Fail.Tag b)) outcome it = (it.0, tag_refused_ended setup a new outcome it.1)
-answers_read_ended setup a old new (Err (Fail.Spent page)) outcome it = it
-answers_read_ended setup a old new (Err Fail.Shown) outcome (inl clash) =
-    inl (clash_shown_ended setup (page_of a) old new outcome clash)
-answers_read_ended setup a old new (Err Fail.Shown) outcome (inr forged) = inr (forged_shown_ended setup a new outcome forged)
+answers_read_ended setup a old new v4 outcome it = search rules
 
 pub read_ended : (setup : Setup) (a : ℕ) (old new : Parts) (answer : Result Line Fault) → old.engine.down ≡ false
     → HasReadUnder setup a old new answer → HasReadLine setup a old (ended_parts new (outcome_of answer)) answer

@@ -1,4 +1,5 @@
 -- A call's last act: an engine that was cut or stopped is down.
+use Rattle.std.proofs.Common.{rules}
 use Rattle.std.proofs.Common.{ℕ, ◌≡◌, inl, inr, true, List, refl, sym, ap, subst, ◌∙◌}
 use Rattle.std.specs.Prelude.{IfSome}
 use Rattle.pmem_base.specs.declared.answers.Mark.{Mark}
@@ -11,11 +12,7 @@ use Rattle.pmem_engine.specs.Outcomes.{Outcome, going, cut, shown, KeepsMeta, Ha
 
 -- engines are equal part by part
 pub engine_is : (a b : EngineState) → a.shape ≡ b.shape → a.cache ≡ b.cache → a.mirror ≡ b.mirror → a.down ≡ b.down → a ≡ b
-engine_is a b shape cache mirror down =
-    ap (λ x. record { shape = x; cache = a.cache; mirror = a.mirror; down = a.down }) shape
-    ∙ ap (λ x. record { shape = b.shape; cache = x; mirror = a.mirror; down = a.down }) cache
-    ∙ ap (λ x. record { shape = b.shape; cache = b.cache; mirror = x; down = a.down }) mirror
-    ∙ ap (λ x. record { shape = b.shape; cache = b.cache; mirror = b.mirror; down = x }) down
+engine_is a b shape cache mirror down = search rules
 
 -- the parts with another engine
 abbrev pub with_engine : Parts → EngineState → Parts
@@ -38,9 +35,7 @@ metadata_ended setup made old new engine cache it =
     }
   where
     holds_ended : (x : ℕ) → HoldsMeta setup.shape new x → HoldsMeta setup.shape (with_engine new engine) x
-    holds_ended x held =
-        subst (λ banks. IfSome (lines_redone new) (λ lines. IsTrueOrDirty setup.shape banks lines new.ledger.truth x))
-        (sym cache) held
+    holds_ended x held = search rules
 
 -- what was done stays done where only the engine's being down is new
 pub done_ended : (setup : Setup) (outcome : Outcome) (made : List Mark) (old new : Parts) (engine : EngineState)

@@ -1,4 +1,5 @@
 -- A fetch of a page's path, whatever the device holds: what it keeps of the chip and of the device.
+use Rattle.std.proofs.Common.{rules}
 use Rattle.std.proofs.Common.{ℕ, ◌≡◌, ◌≢◌, ◌<◌, ◌⊎◌, inl, inr, true, List, [], length, Option, Some, None, refl, sym, ap, subst, subst₂, ◌∙◌, arith}
 use Rattle.std.specs.Prelude.{IfSome, option_map, is_some}
 use Rattle.std.specs.List.{Contains}
@@ -47,28 +48,7 @@ module _ (setup : Setup) (page : ℕ) (old new : EngineState) (ledger : LedgerSt
       from : (bank set : ℕ) (slot : Slot) → Contains (set_of new.cache bank set) slot
           → Contains (set_of old.cache bank set) slot ⊎ path.HasComeIn setup.shape ledger.truth page old.cache bank set slot
           → IsFromBefore (set_of old.cache bank set) slot ⊎ HasComeIn setup.shape ledger.truth bank set slot
-      from bank set slot stands (inl was) =
-          inl (record {
-            before = slot;
-            stands = was;
-            way = refl;
-            position = refl;
-            same_line = refl;
-            dirty = λ dirty. dirty;
-          })
-      from bank set slot stands (inr came) =
-          let own : IsOfItsBank setup.shape bank slot =
-          All-stands (IsOfItsBank setup.shape bank) (set_of new.cache bank set) slot (keeps.in_their_banks.each bank set) stands in
-          inr (record {
-            its_own =
-                record {
-                  on_tree = own.on_tree;
-                  true_line = came.true_line;
-                  its_bank = own.its_bank;
-                  its_set = ap (set_index setup.shape) came.position ∙ sym came.its_set;
-                };
-            clean = came.clean;
-          })
+      from bank set slot stands v4 = search rules
 
   pub trusted_after : after.regs ≡ before.regs → IsTrusted setup new after.regs ledger
   trusted_after same =
@@ -78,9 +58,7 @@ module _ (setup : Setup) (page : ℕ) (old new : EngineState) (ledger : LedgerSt
   -- a slot that stood there has the true line of its position
   pub own_slot : (bank set : ℕ) (slot : Slot) → Contains (set_of old.cache bank set) slot
       → IsTrueSlot setup.shape ledger.truth bank set slot
-  own_slot bank set slot was =
-      All-stands (IsTrueSlot setup.shape ledger.truth bank set) (set_of old.cache bank set) slot
-      (trusted.cached_true bank set) was
+  own_slot bank set slot was = search rules
 
   -- ---- the device's lines
 
@@ -100,17 +78,7 @@ module _ (setup : Setup) (page : ℕ) (old new : EngineState) (ledger : LedgerSt
       where
         go : (option_map (λ lines. line_at lines at) after.lines ≡ option_map (λ lines. line_at lines at) before.lines)
             ⊎ WasWrittenBack setup.shape old.cache new.cache after.lines at → IsSameOrTrue at
-        go (inl same) =
-            inl (same_Some (line_at lines_now at) (line_at lines at)
-            (ap (option_map (λ lines. line_at lines at)) (sym told_now) ∙ same ∙ ap (option_map (λ lines. line_at lines at)) told))
-        go (inr back) =
-            let own = own_slot back.bank back.set back.slot back.was_cached in
-            inr (
-              back.slot.position,
-              own.on_tree,
-              back.place,
-              sym (tells_now at back.slot.line back.line) ∙ own.true_line,
-            )
+        go v0 = search rules
 
     pub same_unless_meta : (at : ℕ) → ((x : ℕ) → x < layout.meta_lines setup.shape → at ≢ layout.meta_line setup.shape x)
         → line_at lines_now at ≡ line_at lines at
@@ -241,16 +209,12 @@ module _ (setup : Setup) (page : ℕ) (old new : EngineState) (ledger : LedgerSt
     from_lines : (P Q : List Line → Type 0)
         → ((lines lines_now : List Line) → before.lines ≡ Some lines → after.lines ≡ Some lines_now → P lines → Q lines_now)
         → IfSome (lines_redone parts_before) P → IfSome (lines_redone parts_after) Q
-    from_lines P Q give it =
-        subst (λ told. IfSome told Q) (sym redone_after)
-        (told_cases P Q before.lines after.lines same_told give (subst (λ told. IfSome told P) redone_before it))
+    from_lines P Q give it = search rules
 
     same_view : {A : Type 0} (f : List Line → A)
         → ((lines lines_now : List Line) → before.lines ≡ Some lines → after.lines ≡ Some lines_now → f lines_now ≡ f lines)
         → option_map f (lines_redone parts_after) ≡ option_map f (lines_redone parts_before)
-    same_view f give =
-        ap (option_map f) redone_after ∙ told_same f before.lines after.lines same_told give
-        ∙ ap (option_map f) (sym redone_before)
+    same_view f give = search rules
 
     pub places : KeepsPlaces setup [] parts_before parts_after
     places =

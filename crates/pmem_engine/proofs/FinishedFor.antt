@@ -1,4 +1,5 @@
 -- The page that was finished before another one begins: that one has no register, and four aren't in use.
+use Rattle.std.proofs.Common.{rules}
 use Rattle.std.proofs.Common.{ℕ, ◌≡◌, ◌<◌, length, Option, Some, None, Result, Ok, Err, refl, sym, ap, ◌∙◌}
 use Rattle.std.specs.Prelude.{◌==◌, position, slice_get, IsOk, OnOk}
 use Rattle.std.specs.Option.{option_and_then}
@@ -15,8 +16,7 @@ use Rattle.pmem_engine.specs.Writing.{register_found, register_to_finish, HasFin
 
 -- what holds of an answer that is Ok
 pub on_ok : {P : Type 0} (answer : Result Unit Fault) → (IsOk answer → P) → OnOk answer P
-on_ok (Ok value) it = it refl
-on_ok (Err fault) it = tt
+on_ok v0 it = search rules
 
 module _ (setup : Setup) (n page : ℕ) (old new : Parts) (answer : Result Unit Fault)
     (inside : n < length (regs_of old).progress.items)

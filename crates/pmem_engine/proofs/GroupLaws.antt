@@ -14,8 +14,7 @@ use Rattle.pmem_engine.specs.Steps.{IsEmptied}
 -- where no group is armed, the device as it stands is one that recovery can rest on, ..
 pub IsMendable-unarmed : (setup : Setup) (lines : List Line) (regs : Regs) (ledger : LedgerState)
     → IsDurable setup lines regs ledger → regs.group.items ≡ [] → IsMendable setup lines regs ledger
-IsMendable-unarmed setup lines regs ledger durable empty =
-    subst (λ group. IsMendable setup (redone group lines) regs ledger) empty durable.mendable
+IsMendable-unarmed setup lines regs ledger durable empty = search rules
 
 -- .. and back
 pub IsDurable-unarmed : (setup : Setup) (lines : List Line) (regs : Regs) (ledger : LedgerState)

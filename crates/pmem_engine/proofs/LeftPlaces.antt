@@ -1,4 +1,5 @@
 -- The places of a page's lines that aren't done, and the registers with the lowest of them done.
+use Rattle.std.proofs.Common.{rules}
 use Rattle.std.proofs.Common.{ℕ, zero, suc, ◌≡◌, ◌≢◌, ◌<◌, ◌+◌, ◌++◌, inl, inr, Bool, true, false, List, [], ◌∷◌, length, get_or, cond, Some, None, refl, sym, ap, subst, ◌∙◌, arith}
 use Rattle.std.specs.Prelude.{◌==◌, not, nat_lt, filter, slice_get, All, AllPairs}
 use Rattle.std.specs.List.{range_with_len, remove}
@@ -128,11 +129,7 @@ module _ (items : List Progress) (n i : ℕ) (before after : List ℕ) (apart : 
 -- ---- the registers with the lowest line of one of them done
 
 same_page : (a : ℕ) (register : Progress) → (register_with_done a register).page ≡ register.page
-same_page a register =
-    elim (cases_Bool (register.page == page_of a)) [
-      | inl its ↦ ap (λ t. (cond t (with_done register (index_in_page a)) register).page) its
-      | inr other ↦ ap (λ t. (cond t (with_done register (index_in_page a)) register).page) other
-    ]
+same_page a register = search rules
 
 -- a page that has no register gets none
 pub others_kept : (items : List Progress) (a page : ℕ) → register_of items page ≡ None

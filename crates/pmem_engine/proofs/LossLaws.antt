@@ -1,4 +1,5 @@
 -- The latch of a new stop-loss number.
+use Rattle.std.proofs.Common.{rules}
 use Rattle.std.proofs.Common.{◌≡◌, ℕ, ◌*◌, ◌<◌, List, sym, subst, ◌∙◌}
 use Rattle.pmem_base.specs.declared.lines.Line.{Line}
 use Rattle.pmem_base.specs.declared.registers.Regs.{Regs}
@@ -15,44 +16,19 @@ use Rattle.pmem_engine.proofs.Latches.{anchored-latched}
 
 pub anchored-loss_set : (setup : Setup) (old new : Regs) (ledger : LedgerState) → IsAnchored setup old ledger
     → HasLossSet old new → IsAnchored setup new ledger
-anchored-loss_set setup old new ledger anchored set =
-    anchored-latched setup old new ledger anchored set.same_root set.same_progress
-    (subst (IsGroup (device_lines setup.shape)) (sym set.same_group) anchored.valid_regs.group) set.known_loss
+anchored-loss_set setup old new ledger anchored set = search rules
 
 -- the engine stays trusted, whatever the device holds
 pub IsTrusted-loss_set : (setup : Setup) (engine : EngineState) (old new : Regs) (ledger : LedgerState)
     → IsTrusted setup engine old ledger → HasLossSet old new → IsTrusted setup engine new ledger
-IsTrusted-loss_set setup engine old new ledger trusted set =
-    record {
-      its_shape = trusted.its_shape;
-      anchored = anchored-loss_set setup old new ledger trusted.anchored set;
-      no_group = set.same_group ∙ trusted.no_group;
-      not_down = trusted.not_down;
-      cached_true = trusted.cached_true;
-    }
+IsTrusted-loss_set setup engine old new ledger trusted set = search rules
 
 -- A new number is latched where each counter block on the device serves it: Sound stays.
 pub IsSound-loss_set : (setup : Setup) (engine : EngineState) (lines : List Line) (old new : Regs)
     (ledger : LedgerState) → IsSound setup engine lines old ledger → HasLossSet old new
     → ((page : ℕ) → page < pages setup.shape → IsCounterStored setup lines new.loss ledger.truth page)
     → IsSound setup engine lines new ledger
-IsSound-loss_set setup engine lines old new ledger sound set counters =
-    let mendable = IsMendable-unarmed setup lines old ledger sound.durable sound.trusted.no_group in
-    record {
-      trusted = IsTrusted-loss_set setup engine old new ledger sound.trusted set;
-      durable =
-          IsDurable-unarmed setup lines new ledger sound.durable.device_whole
-          (set.same_group ∙ sound.trusted.no_group)
-          (record {
-            anchored = anchored-loss_set setup old new ledger sound.trusted.anchored set;
-            seals_stored = mendable.seals_stored;
-            true_or_named = mendable.true_or_named;
-            counters_stored = counters;
-          });
-      true_unless_dirty = sound.true_unless_dirty;
-      dirty_named = sound.dirty_named;
-      mirror_true = sound.mirror_true;
-    }
+IsSound-loss_set setup engine lines old new ledger sound set counters = search rules
 
 -- each page's counter block serves a greater number, which is some times the old one, ..
 pub IsCounterStored-loss_raised : (setup : Setup) (lines : List Line) (old new times : ℕ) (truth : List Line)

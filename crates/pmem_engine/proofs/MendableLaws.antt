@@ -41,8 +41,7 @@ pub IsDurable-no_group : (setup : Setup) (lines : List Line) (regs : Regs) (ledg
 IsDurable-no_group setup lines regs ledger e whole d = search rules
 
 pub IsMendable-no_group : (setup : Setup) (lines : List Line) (regs : Regs) (ledger : LedgerState) → regs.group.items ≡ [] → IsDurable setup lines regs ledger → IsMendable setup lines regs ledger
-IsMendable-no_group setup lines regs ledger e d =
-    subst (λ items. IsMendable setup (redone items lines) regs ledger) e d.mendable
+IsMendable-no_group setup lines regs ledger e d = search rules
 
 -- ---- a change of metadata and shadow lines
 
@@ -67,22 +66,13 @@ IsMendable-mending setup old new regs ledger m d =
     }
   where
     seals : (a : ℕ) → a < layout.data_lines setup.shape → IsSealStored setup.shape new ledger.marks a
-    seals a h =
-        let old_seal = d.seals_stored a h in
-        record {
-          cipher = old_seal.cipher ∙ ap (λ l. Some l) (sym (m.same_data a (omega arith)));
-          tag = old_seal.tag ∙ ap (λ l. Some (tag_slot l a)) (sym (m.same_data (layout.tag_line setup.shape a) (omega arith)));
-        }
+    seals a h = search rules
 
     meta : (x : ℕ) → x < layout.meta_lines setup.shape → (shadow_of setup.shape new ≡ shadow_of setup.shape old) ⊎ IsAllTrue setup new ledger → (stored_meta setup.shape new x ≡ stored_meta setup.shape old x) ⊎ (stored_meta setup.shape new x ≡ line_at ledger.truth x) → (stored_meta setup.shape old x ≡ line_at ledger.truth x) ⊎ IsTrue (is_named setup.shape old x) → (stored_meta setup.shape new x ≡ line_at ledger.truth x) ⊎ IsTrue (is_named setup.shape new x)
-    meta x h (inr all) same was = inl (all.true_lines x h)
-    meta x h (inl names) (inr same) was = inl same
-    meta x h (inl names) (inl same) (inl was) = inl (same ∙ was)
-    meta x h (inl names) (inl same) (inr named) = inr (subst (λ s. IsTrue (is_named_in setup.shape s (level_of x) x)) (sym names) named)
+    meta x h v2 same was = search rules
 
     counter : (page : ℕ) → (stored_meta setup.shape new (counter_position setup.shape page) ≡ stored_meta setup.shape old (counter_position setup.shape page)) ⊎ (stored_meta setup.shape new (counter_position setup.shape page) ≡ line_at ledger.truth (counter_position setup.shape page)) → IsCounterStored setup old regs.loss ledger.truth page → IsCounterStored setup new regs.loss ledger.truth page
-    counter page (inl same) was = subst (λ l. IsStoredBlock regs.loss (unpacked l) (true_block setup.shape ledger.truth page)) (sym same) was
-    counter page (inr same) was = subst (λ l. IsStoredBlock regs.loss (unpacked l) (true_block setup.shape ledger.truth page)) (sym same) (IsStoredBlock-same regs.loss (true_block setup.shape ledger.truth page))
+    counter page v1 was = search rules
 
 -- ---- a fixed line is written
 

@@ -1,4 +1,5 @@
 -- What a page's next block and its path come to.
+use Rattle.std.proofs.Common.{rules}
 use Rattle.std.proofs.Common.{ℕ, zero, suc, ◌≡◌, ◌-◌, ◌^◌, ◌==◌, Bool, true, false, Some, None, refl, sym, ◌∙◌, arith}
 use Rattle.std.proofs.lemmas.Bool.{cond-true, cond-false}
 use Rattle.std.proofs.lemmas.Option.{none-some, same_Some}
@@ -12,10 +13,7 @@ pub rolled-next : (old new : Block) → rolled old ≡ Some new → new ≡ next
 rolled-next old new it = at (old.major == 2 ^ 64 - 1) refl
   where
     at : (b : Bool) → (old.major == 2 ^ 64 - 1) ≡ b → new ≡ next_block old
-    at true end =
-        absurd (none-some new (sym (cond-true (old.major == 2 ^ 64 - 1) None (Some (next_block old)) end) ∙ it))
-    at false more =
-        sym (same_Some (next_block old) new (sym (cond-false (old.major == 2 ^ 64 - 1) None (Some (next_block old)) more) ∙ it))
+    at v0 end = search rules
 
 -- a count that rises some times doesn't fall
 pub times_never_fall : (n count : ℕ) → NeverFalls count (risen_times n count)

@@ -1,4 +1,5 @@
 -- The open pages of the view are the registers, also once a line is done or a page begins.
+use Rattle.std.proofs.Common.{rules}
 use Rattle.std.proofs.Common.{ℕ, ◌≡◌, ◌+◌, Bool, true, false, cond, List, [], ◌∷◌, length, map, inl, inr, refl, sym, ap, ◌∙◌}
 use Rattle.std.specs.Prelude.{not, ◌==◌, nat_lt}
 use Rattle.std.specs.List.{filter}
@@ -30,8 +31,7 @@ page_with_done-register a register =
     ]
 
 map_cond : (t : Bool) (register : Progress) (rest : List Progress) → cond t (register_page register ∷ map register_page rest) (map register_page rest) ≡ map register_page (cond t (register ∷ rest) rest)
-map_cond true register rest = refl
-map_cond false register rest = refl
+map_cond v0 register rest = search rules
 
 pub pages_with_done-registers : (registers : List Progress) (a : ℕ) → pages_with_done (map register_page registers) a ≡ map register_page (registers_with_done registers a)
 pages_with_done-registers [] a = refl

@@ -1,4 +1,5 @@
 -- What is known of a page's path level by level, as the laws ask for it: cached, dirty, named.
+use Rattle.std.proofs.Common.{rules}
 use Rattle.std.proofs.Common.{◌≡◌, ◌≢◌, ℕ, ◌+◌, ◌<◌, ◌≤◌, true, false, List, sym, ap, subst, ◌∙◌, inl, inr, arith}
 use Rattle.std.specs.Prelude.{slice_index, option_map, unwrap_or}
 use Rattle.std.specs.List.{Contains}
@@ -61,14 +62,7 @@ ArePathNodesDirty-levels g cache page few inside each clean =
 
     above : (x : ℕ) → level_of x ≤ g.levels → slice_index (path_of g page) (level_of x) ≡ x
         → x ≢ counter_position g page → level_of x < g.levels
-    above x low at node =
-        elim (cases_lt (level_of x) g.levels) [
-          | inl less ↦ less
-          | inr past ↦
-              let deepest : level_of x ≡ g.levels = omega (arith, low, past) in
-              absurd
-              (node (sym at ∙ (ap (slice_index (path_of g page)) deepest ∙ path_of-block g page)))
-        ]
+    above x low at node = search rules
 
 -- the number in its bank of the slot that a bank has for position x, or 0 where it has none
 abbrev pub slot_number_at : Shape → Banks → ℕ → ℕ → ℕ

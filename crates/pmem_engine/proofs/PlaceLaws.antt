@@ -1,6 +1,7 @@
 -- Each place by itself, on any device contents: what a write, a turn and a begin, armed over these lines and
 -- redone, keep of a data line's seal, of a data line and its tag slot, of a counter block, of a metadata line.
 -- Only the chip is anchored; nothing is said of any other place of the device.
+use Rattle.std.proofs.Common.{rules}
 use Rattle.std.proofs.Common.{◌≡◌, ◌≢◌, ℕ, ◌+◌, ◌%◌, ◌<◌, List, refl, sym, ap, ◌∙◌, arith}
 use Rattle.pmem_base.specs.declared.lines.Line.{Line}
 use Rattle.pmem_base.specs.declared.registers.Regs.{Regs}
@@ -134,9 +135,7 @@ module _ (setup : Setup) (lines : List Line) (a minor : ℕ) (cipher : Line) (ta
       → IsTrueOrDirty setup.shape engine.cache lines old.truth x
       → IsTrueOrDirty setup.shape engine'.cache
       (sealed_lines setup.shape lines a (made_seal setup.shape old.truth a minor cipher tag)) new.truth x
-  held_kept-write engine engine' x h stored dirty =
-      IsTrueOrDirty-written setup.shape engine engine' lines old.truth new.truth a (page_of a) x its_seal it.its_line h
-      (IsSealed-ChangesPath setup a minor cipher tag old_regs new_regs old new it) stored dirty
+  held_kept-write engine engine' x h stored dirty = search rules
 
   pub held_kept-write_with_block : (engine engine' : EngineState) (x : ℕ) → x < meta_lines setup.shape
       → IsPathStored setup.shape engine engine' new.truth (page_of a)
@@ -184,14 +183,12 @@ module _ (setup : Setup) (lines : List Line) (a : ℕ) (cipher : Line) (tag : Li
   pub counter_kept-turn : (loss page : ℕ) → IsCounterStored setup lines loss old.truth page
       → IsCounterStored setup (sealed_lines setup.shape lines a (made_seal setup.shape old.truth a 0 cipher tag)) loss
       new.truth page
-  counter_kept-turn loss page =
-      IsCounterStored-resealed setup lines loss old.truth new.truth a page turn_seal it.its_line it.truth
+  counter_kept-turn loss page = search rules
 
   pub held_kept-turn : (engine : EngineState) (x : ℕ) → IsTrueOrDirty setup.shape engine.cache lines old.truth x
       → IsTrueOrDirty setup.shape engine.cache
       (sealed_lines setup.shape lines a (made_seal setup.shape old.truth a 0 cipher tag)) new.truth x
-  held_kept-turn engine x =
-      IsTrueOrDirty-turned setup.shape engine lines old.truth new.truth a x turn_seal it.its_line it.truth
+  held_kept-turn engine x = search rules
 
 -- ---- a begin: the page's next block
 

@@ -26,13 +26,11 @@ use Rattle.pmem_engine.specs.Steps.{IsPlaceKept, SealsOne, sealed_lines}
 
 pub stored_meta-set_data : (g : Shape) (lines : List Line) (a : ℕ) (line : Line) (x : ℕ) → a < data_lines g
     → stored_meta g (slice_set lines a line) x ≡ stored_meta g lines x
-stored_meta-set_data g lines a line x h =
-    line_at-set_other lines a (meta_line g x) line (λ e. meta_line≢data g a x h (sym e))
+stored_meta-set_data g lines a line x h = search rules
 
 pub stored_meta-set_tag : (g : Shape) (lines : List Line) (a : ℕ) (line : Line) (x : ℕ) → a < data_lines g
     → stored_meta g (slice_set lines (tag_line g a) line) x ≡ stored_meta g lines x
-stored_meta-set_tag g lines a line x h =
-    line_at-set_other lines (tag_line g a) (meta_line g x) line (λ e. meta_line≢tag g a x h (sym e))
+stored_meta-set_tag g lines a line x h = search rules
 
 pub stored_meta-set_same : (g : Shape) (lines : List Line) (x : ℕ) (line : Line)
     → meta_line g x < length lines → stored_meta g (slice_set lines (meta_line g x) line) x ≡ line
@@ -40,13 +38,11 @@ stored_meta-set_same g lines x line h = line_at-set_same lines (meta_line g x) l
 
 pub stored_meta-set_other : (g : Shape) (lines : List Line) (x : ℕ) (line : Line) (y : ℕ) → y ≢ x
     → stored_meta g (slice_set lines (meta_line g x) line) y ≡ stored_meta g lines y
-stored_meta-set_other g lines x line y other =
-    line_at-set_other lines (meta_line g x) (meta_line g y) line (λ e. other (meta_line_injective g y x e))
+stored_meta-set_other g lines x line y other = search rules
 
 pub stored_meta-set_shadow : (g : Shape) (lines : List Line) (n : ℕ) (line : Line) (x : ℕ)
     → x < meta_lines g → stored_meta g (slice_set lines (shadow_line g n) line) x ≡ stored_meta g lines x
-stored_meta-set_shadow g lines n line x h =
-    line_at-set_other lines (shadow_line g n) (meta_line g x) line (shadow_line≢meta g x n h)
+stored_meta-set_shadow g lines n line x h = search rules
 
 -- ---- names
 
@@ -68,8 +64,7 @@ IsPlaceKept-same g lines a = record { its_line = refl; slot = refl }
 
 pub IsPlaceKept-trans : (g : Shape) (first second third : List Line) (a : ℕ) → IsPlaceKept g first second a
     → IsPlaceKept g second third a → IsPlaceKept g first third a
-IsPlaceKept-trans g first second third a one two =
-    record { its_line = two.its_line ∙ one.its_line; slot = two.slot ∙ one.slot }
+IsPlaceKept-trans g first second third a one two = search rules
 
 -- a metadata line or a shadow line is written
 pub IsPlaceKept-set_meta : (g : Shape) (lines : List Line) (x : ℕ) (line : Line) (a : ℕ) → a < data_lines g
@@ -88,36 +83,26 @@ IsSealStored-kept g old new old_marks new_marks a seal place stored = search rul
 
 pub IsSealStored-set_meta : (g : Shape) (lines : List Line) (x : ℕ) (line : Line) (marks : List Mark) (a : ℕ)
     → a < data_lines g → IsSealStored g lines marks a → IsSealStored g (slice_set lines (meta_line g x) line) marks a
-IsSealStored-set_meta g lines x line marks a h =
-    IsSealStored-kept g lines (slice_set lines (meta_line g x) line) marks marks a refl
-    (IsPlaceKept-set_meta g lines x line a h)
+IsSealStored-set_meta g lines x line marks a h = search rules
 
 -- ---- one line is sealed: the lines once its group is written
 
 pub length-sealed_lines : (g : Shape) (lines : List Line) (a : ℕ) (seal : SealOf)
     → length (sealed_lines g lines a seal) ≡ length lines
-length-sealed_lines g lines a seal =
-    length-set (slice_set lines a seal.cipher) (tag_line g a) (with_tag (line_at lines (tag_line g a)) a seal.tag)
-    ∙ length-set lines a seal.cipher
+length-sealed_lines g lines a seal = search rules
 
 line_at-sealed_lines_data : (g : Shape) (lines : List Line) (a : ℕ) (seal : SealOf) → a < data_lines g
     → a < length lines → line_at (sealed_lines g lines a seal) a ≡ seal.cipher
-line_at-sealed_lines_data g lines a seal h within =
-    line_at-set_other (slice_set lines a seal.cipher) (tag_line g a) a _ (tag_line≢data g a a h)
-    ∙ line_at-set_same lines a seal.cipher within
+line_at-sealed_lines_data g lines a seal h within = search rules
 
 line_at-sealed_lines_tag : (g : Shape) (lines : List Line) (a : ℕ) (seal : SealOf)
     → tag_line g a < length lines
     → line_at (sealed_lines g lines a seal) (tag_line g a) ≡ with_tag (line_at lines (tag_line g a)) a seal.tag
-line_at-sealed_lines_tag g lines a seal within =
-    line_at-set_same (slice_set lines a seal.cipher) (tag_line g a) _
-    (omega (arith, within, length-set lines a seal.cipher))
+line_at-sealed_lines_tag g lines a seal within = search rules
 
 line_at-sealed_lines_other : (g : Shape) (lines : List Line) (a : ℕ) (seal : SealOf) (d : ℕ) → d ≢ a
     → d ≢ tag_line g a → line_at (sealed_lines g lines a seal) d ≡ line_at lines d
-line_at-sealed_lines_other g lines a seal d h h' =
-    line_at-set_other (slice_set lines a seal.cipher) (tag_line g a) d _ h'
-    ∙ line_at-set_other lines a d seal.cipher h
+line_at-sealed_lines_other g lines a seal d h h' = search rules
 
 -- what the sealed line's seal needs of the device: its lines are whole, and the tag has 16 bytes
 pub record IsSealable (g : Shape) (lines : List Line) (a : ℕ) (seal : SealOf) : Type 0 where
@@ -197,8 +182,7 @@ IsSealStored-sealed g lines old new a seal b it one hb stored =
 
 pub stored_meta-sealed_lines : (g : Shape) (lines : List Line) (a : ℕ) (seal : SealOf) (x : ℕ) → a < data_lines g
     → stored_meta g (sealed_lines g lines a seal) x ≡ stored_meta g lines x
-stored_meta-sealed_lines g lines a seal x h =
-    stored_meta-set_tag g (slice_set lines a seal.cipher) a _ x h ∙ stored_meta-set_data g lines a seal.cipher x h
+stored_meta-sealed_lines g lines a seal x h = search rules
 
 pub shadow_of-sealed_lines : (g : Shape) (lines : List Line) (a : ℕ) (seal : SealOf) → a < data_lines g
     → shadow_of g (sealed_lines g lines a seal) ≡ shadow_of g lines

@@ -1,4 +1,5 @@
 -- The view of the marks has the ledger's true lines.
+use Rattle.std.proofs.Common.{rules}
 use Rattle.std.proofs.Common.{ℕ, zero, suc, ◌≡◌, ◌<◌, ◌≤◌, ◌+◌, ◌-◌, ◌*◌, Bool, true, false, cond, List, [], ◌∷◌, map, Option, Some, None, inl, inr, refl, sym, ap, subst, ◌∙◌, arith}
 use Rattle.std.specs.Prelude.{not, ◌==◌, slice_index}
 use Rattle.std.specs.List.{find}
@@ -38,8 +39,7 @@ open_page-registers (register ∷ registers) page =
     ∙ map_cond (register.page == page) register (register_of registers page)
   where
     map_cond : (t : Bool) (first : Progress) (rest : Option Progress) → cond t (Some (register_page first)) (option_map register_page rest) ≡ option_map register_page (cond t (Some first) rest)
-    map_cond true first rest = refl
-    map_cond false first rest = refl
+    map_cond v0 first rest = search rules
 
 page_of_place : (page i : ℕ) → i < 64 → page_of (64 * page + i) ≡ page
 page_of_place page i small = omega (arith, small)

@@ -1,4 +1,5 @@
 -- The exits of a turn: the engine is down, no page is open, or the oldest page's lowest line was to be sealed anew.
+use Rattle.std.proofs.Common.{rules}
 use Rattle.std.proofs.Common.{ℕ, ◌≡◌, ◌<◌, ◌+◌, ◌*◌, inl, inr, Bool, true, false, List, [], ◌∷◌, length, map, get_or, Option, Some, None, Ok, Err, refl, sym, ap, subst, ◌∙◌, arith}
 use Rattle.std.specs.Prelude.{Result, MatchOption, IfOk, option_map, option_and_then, not, ◌||◌, IsSome, is_some}
 use Rattle.std.proofs.lemmas.Bool.{true≢false, false≢true}
@@ -101,8 +102,7 @@ turned_of (Ok sealed) = Ok (Some sealed)
 turned_of (Err fault) = Err fault
 
 same_outcome : (answer : Result (ℕ × ℕ) Fault) → outcome_of (turned_of answer) ≡ outcome_of answer
-same_outcome (Ok sealed) = refl
-same_outcome (Err fault) = refl
+same_outcome v0 = search rules
 
 -- no element
 pub none_from_length : {X : Type 0} (xs : List X) → length xs ≡ 0 → xs ≡ []
@@ -128,9 +128,7 @@ module _ (setup : Setup) (old mid : Parts) (answer : Result (ℕ × ℕ) Fault) 
   mid_up = ap (λ e. e.down) it.engine ∙ up
 
   same_engine : outcome_of answer ≡ going → engine ≡ mid.engine
-  same_engine goes =
-      engine_is engine mid.engine shape cache mirror
-      (down ∙ ap (λ b. mid.engine.down || not (is_going b)) goes ∙ ap (λ b. b || false) mid_up ∙ sym mid_up)
+  same_engine goes = search rules
 
   -- the oldest page, and the mark that is asked
   oldest : AreTrusted setup old → (memory : Memory) → oldest_page (moment_in setup memory old) ≡ Some (register_page register)
@@ -182,36 +180,13 @@ module _ (setup : Setup) (old mid : Parts) (answer : Result (ℕ × ℕ) Fault) 
   -- what is shown doesn't speak of the engine
   read_line : (a : ℕ) (ctr : Ctr) (cipher : Line) (tag : List ℕ) → IsUnsealedLine setup a ctr cipher tag mid
       → IsUnsealedLine setup a ctr cipher tag new
-  read_line a ctr cipher tag said =
-      record {
-        counter = said.counter;
-        cipher_read = said.cipher_read;
-        tag_line = said.tag_line;
-        tag_read = said.tag_read;
-        its_slot = said.its_slot;
-      }
+  read_line a ctr cipher tag said = search rules
 
   refused_line : (a : ℕ) → IsTagRefused setup a mid → IsTagRefused setup a new
-  refused_line a said =
-      record {
-        ctr = said.ctr;
-        cipher = said.cipher;
-        tag = said.tag;
-        unsealed = read_line a said.ctr said.cipher said.tag said.unsealed;
-        other_tag = said.other_tag;
-      }
+  refused_line a said = search rules
 
   forged_line : (a : ℕ) → IsForgedShown setup a mid → IsForgedShown setup a new
-  forged_line a said =
-      record {
-        ctr = said.ctr;
-        cipher = said.cipher;
-        tag = said.tag;
-        unsealed = read_line a said.ctr said.cipher said.tag said.unsealed;
-        exhibit = said.exhibit;
-        right_tag = said.right_tag;
-        other_cipher = said.other_cipher;
-      }
+  forged_line a said = search rules
 
   turn_answered : (reply : Result (ℕ × ℕ) Fault) → AreTrusted setup old
       → AnswersReseal setup (line_of_page register it.place) old mid reply → AnswersTurn setup old new (turned_of reply)
@@ -229,31 +204,13 @@ module _ (setup : Setup) (old mid : Parts) (answer : Result (ℕ × ℕ) Fault) 
   turn_answered (Err Fail.Down) trusted says = tt
 
   turn_unrefused : (reply : Result (ℕ × ℕ) Fault) → IsUnrefused reply → IsUnrefused (turned_of reply)
-  turn_unrefused (Ok sealed) it = tt
-  turn_unrefused (Err Fail.Cut) it = tt
-  turn_unrefused (Err (Fail.Tag b)) it = it
-  turn_unrefused (Err Fail.Shown) it = it
-  turn_unrefused (Err (Fail.Meta x)) it = it
-  turn_unrefused (Err (Fail.Spent page)) it = tt
-  turn_unrefused (Err Fail.Down) it = it
+  turn_unrefused v0 it = search rules
 
   turn_counts : (reply : Result (ℕ × ℕ) Fault) → CountsReseal old mid reply → CountsTurn old new (turned_of reply)
-  turn_counts (Ok sealed) it = it
-  turn_counts (Err Fail.Cut) it = it
-  turn_counts (Err (Fail.Tag b)) it = it
-  turn_counts (Err Fail.Shown) it = it
-  turn_counts (Err (Fail.Meta x)) it = it
-  turn_counts (Err (Fail.Spent page)) it = it
-  turn_counts (Err Fail.Down) it = it
+  turn_counts v0 it = search rules
 
   turn_not_down : (reply : Result (ℕ × ℕ) Fault) → (IsDownAnswer reply → ⊥) → IsDownAnswer (turned_of reply) → ⊥
-  turn_not_down (Ok sealed) never it = it
-  turn_not_down (Err Fail.Down) never it = never it
-  turn_not_down (Err Fail.Cut) never it = it
-  turn_not_down (Err (Fail.Tag b)) never it = it
-  turn_not_down (Err Fail.Shown) never it = it
-  turn_not_down (Err (Fail.Meta x)) never it = it
-  turn_not_down (Err (Fail.Spent page)) never it = it
+  turn_not_down v0 never it = search rules
 
   turn_busy : (reply : Result (ℕ × ℕ) Fault) → turned_of reply ≡ Ok None → ⊥
   turn_busy reply idle = cc_busy reply idle
@@ -264,8 +221,7 @@ module _ (setup : Setup) (old mid : Parts) (answer : Result (ℕ × ℕ) Fault) 
       is_idle (Err fault) = false
 
       cc_busy : (reply : Result (ℕ × ℕ) Fault) → turned_of reply ≡ Ok None → ⊥
-      cc_busy (Ok sealed) idle = false≢true (ap is_idle idle)
-      cc_busy (Err fault) idle = false≢true (ap is_idle idle)
+      cc_busy v0 idle = search rules
 
   pub turned : HasTurned setup old new (turned_of answer)
   turned =

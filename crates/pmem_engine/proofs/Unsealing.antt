@@ -74,8 +74,7 @@ same_bytes-equal (x ∷ xs) (y ∷ ys) it =
     ap₂ (λ z zs. z ∷ zs) (eqb-true x y both.0) (same_bytes-equal xs ys both.1)
 
 of_option : {A B : Type 0} (f : A → B) (o : Option A) (b : B) → option_map f o ≡ Some b → (x : A) × (o ≡ Some x) × (f x ≡ b)
-of_option f None b e = absurd (none-some b e)
-of_option f (Some x) b e = (x, refl, same_Some (f x) b e)
+of_option f v1 b e = search rules
 
 -- what a sound device gives, where no group is armed
 sound_seal : (setup : Setup) (parts : Parts) (told : Option (List Line)) (a : ℕ) (cipher tag_line : Line) → AreSound setup parts
@@ -207,17 +206,11 @@ module _ (setup : Setup) (engine : EngineState) (ledger : LedgerState) (a : ℕ)
       }
     where
       seal_read : IsLastCounter before a ctr → (seal : SealOf) × (last_seal ledger.marks a ≡ Some seal) × (seal.ctr ≡ ctr) × (cipher ≡ seal.cipher)
-      seal_read counter =
-          let found = of_option (λ s. s.ctr) (last_seal ledger.marks a) ctr counter in
-          (found.0, found.1, found.2, subst (λ o. IfSome o (λ seal. cipher ≡ seal.cipher)) found.1 its_cipher)
+      seal_read counter = search rules
 
       plain_is : IsLastCounter before a ctr → (o : Option SealOf) → last_seal ledger.marks a ≡ o
           → plain_line setup.formulas ledger.marks a ≡ Some plain
-      plain_is counter o same_o =
-          let found = seal_read counter in
-          ap (option_map (plain_of_seal setup.formulas a)) found.1
-          ∙ ap Some (ap₂ (λ line c. xor_lines line (setup.formulas.pad_of a c)) (sym found.3) found.2
-          ∙ unsealed_some setup.formulas a ctr cipher (tag_slot tag_line a) plain it)
+      plain_is counter o same_o = search rules
 
       stored : AreTrusted setup before → IsLastCounter before a ctr → HoldsSeal setup.shape (after ledger) a
       stored trusted counter =

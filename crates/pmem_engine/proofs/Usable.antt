@@ -21,19 +21,15 @@ still_sealed [] more a it = absurd (true≢false (sym it))
 still_sealed (mark ∷ marks) more a it = go (seal_of mark a) (last_seal marks a) refl it (still_sealed marks more a)
   where
     some_later : (earlier later : Option SealOf) → is_some later ≡ true → is_some (later_of earlier later) ≡ true
-    some_later earlier None it = absurd (true≢false (sym it))
-    some_later earlier (Some later) it = refl
+    some_later earlier v1 it = search rules
 
     some_earlier : (earlier : SealOf) (later : Option SealOf) → is_some (later_of (Some earlier) later) ≡ true
-    some_earlier earlier None = refl
-    some_earlier earlier (Some later) = refl
+    some_earlier earlier v1 = search rules
 
     go : (earlier later : Option SealOf) → last_seal marks a ≡ later → is_some (later_of earlier later) ≡ true
         → (IsSome (last_seal marks a) → IsSome (last_seal (marks ++ more) a))
         → is_some (later_of earlier (last_seal (marks ++ more) a)) ≡ true
-    go earlier (Some later) same it again = some_later earlier (last_seal (marks ++ more) a) (again (ap is_some same))
-    go (Some earlier) None same it again = some_earlier earlier (last_seal (marks ++ more) a)
-    go None None same it again = absurd (true≢false (sym it))
+    go earlier v1 same it again = search rules
 
 -- some setup of a shape and some ledger, for what is promised without either
 abbrev pub some_setup : Shape → Setup

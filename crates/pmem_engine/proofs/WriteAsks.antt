@@ -1,4 +1,5 @@
 -- Which marks a write asks for, from its page's counter block and the registers.
+use Rattle.std.proofs.Common.{rules}
 use Rattle.std.proofs.Common.{ℕ, ◌≡◌, ◌<◌, ◌≤◌, ◌+◌, ◌-◌, ◌^◌, ◌++◌, inl, inr, Bool, true, false, cond, List, [], ◌∷◌, length, Option, Some, None, Result, Ok, Err, refl, sym, ap, ap₂, ◌∙◌, arith}
 use Rattle.std.specs.Prelude.{◌==◌, nat_lt, nat_le, option_map, slice_get, slice_index_or, position, is_some}
 use Rattle.std.specs.List.{position_or_len}
@@ -92,20 +93,14 @@ fault_in (Ok value) = Fail.Cut
 fault_in (Err fault) = fault
 
 over_by-false : (low used : Bool) (page : ℕ) → over_by low used page ≡ Ok false → low ≡ true
-over_by-false true used page e = refl
-over_by-false false true page e = absurd (false≢true (ap is_done e))
-over_by-false false false page e = absurd (true≢false (ap value_of e))
+over_by-false v0 used page e = search rules
 
 over_by-true : (low used : Bool) (page : ℕ) → over_by low used page ≡ Ok true → (low ≡ false) × (used ≡ false)
-over_by-true true used page e = absurd (false≢true (ap value_of e))
-over_by-true false true page e = absurd (false≢true (ap is_done e))
-over_by-true false false page e = (refl, refl)
+over_by-true v0 used page e = search rules
 
 over_by-err : (low used : Bool) (page : ℕ) (fault : Fault) → over_by low used page ≡ Err fault
     → (low ≡ false) × (used ≡ true) × (fault ≡ Fail.Spent page)
-over_by-err true used page fault e = absurd (true≢false (ap is_done e))
-over_by-err false true page fault e = (refl, refl, sym (ap fault_in e))
-over_by-err false false page fault e = absurd (true≢false (ap is_done e))
+over_by-err v0 used page fault e = search rules
 
 -- ---- the marks of a write whose page's path is cached
 
@@ -275,5 +270,4 @@ module _ (setup : Setup) (memory : Memory) (write : Posted) (parts : Parts) (wit
 
 -- the one fault of an overflow
 pub overflow_fault : (block : Block) (page i : ℕ) (fault : Fault) → overflow_of block page i ≡ Err fault → fault ≡ Fail.Spent page
-overflow_fault block page i fault over =
-    (over_by-err (nat_lt (minor_of block i) 127) (block.major == 2 ^ 64 - 1) page fault over).2
+overflow_fault block page i fault over = search rules

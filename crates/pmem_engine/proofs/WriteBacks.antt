@@ -1,4 +1,5 @@
 -- A dirty block is written to its place, and is clean afterwards: what it keeps, whatever the device holds.
+use Rattle.std.proofs.Common.{rules}
 use Rattle.std.proofs.Common.{ℕ, ◌≡◌, ◌≢◌, ◌<◌, ◌⊎◌, inl, inr, Bool, true, false, cond, List, [], ◌∷◌, length, Option, Some, None, refl, sym, ap, ap₂, subst, subst₂, ◌∙◌, arith}
 use Rattle.std.specs.Prelude.{IfSome, option_map, is_some, slice_set, ◌==◌, ◌&&◌, ◌||◌}
 use Rattle.std.specs.List.{Contains, list_any}
@@ -35,8 +36,7 @@ use Rattle.pmem_engine.proofs.CounterBlocks.{IsCounterStored-written_back}
 use Rattle.pmem_engine.proofs.CacheLaws.{stored_meta-true_line, IsTrusted-recached, IsSound-cleaned, not_cleaned_other, IsTrueOrDirty-cleaned, dirty_before-recached}
 
 told_with_line : (told : Option (List Line)) (at : ℕ) (line : Line) → is_some (with_line told at line) ≡ is_some told
-told_with_line None at line = refl
-told_with_line (Some lines) at line = refl
+told_with_line v0 at line = search rules
 
 -- a position that was cleaned isn't dirty
 marked_clean : (slots : List Slot) (x : ℕ) → list_any (λ s. s.position == x && s.dirty) (with_mark slots x false) ≡ false
@@ -47,16 +47,12 @@ marked_clean (slot ∷ slots) x =
   where
     same_slot : (b : Bool) → (slot.position == x) ≡ b → (now : Slot) → cond b (marked slot false) slot ≡ now
         → (now.position == x && now.dirty) ≡ false
-    same_slot true e now is =
-        subst (λ (s : Slot). (s.position == x && s.dirty) ≡ false) is (ap (λ b. b && false) e)
-    same_slot false e now is = subst (λ (s : Slot). (s.position == x && s.dirty) ≡ false) is (ap (λ b. b && slot.dirty) e)
+    same_slot v0 e now is = search rules
 
     by : (b : Bool) → (slot.position == x) ≡ b
         → ((cond (slot.position == x) (marked slot false) slot).position == x
         && (cond (slot.position == x) (marked slot false) slot).dirty) ≡ false
-    by b e =
-        same_slot b e (cond (slot.position == x) (marked slot false) slot)
-        (sym (ap (λ c. cond c (marked slot false) slot) e))
+    by b e = search rules
 
 -- what the cache holds once a block was written back
 module _ (bank x : ℕ) (old new : EngineState) (before after : Device) (it : HasWrittenBack bank x old new before after) where
@@ -67,9 +63,7 @@ module _ (bank x : ℕ) (old new : EngineState) (before after : Device) (it : Ha
   from_before b set slot stands = by (cases_eq b bank) (cases_eq set (set_index old.shape x))
     where
       apart : ((b ≡ bank) × (set ≡ set_index old.shape x) → ⊥) → IsFromBefore (set_of old.cache b set) slot
-      apart other =
-          IsFromBefore-same (set_of old.cache b set) slot
-          (subst (λ slots. Contains slots slot) (it.cleaned.cache.elsewhere b set other) stands)
+      apart other = search rules
 
       by : (b ≡ bank) ⊎ (b ≡ bank → ⊥) → (set ≡ set_index old.shape x) ⊎ (set ≡ set_index old.shape x → ⊥)
           → IsFromBefore (set_of old.cache b set) slot
@@ -85,13 +79,7 @@ module _ (bank x : ℕ) (old new : EngineState) (before after : Device) (it : Ha
   still_dirty b set slot stands dirty away = by (cases_eq b bank) (cases_eq set (set_index old.shape x))
     where
       apart : ((b ≡ bank) × (set ≡ set_index old.shape x) → ⊥) → IsStillDirty (set_of new.cache b set) slot
-      apart other =
-          record {
-            now = slot;
-            stands = subst (λ slots. Contains slots slot) (sym (it.cleaned.cache.elsewhere b set other)) stands;
-            position = refl;
-            dirty = dirty;
-          }
+      apart other = search rules
 
       by : (b ≡ bank) ⊎ (b ≡ bank → ⊥) → (set ≡ set_index old.shape x) ⊎ (set ≡ set_index old.shape x → ⊥)
           → IsStillDirty (set_of new.cache b set) slot
@@ -183,8 +171,7 @@ module _ (setup : Setup) (bank x : ℕ) (old new : EngineState) (before after : 
   redone_before trusted = unarmed before.regs.group.items before.lines trusted.no_group
 
   redone_after : AreTrusted setup start → lines_redone finish ≡ after.lines
-  redone_after trusted =
-      unarmed after.regs.group.items after.lines (ap (λ group. group.items) same_group ∙ trusted.no_group)
+  redone_after trusted = search rules
 
   -- what holds of the lines as they were gives what holds of those with the true line
   holds_now : AreTrusted setup start → (P Q : List Line → Type 0)
@@ -222,27 +209,7 @@ module _ (setup : Setup) (bank x : ℕ) (old new : EngineState) (before after : 
       sound
 
   places : AreTrusted setup start → KeepsPlaces setup [] start finish
-  places trusted =
-      record {
-        seals =
-            λ a within held.
-            elim held [
-              | inl stored ↦
-                  holds_now trusted (λ lines. IsSealStored setup.shape lines ledger.marks a)
-                  (λ lines. IsSealStored setup.shape lines ledger.marks a)
-                  (λ lines size had. IsSealStored-set_meta setup.shape lines x (line_at ledger.truth x) ledger.marks a within had)
-                  stored
-              | inr made ↦ absurd (true≢false (sym made))
-            ];
-        data_lines =
-            λ a within unsealed.
-            seen_same trusted (λ lines. line_at lines a)
-            (λ lines. (IsPlaceKept-set_meta setup.shape lines x (line_at ledger.truth x) a within).its_line);
-        tag_slots =
-            λ a within unsealed.
-            seen_same trusted (λ lines. tag_slot (line_at lines (layout.tag_line setup.shape a)) a)
-            (λ lines. (IsPlaceKept-set_meta setup.shape lines x (line_at ledger.truth x) a within).slot);
-      }
+  places trusted = search rules
 
   held_after : AreTrusted setup start → (y : ℕ) → HoldsMeta setup.shape start y → HoldsMeta setup.shape finish y
   held_after trusted y held =

@@ -1,4 +1,5 @@
 -- A write as a call: of an engine that is down, or of one that is up and then down where it was cut or stopped.
+use Rattle.std.proofs.Common.{rules}
 use Rattle.std.proofs.Common.{ℕ, ◌≡◌, ◌%◌, inl, inr, true, false, ◌||◌, List, [], Option, Some, None, Result, Ok, Err, refl, sym, ap, ◌∙◌, arith}
 use Rattle.std.specs.Prelude.{IfOk}
 use Rattle.std.proofs.lemmas.Bool.{true≢false}
@@ -65,45 +66,20 @@ written_down setup write parts down =
 answers_ended : (setup : Setup) (asked : Option (List Mark)) (made : List Mark) (write : Posted) (old new : Parts)
     (answer : Result Ctr Fault) (outcome : Outcome) → AnswersWrite setup asked made write old new answer
     → AnswersWrite setup asked made write old (ended_parts new outcome) answer
-answers_ended setup asked made write old new (Ok ctr) outcome it = it
-answers_ended setup asked made write old new (Err Fail.Cut) outcome it = tt
-answers_ended setup asked made write old new (Err Fail.Down) outcome it = tt
-answers_ended setup asked made write old new (Err (Fail.Meta x)) outcome it =
-    meta_refused_ended setup (page_of write.at) x old new outcome it
-answers_ended setup asked made write old new (Err (Fail.Tag b)) outcome it = tag_refused_ended setup b new outcome it
-answers_ended setup asked made write old new (Err (Fail.Spent page)) outcome it = tt
-answers_ended setup asked made write old new (Err Fail.Shown) outcome (inl clash) =
-    inl (clash.0, clash_shown_ended setup (page_of write.at) old new outcome clash.1)
-answers_ended setup asked made write old new (Err Fail.Shown) outcome (inr it) =
-    inr (record { at = it.at; refusable = it.refusable; forged = forged_shown_ended setup it.at new outcome it.forged })
+answers_ended setup asked made write old new v6 outcome it = search rules
 
 spent_ended : (g : Shape) (outcome end : Outcome) (old new : Parts) → TakesSpent g outcome old new
     → TakesSpent g outcome old (ended_parts new end)
-spent_ended g outcome end old new it =
-    (within_ended outcome end _ old new it.0, within_live_ended outcome end _ old new it.1)
+spent_ended g outcome end old new it = search rules
 
 takes_ended : (g : Shape) (asked : Option (List Mark)) (made : List Mark) (old new : Parts) (answer : Result Ctr Fault)
     (end : Outcome) → TakesOfWrite g asked made old new answer → TakesOfWrite g asked made old (ended_parts new end) answer
-takes_ended g None made old new (Ok ctr) end it = it
-takes_ended g (Some marks) made old new (Ok ctr) end it = it
-takes_ended g (Some marks) made old new (Err Fail.Cut) end it = it
-takes_ended g None made old new (Err Fail.Cut) end it = spent_ended g cut end old new it
-takes_ended g None made old new (Err (Fail.Spent page)) end it = spent_ended g going end old new it
-takes_ended g (Some marks) made old new (Err (Fail.Spent page)) end it = spent_ended g going end old new it
-takes_ended g None made old new (Err Fail.Down) end it = it
-takes_ended g (Some marks) made old new (Err Fail.Down) end it = it
-takes_ended g None made old new (Err Fail.Shown) end it = it
-takes_ended g (Some marks) made old new (Err Fail.Shown) end it = it
-takes_ended g None made old new (Err (Fail.Meta x)) end it = it
-takes_ended g (Some marks) made old new (Err (Fail.Meta x)) end it = it
-takes_ended g None made old new (Err (Fail.Tag b)) end it = it
-takes_ended g (Some marks) made old new (Err (Fail.Tag b)) end it = it
+takes_ended g v1 made old new v5 end it = search rules
 
 block_ended : (setup : Setup) (page loss : ℕ) (new : Parts) (answer : Result Ctr Fault) (end : Outcome)
     → IfOk answer (λ ctr. ctr.minor % loss ≡ 0 → IsBlockTrue setup new page)
     → IfOk answer (λ ctr. ctr.minor % loss ≡ 0 → IsBlockTrue setup (ended_parts new end) page)
-block_ended setup page loss new (Ok ctr) end it = λ zero. record { line = (it zero).line; clean = (it zero).clean }
-block_ended setup page loss new (Err fault) end it = tt
+block_ended setup page loss new v4 end it = search rules
 
 pub written_ended : (setup : Setup) (write : Posted) (old new : Parts) (answer : Result Ctr Fault) → old.engine.down ≡ false
     → HasWrittenUnder setup write old new answer → HasWrittenLine setup write old (ended_parts new (outcome_of answer)) answer

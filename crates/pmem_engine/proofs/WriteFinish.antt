@@ -39,17 +39,11 @@ held_none [] a none n d inside = absurd (omega (arith, inside))
 held_none (register ∷ registers) a none zero d inside = go (is_holding register a) refl
   where
     go : (b : Bool) → is_holding register a ≡ b → is_holding register a ≡ false
-    go false is = is
-    go true is =
-        absurd (none-some register
-        (sym none ∙ ap (λ t. cond t (Some register) (register_held registers a)) is))
+    go v0 is = search rules
 held_none (register ∷ registers) a none (suc n) d inside = held_none registers a (go (is_holding register a) refl) n d (omega (arith, inside))
   where
     go : (b : Bool) → is_holding register a ≡ b → register_held registers a ≡ None
-    go false is = sym (ap (λ t. cond t (Some register) (register_held registers a)) is) ∙ none
-    go true is =
-        absurd (none-some register
-        (sym none ∙ ap (λ t. cond t (Some register) (register_held registers a)) is))
+    go v0 is = search rules
 
 -- the lines not done of a register that doesn't hold the line are others
 other_places : (register : Progress) (at : ℕ) → is_holding register at ≡ false
@@ -95,13 +89,7 @@ front_seals asked made all it =
 -- ---- the marks made are a front
 
 pub finish_front : (asked made : List Mark) (answer : Result Unit Fault) → HasFinishMarks asked made answer → IsFrontOf asked made
-finish_front asked made (Ok value) it = record { left = []; front = sym it ∙ sym (append-nil made) }
-finish_front asked made (Err Fail.Cut) it = it
-finish_front asked made (Err (Fail.Tag b)) it = record { left = it.next ∷ it.later; front = it.front }
-finish_front asked made (Err Fail.Shown) it = record { left = it.1.next ∷ it.1.later; front = it.1.front }
-finish_front asked made (Err (Fail.Meta x)) it = absurd it
-finish_front asked made (Err (Fail.Spent page)) it = absurd it
-finish_front asked made (Err Fail.Down) it = absurd it
+finish_front asked made v2 it = search rules
 
 -- ---- the register is one of them
 
@@ -176,14 +164,7 @@ module _ (setup : Setup) (at : ℕ) (old new : Parts) (answer : Result Unit Faul
       })
     where
       none : TakesSteps (4 * 0) old.device new.device
-      none =
-          let writes : new.device.writes ≡ old.device.writes = ap (λ device. device.writes) it.alone.device in
-          let latches : new.device.latches ≡ old.device.latches = ap (λ device. device.latches) it.alone.device in
-          record {
-            writes = omega (arith, writes);
-            latches = omega (arith, latches);
-            sum = λ one two. omega (arith, writes, latches);
-          }
+      none = search rules
 
   finished_page : (n : ℕ) → n < length (regs_of old).progress.items
       → (AreTrusted setup old → register_held (regs_of old).progress.items at ≡ None)

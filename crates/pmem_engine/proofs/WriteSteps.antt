@@ -17,20 +17,16 @@ pub fewer_then : (n m : ℕ) (old mid new : Device) → TakesAtMost n old mid �
 fewer_then n m old mid new first second = search rules
 
 pub steps_most : (n : ℕ) (old new : Device) → TakesSteps n old new → TakesAtMost n old new
-steps_most n old new it =
-    record { writes = it.writes; latches = it.latches; sum = λ one two. omega (arith, it.sum one two) }
+steps_most n old new it = search rules
 
 pub more_most : (n m : ℕ) (old new : Device) → n ≤ m → TakesAtMost n old new → TakesAtMost m old new
-more_most n m old new le it =
-    record { writes = it.writes; latches = it.latches; sum = λ one two. omega (arith, le, it.sum one two) }
+more_most n m old new le it = search rules
 
 pub more_fewer : (n m : ℕ) (old new : Device) → n ≤ m → TakesFewer n old new → TakesFewer m old new
-more_fewer n m old new le it =
-    record { writes = it.writes; latches = it.latches; sum = λ one two. omega (arith, le, it.sum one two) }
+more_fewer n m old new le it = search rules
 
 pub most_fewer : (n m : ℕ) (old new : Device) → n < m → TakesAtMost n old new → TakesFewer m old new
-most_fewer n m old new lt it =
-    record { writes = it.writes; latches = it.latches; sum = λ one two. omega (arith, lt, it.sum one two) }
+most_fewer n m old new lt it = search rules
 
 -- ---- the bound
 
@@ -66,5 +62,4 @@ bound_whole g front overflows page own all its =
     one = sum_by-cons (λ m. cond (is_seal m) 1 0) own [] ∙ ap (λ b. cond b 1 0 + 0) its
 
     rest : (b : Bool) → seal_count (begin_asked b page ++ own ∷ []) ≡ 1
-    rest true = omega (arith, sum_by-cons (λ m. cond (is_seal m) 1 0) (Begin page) (own ∷ []), one)
-    rest false = one
+    rest v0 = search rules
