@@ -1,4 +1,5 @@
 -- The ends of a fetch: its path is cached, or it was cut, refused or stopped.
+use Rattle.std.proofs.Common.{rules}
 use Rattle.std.proofs.Common.{ℕ, zero, suc, ◌≡◌, ◌≢◌, ◌<◌, ◌≤◌, ◌+◌, ◌⊎◌, inl, inr, true, false, List, [], length, Option, Some, None, refl, sym, ap, subst, subst₂, ◌∙◌, arith}
 use Rattle.std.specs.Prelude.{MatchOption, option_map, is_some, ◌==◌}
 use Rattle.std.specs.List.{Contains, list_any}
@@ -68,8 +69,7 @@ module _ (setup : Setup) (page : ℕ) (old new : EngineState) (ledger noted : Le
   parts_new = parts_of new after noted tags_now digests_now
 
   whole_now : (lines : List Line) → after.lines ≡ Some lines → AreLinesOf (layout.device_lines setup.shape) lines
-  whole_now lines it =
-      subst (λ size. AreLinesOf size lines) (over.size ∙ its_size) (whole_lines after.size after.lines lines over.whole it)
+  whole_now lines it = search rules
 
   still_sound : AreSound setup parts_old → MatchOption after.lines ⊥ (λ lines. IsSound setup new lines after.regs ledger)
   still_sound sound =
@@ -94,28 +94,7 @@ module _ (setup : Setup) (page : ℕ) (old new : EngineState) (ledger noted : Le
       → (AreTrusted setup parts_old → KeepsMetaWhere setup outcome [] parts_old parts_new)
       → (before.regs.group.items ≡ [] → HasSmallGroup outcome parts_new)
       → HasGone setup outcome [] parts_old parts_new
-  gone outcome power exhibit leaves_trusted leaves_sound keeps_places keeps_meta small =
-      record {
-        shape = shape;
-        size = over.size;
-        told = over.told;
-        valid = λ was. subst (λ regs. IsValidRegs setup.shape regs) (sym over.regs) was;
-        group = λ uncut. ap (λ regs. regs.group) over.regs;
-        small_group = small;
-        power = power;
-        reads = over.reads;
-        tags = λ within. (omega (arith, same_tags), omega (arith, same_tags, within));
-        digests = over.digests_rise;
-        marks = over.marks ∙ sym (append-nil ledger.marks);
-        spare = omega (arith, over.spare);
-        true_lines = ap length over.truth;
-        data_lines = over.data_lines;
-        exhibit = exhibit;
-        trusted = leaves_trusted;
-        sound = leaves_sound;
-        places = keeps_places;
-        metadata = keeps_meta;
-      }
+  gone outcome power exhibit leaves_trusted leaves_sound keeps_places keeps_meta small = search rules
 
   pub keeps_counters : AreTrusted setup parts_old → (block : ℕ) → block < layout.pages setup.shape
       → HoldsCounters setup parts_old block → HoldsCounters setup parts_new block
@@ -184,28 +163,13 @@ module _ (setup : Setup) (page : ℕ) (old new : EngineState) (ledger noted : Le
   -- ---- steps
 
   pub few_steps : TakesAtMost (setup.shape.levels + 1) before after
-  few_steps =
-      record {
-        writes = keeps.writes.never_falls;
-        latches = omega (arith, over.latches);
-        sum = λ writes latches. omega (arith, keeps.writes.exact writes, over.latches, keeps.one_a_level, keeps.some_levels);
-      }
+  few_steps = search rules
 
   pub dirty_steps : TakesAtMost (dirty_count setup.shape old.cache) before after
-  dirty_steps =
-      record {
-        writes = keeps.writes.never_falls;
-        latches = omega (arith, over.latches);
-        sum = λ writes latches. omega (arith, keeps.writes.exact writes, over.latches, keeps.dirty);
-      }
+  dirty_steps = search rules
 
   pub fewer_dirty_steps : 1 ≤ dirty_count setup.shape new.cache → TakesFewer (dirty_count setup.shape old.cache) before after
-  fewer_dirty_steps left =
-      record {
-        writes = keeps.writes.never_falls;
-        latches = omega (arith, over.latches);
-        sum = λ writes latches. omega (arith, keeps.writes.exact writes, over.latches, keeps.dirty, left);
-      }
+  fewer_dirty_steps left = search rules
 
   -- ---- a line that was read at a position that isn't cached
 

@@ -93,9 +93,7 @@ module _ (setup : Setup) (at : ℕ) (plain : Line) (engine : EngineState) (old :
 -- a seal that doesn't write the counter block
 undivided : (loss at : ℕ) (ctr : Ctr) (cipher : Line) (tag : List ℕ)
     → list_any (is_persisting loss at) (Seal at ctr cipher tag ∷ []) ≡ false → (ctr.minor % loss == 0) ≡ false
-undivided loss at ctr cipher tag unmade =
-    ap (λ b. b && (ctr.minor % loss == 0)) (sym (eq-eqb at at refl))
-    ∙ (or_parts (at == at && ctr.minor % loss == 0) false unmade).0
+undivided loss at ctr cipher tag unmade = search rules
 
 -- how many steps
 pub some_steps : (loss : ℕ) (ctr : Ctr) → 4 ≤ seal_steps loss ctr

@@ -107,8 +107,7 @@ IsTrusted-same_cache setup old new regs ledger shape cache down trusted = search
 pub IsTrusted-named : (setup : Setup) (old new : EngineState) (regs : Regs) (ledger : LedgerState) (n : ℕ)
     (line : Line) → IsMirrorWritten old new n line → IsTrusted setup old regs ledger
     → IsTrusted setup new regs ledger
-IsTrusted-named setup old new regs ledger n line written =
-    IsTrusted-same_cache setup old new regs ledger written.shape written.cache written.down
+IsTrusted-named setup old new regs ledger n line written = search rules
 
 -- the other parts of what recovery rests on don't see a shadow line
 pub IsMendable-set_shadow : (setup : Setup) (lines : List Line) (n : ℕ) (line : Line) (regs : Regs)
@@ -190,8 +189,7 @@ IsSound-named setup old new lines regs ledger bank set slot line sound form stan
 
 pub node_slots_named : (g : Shape) (cache : Banks) (shadow : List Line) (page : ℕ)
     → ArePathSlotsNamed g cache shadow page → AreNodeSlotsNamed g cache shadow page
-node_slots_named g cache shadow page named =
-    record { each = λ bank set slot stands on node. named.each bank set slot stands on }
+node_slots_named g cache shadow page named = search rules
 
 -- a path that is cached, with its slots named, is named on the device
 pub IsPathNamed_from_slots : (g : Shape) (cache : Banks) (lines : List Line) (page : ℕ) → IsBanksOf g cache

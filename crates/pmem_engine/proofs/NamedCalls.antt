@@ -51,9 +51,7 @@ module _ (setup : Setup) (page n : ℕ) (old new : EngineState) (before after : 
   told = ap is_some lines ∙ told_redone (naming_writes setup.shape old.cache page old.mirror n) before.lines
 
   lines_now : (were are : List Line) → before.lines ≡ Some were → after.lines ≡ Some are → are ≡ now_of were
-  lines_now were are was is =
-      same_Some are (now_of were)
-      (sym is ∙ lines ∙ ap (redone_told (naming_writes setup.shape old.cache page old.mirror n)) was)
+  lines_now were are was is = search rules
 
   holds_now : AreTrusted setup start → (P Q : List Line → Type 0) → ((were : List Line) → P were → Q (now_of were))
       → IfSome (lines_redone start) P → IfSome (lines_redone finish) Q
@@ -128,17 +126,13 @@ module _ (setup : Setup) (page n : ℕ) (old new : EngineState) (before after : 
       held)
 
   trusted_after : AreTrusted setup start → AreTrusted setup finish
-  trusted_after trusted =
-      subst (λ regs. IsTrusted setup new regs ledger) (sym same_regs)
-      (IsTrusted-same_cache setup old new before.regs ledger shape cache down trusted)
+  trusted_after trusted = search rules
 
   -- what is sound of the lines once they are written
   sound_gives : (P : List Line → Type 0)
       → ((were : List Line) → IsSound setup old were before.regs ledger → P (now_of were)) → AreSound setup start
       → MatchOption after.lines ⊥ P
-  sound_gives P give sound =
-      told_surely (λ lines. IsSound setup old lines before.regs ledger) P before.lines after.lines told
-      (λ were are was is had. subst P (sym (lines_now were are was is)) (give were had)) sound
+  sound_gives P give sound = search rules
 
   pub gone : (outcome : Outcome) → HasPower outcome before after
       → (AreTrusted setup start → LeavesTrusted setup outcome finish)

@@ -50,8 +50,7 @@ sealed_before_both setup made more old mid done trusted a within first second by
 
 left_at_first : (old : Parts) (n : ℕ) (left : List ℕ) → not_done (register_in old n) ≡ left → 0 < length left
     → HasLeft old old n left
-left_at_first old n [] is some = absurd (omega (arith, some))
-left_at_first old n (i ∷ left) is some = record { same_page = refl; places = is; as_many = refl }
+left_at_first old n v2 is some = search rules
 
 pub same_parts : (setup : Setup) (old : Parts) → HasOnlyRead old old
 same_parts setup old = search rules
@@ -120,8 +119,7 @@ module _ (setup : Setup) (n number : ℕ) (old mid : Parts) (valid : IsValidRegs
       omega (arith, all, count)
 
   open_by : (left : List ℕ) → 0 < length left → HasLeft old mid n left → IsStillOpen old mid n left
-  open_by [] more it = absurd (omega (arith, more))
-  open_by (i ∷ left) more it = it
+  open_by v0 more it = search rules
 
   pub still_open : IsStillOpen old mid n first.left
   still_open = open_by first.left (let all = total in omega (arith, all, some)) first.registers
@@ -303,20 +301,10 @@ module _ (setup : Setup) (n number : ℕ) (old mid new : Parts) (valid : IsValid
 -- ---- not all
 
 undowned : (fault : Fault) → (IsDownAnswer {T = ℕ × ℕ} (Err fault) → ⊥) → IsDownAnswer {T = Unit} (Err fault) → ⊥
-undowned Fail.Down never it = never it
-undowned Fail.Cut never it = it
-undowned (Fail.Meta x) never it = it
-undowned (Fail.Tag b) never it = it
-undowned (Fail.Spent page) never it = it
-undowned Fail.Shown never it = it
+undowned v0 never it = search rules
 
 unrefused_so : (fault : Fault) → IsUnrefused {T = ℕ × ℕ} (Err fault) → IsUnrefused {T = Unit} (Err fault)
-unrefused_so Fail.Down it = it
-unrefused_so Fail.Cut it = tt
-unrefused_so (Fail.Meta x) it = it
-unrefused_so (Fail.Tag b) it = it
-unrefused_so (Fail.Spent page) it = tt
-unrefused_so Fail.Shown it = it
+unrefused_so v0 it = search rules
 
 module _ (setup : Setup) (n number : ℕ) (old mid new : Parts) (valid : IsValidRegs setup.shape (regs_of old))
     (inside : n < length (regs_of old).progress.items) (first : HasResealedFirst setup n number old mid)

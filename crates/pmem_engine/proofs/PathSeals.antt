@@ -1,4 +1,5 @@
 -- A line sealed together with its page's new path: its group armed, and finished or cut.
+use Rattle.std.proofs.Common.{rules}
 use Rattle.std.proofs.Common.{ℕ, ◌≡◌, ◌≢◌, ◌<◌, ◌≤◌, ◌+◌, ◌%◌, ◌++◌, ◌⊎◌, inl, inr, Bool, true, false, List, [], ◌∷◌, length, IsTrue, Option, Some, None, refl, sym, ap, ap₂, subst, ◌∙◌, arith}
 use Rattle.std.specs.Prelude.{option_map, AllPairs, All, ◌&&◌, ◌||◌}
 use Rattle.std.specs.List.{list_any}
@@ -192,10 +193,7 @@ module _ (setup : Setup) (next : NextSeal) (minor : ℕ) (persisted : Bool) (blo
 
     -- the group, over the told lines
     entries_are : (told : List Line) → old.lines ≡ Some told → entries_of setup.shape next ≡ sealing_group setup.shape told next.at seal
-    entries_are told is =
-        ap (λ line. (next.at, next.cipher) ∷ (layout.tag_line setup.shape next.at, line) ∷ [])
-        (it.tag_line ∙ ap (λ line. with_tag line next.at next.tag)
-        (subst (λ o. Tells o (layout.tag_line setup.shape next.at) it.tags) is it.tags_read))
+    entries_are told is = search rules
 
     group_without : persisted ≡ false → (told : List Line) → old.lines ≡ Some told → group ≡ sealing_group setup.shape told next.at seal
     group_without kept told is = ap (λ b. seal_group setup.shape next b block) kept ∙ entries_are told is

@@ -52,8 +52,7 @@ use Rattle.pmem_engine.proofs.Reseals.{IsResealing, sealed_here, done_resealed, 
 -- a metadata line where lines and registers are as they were
 pub meta_of_same : (g : Shape) (x : ℕ) (old new : Parts) → regs_of new ≡ regs_of old → new.device.lines ≡ old.device.lines
     → meta_line_in g new x ≡ meta_line_in g old x
-meta_of_same g x old new regs lines =
-    ap₂ (λ r told. option_map (λ ls. stored_meta g ls x) (redone_told r.group.items told)) regs lines
+meta_of_same g x old new regs lines = search rules
 
 -- what a call passed to the line that it works on
 module _ (setup : Setup) (n : ℕ) (engine : EngineState) (old : Device) (before : LedgerState) (tags digests : ℕ) (held : HeldLine)
@@ -137,12 +136,7 @@ module _ (setup : Setup) (n : ℕ) (engine : EngineState) (old : Device) (before
 
   not_down_by : (new : Parts) (fault : Fault) → HasUnsealed setup held.at held.now start new (Err fault)
       → IsDownAnswer {T = ℕ × ℕ} (Err fault) → ⊥
-  not_down_by new Fail.Down it down = it.not_down tt
-  not_down_by new Fail.Cut it down = down
-  not_down_by new Fail.Shown it down = down
-  not_down_by new (Fail.Tag b) it down = down
-  not_down_by new (Fail.Meta x) it down = down
-  not_down_by new (Fail.Spent page) it down = down
+  not_down_by new v1 it down = search rules
 
   counted_none : (new : Parts) (fault : Fault) → TakesSteps 0 old new.device → CountsReseal start new (Err fault)
   counted_none new Fail.Cut none = fewer none
@@ -162,8 +156,7 @@ module _ (setup : Setup) (n : ℕ) (engine : EngineState) (old : Device) (before
 
   kept_memory : (new : Parts) (fault : Fault) → HasUnsealed setup held.at held.now start new (Err fault)
       → (memory : Memory) → IsMemory setup memory start → IsMemory setup memory new
-  kept_memory new fault it memory was a within =
-      ap (λ marks. plain_line setup.formulas marks a) (it.done.gone.marks ∙ append-nil before.marks) ∙ was a within
+  kept_memory new fault it memory was a within = search rules
 
   pub not_unsealed : (new : Device) (after : LedgerState) (tags_now digests_now : ℕ) (fault : Fault)
       → HasUnsealed setup held.at held.now start (parts_of engine new after tags_now digests_now) (Err fault)

@@ -42,8 +42,7 @@ pub sealed_here : (at a : ℕ) (ctr : Ctr) (cipher : Line) (tag : List ℕ) → 
 sealed_here at a ctr cipher tag it = search rules
 
 pub unsealed_other : (at a : ℕ) (ctr : Ctr) (cipher : Line) (tag : List ℕ) → is_sealed_by (Seal at ctr cipher tag ∷ []) a ≡ false → a ≢ at
-unsealed_other at a ctr cipher tag it same =
-    true≢false (sym (ap (λ t. t || false) (eq-eqb at a (sym same))) ∙ it)
+unsealed_other at a ctr cipher tag it same = search rules
 
 -- the seal about to be committed is one of a held line, under its page's next major and 0
 pub record IsResealing (setup : Setup) (next : NextSeal) (register : Progress) (old : Device) : Type 0 where
@@ -114,10 +113,7 @@ module _ (setup : Setup) (next : NextSeal) (register : Progress) (engine : Engin
   -- the group, over the told lines
   its_group : IsAnchored setup old.regs before → (lines : List Line) → old.lines ≡ Some lines
       → entries ≡ sealing_group setup.shape lines next.at (made_seal setup.shape before.truth next.at 0 next.cipher next.tag)
-  its_group anchored lines told =
-      ap (λ line. (next.at, next.cipher) ∷ (layout.tag_line setup.shape next.at, line) ∷ [])
-      (it.tag_line ∙ ap (λ line. with_tag line next.at next.tag)
-      (subst (λ o. Tells o (layout.tag_line setup.shape next.at) it.tags) told it.tags_read))
+  its_group anchored lines told = search rules
 
   -- it is a commit of one mark
   commit : old.regs.group.items ≡ [] → IsDevice old → old.size ≡ layout.device_lines setup.shape
@@ -185,38 +181,17 @@ module _ (setup : Setup) (next : NextSeal) (register : Progress) (engine : Engin
       → AreLinesOf (layout.device_lines setup.shape) lines
       → IsCounterStored setup lines old.regs.loss before.truth page
       → IsCounterStored setup (redone entries lines) old.regs.loss after.truth page
-  counters_over anchored page lines told whole stored =
-      subst (λ group. IsCounterStored setup (redone group lines) old.regs.loss after.truth page)
-      (sym (its_group anchored lines told))
-      (counter_kept-turn setup lines next.at next.cipher next.tag old.regs armed_regs before after whole
-      (while_armed anchored) old.regs.loss page stored)
+  counters_over anchored page lines told whole stored = search rules
 
   metadata_over : IsAnchored setup old.regs before → (lines : List Line) → old.lines ≡ Some lines
       → AreLinesOf (layout.device_lines setup.shape) lines
       → KeepsTrue setup.shape engine.cache engine.cache before.truth after.truth lines (redone entries lines)
-  metadata_over anchored lines told whole =
-      subst (λ group. KeepsTrue setup.shape engine.cache engine.cache before.truth after.truth lines (redone group lines))
-      (sym (its_group anchored lines told))
-      (record {
-        held =
-            λ x within held.
-            held_kept-turn setup lines next.at next.cipher next.tag old.regs armed_regs before after whole
-            (while_armed anchored) engine x held;
-        changed =
-            λ x within.
-            inl (stored_meta-sealed_lines setup.shape lines next.at
-            (made_seal setup.shape before.truth next.at 0 next.cipher next.tag) x it.its_line);
-      })
+  metadata_over anchored lines told whole = search rules
 
   -- no metadata line is in the group
   pub resealed_meta_kept : IsAnchored setup old.regs before → (x : ℕ) → (o : Option (List Line)) → old.lines ≡ o
       → option_map (λ ls. stored_meta setup.shape ls x) (redone_told entries o) ≡ option_map (λ ls. stored_meta setup.shape ls x) o
-  resealed_meta_kept anchored x None is = refl
-  resealed_meta_kept anchored x (Some lines) is =
-      ap Some
-      (ap (λ group. stored_meta setup.shape (redone group lines) x) (its_group anchored lines is)
-      ∙ stored_meta-sealed_lines setup.shape lines next.at
-      (made_seal setup.shape before.truth next.at 0 next.cipher next.tag) x it.its_line)
+  resealed_meta_kept anchored x v2 is = search rules
 
   -- it was finished
   pub done_resealed : old.regs.group.items ≡ [] → IsDevice old → old.size ≡ layout.device_lines setup.shape

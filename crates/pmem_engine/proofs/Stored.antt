@@ -72,8 +72,7 @@ module _ (g : Shape) (f : Formulas) (page : ℕ) (persisted : Bool) (block : Lin
 
   -- a slot is in the bank of its level
   its_own : (bank set : ℕ) (slot : Slot) → Contains (set_of old.cache bank set) slot → IsTrueSlot g truth bank set slot
-  its_own bank set slot stands =
-      All-stands (IsTrueSlot g truth bank set) (set_of old.cache bank set) slot (true_slots bank set) stands
+  its_own bank set slot stands = search rules
 
   -- a position on the path is that of its level
   on_path_at : (bank x : ℕ) → level_of x ≡ bank → is_on_path g page x ≡ true → (bank ≤ g.levels) × (x ≡ path_at g page bank)

@@ -1,4 +1,5 @@
 -- What each part of a write asks of the parts before it.
+use Rattle.std.proofs.Common.{rules}
 use Rattle.std.proofs.Common.{ℕ, ◌≡◌, ◌<◌, ◌≤◌, ◌+◌, ◌-◌, ◌^◌, ◌==◌, inl, inr, Bool, true, false, ◌||◌, List, [], length, cond, Option, Some, None, Result, Ok, Err, refl, sym, ap, subst, ◌∙◌, arith}
 use Rattle.std.specs.Prelude.{nat_lt, not}
 use Rattle.std.proofs.lemmas.Bool.{cases_Bool, cond-false, true≢false, ltb-true}
@@ -108,23 +109,16 @@ module _ (setup : Setup) (page : ℕ) (old new : Parts) where
 
   pub room_begun : (overflows : Bool) → 2 ≤ old.ledger.spare → HasBegunFor overflows setup page old new (Ok tt)
       → 1 ≤ new.ledger.spare
-  room_begun true room it =
-      let used = it.done.gone.spare in
-      let one = ap length it.marks in
-      omega (arith, room, used, one)
-  room_begun false room it = let same = ap (λ (l : LedgerState). l.spare) it.alone.ledger in omega (arith, same, room)
+  room_begun v0 room it = search rules
 
   pub cached_begun : (overflows : Bool) → IsPathCached setup.shape old.engine.cache page
       → HasBegunFor overflows setup page old new (Ok tt) → IsPathCached setup.shape new.engine.cache page
-  cached_begun true was it = (it.opened refl).path_cached
-  cached_begun false was it = subst (λ (e : EngineState). IsPathCached setup.shape e.cache page) (sym it.alone.engine) was
+  cached_begun v0 was it = search rules
 
   pub named_begun : (overflows : Bool) → IsPathNamedInMirror setup.shape old.engine page
       → HasBegunFor overflows setup page old new (Ok tt) → IsPathNamedInMirror setup.shape new.engine page
-  named_begun true was it = (it.opened refl).path_named
-  named_begun false was it = subst (λ e. IsPathNamedInMirror setup.shape e page) (sym it.alone.engine) was
+  named_begun v0 was it = search rules
 
   pub same_unbegun : (overflows : Bool) → overflows ≡ false → HasBegunFor overflows setup page old new (Ok tt)
       → new.engine ≡ old.engine
-  same_unbegun true is it = absurd (true≢false is)
-  same_unbegun false is it = it.alone.engine
+  same_unbegun v0 is it = search rules

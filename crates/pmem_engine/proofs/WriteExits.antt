@@ -1,4 +1,5 @@
 -- What a write answers where a part ended it, by the part's answer.
+use Rattle.std.proofs.Common.{rules}
 use Rattle.std.proofs.Common.{ℕ, ◌≡◌, ◌<◌, ◌≤◌, ◌+◌, ◌-◌, ◌*◌, ◌^◌, ◌++◌, inl, inr, Bool, true, false, cond, List, [], ◌∷◌, length, IsTrue, Option, Some, None, Err, refl, sym, ap, subst, ◌∙◌, arith}
 use Rattle.std.specs.Prelude.{◌==◌, ◌||◌, nat_lt, unwrap_or, is_none, IsSome}
 use Rattle.std.proofs.lemmas.Bool.{true≢false, false≢true, cond-false, eqb-true, lt-ltb}
@@ -68,9 +69,7 @@ part_of_front front rest made some it =
     }
 
 reseal_of : (b : ℕ) (next : Mark) (tail : List Mark) → is_seal_of b next ≡ true → 0 < length tail → IsResealOf b (next ∷ tail)
-reseal_of b (Begin page) tail its some = absurd (false≢true its)
-reseal_of b (Seal at ctr cipher tag) [] its some = absurd (omega (arith, some))
-reseal_of b (Seal at ctr cipher tag) (later ∷ marks) its some = eqb-true at b its
+reseal_of b v1 tail its some = search rules
 
 -- stopped at a line's seal
 pub refused_at : (front rest made : List Mark) (write : Posted) (b : ℕ) → 0 < length rest → IsStoppedAt front made b
@@ -126,104 +125,42 @@ stopped setup write old new made fault part marks answered unrefused not_down st
 
 -- another answer's fault is no better and no worse
 pub fault_unrefused : (T U : Type 0) (fault : Fault) → IsUnrefused {T = T} (Err fault) → IsUnrefused {T = U} (Err fault)
-fault_unrefused T U Fail.Cut it = tt
-fault_unrefused T U (Fail.Spent page) it = tt
-fault_unrefused T U Fail.Down it = it
-fault_unrefused T U (Fail.Meta x) it = it
-fault_unrefused T U (Fail.Tag b) it = it
-fault_unrefused T U Fail.Shown it = it
+fault_unrefused v0 v1 v2 it = search rules
 
 pub fault_down : (T U : Type 0) (fault : Fault) → IsDownAnswer {T = T} (Err fault) → IsDownAnswer {T = U} (Err fault)
-fault_down T U Fail.Down it = tt
-fault_down T U Fail.Cut it = it
-fault_down T U (Fail.Spent page) it = it
-fault_down T U (Fail.Meta x) it = it
-fault_down T U (Fail.Tag b) it = it
-fault_down T U Fail.Shown it = it
+fault_down v0 v1 v2 it = search rules
 
 -- ---- in the fetch
 
 pub unfetched_marks : (setup : Setup) (write : Posted) (old new : Parts) (asked : Option (List Mark)) (fault : Fault) → IsSomeAsked asked
     → AnswersFetch setup (page_of write.at) old new (Err fault) → HasWriteMarks asked [] write (Err fault)
-unfetched_marks setup write old new asked Fail.Cut some it = inr (part_of_nothing asked some)
-unfetched_marks setup write old new asked (Fail.Meta x) some it = refl
-unfetched_marks setup write old new asked Fail.Shown some it = part_of_nothing asked some
-unfetched_marks setup write old new asked (Fail.Tag b) some it = absurd it
-unfetched_marks setup write old new asked (Fail.Spent page) some it = absurd it
-unfetched_marks setup write old new asked Fail.Down some it = absurd it
+unfetched_marks setup write old new asked v5 some it = search rules
 
 pub unfetched_answers : (setup : Setup) (write : Posted) (old new : Parts) (asked : Option (List Mark)) (fault : Fault)
     → AnswersFetch setup (page_of write.at) old new (Err fault) → AnswersWrite setup asked [] write old new (Err fault)
-unfetched_answers setup write old new asked Fail.Cut it = tt
-unfetched_answers setup write old new asked (Fail.Meta x) it = it
-unfetched_answers setup write old new asked Fail.Shown it = inl (refl, it)
-unfetched_answers setup write old new asked (Fail.Tag b) it = absurd it
-unfetched_answers setup write old new asked (Fail.Spent page) it = absurd it
-unfetched_answers setup write old new asked Fail.Down it = absurd it
+unfetched_answers setup write old new asked v5 it = search rules
 
 pub unfetched_steps : (setup : Setup) (write : Posted) (old new : Parts) (asked : Option (List Mark)) (fault : Fault)
     → AnswersFetch setup (page_of write.at) old new (Err fault)
     → TakesWithin (outcome_of_fault fault) (path_length setup.shape) old new
     → TakesWithinOfLive (outcome_of_fault fault) (dirty_count setup.shape old.engine.cache) old new
     → TakesOfWrite setup.shape asked [] old new (Err fault)
-unfetched_steps setup write old new (Some marks) Fail.Cut says path dirty =
-    more_fewer (path_length setup.shape) (write_bound setup.shape marks) old.device new.device
-    (omega (arith, bound_path setup.shape marks)) path
-unfetched_steps setup write old new None Fail.Cut says path dirty = (path, dirty)
-unfetched_steps setup write old new (Some marks) (Fail.Meta x) says path dirty =
-    more_most (path_length setup.shape) (write_bound setup.shape []) old.device new.device
-    (omega (arith, bound_path setup.shape [])) path
-unfetched_steps setup write old new None (Fail.Meta x) says path dirty =
-    more_most (path_length setup.shape) (write_bound setup.shape []) old.device new.device
-    (omega (arith, bound_path setup.shape [])) path
-unfetched_steps setup write old new (Some marks) Fail.Shown says path dirty =
-    more_most (path_length setup.shape) (write_bound setup.shape []) old.device new.device
-    (omega (arith, bound_path setup.shape [])) path
-unfetched_steps setup write old new None Fail.Shown says path dirty =
-    more_most (path_length setup.shape) (write_bound setup.shape []) old.device new.device
-    (omega (arith, bound_path setup.shape [])) path
-unfetched_steps setup write old new asked (Fail.Tag b) says path dirty = absurd says
-unfetched_steps setup write old new asked (Fail.Spent page) says path dirty = absurd says
-unfetched_steps setup write old new asked Fail.Down says path dirty = absurd says
+unfetched_steps setup write old new v4 v5 says path dirty = search rules
 
 -- ---- in the plain line; the counter isn't used up
 
 pub unplain_marks : (setup : Setup) (write : Posted) (old new : Parts) (asked : Option (List Mark)) (fault : Fault) → IsSomeAsked asked
     → IsSome asked → AnswersPlain setup write old new (Err fault) → HasWriteMarks asked [] write (Err fault)
-unplain_marks setup write old new asked Fail.Cut some unspent it = inr (part_of_nothing asked some)
-unplain_marks setup write old new asked (Fail.Tag b) some unspent it = inr (it.0, it.1, refl, unspent)
-unplain_marks setup write old new asked Fail.Shown some unspent it = part_of_nothing asked some
-unplain_marks setup write old new asked (Fail.Meta x) some unspent it = absurd it
-unplain_marks setup write old new asked (Fail.Spent page) some unspent it = absurd it
-unplain_marks setup write old new asked Fail.Down some unspent it = absurd it
+unplain_marks setup write old new asked v5 some unspent it = search rules
 
 pub unplain_answers : (setup : Setup) (write : Posted) (old mid new : Parts) (asked : Option (List Mark)) (fault : Fault)
     → IsSome asked → AnswersPlain setup write mid new (Err fault) → AnswersWrite setup asked [] write old new (Err fault)
-unplain_answers setup write old mid new asked Fail.Cut unspent it = tt
-unplain_answers setup write old mid new asked (Fail.Tag b) unspent it =
-    subst (λ a. IsTagRefused setup a new) (sym it.1) it.2
-unplain_answers setup write old mid new asked Fail.Shown unspent it =
-    inr (record { at = write.at; refusable = inr (it.0, refl, refl, unspent); forged = it.1 })
-unplain_answers setup write old mid new asked (Fail.Meta x) unspent it = absurd it
-unplain_answers setup write old mid new asked (Fail.Spent page) unspent it = absurd it
-unplain_answers setup write old mid new asked Fail.Down unspent it = absurd it
+unplain_answers setup write old mid new asked v6 unspent it = search rules
 
 pub unplain_steps : (setup : Setup) (write : Posted) (old mid new : Parts) (asked : Option (List Mark)) (fault : Fault)
     → IsSome asked → AnswersPlain setup write mid new (Err fault)
     → TakesAtMost (path_length setup.shape) old.device new.device → TakesOfWrite setup.shape asked [] old new (Err fault)
-unplain_steps setup write old mid new None fault unspent says path = absurd (false≢true unspent)
-unplain_steps setup write old mid new (Some marks) Fail.Cut unspent says path =
-    most_fewer (path_length setup.shape) (write_bound setup.shape marks) old.device new.device
-    (omega (arith, bound_path setup.shape marks)) path
-unplain_steps setup write old mid new (Some marks) (Fail.Tag b) unspent says path =
-    more_most (path_length setup.shape) (write_bound setup.shape []) old.device new.device
-    (omega (arith, bound_path setup.shape [])) path
-unplain_steps setup write old mid new (Some marks) Fail.Shown unspent says path =
-    more_most (path_length setup.shape) (write_bound setup.shape []) old.device new.device
-    (omega (arith, bound_path setup.shape [])) path
-unplain_steps setup write old mid new (Some marks) (Fail.Meta x) unspent says path = absurd says
-unplain_steps setup write old mid new (Some marks) (Fail.Spent page) unspent says path = absurd says
-unplain_steps setup write old mid new (Some marks) Fail.Down unspent says path = absurd says
+unplain_steps setup write old mid new v5 fault unspent says path = search rules
 
 -- ---- in the finishing: the marks asked are those of the finishing, and more
 

@@ -163,13 +163,7 @@ name_part setup at old new answer inside it = grind (arith, common_steps)
 -- a begin makes one mark or none
 pub begin_made : (page : ℕ) (made : List Mark) (answer : Result Unit Fault) → HasBeginMarks page made answer
     → (made ≡ []) ⊎ (made ≡ Begin page ∷ [])
-begin_made page made (Ok value) it = inr it
-begin_made page made (Err Fail.Cut) it = it
-begin_made page made (Err Fail.Down) it = absurd it
-begin_made page made (Err (Fail.Meta x)) it = absurd it
-begin_made page made (Err (Fail.Tag b)) it = absurd it
-begin_made page made (Err (Fail.Spent spent)) it = absurd it
-begin_made page made (Err Fail.Shown) it = absurd it
+begin_made page made v2 it = search rules
 
 pub begin_part : (setup : Setup) (at : ℕ) (old new : Parts) (answer : Result Unit Fault)
     → (it : HasBegunPage setup (page_of at) old new answer) → IsWritePart setup at (outcome_of answer) it.made old new

@@ -53,9 +53,7 @@ module _ (setup : Setup) (write : Posted) (within : write.at < layout.data_lines
 
   -- it asks for the same where the ledger is the same
   asked_same : (memory : Memory) (before after : Parts) → after.ledger ≡ before.ledger → asked memory before ≡ asked memory after
-  asked_same memory before after same =
-      ap (λ (ledger : LedgerState). marks_of_write setup.formulas (record { memory = memory; view = view_of setup.shape ledger.marks }) write)
-      (sym same)
+  asked_same memory before after same = search rules
 
   -- ---- the path isn't fetched
 
@@ -89,8 +87,7 @@ module _ (setup : Setup) (write : Posted) (within : write.at < layout.data_lines
     -- ---- its counter is used up
 
     spent_steps : (marks : Option (List Mark)) (at : ℕ) → TakesOfWrite setup.shape marks [] old p1 (Err (Fail.Spent at))
-    spent_steps (Some marks) at = (fetched.steps_of_path, fetched.steps_of_dirty)
-    spent_steps None at = (fetched.steps_of_path, fetched.steps_of_dirty)
+    spent_steps v0 at = search rules
 
     pub written_spent : (fault : Fault)
         → overflow_of (cached_block setup.shape p1.engine page) page (index_in_page write.at) ≡ Err fault
@@ -125,9 +122,7 @@ module _ (setup : Setup) (write : Posted) (within : write.at < layout.data_lines
 
       -- the steps of the path, and none more
       path_alone : (new : Parts) → TakesSteps 0 p1.device new.device → TakesAtMost path old.device new.device
-      path_alone new none =
-          more_most (path + 0) path old.device new.device (omega arith)
-          (most_then path 0 old.device p1.device new.device fetched.steps_of_path (steps_most 0 p1.device new.device none))
+      path_alone new none = search rules
 
       -- ---- its line isn't unsealed
 
@@ -161,9 +156,7 @@ module _ (setup : Setup) (write : Posted) (within : write.at < layout.data_lines
         ledger2 = made_plain.same_ledger (λ e. true≢false (ap is_going e)) ∙ ledger1
 
         over2 : overflow_of (cached_block setup.shape p2.engine page) page (index_in_page write.at) ≡ Ok overflows
-        over2 =
-            ap (λ engine. overflow_of (cached_block setup.shape engine page) page (index_in_page write.at)) made_plain.engine
-            ∙ over
+        over2 = search rules
 
         part2 : IsWritePart setup write.at going [] old p2
         part2 = part_chained setup write.at going [] [] old p1 p2 part1 (plain_part setup write p1 p2 (Ok plain) made_plain)
@@ -257,8 +250,7 @@ module _ (setup : Setup) (write : Posted) (within : write.at < layout.data_lines
           -- ---- the path isn't named
 
           unnamed_front : (marks made : List Mark) → made ≡ marks → IsFrontOf marks (made ++ [])
-          unnamed_front marks made all =
-              record { left = []; front = sym all ∙ sym (append-nil made) ∙ sym (append-nil (made ++ [])) }
+          unnamed_front marks made all = search rules
 
           unnamed : (new : Parts) → HasNamedPath setup page p3 new (Err Fail.Cut) → HasWrittenUnder setup write old new (Err Fail.Cut)
           unnamed new it =
@@ -372,9 +364,7 @@ module _ (setup : Setup) (write : Posted) (within : write.at < layout.data_lines
 
               plain_is : AreTrusted setup old → (memory : Memory) → IsMemory setup memory old
                   → plain ≡ put_write (line_at memory write.at) write
-              plain_is trusted memory was =
-                  subst (λ o. IfSome o (λ line. plain ≡ put_write line write)) (part1.memory_kept trusted memory was write.at within)
-                  (made_plain.answered (trusted1 trusted) cached1).0
+              plain_is trusted memory was = search rules
 
               seal_is : AreTrusted setup old → (memory : Memory) → IsMemory setup memory old → seal ≡ own memory
               seal_is trusted memory was =
@@ -395,13 +385,7 @@ module _ (setup : Setup) (write : Posted) (within : write.at < layout.data_lines
                 -- made is the seal, or nothing
                 made_cases : (reply : Result Ctr Fault) → HasNextMarks setup.formulas write.at next plain it.made reply
                     → (it.made ≡ []) ⊎ (it.made ≡ seal ∷ [])
-                made_cases (Ok ctr) marks = inr marks.1
-                made_cases (Err Fail.Cut) marks = marks
-                made_cases (Err Fail.Down) marks = absurd marks
-                made_cases (Err Fail.Shown) marks = absurd marks
-                made_cases (Err (Fail.Meta x)) marks = absurd marks
-                made_cases (Err (Fail.Tag b)) marks = absurd marks
-                made_cases (Err (Fail.Spent spent)) marks = absurd marks
+                made_cases v0 marks = search rules
 
                 made_is : (it.made ≡ []) ⊎ (it.made ≡ seal ∷ [])
                 made_is = made_cases answer it.marks
@@ -414,9 +398,7 @@ module _ (setup : Setup) (write : Posted) (within : write.at < layout.data_lines
                 one_sealed one = ap (λ marks. is_sealed_by marks write.at) one ∙ ap (λ b. b || false) (eq-eqb write.at write.at refl)
 
                 other_unsealed : it.made ≡ seal ∷ [] → (a : ℕ) → a ≢ write.at → is_sealed_by it.made a ≡ false
-                other_unsealed one a apart =
-                    ap (λ marks. is_sealed_by marks a) one
-                    ∙ ap (λ b. b || false) (ne_eqb write.at a (λ same. apart (sym same)))
+                other_unsealed one a apart = search rules
 
                 sealed_at : (a : ℕ) → is_sealed_by it.made a ≡ true → a ≡ write.at
                 sealed_at a sealed = search rules
@@ -463,23 +445,11 @@ module _ (setup : Setup) (write : Posted) (within : write.at < layout.data_lines
 
                 sealed_unrefused : (reply : Result Ctr Fault) → HasNextMarks setup.formulas write.at next plain it.made reply
                     → IsUnrefused reply
-                sealed_unrefused (Ok ctr) marks = tt
-                sealed_unrefused (Err Fail.Cut) marks = tt
-                sealed_unrefused (Err Fail.Down) marks = absurd marks
-                sealed_unrefused (Err Fail.Shown) marks = absurd marks
-                sealed_unrefused (Err (Fail.Meta x)) marks = absurd marks
-                sealed_unrefused (Err (Fail.Tag b)) marks = absurd marks
-                sealed_unrefused (Err (Fail.Spent spent)) marks = tt
+                sealed_unrefused v0 marks = search rules
 
                 sealed_not_down : (reply : Result Ctr Fault) → HasNextMarks setup.formulas write.at next plain it.made reply
                     → IsDownAnswer reply → ⊥
-                sealed_not_down (Ok ctr) marks is = is
-                sealed_not_down (Err Fail.Cut) marks is = is
-                sealed_not_down (Err Fail.Down) marks is = marks
-                sealed_not_down (Err Fail.Shown) marks is = is
-                sealed_not_down (Err (Fail.Meta x)) marks is = is
-                sealed_not_down (Err (Fail.Tag b)) marks is = is
-                sealed_not_down (Err (Fail.Spent spent)) marks is = is
+                sealed_not_down v0 marks is = search rules
 
                 -- ---- memory
 
@@ -492,8 +462,7 @@ module _ (setup : Setup) (write : Posted) (within : write.at < layout.data_lines
 
                 plain_now : (a : ℕ) (b : Bool) → is_sealed_by it.made a ≡ b
                     → plain_line setup.formulas new.ledger.marks a ≡ cond b (Some plain) (plain_line setup.formulas p5.ledger.marks a)
-                plain_now a b is =
-                    it.plain_now a ∙ ap (λ t. cond t (Some plain) (plain_line setup.formulas p5.ledger.marks a)) is
+                plain_now a b is = search rules
 
                 memory_put : AreTrusted setup old → (memory : Memory) → write.at < length memory → IsMemory setup memory old
                     → it.made ≡ seal ∷ [] → IsMemory setup (memory_with memory write) new
@@ -600,12 +569,7 @@ module _ (setup : Setup) (write : Posted) (within : write.at < layout.data_lines
                 written_by : (reply : Result Ctr Fault) → HasNextMarks setup.formulas write.at next plain it.made reply
                     → (IsOk reply → (next.minor % (regs_of p5).loss == 0) ≡ true → IsBlockTrue setup new page)
                     → IfOk reply (λ ctr. ctr.minor % (regs_of old).loss ≡ 0 → IsBlockTrue setup new page)
-                written_by (Ok ctr) marks block =
-                    λ zero.
-                    block refl
-                    (eq-eqb (next.minor % (regs_of p5).loss) 0
-                    (ap₂ (λ (c : Ctr) n. c.minor % n) (sym marks.0) part5.done.loss ∙ zero))
-                written_by (Err fault) marks block = tt
+                written_by v0 marks block = search rules
 
                 -- ---- one seal, where the path was cached and named
 
