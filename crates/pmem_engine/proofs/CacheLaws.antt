@@ -1,5 +1,5 @@
 -- A true line is written back, and the cache changes: blocks become clean, give way, or come in.
-use Rattle.std.proofs.Common.{rules, ◌≡◌, ◌≢◌, ℕ, ◌+◌, ◌*◌, ◌<◌, true, false, List, [], length, sym, ap, subst, subst₂, ◌∙◌, ◌⊎◌, inl, inr, arith}
+use Rattle.std.proofs.Common.{rules, ◌≡◌, ◌≢◌, ℕ, ◌+◌, ◌*◌, ◌<◌, true, false, List, [], length, sym, ap, subst, subst₂, ◌∙◌, ◌⊎◌, inl, inr}
 use Rattle.std.specs.Prelude.{IsTrue}
 use Rattle.std.specs.List.{All, Contains}
 use Rattle.std.proofs.lemmas.Bool.{cases_eq, cases_Bool, false≢true}
@@ -8,7 +8,7 @@ use Rattle.pmem_base.specs.declared.registers.Regs.{Regs}
 use Rattle.pmem_base.specs.Shape.{Shape}
 use Rattle.pmem_base.specs.Layout.{device_lines, meta_lines, meta_line}
 use Rattle.pmem_base.specs.Lines.{line_at, IsLine}
-use Rattle.pmem_base.proofs.Regions.{meta_on_device, meta_before_shadow}
+use Rattle.pmem_base.proofs.Regions.{meta_before_shadow}
 use Rattle.pmem_base.proofs.LineLemmas.{IsLine-line_at}
 use Rattle.bonsai_tree.specs.Positions.{level_of}
 use Rattle.board.proofs.LineLemmas.{AreLinesOf-set}
@@ -24,7 +24,7 @@ use Rattle.pmem_engine.specs.Engine.{EngineState}
 use Rattle.pmem_engine.specs.Invariants.{IsAnchored, IsTrueSlot, IsTrusted, stored_meta, is_named, IsMendable, IsDurable, IsDirtyNamed, IsSound}
 use Rattle.pmem_engine.specs.Steps.{with_true_line}
 use Rattle.pmem_engine.specs.Recached.{IsTrueOrDirty, WasCleaned, HasComeIn, IsRecached}
-use Rattle.pmem_engine.proofs.RegionLemmas.{stored_meta-set_same, is_named-set_meta, IsSealStored-set_meta}
+use Rattle.pmem_engine.proofs.RegionLemmas.{is_named-set_meta, IsSealStored-set_meta}
 use Rattle.pmem_engine.proofs.CounterBlocks.{IsCounterStored-written_back}
 use Rattle.pmem_engine.proofs.GroupLaws.{IsMendable-unarmed, IsDurable-unarmed}
 
@@ -89,9 +89,7 @@ IsSound-written_back setup engine lines regs ledger x sound h =
       trusted = sound.trusted;
       durable = IsDurable-written_back setup lines regs ledger x sound.durable sound.trusted.no_group h;
       true_unless_dirty =
-          λ y hy clean.
-          stays_true-true_line setup.shape lines ledger.truth x y sound.durable.device_whole.count h
-          (sound.true_unless_dirty y hy clean);
+          search rules;
       dirty_named = sound.dirty_named;
       mirror_true =
           sound.mirror_true

@@ -1,18 +1,14 @@
 -- A metadata line that a call changed is afterwards true on the device or cached dirty, step by step.
-use Rattle.std.proofs.Common.{rules}
-use Rattle.std.proofs.Common.{◌≡◌, ℕ, ◌<◌, List, length, sym, ap, ◌∙◌, ◌⊎◌, inl, inr}
-use Rattle.std.proofs.lemmas.Bool.{cases_eq}
+use Rattle.std.proofs.Common.{rules, ◌≡◌, ℕ, ◌<◌, List, length, ◌⊎◌, inl}
 use Rattle.pmem_base.specs.declared.lines.Line.{Line}
 use Rattle.pmem_base.specs.Shape.{Shape}
 use Rattle.pmem_base.specs.Layout.{data_lines, device_lines, meta_lines}
-use Rattle.pmem_base.specs.Lines.{line_at}
 use Rattle.pmem_base.specs.Marks.{SealOf}
 use Rattle.meta_cache.specs.Banks.{Banks}
 use Rattle.pmem_engine.specs.Invariants.{stored_meta}
 use Rattle.pmem_engine.specs.Steps.{sealed_lines, with_true_line}
 use Rattle.pmem_engine.specs.Recached.{IsTrueOrDirty}
-use Rattle.pmem_engine.proofs.RegionLemmas.{stored_meta-set_other, stored_meta-sealed_lines}
-use Rattle.pmem_engine.proofs.CacheLaws.{stored_meta-true_line}
+use Rattle.pmem_engine.proofs.RegionLemmas.{stored_meta-sealed_lines}
 
 -- ---- what each kind of step does to the line
 

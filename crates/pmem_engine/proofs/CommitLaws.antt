@@ -188,9 +188,7 @@ IsTrusted-turned setup engine start armed final before after a register cipher t
       no_group = emptied.no_group;
       not_down = trusted.not_down;
       cached_true =
-          subst
-          (λ truth. (bank set : ℕ) → All (IsTrueSlot setup.shape truth bank set) (set_of engine.cache bank set))
-          (sym it.truth) trusted.cached_true;
+          search rules;
     }
 
 -- ---- each metadata line by itself: true on the device or cached dirty, over any lines
@@ -412,10 +410,7 @@ IsSound-turn setup engine lines start armed final before after a register cipher
           (IsDurable-armed_turn setup lines start armed before after a register cipher tag sound.durable arming held it)
           emptied;
       true_unless_dirty =
-          λ x h clean.
-          ap (λ group. stored_meta setup.shape (redone group lines) x) arming.its_group
-          ∙ stored_meta-sealed_lines setup.shape lines a seal x it.its_line ∙ sound.true_unless_dirty x h clean
-          ∙ ap (λ truth. line_at truth x) (sym it.truth);
+          search rules;
       dirty_named = sound.dirty_named;
       mirror_true =
           sound.mirror_true

@@ -1,6 +1,6 @@
 -- A group that was armed, and finished or cut: what the device comes to, and what is left to show of a part of a
 -- call that commits one mark.
-use Rattle.std.proofs.Common.{rules, ℕ, ◌≡◌, ◌<◌, ◌≤◌, ◌+◌, ◌++◌, ◌⊎◌, inl, inr, true, false, List, [], ◌∷◌, length, IsTrue, Option, Some, None, refl, sym, ap, ap₂, subst, subst₂, ◌∙◌}
+use Rattle.std.proofs.Common.{rules, ℕ, ◌≡◌, ◌<◌, ◌≤◌, ◌+◌, ◌++◌, ◌⊎◌, true, false, List, [], ◌∷◌, length, IsTrue, Option, Some, ap, ◌∙◌}
 use Rattle.std.specs.Prelude.{IfSome, option_map}
 use Rattle.pmem_base.specs.declared.lines.Line.{Line}
 use Rattle.pmem_base.specs.declared.answers.Mark.{Mark}
@@ -8,7 +8,7 @@ use Rattle.pmem_base.specs.Shape.{Shape}
 use Rattle.pmem_base.specs.Layout as layout
 use Rattle.pmem_base.specs.Lines.{line_at, tag_slot}
 use Rattle.pmem_base.specs.Registers.{IsValidRegs}
-use Rattle.board.specs.Device.{IsDevice, AreToldLines, AreLinesOf}
+use Rattle.board.specs.Device.{IsDevice, AreLinesOf}
 use Rattle.meta_cache.specs.Banks.{Banks, is_cached_dirty}
 use Rattle.commit_regs.specs.Groups.{redone, redone_told}
 use Rattle.suite.specs.Setup.{Setup}

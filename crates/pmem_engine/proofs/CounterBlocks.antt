@@ -1,13 +1,12 @@
 -- What the device keeps of each page's true counter block, by each kind of step and over any lines.
-use Rattle.std.proofs.Common.{rules, ◌≡◌, ◌≢◌, ℕ, ◌*◌, ◌%◌, ◌<◌, List, length, sym, subst, subst₂, ◌∙◌, ◌⊎◌, inl, inr, arith}
+use Rattle.std.proofs.Common.{rules, ◌≡◌, ◌≢◌, ℕ, ◌*◌, ◌%◌, ◌<◌, List, length, sym, subst, ◌∙◌, ◌⊎◌, inl, inr, arith}
 use Rattle.std.proofs.lemmas.Bool.{cases_eq}
 use Rattle.pmem_base.specs.declared.lines.Line.{Line}
 use Rattle.pmem_base.specs.Layout.{data_lines, device_lines, meta_lines, pages}
 use Rattle.pmem_base.specs.Lines.{line_at}
 use Rattle.pmem_base.specs.Marks.{SealOf}
-use Rattle.pmem_base.proofs.Regions.{meta_on_device}
 use Rattle.split_counters.specs.Blocks.{unpacked, IsStoredBlock, IsBumpedBlock, minor_of}
-use Rattle.split_counters.proofs.StoredBlocks.{IsStoredBlock-same, IsStoredBlock-bumped, IsStoredBlock-coarser}
+use Rattle.split_counters.proofs.StoredBlocks.{IsStoredBlock-bumped, IsStoredBlock-coarser}
 use Rattle.bonsai_tree.specs.Positions.{counter_position}
 use Rattle.bonsai_tree.proofs.Levels.{counter_position-lt}
 use Rattle.bonsai_tree.proofs.PathPositions.{other_block_off_path}
@@ -15,7 +14,7 @@ use Rattle.suite.specs.Setup.{Setup}
 use Rattle.pmem_engine.specs.Truth.{true_block}
 use Rattle.pmem_engine.specs.Invariants.{stored_meta, IsCounterStored}
 use Rattle.pmem_engine.specs.Steps.{ChangesPath, sealed_lines, with_true_line}
-use Rattle.pmem_engine.proofs.RegionLemmas.{stored_meta-set_same, stored_meta-set_other, stored_meta-sealed_lines, length-sealed_lines}
+use Rattle.pmem_engine.proofs.RegionLemmas.{stored_meta-set_other, stored_meta-sealed_lines, length-sealed_lines}
 
 -- a counter block that stands true on the device
 pub IsCounterStored-true : (setup : Setup) (lines : List Line) (loss : ℕ) (truth : List Line) (page : ℕ)

@@ -1,25 +1,22 @@
 -- The counter of a line whose page's path is cached.
-use Rattle.std.proofs.Common.{rules}
-use Rattle.std.proofs.Common.{ℕ, ◌≡◌, ◌<◌, true, Some, sym, ap, subst, ◌∙◌, arith}
+use Rattle.std.proofs.Common.{rules, ℕ, ◌≡◌, ◌<◌, true, Some, sym, ap, subst, ◌∙◌, arith}
 use Rattle.std.specs.Prelude.{option_map}
-use Rattle.std.proofs.lemmas.List.Elements.{All-weaker}
 use Rattle.pmem_base.specs.declared.registers.Regs.{Regs}
 use Rattle.pmem_base.specs.Layout as layout
 use Rattle.pmem_base.specs.Layout.{page_of}
-use Rattle.pmem_base.specs.Lines.{line_at}
 use Rattle.pmem_base.specs.Marks.{last_seal}
 use Rattle.split_counters.specs.Blocks.{unpacked}
 use Rattle.page_reencrypt.specs.Registers.{counter_of}
 use Rattle.bonsai_tree.specs.Positions.{counter_position}
 use Rattle.bonsai_tree.proofs.PathPositions.{path_of-block}
 use Rattle.seal_ledger.specs.Ledger.{LedgerState}
-use Rattle.meta_cache.specs.Banks.{set_of, is_cached}
+use Rattle.meta_cache.specs.Banks.{is_cached}
 use Rattle.meta_path.specs.Blocks.{line_in, IsPathCached, AreCachedTrue}
 use Rattle.meta_path.proofs.KeepLaws.{line_in-true}
 use Rattle.suite.specs.Setup.{Setup}
 use Rattle.pmem_engine.specs.Engine.{EngineState}
 use Rattle.pmem_engine.specs.Truth.{true_block}
-use Rattle.pmem_engine.specs.Invariants.{IsTrueSlot, IsTrusted}
+use Rattle.pmem_engine.specs.Invariants.{IsTrusted}
 use Rattle.pmem_engine.specs.Inner.{cached_block}
 
 pub cached_true : (setup : Setup) (engine : EngineState) (regs : Regs) (ledger : LedgerState) → IsTrusted setup engine regs ledger

@@ -1,17 +1,13 @@
 -- A call that ended: its engine is down where it was cut or shown.
-use Rattle.std.proofs.Common.{rules}
-use Rattle.std.proofs.Common.{ℕ, ◌≡◌, inl, inr, Bool, true, false, ◌||◌, not, List, [], Result, Ok, Err, refl, sym, ap, subst, ◌∙◌}
-use Rattle.std.proofs.lemmas.Bool.{false≢true}
+use Rattle.std.proofs.Common.{rules, ℕ, ◌≡◌, Bool, false, ◌||◌, List, [], Result, sym, ap, subst}
 use Rattle.pmem_base.specs.declared.lines.Line.{Line}
 use Rattle.pmem_base.specs.declared.lines.Ctr.{Ctr}
 use Rattle.pmem_base.specs.declared.answers.Mark.{Mark}
-use Rattle.pmem_base.specs.Layout.{page_of}
 use Rattle.suite.specs.Setup.{Setup}
 use Rattle.pmem_engine.specs.declared.fault.Fault.{Fault}
-use Rattle.pmem_engine.specs.declared.fault.Fault.TheVariants as Fail
 use Rattle.pmem_engine.specs.Engine.{EngineState}
 use Rattle.pmem_engine.specs.Parts.{Parts, parts_of}
-use Rattle.pmem_engine.specs.Outcomes.{Outcome, going, cut, shown, is_going, outcome_of, HasGone, HasDone}
+use Rattle.pmem_engine.specs.Outcomes.{Outcome, going, cut, shown, outcome_of, HasGone, HasDone}
 use Rattle.pmem_engine.specs.Faults.{IsFetchedLine, IsMetaRefused, IsClashShown, IsUnsealedLine, IsTagRefused, IsForgedShown}
 use Rattle.pmem_engine.specs.Calls.{IsDownAnswer, AnswersDown, TakesWithin, TakesWithinOfLive, AnswersRead, HasReadLine}
 use Rattle.pmem_engine.specs.Inner.{ended_by, HasReadUnder}
@@ -89,12 +85,7 @@ gone_ended setup shown made old new it =
             tag_slots = (it.places was).tag_slots;
           };
       metadata =
-          λ was.
-          record {
-            true_or_dirty = (it.metadata was).true_or_dirty;
-            changed = (it.metadata was).changed;
-            dirty = (it.metadata was).dirty;
-          };
+          search rules;
     }
 
 pub done_ended : (setup : Setup) (outcome : Outcome) (made : List Mark) (old new : Parts) → HasDone setup outcome made old new
@@ -164,14 +155,7 @@ read_ended setup a old new answer was it =
       unrefused = λ up sound. it.unrefused sound;
       path_cached = it.path_cached;
       of_cached =
-          λ up cached.
-          let seen = it.of_cached cached in
-          record {
-            no_steps = seen.no_steps;
-            no_digests = seen.no_digests;
-            two_reads = seen.two_reads;
-            one_tag = seen.one_tag;
-          };
+          search rules;
       steps_of_path = λ up. within_live_ended (outcome_of answer) (outcome_of answer) _ old new it.steps_of_path;
       steps_of_dirty = λ up. within_live_ended (outcome_of answer) (outcome_of answer) _ old new it.steps_of_dirty;
     }

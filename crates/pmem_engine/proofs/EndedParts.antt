@@ -1,13 +1,10 @@
 -- A call's last act: an engine that was cut or stopped is down.
-use Rattle.std.proofs.Common.{rules}
-use Rattle.std.proofs.Common.{ℕ, ◌≡◌, inl, inr, true, List, refl, sym, ap, subst, ◌∙◌}
-use Rattle.std.specs.Prelude.{IfSome}
+use Rattle.std.proofs.Common.{rules, ℕ, ◌≡◌, inl, inr, true, List, refl, sym, subst, ◌∙◌}
 use Rattle.pmem_base.specs.declared.answers.Mark.{Mark}
 use Rattle.meta_cache.specs.Banks.{is_cached_dirty}
 use Rattle.suite.specs.Setup.{Setup}
 use Rattle.pmem_engine.specs.Engine.{EngineState}
-use Rattle.pmem_engine.specs.Recached.{IsTrueOrDirty}
-use Rattle.pmem_engine.specs.Parts.{Parts, lines_redone, HoldsMeta}
+use Rattle.pmem_engine.specs.Parts.{Parts, HoldsMeta}
 use Rattle.pmem_engine.specs.Outcomes.{Outcome, going, cut, shown, KeepsMeta, HasDone}
 
 -- engines are equal part by part

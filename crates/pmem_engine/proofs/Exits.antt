@@ -1,6 +1,5 @@
 -- What a `?` hands on.
-use Rattle.std.proofs.Common.{rules}
-use Rattle.std.proofs.Common.{◌≡◌, Ok, Err, ap}
+use Rattle.std.proofs.Common.{rules, ◌≡◌, Err}
 use Rattle.std.specs.Prelude.{Result, IsErrAnd}
 
 -- an error of this value

@@ -1,18 +1,15 @@
 -- The ends of a fetch: its path is cached, or it was cut, refused or stopped.
-use Rattle.std.proofs.Common.{rules}
-use Rattle.std.proofs.Common.{ℕ, zero, suc, ◌≡◌, ◌≢◌, ◌<◌, ◌≤◌, ◌+◌, ◌⊎◌, inl, inr, true, false, List, [], length, Option, Some, None, refl, sym, ap, subst, subst₂, ◌∙◌, arith}
+use Rattle.std.proofs.Common.{rules, ℕ, zero, suc, ◌≡◌, ◌≢◌, ◌<◌, ◌≤◌, ◌+◌, ◌⊎◌, inl, inr, true, false, List, [], length, Option, Some, None, refl, sym, ap, subst, subst₂, ◌∙◌, arith}
 use Rattle.std.specs.Prelude.{MatchOption, option_map, is_some, ◌==◌}
 use Rattle.std.specs.List.{Contains, list_any}
 use Rattle.std.proofs.lemmas.Bool.{true≢false, cases_Bool, eq-eqb}
 use Rattle.std.proofs.lemmas.Option.{same_Some}
-use Rattle.std.proofs.lemmas.List.{append-nil}
 use Rattle.std.proofs.lemmas.List.Folds.{list_any_at}
 use Rattle.pmem_base.specs.declared.lines.Line.{Line}
 use Rattle.pmem_base.specs.Counts.{HasRisen}
 use Rattle.pmem_base.specs.Layout as layout
 use Rattle.pmem_base.specs.Lines.{line_at}
 use Rattle.pmem_base.specs.Marks.{IsFresh}
-use Rattle.pmem_base.specs.Registers.{IsValidRegs}
 use Rattle.bonsai_tree.specs.Positions.{level_of}
 use Rattle.board.specs.Device.{Device, IsDevice, AreLinesOf}
 use Rattle.board.specs.Steps.{Tells}
@@ -28,7 +25,7 @@ use Rattle.pmem_engine.specs.Engine.{EngineState}
 use Rattle.pmem_engine.specs.Invariants.{IsAnchored, IsTrusted, IsDurable, IsSound, stored_meta}
 use Rattle.pmem_engine.specs.Parts.{Parts, parts_of, AreTrusted, AreSound, HoldsCounters}
 use Rattle.pmem_engine.specs.Outcomes.{Outcome, going, cut, shown, NeverFalls, HasPower, HasSmallGroup, LeavesTrusted, LeavesSound, KeepsPlaces, KeepsMetaWhere, HasGone, HasDone, TakesAtMost, TakesFewer}
-use Rattle.pmem_engine.proofs.Told.{told_surely, whole_lines}
+use Rattle.pmem_engine.proofs.Told.{told_surely}
 use Rattle.pmem_engine.proofs.Fetched.{trusted_after, sound_lines, places, counters, metadata, meta_same_or_true, own_slot}
 
 -- ---- counts

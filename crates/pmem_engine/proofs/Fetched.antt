@@ -1,10 +1,8 @@
 -- A fetch of a page's path, whatever the device holds: what it keeps of the chip and of the device.
-use Rattle.std.proofs.Common.{rules}
-use Rattle.std.proofs.Common.{ℕ, ◌≡◌, ◌≢◌, ◌<◌, ◌⊎◌, inl, inr, true, List, [], length, Option, Some, None, refl, sym, ap, subst, subst₂, ◌∙◌, arith}
+use Rattle.std.proofs.Common.{rules, ℕ, ◌≡◌, ◌≢◌, ◌<◌, ◌⊎◌, inl, inr, true, List, [], length, Option, Some, None, refl, sym, ap, subst, subst₂, ◌∙◌, arith}
 use Rattle.std.specs.Prelude.{IfSome, option_map, is_some}
 use Rattle.std.specs.List.{Contains}
 use Rattle.std.proofs.lemmas.Bool.{true≢false, false≢true, cases_Bool}
-use Rattle.std.proofs.lemmas.Option.{same_Some}
 use Rattle.pmem_base.specs.declared.lines.Line.{Line}
 use Rattle.pmem_base.specs.Layout as layout
 use Rattle.pmem_base.specs.Lines.{line_at, tag_slot}
@@ -15,8 +13,7 @@ use Rattle.seal_ledger.specs.Ledger.{LedgerState}
 use Rattle.meta_cache.specs.declared.slot.Slot.{Slot}
 use Rattle.meta_cache.specs.Banks.{set_of, set_index, is_cached_dirty}
 use Rattle.meta_cache.specs.KeptSlots.{IsFromBefore}
-use Rattle.meta_cache.proofs.SlotLemmas.{All-stands, dirty_slot, is_cached_dirty_from}
-use Rattle.meta_path.specs.Blocks.{IsOfItsBank}
+use Rattle.meta_cache.proofs.SlotLemmas.{dirty_slot, is_cached_dirty_from}
 use Rattle.meta_path.specs.Keeping.{KeepsBlocks, HasGivenWay, WasWrittenBack}
 use Rattle.meta_path.specs.Keeping as path
 use Rattle.suite.specs.Setup.{Setup}
@@ -25,7 +22,7 @@ use Rattle.pmem_engine.specs.Invariants.{IsTrueSlot, IsTrusted, IsSound, IsSealS
 use Rattle.pmem_engine.specs.Recached.{IsRecached, HasComeIn, IsTrueOrDirty, WasCleaned}
 use Rattle.pmem_engine.specs.Parts.{Parts, parts_of, lines_redone, meta_line_in, HoldsCounters, HoldsMeta}
 use Rattle.pmem_engine.specs.Outcomes.{KeepsPlaces, KeepsMeta}
-use Rattle.pmem_engine.proofs.Told.{told_cases, told_same, unarmed}
+use Rattle.pmem_engine.proofs.Told.{unarmed}
 use Rattle.pmem_engine.proofs.CounterBlocks.{IsCounterStored-same, IsCounterStored-true}
 use Rattle.pmem_engine.proofs.GroupLaws.{IsMendable-unarmed, IsDurable-unarmed}
 use Rattle.pmem_engine.proofs.CacheLaws.{IsTrusted-recached, IsSound-recached}
@@ -231,10 +228,7 @@ module _ (setup : Setup) (page : ℕ) (old new : EngineState) (ledger : LedgerSt
                 | inr sealed ↦ absurd (true≢false (sym sealed))
               ];
           data_lines =
-              λ a within unsealed.
-              same_view (λ lines. line_at lines a)
-              (λ lines lines_now told told_now.
-              same_unless_meta lines lines_now told told_now a (λ x here e. omega (arith, within, e)));
+              search rules;
           tag_slots =
               λ a within unsealed.
               same_view (λ lines. tag_slot (line_at lines (layout.tag_line setup.shape a)) a)

@@ -1,6 +1,6 @@
 -- A formatted device is anchored.
-use Rattle.std.proofs.Common.{ℕ, zero, suc, ◌≡◌, ◌≢◌, ◌<◌, ◌≤◌, ◌+◌, cond, List, [], ◌∷◌, map, Some, None, inl, inr, refl, sym, ap, subst, ◌∙◌, arith}
-use Rattle.std.specs.List.{All, AllPairs, range_with_len}
+use Rattle.std.proofs.Common.{rules, ℕ, zero, suc, ◌≡◌, ◌≢◌, ◌<◌, ◌≤◌, ◌+◌, cond, List, [], ◌∷◌, map, Some, None, inl, inr, refl, sym, ap, subst, ◌∙◌, arith}
+use Rattle.std.specs.List.{All, range_with_len}
 use Rattle.std.specs.Option.{option_map}
 use Rattle.std.proofs.lemmas.Bool.{cases_eq, eq-eqb, ne_eqb}
 use Rattle.std.proofs.lemmas.List.FromFn.{length-range_with_len, get_or-range_with_len}
@@ -11,7 +11,6 @@ use Rattle.pmem_base.specs.Shape.{Shape, IsShape}
 use Rattle.pmem_base.specs.Layout.{data_lines, pages, page_of, index_in_page}
 use Rattle.pmem_base.specs.Lines.{IsCtr, zero_line}
 use Rattle.pmem_base.specs.Marks.{SealOf, seal_of, later_of, last_seal, IsAfter, IsFresh}
-use Rattle.pmem_base.specs.Registers.{IsProgress}
 use Rattle.pmem_base.proofs.LineLemmas.{IsLine-zero_line}
 use Rattle.suite.specs.Formulas.{AreInRange, cipher_of}
 use Rattle.suite.proofs.CipherLemmas.{cipher_of-IsLine}
@@ -127,12 +126,7 @@ module _ (setup : Setup) where
             (All-map (IsSealTagged setup.formulas) (first_seal setup) (range_with_len 0 (data_lines geometry))
             (range-All (λ a. IsSealTagged setup.formulas (first_seal setup a)) 0 (data_lines geometry) (λ a from below. refl)));
         valid_regs =
-            record {
-              group = it.group;
-              each_page = subst (λ ps. All (IsProgress geometry) ps) (sym it.progress) (All-nil (IsProgress geometry));
-              distinct_pages = subst (λ ps. AllPairs (λ x y. x.page ≢ y.page) ps) (sym it.progress) (λ i j d before inside. absurd (omega (arith, inside)));
-              known_loss = it.loss;
-            };
+            search rules;
         held_back = subst (λ ps. All (IsHeldBack geometry ledger.truth) ps) (sym it.progress) (All-nil (IsHeldBack geometry ledger.truth));
         fresh = subst IsFresh (sym it.marks) (fresh_range 0 (data_lines geometry));
         open_pages =

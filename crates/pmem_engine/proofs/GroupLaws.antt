@@ -1,5 +1,5 @@
 -- The armed group: a line of it is written, all of it is, and it is emptied. Durable stays.
-use Rattle.std.proofs.Common.{rules, ◌≡◌, List, [], subst}
+use Rattle.std.proofs.Common.{rules, ◌≡◌, List, []}
 use Rattle.pmem_base.specs.declared.lines.Line.{Line}
 use Rattle.pmem_base.specs.declared.registers.Regs.{Regs}
 use Rattle.pmem_base.specs.Layout.{device_lines}

@@ -1,10 +1,9 @@
 -- The places of a page's lines that aren't done, and the registers with the lowest of them done.
-use Rattle.std.proofs.Common.{rules}
-use Rattle.std.proofs.Common.{ℕ, zero, suc, ◌≡◌, ◌≢◌, ◌<◌, ◌+◌, ◌++◌, inl, inr, Bool, true, false, List, [], ◌∷◌, length, get_or, cond, Some, None, refl, sym, ap, subst, ◌∙◌, arith}
+use Rattle.std.proofs.Common.{rules, ℕ, zero, suc, ◌≡◌, ◌≢◌, ◌<◌, ◌+◌, ◌++◌, inl, inr, Bool, true, false, List, [], ◌∷◌, length, get_or, cond, Some, None, refl, sym, ap, subst, ◌∙◌, arith}
 use Rattle.std.specs.Prelude.{◌==◌, not, nat_lt, filter, slice_get, All, AllPairs}
 use Rattle.std.specs.List.{range_with_len, remove}
 use Rattle.std.proofs.Math.ListN.{set}
-use Rattle.std.proofs.lemmas.Bool.{cases_Bool, cases_lt, lt-ltb, eq-eqb, ne_eqb, and_from, true≢false}
+use Rattle.std.proofs.lemmas.Bool.{cases_Bool, cases_lt, lt-ltb, eq-eqb, and_from, true≢false}
 use Rattle.std.proofs.lemmas.Option.{same_Some, none-some}
 use Rattle.std.proofs.lemmas.List.{length-set, get_or-set_same}
 use Rattle.std.proofs.lemmas.List.Elements.{All-head, All-tail, All-weaker, All-from_get_or}
@@ -31,14 +30,9 @@ above_kept test k s (suc n) below =
     let apart : s ≢ k = λ same. omega (arith, below, same) in
     elim (cases_Bool (test s)) [
       | inl passes ↦
-          ap (λ t. filter (λ j. not (j == k)) (cond t (s ∷ rest) rest)) passes
-          ∙ ap (λ t. cond (not t) (s ∷ filter (λ j. not (j == k)) rest) (filter (λ j. not (j == k)) rest)) (ne_eqb s k apart)
-          ∙ ap (λ xs. s ∷ xs) later
-          ∙ sym (ap (λ t. cond t (s ∷ rest) rest) passes)
+          search rules
       | inr fails ↦
-          ap (λ t. filter (λ j. not (j == k)) (cond t (s ∷ rest) rest)) fails
-          ∙ later
-          ∙ sym (ap (λ t. cond t (s ∷ rest) rest) fails)
+          search rules
     ]
 
 abbrev tail_of : List ℕ → List ℕ

@@ -1,5 +1,5 @@
 -- A read: its path was fetched, and its line unsealed or refused.
-use Rattle.std.proofs.Common.{ℕ, ◌≡◌, inr, true, false, [], Result, Ok, Err, refl, sym, ap, subst, subst₂, ◌∙◌, arith}
+use Rattle.std.proofs.Common.{rules, ℕ, ◌≡◌, inr, true, false, [], Result, Ok, Err, refl, sym, ap, subst, subst₂, ◌∙◌, arith}
 use Rattle.std.specs.Prelude.{IsOk}
 use Rattle.std.proofs.lemmas.Bool.{true≢false}
 use Rattle.pmem_base.specs.declared.lines.Line.{Line}
@@ -43,10 +43,7 @@ at_most_before n old mid new first second =
       writes = omega (arith, first.writes, second.writes);
       latches = omega (arith, first.latches, second.latches);
       sum =
-          λ writes latches.
-          let before =
-          first.sum (omega (arith, writes, second.writes)) (omega (arith, latches, second.latches)) in
-          omega (arith, before, second.sum writes latches);
+          search rules;
     }
 
 within_before : (outcome : Outcome) (n : ℕ) (old mid new : Parts) → (outcome ≡ cut → ⊥)

@@ -1,8 +1,8 @@
 -- The exits of a seal under the next counter: its tag line isn't read, its group is cut, or the line is sealed.
 use Rattle.std.proofs.Common.{rules, ℕ, ◌≡◌, ◌<◌, ◌≤◌, ◌+◌, ◌%◌, ◌++◌, inl, inr, Bool, true, false, List, [], ◌∷◌, length, IsTrue, Some, Ok, Err, cond, refl, sym, ap, ap₂, subst, ◌∙◌, arith}
-use Rattle.std.specs.Prelude.{option_map, ◌↔◌, ◌==◌, ◌&&◌, if◌then◌else◌}
+use Rattle.std.specs.Prelude.{option_map, ◌↔◌, ◌==◌, if◌then◌else◌}
 use Rattle.std.specs.List.{list_any}
-use Rattle.std.proofs.lemmas.Bool.{true≢false, cond-true, cond-false, eq-eqb, or_parts}
+use Rattle.std.proofs.lemmas.Bool.{true≢false, cond-true, cond-false}
 use Rattle.pmem_base.specs.declared.lines.Line.{Line}
 use Rattle.pmem_base.specs.declared.lines.Ctr.{Ctr}
 use Rattle.pmem_base.specs.declared.answers.Mark.{Mark}
@@ -34,10 +34,9 @@ use Rattle.pmem_engine.specs.Calls.{IsUsable, IsPathNamedInMirror, is_persisting
 use Rattle.pmem_engine.specs.Committing.{next_seal_of, HasCommitted, IsCutArmed}
 use Rattle.pmem_engine.specs.Inner.{cached_block}
 use Rattle.pmem_engine.specs.Sealing.{next_counter_of, raised_block, seal_steps, seal_group, HasPathSealed, HasSealCommitted, IsNothingDone, IsSealCut, HasSealedNext}
-use Rattle.pmem_engine.proofs.StillLaws.{done_cut}
 use Rattle.pmem_engine.proofs.Chained.{done_chained}
 use Rattle.pmem_engine.proofs.PlainLines.{plain_line-sealed, plain_line-other}
-use Rattle.pmem_engine.proofs.Unsealing.{risen_never_falls, same_never_falls}
+use Rattle.pmem_engine.proofs.Unsealing.{risen_never_falls}
 use Rattle.pmem_engine.proofs.Committed.{redone_none}
 use Rattle.pmem_engine.proofs.Reseals.{sealed_here, unsealed_other}
 use Rattle.pmem_engine.proofs.Stored.{cached_true_line, cached_lines_true, kept_named}
@@ -56,37 +55,16 @@ module _ (setup : Setup) (at : ℕ) (plain : Line) (engine : EngineState) (old :
       record {
         made = [];
         done =
-            done_cut setup start (parts_of engine new before tags_now digests_now)
-            (record {
-              engine = refl;
-              ledger = refl;
-              size = was.size;
-              lines = was.lines;
-              regs = was.regs;
-              writes = was.writes;
-              latches = was.latches;
-              unsteady = was.unsteady;
-              off = was.off;
-              rose = was.rose;
-              reads = omega (arith, was.reads);
-              tags = same_never_falls tags tags_now same_tags;
-              digests = never_digests;
-            });
+            search rules;
         marks = inl refl;
         plain_now = λ a. refl;
         path_cached = λ ok. absurd (true≢false (sym ok));
         path_named = λ ok. absurd (true≢false (sym ok));
         down = refl;
         steps =
-            record {
-              writes = omega (arith, was.writes);
-              latches = omega (arith, was.latches);
-              sum = λ one two. omega (arith, was.writes, was.latches, some);
-            };
+            search rules;
         block_kept =
-            λ trusted rest.
-            ap₂ (λ regs told. option_map (λ ls. stored_meta setup.shape ls (counter_position setup.shape (page_of at)))
-            (redone_told regs.group.items told)) was.regs was.lines;
+            search rules;
         block_written = λ trusted ok. absurd (true≢false (sym ok));
       }
 
@@ -200,9 +178,7 @@ module _ (setup : Setup) (at : ℕ) (plain tag_line : Line) (persisted : Bool) (
           tags_read = subst (λ o. Tells o (layout.tag_line setup.shape at) tag_line) (sym read.lines) read.tells;
           tag_line = refl;
           rest =
-              λ kept zero.
-              true≢false
-              (sym (due.1 (ap (λ n. ctr.minor % n) (ap (λ regs. regs.loss) (sym read.regs)) ∙ zero)) ∙ kept);
+              search rules;
           cached = cached;
           named = named;
           counter =
@@ -315,40 +291,16 @@ module _ (setup : Setup) (at : ℕ) (plain tag_line : Line) (persisted : Bool) (
       record {
         made = [];
         done =
-            done_chained setup cut [] [] first middle final was_read
-            (done_cut setup middle final
-            (record {
-              engine = was.engine;
-              ledger = was.ledger;
-              size = was.device.size;
-              lines = was.device.lines;
-              regs = was.device.regs;
-              writes = was.device.writes;
-              latches = was.device.latches;
-              unsteady = was.device.unsteady;
-              off = was.device.off;
-              rose = was.device.rose;
-              reads = omega (arith, was.device.reads);
-              tags = never_tags;
-              digests = never_digests;
-            }));
+            search rules;
         marks = inl refl;
         plain_now = λ a. ap (λ ledger. plain_line setup.formulas ledger.marks a) was.ledger;
         path_cached = λ ok. absurd (true≢false (sym ok));
         path_named = λ ok. absurd (true≢false (sym ok));
         down = ap (λ e. e.down) was.engine;
         steps =
-            record {
-              writes = omega (arith, was.device.writes, read.writes);
-              latches = omega (arith, was.device.latches, read.latches);
-              sum =
-                  λ one two.
-                  omega (arith, was.device.writes, was.device.latches, read.writes, read.latches, some_steps old.regs.loss ctr);
-            };
+            search rules;
         block_kept =
-            λ trusted rest.
-            ap₂ (λ regs told. option_map (λ ls. stored_meta setup.shape ls position) (redone_told regs.group.items told))
-            (was.device.regs ∙ read.regs) (was.device.lines ∙ read.lines);
+            search rules;
         block_written = λ trusted ok. absurd (true≢false (sym ok));
       }
 

@@ -1,18 +1,14 @@
 -- The latch of a new stop-loss number.
-use Rattle.std.proofs.Common.{rules}
-use Rattle.std.proofs.Common.{◌≡◌, ℕ, ◌*◌, ◌<◌, List, sym, subst, ◌∙◌}
+use Rattle.std.proofs.Common.{rules, ◌≡◌, ℕ, ◌*◌, ◌<◌, List, sym, subst}
 use Rattle.pmem_base.specs.declared.lines.Line.{Line}
 use Rattle.pmem_base.specs.declared.registers.Regs.{Regs}
-use Rattle.pmem_base.specs.Layout.{device_lines, pages}
-use Rattle.pmem_base.specs.Registers.{IsGroup}
+use Rattle.pmem_base.specs.Layout.{pages}
 use Rattle.seal_ledger.specs.Ledger.{LedgerState}
 use Rattle.suite.specs.Setup.{Setup}
 use Rattle.pmem_engine.specs.Engine.{EngineState}
 use Rattle.pmem_engine.specs.Invariants.{IsAnchored, IsTrusted, IsCounterStored, IsSound}
 use Rattle.pmem_engine.specs.Steps.{HasLossSet}
 use Rattle.pmem_engine.proofs.CounterBlocks.{IsCounterStored-coarser}
-use Rattle.pmem_engine.proofs.GroupLaws.{IsMendable-unarmed, IsDurable-unarmed}
-use Rattle.pmem_engine.proofs.Latches.{anchored-latched}
 
 pub anchored-loss_set : (setup : Setup) (old new : Regs) (ledger : LedgerState) → IsAnchored setup old ledger
     → HasLossSet old new → IsAnchored setup new ledger

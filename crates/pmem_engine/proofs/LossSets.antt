@@ -1,5 +1,5 @@
 -- The stop-loss number is changed: what the call keeps, and what its answers say.
-use Rattle.std.proofs.Common.{ℕ, ◌≡◌, ◌≢◌, ◌<◌, ◌≤◌, ◌+◌, ◌*◌, ◌⊎◌, inl, inr, Bool, true, false, List, [], Option, Some, None, Result, Ok, Err, refl, sym, ap, ap₂, subst, subst₂, ◌∙◌, arith}
+use Rattle.std.proofs.Common.{rules, ℕ, ◌≡◌, ◌≢◌, ◌<◌, ◌≤◌, ◌+◌, ◌*◌, ◌⊎◌, inl, inr, Bool, true, false, List, [], Option, Some, None, Result, Ok, Err, refl, sym, ap, ap₂, subst, subst₂, ◌∙◌, arith}
 use Rattle.std.specs.Prelude.{IfSome, MatchBool, option_map, is_some, nat_lt, ◌==◌, IsTrue}
 use Rattle.std.proofs.lemmas.Bool.{true≢false, cases_Bool, cases_lt, ltb-true, lt-ltb, eq-eqb, ne_eqb}
 use Rattle.std.proofs.lemmas.List.{append-nil}
@@ -7,9 +7,7 @@ use Rattle.std.proofs.lemmas.Option.{same_Some}
 use Rattle.pmem_base.specs.declared.lines.Line.{Line}
 use Rattle.pmem_base.specs.Shape.{is_loss}
 use Rattle.pmem_base.specs.Layout as layout
-use Rattle.pmem_base.specs.Layout.{device_lines}
 use Rattle.pmem_base.specs.Lines.{line_at, tag_slot}
-use Rattle.pmem_base.specs.Registers.{IsGroup, IsValidRegs}
 use Rattle.bonsai_tree.specs.Positions.{level_of, counter_position}
 use Rattle.bonsai_tree.proofs.Levels.{counter_position-lt}
 use Rattle.bonsai_tree.proofs.PathPositions.{path_of-block, path_of-level}
@@ -24,7 +22,7 @@ use Rattle.suite.specs.Setup.{Setup}
 use Rattle.pmem_engine.specs.declared.fault.Fault.{Fault}
 use Rattle.pmem_engine.specs.declared.fault.Fault.TheVariants as Fail
 use Rattle.pmem_engine.specs.Engine.{EngineState}
-use Rattle.pmem_engine.specs.Invariants.{IsSound, IsSealStored, IsCounterStored, stored_meta}
+use Rattle.pmem_engine.specs.Invariants.{IsSound, IsCounterStored, stored_meta}
 use Rattle.pmem_engine.specs.Steps.{HasLossSet}
 use Rattle.pmem_engine.specs.Recached.{IsTrueOrDirty}
 use Rattle.pmem_engine.specs.Parts.{Parts, parts_of, AreTrusted, AreSound, HoldsCounters, HoldsMeta, lines_redone}
@@ -139,11 +137,7 @@ module _ (setup : Setup) (n : ℕ) (engine : EngineState) (mid after : Device) (
   places =
       record {
         seals =
-            λ a within held.
-            elim held [
-              | inl stored ↦ subst (λ o. IfSome o (λ lines. IsSealStored setup.shape lines ledger.marks a)) (sym redone_same) stored
-              | inr made ↦ absurd (true≢false (sym made))
-            ];
+            search rules;
         data_lines = λ a within unsealed. ap (option_map (λ lines. line_at lines a)) redone_same;
         tag_slots =
             λ a within unsealed.
@@ -167,14 +161,7 @@ module _ (setup : Setup) (n : ℕ) (engine : EngineState) (mid after : Device) (
         size = it.size;
         told = ap is_some it.lines;
         valid =
-            λ was.
-            subst (λ regs. IsValidRegs setup.shape regs) (sym it.regs)
-            (record {
-              group = subst (λ items. IsGroup (device_lines setup.shape) items) no_group was.group;
-              each_page = was.each_page;
-              distinct_pages = was.distinct_pages;
-              known_loss = known;
-            });
+            search rules;
         group = λ uncut. same_group;
         small_group = λ none. tt;
         power = (it.steady, it.live, it.cuts);
@@ -317,10 +304,7 @@ module _ (setup : Setup) (n : ℕ) (old new : EngineState) (before after : Devic
         writes = omega (arith, written.writes.never_falls, latched.writes);
         latches = omega (arith, written.latches, latched.latches.never_falls);
         sum =
-            λ writes latches.
-            let in_mid : mid.writes ≡ before.writes + count = written.writes.exact (omega (arith, writes, latched.writes)) in
-            let last : after.latches ≡ mid.latches + 1 = latched.latches.exact latches in
-            omega (arith, in_mid, last, latched.writes, written.latches);
+            search rules;
       }
 
   takes_fewer : (count more : ℕ) (mid : Device) → HasWrittenBlocks count old new before mid → WasCut mid after → count < more
@@ -330,9 +314,7 @@ module _ (setup : Setup) (n : ℕ) (old new : EngineState) (before after : Devic
         writes = omega (arith, written.writes.never_falls, was_cut.writes);
         latches = omega (arith, written.latches, was_cut.latches);
         sum =
-            λ writes latches.
-            let in_mid : mid.writes ≡ before.writes + count = written.writes.exact (omega (arith, writes, was_cut.writes)) in
-            omega (arith, in_mid, was_cut.writes, was_cut.latches, written.latches, less);
+            search rules;
       }
 
   latched_steps : (steps : ℕ) → n ≢ before.regs.loss → IsLossLatched n steps old new before after

@@ -1,6 +1,6 @@
 -- Laws of a device that can be mended: what redoing the group gives, and which line writes keep it.
 use Rattle.std.proofs.lemmas.Grind.{common_steps}
-use Rattle.std.proofs.Common.{rules, ℕ, ◌≡◌, ◌<◌, ◌≤◌, ◌+◌, ◌-◌, ◌*◌, false, Some, List, [], length, take, drop, replicate, All, ap, sym, ◌∙◌, subst, inl, inr, ◌⊎◌, IsTrue, arith}
+use Rattle.std.proofs.Common.{rules, ℕ, ◌≡◌, ◌<◌, ◌≤◌, ◌+◌, ◌-◌, ◌*◌, false, List, [], length, take, drop, replicate, All, ap, sym, ◌∙◌, subst, inl, inr, ◌⊎◌, IsTrue, arith}
 use Rattle.std.proofs.lemmas.Bool.{cases_lt}
 use Rattle.std.proofs.lemmas.List.{get_or-drop, length-take, length-drop, length-replicate, get_or-replicate, ext_get_or}
 use Rattle.pmem_base.specs.declared.lines.Line.{Line}
@@ -9,20 +9,17 @@ use Rattle.pmem_base.specs.Shape.{Shape}
 use Rattle.pmem_base.specs.Registers.{IsValidRegs}
 use Rattle.pmem_base.specs.declared.answers.Mark.{Mark}
 use Rattle.pmem_base.specs.Layout as layout
-use Rattle.pmem_base.specs.Lines.{IsLine, line_at, zero_line, tag_slot}
-use Rattle.split_counters.specs.Blocks.{IsStoredBlock, unpacked}
-use Rattle.split_counters.proofs.StoredBlocks.{IsStoredBlock-same}
+use Rattle.pmem_base.specs.Lines.{IsLine, line_at, zero_line}
 use Rattle.bonsai_tree.specs.Positions.{level_of, counter_position}
 use Rattle.bonsai_tree.proofs.Levels.{counter_position-lt}
 use Rattle.pmem_base.proofs.LineSets.{length-put_lines, put_lines-AreLines}
 use Rattle.board.specs.Device.{AreLinesOf}
 use Rattle.commit_regs.specs.Groups.{redone}
 use Rattle.seal_ledger.specs.Ledger.{LedgerState}
-use Rattle.shadow_tables.specs.Entries.{is_named_in, shadow_of}
+use Rattle.shadow_tables.specs.Entries.{shadow_of}
 use Rattle.shadow_tables.proofs.EntryLaws.{AreAllZero, is_named_in-zero}
 use Rattle.suite.specs.Setup.{Setup}
 use Rattle.pmem_engine.specs.Engine.{EngineState}
-use Rattle.pmem_engine.specs.Truth.{true_block}
 use Rattle.pmem_engine.specs.Invariants.{IsAnchored, IsSealStored, IsCounterStored, IsMendable, IsDurable, IsSound, stored_meta, is_named}
 use Rattle.pmem_engine.specs.Mendable.{IsAllTrue, IsShadowZero}
 use Rattle.pmem_engine.specs.Steps.{IsEmptied}

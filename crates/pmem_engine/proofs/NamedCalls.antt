@@ -2,7 +2,6 @@
 use Rattle.std.proofs.Common.{rules, ℕ, ◌≡◌, ◌<◌, ◌≤◌, ◌+◌, ◌⊎◌, inl, inr, true, false, List, [], length, Some, Ok, Err, refl, sym, ap, ap₂, subst, ◌∙◌, arith}
 use Rattle.std.specs.Prelude.{MatchOption, IfSome, option_map, is_some, is_ok, Result}
 use Rattle.std.proofs.lemmas.Bool.{true≢false}
-use Rattle.std.proofs.lemmas.Option.{same_Some}
 use Rattle.pmem_base.specs.declared.lines.Line.{Line}
 use Rattle.pmem_base.specs.Counts.{HasRisen}
 use Rattle.pmem_base.specs.Layout as layout
@@ -22,15 +21,14 @@ use Rattle.suite.specs.Setup.{Setup}
 use Rattle.pmem_engine.specs.declared.fault.Fault.{Fault}
 use Rattle.pmem_engine.specs.declared.fault.Fault.TheVariants as Fail
 use Rattle.pmem_engine.specs.Engine.{EngineState}
-use Rattle.pmem_engine.specs.Invariants.{IsTrusted, IsSound, IsDurable, IsSealStored, IsCounterStored, stored_meta}
+use Rattle.pmem_engine.specs.Invariants.{IsSound, IsDurable, IsSealStored, IsCounterStored, stored_meta}
 use Rattle.pmem_engine.specs.Recached.{IsTrueOrDirty}
 use Rattle.pmem_engine.specs.Parts.{Parts, parts_of, AreTrusted, AreSound, HoldsCounters, lines_redone, meta_line_in}
 use Rattle.pmem_engine.specs.Outcomes.{Outcome, going, cut, is_going, outcome_of, KeepsPlaces, KeepsMeta, HasGone, HasDone, HasPower, HasSmallGroup, LeavesTrusted, LeavesSound, KeepsMetaWhere}
 use Rattle.pmem_engine.specs.Inner.{HasNamedPath}
-use Rattle.pmem_engine.proofs.Told.{told_surely, told_redone, unarmed}
+use Rattle.pmem_engine.proofs.Told.{told_redone, unarmed}
 use Rattle.pmem_engine.proofs.CounterBlocks.{IsCounterStored-same}
 use Rattle.pmem_engine.proofs.RegionLemmas.{IsSealStored-kept}
-use Rattle.pmem_engine.proofs.NameLaws.{IsTrusted-same_cache}
 use Rattle.pmem_engine.proofs.PathNames.{IsMirror, meta_kept, place_kept, none_written, sound_at}
 
 -- the first n blocks of the path were named on the board; the engine's copy may be one ahead

@@ -1,8 +1,5 @@
 -- What a page's next block and its path come to.
-use Rattle.std.proofs.Common.{rules}
-use Rattle.std.proofs.Common.{ℕ, zero, suc, ◌≡◌, ◌-◌, ◌^◌, ◌==◌, Bool, true, false, Some, None, refl, sym, ◌∙◌, arith}
-use Rattle.std.proofs.lemmas.Bool.{cond-true, cond-false}
-use Rattle.std.proofs.lemmas.Option.{none-some, same_Some}
+use Rattle.std.proofs.Common.{rules, ℕ, zero, suc, ◌≡◌, ◌-◌, ◌^◌, ◌==◌, Bool, Some, refl, arith}
 use Rattle.split_counters.specs.declared.Block.{Block}
 use Rattle.split_counters.specs.Blocks.{rolled, next_block}
 use Rattle.meta_path.specs.Work.{risen_times}

@@ -1,5 +1,5 @@
 -- The exits of a page's begin: cut before its group was armed, or while it was, or done.
-use Rattle.std.proofs.Common.{ℕ, ◌≡◌, ◌<◌, ◌≤◌, ◌+◌, ◌-◌, ◌^◌, inl, inr, true, false, List, [], ◌∷◌, length, None, Ok, Err, refl, sym, ap, ap₂, subst, ◌∙◌, arith}
+use Rattle.std.proofs.Common.{rules, ℕ, ◌≡◌, ◌<◌, ◌≤◌, ◌+◌, ◌-◌, ◌^◌, inl, inr, true, false, List, [], ◌∷◌, length, None, Ok, Err, refl, sym, ap, ap₂, subst, ◌∙◌, arith}
 use Rattle.std.specs.Prelude.{option_map}
 use Rattle.std.proofs.lemmas.Bool.{true≢false}
 use Rattle.pmem_base.specs.declared.lines.Line.{Line}
@@ -31,7 +31,6 @@ use Rattle.pmem_engine.specs.Calls.{IsUsable, IsPathNamedInMirror}
 use Rattle.pmem_engine.specs.Committing.{HasCommitted, IsCutArmed}
 use Rattle.pmem_engine.specs.Inner.{cached_block}
 use Rattle.pmem_engine.specs.Sealing.{begin_group, HasPageBegun, HasBeginCommitted, IsNothingDone, IsBeginCut, HasBegunPage}
-use Rattle.pmem_engine.proofs.StillLaws.{done_cut}
 use Rattle.pmem_engine.proofs.Stored.{cached_true_line, cached_lines_true, kept_named}
 use Rattle.pmem_engine.proofs.PathBegins.{IsBeginning, done_begun, cut_begun, begun_line, begun_clean, begun_block}
 use Rattle.pmem_engine.proofs.Committed.{redone_none}
@@ -77,35 +76,14 @@ module _ (setup : Setup) (page : ℕ) (engine engine_now : EngineState) (old new
       record {
         made = [];
         done =
-            done_cut setup start final
-            (record {
-              engine = was.engine;
-              ledger = was.ledger;
-              size = was.device.size;
-              lines = was.device.lines;
-              regs = was.device.regs;
-              writes = was.device.writes;
-              latches = was.device.latches;
-              unsteady = was.device.unsteady;
-              off = was.device.off;
-              rose = was.device.rose;
-              reads = omega (arith, was.device.reads);
-              tags = never_tags;
-              digests = never_digests;
-            });
+            search rules;
         marks = inl refl;
         opened = λ ok. absurd (true≢false (sym ok));
         block_kept =
-            λ none.
-            ap₂ (λ regs told. option_map (λ ls. stored_meta setup.shape ls (counter_position setup.shape page))
-            (redone_told regs.group.items told)) was.device.regs was.device.lines;
+            search rules;
         down = ap (λ e. e.down) was.engine;
         steps =
-            record {
-              writes = omega (arith, was.device.writes);
-              latches = omega (arith, was.device.latches);
-              sum = λ one two. omega (arith, was.device.writes, was.device.latches);
-            };
+            search rules;
         reads = was.device.reads;
         tags = same_tags;
       }

@@ -415,12 +415,7 @@ module _ (setup : Setup) (n number : ℕ) (old mid new : Parts) (valid : IsValid
         writes = let one = first.steps.writes in let two = counts.writes in omega (arith, one, two);
         latches = let one = first.steps.latches in let two = counts.latches in omega (arith, one, two);
         sum =
-            λ writes latches.
-            let one = counts.sum writes latches in
-            let two =
-            first.steps.sum (let w = counts.writes in omega (arith, writes, w))
-            (let l = counts.latches in omega (arith, latches, l)) in
-            omega (arith, one, two, some);
+            search rules;
       }
   counts_so (Fail.Tag b) trusted memory was none counts = steps_so trusted memory was none counts
   counts_so Fail.Shown trusted memory was none counts = steps_so trusted memory was none counts

@@ -1,5 +1,5 @@
 -- A page begun with its new path: its group armed, and finished or cut.
-use Rattle.std.proofs.Common.{ℕ, ◌≡◌, ◌≢◌, ◌<◌, ◌≤◌, ◌-◌, ◌^◌, ◌++◌, ◌⊎◌, inl, inr, true, false, List, [], ◌∷◌, IsTrue, Option, Some, None, refl, sym, ap, subst, ◌∙◌, arith}
+use Rattle.std.proofs.Common.{rules, ℕ, ◌≡◌, ◌≢◌, ◌<◌, ◌≤◌, ◌-◌, ◌^◌, ◌++◌, ◌⊎◌, inl, inr, true, false, List, [], ◌∷◌, IsTrue, Option, Some, None, refl, sym, ap, subst, ◌∙◌, arith}
 use Rattle.std.specs.Prelude.{option_map, AllPairs, All, ◌||◌}
 use Rattle.std.proofs.lemmas.Bool.{true≢false, cases_Bool, eq-eqb}
 use Rattle.pmem_base.specs.declared.lines.Line.{Line}
@@ -48,7 +48,6 @@ use Rattle.pmem_engine.proofs.CacheLaws.{stored_meta-true_line}
 use Rattle.pmem_engine.proofs.NameLaws.{node_slots_named}
 use Rattle.pmem_engine.proofs.CommitLaws.{IsTrusted-begun, IsSound-begin, IsPathNamed-sound, dirty_before-stored}
 use Rattle.pmem_engine.proofs.PlaceLaws.{seal_kept-begin, place_kept-begin, counter_kept-begin, held_kept-begin}
-use Rattle.pmem_engine.proofs.ChangedLines.{same_or_held-true_line}
 use Rattle.pmem_engine.proofs.PathSlots.{IsPathCached-levels}
 use Rattle.bonsai_tree.proofs.Levels.{counter_position-lt}
 use Rattle.pmem_engine.proofs.Stored.{path_stored, nodes_dirty, block_clean}
@@ -115,12 +114,7 @@ module _ (setup : Setup) (page : ℕ) (register : Progress) (block : Line) (line
     is_begun armed same_root progress loss is_group =
         record {
           kept =
-              record {
-                data_lines = done.noted.data_lines;
-                exhibit = done.noted.exhibit;
-                loss = loss ∙ done.loss;
-                group = is_group;
-              };
+              search rules;
           its_page = it.its_page;
           closed = it.closed;
           can_roll = it.can_roll trusted;
@@ -192,9 +186,7 @@ module _ (setup : Setup) (page : ℕ) (register : Progress) (block : Line) (line
               held_kept-begin setup told page old.regs armed_regs before after whole while_armed engine engine_now x within stored
               all_nodes_dirty was;
           changed =
-              λ x within.
-              same_or_held-true_line setup.shape engine_now.cache told after.truth (counter_position setup.shape page) x whole.count
-              (counter_position-lt setup.shape page it.its_page);
+              search rules;
         })
 
     -- the page's block stands true in its place

@@ -1,6 +1,5 @@
 -- A line sealed together with its page's new path: its group armed, and finished or cut.
-use Rattle.std.proofs.Common.{rules}
-use Rattle.std.proofs.Common.{ℕ, ◌≡◌, ◌≢◌, ◌<◌, ◌≤◌, ◌+◌, ◌%◌, ◌++◌, ◌⊎◌, inl, inr, Bool, true, false, List, [], ◌∷◌, length, IsTrue, Option, Some, None, refl, sym, ap, ap₂, subst, ◌∙◌, arith}
+use Rattle.std.proofs.Common.{rules, ℕ, ◌≡◌, ◌≢◌, ◌<◌, ◌≤◌, ◌+◌, ◌%◌, ◌++◌, ◌⊎◌, inl, inr, Bool, true, false, List, [], ◌∷◌, length, IsTrue, Option, Some, None, refl, sym, ap, ap₂, subst, ◌∙◌, arith}
 use Rattle.std.specs.Prelude.{option_map, AllPairs, All, ◌&&◌, ◌||◌}
 use Rattle.std.specs.List.{list_any}
 use Rattle.std.proofs.lemmas.Bool.{cases_Bool, eq-eqb, lt-ltb}
@@ -145,12 +144,7 @@ module _ (setup : Setup) (next : NextSeal) (minor : ℕ) (persisted : Bool) (blo
     is_sealed armed same_root progress loss is_group =
         record {
           kept =
-              record {
-                data_lines = done.noted.data_lines;
-                exhibit = done.noted.exhibit;
-                loss = loss ∙ done.loss;
-                group = is_group;
-              };
+              search rules;
           its_line = it.its_line;
           its_minor = it.its_minor;
           its_cipher = done.fits.cipher_line;

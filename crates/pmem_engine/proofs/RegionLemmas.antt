@@ -3,15 +3,14 @@
 use Rattle.std.proofs.Common.{rules, ◌≡◌, ◌≢◌, ℕ, ◌<◌, List, length, Some, refl, sym, ap, subst, ◌∙◌, ◌⊎◌, inl, inr, arith}
 use Rattle.std.specs.Prelude.{option_map, slice_set}
 use Rattle.std.proofs.lemmas.Bool.{cases_eq}
-use Rattle.std.proofs.lemmas.List.{length-set}
 use Rattle.pmem_base.specs.declared.lines.Line.{Line}
 use Rattle.pmem_base.specs.declared.answers.Mark.{Mark}
 use Rattle.pmem_base.specs.Shape.{Shape}
 use Rattle.pmem_base.specs.Layout.{device_lines, data_lines, meta_lines, tag_line, meta_line, shadow_line}
 use Rattle.pmem_base.specs.Lines.{line_at, tag_slot}
 use Rattle.pmem_base.specs.Marks.{SealOf, last_seal}
-use Rattle.pmem_base.proofs.LineSets.{line_at-set_same, line_at-set_other}
-use Rattle.pmem_base.proofs.Regions.{tag_line≢data, meta_line≢data, meta_line≢tag, shadow_line≢meta, meta_line_injective, tag_on_device, data_before_shadow, tag_before_shadow, meta_before_shadow}
+use Rattle.pmem_base.proofs.LineSets.{line_at-set_same}
+use Rattle.pmem_base.proofs.Regions.{tag_line≢data, tag_on_device, data_before_shadow, tag_before_shadow, meta_before_shadow}
 use Rattle.line_seal.specs.Seals.{with_tag}
 use Rattle.line_seal.proofs.TagSlots.{tag_slot-with_same, tag_slot-with_other}
 use Rattle.board.specs.Device.{AreLinesOf}
@@ -124,11 +123,7 @@ pub IsSealStored-sealed_here : (g : Shape) (lines : List Line) (marks : List Mar
 IsSealStored-sealed_here g lines marks a seal it here =
     record {
       cipher =
-          ap (option_map (λ (s : SealOf). s.cipher)) here
-          ∙ ap Some
-          (sym
-          (line_at-sealed_lines_data g lines a seal it.its_line
-          (omega (arith, it.its_line, tag_within g lines a seal it))));
+          search rules;
       tag =
           ap (option_map (λ (s : SealOf). s.tag)) here
           ∙ ap Some

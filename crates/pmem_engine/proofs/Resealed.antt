@@ -1,9 +1,8 @@
 -- The exits of a reseal: its line isn't unsealed, its group is cut, or the line is sealed anew.
 use Rattle.std.proofs.Common.{rules, ℕ, ◌≡◌, ◌<◌, ◌≤◌, ◌+◌, ◌++◌, inl, inr, true, false, [], ◌∷◌, length, get_or, Some, Ok, Err, refl, sym, ap, ap₂, subst, subst₂, ◌∙◌, arith}
-use Rattle.std.specs.Prelude.{◌==◌, not, option_map, IfSome}
+use Rattle.std.specs.Prelude.{◌==◌, not, IfSome}
 use Rattle.std.proofs.lemmas.Bool.{true≢false, eq-eqb, and_from}
 use Rattle.std.proofs.lemmas.Option.{same_Some, get_or_from_slice_get}
-use Rattle.std.proofs.lemmas.List.{append-nil}
 use Rattle.pmem_base.specs.declared.registers.Progress.{Progress}
 use Rattle.pmem_base.specs.declared.answers.Mark.{Mark}
 use Rattle.pmem_base.specs.declared.answers.Mark.TheVariants.{Seal}
@@ -34,7 +33,7 @@ use Rattle.pmem_engine.specs.declared.resealing.HeldLine.{HeldLine}
 use Rattle.pmem_engine.specs.declared.resealing.NextSeal.{NextSeal}
 use Rattle.pmem_engine.specs.Engine.{EngineState}
 use Rattle.pmem_engine.specs.Truth.{true_block}
-use Rattle.pmem_engine.specs.Invariants.{stored_meta, IsSealStored}
+use Rattle.pmem_engine.specs.Invariants.{IsSealStored}
 use Rattle.pmem_engine.specs.Parts.{Parts, parts_of, regs_of, lines_redone, AreTrusted, AreSound, HoldsSeal, meta_line_in}
 use Rattle.pmem_engine.specs.Outcomes.{going, cut, is_going, is_sealed_by, NeverFalls, TakesSteps, TakesFewer}
 use Rattle.pmem_engine.specs.Calls.{IsUsable, IsMemory, IsDownAnswer, IsUnrefused, moment_in}

@@ -1,7 +1,6 @@
 -- A held line sealed anew: its group armed, and finished or cut.
-use Rattle.std.proofs.Common.{rules, ℕ, ◌≡◌, ◌≢◌, ◌<◌, ◌+◌, ◌++◌, inl, inr, true, false, List, [], ◌∷◌, length, IsTrue, Option, Some, None, refl, sym, ap, subst, ◌∙◌, arith}
-use Rattle.std.specs.Prelude.{◌||◌, AllPairs, All, option_map}
-use Rattle.std.proofs.lemmas.Bool.{true≢false, eq-eqb}
+use Rattle.std.proofs.Common.{rules, ℕ, ◌≡◌, ◌≢◌, ◌<◌, ◌+◌, ◌++◌, inl, inr, true, false, List, [], ◌∷◌, length, IsTrue, Option, Some, refl, sym, ap, subst, ◌∙◌, arith}
+use Rattle.std.specs.Prelude.{AllPairs, All, option_map}
 use Rattle.pmem_base.specs.declared.lines.Line.{Line}
 use Rattle.pmem_base.specs.declared.lines.Ctr.{Ctr}
 use Rattle.pmem_base.specs.Marks.{SealOf}
@@ -33,8 +32,7 @@ use Rattle.pmem_engine.proofs.Latches.{IsGroup-nil}
 use Rattle.pmem_engine.proofs.Writes.{anchored-resealed, held-next_major}
 use Rattle.pmem_engine.proofs.ArmLaws.{IsDurable-armed_turn}
 use Rattle.pmem_engine.proofs.CommitLaws.{IsTrusted-turned, IsSound-turn}
-use Rattle.pmem_engine.proofs.PlaceLaws.{seal_own-turn, seal_kept-turn, place_kept-turn, counter_kept-turn, held_kept-turn}
-use Rattle.pmem_engine.proofs.RegionLemmas.{stored_meta-sealed_lines}
+use Rattle.pmem_engine.proofs.PlaceLaws.{seal_own-turn, seal_kept-turn, place_kept-turn}
 use Rattle.pmem_engine.proofs.Committed.{IsCommit, KeepsSeals, KeepsTrue, whole_lines, committed_places, committed_counters, committed_metadata, comes_committed, comes_armed, done_committed, done_cut_armed, sound_committed, durable_armed}
 
 -- one seal, and whether it is a line's
@@ -85,12 +83,7 @@ module _ (setup : Setup) (next : NextSeal) (register : Progress) (engine : Engin
   resealed armed anchored root progress loss group =
       record {
         kept =
-            record {
-              data_lines = done.mark.data_lines;
-              exhibit = done.mark.exhibit;
-              loss = loss ∙ done.line_done.loss;
-              group = group;
-            };
+            search rules;
         its_line = it.its_line;
         its_cipher = done.fits.cipher_line;
         its_tag = done.fits.its_tag;

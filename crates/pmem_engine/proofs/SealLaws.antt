@@ -1,5 +1,5 @@
 -- Laws of the last seal of a line on a device that can be mended.
-use Rattle.std.proofs.Common.{ℕ, ◌≡◌, ◌<◌, List, Option, Some, None, refl, ap, sym, ◌∙◌, arith}
+use Rattle.std.proofs.Common.{rules, ℕ, ◌≡◌, ◌<◌, List, Option, Some, None, refl, ap, sym, ◌∙◌, arith}
 use Rattle.std.specs.Prelude.{option_map}
 use Rattle.std.proofs.lemmas.Option.{none-some, same_Some}
 use Rattle.pmem_base.specs.declared.lines.Line.{Line}
@@ -46,10 +46,7 @@ pub true_tag_met : (setup : Setup) (lines : List Line) (regs : Regs) (ledger : L
 true_tag_met setup lines regs ledger a d =
     let found = seal_at setup lines regs ledger a d in
     let s = found.0 in
-    ap (λ ctr. setup.formulas.tag_of a ctr (line_at lines a)) (sym found.1.ctr)
-    ∙ ap (setup.formulas.tag_of a s.ctr) (sym found.1.cipher)
-    ∙ found.1.tagged
-    ∙ found.1.tag
+    search rules
 
 -- each data line of a device that can be mended
 pub IsLineMendable-at : (setup : Setup) (lines : List Line) (regs : Regs) (ledger : LedgerState) (a : ℕ) → IsMendable setup lines regs ledger → a < layout.data_lines setup.shape → IsLineMendable setup lines regs ledger a

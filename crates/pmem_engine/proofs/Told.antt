@@ -1,9 +1,6 @@
 -- Lines that a board may not tell: what holds of them where they are told.
-use Rattle.std.proofs.Common.{rules}
-use Rattle.std.proofs.Common.{ℕ, ◌≡◌, List, [], Option, Some, None, refl, ap, subst, ◌∙◌}
+use Rattle.std.proofs.Common.{rules, ℕ, ◌≡◌, List, [], Option, Some, ap, ◌∙◌}
 use Rattle.std.specs.Prelude.{MatchOption, IfSome, option_map, is_some}
-use Rattle.std.proofs.lemmas.Bool.{true≢false, false≢true}
-use Rattle.std.proofs.lemmas.Option.{none-some, same_Some}
 use Rattle.pmem_base.specs.declared.lines.Line.{Line}
 use Rattle.board.specs.Device.{AreLinesOf, AreToldLines}
 use Rattle.commit_regs.specs.Groups.{redone_told}

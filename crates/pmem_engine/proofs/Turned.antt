@@ -1,8 +1,7 @@
 -- The exits of a turn: the engine is down, no page is open, or the oldest page's lowest line was to be sealed anew.
-use Rattle.std.proofs.Common.{rules}
-use Rattle.std.proofs.Common.{ℕ, ◌≡◌, ◌<◌, ◌+◌, ◌*◌, inl, inr, Bool, true, false, List, [], ◌∷◌, length, map, get_or, Option, Some, None, Ok, Err, refl, sym, ap, subst, ◌∙◌, arith}
+use Rattle.std.proofs.Common.{rules, ℕ, ◌≡◌, ◌<◌, ◌+◌, ◌*◌, inl, inr, Bool, true, false, List, [], ◌∷◌, length, map, get_or, Option, Some, None, Ok, Err, refl, sym, ap, subst, ◌∙◌, arith}
 use Rattle.std.specs.Prelude.{Result, MatchOption, IfOk, option_map, option_and_then, not, ◌||◌, IsSome, is_some}
-use Rattle.std.proofs.lemmas.Bool.{true≢false, false≢true}
+use Rattle.std.proofs.lemmas.Bool.{true≢false}
 use Rattle.pmem_base.specs.declared.lines.Line.{Line}
 use Rattle.pmem_base.specs.declared.lines.Ctr.{Ctr}
 use Rattle.pmem_base.specs.declared.registers.Progress.{Progress}
@@ -21,9 +20,7 @@ use Rattle.pmem_engine.specs.Outcomes.{going, outcome_of, is_going, HasDone}
 use Rattle.pmem_engine.specs.Faults.{IsUnsealedLine, IsTagRefused, IsForgedShown}
 use Rattle.pmem_engine.specs.Calls.{IsDownAnswer, IsUnrefused, IsLeftAlone, moment_in, HasTurnMarks, AnswersTurn, CountsTurn, HasTurned}
 use Rattle.pmem_engine.specs.Resealing.{HasResealMarks, HasSealedHeld, CountsReseal, AnswersReseal, HasResealed, register_in, line_of_page}
-use Rattle.pmem_engine.proofs.StillLaws.{done_reading}
-use Rattle.pmem_engine.proofs.Unsealing.{same_never_falls}
-use Rattle.pmem_engine.proofs.EndedParts.{with_engine, engine_is, done_ended}
+use Rattle.pmem_engine.proofs.EndedParts.{with_engine, done_ended}
 
 left_alone : (parts : Parts) → IsLeftAlone parts parts
 left_alone parts = record { engine = refl; device = refl; ledger = refl; tags = refl; digests = refl }
@@ -35,11 +32,7 @@ turned_down setup parts down =
     record {
       made = [];
       down =
-          record {
-            exactly = (λ it. down, λ it. tt);
-            still = λ it. left_alone parts;
-            after = down ∙ sym (ap (λ b. b || false) down);
-          };
+          search rules;
       done = λ up. absurd (true≢false (sym down ∙ up));
       marks = λ up trusted memory was. absurd (true≢false (sym down ∙ up));
       idle = λ up. absurd (true≢false (sym down ∙ up));
@@ -60,29 +53,9 @@ turned_idle setup parts up none =
     record {
       made = [];
       down =
-          record {
-            exactly = (λ it. absurd it, λ it. absurd (true≢false (sym it ∙ up)));
-            still = λ it. absurd it;
-            after = up ∙ sym (ap (λ b. b || false) up);
-          };
+          search rules;
       done =
-          λ it.
-          done_reading setup parts parts
-          (record {
-            engine = refl;
-            ledger = refl;
-            size = refl;
-            lines = refl;
-            regs = refl;
-            writes = refl;
-            latches = refl;
-            cuts = refl;
-            steady = λ was. was;
-            live = λ was. was;
-            reads = omega arith;
-            tags = same_never_falls parts.tags parts.tags refl;
-            digests = same_never_falls parts.digests parts.digests refl;
-          });
+          search rules;
       marks = λ it trusted memory was. (refl, trusted.anchored.open_pages ∙ ap (map register_page) none);
       idle = λ it. (λ idle. none, λ empty. refl);
       memory_kept = λ trusted memory was. was;
@@ -228,15 +201,7 @@ module _ (setup : Setup) (old mid : Parts) (answer : Result (ℕ × ℕ) Fault) 
       record {
         made = it.made;
         down =
-            record {
-              exactly =
-                  (λ is. absurd (turn_not_down answer it.not_down is), λ is. absurd (true≢false (sym is ∙ up)));
-              still = λ is. absurd (turn_not_down answer it.not_down is);
-              after =
-                  down
-                  ∙ ap (λ e. e.down || not (is_going (outcome_of answer))) it.engine
-                  ∙ ap (λ b. old.engine.down || not (is_going b)) (sym (same_outcome answer));
-            };
+            search rules;
         done =
             λ is_up.
             subst (λ outcome. HasDone setup outcome it.made old new) (sym (same_outcome answer))
@@ -245,10 +210,7 @@ module _ (setup : Setup) (old mid : Parts) (answer : Result (ℕ × ℕ) Fault) 
             λ is_up trusted memory was.
             turn_marks answer trusted memory (it.marks trusted memory was) it.line_sealed (it.answered trusted);
         idle =
-            λ is_up. (
-              λ idle. absurd (turn_busy answer idle),
-              λ none. absurd (omega (arith, some, ap length none)),
-            );
+            search rules;
         memory_kept = λ trusted memory was. it.memory_kept trusted memory was;
         answered = λ is_up trusted. turn_answered answer trusted (it.answered trusted);
         unrefused = λ is_up sound. turn_unrefused answer (it.unrefused sound);

@@ -21,7 +21,7 @@ use Rattle.seal_ledger.specs.Ledger.{LedgerState}
 use Rattle.seal_ledger.specs.Notes.{HasExhibit}
 use Rattle.seal_ledger.proofs.MarkLemmas.{last_seal_has}
 use Rattle.line_seal.specs.Seals.{unsealed}
-use Rattle.plain_model.specs.View.{plain_line, plain_of_seal}
+use Rattle.plain_model.specs.View.{plain_line}
 use Rattle.pmem_engine.specs.declared.fault.Fault.TheVariants as Fail
 use Rattle.pmem_engine.specs.Engine.{EngineState}
 use Rattle.pmem_engine.specs.Invariants.{IsSound, IsSealStored, IsSealTagged}

@@ -1,14 +1,13 @@
 -- A dirty block is written to its place, and is clean afterwards: what it keeps, whatever the device holds.
-use Rattle.std.proofs.Common.{rules}
-use Rattle.std.proofs.Common.{ℕ, ◌≡◌, ◌≢◌, ◌<◌, ◌⊎◌, inl, inr, Bool, true, false, cond, List, [], ◌∷◌, length, Option, Some, None, refl, sym, ap, ap₂, subst, subst₂, ◌∙◌, arith}
+use Rattle.std.proofs.Common.{rules, ℕ, ◌≡◌, ◌≢◌, ◌<◌, ◌⊎◌, inl, inr, Bool, true, false, cond, List, [], ◌∷◌, length, Option, Some, None, refl, sym, ap, ap₂, subst, subst₂, ◌∙◌, arith}
 use Rattle.std.specs.Prelude.{IfSome, option_map, is_some, slice_set, ◌==◌, ◌&&◌, ◌||◌}
 use Rattle.std.specs.List.{Contains, list_any}
-use Rattle.std.proofs.lemmas.Bool.{true≢false, cases_eq}
+use Rattle.std.proofs.lemmas.Bool.{cases_eq}
 use Rattle.std.proofs.lemmas.List.{append-nil}
 use Rattle.pmem_base.specs.declared.lines.Line.{Line}
 use Rattle.pmem_base.specs.Registers.{IsValidRegs}
 use Rattle.pmem_base.specs.Layout as layout
-use Rattle.pmem_base.specs.Lines.{line_at, tag_slot}
+use Rattle.pmem_base.specs.Lines.{line_at}
 use Rattle.board.specs.Device.{Device, IsDevice}
 use Rattle.board.specs.Steps.{with_line}
 use Rattle.seal_ledger.specs.Ledger.{LedgerState}
@@ -16,14 +15,14 @@ use Rattle.meta_cache.specs.declared.slot.Slot.{Slot}
 use Rattle.meta_cache.specs.Banks.{set_of, set_index, is_cached, is_cached_dirty}
 use Rattle.meta_cache.specs.Sets.{holds, marked, with_mark}
 use Rattle.meta_cache.specs.KeptSlots.{IsFromBefore, IsStillDirty}
-use Rattle.meta_cache.proofs.SlotLemmas.{IsFromBefore-same, IsFromBefore-cleaned, IsStillDirty-cleaned}
+use Rattle.meta_cache.proofs.SlotLemmas.{IsFromBefore-cleaned, IsStillDirty-cleaned}
 use Rattle.meta_path.specs.Blocks.{line_in}
 use Rattle.meta_path.proofs.KeepLaws.{line_in-true}
 use Rattle.meta_path.proofs.SetFacts.{holds-with_mark}
 use Rattle.meta_path.proofs.WriteLemmas.{dirty_is_cached}
 use Rattle.suite.specs.Setup.{Setup}
 use Rattle.pmem_engine.specs.Engine.{EngineState}
-use Rattle.pmem_engine.specs.Invariants.{IsTrusted, IsSound, IsSealStored, IsCounterStored, stored_meta}
+use Rattle.pmem_engine.specs.Invariants.{IsTrusted, IsSound, IsCounterStored, stored_meta}
 use Rattle.pmem_engine.specs.Steps.{with_true_line}
 use Rattle.pmem_engine.specs.Recached.{IsRecached, IsTrueOrDirty, WasCleaned}
 use Rattle.pmem_engine.specs.Parts.{Parts, parts_of, AreTrusted, AreSound, HoldsCounters, HoldsMeta, meta_line_in, lines_redone}
@@ -31,7 +30,7 @@ use Rattle.pmem_engine.specs.Outcomes.{going, KeepsPlaces, KeepsMeta, HasDone}
 use Rattle.pmem_engine.specs.Flushed.{HasWrittenBack}
 use Rattle.pmem_engine.proofs.Told.{told_cases, told_surely, told_same, unarmed, whole_lines}
 use Rattle.pmem_engine.proofs.Counters.{cached_true}
-use Rattle.pmem_engine.proofs.RegionLemmas.{IsPlaceKept-set_meta, IsSealStored-set_meta, stored_meta-set_other}
+use Rattle.pmem_engine.proofs.RegionLemmas.{stored_meta-set_other}
 use Rattle.pmem_engine.proofs.CounterBlocks.{IsCounterStored-written_back}
 use Rattle.pmem_engine.proofs.CacheLaws.{stored_meta-true_line, IsTrusted-recached, IsSound-cleaned, not_cleaned_other, IsTrueOrDirty-cleaned, dirty_before-recached}
 

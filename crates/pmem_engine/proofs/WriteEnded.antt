@@ -1,6 +1,5 @@
 -- A write as a call: of an engine that is down, or of one that is up and then down where it was cut or stopped.
-use Rattle.std.proofs.Common.{rules}
-use Rattle.std.proofs.Common.{ℕ, ◌≡◌, ◌%◌, inl, inr, true, false, ◌||◌, List, [], Option, Some, None, Result, Ok, Err, refl, sym, ap, ◌∙◌, arith}
+use Rattle.std.proofs.Common.{rules, ℕ, ◌≡◌, ◌%◌, true, false, List, [], Option, Result, Err, refl, sym, ◌∙◌, arith}
 use Rattle.std.specs.Prelude.{IfOk}
 use Rattle.std.proofs.lemmas.Bool.{true≢false}
 use Rattle.std.proofs.lemmas.List.{drop_all}
@@ -16,10 +15,10 @@ use Rattle.suite.specs.Setup.{Setup}
 use Rattle.pmem_engine.specs.declared.fault.Fault.{Fault}
 use Rattle.pmem_engine.specs.declared.fault.Fault.TheVariants as Fail
 use Rattle.pmem_engine.specs.Parts.{Parts, regs_of}
-use Rattle.pmem_engine.specs.Outcomes.{Outcome, going, cut, outcome_of}
+use Rattle.pmem_engine.specs.Outcomes.{Outcome, outcome_of}
 use Rattle.pmem_engine.specs.Calls.{IsBlockTrue, AnswersWrite, TakesSpent, TakesOfWrite, whole_write, HasWrittenLine}
 use Rattle.pmem_engine.specs.Writing.{HasWrittenUnder}
-use Rattle.pmem_engine.proofs.Ended.{ended_parts, done_ended, answers_down, meta_refused_ended, clash_shown_ended, tag_refused_ended, forged_shown_ended, within_ended, within_live_ended}
+use Rattle.pmem_engine.proofs.Ended.{ended_parts, done_ended, answers_down}
 
 -- a whole line is posted
 pub whole_posted : (at : ℕ) (line : Line) → IsU32 at → IsLine line → IsPosted (whole_write at line)
@@ -41,11 +40,7 @@ written_down setup write parts down =
     record {
       made = [];
       down =
-          record {
-            exactly = (λ it. down, λ it. tt);
-            still = λ it. record { engine = refl; device = refl; ledger = refl; tags = refl; digests = refl };
-            after = down ∙ sym (ap (λ b. b || false) down);
-          };
+          search rules;
       done = λ up. absurd (true≢false (sym down ∙ up));
       marks = λ up trusted memory was. absurd (true≢false (sym down ∙ up));
       memory = λ trusted memory long was. was;

@@ -1,13 +1,12 @@
 -- What a write answers where a part ended it, by the part's answer.
-use Rattle.std.proofs.Common.{rules}
-use Rattle.std.proofs.Common.{ℕ, ◌≡◌, ◌<◌, ◌≤◌, ◌+◌, ◌-◌, ◌*◌, ◌^◌, ◌++◌, inl, inr, Bool, true, false, cond, List, [], ◌∷◌, length, IsTrue, Option, Some, None, Err, refl, sym, ap, subst, ◌∙◌, arith}
+use Rattle.std.proofs.Common.{rules, ℕ, ◌≡◌, ◌<◌, ◌≤◌, ◌+◌, ◌-◌, ◌*◌, ◌^◌, ◌++◌, inl, inr, Bool, true, false, cond, List, [], ◌∷◌, length, IsTrue, Option, Some, None, Err, refl, sym, ap, subst, ◌∙◌, arith}
 use Rattle.std.specs.Prelude.{◌==◌, ◌||◌, nat_lt, unwrap_or, is_none, IsSome}
-use Rattle.std.proofs.lemmas.Bool.{true≢false, false≢true, cond-false, eqb-true, lt-ltb}
+use Rattle.std.proofs.lemmas.Bool.{true≢false, cond-false, lt-ltb}
 use Rattle.std.proofs.lemmas.List.{append_assoc, length-append}
 use Rattle.pmem_base.specs.declared.lines.Ctr.{Ctr}
 use Rattle.pmem_base.specs.declared.commands.Posted.{Posted}
 use Rattle.pmem_base.specs.declared.answers.Mark.{Mark}
-use Rattle.pmem_base.specs.declared.answers.Mark.TheVariants.{Begin, Seal}
+use Rattle.pmem_base.specs.declared.answers.Mark.TheVariants.{Begin}
 use Rattle.pmem_base.specs.Layout.{page_of}
 use Rattle.suite.specs.Setup.{Setup}
 use Rattle.suite.specs.Formulas.{Formulas}
@@ -22,13 +21,12 @@ use Rattle.pmem_engine.specs.declared.fault.Fault.{Fault}
 use Rattle.pmem_engine.specs.declared.fault.Fault.TheVariants as Fail
 use Rattle.pmem_engine.specs.Parts.{Parts, AreTrusted, AreSound}
 use Rattle.pmem_engine.specs.Outcomes.{outcome_of_fault, is_seal_of, is_sealed_by, TakesAtMost}
-use Rattle.pmem_engine.specs.Faults.{IsTagRefused}
 use Rattle.pmem_engine.specs.Calls.{IsMemory, IsDownAnswer, IsUnrefused, TakesWithin, TakesWithinOfLive, moment_in, IsPartOf, IsRefusedLine, HasWriteMarks, AnswersWrite, write_bound, TakesSpent, TakesOfWrite}
 use Rattle.pmem_engine.specs.Inner.{AnswersFetch}
 use Rattle.pmem_engine.specs.Writing.{AnswersPlain, IsFrontOf, IsStoppedAt, HasFinishMarks, AnswersFinish, CountsFinish, HasWrittenUnder}
 use Rattle.pmem_engine.proofs.WriteParts.{IsWritePart}
 use Rattle.pmem_engine.proofs.WriteFinish.{finish_front, front_seals}
-use Rattle.pmem_engine.proofs.WriteSteps.{most_then, fewer_then, steps_most, more_most, more_fewer, most_fewer, bound_path, bound_seals}
+use Rattle.pmem_engine.proofs.WriteSteps.{most_then, fewer_then, steps_most, more_most, more_fewer, bound_seals}
 
 -- ---- marks left
 

@@ -1,9 +1,8 @@
 -- The page that a write finishes first: its marks, and that none is a seal of the written line.
-use Rattle.std.proofs.Common.{rules, ℕ, zero, suc, ◌≡◌, ◌≢◌, ◌<◌, ◌+◌, ◌*◌, Bool, true, false, cond, List, [], ◌∷◌, length, map, get_or, Option, Some, None, Result, Ok, Err, refl, sym, ap, ap₂, subst, ◌∙◌, arith}
-use Rattle.std.specs.Prelude.{◌||◌, ◌&&◌, not, All}
-use Rattle.std.proofs.lemmas.Bool.{true≢false, or_parts, eq-eqb, ne_eqb}
-use Rattle.std.proofs.lemmas.Option.{none-some}
-use Rattle.std.proofs.lemmas.List.{append-nil, length-append, length-map}
+use Rattle.std.proofs.Common.{rules, ℕ, zero, suc, ◌≡◌, ◌≢◌, ◌<◌, ◌+◌, ◌*◌, Bool, true, false, cond, List, [], ◌∷◌, length, map, get_or, Option, Some, None, Result, refl, sym, ap, ap₂, subst, ◌∙◌, arith}
+use Rattle.std.specs.Prelude.{◌||◌, All}
+use Rattle.std.proofs.lemmas.Bool.{or_parts, ne_eqb}
+use Rattle.std.proofs.lemmas.List.{length-append, length-map}
 use Rattle.std.proofs.lemmas.List.Folds.{list_any-append}
 use Rattle.std.proofs.lemmas.List.Elements.{All-head, All-tail}
 use Rattle.std.proofs.lemmas.List.Sums.{sum_by-cons, sum_by-append, count_by-le-length}
@@ -22,7 +21,6 @@ use Rattle.plain_model.specs.State.{Memory}
 use Rattle.plain_model.specs.Asked.{Moment, reseal_mark}
 use Rattle.plain_model.specs.Bounds.{is_seal, seal_count}
 use Rattle.pmem_engine.specs.declared.fault.Fault.{Fault}
-use Rattle.pmem_engine.specs.declared.fault.Fault.TheVariants as Fail
 use Rattle.pmem_engine.specs.Parts.{Parts, regs_of, AreTrusted, AreSound}
 use Rattle.pmem_engine.specs.Outcomes.{outcome_of, is_seal_of, is_sealed_by, TakesSteps}
 use Rattle.pmem_engine.specs.Calls.{IsMemory, IsDownAnswer, IsUnrefused, moment_in}
@@ -54,9 +52,7 @@ other_places register at free k d inside same =
     let open_ : is_done register i ≡ false = not_done-not_done register k d inside in
     let its_page : register.page ≡ page_of at = omega (arith, small, same) in
     let its_place : i ≡ index_in_page at = omega (arith, small, same) in
-    true≢false
-    (sym (ap₂ (λ s t. s && t) (eq-eqb register.page (page_of at) its_page)
-    (ap not (ap (is_done register) (sym its_place) ∙ open_))) ∙ free)
+    search rules
 
 other_reseals : (f : Formulas) (now : Moment) (page at : ℕ) (places : List ℕ) → All (λ i. 64 * page + i ≢ at) places
     → is_sealed_by (map (reseal_mark f now page) places) at ≡ false

@@ -1,6 +1,6 @@
 -- What each part of a write keeps, up to the seal of its own line, and what two of them keep together.
 use Rattle.std.proofs.lemmas.Grind.{common_steps}
-use Rattle.std.proofs.Common.{rules, ℕ, ◌≡◌, ◌<◌, ◌++◌, ◌⊎◌, inl, inr, Bool, true, false, List, [], ◌∷◌, IsTrue, Result, Ok, Err, refl, sym, ap, ap₂, ◌∙◌, arith}
+use Rattle.std.proofs.Common.{rules, ℕ, ◌≡◌, ◌<◌, ◌++◌, ◌⊎◌, inl, inr, Bool, true, false, List, [], ◌∷◌, IsTrue, Result, refl, sym, ap, ap₂, ◌∙◌, arith}
 use Rattle.std.specs.Prelude.{◌||◌, option_map}
 use Rattle.std.specs.List.{list_any}
 use Rattle.std.proofs.lemmas.Bool.{true≢false, or_parts, eq-eqb}
@@ -20,7 +20,6 @@ use Rattle.suite.specs.Setup.{Setup}
 use Rattle.plain_model.specs.State.{Memory}
 use Rattle.plain_model.specs.View.{plain_line, plain_of_seal}
 use Rattle.pmem_engine.specs.declared.fault.Fault.{Fault}
-use Rattle.pmem_engine.specs.declared.fault.Fault.TheVariants as Fail
 use Rattle.pmem_engine.specs.Invariants.{IsSealStored}
 use Rattle.pmem_engine.specs.Parts.{Parts, regs_of, lines_redone, AreTrusted, HoldsSeal, meta_line_in}
 use Rattle.pmem_engine.specs.Outcomes.{Outcome, going, outcome_of, is_seal_of, is_sealed_by, HasDone}

@@ -1,5 +1,5 @@
 -- Which seals come above the last ones: a write of a line, of a line not done in an open page, and a turn's reseal.
-use Rattle.std.proofs.Common.{ℕ, ◌≡◌, ◌<◌, ◌+◌, true, false, List, Option, Some, None, refl, sym, ap, subst, ◌∙◌, arith}
+use Rattle.std.proofs.Common.{rules, ℕ, ◌≡◌, ◌<◌, ◌+◌, true, false, List, Option, Some, None, refl, sym, ap, subst, ◌∙◌, arith}
 use Rattle.std.specs.Prelude.{not, ◌==◌, IsTrue, slice_index}
 use Rattle.std.proofs.lemmas.Bool.{and_parts, eqb-true, not-true}
 use Rattle.std.proofs.lemmas.Bool.Decides.{nat_tests}
@@ -102,9 +102,7 @@ anchored-resealed setup a register cipher tag old_regs new_regs old new anchored
     let same_line : packed (sealed_block g old.truth a 0) ≡ line = ap packed same_block ∙ packed-unpacked line (IsLine-line_at old.truth (counter_position g sealed_page) anchored.of_shape.truth_lines) in
     let stays = IsTreeWith-itself g f sealed_page old.truth old_regs.root anchored.truth_is_tree anchored.of_shape.truth_lines anchored.root in
     let truth : IsTreeWith g f sealed_page (packed (sealed_block g old.truth a 0)) new_regs.root old.truth new.truth =
-    subst (λ l. IsTreeWith g f sealed_page l new_regs.root old.truth new.truth) (sym same_line)
-    (subst (λ r. IsTreeWith g f sealed_page line r old.truth new.truth) (sym it.root)
-    (subst (λ t. IsTreeWith g f sealed_page line old_regs.root old.truth t) (sym it.truth) stays)) in
+    search rules in
     anchored-sealed setup a 0 cipher tag old_regs new_regs old new anchored
     (record {
       kept = it.kept;

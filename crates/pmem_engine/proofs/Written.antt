@@ -1,8 +1,8 @@
 -- A whole write, one law an exit: each takes the parts so far, in the order in which a write does them.
 use Rattle.std.proofs.Common.{rules, ℕ, ◌≡◌, ◌≢◌, ◌<◌, ◌≤◌, ◌+◌, ◌*◌, ◌%◌, ◌++◌, ◌⊎◌, inl, inr, Bool, true, false, cond, List, [], ◌∷◌, length, IsTrue, Option, Some, None, Result, Ok, Err, refl, sym, ap, ap₂, subst, ◌∙◌, arith}
-use Rattle.std.specs.Prelude.{◌==◌, ◌||◌, option_map, is_some, IsSome, IsOk, IfOk, IfSome}
+use Rattle.std.specs.Prelude.{◌==◌, ◌||◌, option_map, is_some, IsSome, IsOk, IfOk}
 use Rattle.std.specs.List.{list_any}
-use Rattle.std.proofs.lemmas.Bool.{true≢false, cond-true, cond-false, cases_eq, eq-eqb, ne_eqb, or_parts}
+use Rattle.std.proofs.lemmas.Bool.{true≢false, cond-true, cond-false, cases_eq, eq-eqb, or_parts}
 use Rattle.std.proofs.lemmas.List.{append-nil, append_assoc, length-append}
 use Rattle.std.proofs.lemmas.List.Folds.{list_any-append}
 use Rattle.pmem_base.specs.declared.lines.Line.{Line}
@@ -14,7 +14,6 @@ use Rattle.pmem_base.specs.Layout.{page_of, index_in_page}
 use Rattle.pmem_base.specs.Lines.{line_at}
 use Rattle.pmem_base.specs.Marks.{SealOf, last_seal}
 use Rattle.pmem_base.proofs.LineSets.{line_at-set_same, line_at-set_other}
-use Rattle.seal_ledger.specs.Ledger.{LedgerState}
 use Rattle.seal_ledger.proofs.MarkLemmas.{last_seal-sealed}
 use Rattle.bonsai_tree.specs.Positions.{counter_position}
 use Rattle.page_reencrypt.specs.Registers.{register_held}
@@ -22,7 +21,7 @@ use Rattle.meta_path.specs.Blocks.{IsPathCached}
 use Rattle.suite.specs.Formulas.{cipher_of}
 use Rattle.suite.specs.Setup.{Setup}
 use Rattle.plain_model.specs.State.{Memory, put_write, memory_with}
-use Rattle.plain_model.specs.View.{view_of, plain_line}
+use Rattle.plain_model.specs.View.{plain_line}
 use Rattle.plain_model.specs.Asked.{seal_mark, marks_of_write}
 use Rattle.plain_model.specs.Bounds.{path_length, seal_count}
 use Rattle.pmem_engine.specs.declared.fault.Fault.{Fault}
