@@ -25,7 +25,7 @@ use Rattle.pmem_engine.specs.Truth.{true_block}
 use Rattle.pmem_engine.specs.Invariants.{IsAnchored, stored_meta, is_named, IsCounterStored, IsMendable, IsDurable}
 use Rattle.pmem_engine.specs.Sealed.{made_seal, IsSealed, IsResealed, IsBegun}
 use Rattle.pmem_engine.specs.Steps.{IsArmed, SealsOne, SealsNone, ChangesPath, sealing_group, sealing_group_with_block, beginning_group, sealed_lines, with_true_line, IsPathNamed, ArePathNodesNamed}
-use Rattle.pmem_engine.proofs.RegionLemmas.{IsSealable, IsSealStored-sealed, IsSealStored-set_meta, IsSealStored-kept, IsPlaceKept-same, length-sealed_lines, stored_meta-sealed_lines, is_named-sealed_lines, stored_meta-set_same, stored_meta-set_other, is_named-set_meta}
+use Rattle.pmem_engine.proofs.RegionLemmas.{IsSealable, IsSealStored-sealed, IsSealStored-set_meta, IsSealStored-kept, IsPlaceKept-same, length-sealed_lines, stored_meta-sealed_lines, is_named-sealed_lines, stored_meta-set_same, stored_meta-set_other, is_named-set_meta, page_within}
 use Rattle.pmem_engine.proofs.CounterBlocks.{IsCounterStored-sealed, IsCounterStored-resealed, IsCounterStored-with_block, IsCounterStored-sealed_with_block}
 use Rattle.pmem_engine.proofs.GroupLaws.{IsMendable-unarmed}
 use Rattle.pmem_engine.proofs.Writes.{anchored-raised, anchored-resealed}
@@ -244,9 +244,6 @@ pub IsSealable-resealed : (setup : Setup) (lines : List Line) (a : ℕ) (cipher 
     → IsResealed setup a cipher tag old_regs new_regs old new
     → IsSealable setup.shape lines a (made_seal setup.shape old.truth a 0 cipher tag)
 IsSealable-resealed setup lines a cipher tag old_regs new_regs old new whole it = search rules
-
-page_within : (g : Shape) (a : ℕ) → a < data_lines g → page_of a < pages g
-page_within g a h = omega (arith, h)
 
 -- a write's group, where the stop-loss number doesn't divide the new minor
 pub IsDurable-armed_write : (setup : Setup) (lines : List Line) (old new : Regs) (before after : LedgerState)

@@ -1,5 +1,5 @@
 -- A group is written whole and emptied: Sound and Trusted of the engine that holds the path's new lines.
-use Rattle.std.proofs.Common.{rules, ◌≡◌, ◌≢◌, ℕ, ◌+◌, ◌*◌, ◌%◌, ◌<◌, true, false, List, [], Some, length, refl, sym, ap, subst, subst₂, ◌∙◌, ◌⊎◌, inl, inr, arith}
+use Rattle.std.proofs.Common.{rules, ◌≡◌, ◌≢◌, ℕ, ◌+◌, ◌*◌, ◌%◌, ◌<◌, true, false, List, [], Some, length, refl, sym, ap, subst, subst₂, ◌∙◌, ◌⊎◌, inl, inr}
 use Rattle.std.specs.List.{All, Contains}
 use Rattle.std.proofs.lemmas.Bool.{cases_eq, cases_Bool, false≢true}
 use Rattle.pmem_base.specs.declared.lines.Line.{Line}
@@ -30,8 +30,7 @@ use Rattle.pmem_engine.specs.Sealed.{made_seal, IsSealed, IsResealed, IsBegun}
 use Rattle.pmem_engine.specs.Steps.{IsArmed, IsEmptied, ChangesPath, sealing_group, sealing_group_with_block, beginning_group, sealed_lines, with_true_line, IsPathNamed, ArePathNodesNamed}
 use Rattle.pmem_engine.specs.Recached.{IsTrueOrDirty, IsPathCached, IsPathDirty, ArePathNodesDirty, IsStoredSlot, IsPathStored}
 use Rattle.pmem_engine.specs.Named.{IsSlotNamed, ArePathSlotsNamed, AreNodeSlotsNamed}
-use Rattle.pmem_engine.proofs.RegionLemmas.{length-sealed_lines, stored_meta-sealed_lines, shadow_of-sealed_lines, stored_meta-set_other}
-use Rattle.pmem_engine.proofs.Latches.{anchored-emptied}
+use Rattle.pmem_engine.proofs.RegionLemmas.{length-sealed_lines, stored_meta-sealed_lines, shadow_of-sealed_lines, stored_meta-set_other, page_within}
 use Rattle.pmem_engine.proofs.Writes.{anchored-raised, anchored-resealed}
 use Rattle.pmem_engine.proofs.Begins.{anchored-begun}
 use Rattle.pmem_engine.proofs.Bridges.{IsSealed-ChangesPath, IsBegun-ChangesPath}
@@ -39,6 +38,7 @@ use Rattle.pmem_engine.proofs.GroupLaws.{IsDurable-finished}
 use Rattle.pmem_engine.proofs.ArmLaws.{IsDurable-armed_write, IsDurable-armed_write_with_block, IsDurable-armed_turn, IsDurable-armed_begin}
 use Rattle.pmem_engine.proofs.CacheLaws.{stored_meta-true_line, IsTrueOrDirty-sound}
 use Rattle.pmem_engine.proofs.NameLaws.{IsPathNamed_from_slots}
+use Rattle.pmem_engine.proofs.MendableLaws.{IsAnchored-emptied}
 
 -- ---- the cache with a path's new lines
 
@@ -158,7 +158,7 @@ pub IsTrusted-written : (setup : Setup) (old new : EngineState) (start armed fin
     → IsTrusted setup new final after
 IsTrusted-written setup old new start armed final before after a minor cipher tag trusted it raised emptied stored =
     IsTrusted-committed setup old new start final before after (page_of a) trusted
-    (anchored-emptied setup armed final after emptied
+    (IsAnchored-emptied setup armed final after emptied
     (anchored-raised setup a minor cipher tag start armed before after trusted.anchored raised it))
     emptied.no_group (IsSealed-ChangesPath setup a minor cipher tag start armed before after it) stored
 
@@ -169,7 +169,7 @@ pub IsTrusted-begun : (setup : Setup) (old new : EngineState) (start armed final
     → IsPathStored setup.shape old new after.truth page → IsTrusted setup new final after
 IsTrusted-begun setup old new start armed final before after page trusted it emptied stored =
     IsTrusted-committed setup old new start final before after page trusted
-    (anchored-emptied setup armed final after emptied
+    (IsAnchored-emptied setup armed final after emptied
     (anchored-begun setup page start armed before after trusted.anchored it))
     emptied.no_group (IsBegun-ChangesPath setup page start armed before after it) stored
 
@@ -183,7 +183,7 @@ IsTrusted-turned setup engine start armed final before after a register cipher t
     record {
       its_shape = trusted.its_shape;
       anchored =
-          anchored-emptied setup armed final after emptied
+          IsAnchored-emptied setup armed final after emptied
           (anchored-resealed setup a register cipher tag start armed before after trusted.anchored held it);
       no_group = emptied.no_group;
       not_down = trusted.not_down;
@@ -313,9 +313,6 @@ pub IsPathNamed-sound : (setup : Setup) (engine : EngineState) (lines : List Lin
 IsPathNamed-sound setup engine lines regs ledger page sound form cached named =
     IsPathNamed_from_slots setup.shape engine.cache lines page form cached
     (subst (λ mirror. ArePathSlotsNamed setup.shape engine.cache mirror page) sound.mirror_true named)
-
-page_within : (g : Shape) (a : ℕ) → a < data_lines g → page_of a < pages g
-page_within g a h = omega (arith, h)
 
 -- A write without the counter block, where the stop-loss number doesn't divide the new minor: every block
 -- of the path is then dirty.

@@ -18,11 +18,9 @@ use Rattle.pmem_engine.specs.Recached.{IsTrueOrDirty}
 use Rattle.pmem_engine.specs.Parts.{Parts, regs_of, lines_redone, AreTrusted, AreSound, AreDurable, HoldsCounters}
 use Rattle.pmem_engine.specs.Outcomes.{going, cut, is_sealed_by, IsTouchedBy, NeverFalls, KeepsPlaces, KeepsMeta, HasDone}
 use Rattle.pmem_engine.specs.Committing.{HasCommitted, IsCutArmed}
+use Rattle.commit_regs.proofs.GroupLemmas.{redone-nil}
 
 -- ---- what the lines come to
-
-pub redone_none : (told : Option (List Line)) → redone_told [] told ≡ told
-redone_none v0 = search rules
 
 -- of one mark, before and after a commit
 pub record IsCommit (setup : Setup) (group : List (ℕ × Line)) (mark : Mark) (old new : Parts) : Type 0 where
@@ -58,7 +56,7 @@ pub record KeepsTrue (g : Shape) (old new : Banks) (old_truth new_truth lines af
 
 module _ (setup : Setup) (group : List (ℕ × Line)) (mark : Mark) (old new : Parts) (it : IsCommit setup group mark old new) (comes : lines_redone new ≡ redone_told group old.device.lines) where
   stood : lines_redone old ≡ old.device.lines
-  stood = ap (λ items. redone_told items old.device.lines) it.unarmed ∙ redone_none old.device.lines
+  stood = ap (λ items. redone_told items old.device.lines) it.unarmed ∙ redone-nil old.device.lines
 
   -- the told lines are whole
   pub whole_lines : (lines : List Line) → old.device.lines ≡ Some lines → AreLinesOf (layout.device_lines setup.shape) lines
@@ -127,10 +125,6 @@ module _ (setup : Setup) (group : List (ℕ × Line)) (mark : Mark) (old new : P
       → (is_cached_dirty setup.shape old.engine.cache bank x ≡ true) ⊎ IsTouchedBy setup.shape (mark ∷ []) x)
       → KeepsMeta setup (mark ∷ []) old new
   committed_metadata each dirty = search rules
-
--- what is sound is trusted
-pub sound_trusted : (setup : Setup) (parts : Parts) → AreSound setup parts → AreTrusted setup parts
-sound_trusted setup parts sound = search rules
 
 -- ---- a group finished
 

@@ -18,7 +18,8 @@ use Rattle.pmem_engine.specs.Outcomes.{NeverFalls, fault_of_path}
 use Rattle.pmem_engine.specs.Parts.{parts_of}
 use Rattle.pmem_engine.specs.Inner.{HasFetched}
 use Rattle.pmem_engine.proofs.Told.{told_redone}
-use Rattle.pmem_engine.proofs.FetchEnds.{IsFetchOver, risen_times_never_fall}
+use Rattle.pmem_engine.proofs.FetchEnds.{IsFetchOver}
+use Rattle.pmem_engine.proofs.NextPaths.{times_never_fall}
 use Rattle.pmem_engine.proofs.FetchAnswers.{fetched_ok, fetched_cut, fetched_meta, fetched_shown}
 
 -- a cache of this shape
@@ -47,7 +48,7 @@ module _ (setup : Setup) (page : ℕ) (old new : EngineState) (ledger noted : Le
   told = ap is_some keeps.lines ∙ told_redone keeps.entries before.lines
 
   rising : (times : ℕ) → digests_now ≡ risen_times times digests → NeverFalls digests digests_now
-  rising times it = subst (λ n. NeverFalls digests n) (sym it) (risen_times_never_fall times digests)
+  rising times it = subst (λ n. NeverFalls digests n) (sym it) (times_never_fall times digests)
 
   -- with the ledger as it was
   over : noted ≡ ledger → before.reads ≤ after.reads → NeverFalls digests digests_now

@@ -1,5 +1,5 @@
 -- The ends of a fetch: its path is cached, or it was cut, refused or stopped.
-use Rattle.std.proofs.Common.{rules, ℕ, zero, suc, ◌≡◌, ◌≢◌, ◌<◌, ◌≤◌, ◌+◌, ◌⊎◌, inl, inr, true, false, List, [], length, Option, Some, None, refl, sym, ap, subst, subst₂, ◌∙◌, arith}
+use Rattle.std.proofs.Common.{rules, ℕ, ◌≡◌, ◌≢◌, ◌<◌, ◌≤◌, ◌+◌, ◌⊎◌, inl, inr, true, false, List, [], length, Option, Some, None, refl, sym, ap, subst, subst₂, ◌∙◌, arith}
 use Rattle.std.specs.Prelude.{MatchOption, option_map, is_some, ◌==◌}
 use Rattle.std.specs.List.{Contains, list_any}
 use Rattle.std.proofs.lemmas.Bool.{true≢false, cases_Bool, eq-eqb}
@@ -18,7 +18,6 @@ use Rattle.meta_cache.specs.declared.slot.Slot.{Slot}
 use Rattle.meta_cache.specs.Banks.{is_cached, is_cached_dirty, set_index, set_of}
 use Rattle.meta_cache.proofs.SlotLemmas.{dirty_slot}
 use Rattle.meta_path.specs.Blocks.{dirty_count}
-use Rattle.meta_path.specs.Work.{risen_times}
 use Rattle.meta_path.specs.Keeping.{KeepsBlocks, WasWrittenBack}
 use Rattle.suite.specs.Setup.{Setup}
 use Rattle.pmem_engine.specs.Engine.{EngineState}
@@ -29,12 +28,6 @@ use Rattle.pmem_engine.proofs.Told.{told_surely}
 use Rattle.pmem_engine.proofs.Fetched.{trusted_after, sound_lines, places, counters, metadata, meta_same_or_true, own_slot}
 
 -- ---- counts
-
-pub risen_times_never_fall : (n count : ℕ) → NeverFalls count (risen_times n count)
-risen_times_never_fall zero count within = (omega arith, within)
-risen_times_never_fall (suc n) count within =
-    let before = risen_times_never_fall n count within in
-    (omega (arith, before.0, before.1), omega arith)
 
 -- ---- the device of a fetch, whatever its end
 

@@ -1,4 +1,5 @@
 -- A flush: the oldest dirty block is written back, where one is dirty.
+use Rattle.std.proofs.lemmas.Grind.{common_steps}
 use Rattle.std.proofs.Common.{ℕ, ◌≡◌, ◌<◌, ◌≤◌, true, false, [], Option, Some, None, Result, Ok, Err, refl, sym, ap, ap₂, subst, subst₂, ◌∙◌, arith}
 use Rattle.std.specs.Prelude.{option_map, is_some, IfOk}
 use Rattle.std.proofs.lemmas.Bool.{true≢false}
@@ -22,7 +23,6 @@ use Rattle.pmem_engine.specs.Parts.{Parts, parts_of}
 use Rattle.pmem_engine.specs.Outcomes.{going, cut, outcome_of, HasDone, TakesSteps}
 use Rattle.pmem_engine.specs.Calls.{IsDownAnswer, AnswersFlush, HasFlushed}
 use Rattle.pmem_engine.specs.Flushed.{cache_of, HasWrittenBack, HasWrittenOldest}
-use Rattle.pmem_engine.proofs.StillLaws.{done_reading, done_cut}
 use Rattle.pmem_engine.proofs.Ended.{ended_parts, ended_going, done_ended, answers_down}
 use Rattle.pmem_engine.proofs.WriteBacks.{written_back, clean_after, cached_after}
 
@@ -77,43 +77,11 @@ module _ (old new : EngineState) (before after : Device) (mirror : new.mirror �
 -- a cut before a line write changes nothing
 pub cut_still : (setup : Setup) (engine : EngineState) (before after : Device) (ledger : LedgerState) (tags digests : ℕ)
     → WasCut before after → HasDone setup cut [] (parts_of engine before ledger tags digests) (parts_of engine after ledger tags digests)
-cut_still setup engine before after ledger tags digests it =
-    done_cut setup (parts_of engine before ledger tags digests) (parts_of engine after ledger tags digests)
-    (record {
-      engine = refl;
-      ledger = refl;
-      size = it.size;
-      lines = it.lines;
-      regs = it.regs;
-      writes = it.writes;
-      latches = it.latches;
-      unsteady = it.unsteady;
-      off = it.off;
-      rose = it.rose;
-      reads = omega (arith, it.reads);
-      tags = λ within. (omega arith, within);
-      digests = λ within. (omega arith, within);
-    })
+cut_still setup engine before after ledger tags digests it = grind (arith, common_steps)
 
 -- nothing is done
 pub nothing_done : (setup : Setup) (parts : Parts) → HasDone setup going [] parts parts
-nothing_done setup parts =
-    done_reading setup parts parts
-    (record {
-      engine = refl;
-      ledger = refl;
-      size = refl;
-      lines = refl;
-      regs = refl;
-      writes = refl;
-      latches = refl;
-      cuts = refl;
-      steady = λ was. was;
-      live = λ was. was;
-      reads = omega arith;
-      tags = λ within. (omega arith, within);
-      digests = λ within. (omega arith, within);
-    })
+nothing_done setup parts = grind (arith, common_steps)
 
 pub no_steps_of : (before after : Device) → after.writes ≡ before.writes → after.latches ≡ before.latches → TakesSteps 0 before after
 no_steps_of before after writes latches =
@@ -147,24 +115,10 @@ module _ (setup : Setup) (old new : EngineState) (before after : Device) (ledger
   flush_done (Err Fail.Shown) it = absurd it
 
   flush_down : (answer : Result (Option ℕ) Fault) → HasWrittenOldest old new before after answer → new.down ≡ old.down
-  flush_down (Ok None) it = ap (λ e. e.down) it.0
-  flush_down (Ok (Some x)) it = it.down
-  flush_down (Err Fail.Cut) it = ap (λ e. e.down) it.0
-  flush_down (Err Fail.Down) it = absurd it
-  flush_down (Err (Fail.Meta x)) it = absurd it
-  flush_down (Err (Fail.Tag a)) it = absurd it
-  flush_down (Err (Fail.Spent page)) it = absurd it
-  flush_down (Err Fail.Shown) it = absurd it
+  flush_down v0 it = grind (arith, common_steps)
 
   flush_not_down : (answer : Result (Option ℕ) Fault) → HasWrittenOldest old new before after answer → IsDownAnswer answer → ⊥
-  flush_not_down (Ok None) it down = down
-  flush_not_down (Ok (Some x)) it down = down
-  flush_not_down (Err Fail.Cut) it down = down
-  flush_not_down (Err Fail.Down) it down = it
-  flush_not_down (Err (Fail.Meta x)) it down = it
-  flush_not_down (Err (Fail.Tag a)) it down = it
-  flush_not_down (Err (Fail.Spent page)) it down = it
-  flush_not_down (Err Fail.Shown) it down = it
+  flush_not_down v0 it down = grind (arith, common_steps)
 
   flush_cached : (answer : Result (Option ℕ) Fault) → HasWrittenOldest old new before after answer
       → (bank x : ℕ) → is_cached setup.shape new.cache bank x ≡ is_cached setup.shape old.cache bank x

@@ -3,8 +3,7 @@ use Rattle.std.proofs.Common.{rules, ℕ, zero, suc, ◌≡◌, ◌≢◌, ◌<�
 use Rattle.std.specs.List.{All, range_with_len}
 use Rattle.std.specs.Option.{option_map}
 use Rattle.std.proofs.lemmas.Bool.{cases_eq, eq-eqb, ne_eqb}
-use Rattle.std.proofs.lemmas.List.FromFn.{length-range_with_len, get_or-range_with_len}
-use Rattle.std.proofs.lemmas.List.Elements.{All-nil, All-map, All-from_get_or}
+use Rattle.std.proofs.lemmas.List.Elements.{All-nil, All-map}
 use Rattle.pmem_base.specs.declared.lines.Ctr.{Ctr}
 use Rattle.pmem_base.specs.declared.registers.Regs.{Regs}
 use Rattle.pmem_base.specs.Shape.{Shape, IsShape}
@@ -22,14 +21,7 @@ use Rattle.plain_model.specs.View.{DeviceView, start_view, view_after, view_afte
 use Rattle.pmem_engine.specs.Truth.{true_block, true_counter}
 use Rattle.pmem_engine.specs.Invariants.{IsSealTagged, IsHeldBack, register_page, IsAnchored}
 use Rattle.pmem_engine.specs.Formatted.{first_seal, first_block, IsFormatted}
-
--- what holds of each number of a range
-range-All : (P : ℕ → Type 0) (b n : ℕ) → ((a : ℕ) → b ≤ a → a < b + n → P a) → All P (range_with_len b n)
-range-All P b n each =
-    All-from_get_or P (range_with_len b n) 0
-    (λ i inside.
-    let small : i < n = omega (arith, inside, length-range_with_len b n) in
-    subst P (sym (get_or-range_with_len b n i 0 small)) (each (b + i) (omega arith) (omega (arith, small))))
+use Rattle.pmem_base.proofs.ListLaws.{All-into_range}
 
 none_open_at_start : (g : Shape) → (start_view g).open_pages ≡ []
 unfolding start_view
@@ -72,7 +64,7 @@ module _ (setup : Setup) where
   fresh_range b zero = tt
   fresh_range b (suc n) = (
     All-map (IsAfter (first_seal setup b)) (first_seal setup) (range_with_len (b + 1) n)
-        (range-All (λ c. IsAfter (first_seal setup b) (first_seal setup c)) (b + 1) n (λ c after below same. absurd (omega (arith, after, same)))),
+        (All-into_range (λ c. IsAfter (first_seal setup b) (first_seal setup c)) (b + 1) n (λ c after below same. absurd (omega (arith, after, same)))),
     fresh_range (b + 1) n,
   )
 
@@ -106,7 +98,7 @@ module _ (setup : Setup) where
               marks_in_range =
                   subst (λ ms. All (IsMark geometry) ms) (sym it.marks)
                   (All-map (IsMark geometry) (first_seal setup) (range_with_len 0 (data_lines geometry))
-                  (range-All (λ a. IsMark geometry (first_seal setup a)) 0 (data_lines geometry)
+                  (All-into_range (λ a. IsMark geometry (first_seal setup a)) 0 (data_lines geometry)
                   (λ a from below. (
                     omega (arith, below),
                     ctr_in_range,
@@ -124,7 +116,7 @@ module _ (setup : Setup) where
         seals_tagged =
             subst (λ ms. All (IsSealTagged setup.formulas) ms) (sym it.marks)
             (All-map (IsSealTagged setup.formulas) (first_seal setup) (range_with_len 0 (data_lines geometry))
-            (range-All (λ a. IsSealTagged setup.formulas (first_seal setup a)) 0 (data_lines geometry) (λ a from below. refl)));
+            (All-into_range (λ a. IsSealTagged setup.formulas (first_seal setup a)) 0 (data_lines geometry) (λ a from below. refl)));
         valid_regs =
             search rules;
         held_back = subst (λ ps. All (IsHeldBack geometry ledger.truth) ps) (sym it.progress) (All-nil (IsHeldBack geometry ledger.truth));

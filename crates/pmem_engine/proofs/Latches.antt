@@ -8,7 +8,6 @@ use Rattle.pmem_base.specs.Registers.{IsGroup}
 use Rattle.seal_ledger.specs.Ledger.{LedgerState}
 use Rattle.suite.specs.Setup.{Setup}
 use Rattle.pmem_engine.specs.Invariants.{IsAnchored}
-use Rattle.pmem_engine.specs.Steps.{IsEmptied}
 
 -- another group or stop-loss number
 pub anchored-latched : (setup : Setup) (old_regs new_regs : Regs) (ledger : LedgerState) → IsAnchored setup old_regs ledger → new_regs.root ≡ old_regs.root → new_regs.progress.items ≡ old_regs.progress.items → IsGroup (layout.device_lines setup.shape) new_regs.group.items → IsTrue (is_loss new_regs.loss) → IsAnchored setup new_regs ledger
@@ -17,8 +16,3 @@ anchored-latched setup old_regs new_regs ledger anchored root progress group los
 -- no entries are a group
 pub IsGroup-nil : (size : ℕ) → IsGroup size []
 IsGroup-nil size = search rules
-
--- emptying the group keeps all anchored
-pub anchored-emptied : (setup : Setup) (old new : Regs) (ledger : LedgerState) → IsEmptied old new
-    → IsAnchored setup old ledger → IsAnchored setup new ledger
-anchored-emptied setup old new ledger emptied anchored = search rules

@@ -61,6 +61,7 @@ pub mod WriteFinish
 pub mod WriteSteps
 pub mod WriteBegun
 pub mod WriteExits
+pub mod WriteSeals
 pub mod Written
 pub mod WriteEnded
 pub mod PlainMade

@@ -1,5 +1,6 @@
 -- A read: its path was fetched, and its line unsealed or refused.
-use Rattle.std.proofs.Common.{rules, ℕ, ◌≡◌, inr, true, false, [], Result, Ok, Err, refl, sym, ap, subst, subst₂, ◌∙◌, arith}
+use Rattle.std.proofs.lemmas.Grind.{common_steps}
+use Rattle.std.proofs.Common.{rules, ℕ, ◌≡◌, true, false, [], Result, Ok, Err, refl, sym, ap, subst, subst₂, ◌∙◌, arith}
 use Rattle.std.specs.Prelude.{IsOk}
 use Rattle.std.proofs.lemmas.Bool.{true≢false}
 use Rattle.pmem_base.specs.declared.lines.Line.{Line}
@@ -10,25 +11,17 @@ use Rattle.board.specs.Counts.{RisesBy}
 use Rattle.board.specs.Device.{Device}
 use Rattle.suite.specs.Setup.{Setup}
 use Rattle.suite.specs.Formulas.{Formulas}
-use Rattle.plain_model.specs.View.{plain_line}
 use Rattle.plain_model.specs.Bounds.{path_length}
 use Rattle.meta_path.specs.Blocks.{IsPathCached, dirty_count}
 use Rattle.pmem_engine.specs.declared.fault.Fault.{Fault}
 use Rattle.pmem_engine.specs.declared.fault.Fault.TheVariants as Fail
 use Rattle.pmem_engine.specs.declared.reading.Unsealed.{Unsealed}
-use Rattle.pmem_engine.specs.Invariants.{IsSound}
 use Rattle.pmem_engine.specs.Parts.{Parts, AreTrusted, AreSound}
 use Rattle.pmem_engine.specs.Outcomes.{Outcome, going, cut, shown, is_going, outcome_of, HasDone, TakesSteps, TakesAtMost}
 use Rattle.pmem_engine.specs.Calls.{IsDownAnswer, IsUnrefused, TakesWithin, TakesWithinOfLive, AnswersRead, IsReadOfCached}
 use Rattle.pmem_engine.specs.Inner.{HasFetched, HasUnsealed, HasReadUnder, IsLastCounter, AnswersUnseal}
-use Rattle.pmem_engine.proofs.Told.{told_gives}
 use Rattle.pmem_engine.proofs.Chained.{done_chained}
-
--- what is sound is trusted
-pub sound_trusted : (setup : Setup) (parts : Parts) → AreSound setup parts → AreTrusted setup parts
-sound_trusted setup parts sound =
-    told_gives (λ lines. IsSound setup parts.engine lines parts.device.regs parts.ledger) (AreTrusted setup parts) parts.device.lines
-    (λ lines told it. it.trusted) sound
+use Rattle.pmem_engine.proofs.StillLaws.{sound_trusted}
 
 -- the plain line of a line unsealed
 abbrev pub plain_answer : Result Unsealed Fault → Result Line Fault
@@ -109,14 +102,7 @@ module _ (setup : Setup) (a : ℕ) (ctr : Ctr) (old mid new : Parts) (its_shape 
 
   answers_read : (answer : Result Unsealed Fault) → AnswersUnseal setup a mid new answer
       → AnswersRead setup a old new (plain_answer answer)
-  answers_read (Ok unsealed) it =
-      (ap (λ ledger. plain_line setup.formulas ledger.marks a) (sym same_ledger) ∙ it.0, it.1)
-  answers_read (Err Fail.Cut) it = tt
-  answers_read (Err Fail.Down) it = it
-  answers_read (Err (Fail.Meta x)) it = absurd it
-  answers_read (Err (Fail.Tag at)) it = it
-  answers_read (Err (Fail.Spent page)) it = it
-  answers_read (Err Fail.Shown) it = inr it
+  answers_read v0 it = grind (arith, common_steps)
 
   pub read_after : (answer : Result Unsealed Fault) → HasUnsealed setup a ctr mid new answer
       → (AreTrusted setup mid → IsLastCounter mid a ctr) → HasReadUnder setup a old new (plain_answer answer)

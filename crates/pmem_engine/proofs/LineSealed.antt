@@ -37,10 +37,10 @@ use Rattle.pmem_engine.specs.Sealing.{next_counter_of, raised_block, seal_steps,
 use Rattle.pmem_engine.proofs.Chained.{done_chained}
 use Rattle.pmem_engine.proofs.PlainLines.{plain_line-sealed, plain_line-other}
 use Rattle.pmem_engine.proofs.Unsealing.{risen_never_falls}
-use Rattle.pmem_engine.proofs.Committed.{redone_none}
 use Rattle.pmem_engine.proofs.Reseals.{sealed_here, unsealed_other}
 use Rattle.pmem_engine.proofs.Stored.{cached_true_line, cached_lines_true, kept_named}
 use Rattle.pmem_engine.proofs.PathSeals.{IsPathSealing, done_sealed, cut_sealed, sealed_line_true, sealed_line_kept, sealed_clean}
+use Rattle.commit_regs.proofs.GroupLemmas.{redone-nil}
 
 module _ (setup : Setup) (at : ℕ) (plain : Line) (engine : EngineState) (old : Device) (before : LedgerState) (tags digests : ℕ)
     (usable : IsUsable setup.shape engine old before) (up : engine.down ≡ false) where
@@ -202,7 +202,7 @@ module _ (setup : Setup) (at : ℕ) (plain tag_line : Line) (persisted : Bool) (
         ∙ sealed_line_kept setup next ctr.minor persisted block lines root engine engine_now mid new before after tags digests tags_now
         digests_now sealing done (trusted_mid trusted) (sym is_due ∙ rest) mid.lines refl
         ∙ ap (option_map (λ ls. stored_meta setup.shape ls position))
-        (read.lines ∙ sym (ap (λ items. redone_told items old.lines) was_unarmed ∙ redone_none old.lines))
+        (read.lines ∙ sym (ap (λ items. redone_told items old.lines) was_unarmed ∙ redone-nil old.lines))
 
     -- cut while its group was armed
     pub seal_cut : IsDevice new → IsCutArmed group mid new → HasSealedNext setup at plain first final (Err Fail.Cut)
@@ -273,7 +273,7 @@ module _ (setup : Setup) (at : ℕ) (plain tag_line : Line) (persisted : Bool) (
         }
       where
         comes : lines_redone final ≡ redone_told group mid.lines
-        comes = ap₂ redone_told finished.no_group finished.lines ∙ redone_none (redone_told group mid.lines)
+        comes = ap₂ redone_told finished.no_group finished.lines ∙ redone-nil (redone_told group mid.lines)
 
         path_named : IsPathNamedInMirror setup.shape engine_now (page_of at)
         path_named = kept_named setup.shape (page_of at) persisted lines engine engine_now done.stored cached named

@@ -1,13 +1,14 @@
 -- The stop-loss number is changed: what the call keeps, and what its answers say.
+use Rattle.std.proofs.lemmas.Grind.{common_steps}
 use Rattle.std.proofs.Common.{rules, ℕ, ◌≡◌, ◌≢◌, ◌<◌, ◌≤◌, ◌+◌, ◌*◌, ◌⊎◌, inl, inr, Bool, true, false, List, [], Option, Some, None, Result, Ok, Err, refl, sym, ap, ap₂, subst, subst₂, ◌∙◌, arith}
-use Rattle.std.specs.Prelude.{IfSome, MatchBool, option_map, is_some, nat_lt, ◌==◌, IsTrue}
-use Rattle.std.proofs.lemmas.Bool.{true≢false, cases_Bool, cases_lt, ltb-true, lt-ltb, eq-eqb, ne_eqb}
+use Rattle.std.specs.Prelude.{IfSome, MatchBool, is_some, nat_lt, ◌==◌, IsTrue}
+use Rattle.std.proofs.lemmas.Bool.{true≢false, cases_Bool, cases_lt, ltb-true, lt-ltb, ne_eqb}
 use Rattle.std.proofs.lemmas.List.{append-nil}
 use Rattle.std.proofs.lemmas.Option.{same_Some}
 use Rattle.pmem_base.specs.declared.lines.Line.{Line}
 use Rattle.pmem_base.specs.Shape.{is_loss}
 use Rattle.pmem_base.specs.Layout as layout
-use Rattle.pmem_base.specs.Lines.{line_at, tag_slot}
+use Rattle.pmem_base.specs.Lines.{line_at}
 use Rattle.bonsai_tree.specs.Positions.{level_of, counter_position}
 use Rattle.bonsai_tree.proofs.Levels.{counter_position-lt}
 use Rattle.bonsai_tree.proofs.PathPositions.{path_of-block, path_of-level}
@@ -36,7 +37,7 @@ use Rattle.pmem_engine.proofs.CacheLaws.{IsTrueOrDirty-sound}
 use Rattle.pmem_engine.proofs.LossLaws.{IsTrusted-loss_set, IsSound-loss_set, IsCounterStored-loss_raised}
 use Rattle.pmem_engine.proofs.Chained.{gone_chained}
 use Rattle.pmem_engine.proofs.Ended.{ended_parts, gone_ended, answers_down}
-use Rattle.pmem_engine.proofs.Flushes.{nothing_done, cut_still, no_steps_of}
+use Rattle.pmem_engine.proofs.Flushes.{nothing_done, cut_still}
 
 -- ---- numbers
 
@@ -134,25 +135,10 @@ module _ (setup : Setup) (n : ℕ) (engine : EngineState) (mid after : Device) (
       sound
 
   places : KeepsPlaces setup [] start finish
-  places =
-      record {
-        seals =
-            search rules;
-        data_lines = λ a within unsealed. ap (option_map (λ lines. line_at lines a)) redone_same;
-        tag_slots =
-            λ a within unsealed.
-            ap (option_map (λ lines. tag_slot (line_at lines (layout.tag_line setup.shape a)) a)) redone_same;
-      }
+  places = grind (arith, common_steps)
 
   metadata : KeepsMeta setup [] start finish
-  metadata =
-      record {
-        true_or_dirty =
-            λ x within held.
-            subst (λ o. IfSome o (λ lines. IsTrueOrDirty setup.shape engine.cache lines ledger.truth x)) (sym redone_same) held;
-        changed = λ x within. inl (ap (option_map (λ lines. stored_meta setup.shape lines x)) redone_same);
-        dirty = λ bank x now. inl now;
-      }
+  metadata = grind (arith, common_steps)
 
   pub latch_gone : HasGone setup going [] start finish
   latch_gone =
@@ -350,24 +336,7 @@ module _ (setup : Setup) (n : ℕ) (old new : EngineState) (before after : Devic
 
   loss_answer : (answer : Result ℕ Fault) → HasChangedLoss n old new before after answer
       → AnswersLoss setup.shape n call_start (ended_parts call_finish (outcome_of answer)) answer
-  loss_answer (Ok steps) (inl it) = (
-    match_true (n == before.regs.loss) (steps ≡ 0) _ (eq-eqb n before.regs.loss it.0) it.1,
-    subst (λ k. TakesSteps k before after) (sym it.1)
-        (no_steps_of before after (ap (λ d. d.writes) it.3) (ap (λ d. d.latches) it.3)),
-    ap (λ d. d.regs.loss) it.3 ∙ sym it.0,
-  )
-  loss_answer (Ok steps) (inr it) = (
-    latched_steps steps it.0 it.1,
-    subst (λ k. TakesSteps k before after) (sym it.1.steps_are) (takes it.1.count it.1.mid it.1.way.written it.1.latched),
-    ap (λ regs. regs.loss) it.1.latched.regs,
-  )
-  loss_answer (Err Fail.Cut) it =
-      (cut_steps it.0 it.1, ap (λ regs. regs.loss) it.1.cut.regs ∙ ap (λ regs. regs.loss) it.1.written.regs)
-  loss_answer (Err Fail.Down) it = it
-  loss_answer (Err (Fail.Meta x)) it = it
-  loss_answer (Err (Fail.Tag a)) it = it
-  loss_answer (Err (Fail.Spent page)) it = it
-  loss_answer (Err Fail.Shown) it = it
+  loss_answer v0 v1 = grind (arith, common_steps)
 
   loss_not_down : (answer : Result ℕ Fault) → HasChangedLoss n old new before after answer → IsDownAnswer answer → ⊥
   loss_not_down (Ok steps) it down = down
@@ -379,24 +348,10 @@ module _ (setup : Setup) (n : ℕ) (old new : EngineState) (before after : Devic
   loss_not_down (Err Fail.Shown) it down = it
 
   loss_down : (answer : Result ℕ Fault) → HasChangedLoss n old new before after answer → new.down ≡ old.down
-  loss_down (Ok steps) (inl it) = ap (λ e. e.down) it.2
-  loss_down (Ok steps) (inr it) = it.1.way.written.down
-  loss_down (Err Fail.Cut) it = it.1.written.down
-  loss_down (Err Fail.Down) it = absurd it
-  loss_down (Err (Fail.Meta x)) it = absurd it
-  loss_down (Err (Fail.Tag a)) it = absurd it
-  loss_down (Err (Fail.Spent page)) it = absurd it
-  loss_down (Err Fail.Shown) it = absurd it
+  loss_down v0 v1 = grind (arith, common_steps)
 
   loss_reads : (answer : Result ℕ Fault) → HasChangedLoss n old new before after answer → after.reads ≡ before.reads
-  loss_reads (Ok steps) (inl it) = ap (λ d. d.reads) it.3
-  loss_reads (Ok steps) (inr it) = it.1.latched.reads ∙ it.1.way.written.reads
-  loss_reads (Err Fail.Cut) it = it.1.cut.reads ∙ it.1.written.reads
-  loss_reads (Err Fail.Down) it = absurd it
-  loss_reads (Err (Fail.Meta x)) it = absurd it
-  loss_reads (Err (Fail.Tag a)) it = absurd it
-  loss_reads (Err (Fail.Spent page)) it = absurd it
-  loss_reads (Err Fail.Shown) it = absurd it
+  loss_reads v0 v1 = grind (arith, common_steps)
 
   blocks_cached : (count : ℕ) (mid : Device) → HasWrittenBlocks count old new before mid → (bank x : ℕ)
       → is_cached setup.shape new.cache bank x ≡ is_cached setup.shape old.cache bank x
@@ -405,14 +360,7 @@ module _ (setup : Setup) (n : ℕ) (old new : EngineState) (before after : Devic
 
   loss_cached : (answer : Result ℕ Fault) → HasChangedLoss n old new before after answer → (bank x : ℕ)
       → is_cached setup.shape new.cache bank x ≡ is_cached setup.shape old.cache bank x
-  loss_cached (Ok steps) (inl it) bank x = ap (λ e. is_cached setup.shape e.cache bank x) it.2
-  loss_cached (Ok steps) (inr it) bank x = blocks_cached it.1.count it.1.mid it.1.way.written bank x
-  loss_cached (Err Fail.Cut) it bank x = blocks_cached it.1.count it.1.mid it.1.written bank x
-  loss_cached (Err Fail.Down) it bank x = absurd it
-  loss_cached (Err (Fail.Meta y)) it bank x = absurd it
-  loss_cached (Err (Fail.Tag a)) it bank x = absurd it
-  loss_cached (Err (Fail.Spent page)) it bank x = absurd it
-  loss_cached (Err Fail.Shown) it bank x = absurd it
+  loss_cached v0 v1 bank x = grind (arith, common_steps)
 
   pub loss_set : (answer : Result ℕ Fault) → old.down ≡ false → HasChangedLoss n old new before after answer
       → HasSetLoss setup n call_start (ended_parts call_finish (outcome_of answer)) answer

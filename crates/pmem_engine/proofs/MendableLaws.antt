@@ -1,6 +1,6 @@
 -- Laws of a device that can be mended: what redoing the group gives, and which line writes keep it.
 use Rattle.std.proofs.lemmas.Grind.{common_steps}
-use Rattle.std.proofs.Common.{rules, ℕ, ◌≡◌, ◌<◌, ◌≤◌, ◌+◌, ◌-◌, ◌*◌, false, List, [], length, take, drop, replicate, All, ap, sym, ◌∙◌, subst, inl, inr, ◌⊎◌, IsTrue, arith}
+use Rattle.std.proofs.Common.{rules, ℕ, ◌≡◌, ◌<◌, ◌≤◌, ◌+◌, ◌-◌, ◌*◌, false, List, [], length, take, drop, replicate, ap, sym, ◌∙◌, subst, inl, inr, ◌⊎◌, IsTrue, arith}
 use Rattle.std.proofs.lemmas.Bool.{cases_lt}
 use Rattle.std.proofs.lemmas.List.{get_or-drop, length-take, length-drop, length-replicate, get_or-replicate, ext_get_or}
 use Rattle.pmem_base.specs.declared.lines.Line.{Line}
@@ -9,10 +9,9 @@ use Rattle.pmem_base.specs.Shape.{Shape}
 use Rattle.pmem_base.specs.Registers.{IsValidRegs}
 use Rattle.pmem_base.specs.declared.answers.Mark.{Mark}
 use Rattle.pmem_base.specs.Layout as layout
-use Rattle.pmem_base.specs.Lines.{IsLine, line_at, zero_line}
+use Rattle.pmem_base.specs.Lines.{line_at, zero_line}
 use Rattle.bonsai_tree.specs.Positions.{level_of, counter_position}
 use Rattle.bonsai_tree.proofs.Levels.{counter_position-lt}
-use Rattle.pmem_base.proofs.LineSets.{length-put_lines, put_lines-AreLines}
 use Rattle.board.specs.Device.{AreLinesOf}
 use Rattle.commit_regs.specs.Groups.{redone}
 use Rattle.seal_ledger.specs.Ledger.{LedgerState}
@@ -24,12 +23,9 @@ use Rattle.pmem_engine.specs.Invariants.{IsAnchored, IsSealStored, IsCounterStor
 use Rattle.pmem_engine.specs.Mendable.{IsAllTrue, IsShadowZero}
 use Rattle.pmem_engine.specs.Steps.{IsEmptied}
 use Rattle.pmem_engine.specs.Recached.{IsNewEngine}
+use Rattle.commit_regs.proofs.GroupLemmas.{AreLinesOf-redone}
 
 -- ---- lists of lines
-
-pub AreLinesOf-redone : (size : ℕ) (group : List (ℕ × Line)) (lines : List Line) → All (λ entry. IsLine entry.1) group → AreLinesOf size lines → AreLinesOf size (redone group lines)
-AreLinesOf-redone size group lines all h =
-    record { count = length-put_lines group lines ∙ h.count; each = put_lines-AreLines group lines all h.each }
 
 -- ---- durable, and mendable
 

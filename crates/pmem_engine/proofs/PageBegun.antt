@@ -33,7 +33,7 @@ use Rattle.pmem_engine.specs.Inner.{cached_block}
 use Rattle.pmem_engine.specs.Sealing.{begin_group, HasPageBegun, HasBeginCommitted, IsNothingDone, IsBeginCut, HasBegunPage}
 use Rattle.pmem_engine.proofs.Stored.{cached_true_line, cached_lines_true, kept_named}
 use Rattle.pmem_engine.proofs.PathBegins.{IsBeginning, done_begun, cut_begun, begun_line, begun_clean, begun_block}
-use Rattle.pmem_engine.proofs.Committed.{redone_none}
+use Rattle.commit_regs.proofs.GroupLemmas.{redone-nil}
 
 one_made : {page : ℕ} → Begin page ∷ [] ≡ [] → ⊥
 one_made none = omega (arith, ap length none)
@@ -180,7 +180,7 @@ module _ (setup : Setup) (page : ℕ) (engine engine_now : EngineState) (old new
                           ap₂ (λ items told. option_map (λ ls. stored_meta setup.shape ls (counter_position setup.shape page))
                           (redone_told items told)) finished.no_group finished.lines
                           ∙ ap (option_map (λ ls. stored_meta setup.shape ls (counter_position setup.shape page)))
-                          (redone_none (redone_told (begin_group setup.shape page block) old.lines))
+                          (redone-nil (redone_told (begin_group setup.shape page block) old.lines))
                           ∙ begun_line setup page register block lines root engine engine_now old new before after tags digests tags_now
                           digests_now beginning done trusted old.lines
                           (subst (λ size. AreToldLines size old.lines) usable.ready.its_size whole)

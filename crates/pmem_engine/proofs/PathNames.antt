@@ -33,6 +33,7 @@ use Rattle.pmem_engine.specs.Steps.{IsPlaceKept}
 use Rattle.pmem_engine.proofs.RegionLemmas.{stored_meta-set_shadow, IsPlaceKept-same, IsPlaceKept-trans, IsPlaceKept-set_shadow}
 use Rattle.pmem_engine.proofs.PathSlots.{slot_number_at-own}
 use Rattle.pmem_engine.proofs.NameLaws.{IsSound-named}
+use Rattle.shadow_tables.proofs.EntryLemmas.{entry_index_below}
 
 -- ---- which lines change
 
@@ -105,9 +106,6 @@ none_written g cache page mirror (suc n) within named =
 
 -- ---- the copy of the shadow lines
 
-index_low : (g : Shape) (bank n : ℕ) → entry_index g bank n < 16
-index_low g bank n = search rules
-
 pub record IsMirror (g : Shape) (mirror : List Line) : Type 0 where
   pub long : length mirror ≡ shadow_lines g
   pub whole : All IsLine mirror
@@ -115,7 +113,7 @@ pub record IsMirror (g : Shape) (mirror : List Line) : Type 0 where
 naming_line-whole : (g : Shape) (mirror : List Line) (bank n x : ℕ) → All IsLine mirror → IsLine (naming_line g mirror bank n x)
 naming_line-whole g mirror bank n x whole =
     IsLine-with_entry (line_at mirror (entry_line g bank n)) (entry_index g bank n) (x + 1)
-    (IsLine-line_at mirror (entry_line g bank n) whole) (index_low g bank n)
+    (IsLine-line_at mirror (entry_line g bank n) whole) (entry_index_below g bank n)
 
 pub named_mirror : (g : Shape) (cache : Banks) (page : ℕ) (mirror : List Line) (n : ℕ) → IsMirror g mirror
     → IsMirror g (named_path g cache page mirror n)

@@ -1,10 +1,9 @@
 -- Each place by itself, on any device contents: what a write, a turn and a begin, armed over these lines and
 -- redone, keep of a data line's seal, of a data line and its tag slot, of a counter block, of a metadata line.
 -- Only the chip is anchored; nothing is said of any other place of the device.
-use Rattle.std.proofs.Common.{rules, ◌≡◌, ◌≢◌, ℕ, ◌+◌, ◌%◌, ◌<◌, List, refl, sym, ap, ◌∙◌, arith}
+use Rattle.std.proofs.Common.{rules, ◌≡◌, ◌≢◌, ℕ, ◌+◌, ◌%◌, ◌<◌, List, refl, sym, ap, ◌∙◌}
 use Rattle.pmem_base.specs.declared.lines.Line.{Line}
 use Rattle.pmem_base.specs.declared.registers.Regs.{Regs}
-use Rattle.pmem_base.specs.Shape.{Shape}
 use Rattle.pmem_base.specs.Layout.{data_lines, device_lines, meta_lines, pages, page_of, index_in_page}
 use Rattle.pmem_base.specs.Marks.{SealOf}
 use Rattle.split_counters.specs.Blocks.{minor_of}
@@ -19,14 +18,11 @@ use Rattle.pmem_engine.specs.Invariants.{IsAnchored, IsSealStored, IsCounterStor
 use Rattle.pmem_engine.specs.Sealed.{made_seal, IsSealed, IsResealed, IsBegun}
 use Rattle.pmem_engine.specs.Steps.{IsPlaceKept, sealed_lines, with_true_line}
 use Rattle.pmem_engine.specs.Recached.{IsTrueOrDirty, IsPathDirty, ArePathNodesDirty, IsPathStored}
-use Rattle.pmem_engine.proofs.RegionLemmas.{IsPlaceKept-trans, IsPlaceKept-set_meta, IsPlaceKept-sealed, IsSealStored-sealed, IsSealStored-sealed_here, IsSealStored-set_meta, IsSealStored-kept, length-sealed_lines, stored_meta-sealed_lines}
+use Rattle.pmem_engine.proofs.RegionLemmas.{IsPlaceKept-trans, IsPlaceKept-set_meta, IsPlaceKept-sealed, IsSealStored-sealed, IsSealStored-sealed_here, IsSealStored-set_meta, IsSealStored-kept, length-sealed_lines, stored_meta-sealed_lines, page_within}
 use Rattle.pmem_engine.proofs.CounterBlocks.{IsCounterStored-sealed, IsCounterStored-with_block, IsCounterStored-sealed_with_block}
 use Rattle.pmem_engine.proofs.Bridges.{IsSealed-SealsOne, IsSealed-ChangesPath, IsSealed-bumped, IsSealed-minor, IsResealed-SealsOne, IsBegun-SealsNone, IsBegun-ChangesPath}
 use Rattle.pmem_engine.proofs.ArmLaws.{IsSealable-sealed, IsSealable-resealed}
 use Rattle.pmem_engine.proofs.CommitLaws.{IsTrueOrDirty-with_block}
-
-page_within : (g : Shape) (a : ℕ) → a < data_lines g → page_of a < pages g
-page_within g a h = omega (arith, h)
 
 -- ---- a write: line a sealed, with or without its page's counter block
 

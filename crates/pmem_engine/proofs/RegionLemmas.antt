@@ -1,18 +1,20 @@
 -- What the parts of the device show after a write to one of its regions: metadata lines, names, data
 -- lines and tags, each by itself and over any lines.
+use Rattle.std.proofs.lemmas.Grind.{common_steps}
 use Rattle.std.proofs.Common.{rules, ◌≡◌, ◌≢◌, ℕ, ◌<◌, List, length, Some, refl, sym, ap, subst, ◌∙◌, ◌⊎◌, inl, inr, arith}
-use Rattle.std.specs.Prelude.{option_map, slice_set}
+use Rattle.std.specs.Prelude.{slice_set}
 use Rattle.std.proofs.lemmas.Bool.{cases_eq}
 use Rattle.pmem_base.specs.declared.lines.Line.{Line}
 use Rattle.pmem_base.specs.declared.answers.Mark.{Mark}
 use Rattle.pmem_base.specs.Shape.{Shape}
+use Rattle.pmem_base.specs.Layout as layout
 use Rattle.pmem_base.specs.Layout.{device_lines, data_lines, meta_lines, tag_line, meta_line, shadow_line}
 use Rattle.pmem_base.specs.Lines.{line_at, tag_slot}
 use Rattle.pmem_base.specs.Marks.{SealOf, last_seal}
 use Rattle.pmem_base.proofs.LineSets.{line_at-set_same}
 use Rattle.pmem_base.proofs.Regions.{tag_line≢data, tag_on_device, data_before_shadow, tag_before_shadow, meta_before_shadow}
 use Rattle.line_seal.specs.Seals.{with_tag}
-use Rattle.line_seal.proofs.TagSlots.{tag_slot-with_same, tag_slot-with_other}
+use Rattle.line_seal.proofs.TagSlots.{tag_slot-with_other}
 use Rattle.board.specs.Device.{AreLinesOf}
 use Rattle.board.proofs.LineLemmas.{line_at-long}
 use Rattle.bonsai_tree.specs.Positions.{level_of}
@@ -20,6 +22,10 @@ use Rattle.shadow_tables.specs.Entries.{is_named_in, shadow_of}
 use Rattle.shadow_tables.proofs.ShadowLines.{shadow_of-set_before}
 use Rattle.pmem_engine.specs.Invariants.{IsSealStored, stored_meta, is_named}
 use Rattle.pmem_engine.specs.Steps.{IsPlaceKept, SealsOne, sealed_lines}
+
+-- a data line lies in a page
+pub page_within : (g : Shape) (a : ℕ) → a < layout.data_lines g → layout.page_of a < layout.pages g
+page_within g a h = omega arith
 
 -- ---- metadata lines
 
@@ -120,17 +126,7 @@ tag_line_long g lines a seal it = line_at-long (device_lines g) lines (tag_line 
 -- the sealed line's own seal is stored, whatever stood there before
 pub IsSealStored-sealed_here : (g : Shape) (lines : List Line) (marks : List Mark) (a : ℕ) (seal : SealOf)
     → IsSealable g lines a seal → last_seal marks a ≡ Some seal → IsSealStored g (sealed_lines g lines a seal) marks a
-IsSealStored-sealed_here g lines marks a seal it here =
-    record {
-      cipher =
-          search rules;
-      tag =
-          ap (option_map (λ (s : SealOf). s.tag)) here
-          ∙ ap Some
-          (sym
-          (ap (λ l. tag_slot l a) (line_at-sealed_lines_tag g lines a seal (tag_within g lines a seal it))
-          ∙ tag_slot-with_same (line_at lines (tag_line g a)) a seal.tag (tag_line_long g lines a seal it) it.its_tag));
-    }
+IsSealStored-sealed_here g lines marks a seal it here = grind (arith, common_steps)
 
 -- every other line's data line and tag slot are as they were
 pub IsPlaceKept-sealed : (g : Shape) (lines : List Line) (a : ℕ) (seal : SealOf) (b : ℕ) → IsSealable g lines a seal

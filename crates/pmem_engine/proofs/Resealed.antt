@@ -40,13 +40,13 @@ use Rattle.pmem_engine.specs.Calls.{IsUsable, IsMemory, IsDownAnswer, IsUnrefuse
 use Rattle.pmem_engine.specs.Inner.{HasUnsealed, IsLastCounter}
 use Rattle.pmem_engine.specs.Committing.{next_seal_of, entries_of, HasLineDone}
 use Rattle.pmem_engine.specs.Resealing.{IsNextHeld, HasLineSealed, HasResealCommitted, IsCutUnarmed, IsResealCutArmed, IsResealCut, line_of_page, HasResealMarks, AnswersReseal, CountsReseal, HasResealed}
-use Rattle.pmem_engine.proofs.StillLaws.{done_cut}
+use Rattle.pmem_engine.proofs.StillLaws.{done_cut, sound_trusted}
 use Rattle.pmem_engine.proofs.Chained.{done_chained}
 use Rattle.pmem_engine.proofs.PlainLines.{plain_line-resealed}
 use Rattle.pmem_engine.proofs.Unsealing.{risen_never_falls, same_never_falls}
 use Rattle.pmem_engine.specs.Faults.{IsTagRefused, IsForgedShown}
-use Rattle.pmem_engine.proofs.Committed.{sound_trusted, redone_none}
 use Rattle.pmem_engine.proofs.Reseals.{IsResealing, sealed_here, done_resealed, cut_resealed}
+use Rattle.commit_regs.proofs.GroupLemmas.{redone-nil}
 
 -- a metadata line where lines and registers are as they were
 pub meta_of_same : (g : Shape) (x : ℕ) (old new : Parts) → regs_of new ≡ regs_of old → new.device.lines ≡ old.device.lines
@@ -461,7 +461,7 @@ module _ (setup : Setup) (n : ℕ) (engine : EngineState) (old : Device) (before
                 λ trusted x within.
                 kept_meta trusted x committed.line_sealed
                 (ap₂ redone_told committed.device.no_group committed.device.lines
-                ∙ redone_none (redone_told (entries_of setup.shape sealing) mid.lines));
+                ∙ redone-nil (redone_told (entries_of setup.shape sealing) mid.lines));
           }
         where
           four : new.writes < last_count → new.latches < last_count

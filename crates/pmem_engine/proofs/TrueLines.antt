@@ -29,6 +29,7 @@ use Rattle.plain_model.proofs.Views.{counter_at-last}
 use Rattle.pmem_engine.specs.Truth.{true_block, true_counter}
 use Rattle.pmem_engine.specs.Invariants.{IsHeldBack, register_page, IsAnchored}
 use Rattle.pmem_engine.proofs.Anchored.{true_block-IsBlock}
+use Rattle.pmem_base.proofs.ListLaws.{map-map}
 
 -- the register of a page, as the view's open page
 open_page-registers : (registers : List Progress) (page : ℕ) → find (λ opened. opened.page == page) (map register_page registers) ≡ option_map register_page (register_of registers page)
@@ -48,10 +49,6 @@ place_in_page page i small = omega (arith, small)
 
 plus_zero : (n : ℕ) → n ≡ n + 0
 plus_zero n = omega arith
-
-map_map : {X Y Z : Type 0} (g : Y → Z) (h : X → Y) (xs : List X) → map g (map h xs) ≡ map (λ x. g (h x)) xs
-map_map g h [] = refl
-map_map g h (x ∷ xs) = ap (λ ys. g (h x) ∷ ys) (map_map g h xs)
 
 module _ (setup : Setup) (regs : Regs) (ledger : LedgerState) (anchored : IsAnchored setup regs ledger) where
   abbrev geometry : Shape
@@ -101,7 +98,7 @@ module _ (setup : Setup) (regs : Regs) (ledger : LedgerState) (anchored : IsAnch
       let first : (counter_at view_now (64 * page)).major ≡ (true_block geometry ledger.truth page).major =
       ap (λ n. (counter_at view_now n).major) (plus_zero (64 * page)) ∙ ap (λ ctr. ctr.major) (closed_counter page 0 inside none (omega arith)) in
       let minors : map (λ ctr. ctr.minor) (page_counters view_now page) ≡ (true_block geometry ledger.truth page).minors =
-      map_map (λ ctr. ctr.minor) (λ i. counter_at view_now (64 * page + i)) places_of_page
+      map-map (λ ctr. ctr.minor) (λ i. counter_at view_now (64 * page + i)) places_of_page
       ∙ minors_of_page page (λ i. (counter_at view_now (64 * page + i)).minor) (λ i small. ap (λ ctr. ctr.minor) (closed_counter page i inside none small)) in
       ap (λ (n : ℕ). record { major = n; minors = map (λ ctr. ctr.minor) (page_counters view_now page) }) first
       ∙ ap (λ (ms : List ℕ). record { major = (true_block geometry ledger.truth page).major; minors = ms }) minors

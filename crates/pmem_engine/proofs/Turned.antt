@@ -1,5 +1,6 @@
 -- The exits of a turn: the engine is down, no page is open, or the oldest page's lowest line was to be sealed anew.
-use Rattle.std.proofs.Common.{rules, ℕ, ◌≡◌, ◌<◌, ◌+◌, ◌*◌, inl, inr, Bool, true, false, List, [], ◌∷◌, length, map, get_or, Option, Some, None, Ok, Err, refl, sym, ap, subst, ◌∙◌, arith}
+use Rattle.std.proofs.lemmas.Grind.{common_steps}
+use Rattle.std.proofs.Common.{rules, ℕ, ◌≡◌, ◌<◌, ◌+◌, ◌*◌, Bool, true, false, List, [], ◌∷◌, length, map, get_or, Option, Some, None, Ok, Err, refl, sym, ap, subst, ◌∙◌, arith}
 use Rattle.std.specs.Prelude.{Result, MatchOption, IfOk, option_map, option_and_then, not, ◌||◌, IsSome, is_some}
 use Rattle.std.proofs.lemmas.Bool.{true≢false}
 use Rattle.pmem_base.specs.declared.lines.Line.{Line}
@@ -139,16 +140,7 @@ module _ (setup : Setup) (old mid : Parts) (answer : Result (ℕ × ℕ) Fault) 
       → IfOk reply (HasSealedHeld (line_of_page register it.place) (length (not_done register)) old mid)
       → AnswersReseal setup (line_of_page register it.place) old mid reply
       → HasTurnMarks setup.formulas (moment_in setup memory old) it.made (turned_of reply)
-  turn_marks (Ok sealed) trusted memory made line says =
-      (is_mark trusted memory made, is_lowest trusted memory sealed.0 line.at, is_left trusted memory sealed.1 line.left)
-  turn_marks (Err Fail.Cut) trusted memory (inl none) line says = (is_open trusted memory, inl none)
-  turn_marks (Err Fail.Cut) trusted memory (inr made) line says =
-      (is_open trusted memory, inr (is_mark trusted memory made))
-  turn_marks (Err (Fail.Tag b)) trusted memory made line says = (made, is_lowest trusted memory b says.0)
-  turn_marks (Err Fail.Shown) trusted memory made line says = (made, is_open trusted memory)
-  turn_marks (Err (Fail.Meta x)) trusted memory made line says = made
-  turn_marks (Err (Fail.Spent page)) trusted memory made line says = made
-  turn_marks (Err Fail.Down) trusted memory made line says = made
+  turn_marks v0 trusted memory made line says = grind (arith, common_steps)
 
   -- what is shown doesn't speak of the engine
   read_line : (a : ℕ) (ctr : Ctr) (cipher : Line) (tag : List ℕ) → IsUnsealedLine setup a ctr cipher tag mid

@@ -1,7 +1,7 @@
 -- A data line and its tag line are read, and the line is unsealed or refused.
 use Rattle.std.proofs.Common.{rules, ℕ, ◌≡◌, ◌≢◌, ◌<◌, Bool, true, false, List, [], Option, Some, None, Ok, Err, refl, sym, ap, ap₂, subst, ◌∙◌, arith}
-use Rattle.std.specs.Prelude.{MatchOption, IfSome, IsSome, option_map, All, ◌∷◌, ◌==◌}
-use Rattle.std.proofs.lemmas.Bool.{true≢false, cond-false, and_parts, eqb-true}
+use Rattle.std.specs.Prelude.{MatchOption, IfSome, IsSome, option_map, All}
+use Rattle.std.proofs.lemmas.Bool.{true≢false, cond-false}
 use Rattle.std.proofs.lemmas.Option.{none-some, same_Some}
 use Rattle.pmem_base.specs.declared.lines.Line.{Line}
 use Rattle.pmem_base.specs.declared.lines.Ctr.{Ctr}
@@ -31,6 +31,7 @@ use Rattle.pmem_engine.specs.Faults.{IsUnsealedLine}
 use Rattle.pmem_engine.specs.Still.{HasOnlyRead}
 use Rattle.pmem_engine.specs.Inner.{HasUnsealed, IsLastCounter}
 use Rattle.pmem_engine.proofs.StillLaws.{done_reading}
+use Rattle.pmem_base.proofs.ByteLaws.{same_bytes-true}
 
 -- a count that rose by one, or stands still, doesn't fall
 pub risen_never_falls : (n : ℕ) → NeverFalls n (risen n)
@@ -65,14 +66,6 @@ record IsReadSeal (marks : List Mark) (a : ℕ) (cipher : Line) (tag : List ℕ)
   its_cipher : cipher ≡ seal.cipher
   its_tag : tag ≡ seal.tag
 
-same_bytes-equal : (xs ys : List ℕ) → same_bytes xs ys ≡ true → xs ≡ ys
-same_bytes-equal [] [] it = refl
-same_bytes-equal [] (y ∷ ys) it = absurd (true≢false (sym it))
-same_bytes-equal (x ∷ xs) [] it = absurd (true≢false (sym it))
-same_bytes-equal (x ∷ xs) (y ∷ ys) it =
-    let both = and_parts (x == y) (same_bytes xs ys) it in
-    ap₂ (λ z zs. z ∷ zs) (eqb-true x y both.0) (same_bytes-equal xs ys both.1)
-
 of_option : {A B : Type 0} (f : A → B) (o : Option A) (b : B) → option_map f o ≡ Some b → (x : A) × (o ≡ Some x) × (f x ≡ b)
 of_option f v1 b e = search rules
 
@@ -104,7 +97,7 @@ right_tag f a ctr cipher tag slot plain same it =
     (go (same_bytes (f.tag_of a ctr cipher) tag) refl, subst (λ z. unsealed f a ctr cipher z ≡ Some plain) same it)
   where
     go : (b : Bool) → same_bytes (f.tag_of a ctr cipher) tag ≡ b → f.tag_of a ctr cipher ≡ slot
-    go true equal = same_bytes-equal (f.tag_of a ctr cipher) tag equal ∙ same
+    go true equal = same_bytes-true (f.tag_of a ctr cipher) tag equal ∙ same
     go false other =
         absurd (none-some plain
         (sym (cond-false (same_bytes (f.tag_of a ctr cipher) tag) (Some (xor_lines cipher (f.pad_of a ctr))) None other) ∙ it))

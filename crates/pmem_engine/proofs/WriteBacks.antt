@@ -33,9 +33,7 @@ use Rattle.pmem_engine.proofs.Counters.{cached_true}
 use Rattle.pmem_engine.proofs.RegionLemmas.{stored_meta-set_other}
 use Rattle.pmem_engine.proofs.CounterBlocks.{IsCounterStored-written_back}
 use Rattle.pmem_engine.proofs.CacheLaws.{stored_meta-true_line, IsTrusted-recached, IsSound-cleaned, not_cleaned_other, IsTrueOrDirty-cleaned, dirty_before-recached}
-
-told_with_line : (told : Option (List Line)) (at : ℕ) (line : Line) → is_some (with_line told at line) ≡ is_some told
-told_with_line v0 at line = search rules
+use Rattle.board.proofs.StepLemmas.{is_some-with_line}
 
 -- a position that was cleaned isn't dirty
 marked_clean : (slots : List Slot) (x : ℕ) → list_any (λ s. s.position == x && s.dirty) (with_mark slots x false) ≡ false
@@ -143,7 +141,7 @@ module _ (setup : Setup) (bank x : ℕ) (old new : EngineState) (before after : 
   -- what the device holds now
 
   told : is_some after.lines ≡ is_some before.lines
-  told = ap is_some it.cleaned.board.lines ∙ told_with_line before.lines (layout.meta_line old.shape x) (line_in old.shape old.cache bank x)
+  told = ap is_some it.cleaned.board.lines ∙ is_some-with_line before.lines (layout.meta_line old.shape x) (line_in old.shape old.cache bank x)
 
   -- the lines with the written one are those with the true one, of a trusted chip
   lines_now : AreTrusted setup start → (lines lines' : List Line) → before.lines ≡ Some lines → after.lines ≡ Some lines'

@@ -1,4 +1,5 @@
 -- What a write answers where a part ended it, by the part's answer.
+use Rattle.std.proofs.lemmas.Grind.{common_steps}
 use Rattle.std.proofs.Common.{rules, ℕ, ◌≡◌, ◌<◌, ◌≤◌, ◌+◌, ◌-◌, ◌*◌, ◌^◌, ◌++◌, inl, inr, Bool, true, false, cond, List, [], ◌∷◌, length, IsTrue, Option, Some, None, Err, refl, sym, ap, subst, ◌∙◌, arith}
 use Rattle.std.specs.Prelude.{◌==◌, ◌||◌, nat_lt, unwrap_or, is_none, IsSome}
 use Rattle.std.proofs.lemmas.Bool.{true≢false, cond-false, lt-ltb}
@@ -25,8 +26,7 @@ use Rattle.pmem_engine.specs.Calls.{IsMemory, IsDownAnswer, IsUnrefused, TakesWi
 use Rattle.pmem_engine.specs.Inner.{AnswersFetch}
 use Rattle.pmem_engine.specs.Writing.{AnswersPlain, IsFrontOf, IsStoppedAt, HasFinishMarks, AnswersFinish, CountsFinish, HasWrittenUnder}
 use Rattle.pmem_engine.proofs.WriteParts.{IsWritePart}
-use Rattle.pmem_engine.proofs.WriteFinish.{finish_front, front_seals}
-use Rattle.pmem_engine.proofs.WriteSteps.{most_then, fewer_then, steps_most, more_most, more_fewer, bound_seals}
+use Rattle.pmem_engine.proofs.WriteFinish.{finish_front}
 
 -- ---- marks left
 
@@ -189,20 +189,4 @@ pub unfinished_steps : (setup : Setup) (old mid new : Parts) (front rest made : 
     → HasFinishMarks front made (Err fault)
     → TakesAtMost (path_length setup.shape) old.device mid.device → CountsFinish (length front) made mid new (Err fault)
     → TakesOfWrite setup.shape (Some (front ++ rest)) made old new (Err fault)
-unfinished_steps setup old mid new front rest made Fail.Cut seals bound marks path it =
-    more_fewer (path_length setup.shape + 4 * length front) (write_bound setup.shape (front ++ rest)) old.device new.device
-    (omega (arith, bound))
-    (fewer_then (path_length setup.shape) (4 * length front) old.device mid.device new.device path it)
-unfinished_steps setup old mid new front rest made (Fail.Tag b) seals bound marks path it =
-    more_most (path_length setup.shape + 4 * length made) (write_bound setup.shape made) old.device new.device
-    (omega (arith, bound_seals setup.shape made (front_seals front made seals (finish_front front made (Err (Fail.Tag b)) marks))))
-    (most_then (path_length setup.shape) (4 * length made) old.device mid.device new.device path
-    (steps_most (4 * length made) mid.device new.device it))
-unfinished_steps setup old mid new front rest made Fail.Shown seals bound marks path it =
-    more_most (path_length setup.shape + 4 * length made) (write_bound setup.shape made) old.device new.device
-    (omega (arith, bound_seals setup.shape made (front_seals front made seals (finish_front front made (Err Fail.Shown) marks))))
-    (most_then (path_length setup.shape) (4 * length made) old.device mid.device new.device path
-    (steps_most (4 * length made) mid.device new.device it))
-unfinished_steps setup old mid new front rest made (Fail.Meta x) seals bound marks path it = absurd marks
-unfinished_steps setup old mid new front rest made (Fail.Spent page) seals bound marks path it = absurd marks
-unfinished_steps setup old mid new front rest made Fail.Down seals bound marks path it = absurd marks
+unfinished_steps setup old mid new front rest made v7 seals bound marks path it = grind (arith, common_steps)

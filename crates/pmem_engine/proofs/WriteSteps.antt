@@ -9,6 +9,7 @@ use Rattle.board.specs.Device.{Device}
 use Rattle.plain_model.specs.Bounds.{path_length, is_seal, seal_count}
 use Rattle.pmem_engine.specs.Outcomes.{TakesSteps, TakesAtMost, TakesFewer}
 use Rattle.pmem_engine.specs.Calls.{write_bound}
+use Rattle.pmem_engine.specs.Inner.{StandsStill}
 
 pub most_then : (n m : ℕ) (old mid new : Device) → TakesAtMost n old mid → TakesAtMost m mid new → TakesAtMost (n + m) old new
 most_then n m old mid new first second = search rules
@@ -63,3 +64,22 @@ bound_whole g front overflows page own all its =
 
     rest : (b : Bool) → seal_count (begin_asked b page ++ own ∷ []) ≡ 1
     rest v0 = search rules
+
+-- steps of the last part alone, where the parts before it stand still
+pub only_last : (n : ℕ) (d0 d1 d2 d3 d4 d5 new : Device) → StandsStill d0 d1 → TakesSteps 0 d1 d2 → d3 ≡ d2 → StandsStill d3 d4
+    → d5 ≡ d4 → TakesSteps n d5 new → TakesSteps n d0 new
+only_last n d0 d1 d2 d3 d4 d5 new still1 none third still4 fifth steps =
+    let writes3 : d3.writes ≡ d2.writes = ap (λ device. device.writes) third in
+    let latches3 : d3.latches ≡ d2.latches = ap (λ device. device.latches) third in
+    let writes5 : d5.writes ≡ d4.writes = ap (λ device. device.writes) fifth in
+    let latches5 : d5.latches ≡ d4.latches = ap (λ device. device.latches) fifth in
+    record {
+      writes = omega (arith, still1.writes, none.writes, writes3, still4.writes, writes5, steps.writes);
+      latches = omega (arith, still1.latches, none.latches, latches3, still4.latches, latches5, steps.latches);
+      sum =
+          λ few_writes few_latches.
+          let middle =
+          none.sum (omega (arith, few_writes, writes3, still4.writes, writes5, steps.writes))
+          (omega (arith, few_latches, latches3, still4.latches, latches5, steps.latches)) in
+          omega (arith, still1.writes, still1.latches, middle, writes3, latches3, still4.writes, still4.latches, writes5, latches5, steps.sum few_writes few_latches);
+    }
