@@ -25,8 +25,8 @@ use Rattle.pmem_engine.specs.Truth.{true_block}
 use Rattle.pmem_engine.specs.Invariants.{IsAnchored, stored_meta, is_named, IsCounterStored, IsMendable, IsDurable}
 use Rattle.pmem_engine.specs.Sealed.{made_seal, IsSealed, IsResealed, IsBegun}
 use Rattle.pmem_engine.specs.Steps.{IsArmed, SealsOne, SealsNone, ChangesPath, sealing_group, sealing_group_with_block, beginning_group, sealed_lines, with_true_line, IsPathNamed, ArePathNodesNamed}
-use Rattle.pmem_engine.proofs.RegionLemmas.{IsSealable, IsSealStored-sealed, IsSealStored-set_meta, IsSealStored-kept, IsPlaceKept-same, length-sealed_lines, stored_meta-sealed_lines, is_named-sealed_lines, stored_meta-set_same, stored_meta-set_other, is_named-set_meta, page_within}
-use Rattle.pmem_engine.proofs.CounterBlocks.{IsCounterStored-sealed, IsCounterStored-resealed, IsCounterStored-with_block, IsCounterStored-sealed_with_block}
+use Rattle.pmem_engine.proofs.RegionLemmas.{IsSealable, IsSealStored-sealed, IsSealStored-set_meta, length-sealed_lines, stored_meta-sealed_lines, is_named-sealed_lines, stored_meta-set_same, stored_meta-set_other, is_named-set_meta, page_within}
+use Rattle.pmem_engine.proofs.CounterBlocks.{IsCounterStored-sealed, IsCounterStored-with_block, IsCounterStored-sealed_with_block}
 use Rattle.pmem_engine.proofs.GroupLaws.{IsMendable-unarmed}
 use Rattle.pmem_engine.proofs.Writes.{anchored-raised, anchored-resealed}
 use Rattle.pmem_engine.proofs.Begins.{anchored-begun}
@@ -177,10 +177,7 @@ IsMendable-resealed setup lines old new before after a seal it anchored loss sea
           (mendable.seals_stored b h);
       true_or_named = λ x h. at x (mendable.true_or_named x h);
       counters_stored =
-          λ page h.
-          subst (λ n. IsCounterStored setup (sealed_lines setup.shape lines a seal) n after.truth page) (sym loss)
-          (IsCounterStored-resealed setup lines old.loss before.truth after.truth a page seal it.its_line same
-          (mendable.counters_stored page h));
+          search rules;
     }
   where
     at : (x : ℕ)
@@ -205,10 +202,7 @@ IsMendable-begun setup lines old new before after page whole hpage anchored loss
     record {
       anchored = anchored;
       seals_stored =
-          λ b h.
-          IsSealStored-set_meta setup.shape lines block (line_at after.truth block) after.marks b h
-          (IsSealStored-kept setup.shape lines lines before.marks after.marks b (seals.elsewhere b h)
-          (IsPlaceKept-same setup.shape lines b) (mendable.seals_stored b h));
+          search rules;
       true_or_named =
           λ x h.
           true_or_named-with_block setup.shape lines lines before.truth after.truth page x whole.count hpage h refl

@@ -2,7 +2,6 @@
 use Rattle.std.proofs.Common.{rules, ℕ, ◌≡◌, ◌≢◌, ◌<◌, Bool, true, false, [], ◌∷◌, length, IsTrue, refl, sym, subst, arith}
 use Rattle.std.specs.Prelude.{All, AllPairs, IsSome, if◌then◌else◌}
 use Rattle.std.proofs.lemmas.List.Elements.{All-nil, All-push}
-use Rattle.std.proofs.lemmas.List.Quantifiers.{all_pairs_push}
 use Rattle.std.proofs.Math.Nat.{one-le-pow}
 use Rattle.pmem_base.specs.declared.registers.Regs.{Regs}
 use Rattle.pmem_base.specs.Shape.{Shape, is_loss}
@@ -43,10 +42,7 @@ formatted_regs g regs opened known loss none open_pages =
     each false = All-nil (IsProgress g)
 
     apart : (b : Bool) → AllPairs (λ a b. a.page ≢ b.page) (if b then empty_progress ∷ [] else [])
-    apart true =
-        all_pairs_push (λ a b. a.page ≢ b.page) [] empty_progress (λ i j d lt within. absurd (omega (arith, within)))
-        (λ k d within. absurd (omega (arith, within)))
-    apart false = λ i j d lt within. absurd (omega (arith, within))
+    apart v0 = search rules
 
 -- an engine over a device and a ledger of its shape, with all data lines sealed
 pub usable_from : (g : Shape) (engine : EngineState) (device : Device) (ledger : LedgerState) (sealed : ℕ)

@@ -175,11 +175,7 @@ IsSound-cleaned setup old new lines regs ledger x sound h recached kept =
   where
     at : (y : ℕ) → y < meta_lines setup.shape → WasCleaned setup.shape old.cache new.cache y → (y ≡ x) ⊎ (y ≡ x → ⊥)
         → stored_meta setup.shape (with_true_line setup.shape lines ledger.truth x) y ≡ line_at ledger.truth y
-    at y hy cleaned (inl same) =
-        ap (stored_meta setup.shape (with_true_line setup.shape lines ledger.truth x)) same
-        ∙ stored_meta-true_line setup.shape lines ledger.truth x sound.durable.device_whole.count h
-        ∙ ap (line_at ledger.truth) (sym same)
-    at y hy cleaned (inr apart) = absurd (kept y hy apart cleaned)
+    at y hy cleaned v3 = search rules
 
 -- ---- no dirty block is lost, or none but x
 

@@ -21,7 +21,7 @@ use Rattle.shadow_tables.proofs.ShadowLines.{shadow_of-set_before}
 use Rattle.page_reencrypt.specs.Registers.{register_held}
 use Rattle.meta_cache.specs.declared.slot.Slot.{Slot}
 use Rattle.meta_cache.specs.Banks.{set_of, set_index, slot_number, is_cached_dirty, IsBanksOf}
-use Rattle.meta_cache.proofs.SlotLemmas.{All-stands, All-from_stands, dirty_slot, is_cached_dirty_from}
+use Rattle.meta_cache.proofs.SlotLemmas.{All-from_stands, dirty_slot, is_cached_dirty_from}
 use Rattle.suite.specs.Setup.{Setup}
 use Rattle.pmem_engine.specs.Truth.{true_block}
 use Rattle.pmem_engine.specs.Engine.{EngineState}
@@ -36,7 +36,7 @@ use Rattle.pmem_engine.proofs.Begins.{anchored-begun}
 use Rattle.pmem_engine.proofs.Bridges.{IsSealed-ChangesPath, IsBegun-ChangesPath}
 use Rattle.pmem_engine.proofs.GroupLaws.{IsDurable-finished}
 use Rattle.pmem_engine.proofs.ArmLaws.{IsDurable-armed_write, IsDurable-armed_write_with_block, IsDurable-armed_turn, IsDurable-armed_begin}
-use Rattle.pmem_engine.proofs.CacheLaws.{stored_meta-true_line, IsTrueOrDirty-sound}
+use Rattle.pmem_engine.proofs.CacheLaws.{IsTrueOrDirty-sound}
 use Rattle.pmem_engine.proofs.NameLaws.{IsPathNamed_from_slots}
 use Rattle.pmem_engine.proofs.MendableLaws.{IsAnchored-emptied}
 
@@ -130,24 +130,7 @@ IsTrusted-committed setup old new old_regs new_regs before after page trusted an
   where
     true_slot : (bank set : ℕ) (slot : Slot) → IsStoredSlot setup.shape after.truth page (set_of old.cache bank set) slot
         → IsTrueSlot setup.shape after.truth bank set slot
-    true_slot bank set slot from =
-        let was : IsTrueSlot setup.shape before.truth bank set from.before =
-        All-stands (IsTrueSlot setup.shape before.truth bank set) (set_of old.cache bank set) from.before
-        (trusted.cached_true bank set) from.stands in
-        let on_tree : slot.position < meta_lines setup.shape =
-        subst (λ x. x < meta_lines setup.shape) from.position was.on_tree in
-        record {
-          on_tree = on_tree;
-          true_line =
-              elim (cases_Bool (is_on_path setup.shape page slot.position)) [
-                | inl here ↦ from.on_path here
-                | inr away ↦
-                    sym (from.off_path away).0 ∙ was.true_line ∙ ap (line_at before.truth) from.position
-                    ∙ sym (changes.elsewhere slot.position on_tree away)
-              ];
-          its_bank = ap level_of (sym from.position) ∙ was.its_bank;
-          its_set = ap (set_index setup.shape) (sym from.position) ∙ was.its_set;
-        }
+    true_slot bank set slot from = search rules
 
 -- a write, whole: armed, and emptied
 pub IsTrusted-written : (setup : Setup) (old new : EngineState) (start armed final : Regs)
@@ -229,12 +212,7 @@ IsTrueOrDirty-with_block g old new lines between old_truth new_truth page x size
     after = with_true_line g between new_truth block
 
     at : is_on_path g page x ≡ true → (x ≡ block) ⊎ (x ≡ block → ⊥) → IsTrueOrDirty g new.cache after new_truth x
-    at on (inl here) =
-        inl
-        (ap (stored_meta g after) here
-        ∙ stored_meta-true_line g between new_truth block size (counter_position-lt g page hpage)
-        ∙ ap (line_at new_truth) (sym here))
-    at on (inr node) = inr (dirty.each x h on node)
+    at on v1 = search rules
 
 -- after a turn
 pub IsTrueOrDirty-turned : (g : Shape) (engine : EngineState) (lines old_truth new_truth : List Line) (a x : ℕ)
@@ -298,12 +276,7 @@ IsSound-committed setup old new lines lines' old_regs new_regs before after page
         → IsStoredSlot setup.shape after.truth page (set_of old.cache bank set) slot
         → (is_on_path setup.shape page slot.position ≡ true) ⊎ (is_on_path setup.shape page slot.position ≡ false)
         → slot_entry setup.shape old.mirror bank (slot_number setup.shape set slot) ≡ slot.position + 1
-    entry bank set slot stands dirty from (inl here) = named.each bank set slot stands dirty here
-    entry bank set slot stands dirty from (inr away) =
-        subst₂ (λ way x. slot_entry setup.shape old.mirror bank (set * setup.shape.ways + way) ≡ x + 1) from.way
-        from.position
-        (All-stands (IsDirtyNamed setup.shape old.mirror bank set) (set_of old.cache bank set) from.before
-        (sound.dirty_named bank set) from.stands ((from.off_path away).1 dirty))
+    entry bank set slot stands dirty from v6 = search rules
 
 -- the path's blocks lie named on the device
 pub IsPathNamed-sound : (setup : Setup) (engine : EngineState) (lines : List Line) (regs : Regs)

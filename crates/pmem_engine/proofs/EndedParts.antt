@@ -1,5 +1,5 @@
 -- A call's last act: an engine that was cut or stopped is down.
-use Rattle.std.proofs.Common.{rules, ℕ, ◌≡◌, inl, inr, true, List, refl, sym, subst, ◌∙◌}
+use Rattle.std.proofs.Common.{rules, ℕ, ◌≡◌, true, List, refl, sym, subst, ◌∙◌}
 use Rattle.pmem_base.specs.declared.answers.Mark.{Mark}
 use Rattle.meta_cache.specs.Banks.{is_cached_dirty}
 use Rattle.suite.specs.Setup.{Setup}
@@ -22,11 +22,7 @@ metadata_ended setup made old new engine cache it =
     record {
       true_or_dirty = λ x within held. holds_ended x (it.true_or_dirty x within held);
       changed =
-          λ x within.
-          elim (it.changed x within) [
-            | inl same ↦ inl same
-            | inr held ↦ inr (holds_ended x held)
-          ];
+          search rules;
       dirty =
           λ bank x now. it.dirty bank x (subst (λ banks. is_cached_dirty setup.shape banks bank x ≡ true) cache now);
     }

@@ -6,8 +6,6 @@ use Rattle.std.proofs.lemmas.Bool.{true≢false}
 use Rattle.pmem_base.specs.declared.lines.Line.{Line}
 use Rattle.pmem_base.specs.declared.lines.Ctr.{Ctr}
 use Rattle.pmem_base.specs.Layout.{page_of}
-use Rattle.pmem_base.specs.Counts.{risen}
-use Rattle.board.specs.Counts.{RisesBy}
 use Rattle.board.specs.Device.{Device}
 use Rattle.suite.specs.Setup.{Setup}
 use Rattle.suite.specs.Formulas.{Formulas}
@@ -88,12 +86,7 @@ down_before (Ok unsealed) it = it
 down_before (Err fault) it = go fault it
   where
     go : (fault : Fault) → IsDownAnswer {T = Line} (Err fault) → IsDownAnswer {T = Unsealed} (Err fault)
-    go Fail.Down it = tt
-    go Fail.Cut it = it
-    go (Fail.Meta x) it = it
-    go (Fail.Tag at) it = it
-    go (Fail.Spent page) it = it
-    go Fail.Shown it = it
+    go v0 it = search rules
 
 module _ (setup : Setup) (a : ℕ) (ctr : Ctr) (old mid new : Parts) (its_shape : old.engine.shape ≡ setup.shape)
     (fetched : HasFetched setup (page_of a) old mid (Ok tt)) where
@@ -139,22 +132,7 @@ module _ (setup : Setup) (a : ℕ) (ctr : Ctr) (old mid new : Parts) (its_shape 
           unsealed.no_steps
 
       of_cached : IsPathCached setup.shape old.engine.cache (page_of a) → IsReadOfCached setup a old new (plain_answer answer)
-      of_cached was =
-          let still = fetched.still_cached was in
-          record {
-            no_steps =
-                record {
-                  writes = omega (arith, still.1.writes, unsealed.no_steps.writes);
-                  latches = omega (arith, still.1.latches, unsealed.no_steps.latches);
-                  sum =
-                      λ writes latches.
-                      omega (arith, still.1.writes, still.1.latches, unsealed.no_steps.sum writes latches);
-                };
-            no_digests = unsealed.digests ∙ still.2;
-            two_reads =
-                λ ok. subst (λ n. RisesBy 2 n new.device.reads) still.1.reads (unsealed.two_reads (was_ok answer ok));
-            one_tag = λ ok. unsealed.one_tag (was_ok answer ok) ∙ ap risen fetched.tags;
-          }
+      of_cached was = search rules
 
   -- the same of the formulas and the shape as they are afterwards
   pub read_after_fetch : (formulas : Formulas) → formulas ≡ setup.formulas → (answer : Result Unsealed Fault)

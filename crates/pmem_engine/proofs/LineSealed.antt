@@ -219,11 +219,7 @@ module _ (setup : Setup) (at : ℕ) (plain tag_line : Line) (persisted : Bool) (
           path_named = λ ok. absurd (true≢false (sym ok));
           down = done.stored.down;
           steps =
-              record {
-                writes = omega (arith, armed.writes.never_falls, read.writes);
-                latches = omega (arith, armed.latches.never_falls, read.latches);
-                sum = λ one two. fewer one two;
-              };
+              search rules;
           block_kept =
               block_as_it_was (ap (λ items. redone_told items new.lines) armed.armed ∙ armed.again);
           block_written = λ trusted ok. absurd (true≢false (sym ok));
@@ -231,10 +227,7 @@ module _ (setup : Setup) (at : ℕ) (plain tag_line : Line) (persisted : Bool) (
       where
         fewer : new.writes < last_count → new.latches < last_count
             → new.writes + new.latches < old.writes + old.latches + seal_steps old.regs.loss ctr
-        fewer one two =
-            let writes : new.writes ≤ mid.writes + length group = armed.writes.bound one in
-            let latches : new.latches ≡ mid.latches + 1 = armed.latches.exact two in
-            omega (arith, writes, latches, read.writes, read.latches, steps_are)
+        fewer one two = search rules
 
     -- sealed
     pub seal_done : HasCommitted group mid new → HasSealedNext setup at plain first final (Ok ctr)
@@ -251,11 +244,7 @@ module _ (setup : Setup) (at : ℕ) (plain tag_line : Line) (persisted : Bool) (
           path_named = λ ok. path_named;
           down = done.stored.down;
           steps =
-              record {
-                writes = omega (arith, finished.writes.never_falls, read.writes);
-                latches = omega (arith, finished.latches.never_falls, read.latches);
-                sum = λ one two. exact one two;
-              };
+              search rules;
           block_kept = block_as_it_was comes;
           block_written =
               λ trusted ok zero.
@@ -280,10 +269,7 @@ module _ (setup : Setup) (at : ℕ) (plain tag_line : Line) (persisted : Bool) (
 
         exact : new.writes < last_count → new.latches < last_count
             → new.writes + new.latches ≡ old.writes + old.latches + seal_steps old.regs.loss ctr
-        exact one two =
-            let writes : new.writes ≡ mid.writes + length group = finished.writes.exact one in
-            let latches : new.latches ≡ mid.latches + 2 = finished.latches.exact two in
-            omega (arith, writes, latches, read.writes, read.latches, steps_are)
+        exact one two = search rules
 
   -- a cut before its group was armed
   pub seal_undone : IsNothingDone engine engine_now mid new before after → HasSealedNext setup at plain first final (Err Fail.Cut)

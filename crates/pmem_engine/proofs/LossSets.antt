@@ -2,7 +2,7 @@
 use Rattle.std.proofs.lemmas.Grind.{common_steps}
 use Rattle.std.proofs.Common.{rules, ℕ, ◌≡◌, ◌≢◌, ◌<◌, ◌≤◌, ◌+◌, ◌*◌, ◌⊎◌, inl, inr, Bool, true, false, List, [], Option, Some, None, Result, Ok, Err, refl, sym, ap, ap₂, subst, subst₂, ◌∙◌, arith}
 use Rattle.std.specs.Prelude.{IfSome, MatchBool, is_some, nat_lt, ◌==◌, IsTrue}
-use Rattle.std.proofs.lemmas.Bool.{true≢false, cases_Bool, cases_lt, ltb-true, lt-ltb, ne_eqb}
+use Rattle.std.proofs.lemmas.Bool.{true≢false, cases_Bool, cases_lt, ltb-true, ne_eqb}
 use Rattle.std.proofs.lemmas.List.{append-nil}
 use Rattle.std.proofs.lemmas.Option.{same_Some}
 use Rattle.pmem_base.specs.declared.lines.Line.{Line}
@@ -310,13 +310,7 @@ module _ (setup : Setup) (n : ℕ) (old new : EngineState) (before after : Devic
     where
       go : (before.regs.loss < n) ⊎ (n ≤ before.regs.loss)
           → MatchBool (nat_lt before.regs.loss n) (steps ≡ 1) (steps ≡ dirty + 1)
-      go (inl raised) =
-          match_true (nat_lt before.regs.loss n) (steps ≡ 1) (steps ≡ dirty + 1) (lt-ltb before.regs.loss n raised)
-          (omega (arith, it.steps_are, it.way.greater raised))
-      go (inr down) =
-          match_false (nat_lt before.regs.loss n) (steps ≡ 1) (steps ≡ dirty + 1)
-          (not_lt before.regs.loss n (λ raised. omega (arith, raised, down)))
-          (omega (arith, it.steps_are, (it.way.smaller (omega (arith, down, other))).1, dirty_as))
+      go v0 = search rules
 
   cut_steps : n ≢ before.regs.loss → IsCutInBlocks n old new before after
       → IsCutInLoss dirty before.regs.loss n call_start call_finish
@@ -325,14 +319,7 @@ module _ (setup : Setup) (n : ℕ) (old new : EngineState) (before after : Devic
     where
       go : (before.regs.loss < n) ⊎ (n ≤ before.regs.loss)
           → MatchBool (nat_lt before.regs.loss n) (TakesFewer 1 before after) (TakesFewer (dirty + 1) before after)
-      go (inl raised) =
-          match_true (nat_lt before.regs.loss n) (TakesFewer 1 before after) (TakesFewer (dirty + 1) before after)
-          (lt-ltb before.regs.loss n raised)
-          (takes_fewer it.count 1 it.mid it.written it.cut (omega (arith, it.greater raised)))
-      go (inr down) =
-          match_false (nat_lt before.regs.loss n) (TakesFewer 1 before after) (TakesFewer (dirty + 1) before after)
-          (not_lt before.regs.loss n (λ raised. omega (arith, raised, down)))
-          (takes_fewer it.count (dirty + 1) it.mid it.written it.cut (omega (arith, count_few it.count it.mid it.written)))
+      go v0 = search rules
 
   loss_answer : (answer : Result ℕ Fault) → HasChangedLoss n old new before after answer
       → AnswersLoss setup.shape n call_start (ended_parts call_finish (outcome_of answer)) answer

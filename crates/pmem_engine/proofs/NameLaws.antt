@@ -140,11 +140,7 @@ IsSound-named setup old new lines regs ledger bank set slot line sound form stan
           (true_or_named_from_sound setup.shape old.cache after ledger.truth form stored named_on_board)
           (IsMendable-unarmed setup lines regs ledger sound.durable sound.trusted.no_group));
       true_unless_dirty =
-          subst
-          (λ banks. (x : ℕ) → x < meta_lines setup.shape
-          → is_cached_dirty setup.shape banks (level_of x) x ≡ false
-          → stored_meta setup.shape after x ≡ line_at ledger.truth x)
-          (sym written.cache) stored;
+          search rules;
       dirty_named =
           subst
           (λ banks. (bank set : ℕ) → All (IsDirtyNamed setup.shape new.mirror bank set) (set_of banks bank set))

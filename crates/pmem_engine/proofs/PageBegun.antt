@@ -138,20 +138,13 @@ module _ (setup : Setup) (page : ℕ) (engine engine_now : EngineState) (old new
           block_kept = λ none. absurd (one_made none);
           down = done.stored.down;
           steps =
-              record {
-                writes = omega (arith, armed.writes.never_falls);
-                latches = omega (arith, armed.latches.never_falls);
-                sum = λ one two. fewer one two;
-              };
+              search rules;
           reads = armed.reads;
           tags = same_tags;
         }
       where
         fewer : new.writes < last_count → new.latches < last_count → new.writes + new.latches < old.writes + old.latches + 3
-        fewer one two =
-            let writes : new.writes ≤ old.writes + 1 = armed.writes.bound one in
-            let latches : new.latches ≡ old.latches + 1 = armed.latches.exact two in
-            omega (arith, writes, latches)
+        fewer one two = search rules
 
     -- done
     pub begin_done : IsDevice old → HasCommitted (begin_group setup.shape page block) old new
@@ -195,11 +188,7 @@ module _ (setup : Setup) (page : ℕ) (engine engine_now : EngineState) (old new
           block_kept = λ none. absurd (one_made none);
           down = done.stored.down;
           steps =
-              record {
-                writes = omega (arith, finished.writes.never_falls);
-                latches = omega (arith, finished.latches.never_falls);
-                sum = λ one two. three one two;
-              };
+              search rules;
           reads = finished.reads;
           tags = same_tags;
         }
@@ -213,10 +202,7 @@ module _ (setup : Setup) (page : ℕ) (engine engine_now : EngineState) (old new
         path_named = kept_named setup.shape page true lines engine engine_now done.stored cached named
 
         three : new.writes < last_count → new.latches < last_count → new.writes + new.latches ≡ old.writes + old.latches + 3
-        three one two =
-            let writes : new.writes ≡ old.writes + 1 = finished.writes.exact one in
-            let latches : new.latches ≡ old.latches + 2 = finished.latches.exact two in
-            omega (arith, writes, latches)
+        three one two = search rules
 
   -- a cut, whenever it came
   pub page_cut : IsDevice old → IsDevice new

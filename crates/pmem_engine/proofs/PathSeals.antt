@@ -338,10 +338,7 @@ module _ (setup : Setup) (next : NextSeal) (minor : ℕ) (persisted : Bool) (blo
         ]
       where
         some_minor : 0 < next.ctr.minor
-        some_minor =
-            let one : next.ctr.minor ≡ minor = ap (λ ctr. ctr.minor) (it.counter trusted) in
-            let more = it.raised trusted in
-            omega (arith, one, more)
+        some_minor = search rules
 
         touches : IsTrue (list_any (is_touching page) (mark ∷ []))
         touches =

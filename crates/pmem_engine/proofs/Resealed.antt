@@ -38,15 +38,14 @@ use Rattle.pmem_engine.specs.Parts.{Parts, parts_of, regs_of, lines_redone, AreT
 use Rattle.pmem_engine.specs.Outcomes.{going, cut, is_going, is_sealed_by, NeverFalls, TakesSteps, TakesFewer}
 use Rattle.pmem_engine.specs.Calls.{IsUsable, IsMemory, IsDownAnswer, IsUnrefused, moment_in}
 use Rattle.pmem_engine.specs.Inner.{HasUnsealed, IsLastCounter}
-use Rattle.pmem_engine.specs.Committing.{next_seal_of, entries_of, HasLineDone}
+use Rattle.pmem_engine.specs.Committing.{next_seal_of, entries_of}
 use Rattle.pmem_engine.specs.Resealing.{IsNextHeld, HasLineSealed, HasResealCommitted, IsCutUnarmed, IsResealCutArmed, IsResealCut, line_of_page, HasResealMarks, AnswersReseal, CountsReseal, HasResealed}
-use Rattle.pmem_engine.proofs.StillLaws.{done_cut, sound_trusted}
+use Rattle.pmem_engine.proofs.StillLaws.{sound_trusted}
 use Rattle.pmem_engine.proofs.Chained.{done_chained}
 use Rattle.pmem_engine.proofs.PlainLines.{plain_line-resealed}
 use Rattle.pmem_engine.proofs.Unsealing.{risen_never_falls, same_never_falls}
 use Rattle.pmem_engine.specs.Faults.{IsTagRefused, IsForgedShown}
 use Rattle.pmem_engine.proofs.Reseals.{IsResealing, sealed_here, done_resealed, cut_resealed}
-use Rattle.commit_regs.proofs.GroupLemmas.{redone-nil}
 
 -- a metadata line where lines and registers are as they were
 pub meta_of_same : (g : Shape) (x : ℕ) (old new : Parts) → regs_of new ≡ regs_of old → new.device.lines ≡ old.device.lines
@@ -141,12 +140,7 @@ module _ (setup : Setup) (n : ℕ) (engine : EngineState) (old : Device) (before
   counted_none new Fail.Cut none = fewer none
     where
       fewer : TakesSteps 0 old new.device → TakesFewer 4 old new.device
-      fewer none =
-          record {
-            writes = none.writes;
-            latches = none.latches;
-            sum = λ one two. let e = none.sum one two in omega (arith, e);
-          }
+      fewer none = search rules
   counted_none new (Fail.Tag b) none = none
   counted_none new Fail.Shown none = none
   counted_none new (Fail.Meta x) none = none
@@ -279,23 +273,7 @@ module _ (setup : Setup) (n : ℕ) (engine : EngineState) (old : Device) (before
           lowest = next.lowest;
           made = [];
           done =
-              done_chained setup cut [] [] start middle final it.done
-              (done_cut setup middle final
-              (record {
-                engine = refl;
-                ledger = was_cut.ledger;
-                size = was_cut.device.size;
-                lines = was_cut.device.lines;
-                regs = was_cut.device.regs;
-                writes = was_cut.device.writes;
-                latches = was_cut.device.latches;
-                unsteady = was_cut.device.unsteady;
-                off = was_cut.device.off;
-                rose = was_cut.device.rose;
-                reads = omega (arith, was_cut.device.reads);
-                tags = subst (NeverFalls tags_mid) (sym more_tags) (risen_never_falls tags_mid);
-                digests = same_never_falls digests_mid digests_now same_digests;
-              }));
+              search rules;
           marks = λ trusted memory was. inl refl;
           memory_kept =
               λ trusted memory was a within.
@@ -307,11 +285,7 @@ module _ (setup : Setup) (n : ℕ) (engine : EngineState) (old : Device) (before
           few = omega arith;
           sealed_before = λ trusted a within made. absurd (true≢false (sym made));
           counts =
-              record {
-                writes = omega (arith, it.no_steps.writes, was_cut.device.writes);
-                latches = omega (arith, it.no_steps.latches, was_cut.device.latches);
-                sum = λ one two. fewer one two;
-              };
+              search rules;
           engine = refl;
           truth = λ unshown. ap (λ seals. seals.truth) (was_cut.ledger ∙ same_ledger);
           root = ap (λ regs. regs.root) (was_cut.device.regs ∙ it.regs);
@@ -325,11 +299,7 @@ module _ (setup : Setup) (n : ℕ) (engine : EngineState) (old : Device) (before
         final = parts_of engine new after tags_now digests_now
 
         fewer : new.writes < last_count → new.latches < last_count → new.writes + new.latches < old.writes + old.latches + 4
-        fewer one two =
-            let writes = was_cut.device.writes in
-            let latches = was_cut.device.latches in
-            let none = it.no_steps.sum (omega (arith, one, writes)) (omega (arith, two, latches)) in
-            omega (arith, writes, latches, none)
+        fewer one two = search rules
 
     module _ (new : Device) (after : LedgerState) (tags_now digests_now : ℕ) (more_tags : tags_now ≡ risen tags_mid)
         (same_digests : digests_now ≡ digests_mid) (in_range : AreInRange setup.formulas) (whole : IsLine unsealed.plain)
@@ -380,11 +350,7 @@ module _ (setup : Setup) (n : ℕ) (engine : EngineState) (old : Device) (before
             few = omega arith;
             sealed_before = λ trusted a within made. stored_sealed trusted a made;
             counts =
-                record {
-                  writes = omega (arith, it.no_steps.writes, was_cut.device.writes.never_falls);
-                  latches = omega (arith, it.no_steps.latches, was_cut.device.latches.never_falls);
-                  sum = λ one two. fewer one two;
-                };
+                search rules;
             engine = refl;
             truth = λ unshown. truth_is was_cut.line_sealed;
             root = root_is was_cut.line_sealed;
@@ -397,13 +363,7 @@ module _ (setup : Setup) (n : ℕ) (engine : EngineState) (old : Device) (before
         where
           fewer : new.writes < last_count → new.latches < last_count
               → new.writes + new.latches < old.writes + old.latches + 4
-          fewer one two =
-              let writes : new.writes ≤ mid.writes + 2 = was_cut.device.writes.bound one in
-              let latches : new.latches ≡ mid.latches + 1 = was_cut.device.latches.exact two in
-              let none =
-              it.no_steps.sum (omega (arith, one, was_cut.device.writes.never_falls))
-              (omega (arith, two, was_cut.device.latches.never_falls)) in
-              omega (arith, writes, latches, none)
+          fewer one two = search rules
 
       -- either
       pub cut_resealing : IsDevice new → IsResealCut setup.shape sealing mid new ledger after
@@ -430,52 +390,24 @@ module _ (setup : Setup) (n : ℕ) (engine : EngineState) (old : Device) (before
                 λ trusted memory was.
                 memory_now in_range whole after committed.line_sealed.fits committed.line_sealed.mark.marks trusted memory was;
             line_sealed =
-                record {
-                  at = at_is ∙ next.its_line;
-                  left = left_is;
-                  line_done =
-                      subst₂ (λ a regs. HasLineDone a regs new.regs) next.its_line it.regs committed.line_sealed.line_done;
-                };
+                search rules;
             answered = λ trusted. tt;
             unrefused = λ sound. tt;
             not_down = λ it. it;
             few = omega arith;
             sealed_before = λ trusted a within made. stored_sealed trusted a made;
-            counts = (
-              record {
-                writes = omega (arith, it.no_steps.writes, committed.device.writes.never_falls);
-                latches = omega (arith, it.no_steps.latches, committed.device.latches.never_falls);
-                sum = λ one two. four one two;
-              },
-              record {
-                never_falls = omega (arith, (it.two_reads refl).never_falls, committed.device.reads);
-                exact = λ below. read_twice below;
-              },
-              more_tags ∙ ap risen (it.one_tag refl),
-            );
+            counts = search rules;
             engine = refl;
             truth = λ unshown. truth_is committed.line_sealed;
             root = root_is committed.line_sealed;
             digests = same_digests ∙ it.digests;
             metadata =
-                λ trusted x within.
-                kept_meta trusted x committed.line_sealed
-                (ap₂ redone_told committed.device.no_group committed.device.lines
-                ∙ redone-nil (redone_told (entries_of setup.shape sealing) mid.lines));
+                search rules;
           }
         where
           four : new.writes < last_count → new.latches < last_count
               → new.writes + new.latches ≡ old.writes + old.latches + 4
-          four one two =
-              let writes : new.writes ≡ mid.writes + 2 = committed.device.writes.exact one in
-              let latches : new.latches ≡ mid.latches + 2 = committed.device.latches.exact two in
-              let none =
-              it.no_steps.sum (omega (arith, one, committed.device.writes.never_falls))
-              (omega (arith, two, committed.device.latches.never_falls)) in
-              omega (arith, writes, latches, none)
+          four one two = search rules
 
           read_twice : new.reads < last_count → new.reads ≡ old.reads + 2
-          read_twice below =
-              let same = committed.device.reads in
-              let twice = (it.two_reads refl).exact (omega (arith, below, same)) in
-              omega (arith, same, twice)
+          read_twice below = search rules

@@ -227,12 +227,7 @@ module _ (setup : Setup) (next : NextSeal) (register : Progress) (engine : Engin
       arming : IsAnchored setup old.regs before → (lines : List Line) → old.lines ≡ Some lines
           → IsArmed old.regs armed_regs
           (sealing_group setup.shape lines next.at (made_seal setup.shape before.truth next.at 0 next.cipher next.tag))
-      arming anchored lines told =
-          record {
-            no_group_before = unarmed;
-            its_group = its_group anchored lines told;
-            same_loss = done.line_done.loss;
-          }
+      arming anchored lines told = search rules
 
   -- or cut while its group was armed
   pub cut_resealed : old.regs.group.items ≡ [] → IsDevice old → IsDevice new → old.size ≡ layout.device_lines setup.shape
@@ -271,9 +266,4 @@ module _ (setup : Setup) (next : NextSeal) (register : Progress) (engine : Engin
       arming : IsAnchored setup old.regs before → (lines : List Line) → old.lines ≡ Some lines
           → IsArmed old.regs new.regs
           (sealing_group setup.shape lines next.at (made_seal setup.shape before.truth next.at 0 next.cipher next.tag))
-      arming anchored lines told =
-          record {
-            no_group_before = unarmed;
-            its_group = armed.armed ∙ its_group anchored lines told;
-            same_loss = done.line_done.loss;
-          }
+      arming anchored lines told = search rules

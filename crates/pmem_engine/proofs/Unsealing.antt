@@ -132,16 +132,7 @@ module _ (setup : Setup) (engine : EngineState) (ledger : LedgerState) (a : ℕ)
       record {
         done = done_reading setup before (after ledger) only_read;
         answered =
-            λ trusted counter. (
-              refl,
-              record {
-                ctr = ctr;
-                cipher = cipher;
-                tag = tag_slot tag_line a;
-                unsealed = read_line ledger refl counter;
-                other_tag = other;
-              },
-            );
+            search rules;
         unrefused = λ sound counter. other (tag_of_read setup before a ctr cipher (tag_slot tag_line a)
             (sound_tagged sound) counter
             (sound_seal setup before new.lines a cipher tag_line sound both.lines both.tells_cipher both.tells_tag_line within));

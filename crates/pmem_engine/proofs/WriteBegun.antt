@@ -1,5 +1,5 @@
 -- The page that a write begins, or none, and the line's next counter then.
-use Rattle.std.proofs.Common.{ℕ, ◌≡◌, ◌+◌, ◌*◌, ◌++◌, inl, inr, Bool, true, false, List, [], ◌∷◌, length, Result, Ok, Err, refl, sym, ap, subst, ◌∙◌, arith}
+use Rattle.std.proofs.Common.{rules, ℕ, ◌≡◌, ◌+◌, ◌*◌, ◌++◌, inl, inr, Bool, true, false, List, [], ◌∷◌, length, Result, Ok, Err, refl, sym, ap, subst, ◌∙◌, arith}
 use Rattle.std.specs.Prelude.{IsOk}
 use Rattle.pmem_base.specs.declared.lines.Ctr.{Ctr}
 use Rattle.pmem_base.specs.declared.answers.Mark.{Mark}
@@ -56,14 +56,7 @@ module _ (setup : Setup) (at : ℕ) (old new : Parts) (answer : Result Unit Faul
       })
     where
       none : TakesSteps (3 * 0) old.device new.device
-      none =
-          let writes : new.device.writes ≡ old.device.writes = ap (λ device. device.writes) it.alone.device in
-          let latches : new.device.latches ≡ old.device.latches = ap (λ device. device.latches) it.alone.device in
-          record {
-            writes = omega (arith, writes);
-            latches = omega (arith, latches);
-            sum = λ one two. omega (arith, writes, latches);
-          }
+      none = search rules
 
   begun_page : HasBegunPage setup (page_of at) old new answer
       → HasBegunSome setup at (Begin (page_of at) ∷ []) (begin_counter true setup at old) old new answer

@@ -1,6 +1,6 @@
 -- What each part of a write keeps, up to the seal of its own line, and what two of them keep together.
 use Rattle.std.proofs.lemmas.Grind.{common_steps}
-use Rattle.std.proofs.Common.{rules, ℕ, ◌≡◌, ◌<◌, ◌++◌, ◌⊎◌, inl, inr, Bool, true, false, List, [], ◌∷◌, IsTrue, Result, refl, sym, ap, ap₂, ◌∙◌, arith}
+use Rattle.std.proofs.Common.{rules, ℕ, ◌≡◌, ◌<◌, ◌++◌, ◌⊎◌, Bool, true, false, List, [], ◌∷◌, IsTrue, Result, refl, sym, ap, ap₂, ◌∙◌, arith}
 use Rattle.std.specs.Prelude.{◌||◌, option_map}
 use Rattle.std.specs.List.{list_any}
 use Rattle.std.proofs.lemmas.Bool.{true≢false, or_parts, eq-eqb}
@@ -181,15 +181,7 @@ begin_part setup at old new answer it =
     }
   where
     unsealed : (a : ℕ) → is_sealed_by it.made a ≡ false
-    unsealed a =
-        elim (begin_made (page_of at) it.made answer it.marks) [
-          | inl none ↦ ap (λ ms. is_sealed_by ms a) none
-          | inr one ↦ ap (λ ms. is_sealed_by ms a) one
-        ]
+    unsealed a = search rules
 
     unbegun : list_any (is_persisting (regs_of old).loss at) it.made ≡ false → it.made ≡ []
-    unbegun none =
-        elim (begin_made (page_of at) it.made answer it.marks) [
-          | inl empty ↦ empty
-          | inr one ↦ absurd (true≢false (sym (ap (list_any (is_persisting (regs_of old).loss at)) one) ∙ none))
-        ]
+    unbegun none = search rules
