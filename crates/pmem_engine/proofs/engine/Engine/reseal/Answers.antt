@@ -13,8 +13,8 @@ use Rattle.pmem_engine.specs.declared.resealing.NextSeal.{NextSeal}
 use Rattle.pmem_engine.specs.Parts.{parts_of}
 use Rattle.pmem_engine.specs.Committing.{next_seal_of}
 use Rattle.pmem_engine.specs.Resealing.{IsNextHeld, IsResealCut, HasResealCommitted, HasResealed}
-use Rattle.pmem_engine.proofs.Exits.{is_err_of}
-use Rattle.pmem_engine.proofs.Resealed.{not_unsealed, cut_resealing, resealed}
+use Rattle.pmem_engine.proofs.CallEnds.ErrorAnswers.{is_err_of}
+use Rattle.pmem_engine.proofs.PageLines.ResealOutcomes.{not_unsealed, cut_resealing, resealed}
 use Rattle.pmem_engine.proofs.engine.Engine.reseal.Goals as goal
 
 -- what a read past the registers' end gives

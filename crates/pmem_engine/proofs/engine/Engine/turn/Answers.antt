@@ -5,9 +5,9 @@ use Rattle.suite.specs.Setup.{Setup}
 use Rattle.pmem_engine.specs.Engine.{EngineState}
 use Rattle.pmem_engine.specs.Parts.{Parts, parts_of}
 use Rattle.pmem_engine.specs.Calls.{HasTurned}
-use Rattle.pmem_engine.proofs.Exits.{is_err_of}
-use Rattle.pmem_engine.proofs.Turned.{turned_of, turned_down, turned_idle, turned, none_from_length}
-use Rattle.pmem_engine.proofs.Usable.{usable_call}
+use Rattle.pmem_engine.proofs.CallEnds.ErrorAnswers.{is_err_of}
+use Rattle.pmem_engine.proofs.PageLines.TurnOutcomes.{turned_of, turned_down, turned_idle, turned, none_from_length}
+use Rattle.pmem_engine.proofs.CallEnds.UsableParts.{usable_call}
 use Rattle.pmem_engine.proofs.engine.Engine.turn.Given.{Over}
 use Rattle.pmem_engine.proofs.engine.Engine.turn.Goals.{After-ended}
 use Rattle.pmem_engine.proofs.engine.Engine.turn.Goals as goal

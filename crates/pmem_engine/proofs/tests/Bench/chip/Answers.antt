@@ -8,7 +8,7 @@ use Rattle.board.specs.MemBoard.{memory_of}
 use Rattle.board.specs.Memory.{device_of}
 use Rattle.seal_ledger.specs.View.{ledger_of}
 use Rattle.pmem_engine.specs.Engine.{EngineState}
-use Rattle.pmem_engine.proofs.Benches.{formatted_regs, usable_from}
+use Rattle.pmem_engine.proofs.CallEnds.TestBenches.{formatted_regs, usable_from}
 use Rattle.pmem_engine.proofs.tests.Bench.chip.Goals as goal
 
 pub invariant_of-result : goal.invariant_of-result
