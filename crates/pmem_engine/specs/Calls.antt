@@ -34,7 +34,7 @@ use Rattle.pmem_engine.specs.declared.fault.Fault.{Fault}
 use Rattle.pmem_engine.specs.declared.fault.Fault.TheVariants as Fail
 use Rattle.pmem_engine.specs.Engine.{EngineState}
 use Rattle.pmem_engine.specs.Parts.{Parts, regs_of, AreTrusted, AreSound, HoldsSeal, HoldsCounters, HoldsMeta, meta_line_in}
-use Rattle.pmem_engine.specs.Outcomes.{Outcome, going, cut, outcome_of, is_going, is_sealed_by, HasGone, HasDone, TakesSteps, TakesAtMost, TakesFewer}
+use Rattle.pmem_engine.specs.Outcomes.{Outcome, going, cut_short, outcome_of, is_going, is_sealed_by, CallEffect, OneLossEffect, TakesSteps, TakesAtMost, TakesFewer}
 use Rattle.pmem_engine.specs.Faults.{IsMetaRefused, IsClashShown, IsTagRefused, IsForgedShown}
 
 -- ---- what a call asks of its parts
@@ -88,7 +88,7 @@ pub record AnswersDown {T : Type 0} (old new : Parts) (answer : Result T Fault) 
 
 -- so many steps, or at a cut fewer
 abbrev pub TakesWithin : Outcome → ℕ → Parts → Parts → Type 0
-TakesWithin cut n old new = TakesFewer n old.device new.device
+TakesWithin cut_short n old new = TakesFewer n old.device new.device
 TakesWithin outcome n old new = TakesAtMost n old.device new.device
 
 -- the same where the board was live; else only that there are no more
@@ -121,7 +121,7 @@ pub record IsReadOfCached (setup : Setup) (a : ℕ) (old new : Parts) (answer : 
 pub record HasReadLine (setup : Setup) (a : ℕ) (old new : Parts) (answer : Result Line Fault) :
     Type 0 where
   pub down : AnswersDown old new answer
-  pub done : old.engine.down ≡ false → HasDone setup (outcome_of answer) [] old new
+  pub done : old.engine.down ≡ false → OneLossEffect setup (outcome_of answer) [] old new
   pub answered : old.engine.down ≡ false → AreTrusted setup old → AnswersRead setup a old new answer
   pub unrefused : old.engine.down ≡ false → AreSound setup old → IsUnrefused answer
   pub path_cached : IsOk answer → IsPathCached setup.shape new.engine.cache (page_of a)
@@ -149,17 +149,17 @@ moment_in setup memory parts =
     record { memory = memory; view = view_of setup.shape parts.ledger.marks }
 
 -- the marks of a turn, by its answer
-abbrev pub HasTurnMarks : Formulas → Moment → List Mark → Result (Option (ℕ × ℕ)) Fault → Type 0
-HasTurnMarks f now made (Ok None) = (made ≡ []) × (now.view.open_pages ≡ [])
-HasTurnMarks f now made (Ok (Some turned)) =
+abbrev pub AreMarksOfTurn : Formulas → Moment → List Mark → Result (Option (ℕ × ℕ)) Fault → Type 0
+AreMarksOfTurn f now made (Ok None) = (made ≡ []) × (now.view.open_pages ≡ [])
+AreMarksOfTurn f now made (Ok (Some turned)) =
     IsTurnMark f now made × IsLowestLeft (oldest_page now) (Place.Line turned.0)
     × IsLeftAfterTurn (oldest_page now) turned.1
-HasTurnMarks f now made (Err Fail.Cut) = IsSome (oldest_page now) × ((made ≡ []) ⊎ IsTurnMark f now made)
-HasTurnMarks f now made (Err (Fail.Tag b)) = (made ≡ []) × IsLowestLeft (oldest_page now) (Place.Line b)
-HasTurnMarks f now made (Err Fail.Shown) = (made ≡ []) × IsSome (oldest_page now)
-HasTurnMarks f now made (Err (Fail.Meta x)) = ⊥
-HasTurnMarks f now made (Err (Fail.Spent page)) = ⊥
-HasTurnMarks f now made (Err Fail.Down) = ⊥
+AreMarksOfTurn f now made (Err Fail.Cut) = IsSome (oldest_page now) × ((made ≡ []) ⊎ IsTurnMark f now made)
+AreMarksOfTurn f now made (Err (Fail.Tag b)) = (made ≡ []) × IsLowestLeft (oldest_page now) (Place.Line b)
+AreMarksOfTurn f now made (Err Fail.Shown) = (made ≡ []) × IsSome (oldest_page now)
+AreMarksOfTurn f now made (Err (Fail.Meta x)) = ⊥
+AreMarksOfTurn f now made (Err (Fail.Spent page)) = ⊥
+AreMarksOfTurn f now made (Err Fail.Down) = ⊥
 
 -- an exhibit of a turn is a forged seal of the lowest line not done of the oldest page
 pub record IsForgedInTurn (setup : Setup) (old new : Parts) : Type 0 where
@@ -186,10 +186,10 @@ pub record HasTurned (setup : Setup) (old new : Parts) (answer : Result (Option 
     Type 0 where
   pub made : List Mark
   pub down : AnswersDown old new answer
-  pub done : old.engine.down ≡ false → HasDone setup (outcome_of answer) made old new
+  pub done : old.engine.down ≡ false → OneLossEffect setup (outcome_of answer) made old new
   pub marks :
       old.engine.down ≡ false → AreTrusted setup old → (memory : Memory) → IsMemory setup memory old
-      → HasTurnMarks setup.formulas (moment_in setup memory old) made answer
+      → AreMarksOfTurn setup.formulas (moment_in setup memory old) made answer
   pub idle :
       old.engine.down ≡ false
       → (answer ≡ Ok None) ↔ ((regs_of old).progress.items ≡ [])
@@ -221,7 +221,7 @@ AnswersFlush g old new (Err fault) = ⊥
 
 pub record HasFlushed (setup : Setup) (old new : Parts) (answer : Result (Option ℕ) Fault) : Type 0 where
   pub down : AnswersDown old new answer
-  pub done : old.engine.down ≡ false → HasDone setup (outcome_of answer) [] old new
+  pub done : old.engine.down ≡ false → OneLossEffect setup (outcome_of answer) [] old new
   pub answered : old.engine.down ≡ false → AnswersFlush setup.shape old new answer
   -- the block named is the oldest dirty one
   pub oldest :
@@ -258,15 +258,15 @@ IsRefusedLine asked made write b =
     ⊎ ((write.len < 64) × (b ≡ write.at) × (made ≡ []) × IsSome asked)
 
 -- the marks of a write, by its answer
-abbrev pub HasWriteMarks : Option (List Mark) → List Mark → Posted → Result Ctr Fault → Type 0
-HasWriteMarks asked made write (Ok ctr) = asked ≡ Some made
-HasWriteMarks asked made write (Err Fail.Cut) = (asked ≡ Some made) ⊎ IsPartOf asked made
-HasWriteMarks asked made write (Err (Fail.Meta x)) = made ≡ []
-HasWriteMarks asked made write (Err (Fail.Tag b)) = IsRefusedLine asked made write b
-HasWriteMarks asked made write (Err Fail.Shown) = IsPartOf asked made
-HasWriteMarks asked made write (Err (Fail.Spent page)) =
+abbrev pub AreMarksOfWrite : Option (List Mark) → List Mark → Posted → Result Ctr Fault → Type 0
+AreMarksOfWrite asked made write (Ok ctr) = asked ≡ Some made
+AreMarksOfWrite asked made write (Err Fail.Cut) = (asked ≡ Some made) ⊎ IsPartOf asked made
+AreMarksOfWrite asked made write (Err (Fail.Meta x)) = made ≡ []
+AreMarksOfWrite asked made write (Err (Fail.Tag b)) = IsRefusedLine asked made write b
+AreMarksOfWrite asked made write (Err Fail.Shown) = IsPartOf asked made
+AreMarksOfWrite asked made write (Err (Fail.Spent page)) =
     (asked ≡ None) × (made ≡ []) × (page ≡ page_of write.at)
-HasWriteMarks asked made write (Err Fail.Down) = ⊥
+AreMarksOfWrite asked made write (Err Fail.Down) = ⊥
 
 -- an exhibit of a write: a clash on its path before any mark, or a forged seal of a line that could
 -- be refused
@@ -311,7 +311,7 @@ abbrev pub TakesOfWrite :
 TakesOfWrite g asked made old new (Ok ctr) = TakesAtMost (write_bound g made) old.device new.device
 TakesOfWrite g (Some marks) made old new (Err Fail.Cut) =
     TakesFewer (write_bound g marks) old.device new.device
-TakesOfWrite g None made old new (Err Fail.Cut) = TakesSpent g cut old new
+TakesOfWrite g None made old new (Err Fail.Cut) = TakesSpent g cut_short old new
 TakesOfWrite g asked made old new (Err (Fail.Spent page)) = TakesSpent g going old new
 TakesOfWrite g asked made old new (Err fault) =
     TakesAtMost (write_bound g made) old.device new.device
@@ -326,10 +326,10 @@ pub record HasWrittenLine (setup : Setup) (write : Posted) (old new : Parts) (an
     Type 0 where
   pub made : List Mark
   pub down : AnswersDown old new answer
-  pub done : old.engine.down ≡ false → HasDone setup (outcome_of answer) made old new
+  pub done : old.engine.down ≡ false → OneLossEffect setup (outcome_of answer) made old new
   pub marks :
       old.engine.down ≡ false → AreTrusted setup old → (memory : Memory) → IsMemory setup memory old
-      → HasWriteMarks (marks_of_write setup.formulas (moment_in setup memory old) write) made write answer
+      → AreMarksOfWrite (marks_of_write setup.formulas (moment_in setup memory old) write) made write answer
   pub memory :
       AreTrusted setup old → (memory : Memory) → write.at < length memory → IsMemory setup memory old
       → IsMemory setup (memory_after memory write made) new
@@ -372,8 +372,8 @@ pub record HasWrittenLine (setup : Setup) (write : Posted) (old new : Parts) (an
 
 -- how many steps it takes: none where it is the present one, one where it is greater, else one more
 -- than there are dirty counter blocks
-abbrev pub IsLossSteps : ℕ → ℕ → ℕ → ℕ → Type 0
-IsLossSteps dirty old_loss n steps =
+abbrev pub AreStepsOfLoss : ℕ → ℕ → ℕ → ℕ → Type 0
+AreStepsOfLoss dirty old_loss n steps =
     MatchBool (n == old_loss) (steps ≡ 0)
     (MatchBool (nat_lt old_loss n) (steps ≡ 1) (steps ≡ dirty + 1))
 
@@ -386,7 +386,7 @@ IsCutInLoss dirty old_loss n old new =
 
 abbrev pub AnswersLoss : Shape → ℕ → Parts → Parts → Result ℕ Fault → Type 0
 AnswersLoss g n old new (Ok steps) =
-    IsLossSteps (dirty_in_bank g old.engine.cache g.levels) (regs_of old).loss n steps
+    AreStepsOfLoss (dirty_in_bank g old.engine.cache g.levels) (regs_of old).loss n steps
     × TakesSteps steps old.device new.device × ((regs_of new).loss ≡ n)
 AnswersLoss g n old new (Err Fail.Cut) =
     IsCutInLoss (dirty_in_bank g old.engine.cache g.levels) (regs_of old).loss n old new
@@ -395,7 +395,7 @@ AnswersLoss g n old new (Err fault) = ⊥
 
 pub record HasSetLoss (setup : Setup) (n : ℕ) (old new : Parts) (answer : Result ℕ Fault) : Type 0 where
   pub down : AnswersDown old new answer
-  pub gone : old.engine.down ≡ false → HasGone setup (outcome_of answer) [] old new
+  pub gone : old.engine.down ≡ false → CallEffect setup (outcome_of answer) [] old new
   pub answered : old.engine.down ≡ false → AnswersLoss setup.shape n old new answer
   -- what can be mended stays so of the counter blocks that were true or dirty
   pub counters :

@@ -8,7 +8,7 @@ use Rattle.suite.specs.Setup.{Setup}
 use Rattle.plain_model.specs.State.{Memory}
 use Rattle.plain_model.specs.Asked.{reseal_mark}
 use Rattle.pmem_engine.specs.Parts.{Parts, regs_of, AreTrusted, HoldsSeal, meta_line_in}
-use Rattle.pmem_engine.specs.Outcomes.{going, is_sealed_by, HasDone, TakesSteps}
+use Rattle.pmem_engine.specs.Outcomes.{going, is_sealed_by, OneLossEffect, TakesSteps}
 use Rattle.pmem_engine.specs.Calls.{IsMemory, moment_in}
 use Rattle.pmem_engine.specs.Resealing.{register_in}
 
@@ -35,7 +35,7 @@ pub record HasResealedFirst (setup : Setup) (n number : ℕ) (old new : Parts) :
   pub places : not_done (register_in old n) ≡ sealed ++ left
   pub count : length sealed ≡ number
   pub few : length made ≤ number
-  pub done : HasDone setup going made old new
+  pub done : OneLossEffect setup going made old new
   pub marks :
       AreTrusted setup old → (memory : Memory) → IsMemory setup memory old
       → made ≡ map (reseal_mark setup.formulas (moment_in setup memory old) (register_in old n).page) sealed

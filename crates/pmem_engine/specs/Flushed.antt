@@ -17,7 +17,7 @@ use Rattle.pmem_engine.specs.declared.fault.Fault.{Fault}
 use Rattle.pmem_engine.specs.declared.fault.Fault.TheVariants as Fail
 use Rattle.pmem_engine.specs.Engine.{EngineState}
 use Rattle.pmem_engine.specs.Parts.{parts_of}
-use Rattle.pmem_engine.specs.Outcomes.{going, HasDone}
+use Rattle.pmem_engine.specs.Outcomes.{going, OneLossEffect}
 
 -- the engine's cache
 abbrev pub cache_of : EngineState → CacheState
@@ -66,7 +66,7 @@ pub record HasWrittenBlocks (count : ℕ) (old new : EngineState) (before after 
   pub writes : RisesBy count before.writes after.writes
   pub done :
       (setup : Setup) (ledger : LedgerState) (tags digests : ℕ) → setup.shape ≡ old.shape
-      → HasDone setup going [] (parts_of old before ledger tags digests) (parts_of new after ledger tags digests)
+      → OneLossEffect setup going [] (parts_of old before ledger tags digests) (parts_of new after ledger tags digests)
 
 -- what a new number asks for was written: nothing for a greater one, every dirty counter block for a
 -- smaller one

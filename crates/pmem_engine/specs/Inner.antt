@@ -21,7 +21,7 @@ use Rattle.pmem_engine.specs.declared.fault.Fault.{Fault}
 use Rattle.pmem_engine.specs.declared.fault.Fault.TheVariants as Fail
 use Rattle.pmem_engine.specs.declared.reading.Unsealed.{Unsealed}
 use Rattle.pmem_engine.specs.Parts.{Parts, regs_of, AreTrusted, AreSound, HoldsSeal, meta_line_in}
-use Rattle.pmem_engine.specs.Outcomes.{Outcome, shown, outcome_of, is_going, HasDone, TakesSteps}
+use Rattle.pmem_engine.specs.Outcomes.{Outcome, shown, outcome_of, is_going, OneLossEffect, TakesSteps}
 use Rattle.pmem_engine.specs.Faults.{IsMetaRefused, IsClashShown, IsTagRefused, IsForgedShown}
 use Rattle.pmem_engine.specs.Engine.{EngineState}
 use Rattle.pmem_engine.specs.Calls.{IsPathNamedInMirror, IsDownAnswer, IsUnrefused, TakesWithin, TakesWithinOfLive, AnswersRead, IsReadOfCached}
@@ -57,7 +57,7 @@ AnswersFetch setup page old new (Err (Fail.Spent spent)) = ⊥
 AnswersFetch setup page old new (Err Fail.Down) = ⊥
 
 pub record HasFetched (setup : Setup) (page : ℕ) (old new : Parts) (answer : Result Unit Fault) : Type 0 where
-  pub done : HasDone setup (outcome_of answer) [] old new
+  pub done : OneLossEffect setup (outcome_of answer) [] old new
   pub answered : AreTrusted setup old → AnswersFetch setup page old new answer
   pub unrefused : AreSound setup old → IsUnrefused answer
   pub not_down : IsDownAnswer answer → ⊥
@@ -109,7 +109,7 @@ TellsTagLine setup a new (Err fault) = ⊤
 
 pub record HasUnsealed (setup : Setup) (a : ℕ) (ctr : Ctr) (old new : Parts) (answer : Result Unsealed Fault) :
     Type 0 where
-  pub done : HasDone setup (outcome_of answer) [] old new
+  pub done : OneLossEffect setup (outcome_of answer) [] old new
   pub answered : AreTrusted setup old → IsLastCounter old a ctr → AnswersUnseal setup a old new answer
   pub unrefused : AreSound setup old → IsLastCounter old a ctr → IsUnrefused answer
   pub engine : new.engine ≡ old.engine
@@ -131,8 +131,8 @@ abbrev pub cached_block : Shape → EngineState → ℕ → Block
 cached_block g engine page = unpacked (line_in g engine.cache g.levels (counter_position g page))
 
 -- a read of an engine that isn't down
-pub record HasReadUnder (setup : Setup) (a : ℕ) (old new : Parts) (answer : Result Line Fault) : Type 0 where
-  pub done : HasDone setup (outcome_of answer) [] old new
+pub record UpReadOutcome (setup : Setup) (a : ℕ) (old new : Parts) (answer : Result Line Fault) : Type 0 where
+  pub done : OneLossEffect setup (outcome_of answer) [] old new
   pub answered : AreTrusted setup old → AnswersRead setup a old new answer
   pub unrefused : AreSound setup old → IsUnrefused answer
   pub not_down : IsDownAnswer answer → ⊥
@@ -149,7 +149,7 @@ pub record HasReadUnder (setup : Setup) (a : ℕ) (old new : Parts) (answer : Re
 
 pub record HasNamedPath (setup : Setup) (page : ℕ) (old new : Parts) (answer : Result Unit Fault) :
     Type 0 where
-  pub done : HasDone setup (outcome_of answer) [] old new
+  pub done : OneLossEffect setup (outcome_of answer) [] old new
   pub cut_alone : IsUnrefused answer
   pub not_spent : (spent : ℕ) → answer ≡ Err (Fail.Spent spent) → ⊥
   pub path_named : IsOk answer → IsPathNamedInMirror setup.shape new.engine page

@@ -14,18 +14,18 @@ abbrev pub slot_line : Shape → ℕ → ℕ → Slot → ℕ
 slot_line g bank set slot = entry_line g bank (slot_number g set slot)
 
 -- the slot's entry in these shadow lines names the slot's position
-abbrev pub IsSlotNamed : Shape → List Line → ℕ → ℕ → Slot → Type 0
-IsSlotNamed g shadow bank set slot = slot_entry g shadow bank (slot_number g set slot) ≡ slot.position + 1
+abbrev pub IsSlotInShadow : Shape → List Line → ℕ → ℕ → Slot → Type 0
+IsSlotInShadow g shadow bank set slot = slot_entry g shadow bank (slot_number g set slot) ≡ slot.position + 1
 
 -- each slot of the cache that holds a block of the page's path is named
 pub record ArePathSlotsNamed (g : Shape) (cache : Banks) (shadow : List Line) (page : ℕ) : Type 0 where
   pub each :
       (bank set : ℕ) (slot : Slot) → Contains (set_of cache bank set) slot
-      → is_on_path g page slot.position ≡ true → IsSlotNamed g shadow bank set slot
+      → is_on_path g page slot.position ≡ true → IsSlotInShadow g shadow bank set slot
 
 -- each slot that holds a node of the page's path is named, its counter block's perhaps not
 pub record AreNodeSlotsNamed (g : Shape) (cache : Banks) (shadow : List Line) (page : ℕ) : Type 0 where
   pub each :
       (bank set : ℕ) (slot : Slot) → Contains (set_of cache bank set) slot
       → is_on_path g page slot.position ≡ true → slot.position ≢ counter_position g page
-      → IsSlotNamed g shadow bank set slot
+      → IsSlotInShadow g shadow bank set slot

@@ -29,11 +29,11 @@ fault_of_path Path.Shown = Fail.Shown
 -- the engine goes on, or a cut or an exhibit ended it
 pub data Outcome : Type 0 where
   going : Outcome
-  cut : Outcome
+  cut_short : Outcome
   shown : Outcome
 
 abbrev pub outcome_of_fault : Fault → Outcome
-outcome_of_fault Fail.Cut = cut
+outcome_of_fault Fail.Cut = cut_short
 outcome_of_fault Fail.Shown = shown
 outcome_of_fault fault = going
 
@@ -43,7 +43,7 @@ outcome_of (Err fault) = outcome_of_fault fault
 
 abbrev pub is_going : Outcome → Bool
 is_going going = true
-is_going cut = false
+is_going cut_short = false
 is_going shown = false
 
 -- ---- marks
@@ -72,13 +72,13 @@ IsTouchedBy g made x =
 -- what is trusted afterwards; the counters are fresh in any case
 abbrev pub LeavesTrusted : Setup → Outcome → Parts → Type 0
 LeavesTrusted setup going new = AreTrusted setup new
-LeavesTrusted setup cut new = IsAnchored setup (regs_of new) new.ledger
+LeavesTrusted setup cut_short new = IsAnchored setup (regs_of new) new.ledger
 LeavesTrusted setup shown new = IsFresh new.ledger.marks
 
 -- what is sound afterwards; no exhibit comes of what was sound
 abbrev pub LeavesSound : Setup → Outcome → Parts → Type 0
 LeavesSound setup going new = AreSound setup new
-LeavesSound setup cut new = AreDurable setup new
+LeavesSound setup cut_short new = AreDurable setup new
 LeavesSound setup shown new = ⊥
 
 -- ---- place by place
@@ -114,7 +114,7 @@ pub record KeepsMeta (setup : Setup) (made : List Mark) (old new : Parts) : Type
       → (is_cached_dirty setup.shape old.engine.cache bank x ≡ true) ⊎ IsTouchedBy setup.shape made x
 
 abbrev pub KeepsMetaWhere : Setup → Outcome → List Mark → Parts → Parts → Type 0
-KeepsMetaWhere setup cut made old new = ⊤
+KeepsMetaWhere setup cut_short made old new = ⊤
 KeepsMetaWhere setup outcome made old new = KeepsMeta setup made old new
 
 -- ---- power
@@ -122,13 +122,13 @@ KeepsMetaWhere setup outcome made old new = KeepsMeta setup made old new
 -- the board has no power after a cut, which comes only of a board that isn't steady; else it stays
 -- as steady and as live as it was
 abbrev pub HasPower : Outcome → Device → Device → Type 0
-HasPower cut old new = (old.steady ≡ false) × (new.live ≡ false) × HasRisen old.cuts new.cuts
+HasPower cut_short old new = (old.steady ≡ false) × (new.live ≡ false) × HasRisen old.cuts new.cuts
 HasPower outcome old new =
     (old.steady ≡ true → new.steady ≡ true) × (old.live ≡ true → new.live ≡ true) × (new.cuts ≡ old.cuts)
 
 -- after a cut at most three lines are armed
 abbrev pub HasSmallGroup : Outcome → Parts → Type 0
-HasSmallGroup cut new = length (regs_of new).group.items ≤ 3
+HasSmallGroup cut_short new = length (regs_of new).group.items ≤ 3
 HasSmallGroup outcome new = ⊤
 
 -- ---- persist steps: line writes and latches, whose counts stand still at their end
@@ -163,12 +163,12 @@ NeverFalls old new = old ≤ last_count → (old ≤ new) × (new ≤ last_count
 
 -- ---- a call, or a part of one, that made these marks
 
-pub record HasGone (setup : Setup) (outcome : Outcome) (made : List Mark) (old new : Parts) : Type 0 where
+pub record CallEffect (setup : Setup) (outcome : Outcome) (made : List Mark) (old new : Parts) : Type 0 where
   pub shape : new.engine.shape ≡ old.engine.shape
   pub size : new.device.size ≡ old.device.size
   pub told : is_some new.device.lines ≡ is_some old.device.lines
   pub valid : IsValidRegs setup.shape (regs_of old) → IsValidRegs setup.shape (regs_of new)
-  pub group : outcome ≢ cut → (regs_of new).group ≡ (regs_of old).group
+  pub group : outcome ≢ cut_short → (regs_of new).group ≡ (regs_of old).group
   pub small_group : (regs_of old).group.items ≡ [] → HasSmallGroup outcome new
   pub power : HasPower outcome old.device new.device
   pub reads : old.device.reads ≤ new.device.reads
@@ -191,7 +191,7 @@ KeepsCounters setup old new =
     → HoldsCounters setup new page
 
 -- the same, under one stop-loss number
-pub record HasDone (setup : Setup) (outcome : Outcome) (made : List Mark) (old new : Parts) : Type 0 where
-  pub gone : HasGone setup outcome made old new
+pub record OneLossEffect (setup : Setup) (outcome : Outcome) (made : List Mark) (old new : Parts) : Type 0 where
+  pub gone : CallEffect setup outcome made old new
   pub loss : (regs_of new).loss ≡ (regs_of old).loss
   pub counters : AreTrusted setup old → KeepsCounters setup old new

@@ -20,18 +20,13 @@ abbrev pub IsTrueOrDirty : Shape → Banks → List Line → List Line → ℕ �
 IsTrueOrDirty g cache lines truth x =
     (stored_meta g lines x ≡ line_at truth x) ⊎ (is_cached_dirty g cache (level_of x) x ≡ true)
 
--- metadata line x is as it was at the start, or it is the true one on the device or cached dirty
-abbrev pub IsSameOrHeld : Shape → Banks → List Line → List Line → List Line → ℕ → Type 0
-IsSameOrHeld g cache start lines truth x =
-    (stored_meta g lines x ≡ stored_meta g start x) ⊎ IsTrueOrDirty g cache lines truth x
-
 -- position x was cached dirty and is so no longer
 abbrev pub WasCleaned : Shape → Banks → Banks → ℕ → Type 0
 WasCleaned g old new x =
     (is_cached_dirty g old (level_of x) x ≡ true) × (is_cached_dirty g new (level_of x) x ≡ false)
 
 -- a slot that has come in, clean and true
-pub record HasComeIn (g : Shape) (truth : List Line) (bank set : ℕ) (slot : Slot) : Type 0 where
+pub record IsNewlyCached (g : Shape) (truth : List Line) (bank set : ℕ) (slot : Slot) : Type 0 where
   pub its_own : IsTrueSlot g truth bank set slot
   pub clean : slot.dirty ≡ false
 
@@ -42,7 +37,7 @@ pub record IsRecached (setup : Setup) (old new : EngineState) (ledger : LedgerSt
   pub down : new.down ≡ old.down
   pub slots :
       (bank set : ℕ) (slot : Slot) → Contains (set_of new.cache bank set) slot
-      → IsFromBefore (set_of old.cache bank set) slot ⊎ HasComeIn setup.shape ledger.truth bank set slot
+      → IsFromBefore (set_of old.cache bank set) slot ⊎ IsNewlyCached setup.shape ledger.truth bank set slot
 
 -- the engine's copy of shadow line n is written, and nothing else of it changes
 pub record IsMirrorWritten (old new : EngineState) (n : ℕ) (line : Line) : Type 0 where
@@ -52,7 +47,7 @@ pub record IsMirrorWritten (old new : EngineState) (n : ℕ) (line : Line) : Typ
   pub down : new.down ≡ old.down
 
 -- each block of the page's path is cached
-pub record IsPathCached (g : Shape) (cache : Banks) (page : ℕ) : Type 0 where
+pub record IsPathInCache (g : Shape) (cache : Banks) (page : ℕ) : Type 0 where
   pub each :
       (x : ℕ) → x < meta_lines g → is_on_path g page x ≡ true → is_cached g cache (level_of x) x ≡ true
 
@@ -69,7 +64,7 @@ pub record ArePathNodesDirty (g : Shape) (cache : Banks) (page : ℕ) : Type 0 w
       → is_cached_dirty g cache (level_of x) x ≡ true
 
 -- a slot as it was, or with its block's new true line
-pub record IsStoredSlot (g : Shape) (truth : List Line) (page : ℕ) (set : List Slot) (slot : Slot) : Type 0 where
+pub record IsSlotOfStoredPath (g : Shape) (truth : List Line) (page : ℕ) (set : List Slot) (slot : Slot) : Type 0 where
   pub before : Slot
   pub stands : Contains set before
   pub way : before.way ≡ slot.way
@@ -86,7 +81,7 @@ pub record IsPathStored (g : Shape) (old new : EngineState) (truth : List Line) 
   pub down : new.down ≡ old.down
   pub slots :
       (bank set : ℕ) (slot : Slot) → Contains (set_of new.cache bank set) slot
-      → IsStoredSlot g truth page (set_of old.cache bank set) slot
+      → IsSlotOfStoredPath g truth page (set_of old.cache bank set) slot
   pub kept_dirty :
       (x : ℕ) → x < meta_lines g → is_on_path g page x ≡ false
       → is_cached_dirty g new.cache (level_of x) x ≡ false → is_cached_dirty g old.cache (level_of x) x ≡ false

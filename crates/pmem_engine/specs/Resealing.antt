@@ -22,7 +22,7 @@ use Rattle.pmem_engine.specs.declared.fault.Fault.TheVariants as Fail
 use Rattle.pmem_engine.specs.declared.resealing.HeldLine.{HeldLine}
 use Rattle.pmem_engine.specs.declared.resealing.NextSeal.{NextSeal}
 use Rattle.pmem_engine.specs.Parts.{Parts, regs_of, AreTrusted, AreSound, HoldsSeal, meta_line_in}
-use Rattle.pmem_engine.specs.Outcomes.{shown, outcome_of, is_sealed_by, HasDone, TakesSteps, TakesFewer}
+use Rattle.pmem_engine.specs.Outcomes.{shown, outcome_of, is_sealed_by, OneLossEffect, TakesSteps, TakesFewer}
 use Rattle.pmem_engine.specs.Faults.{IsTagRefused, IsForgedShown}
 use Rattle.pmem_engine.specs.Calls.{IsMemory, IsDownAnswer, IsUnrefused, moment_in}
 use Rattle.pmem_engine.specs.Committing.{entries_of, HasLineDone, HasCommitted, IsCutArmed}
@@ -115,7 +115,7 @@ pub record HasResealed (setup : Setup) (n : ℕ) (old new : Parts) (answer : Res
   pub lowest : slice_get (not_done (register_in old n)) 0 ≡ Some place
   pub made : List Mark
   pub few : length made ≤ 1
-  pub done : HasDone setup (outcome_of answer) made old new
+  pub done : OneLossEffect setup (outcome_of answer) made old new
   pub marks :
       AreTrusted setup old → (memory : Memory) → IsMemory setup memory old
       → HasResealMarks setup.formulas (moment_in setup memory old) (register_in old n).page place made answer

@@ -32,7 +32,7 @@ use Rattle.pmem_engine.specs.declared.resealing.NextSeal.{NextSeal}
 use Rattle.pmem_engine.specs.Engine.{EngineState}
 use Rattle.pmem_engine.specs.Steps.{block_entry}
 use Rattle.pmem_engine.specs.Parts.{Parts, regs_of, AreTrusted, meta_line_in}
-use Rattle.pmem_engine.specs.Outcomes.{outcome_of, is_sealed_by, HasDone, TakesSteps, TakesFewer}
+use Rattle.pmem_engine.specs.Outcomes.{outcome_of, is_sealed_by, OneLossEffect, TakesSteps, TakesFewer}
 use Rattle.pmem_engine.specs.Calls.{IsPathNamedInMirror, IsBlockTrue, is_persisting}
 use Rattle.pmem_engine.specs.Inner.{cached_block}
 use Rattle.pmem_engine.specs.Committing.{entries_of, HasCommitted, IsCutArmed}
@@ -172,7 +172,7 @@ TakesSealSteps n old new (Err fault) = TakesFewer n old.device new.device
 pub record HasSealedNext (setup : Setup) (at : ℕ) (plain : Line) (old new : Parts) (answer : Result Ctr Fault) :
     Type 0 where
   pub made : List Mark
-  pub done : HasDone setup (outcome_of answer) made old new
+  pub done : OneLossEffect setup (outcome_of answer) made old new
   pub marks : HasNextMarks setup.formulas at (next_counter_of setup.shape old.engine at) plain made answer
   -- what was sealed is the plain line, and every other one is as it was
   pub plain_now :
@@ -219,7 +219,7 @@ pub record IsPageOpened (setup : Setup) (page : ℕ) (old new : Parts) : Type 0 
 
 pub record HasBegunPage (setup : Setup) (page : ℕ) (old new : Parts) (answer : Result Unit Fault) : Type 0 where
   pub made : List Mark
-  pub done : HasDone setup (outcome_of answer) made old new
+  pub done : OneLossEffect setup (outcome_of answer) made old new
   pub marks : HasBeginMarks page made answer
   pub opened : IsOk answer → IsPageOpened setup page old new
   -- the counter block's line, where the page wasn't begun

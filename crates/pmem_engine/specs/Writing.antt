@@ -23,9 +23,9 @@ use Rattle.plain_model.specs.Asked.{Moment, reseal_mark, marks_of_write}
 use Rattle.pmem_engine.specs.declared.fault.Fault.{Fault}
 use Rattle.pmem_engine.specs.declared.fault.Fault.TheVariants as Fail
 use Rattle.pmem_engine.specs.Parts.{Parts, regs_of, AreTrusted, AreSound, HoldsSeal, meta_line_in}
-use Rattle.pmem_engine.specs.Outcomes.{shown, outcome_of, is_sealed_by, HasDone, TakesSteps, TakesFewer, is_seal_of}
+use Rattle.pmem_engine.specs.Outcomes.{shown, outcome_of, is_sealed_by, OneLossEffect, TakesSteps, TakesFewer, is_seal_of}
 use Rattle.pmem_engine.specs.Faults.{IsTagRefused, IsForgedShown}
-use Rattle.pmem_engine.specs.Calls.{IsMemory, IsDownAnswer, IsUnrefused, IsLeftAlone, moment_in, HasWriteMarks, memory_after, AnswersWrite, TakesSpent, IsPathNamedInMirror, TakesOfWrite, is_persisting, IsBlockTrue}
+use Rattle.pmem_engine.specs.Calls.{IsMemory, IsDownAnswer, IsUnrefused, IsLeftAlone, moment_in, AreMarksOfWrite, memory_after, AnswersWrite, TakesSpent, IsPathNamedInMirror, TakesOfWrite, is_persisting, IsBlockTrue}
 use Rattle.pmem_engine.specs.Resealing.{register_in}
 use Rattle.pmem_engine.specs.Sealing.{HasBegunPage}
 
@@ -59,7 +59,7 @@ AnswersPlain setup write old new (Err Fail.Down) = ⊥
 -- the plain line of a write whose page's path is cached
 pub record HasMadePlain (setup : Setup) (write : Posted) (old new : Parts) (answer : Result Line Fault) :
     Type 0 where
-  pub done : HasDone setup (outcome_of answer) [] old new
+  pub done : OneLossEffect setup (outcome_of answer) [] old new
   pub answered :
       AreTrusted setup old → IsPathCached setup.shape old.engine.cache (page_of write.at)
       → AnswersPlain setup write old new answer
@@ -124,7 +124,7 @@ CountsFinish number made old new answer = TakesSteps (4 * length made) old.devic
 pub record HasFinishedPage (setup : Setup) (n : ℕ) (old new : Parts) (answer : Result Unit Fault) : Type 0 where
   pub made : List Mark
   pub few : length made ≤ length (not_done (register_in old n))
-  pub done : HasDone setup (outcome_of answer) made old new
+  pub done : OneLossEffect setup (outcome_of answer) made old new
   pub marks :
       AreTrusted setup old → (memory : Memory) → IsMemory setup memory old
       → HasFinishMarks (reseals_of setup.formulas (moment_in setup memory old) (register_in old n)) made answer
@@ -185,13 +185,13 @@ HasBegunFor false setup page old new answer = HasLeftOut old new answer
 -- ---- the whole
 
 -- a write of an engine that isn't down
-pub record HasWrittenUnder (setup : Setup) (write : Posted) (old new : Parts) (answer : Result Ctr Fault) :
+pub record UpWriteOutcome (setup : Setup) (write : Posted) (old new : Parts) (answer : Result Ctr Fault) :
     Type 0 where
   pub made : List Mark
-  pub done : HasDone setup (outcome_of answer) made old new
+  pub done : OneLossEffect setup (outcome_of answer) made old new
   pub marks :
       AreTrusted setup old → (memory : Memory) → IsMemory setup memory old
-      → HasWriteMarks (marks_of_write setup.formulas (moment_in setup memory old) write) made write answer
+      → AreMarksOfWrite (marks_of_write setup.formulas (moment_in setup memory old) write) made write answer
   pub memory :
       AreTrusted setup old → (memory : Memory) → write.at < length memory → IsMemory setup memory old
       → IsMemory setup (memory_after memory write made) new

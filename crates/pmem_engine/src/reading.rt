@@ -10,7 +10,7 @@ ghost use Rattle.suite.specs.Setup.{Setup};
 ghost use Rattle.pmem_engine.specs.Invariants.{IsTrusted};
 ghost use Rattle.pmem_engine.specs.Parts.{parts_of};
 ghost use Rattle.pmem_engine.specs.Calls.{IsUsable};
-ghost use Rattle.pmem_engine.specs.Inner.{cached_block, HasFetched, HasUnsealed, HasReadUnder};
+ghost use Rattle.pmem_engine.specs.Inner.{cached_block, HasFetched, HasUnsealed, UpReadOutcome};
 
 use crate::engine::Engine;
 use crate::fault::Fault;
@@ -42,7 +42,7 @@ impl Engine {
     ) -> Result<Line, Fault>
         requires line { at < data_lines self.old.shape }
         requires usable { IsUsable self.old.shape self.old (B.device board.old) (A.ledger audit.old) }
-        ensures read { HasReadUnder (record { shape = self.old.shape; formulas = S.formulas_of (S.keys suite.old) }) at
+        ensures read { UpReadOutcome (record { shape = self.old.shape; formulas = S.formulas_of (S.keys suite.old) }) at
             (parts_of self.old (B.device board.old) (A.ledger audit.old) (S.tags suite.old) (S.digests suite.old))
             (parts_of self.new (B.device board.new) (A.ledger audit.new) (S.tags suite.new) (S.digests suite.new)) result }
         ensures keys { S.keys suite.new ≡ S.keys suite.old }

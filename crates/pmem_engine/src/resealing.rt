@@ -127,7 +127,7 @@ impl Engine {
             (parts_of self.now (B.device board.new) (A.ledger audit.new) (S.tags suite.new) (S.digests suite.new)) result }
         ensures keys { S.keys suite.new ≡ S.keys suite.old }
     {
-        let _ = &self.geo;
+        self.has_shape();
         let register = board.regs().progress[n];
         let held = held_line(&register);
         let unsealed = self.unseal_line(board, suite, audit, held.at, held.now)?;

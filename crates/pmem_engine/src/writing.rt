@@ -9,7 +9,7 @@ ghost use Rattle.meta_path.specs.Blocks.{IsPathCached};
 ghost use Rattle.pmem_engine.specs.Parts.{parts_of};
 ghost use Rattle.pmem_engine.specs.Calls.{IsUsable, IsPathNamedInMirror};
 ghost use Rattle.pmem_engine.specs.Inner.{cached_block};
-ghost use Rattle.pmem_engine.specs.Writing.{overflow_of, HasMadePlain, register_to_finish, HasFinishedPage, HasFinishedFor, HasBegunFor, HasWrittenUnder};
+ghost use Rattle.pmem_engine.specs.Writing.{overflow_of, HasMadePlain, register_to_finish, HasFinishedPage, HasFinishedFor, HasBegunFor, UpWriteOutcome};
 
 use crate::engine::Engine;
 use crate::fault::Fault;
@@ -35,7 +35,7 @@ impl Engine {
         requires usable { IsUsable self.old.shape self.old (B.device board.old) (A.ledger audit.old) }
         requires up { self.old.down ≡ false }
         requires room { 66 ≤ (A.ledger audit.old).spare }
-        ensures written { HasWrittenUnder (record { shape = self.old.shape; formulas = S.formulas_of (S.keys suite.old) }) write.now
+        ensures written { UpWriteOutcome (record { shape = self.old.shape; formulas = S.formulas_of (S.keys suite.old) }) write.now
             (parts_of self.old (B.device board.old) (A.ledger audit.old) (S.tags suite.old) (S.digests suite.old))
             (parts_of self.new (B.device board.new) (A.ledger audit.new) (S.tags suite.new) (S.digests suite.new)) result }
         ensures keys { S.keys suite.new ≡ S.keys suite.old }

@@ -15,10 +15,10 @@ use Rattle.pmem_engine.specs.Outcomes.{NeverFalls}
 use Rattle.pmem_engine.specs.Parts.{parts_of}
 use Rattle.pmem_engine.specs.Inner.{cached_block}
 use Rattle.pmem_engine.specs.Sealing.{HasBeginCommitted, IsBeginCut, HasBegunPage}
-use Rattle.pmem_engine.proofs.Exits.{is_err_of}
-use Rattle.pmem_engine.proofs.NextPaths.{rolled-next, times_never_fall}
-use Rattle.pmem_engine.proofs.BegunBlock.{rolled_block}
-use Rattle.pmem_engine.proofs.PageBegun.{page_cut, page_begun}
+use Rattle.pmem_engine.proofs.CallEnds.ErrorAnswers.{is_err_of}
+use Rattle.pmem_engine.proofs.Seals.NextPaths.{rolled-next, times_never_fall}
+use Rattle.pmem_engine.proofs.Seals.BegunBlocks.{rolled_block}
+use Rattle.pmem_engine.proofs.Seals.BeginOutcomes.{page_cut, page_begun}
 use Rattle.pmem_engine.proofs.engine.Engine.begin_page.Goals as goal
 
 pub returns-in_err-commit_begin-clause-begun : goal.returns-in_err-commit_begin-clause-begun

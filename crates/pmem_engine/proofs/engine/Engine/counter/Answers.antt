@@ -6,7 +6,7 @@ use Rattle.pmem_base.specs.Layout.{data_lines, page_of}
 use Rattle.split_counters.specs.declared.Block.{Block}
 use Rattle.page_reencrypt.specs.Registers.{counter_of}
 use Rattle.pmem_engine.specs.Inner.{cached_block}
-use Rattle.pmem_engine.proofs.Counters.{counter-last}
+use Rattle.pmem_engine.proofs.CheckedReads.LineCounters.{counter-last}
 use Rattle.pmem_engine.proofs.engine.Engine.counter.Goals as goal
 
 pub returns-clause-last : goal.returns-clause-last

@@ -7,7 +7,7 @@ use Rattle.meta_cache.specs.Sets.{IsSetOf}
 use Rattle.meta_path.specs.Blocks.{dirty_in_bank}
 use Rattle.meta_path.proofs.PathFacts.{AreSets}
 use Rattle.pmem_engine.specs.Engine.{EngineState}
-use Rattle.pmem_engine.proofs.DirtyCounts.{dirty_in_bank-none}
+use Rattle.pmem_engine.proofs.BlockWrites.DirtyCounts.{dirty_in_bank-none}
 use Rattle.pmem_engine.proofs.engine.Engine.dirty_block.Goals as goal
 
 pub returns-clause-none : goal.returns-clause-none

@@ -16,7 +16,7 @@ use Rattle.pmem_engine.specs.Engine.{EngineState}
 use Rattle.pmem_engine.specs.Parts.{parts_of}
 use Rattle.pmem_engine.specs.Outcomes.{fault_of_path}
 use Rattle.pmem_engine.specs.Inner.{HasFetched}
-use Rattle.pmem_engine.proofs.FetchCalls.{of_states, fetch_ok, fetch_err}
+use Rattle.pmem_engine.proofs.CheckedReads.FetchCalls.{of_states, fetch_ok, fetch_err}
 use Rattle.pmem_engine.proofs.engine.Engine.fetch.Goals as goal
 
 pub returns-clause-fetched : goal.returns-clause-fetched

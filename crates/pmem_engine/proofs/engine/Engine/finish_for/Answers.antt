@@ -3,7 +3,7 @@ use Rattle.std.proofs.Common.{◌<◌, ◌∙◌, length, sym, ap, subst}
 use Rattle.suite.specs.Setup.{Setup}
 use Rattle.pmem_engine.specs.Parts.{Parts, parts_of}
 use Rattle.pmem_engine.specs.Writing.{register_to_finish}
-use Rattle.pmem_engine.proofs.FinishedFor.{on_ok, closed_for}
+use Rattle.pmem_engine.proofs.PageLines.FinishedFirst.{on_ok, closed_for}
 use Rattle.pmem_engine.proofs.engine.Engine.finish_for.Goals as goal
 
 pub returns-in-Some-clause-closed : goal.returns-in-Some-clause-closed

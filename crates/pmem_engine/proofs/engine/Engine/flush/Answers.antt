@@ -5,7 +5,7 @@ use Rattle.pmem_engine.specs.declared.fault.Fault.{Fault}
 use Rattle.pmem_engine.specs.Engine.{EngineState}
 use Rattle.pmem_engine.specs.Parts.{parts_of}
 use Rattle.pmem_engine.specs.Calls.{HasFlushed}
-use Rattle.pmem_engine.proofs.Flushes.{flushed}
+use Rattle.pmem_engine.proofs.BlockWrites.FlushOutcomes.{flushed}
 use Rattle.pmem_engine.proofs.engine.Engine.flush.Goals as goal
 
 pub returns-clause-flushed : goal.returns-clause-flushed

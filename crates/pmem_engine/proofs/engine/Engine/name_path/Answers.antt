@@ -17,8 +17,8 @@ use Rattle.pmem_engine.specs.declared.fault.Fault.TheVariants as Fail
 use Rattle.pmem_engine.specs.Engine.{EngineState}
 use Rattle.pmem_engine.specs.Parts.{parts_of}
 use Rattle.pmem_engine.specs.Inner.{HasNamedPath}
-use Rattle.pmem_engine.proofs.PathNames.{IsMirror, named_mirror}
-use Rattle.pmem_engine.proofs.NamedCalls.{path_named, path_cut}
+use Rattle.pmem_engine.proofs.PathNaming.PathNames.{IsMirror, named_mirror}
+use Rattle.pmem_engine.proofs.PathNaming.NamingOutcomes.{path_named, path_cut}
 use Rattle.pmem_engine.proofs.engine.Engine.name_path.Goals as goal
 
 -- the copy's lines are lines still

@@ -5,8 +5,8 @@ use Rattle.suite.specs.Setup.{Setup}
 use Rattle.pmem_engine.specs.declared.fault.Fault.{Fault}
 use Rattle.pmem_engine.specs.Parts.{Parts, parts_of}
 use Rattle.pmem_engine.specs.Writing.{HasMadePlain}
-use Rattle.pmem_engine.proofs.Exits.{is_err_of}
-use Rattle.pmem_engine.proofs.PlainMade.{plain_whole, plain_unsealed}
+use Rattle.pmem_engine.proofs.CallEnds.ErrorAnswers.{is_err_of}
+use Rattle.pmem_engine.proofs.PostedWrites.PlainMakings.{plain_whole, plain_unsealed}
 use Rattle.pmem_engine.proofs.engine.Engine.plain_after.Goals as goal
 
 pub returns-then-write-eq64-clause-made : goal.returns-then-write-eq64-clause-made

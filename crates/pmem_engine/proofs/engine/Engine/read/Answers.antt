@@ -6,8 +6,8 @@ use Rattle.pmem_engine.specs.declared.fault.Fault.{Fault}
 use Rattle.pmem_engine.specs.Engine.{EngineState}
 use Rattle.pmem_engine.specs.Parts.{Parts, parts_of}
 use Rattle.pmem_engine.specs.Calls.{HasReadLine}
-use Rattle.pmem_engine.proofs.Ended.{read_ended}
-use Rattle.pmem_engine.proofs.Usable.{usable_call, shape_call}
+use Rattle.pmem_engine.proofs.CheckedReads.ReadEnds.{read_ended}
+use Rattle.pmem_engine.proofs.CallEnds.UsableParts.{usable_call, shape_call}
 use Rattle.pmem_engine.proofs.engine.Engine.read.Goals as goal
 
 pub returns-clause-read : goal.returns-clause-read

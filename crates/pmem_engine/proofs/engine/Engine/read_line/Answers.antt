@@ -5,8 +5,8 @@ use Rattle.pmem_base.specs.declared.lines.Line.{Line}
 use Rattle.suite.specs.Setup.{Setup}
 use Rattle.pmem_engine.specs.declared.fault.Fault.{Fault}
 use Rattle.pmem_engine.specs.Parts.{Parts, parts_of}
-use Rattle.pmem_engine.specs.Inner.{HasReadUnder}
-use Rattle.pmem_engine.proofs.LineReads.{read_after_fetch}
+use Rattle.pmem_engine.specs.Inner.{UpReadOutcome}
+use Rattle.pmem_engine.proofs.CheckedReads.LineReads.{read_after_fetch}
 use Rattle.pmem_engine.proofs.engine.Engine.read_line.Goals as goal
 
 pub returns-clause-read : goal.returns-clause-read
@@ -41,7 +41,7 @@ returns-in_err-unsealed-clause-read g c =
     let answer = err_from_is_err_and c.from_residual-in_err-unsealed.result c.from_residual-in_err-unsealed.ensures.1 in
     let same : c.from_residual-in_err-unsealed.result ≡ Err c.in_err-unsealed.field-0.0 =
     answer.1 ∙ ap (λ (fault : Fault). Err fault) answer.2 in
-    subst (λ (answer : Result Line Fault). HasReadUnder setup c.args.at old new answer) (sym same)
+    subst (λ (answer : Result Line Fault). UpReadOutcome setup c.args.at old new answer) (sym same)
     (read_after_fetch setup c.args.at c.counter-ctr.result old mid new refl c.in_ok-fetch.ensures.fetched
     (g.S.Suite.formulas_of (g.S.Suite.keys c.fetch.new.suite)) (ap g.S.Suite.formulas_of c.fetch.ensures.keys)
     (Err c.in_err-unsealed.field-0.0) c.in_err-unsealed.ensures.unsealed

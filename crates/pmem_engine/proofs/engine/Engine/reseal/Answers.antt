@@ -2,7 +2,6 @@
 use Rattle.std.proofs.Common.{◌≡◌, ◌≤◌, ◌-◌, [], get_or, length, refl, sym, ap, subst, ◌∙◌, arith}
 use Rattle.std.proofs.lemmas.List.{get_or_default}
 use Rattle.pmem_base.specs.declared.registers.Progress.{Progress}
-use Rattle.pmem_base.specs.Geo.{shape_of}
 use Rattle.pmem_base.specs.Layout.{pages}
 use Rattle.pmem_base.specs.Registers.{not_done, empty_progress}
 use Rattle.pmem_base.proofs.LayoutLemmas.{pages-most}
@@ -14,8 +13,8 @@ use Rattle.pmem_engine.specs.declared.resealing.NextSeal.{NextSeal}
 use Rattle.pmem_engine.specs.Parts.{parts_of}
 use Rattle.pmem_engine.specs.Committing.{next_seal_of}
 use Rattle.pmem_engine.specs.Resealing.{IsNextHeld, IsResealCut, HasResealCommitted, HasResealed}
-use Rattle.pmem_engine.proofs.Exits.{is_err_of}
-use Rattle.pmem_engine.proofs.Resealed.{not_unsealed, cut_resealing, resealed}
+use Rattle.pmem_engine.proofs.CallEnds.ErrorAnswers.{is_err_of}
+use Rattle.pmem_engine.proofs.PageLines.ResealOutcomes.{not_unsealed, cut_resealing, resealed}
 use Rattle.pmem_engine.proofs.engine.Engine.reseal.Goals as goal
 
 -- what a read past the registers' end gives
@@ -31,9 +30,8 @@ held_line-held-requires-clause-page g c =
     let page : (get_or c.deref.result.now c.args.n no_register).page ≡ (get_or registers c.args.n empty_progress).page =
     ap (λ register. register.page) same in
     let inside = (c.requires.usable.ready.valid_regs.each_page c.args.n empty_progress c.requires.register).its_page in
-    let shape : pages (shape_of c.self.inside.geo) ≡ pages c.args.self.now.shape = ap (λ engine. pages engine.shape) c.self.view_is in
-    let few : pages (shape_of c.self.inside.geo) ≤ 4096 = pages-most (shape_of c.self.inside.geo).levels c.self.inside.geo.has_levels.1 in
-    omega (arith, page, inside, few, shape)
+    let few : pages c.args.self.now.shape ≤ 4096 = pages-most c.args.self.now.shape.levels c.has_shape.ensures.at_most_six_levels in
+    omega (arith, page, inside, few)
 
 pub returns-in_err-unsealed-clause-resealed : goal.returns-in_err-unsealed-clause-resealed
 returns-in_err-unsealed-clause-resealed g c =

@@ -20,9 +20,9 @@ use Rattle.pmem_engine.specs.Outcomes.{NeverFalls}
 use Rattle.pmem_engine.specs.Parts.{parts_of}
 use Rattle.pmem_engine.specs.Committing.{next_seal_of}
 use Rattle.pmem_engine.specs.Sealing.{next_counter_of, raised_block, HasSealCommitted, IsSealCut, HasSealedNext}
-use Rattle.pmem_engine.proofs.Exits.{is_err_of}
-use Rattle.pmem_engine.proofs.NextPaths.{times_never_fall}
-use Rattle.pmem_engine.proofs.LineSealed.{seal_unread, some_steps, seal_cuts, seal_goes}
+use Rattle.pmem_engine.proofs.CallEnds.ErrorAnswers.{is_err_of}
+use Rattle.pmem_engine.proofs.Seals.NextPaths.{times_never_fall}
+use Rattle.pmem_engine.proofs.Seals.SealOutcomes.{seal_unread, some_steps, seal_cuts, seal_goes}
 use Rattle.pmem_engine.proofs.engine.Engine.seal_next.Goals as goal
 
 pub returns-in_err-tag_line-clause-sealed : goal.returns-in_err-tag_line-clause-sealed

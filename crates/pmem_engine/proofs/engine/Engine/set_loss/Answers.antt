@@ -6,8 +6,8 @@ use Rattle.pmem_engine.specs.declared.fault.Fault.{Fault}
 use Rattle.pmem_engine.specs.Engine.{EngineState}
 use Rattle.pmem_engine.specs.Parts.{Parts, parts_of}
 use Rattle.pmem_engine.specs.Calls.{HasSetLoss}
-use Rattle.pmem_engine.proofs.LossSets.{loss_set}
-use Rattle.pmem_engine.proofs.Usable.{some_setup, some_ledger, ready_call, shape_call}
+use Rattle.pmem_engine.proofs.BlockWrites.LossOutcomes.{loss_set}
+use Rattle.pmem_engine.proofs.CallEnds.UsableParts.{some_setup, some_ledger, ready_call, shape_call}
 use Rattle.pmem_engine.proofs.engine.Engine.set_loss.Goals as goal
 
 pub returns-clause-set : goal.returns-clause-set

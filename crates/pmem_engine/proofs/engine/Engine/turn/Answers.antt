@@ -2,96 +2,89 @@
 use Rattle.std.proofs.Common.{◌<◌, length, Ok, Err, Some, sym, ap, subst, ◌∙◌, arith}
 use Rattle.std.proofs.lemmas.Bool.{eqb-true, eqb-false}
 use Rattle.suite.specs.Setup.{Setup}
+use Rattle.pmem_engine.specs.Engine.{EngineState}
 use Rattle.pmem_engine.specs.Parts.{Parts, parts_of}
 use Rattle.pmem_engine.specs.Calls.{HasTurned}
-use Rattle.pmem_engine.proofs.Exits.{is_err_of}
-use Rattle.pmem_engine.proofs.Turned.{turned_of, turned_down, turned_idle, turned, none_from_length}
-use Rattle.pmem_engine.proofs.Usable.{usable_call}
+use Rattle.pmem_engine.proofs.CallEnds.ErrorAnswers.{is_err_of}
+use Rattle.pmem_engine.proofs.PageLines.TurnOutcomes.{turned_of, turned_down, turned_idle, turned, none_from_length}
+use Rattle.pmem_engine.proofs.CallEnds.UsableParts.{usable_call}
+use Rattle.pmem_engine.proofs.engine.Engine.turn.Given.{Over}
+use Rattle.pmem_engine.proofs.engine.Engine.turn.Goals.{After-ended}
 use Rattle.pmem_engine.proofs.engine.Engine.turn.Goals as goal
+
+-- the formulas and the parts at a moment of the call
+abbrev setup_at : (g : Over) → EngineState → g.row.S.Denot → Setup
+setup_at g engine suite = record { shape = engine.shape; formulas = g.S.Suite.formulas_of (g.S.Suite.keys suite) }
+
+abbrev at : (g : Over) → EngineState → g.row.B.Denot → g.row.S.Denot → g.row.A.Denot → Parts
+at g engine board suite audit =
+    parts_of engine (g.B.Board.device board) (g.A.Audit.ledger audit) (g.S.Suite.tags suite) (g.S.Suite.digests suite)
 
 pub returns-in_err-is_up-clause-turned : goal.returns-in_err-is_up-clause-turned
 returns-in_err-is_up-clause-turned g c =
-    let setup : Setup = record { shape = c.args.self.now.shape; formulas = g.S.Suite.formulas_of (g.S.Suite.keys c.args.suite.now) } in
-    let old : Parts =
-    parts_of c.args.self.now (g.B.Board.device c.args.board.now) (g.A.Audit.ledger c.args.audit.now)
-    (g.S.Suite.tags c.args.suite.now) (g.S.Suite.digests c.args.suite.now) in
+    let setup : Setup = setup_at g c.args.self.now c.args.suite.now in
+    let old : Parts = at g c.args.self.now c.args.board.now c.args.suite.now c.args.audit.now in
     subst (HasTurned setup old old)
     (sym (is_err_of c.from_residual.result c.in_err-is_up.field-0.0 c.from_residual.ensures.1 ∙ ap Err c.in_err-is_up.ensures.fault))
     (turned_down setup old c.in_err-is_up.ensures.down)
 
 pub returns-then-is_empty-clause-turned : goal.returns-then-is_empty-clause-turned
 returns-then-is_empty-clause-turned g c =
-    let setup : Setup = record { shape = c.args.self.now.shape; formulas = g.S.Suite.formulas_of (g.S.Suite.keys c.args.suite.now) } in
-    let old : Parts =
-    parts_of c.args.self.now (g.B.Board.device c.args.board.now) (g.A.Audit.ledger c.args.audit.now)
-    (g.S.Suite.tags c.args.suite.now) (g.S.Suite.digests c.args.suite.now) in
-    turned_idle setup old c.in_ok-is_up.ensures.up
+    turned_idle (setup_at g c.args.self.now c.args.suite.now) (at g c.args.self.now c.args.board.now c.args.suite.now c.args.audit.now)
+    c.in_ok-is_up.ensures.up
     (ap (λ regs. regs.progress.items) (sym c.regs.ensures)
     ∙ none_from_length c.regs.result.now.progress.items
     (eqb-true (length c.regs.result.now.progress.items) 0 (sym c.if-is_empty.ensures)))
 
+-- ---- after a line was to be sealed anew
+
+module _ (g : Over) (c : After-ended g) where
+  abbrev setup : Setup
+  setup = setup_at g c.args.self.now c.args.suite.now
+
+  abbrev old : Parts
+  old = at g c.args.self.now c.args.board.now c.args.suite.now c.args.audit.now
+
+  abbrev mid : Parts
+  mid = at g c.args.self.now c.reseal-answer.new.board c.reseal-answer.new.suite c.reseal-answer.new.audit
+
+  abbrev new : Parts
+  new = at g c.ended.new.self c.reseal-answer.new.board c.reseal-answer.new.suite c.reseal-answer.new.audit
+
+  some : 0 < length old.device.regs.progress.items
+  some =
+      subst (λ regs. 0 < length regs.progress.items) c.regs.ensures
+      (let other = eqb-false (length c.regs.result.now.progress.items) 0 (sym c.is_empty.ensures ∙ c.if-is_empty.false) in
+      omega arith)
+
+  turned_at_end : HasTurned setup old new (turned_of c.reseal-answer.result)
+  turned_at_end =
+      turned setup old mid c.reseal-answer.result c.ended.new.self c.in_ok-is_up.ensures.up some c.reseal-answer.ensures.resealed
+      c.ended.ensures.shape c.ended.ensures.cache c.ended.ensures.mirror c.ended.ensures.down
+
 pub returns-in_err-sealed-clause-turned : goal.returns-in_err-sealed-clause-turned
 returns-in_err-sealed-clause-turned g c =
-    let setup : Setup = record { shape = c.args.self.now.shape; formulas = g.S.Suite.formulas_of (g.S.Suite.keys c.args.suite.now) } in
-    let old : Parts =
-    parts_of c.args.self.now (g.B.Board.device c.args.board.now) (g.A.Audit.ledger c.args.audit.now)
-    (g.S.Suite.tags c.args.suite.now) (g.S.Suite.digests c.args.suite.now) in
-    let mid : Parts =
-    parts_of c.args.self.now (g.B.Board.device c.reseal-answer.new.board) (g.A.Audit.ledger c.reseal-answer.new.audit)
-    (g.S.Suite.tags c.reseal-answer.new.suite) (g.S.Suite.digests c.reseal-answer.new.suite) in
-    let new : Parts =
-    parts_of c.ended.new.self (g.B.Board.device c.reseal-answer.new.board) (g.A.Audit.ledger c.reseal-answer.new.audit)
-    (g.S.Suite.tags c.reseal-answer.new.suite) (g.S.Suite.digests c.reseal-answer.new.suite) in
-    let some : 0 < length (g.B.Board.device c.args.board.now).regs.progress.items =
-    subst (λ regs. 0 < length regs.progress.items) c.regs.ensures
-    (let other = eqb-false (length c.regs.result.now.progress.items) 0 (sym c.is_empty.ensures ∙ c.if-is_empty.false) in
-    omega arith) in
-    subst (HasTurned setup old new)
+    let end : After-ended g = (goal.at.returns-in_err-sealed-clause-turned g c).After-ended in
+    subst (HasTurned (setup g end) (old g end) (new g end))
     (ap turned_of (sym c.in_err-sealed.ensures.answer)
     ∙ sym (is_err_of c.from_residual-in_err-sealed.result c.in_err-sealed.field-0.0 c.from_residual-in_err-sealed.ensures.1))
-    (turned setup old mid c.reseal-answer.result c.ended.new.self c.in_ok-is_up.ensures.up some c.reseal-answer.ensures.resealed
-    c.ended.ensures.shape c.ended.ensures.cache c.ended.ensures.mirror c.ended.ensures.down)
+    (turned_at_end g end)
 
 pub returns-clause-turned : goal.returns-clause-turned
 returns-clause-turned g c =
-    let setup : Setup = record { shape = c.args.self.now.shape; formulas = g.S.Suite.formulas_of (g.S.Suite.keys c.args.suite.now) } in
-    let old : Parts =
-    parts_of c.args.self.now (g.B.Board.device c.args.board.now) (g.A.Audit.ledger c.args.audit.now)
-    (g.S.Suite.tags c.args.suite.now) (g.S.Suite.digests c.args.suite.now) in
-    let mid : Parts =
-    parts_of c.args.self.now (g.B.Board.device c.reseal-answer.new.board) (g.A.Audit.ledger c.reseal-answer.new.audit)
-    (g.S.Suite.tags c.reseal-answer.new.suite) (g.S.Suite.digests c.reseal-answer.new.suite) in
-    let new : Parts =
-    parts_of c.ended.new.self (g.B.Board.device c.reseal-answer.new.board) (g.A.Audit.ledger c.reseal-answer.new.audit)
-    (g.S.Suite.tags c.reseal-answer.new.suite) (g.S.Suite.digests c.reseal-answer.new.suite) in
-    let some : 0 < length (g.B.Board.device c.args.board.now).regs.progress.items =
-    subst (λ regs. 0 < length regs.progress.items) c.regs.ensures
-    (let other = eqb-false (length c.regs.result.now.progress.items) 0 (sym c.is_empty.ensures ∙ c.if-is_empty.false) in
-    omega arith) in
-    subst (HasTurned setup old new) (ap turned_of (sym c.in_ok-sealed.ensures.answer))
-    (turned setup old mid c.reseal-answer.result c.ended.new.self c.in_ok-is_up.ensures.up some c.reseal-answer.ensures.resealed
-    c.ended.ensures.shape c.ended.ensures.cache c.ended.ensures.mirror c.ended.ensures.down)
+    let end : After-ended g = (goal.at.returns-clause-turned g c).After-ended in
+    subst (HasTurned (setup g end) (old g end) (new g end)) (ap turned_of (sym c.in_ok-sealed.ensures.answer)) (turned_at_end g end)
 
 pub returns-in_err-sealed-clause-usable : goal.returns-in_err-sealed-clause-usable
 returns-in_err-sealed-clause-usable g c =
-    let setup : Setup = record { shape = c.args.self.now.shape; formulas = g.S.Suite.formulas_of (g.S.Suite.keys c.args.suite.now) } in
-    let old : Parts =
-    parts_of c.args.self.now (g.B.Board.device c.args.board.now) (g.A.Audit.ledger c.args.audit.now)
-    (g.S.Suite.tags c.args.suite.now) (g.S.Suite.digests c.args.suite.now) in
-    let new : Parts =
-    parts_of c.ended.new.self (g.B.Board.device c.reseal-answer.new.board) (g.A.Audit.ledger c.reseal-answer.new.audit)
-    (g.S.Suite.tags c.reseal-answer.new.suite) (g.S.Suite.digests c.reseal-answer.new.suite) in
-    usable_call setup (returns-in_err-sealed-clause-turned g c).made old new (c.from_residual-in_err-sealed.result) (returns-in_err-sealed-clause-turned g c).down
-    (λ up. ((returns-in_err-sealed-clause-turned g c).done up).gone) c.requires.usable
+    let end : After-ended g = (goal.at.returns-in_err-sealed-clause-usable g c).After-ended in
+    let it = returns-in_err-sealed-clause-turned g c in
+    usable_call (setup g end) it.made (old g end) (new g end) c.from_residual-in_err-sealed.result it.down (λ up. (it.done up).gone)
+    c.requires.usable
 
 pub returns-clause-usable : goal.returns-clause-usable
 returns-clause-usable g c =
-    let setup : Setup = record { shape = c.args.self.now.shape; formulas = g.S.Suite.formulas_of (g.S.Suite.keys c.args.suite.now) } in
-    let old : Parts =
-    parts_of c.args.self.now (g.B.Board.device c.args.board.now) (g.A.Audit.ledger c.args.audit.now)
-    (g.S.Suite.tags c.args.suite.now) (g.S.Suite.digests c.args.suite.now) in
-    let new : Parts =
-    parts_of c.ended.new.self (g.B.Board.device c.reseal-answer.new.board) (g.A.Audit.ledger c.reseal-answer.new.audit)
-    (g.S.Suite.tags c.reseal-answer.new.suite) (g.S.Suite.digests c.reseal-answer.new.suite) in
-    usable_call setup (returns-clause-turned g c).made old new (Ok (Some c.in_ok-sealed.sealed)) (returns-clause-turned g c).down
-    (λ up. ((returns-clause-turned g c).done up).gone) c.requires.usable
+    let end : After-ended g = (goal.at.returns-clause-usable g c).After-ended in
+    let it = returns-clause-turned g c in
+    usable_call (setup g end) it.made (old g end) (new g end) (Ok (Some c.in_ok-sealed.sealed)) it.down (λ up. (it.done up).gone)
+    c.requires.usable

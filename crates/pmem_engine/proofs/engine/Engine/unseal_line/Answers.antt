@@ -9,7 +9,7 @@ use Rattle.board.specs.Steps.{HasRead}
 use Rattle.seal_ledger.specs.Notes.{HasExhibit}
 use Rattle.pmem_engine.specs.Parts.{parts_of}
 use Rattle.pmem_engine.specs.Inner.{HasUnsealed}
-use Rattle.pmem_engine.proofs.Unsealing.{read_both, refused, stopped, opened, right_tag}
+use Rattle.pmem_engine.proofs.CheckedReads.UnsealedLines.{read_both, refused, stopped, opened, right_tag}
 use Rattle.pmem_engine.proofs.engine.Engine.unseal_line.Goals as goal
 
 pub returns-in-None-clause-unsealed : goal.returns-in-None-clause-unsealed

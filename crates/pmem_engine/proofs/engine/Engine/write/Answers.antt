@@ -1,5 +1,5 @@
 -- A whole line is a posted write.
-use Rattle.pmem_engine.proofs.WriteEnded.{whole_posted}
+use Rattle.pmem_engine.proofs.PostedWrites.WriteEnds.{whole_posted}
 use Rattle.pmem_engine.proofs.engine.Engine.write.Goals as goal
 
 pub write_part-requires-clause-posted : goal.write_part-requires-clause-posted

@@ -10,8 +10,8 @@ use Rattle.pmem_engine.specs.declared.fault.Fault.{Fault}
 use Rattle.pmem_engine.specs.declared.fault.Fault.TheVariants as Fail
 use Rattle.pmem_engine.specs.Engine.{EngineState}
 use Rattle.pmem_engine.specs.Flushed.{HasWrittenOldest}
-use Rattle.pmem_engine.proofs.FetchCalls.{of_states}
-use Rattle.pmem_engine.proofs.Flushes.{oldest_written, oldest_cut}
+use Rattle.pmem_engine.proofs.CheckedReads.FetchCalls.{of_states}
+use Rattle.pmem_engine.proofs.BlockWrites.FlushOutcomes.{oldest_written, oldest_cut}
 use Rattle.pmem_engine.proofs.engine.Engine.write_back.Goals as goal
 
 pub returns-clause-written : goal.returns-clause-written

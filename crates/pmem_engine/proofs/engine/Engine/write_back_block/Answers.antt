@@ -13,9 +13,9 @@ use Rattle.meta_path.proofs.PathFacts.{AreSets}
 use Rattle.meta_path.proofs.WriteLemmas.{dirty_is_cached, dirty_on_tree, IsMarkedSet-with_mark, AreInTheirBanks-marked}
 use Rattle.pmem_engine.specs.Engine.{EngineState}
 use Rattle.pmem_engine.specs.Flushed.{HasWrittenBack}
-use Rattle.pmem_engine.proofs.Flushes.{written_block}
-use Rattle.pmem_engine.proofs.DirtyCounts.{dirty_in_bank-cleaned}
-use Rattle.pmem_engine.proofs.LossCalls.{cleaned_block}
+use Rattle.pmem_engine.proofs.BlockWrites.FlushOutcomes.{written_block}
+use Rattle.pmem_engine.proofs.BlockWrites.DirtyCounts.{dirty_in_bank-cleaned}
+use Rattle.pmem_engine.proofs.BlockWrites.LossBlocks.{cleaned_block}
 use Rattle.pmem_engine.proofs.engine.Engine.write_back_block.Goals as goal
 
 pub meta_line-requires : goal.meta_line-requires

@@ -7,8 +7,8 @@ use Rattle.meta_cache.specs.Sets.{IsSetOf}
 use Rattle.meta_path.specs.Blocks.{dirty_in_bank}
 use Rattle.meta_path.proofs.PathFacts.{AreSets}
 use Rattle.pmem_engine.specs.Engine.{EngineState}
-use Rattle.pmem_engine.proofs.DirtyCounts.{dirty_in_bank-few}
-use Rattle.pmem_engine.proofs.LossCalls.{blocks_none, blocks_more}
+use Rattle.pmem_engine.proofs.BlockWrites.DirtyCounts.{dirty_in_bank-few}
+use Rattle.pmem_engine.proofs.BlockWrites.LossBlocks.{blocks_none, blocks_more}
 use Rattle.pmem_engine.proofs.engine.Engine.write_back_blocks.Goals as goal
 
 pub blocks-2-init : goal.blocks-2-init

@@ -6,9 +6,9 @@ use Rattle.pmem_engine.specs.declared.fault.Fault.{Fault}
 use Rattle.pmem_engine.specs.Engine.{EngineState}
 use Rattle.pmem_engine.specs.Parts.{Parts, parts_of}
 use Rattle.pmem_engine.specs.Calls.{HasWrittenLine}
-use Rattle.pmem_engine.proofs.Exits.{is_err_of}
-use Rattle.pmem_engine.proofs.WriteEnded.{written_down, written_ended}
-use Rattle.pmem_engine.proofs.Usable.{usable_call, shape_call}
+use Rattle.pmem_engine.proofs.CallEnds.ErrorAnswers.{is_err_of}
+use Rattle.pmem_engine.proofs.PostedWrites.WriteEnds.{written_down, written_ended}
+use Rattle.pmem_engine.proofs.CallEnds.UsableParts.{usable_call, shape_call}
 use Rattle.pmem_engine.proofs.engine.Engine.write_part.Goals as goal
 
 pub returns-in_err-is_up-clause-written : goal.returns-in_err-is_up-clause-written

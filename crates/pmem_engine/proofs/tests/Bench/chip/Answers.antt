@@ -1,5 +1,5 @@
 -- An engine over a formatted device is usable.
-use Rattle.std.proofs.Common.{◌≡◌, ◌∙◌, sym, ap, subst}
+use Rattle.std.proofs.Common.{◌∙◌, sym, ap, subst}
 use Rattle.pmem_base.specs.declared.registers.Regs.{Regs}
 use Rattle.pmem_base.specs.Shape.{Shape}
 use Rattle.pmem_base.specs.Geo.{shape_of}
@@ -8,7 +8,7 @@ use Rattle.board.specs.MemBoard.{memory_of}
 use Rattle.board.specs.Memory.{device_of}
 use Rattle.seal_ledger.specs.View.{ledger_of}
 use Rattle.pmem_engine.specs.Engine.{EngineState}
-use Rattle.pmem_engine.proofs.Benches.{formatted_regs, usable_from}
+use Rattle.pmem_engine.proofs.CallEnds.TestBenches.{formatted_regs, usable_from}
 use Rattle.pmem_engine.proofs.tests.Bench.chip.Goals as goal
 
 pub invariant_of-result : goal.invariant_of-result

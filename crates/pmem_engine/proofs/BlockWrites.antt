@@ -1,0 +1,6 @@
+-- Dirty blocks are written to their places, and another stop-loss number is latched.
+pub mod WrittenBlocks
+pub mod FlushOutcomes
+pub mod DirtyCounts
+pub mod LossBlocks
+pub mod LossOutcomes

@@ -1,0 +1,183 @@
+-- A flush: the oldest dirty block is written back, where one is dirty.
+use Rattle.std.proofs.lemmas.Grind.{common_steps}
+use Rattle.std.proofs.Common.{ℕ, ◌≡◌, ◌<◌, ◌≤◌, true, false, [], Option, Some, None, Result, Ok, Err, refl, sym, ap, ap₂, subst, subst₂, ◌∙◌, arith}
+use Rattle.std.specs.Prelude.{option_map, is_some, IfOk}
+use Rattle.std.proofs.lemmas.Bool.{true≢false}
+use Rattle.pmem_base.specs.Layout.{device_lines, meta_lines}
+use Rattle.bonsai_tree.specs.Positions.{level_of}
+use Rattle.board.specs.Device.{Device, IsDevice}
+use Rattle.seal_ledger.specs.Ledger.{LedgerState}
+use Rattle.suite.specs.Setup.{Setup}
+use Rattle.board.specs.Steps.{WasCut}
+use Rattle.meta_cache.specs.Banks.{set_index, is_cached, is_cached_dirty}
+use Rattle.meta_cache.specs.State.{CacheState, IsCacheOf, oldest_dirty}
+use Rattle.meta_cache.proofs.DirtyLemmas.{oldest_cached, cache_clean}
+use Rattle.meta_path.specs.Blocks.{AreInTheirBanks}
+use Rattle.meta_path.specs.Storing.{IsCleaned, IsOneWrittenBack}
+use Rattle.meta_path.proofs.PathFacts.{its_bank_of}
+use Rattle.meta_path.proofs.WriteLemmas.{dirty_at, dirty_on_tree}
+use Rattle.pmem_engine.specs.declared.fault.Fault.{Fault}
+use Rattle.pmem_engine.specs.declared.fault.Fault.TheVariants as Fail
+use Rattle.pmem_engine.specs.Engine.{EngineState}
+use Rattle.pmem_engine.specs.Parts.{Parts, parts_of}
+use Rattle.pmem_engine.specs.Outcomes.{going, cut_short, outcome_of, OneLossEffect, TakesSteps}
+use Rattle.pmem_engine.specs.Calls.{IsDownAnswer, AnswersFlush, HasFlushed}
+use Rattle.pmem_engine.specs.Flushed.{cache_of, HasWrittenBack, HasWrittenOldest}
+use Rattle.pmem_engine.proofs.CheckedReads.ReadEnds.{ended_parts, ended_going, done_ended, answers_down}
+use Rattle.pmem_engine.proofs.BlockWrites.WrittenBlocks.{written_back, clean_after, cached_after}
+
+same_engine : (old new : EngineState) → cache_of new ≡ cache_of old → new.mirror ≡ old.mirror → new.down ≡ old.down → new ≡ old
+same_engine old new cache mirror down =
+    ap (λ (c : CacheState). record { shape = c.shape; cache = c.banks; mirror = new.mirror; down = new.down }) cache
+    ∙ ap₂ (λ m d. record { shape = old.shape; cache = old.cache; mirror = m; down = d }) mirror down
+
+module _ (old new : EngineState) (before after : Device) (mirror : new.mirror ≡ old.mirror) (down : new.down ≡ old.down)
+    (form : IsCacheOf old.shape old.cache) (its_banks : AreInTheirBanks old.shape old.cache) where
+  -- a dirty block of a bank has its level
+  pub dirty_level : (bank x : ℕ) → is_cached_dirty old.shape old.cache bank x ≡ true → level_of x ≡ bank
+  dirty_level bank x dirty =
+      let at = dirty_at old.shape old.cache bank x dirty in
+      ap level_of (sym at.position)
+      ∙ (its_bank_of old.shape old.cache bank (set_index old.shape x) at.slot its_banks at.stands).its_bank
+
+  pub written_block : (bank x : ℕ) → bank ≤ old.shape.levels → is_cached_dirty old.shape old.cache bank x ≡ true
+      → IsCleaned old.shape bank x (cache_of old) (cache_of new) before after → HasWrittenBack bank x old new before after
+  written_block bank x low dirty cleaned =
+      record {
+        its_bank = low;
+        its_level = dirty_level bank x dirty;
+        on_tree = dirty_on_tree old.shape old.cache bank x its_banks dirty;
+        was_dirty = dirty;
+        cleaned = cleaned;
+        mirror = mirror;
+        down = down;
+      }
+
+  pub oldest_written : (found : Option (ℕ × ℕ)) → oldest_dirty old.cache ≡ found
+      → IsOneWrittenBack old.shape found (cache_of old) (cache_of new) before after
+      → HasWrittenOldest old new before after (Ok (option_map (λ f. f.1) found))
+  oldest_written None none it =
+      (same_engine old new it.0 mirror down, it.1, λ bank x. cache_clean old.shape old.cache bank x none)
+  oldest_written (Some found) is it =
+      let dirty = oldest_cached old.shape old.cache found form is in
+      let block : HasWrittenBack found.0 found.1 old new before after = written_block found.0 found.1 dirty.0 dirty.1 it.0 in
+      subst (λ bank. HasWrittenBack bank found.1 old new before after) (sym block.its_level) block
+
+  pub oldest_cut : (found : Option (ℕ × ℕ)) → oldest_dirty old.cache ≡ found → cache_of new ≡ cache_of old
+      → WasCut before after → is_some found ≡ true → HasWrittenOldest old new before after (Err Fail.Cut)
+  oldest_cut None is same was_cut some = absurd (true≢false (sym some))
+  oldest_cut (Some found) is same was_cut some = (
+    same_engine old new same mirror down,
+    was_cut,
+    (found.0, found.1, (oldest_cached old.shape old.cache found form is).1),
+  )
+
+-- ---- the call
+
+-- a cut before a line write changes nothing
+pub cut_still : (setup : Setup) (engine : EngineState) (before after : Device) (ledger : LedgerState) (tags digests : ℕ)
+    → WasCut before after → OneLossEffect setup cut_short [] (parts_of engine before ledger tags digests) (parts_of engine after ledger tags digests)
+cut_still setup engine before after ledger tags digests it = grind (arith, common_steps)
+
+-- nothing is done
+pub nothing_done : (setup : Setup) (parts : Parts) → OneLossEffect setup going [] parts parts
+nothing_done setup parts = grind (arith, common_steps)
+
+pub no_steps_of : (before after : Device) → after.writes ≡ before.writes → after.latches ≡ before.latches → TakesSteps 0 before after
+no_steps_of before after writes latches =
+    record {
+      writes = omega (arith, writes);
+      latches = omega (arith, latches);
+      sum = λ one two. omega (arith, writes, latches);
+    }
+
+module _ (setup : Setup) (old new : EngineState) (before after : Device) (ledger : LedgerState) (tags digests : ℕ)
+    (its_shape : old.shape ≡ setup.shape) (its_size : before.size ≡ device_lines setup.shape) (whole : IsDevice before) where
+  abbrev start : Parts
+  start = parts_of old before ledger tags digests
+
+  abbrev finish : Parts
+  finish = parts_of new after ledger tags digests
+
+  flush_done : (answer : Result (Option ℕ) Fault) → HasWrittenOldest old new before after answer
+      → OneLossEffect setup (outcome_of answer) [] start finish
+  flush_done (Ok None) it =
+      subst₂ (λ e d. OneLossEffect setup going [] start (parts_of e d ledger tags digests)) (sym it.0) (sym it.1) (nothing_done setup start)
+  flush_done (Ok (Some x)) it =
+      written_back setup (level_of x) x old new before after ledger tags digests its_shape its_size whole it
+  flush_done (Err Fail.Cut) it =
+      subst (λ e. OneLossEffect setup cut_short [] start (parts_of e after ledger tags digests)) (sym it.0)
+      (cut_still setup old before after ledger tags digests it.1)
+  flush_done (Err Fail.Down) it = absurd it
+  flush_done (Err (Fail.Meta x)) it = absurd it
+  flush_done (Err (Fail.Tag a)) it = absurd it
+  flush_done (Err (Fail.Spent page)) it = absurd it
+  flush_done (Err Fail.Shown) it = absurd it
+
+  flush_down : (answer : Result (Option ℕ) Fault) → HasWrittenOldest old new before after answer → new.down ≡ old.down
+  flush_down v0 it = grind (arith, common_steps)
+
+  flush_not_down : (answer : Result (Option ℕ) Fault) → HasWrittenOldest old new before after answer → IsDownAnswer answer → ⊥
+  flush_not_down v0 it down = grind (arith, common_steps)
+
+  flush_cached : (answer : Result (Option ℕ) Fault) → HasWrittenOldest old new before after answer
+      → (bank x : ℕ) → is_cached setup.shape new.cache bank x ≡ is_cached setup.shape old.cache bank x
+  flush_cached (Ok None) it bank x = ap (λ e. is_cached setup.shape e.cache bank x) it.0
+  flush_cached (Ok (Some y)) it bank x =
+      subst (λ g. is_cached g new.cache bank x ≡ is_cached g old.cache bank x) its_shape
+      (cached_after (level_of y) y old new before after it bank x)
+  flush_cached (Err Fail.Cut) it bank x = ap (λ e. is_cached setup.shape e.cache bank x) it.0
+  flush_cached (Err Fail.Down) it bank x = absurd it
+  flush_cached (Err (Fail.Meta y)) it bank x = absurd it
+  flush_cached (Err (Fail.Tag a)) it bank x = absurd it
+  flush_cached (Err (Fail.Spent page)) it bank x = absurd it
+  flush_cached (Err Fail.Shown) it bank x = absurd it
+
+  flush_answer : (answer : Result (Option ℕ) Fault) → HasWrittenOldest old new before after answer
+      → AnswersFlush setup.shape start (ended_parts finish (outcome_of answer)) answer
+  flush_answer (Ok None) it = (
+    record {
+      engine = ended_going new ∙ it.0;
+      device = it.1;
+      ledger = refl;
+      tags = refl;
+      digests = refl;
+    },
+    λ bank x. ap (λ g. is_cached_dirty g old.cache bank x) (sym its_shape) ∙ it.2 bank x,
+  )
+  flush_answer (Ok (Some x)) it = (
+    ap (λ g. is_cached_dirty g old.cache (level_of x) x) (sym its_shape) ∙ it.was_dirty,
+    ap (λ g. is_cached_dirty g new.cache (level_of x) x) (sym its_shape)
+        ∙ clean_after (level_of x) x old new before after it,
+    subst (λ g. x < meta_lines g) its_shape it.on_tree,
+    record {
+      writes = it.cleaned.board.writes.never_falls;
+      latches = omega (arith, it.cleaned.board.latches);
+      sum = λ writes latches. omega (arith, it.cleaned.board.writes.exact writes, it.cleaned.board.latches);
+    },
+  )
+  flush_answer (Err Fail.Cut) it = (
+    (it.2.0, it.2.1, ap (λ g. is_cached_dirty g old.cache it.2.0 it.2.1) (sym its_shape) ∙ it.2.2),
+    no_steps_of before after it.1.writes it.1.latches,
+  )
+  flush_answer (Err Fail.Down) it = it
+  flush_answer (Err (Fail.Meta x)) it = it
+  flush_answer (Err (Fail.Tag a)) it = it
+  flush_answer (Err (Fail.Spent page)) it = it
+  flush_answer (Err Fail.Shown) it = it
+
+  pub flushed : (answer : Result (Option ℕ) Fault) → old.down ≡ false → after.reads ≡ before.reads → new.mirror ≡ old.mirror
+      → IfOk answer (λ found. found ≡ option_map (λ block. block.1) (oldest_dirty old.cache))
+      → HasWrittenOldest old new before after answer
+      → HasFlushed setup start (ended_parts finish (outcome_of answer)) answer
+  flushed answer was reads mirror oldest it =
+      record {
+        down = answers_down answer start finish was (flush_down answer it) (flush_not_down answer it);
+        done = λ up. done_ended setup (outcome_of answer) [] start finish (flush_done answer it);
+        answered = λ up. flush_answer answer it;
+        oldest = λ up. oldest;
+        mirror = mirror;
+        same_ledger = refl;
+        same_reads = reads;
+        cached = flush_cached answer it;
+      }

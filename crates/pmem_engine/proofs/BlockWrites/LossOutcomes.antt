@@ -1,0 +1,363 @@
+-- The stop-loss number is changed: what the call keeps, and what its answers say.
+use Rattle.std.proofs.lemmas.Grind.{common_steps}
+use Rattle.std.proofs.Common.{rules, ℕ, ◌≡◌, ◌≢◌, ◌<◌, ◌≤◌, ◌+◌, ◌*◌, ◌⊎◌, inl, inr, Bool, true, false, List, [], Option, Some, None, Result, Ok, Err, refl, sym, ap, ap₂, subst, subst₂, ◌∙◌, arith}
+use Rattle.std.specs.Prelude.{IfSome, MatchBool, is_some, nat_lt, ◌==◌, IsTrue}
+use Rattle.std.proofs.lemmas.Bool.{true≢false, cases_Bool, cases_lt, ltb-true, ne_eqb}
+use Rattle.std.proofs.lemmas.List.{append-nil}
+use Rattle.std.proofs.lemmas.Option.{same_Some}
+use Rattle.pmem_base.specs.declared.lines.Line.{Line}
+use Rattle.pmem_base.specs.Shape.{is_loss}
+use Rattle.pmem_base.specs.Layout as layout
+use Rattle.pmem_base.specs.Lines.{line_at}
+use Rattle.bonsai_tree.specs.Positions.{level_of, counter_position}
+use Rattle.bonsai_tree.proofs.Levels.{counter_position-lt}
+use Rattle.bonsai_tree.proofs.PathPositions.{path_of-block, path_of-level}
+use Rattle.board.specs.Device.{Device}
+use Rattle.board.specs.Steps.{WasCut, HasLatched}
+use Rattle.commit_regs.specs.Groups.{redone_told}
+use Rattle.seal_ledger.specs.Ledger.{LedgerState}
+use Rattle.meta_cache.specs.Banks.{is_cached, is_cached_dirty}
+use Rattle.meta_path.specs.Blocks.{dirty_in_bank}
+use Rattle.stop_loss.proofs.Windows.{is_loss_cases}
+use Rattle.suite.specs.Setup.{Setup}
+use Rattle.pmem_engine.specs.declared.fault.Fault.{Fault}
+use Rattle.pmem_engine.specs.declared.fault.Fault.TheVariants as Fail
+use Rattle.pmem_engine.specs.Engine.{EngineState}
+use Rattle.pmem_engine.specs.Invariants.{IsSound, IsCounterStored, stored_meta}
+use Rattle.pmem_engine.specs.Steps.{HasLossSet}
+use Rattle.pmem_engine.specs.Recached.{IsTrueOrDirty}
+use Rattle.pmem_engine.specs.Parts.{Parts, parts_of, AreTrusted, AreSound, HoldsCounters, HoldsMeta, lines_redone}
+use Rattle.pmem_engine.specs.Outcomes.{going, cut_short, outcome_of, KeepsPlaces, KeepsMeta, CallEffect, TakesSteps, TakesFewer}
+use Rattle.pmem_engine.specs.Calls.{IsDownAnswer, AreStepsOfLoss, IsCutInLoss, AnswersLoss, HasSetLoss}
+use Rattle.pmem_engine.specs.Flushed.{HasWrittenBlocks, HasMadeWay, IsCutInBlocks, IsLossLatched, HasChangedLoss, with_loss, IsBankClean}
+use Rattle.pmem_engine.proofs.CallEnds.ToldLines.{told_surely}
+use Rattle.pmem_engine.proofs.Laws.CounterBlocks.{IsCounterStored-true}
+use Rattle.pmem_engine.proofs.Laws.GroupLaws.{IsMendable-unarmed}
+use Rattle.pmem_engine.proofs.Laws.CacheLaws.{IsTrueOrDirty-sound}
+use Rattle.pmem_engine.proofs.Laws.LossLaws.{IsTrusted-loss_set, IsSound-loss_set, IsCounterStored-loss_raised}
+use Rattle.pmem_engine.proofs.CallEnds.CallChains.{gone_chained}
+use Rattle.pmem_engine.proofs.CheckedReads.ReadEnds.{ended_parts, gone_ended, answers_down}
+use Rattle.pmem_engine.proofs.BlockWrites.FlushOutcomes.{nothing_done, cut_still}
+
+-- ---- numbers
+
+-- a greater number is some times the smaller one
+times_of : (a b : ℕ) → IsTrue (is_loss a) → IsTrue (is_loss b) → a < b → (times : ℕ) × (b ≡ a * times)
+times_of a b known_a known_b less = go (is_loss_cases a known_a) (is_loss_cases b known_b)
+  where
+    with : (k t : ℕ) → a ≡ k → b ≡ k * t → (times : ℕ) × (b ≡ a * times)
+    with k t here there = (t, there ∙ ap (λ z. z * t) (sym here))
+
+    go : (a ≡ 1) ⊎ ((a ≡ 2) ⊎ ((a ≡ 4) ⊎ ((a ≡ 8) ⊎ (a ≡ 16))))
+        → (b ≡ 1) ⊎ ((b ≡ 2) ⊎ ((b ≡ 4) ⊎ ((b ≡ 8) ⊎ (b ≡ 16)))) → (times : ℕ) × (b ≡ a * times)
+    go (inl a1) any = with 1 b a1 (omega arith)
+    go (inr (inl a2)) (inl b1) = absurd (omega (arith, less, a2, b1))
+    go (inr (inl a2)) (inr (inl b2)) = absurd (omega (arith, less, a2, b2))
+    go (inr (inl a2)) (inr (inr (inl b4))) = with 2 2 a2 b4
+    go (inr (inl a2)) (inr (inr (inr (inl b8)))) = with 2 4 a2 b8
+    go (inr (inl a2)) (inr (inr (inr (inr b16)))) = with 2 8 a2 b16
+    go (inr (inr (inl a4))) (inl b1) = absurd (omega (arith, less, a4, b1))
+    go (inr (inr (inl a4))) (inr (inl b2)) = absurd (omega (arith, less, a4, b2))
+    go (inr (inr (inl a4))) (inr (inr (inl b4))) = absurd (omega (arith, less, a4, b4))
+    go (inr (inr (inl a4))) (inr (inr (inr (inl b8)))) = with 4 2 a4 b8
+    go (inr (inr (inl a4))) (inr (inr (inr (inr b16)))) = with 4 4 a4 b16
+    go (inr (inr (inr (inl a8)))) (inl b1) = absurd (omega (arith, less, a8, b1))
+    go (inr (inr (inr (inl a8)))) (inr (inl b2)) = absurd (omega (arith, less, a8, b2))
+    go (inr (inr (inr (inl a8)))) (inr (inr (inl b4))) = absurd (omega (arith, less, a8, b4))
+    go (inr (inr (inr (inl a8)))) (inr (inr (inr (inl b8)))) = absurd (omega (arith, less, a8, b8))
+    go (inr (inr (inr (inl a8)))) (inr (inr (inr (inr b16)))) = with 8 2 a8 b16
+    go (inr (inr (inr (inr a16)))) (inl b1) = absurd (omega (arith, less, a16, b1))
+    go (inr (inr (inr (inr a16)))) (inr (inl b2)) = absurd (omega (arith, less, a16, b2))
+    go (inr (inr (inr (inr a16)))) (inr (inr (inl b4))) = absurd (omega (arith, less, a16, b4))
+    go (inr (inr (inr (inr a16)))) (inr (inr (inr (inl b8)))) = absurd (omega (arith, less, a16, b8))
+    go (inr (inr (inr (inr a16)))) (inr (inr (inr (inr b16)))) = absurd (omega (arith, less, a16, b16))
+
+match_true : (b : Bool) (P Q : Type 0) → b ≡ true → P → MatchBool b P Q
+match_true true P Q is it = it
+match_true false P Q is it = absurd (true≢false (sym is))
+
+match_false : (b : Bool) (P Q : Type 0) → b ≡ false → Q → MatchBool b P Q
+match_false true P Q is it = absurd (true≢false is)
+match_false false P Q is it = it
+
+not_lt : (a b : ℕ) → (a < b → ⊥) → nat_lt a b ≡ false
+not_lt a b never = go (cases_Bool (nat_lt a b))
+  where
+    go : (nat_lt a b ≡ true) ⊎ (nat_lt a b ≡ false) → nat_lt a b ≡ false
+    go (inl less) = absurd (never (ltb-true a b less))
+    go (inr it) = it
+
+-- ---- the latch
+
+-- a number is latched under which each counter block that was true or dirty still serves
+module _ (setup : Setup) (n : ℕ) (engine : EngineState) (mid after : Device) (ledger : LedgerState) (tags digests : ℕ)
+    (known : IsTrue (is_loss n)) (no_group : mid.regs.group.items ≡ []) (it : HasLatched mid (with_loss mid.regs n) after)
+    (serves : (lines : List Line) (page : ℕ) → page < layout.pages setup.shape
+    → IsTrueOrDirty setup.shape engine.cache lines ledger.truth (counter_position setup.shape page)
+    → IsCounterStored setup lines mid.regs.loss ledger.truth page → IsCounterStored setup lines n ledger.truth page) where
+  abbrev start : Parts
+  start = parts_of engine mid ledger tags digests
+
+  abbrev finish : Parts
+  finish = parts_of engine after ledger tags digests
+
+  its_loss : after.regs.loss ≡ n
+  its_loss = ap (λ regs. regs.loss) it.regs
+
+  same_group : after.regs.group ≡ mid.regs.group
+  same_group = ap (λ regs. regs.group) it.regs ∙ ap (λ items. record { items = items }) (sym no_group)
+
+  set : HasLossSet mid.regs after.regs
+  set =
+      record {
+        same_root = ap (λ regs. regs.root) it.regs;
+        same_group = ap (λ group. group.items) same_group;
+        same_progress = ap (λ regs. regs.progress.items) it.regs;
+        known_loss = subst (λ loss. IsTrue (is_loss loss)) (sym its_loss) known;
+      }
+
+  redone_same : lines_redone finish ≡ lines_redone start
+  redone_same = ap₂ (λ group lines. redone_told group.items lines) same_group it.lines
+
+  sound_after : AreSound setup start → AreSound setup finish
+  sound_after sound =
+      told_surely (λ lines. IsSound setup engine lines mid.regs ledger) (λ lines. IsSound setup engine lines after.regs ledger)
+      mid.lines after.lines (ap is_some it.lines)
+      (λ lines lines' was now had.
+      subst (λ z. IsSound setup engine z after.regs ledger) (same_Some lines lines' (sym was ∙ sym it.lines ∙ now))
+      (IsSound-loss_set setup engine lines mid.regs after.regs ledger had set
+      (λ page within.
+      subst (λ loss. IsCounterStored setup lines loss ledger.truth page) (sym its_loss)
+      (serves lines page within
+      (IsTrueOrDirty-sound setup engine lines mid.regs ledger (counter_position setup.shape page) had
+      (counter_position-lt setup.shape page within))
+      ((IsMendable-unarmed setup lines mid.regs ledger had.durable had.trusted.no_group).counters_stored page within)))))
+      sound
+
+  places : KeepsPlaces setup [] start finish
+  places = grind (arith, common_steps)
+
+  metadata : KeepsMeta setup [] start finish
+  metadata = grind (arith, common_steps)
+
+  pub latch_gone : CallEffect setup going [] start finish
+  latch_gone =
+      record {
+        shape = refl;
+        size = it.size;
+        told = ap is_some it.lines;
+        valid =
+            search rules;
+        group = λ uncut. same_group;
+        small_group = λ none. tt;
+        power = (it.steady, it.live, it.cuts);
+        reads = omega (arith, it.reads);
+        tags = λ within. (omega arith, within);
+        digests = λ within. (omega arith, within);
+        marks = sym (append-nil ledger.marks);
+        spare = omega arith;
+        true_lines = refl;
+        data_lines = refl;
+        exhibit = λ unshown. refl;
+        trusted = λ was. IsTrusted-loss_set setup engine mid.regs after.regs ledger was set;
+        sound = sound_after;
+        places = λ was. places;
+        metadata = λ was. metadata;
+      }
+
+  pub latch_counters : (page : ℕ) → page < layout.pages setup.shape
+      → HoldsMeta setup.shape start (counter_position setup.shape page) → HoldsCounters setup start page
+      → HoldsCounters setup finish page
+  latch_counters page within meta counters =
+      subst₂ (λ o loss. IfSome o (λ lines. IsCounterStored setup lines loss ledger.truth page)) (sym redone_same) (sym its_loss)
+      (both (lines_redone start) meta counters)
+    where
+      both : (o : Option (List Line))
+          → IfSome o (λ lines. IsTrueOrDirty setup.shape engine.cache lines ledger.truth (counter_position setup.shape page))
+          → IfSome o (λ lines. IsCounterStored setup lines mid.regs.loss ledger.truth page)
+          → IfSome o (λ lines. IsCounterStored setup lines n ledger.truth page)
+      both None m k = tt
+      both (Some lines) m k = serves lines page within m k
+
+-- ---- the call
+
+module _ (setup : Setup) (n : ℕ) (old new : EngineState) (before after : Device) (ledger : LedgerState) (tags digests : ℕ)
+    (its_shape : old.shape ≡ setup.shape) (few_levels : setup.shape.levels ≤ 6) (known : IsTrue (is_loss n))
+    (known_before : IsTrue (is_loss before.regs.loss)) (no_group : before.regs.group.items ≡ []) where
+  abbrev call_start : Parts
+  call_start = parts_of old before ledger tags digests
+
+  abbrev call_finish : Parts
+  call_finish = parts_of new after ledger tags digests
+
+  -- what was written serves the new number
+  way_serves : (count : ℕ) (mid : Device) → HasMadeWay n count old new before mid → n ≢ before.regs.loss
+      → (lines : List Line) (page : ℕ) → page < layout.pages setup.shape
+      → IsTrueOrDirty setup.shape new.cache lines ledger.truth (counter_position setup.shape page)
+      → IsCounterStored setup lines mid.regs.loss ledger.truth page → IsCounterStored setup lines n ledger.truth page
+  way_serves count mid way other lines page within meta stored = go (cases_lt before.regs.loss n)
+    where
+      shape : new.shape ≡ setup.shape
+      shape = way.written.shape ∙ its_shape
+
+      same_loss : mid.regs.loss ≡ before.regs.loss
+      same_loss = ap (λ regs. regs.loss) way.written.regs
+
+      level : level_of (counter_position setup.shape page) ≡ setup.shape.levels
+      level =
+          ap level_of (sym (path_of-block setup.shape page))
+          ∙ path_of-level setup.shape page setup.shape.levels few_levels within (omega arith)
+
+      lowered : IsBankClean new new.shape.levels → (stored_meta setup.shape lines (counter_position setup.shape page)
+          ≡ line_at ledger.truth (counter_position setup.shape page))
+          ⊎ (is_cached_dirty setup.shape new.cache (level_of (counter_position setup.shape page)) (counter_position setup.shape page) ≡ true)
+          → IsCounterStored setup lines n ledger.truth page
+      lowered clean (inl true_line) = IsCounterStored-true setup lines n ledger.truth page true_line
+      lowered clean (inr dirty) =
+          absurd (true≢false
+          (sym dirty
+          ∙ ap (λ bank. is_cached_dirty setup.shape new.cache bank (counter_position setup.shape page)) level
+          ∙ ap (λ g. is_cached_dirty g new.cache g.levels (counter_position setup.shape page)) (sym shape)
+          ∙ clean (counter_position setup.shape page)))
+
+      go : (before.regs.loss < n) ⊎ (n ≤ before.regs.loss) → IsCounterStored setup lines n ledger.truth page
+      go (inl raised) =
+          let times = times_of before.regs.loss n known_before known raised in
+          IsCounterStored-loss_raised setup lines mid.regs.loss n times.0 ledger.truth page
+          (times.1 ∙ ap (λ z. z * times.0) (sym same_loss)) stored
+      go (inr down) = lowered (way.smaller (omega (arith, down, other))).0 meta
+
+  group_kept : (count : ℕ) (mid : Device) → HasWrittenBlocks count old new before mid → mid.regs.group.items ≡ []
+  group_kept count mid written = ap (λ regs. regs.group.items) written.regs ∙ no_group
+
+  loss_gone : (answer : Result ℕ Fault) → HasChangedLoss n old new before after answer
+      → CallEffect setup (outcome_of answer) [] call_start call_finish
+  loss_gone (Ok steps) (inl it) =
+      subst₂ (λ e d. CallEffect setup going [] call_start (parts_of e d ledger tags digests)) (sym it.2) (sym it.3)
+      (nothing_done setup call_start).gone
+  loss_gone (Ok steps) (inr it) =
+      gone_chained setup going [] [] call_start (parts_of new it.1.mid ledger tags digests) call_finish
+      (it.1.way.written.done setup ledger tags digests (sym its_shape)).gone
+      (latch_gone setup n new it.1.mid after ledger tags digests known (group_kept it.1.count it.1.mid it.1.way.written) it.1.latched
+      (way_serves it.1.count it.1.mid it.1.way it.0))
+  loss_gone (Err Fail.Cut) it =
+      gone_chained setup cut_short [] [] call_start (parts_of new it.1.mid ledger tags digests) call_finish
+      (it.1.written.done setup ledger tags digests (sym its_shape)).gone
+      (cut_still setup new it.1.mid after ledger tags digests it.1.cut).gone
+  loss_gone (Err Fail.Down) it = absurd it
+  loss_gone (Err (Fail.Meta x)) it = absurd it
+  loss_gone (Err (Fail.Tag a)) it = absurd it
+  loss_gone (Err (Fail.Spent page)) it = absurd it
+  loss_gone (Err Fail.Shown) it = absurd it
+
+  loss_counters : (answer : Result ℕ Fault) → HasChangedLoss n old new before after answer → AreTrusted setup call_start
+      → (page : ℕ) → page < layout.pages setup.shape
+      → HoldsMeta setup.shape call_start (counter_position setup.shape page) → HoldsCounters setup call_start page
+      → HoldsCounters setup call_finish page
+  loss_counters (Ok steps) (inl it) trusted page within meta held =
+      subst₂ (λ e d. HoldsCounters setup (parts_of e d ledger tags digests) page) (sym it.2) (sym it.3) held
+  loss_counters (Ok steps) (inr it) trusted page within meta held =
+      let first = it.1.way.written.done setup ledger tags digests (sym its_shape) in
+      latch_counters setup n new it.1.mid after ledger tags digests known (group_kept it.1.count it.1.mid it.1.way.written) it.1.latched
+      (way_serves it.1.count it.1.mid it.1.way it.0) page within
+      ((first.gone.metadata trusted).true_or_dirty (counter_position setup.shape page) (counter_position-lt setup.shape page within) meta)
+      (first.counters trusted page within held)
+  loss_counters (Err Fail.Cut) it trusted page within meta held =
+      let first = it.1.written.done setup ledger tags digests (sym its_shape) in
+      let last = cut_still setup new it.1.mid after ledger tags digests it.1.cut in
+      last.counters (first.gone.trusted trusted) page within (first.counters trusted page within held)
+  loss_counters (Err Fail.Down) it trusted page within meta held = absurd it
+  loss_counters (Err (Fail.Meta x)) it trusted page within meta held = absurd it
+  loss_counters (Err (Fail.Tag a)) it trusted page within meta held = absurd it
+  loss_counters (Err (Fail.Spent spent)) it trusted page within meta held = absurd it
+  loss_counters (Err Fail.Shown) it trusted page within meta held = absurd it
+
+  -- ---- steps
+
+  abbrev dirty : ℕ
+  dirty = dirty_in_bank setup.shape old.cache setup.shape.levels
+
+  dirty_as : dirty_in_bank old.shape old.cache old.shape.levels ≡ dirty
+  dirty_as = ap (λ g. dirty_in_bank g old.cache g.levels) its_shape
+
+  count_few : (count : ℕ) (mid : Device) → HasWrittenBlocks count old new before mid → count ≤ dirty
+  count_few count mid written = omega (arith, written.dirty, dirty_as)
+
+  takes : (count : ℕ) (mid : Device) → HasWrittenBlocks count old new before mid → HasLatched mid (with_loss mid.regs n) after
+      → TakesSteps (count + 1) before after
+  takes count mid written latched =
+      record {
+        writes = omega (arith, written.writes.never_falls, latched.writes);
+        latches = omega (arith, written.latches, latched.latches.never_falls);
+        sum =
+            search rules;
+      }
+
+  takes_fewer : (count more : ℕ) (mid : Device) → HasWrittenBlocks count old new before mid → WasCut mid after → count < more
+      → TakesFewer more before after
+  takes_fewer count more mid written was_cut less =
+      record {
+        writes = omega (arith, written.writes.never_falls, was_cut.writes);
+        latches = omega (arith, written.latches, was_cut.latches);
+        sum =
+            search rules;
+      }
+
+  latched_steps : (steps : ℕ) → n ≢ before.regs.loss → IsLossLatched n steps old new before after
+      → AreStepsOfLoss dirty before.regs.loss n steps
+  latched_steps steps other it =
+      match_false (n == before.regs.loss) (steps ≡ 0) _ (ne_eqb n before.regs.loss other) (go (cases_lt before.regs.loss n))
+    where
+      go : (before.regs.loss < n) ⊎ (n ≤ before.regs.loss)
+          → MatchBool (nat_lt before.regs.loss n) (steps ≡ 1) (steps ≡ dirty + 1)
+      go v0 = search rules
+
+  cut_steps : n ≢ before.regs.loss → IsCutInBlocks n old new before after
+      → IsCutInLoss dirty before.regs.loss n call_start call_finish
+  cut_steps other it =
+      match_false (n == before.regs.loss) ⊥ _ (ne_eqb n before.regs.loss other) (go (cases_lt before.regs.loss n))
+    where
+      go : (before.regs.loss < n) ⊎ (n ≤ before.regs.loss)
+          → MatchBool (nat_lt before.regs.loss n) (TakesFewer 1 before after) (TakesFewer (dirty + 1) before after)
+      go v0 = search rules
+
+  loss_answer : (answer : Result ℕ Fault) → HasChangedLoss n old new before after answer
+      → AnswersLoss setup.shape n call_start (ended_parts call_finish (outcome_of answer)) answer
+  loss_answer v0 v1 = grind (arith, common_steps)
+
+  loss_not_down : (answer : Result ℕ Fault) → HasChangedLoss n old new before after answer → IsDownAnswer answer → ⊥
+  loss_not_down (Ok steps) it down = down
+  loss_not_down (Err Fail.Cut) it down = down
+  loss_not_down (Err Fail.Down) it down = it
+  loss_not_down (Err (Fail.Meta x)) it down = it
+  loss_not_down (Err (Fail.Tag a)) it down = it
+  loss_not_down (Err (Fail.Spent page)) it down = it
+  loss_not_down (Err Fail.Shown) it down = it
+
+  loss_down : (answer : Result ℕ Fault) → HasChangedLoss n old new before after answer → new.down ≡ old.down
+  loss_down v0 v1 = grind (arith, common_steps)
+
+  loss_reads : (answer : Result ℕ Fault) → HasChangedLoss n old new before after answer → after.reads ≡ before.reads
+  loss_reads v0 v1 = grind (arith, common_steps)
+
+  blocks_cached : (count : ℕ) (mid : Device) → HasWrittenBlocks count old new before mid → (bank x : ℕ)
+      → is_cached setup.shape new.cache bank x ≡ is_cached setup.shape old.cache bank x
+  blocks_cached count mid written bank x =
+      subst (λ g. is_cached g new.cache bank x ≡ is_cached g old.cache bank x) its_shape (written.cached bank x)
+
+  loss_cached : (answer : Result ℕ Fault) → HasChangedLoss n old new before after answer → (bank x : ℕ)
+      → is_cached setup.shape new.cache bank x ≡ is_cached setup.shape old.cache bank x
+  loss_cached v0 v1 bank x = grind (arith, common_steps)
+
+  pub loss_set : (answer : Result ℕ Fault) → old.down ≡ false → HasChangedLoss n old new before after answer
+      → HasSetLoss setup n call_start (ended_parts call_finish (outcome_of answer)) answer
+  loss_set answer was it =
+      record {
+        down = answers_down answer call_start call_finish was (loss_down answer it) (loss_not_down answer it);
+        gone = λ up. gone_ended setup (outcome_of answer) [] call_start call_finish (loss_gone answer it);
+        answered = λ up. loss_answer answer it;
+        counters = λ up trusted page within meta held. loss_counters answer it trusted page within meta held;
+        same_ledger = refl;
+        same_reads = loss_reads answer it;
+        cached = loss_cached answer it;
+      }

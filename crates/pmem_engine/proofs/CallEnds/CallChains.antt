@@ -1,0 +1,109 @@
+-- Two parts of a call, one after the other, are one part: what holds of each holds of both.
+use Rattle.std.proofs.lemmas.Grind.{common_steps}
+use Rattle.std.proofs.Common.{rules, ℕ, ◌≡◌, ◌≢◌, ◌+◌, ◌++◌, ◌⊎◌, Bool, false, List, IsTrue, refl, sym, ap, subst, ◌∙◌, arith}
+use Rattle.std.proofs.lemmas.Bool.{or_cases, true≢false}
+use Rattle.std.proofs.lemmas.List.{append_assoc, length-append}
+use Rattle.std.proofs.lemmas.List.Folds.{list_any-append}
+use Rattle.pmem_base.specs.declared.answers.Mark.{Mark}
+use Rattle.pmem_base.specs.Counts.{HasRisen}
+use Rattle.board.specs.Device.{Device}
+use Rattle.suite.specs.Setup.{Setup}
+use Rattle.pmem_engine.specs.Parts.{Parts}
+use Rattle.pmem_engine.specs.Outcomes.{Outcome, going, cut_short, shown, is_going, is_sealed_by, is_seal_of, KeepsPlaces, KeepsMeta, KeepsMetaWhere, HasPower, CallEffect, OneLossEffect, KeepsCounters, NeverFalls}
+
+-- ---- marks of both
+
+pub sealed_by_either : (made more : List Mark) (a : ℕ) → IsTrue (is_sealed_by (made ++ more) a)
+    → IsTrue (is_sealed_by made a) ⊎ IsTrue (is_sealed_by more a)
+sealed_by_either made more a it =
+    or_cases (is_sealed_by made a) (is_sealed_by more a) (sym (list_any-append (is_seal_of a) made more) ∙ it)
+
+-- ---- places
+
+places_chained : (setup : Setup) (made more : List Mark) (old mid new : Parts)
+    → KeepsPlaces setup made old mid → KeepsPlaces setup more mid new → KeepsPlaces setup (made ++ more) old new
+places_chained setup made more old mid new first second = grind (arith, common_steps)
+
+metadata_chained : (setup : Setup) (made more : List Mark) (old mid new : Parts)
+    → KeepsMeta setup made old mid → KeepsMeta setup more mid new → KeepsMeta setup (made ++ more) old new
+metadata_chained setup made more old mid new first second = grind (arith, common_steps)
+
+metadata_where : (setup : Setup) (outcome : Outcome) (made more : List Mark) (old mid new : Parts)
+    → KeepsMeta setup made old mid → KeepsMetaWhere setup outcome more mid new
+    → KeepsMetaWhere setup outcome (made ++ more) old new
+metadata_where setup going made more old mid new first second =
+    metadata_chained setup made more old mid new first second
+metadata_where setup cut_short made more old mid new first second = second
+metadata_where setup shown made more old mid new first second =
+    metadata_chained setup made more old mid new first second
+
+power_chained : (outcome : Outcome) (old mid new : Device) → HasPower going old mid → HasPower outcome mid new
+    → HasPower outcome old new
+power_chained going old mid new first second =
+    (λ was. second.0 (first.0 was), λ was. second.1 (first.1 was), second.2 ∙ first.2)
+power_chained shown old mid new first second =
+    (λ was. second.0 (first.0 was), λ was. second.1 (first.1 was), second.2 ∙ first.2)
+power_chained cut_short old mid new first second =
+    (unsteady old.steady refl, second.1, subst (λ n. HasRisen n new.cuts) first.2 second.2)
+  where
+    unsteady : (b : Bool) → old.steady ≡ b → old.steady ≡ false
+    unsteady v0 it = search rules
+
+going_uncut : going ≢ cut_short
+going_uncut e = absurd (true≢false (ap is_going e))
+
+pub going_unshown : going ≢ shown
+going_unshown e = absurd (true≢false (ap is_going e))
+
+-- ---- counts
+
+never_falls : (old mid new : ℕ) → NeverFalls old mid → NeverFalls mid new → NeverFalls old new
+never_falls old mid new first second within = search rules
+
+-- ---- parts of a call
+
+pub gone_chained : (setup : Setup) (outcome : Outcome) (made more : List Mark) (old mid new : Parts)
+    → CallEffect setup going made old mid → CallEffect setup outcome more mid new
+    → CallEffect setup outcome (made ++ more) old new
+gone_chained setup outcome made more old mid new first second =
+    record {
+      shape = second.shape ∙ first.shape;
+      size = second.size ∙ first.size;
+      told = second.told ∙ first.told;
+      valid = λ was. second.valid (first.valid was);
+      group = λ uncut. second.group uncut ∙ first.group going_uncut;
+      small_group = λ none. second.small_group (ap (λ group. group.items) (first.group going_uncut) ∙ none);
+      power = power_chained outcome old.device mid.device new.device first.power second.power;
+      reads = omega (arith, first.reads, second.reads);
+      tags = never_falls old.tags mid.tags new.tags first.tags second.tags;
+      digests = never_falls old.digests mid.digests new.digests first.digests second.digests;
+      marks = second.marks ∙ ap (λ marks. marks ++ more) first.marks ∙ append_assoc old.ledger.marks made more;
+      spare =
+          ap (λ n. new.ledger.spare + n) (length-append made more)
+          ∙ omega (arith, first.spare, second.spare);
+      true_lines = second.true_lines ∙ first.true_lines;
+      data_lines = second.data_lines ∙ first.data_lines;
+      exhibit = λ unshown. second.exhibit unshown ∙ first.exhibit going_unshown;
+      trusted = λ was. second.trusted (first.trusted was);
+      sound = λ was. second.sound (first.sound was);
+      places =
+          λ was. places_chained setup made more old mid new (first.places was) (second.places (first.trusted was));
+      metadata =
+          λ was. metadata_where setup outcome made more old mid new (first.metadata was) (second.metadata (first.trusted was));
+    }
+
+counters_chained : (setup : Setup) (old mid new : Parts)
+    → KeepsCounters setup old mid → KeepsCounters setup mid new → KeepsCounters setup old new
+counters_chained setup old mid new first second = λ page within it. second page within (first page within it)
+
+-- a part that goes on, and then another
+pub done_chained : (setup : Setup) (outcome : Outcome) (made more : List Mark) (old mid new : Parts)
+    → OneLossEffect setup going made old mid → OneLossEffect setup outcome more mid new
+    → OneLossEffect setup outcome (made ++ more) old new
+done_chained setup outcome made more old mid new first second =
+    record {
+      gone = gone_chained setup outcome made more old mid new first.gone second.gone;
+      loss = second.loss ∙ first.loss;
+      counters =
+          λ was. counters_chained setup old mid new (first.counters was) (second.counters (first.gone.trusted was));
+    }

@@ -1,0 +1,89 @@
+-- After a call the parts are usable again, whatever it answered.
+use Rattle.std.proofs.Common.{rules, ℕ, ◌≡◌, ◌≢◌, ◌++◌, ◌||◌, Bool, true, false, not, List, [], ◌∷◌, Option, Some, None, Result, refl, sym, subst, ◌∙◌}
+use Rattle.std.specs.Prelude.{is_some, IsSome}
+use Rattle.std.proofs.lemmas.Bool.{true≢false}
+use Rattle.pmem_base.specs.declared.answers.Mark.{Mark}
+use Rattle.pmem_base.specs.Shape.{Shape}
+use Rattle.pmem_base.specs.Marks.{SealOf, seal_of, later_of, last_seal}
+use Rattle.pmem_base.specs.Lines.{zero_line}
+use Rattle.suite.specs.Setup.{Setup}
+use Rattle.board.specs.Device.{Device}
+use Rattle.seal_ledger.specs.Ledger.{LedgerState}
+use Rattle.pmem_engine.specs.declared.fault.Fault.{Fault}
+use Rattle.pmem_engine.specs.Engine.{EngineState}
+use Rattle.pmem_engine.specs.Parts.{Parts}
+use Rattle.pmem_engine.specs.Outcomes.{Outcome, is_going, outcome_of, CallEffect}
+use Rattle.pmem_engine.specs.Calls.{IsReady, IsUsable, IsLeftAlone, AnswersDown}
+
+-- a line that was sealed still is, whatever marks follow
+pub still_sealed : (marks more : List Mark) (a : ℕ) → IsSome (last_seal marks a) → IsSome (last_seal (marks ++ more) a)
+still_sealed [] more a it = absurd (true≢false (sym it))
+still_sealed (mark ∷ marks) more a it = go (seal_of mark a) (last_seal marks a) refl it (still_sealed marks more a)
+  where
+    some_later : (earlier later : Option SealOf) → is_some later ≡ true → is_some (later_of earlier later) ≡ true
+    some_later earlier v1 it = search rules
+
+    some_earlier : (earlier : SealOf) (later : Option SealOf) → is_some (later_of (Some earlier) later) ≡ true
+    some_earlier earlier v1 = search rules
+
+    go : (earlier later : Option SealOf) → last_seal marks a ≡ later → is_some (later_of earlier later) ≡ true
+        → (IsSome (last_seal marks a) → IsSome (last_seal (marks ++ more) a))
+        → is_some (later_of earlier (last_seal (marks ++ more) a)) ≡ true
+    go earlier v1 same it again = search rules
+
+-- some setup of a shape and some ledger, for what is promised without either
+abbrev pub some_setup : Shape → Setup
+some_setup g =
+    record {
+      shape = g;
+      formulas = record { pad_of = λ at ctr. zero_line; tag_of = λ at ctr cipher. []; digest_of = λ position line. [] };
+    }
+
+abbrev pub some_ledger : LedgerState
+some_ledger = record { marks = []; truth = []; data_lines = 0; exhibit = None; spare = 0 }
+
+-- the board is ready again
+pub ready_after : (setup : Setup) (outcome : Outcome) (made : List Mark) (old new : Parts)
+    → CallEffect setup outcome made old new → new.engine.down ≡ (old.engine.down || not (is_going outcome))
+    → IsReady setup.shape old.engine old.device → IsReady setup.shape new.engine new.device
+ready_after setup outcome made old new gone down ready = search rules
+
+-- so are the ledger and the engine
+pub usable_after : (setup : Setup) (outcome : Outcome) (made : List Mark) (old new : Parts)
+    → CallEffect setup outcome made old new → new.engine.down ≡ (old.engine.down || not (is_going outcome))
+    → IsUsable setup.shape old.engine old.device old.ledger → IsUsable setup.shape new.engine new.device new.ledger
+usable_after setup outcome made old new gone down usable =
+    record {
+      ready = ready_after setup outcome made old new gone down usable.ready;
+      true_lines = gone.true_lines ∙ usable.true_lines;
+      line_count = gone.data_lines ∙ usable.line_count;
+      each_sealed =
+          λ a within.
+          subst (λ marks. IsSome (last_seal marks a)) (sym gone.marks)
+          (still_sealed old.ledger.marks made a (usable.each_sealed a within));
+    }
+
+-- ---- a public call
+
+same_parts : (P : EngineState → Device → LedgerState → Type 0) (old new : Parts) → IsLeftAlone old new
+    → P old.engine old.device old.ledger → P new.engine new.device new.ledger
+same_parts P old new same it = search rules
+
+module _ {T : Type 0} (setup : Setup) (made : List Mark) (old new : Parts) (answer : Result T Fault)
+    (down : AnswersDown old new answer)
+    (gone : old.engine.down ≡ false → CallEffect setup (outcome_of answer) made old new) where
+  pub usable_call : IsUsable setup.shape old.engine old.device old.ledger
+      → IsUsable setup.shape new.engine new.device new.ledger
+  usable_call usable = go old.engine.down refl
+    where
+      go : (was : Bool) → old.engine.down ≡ was → IsUsable setup.shape new.engine new.device new.ledger
+      go true is_down =
+          same_parts (λ engine device ledger. IsUsable setup.shape engine device ledger) old new
+          (down.still (down.exactly.1 is_down)) usable
+      go false is_up = usable_after setup (outcome_of answer) made old new (gone is_up) down.after usable
+
+  pub ready_call : IsReady setup.shape old.engine old.device → IsReady setup.shape new.engine new.device
+  ready_call ready = search rules
+
+  pub shape_call : new.engine.shape ≡ old.engine.shape
+  shape_call = search rules

@@ -1,0 +1,9 @@
+-- A page's path is fetched, and a line read and unsealed.
+pub mod LineCounters
+pub mod UnsealedLines
+pub mod FetchedPaths
+pub mod FetchEnds
+pub mod FetchAnswers
+pub mod FetchCalls
+pub mod LineReads
+pub mod ReadEnds

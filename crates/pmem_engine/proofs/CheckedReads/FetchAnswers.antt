@@ -1,0 +1,473 @@
+-- What a fetch answers, by its end.
+use Rattle.std.proofs.Common.{rules, ℕ, zero, suc, ◌≡◌, ◌<◌, ◌≤◌, ◌+◌, ◌++◌, ◌⊎◌, inl, inr, Bool, true, false, List, [], ◌∷◌, length, Option, Some, None, Ok, Err, refl, sym, ap, ap₂, subst, subst₂, ◌∙◌, arith}
+use Rattle.std.specs.Prelude.{option_map, is_some, unwrap_or, ◌==◌, ◌*◌, slice_index_or}
+use Rattle.std.proofs.lemmas.Bool.{true≢false, eq-eqb, cond-true, cond-false}
+use Rattle.std.proofs.lemmas.List.{length-append}
+use Rattle.std.proofs.lemmas.Option.{none-some, same_Some}
+use Rattle.std.proofs.lemmas.List.Folds.{list_any_at}
+use Rattle.pmem_base.specs.declared.lines.Line.{Line}
+use Rattle.pmem_base.specs.declared.answers.Exhibit.{Exhibit}
+use Rattle.pmem_base.specs.declared.answers.Exhibit.TheVariants.{Clash}
+use Rattle.pmem_base.specs.Shape.{Shape}
+use Rattle.pmem_base.specs.Layout as layout
+use Rattle.pmem_base.specs.Lines.{line_at, zero_line}
+use Rattle.pmem_base.specs.Counts.{risen_times}
+use Rattle.bonsai_tree.specs.Positions.{level_of, is_on_path, counter_position}
+use Rattle.bonsai_tree.proofs.PathPositions.{path_of-at, path_of-block, path_position-on_path}
+use Rattle.board.specs.Device.{Device}
+use Rattle.board.specs.Steps.{Tells}
+use Rattle.commit_regs.specs.Groups.{redone_told}
+use Rattle.seal_ledger.specs.Ledger.{LedgerState}
+use Rattle.seal_ledger.specs.Notes.{first_exhibit}
+use Rattle.shadow_tables.specs.Entries.{slot_entry}
+use Rattle.meta_cache.specs.declared.slot.Slot.{Slot}
+use Rattle.meta_cache.specs.Banks.{Banks, is_cached, set_index, slot_number, set_of}
+use Rattle.meta_cache.specs.Sets.{holds, slot_with, touched, victim_of}
+use Rattle.meta_cache.proofs.WayLemmas.{KeepsWays-touched}
+use Rattle.meta_path.specs.Blocks.{path_at, slots_at, number_in, IsPathCached, AreCachedTrue, dirty_count}
+use Rattle.meta_path.specs.Work.{told_line}
+use Rattle.std.specs.List.{Contains}
+use Rattle.meta_path.specs.Levels.{victim_write, room_write, level_write}
+use Rattle.meta_path.specs.Fetching.{absent_count, spilled, IsFetchedTo, IsCutAt, IsRefusedAt, IsShownAt}
+use Rattle.meta_path.specs.Keeping.{KeepsBlocks, HasGivenWay, WasWrittenBack, IsTrueTree, HasFalseDigest, HasClash}
+use Rattle.meta_path.proofs.PathFacts.{path_at-level, path_at-lt}
+use Rattle.suite.specs.Setup.{Setup}
+use Rattle.pmem_engine.specs.Engine.{EngineState}
+use Rattle.pmem_engine.specs.declared.fault.Fault.TheVariants as Fail
+use Rattle.pmem_engine.specs.Invariants.{IsTrueSlot, IsSound, stored_meta}
+use Rattle.pmem_engine.specs.Parts.{Parts, parts_of, AreTrusted, AreSound, meta_line_in}
+use Rattle.pmem_engine.specs.Faults.{IsFetchedLine, IsClashShown}
+use Rattle.pmem_engine.specs.Inner.{HasFetched}
+use Rattle.pmem_engine.proofs.CallEnds.ToldLines.{unarmed, told_gives}
+use Rattle.pmem_engine.proofs.CheckedReads.FetchedPaths.{redone_before, redone_after, own_slot}
+use Rattle.pmem_engine.proofs.CheckedReads.FetchEnds.{IsFetchOver, done_going, done_cut, done_shown, few_steps, dirty_steps, fewer_dirty_steps, read_is_true, read_was_there}
+
+-- ---- a path that is cached already
+
+none_absent : (g : Shape) (banks : Banks) (page : ℕ) → IsPathCached g banks page → (n : ℕ) → n ≤ g.levels + 1
+    → absent_count g banks page n ≡ 0
+none_absent g banks page cached zero within = refl
+none_absent g banks page cached (suc n) within =
+    ap₂ (λ a b. a + b) (none_absent g banks page cached n (omega (arith, within)))
+    (cond-true (is_cached g banks n (path_at g page n)) 0 1 (cached.each n (omega (arith, within))))
+
+none_spilled : (g : Shape) (banks : Banks) (page : ℕ) → IsPathCached g banks page → (n : ℕ) → n ≤ g.levels + 1
+    → spilled g banks page n ≡ []
+none_spilled g banks page cached zero within = refl
+none_spilled g banks page cached (suc n) within =
+    ap₂ (λ xs ys. xs ++ ys) (none_spilled g banks page cached n (omega (arith, within)))
+    (cond-true (is_cached g banks n (path_at g page n)) [] _ (cached.each n (omega (arith, within))))
+
+-- each level makes one write at most
+length_spilled : (g : Shape) (banks : Banks) (page n : ℕ) → length (spilled g banks page n) ≤ n
+length_spilled g banks page zero = omega arith
+length_spilled g banks page (suc n) =
+    let one : length (level_write g banks n (path_at g page n)) ≤ 1 =
+    one_write g banks n (path_at g page n) (is_cached g banks n (path_at g page n)) refl in
+    omega (
+      arith,
+      length_spilled g banks page n,
+      one,
+      length-append (spilled g banks page n) (level_write g banks n (path_at g page n)),
+    )
+  where
+    one_victim : (g : Shape) (victim : Option Slot) → length (victim_write g victim) ≤ 1
+    one_victim g None = omega arith
+    one_victim g (Some victim) = by_mark victim.dirty refl
+      where
+        by_mark : (b : Bool) → victim.dirty ≡ b → length (victim_write g (Some victim)) ≤ 1
+        by_mark true e =
+            let same : length (victim_write g (Some victim)) ≡ 1 =
+            ap (λ (entries : List (ℕ × Line)). length entries)
+            (cond-true victim.dirty ((layout.meta_line g victim.position, victim.line) ∷ []) [] e) in
+            omega (arith, same)
+        by_mark false e =
+            let same : length (victim_write g (Some victim)) ≡ 0 =
+            ap (λ (entries : List (ℕ × Line)). length entries)
+            (cond-false victim.dirty ((layout.meta_line g victim.position, victim.line) ∷ []) [] e) in
+            omega (arith, same)
+
+    one_write : (g : Shape) (banks : Banks) (bank x : ℕ) (b : Bool) → is_cached g banks bank x ≡ b
+        → length (level_write g banks bank x) ≤ 1
+    one_write g banks bank x true e =
+        let same : length (level_write g banks bank x) ≡ 0 =
+        ap (λ (entries : List (ℕ × Line)). length entries)
+        (cond-true (is_cached g banks bank x) [] (room_write g (slots_at g banks bank x)) e) in
+        omega (arith, same)
+    one_write g banks bank x false e =
+        let same : length (level_write g banks bank x) ≡ length (room_write g (slots_at g banks bank x)) =
+        ap (λ (entries : List (ℕ × Line)). length entries)
+        (cond-false (is_cached g banks bank x) [] (room_write g (slots_at g banks bank x)) e) in
+        let few : length (room_write g (slots_at g banks bank x)) ≤ 1 =
+        one_victim g (victim_of g.ways (slots_at g banks bank x)) in
+        omega (arith, same, few)
+
+-- what a shown clash names
+abbrev shown_position : Option Exhibit → ℕ
+shown_position (Some (Clash x first second)) = x
+shown_position shown = 0
+
+abbrev shown_line : Option Exhibit → Line
+shown_line (Some (Clash x first second)) = first
+shown_line shown = zero_line
+
+none_of : {A : Type 0} (o : Option A) → is_some o ≡ false → o ≡ None
+none_of None it = refl
+none_of (Some x) it = absurd (true≢false it)
+
+-- a slot's number goes by its way
+number_of_way : (g : Shape) (set : ℕ) (before after : Option Slot)
+    → option_map (λ slot. slot.way) after ≡ option_map (λ slot. slot.way) before
+    → unwrap_or (option_map (slot_number g set) after) 0 ≡ unwrap_or (option_map (slot_number g set) before) 0
+number_of_way g set None None same = refl
+number_of_way g set None (Some now) same = absurd (none-some now.way (sym same))
+number_of_way g set (Some slot) None same = absurd (none-some slot.way same)
+number_of_way g set (Some slot) (Some now) same = ap (λ way. set * g.ways + way) (same_Some now.way slot.way same)
+
+-- a cached block's slot keeps its number while it is used
+same_number : (g : Shape) (old new : Banks) (bank x : ℕ) → is_cached g old bank x ≡ true → is_cached g new bank x ≡ true
+    → slots_at g new bank x ≡ touched (slots_at g old bank x) x → number_in g new bank x ≡ number_in g old bank x
+same_number g old new bank x cached still used =
+    ap (λ slots. unwrap_or (option_map (slot_number g (set_index g x)) (slot_with slots x)) 0) used
+    ∙ number_of_way g (set_index g x) (slot_with (slots_at g old bank x) x) (slot_with (touched (slots_at g old bank x) x) x)
+    (KeepsWays-touched (slots_at g old bank x) x x cached (subst (λ slots. holds slots x ≡ true) used still))
+
+-- ---- the answers
+
+module _ (setup : Setup) (page : ℕ) (old new : EngineState) (ledger noted : LedgerState) (before after : Device)
+    (tags digests tags_now digests_now : ℕ)
+    (its_page : page < layout.pages setup.shape) (few_levels : setup.shape.levels ≤ 6)
+    (its_size : before.size ≡ layout.device_lines setup.shape)
+    (shape : new.shape ≡ old.shape) (mirror : new.mirror ≡ old.mirror) (down : new.down ≡ old.down)
+    (same_tags : tags_now ≡ tags)
+    (over : IsFetchOver before after digests digests_now ledger noted)
+    (keeps : KeepsBlocks setup.shape ledger.truth page old.cache new.cache before after) where
+  abbrev start : Parts
+  start = parts_of old before ledger tags digests
+
+  abbrev finish : Parts
+  finish = parts_of new after noted tags_now digests_now
+
+  abbrev block : ℕ
+  block = counter_position setup.shape page
+
+  block_at : path_at setup.shape page setup.shape.levels ≡ block
+  block_at = path_of-block setup.shape page
+
+  block_level : level_of block ≡ setup.shape.levels
+  block_level =
+      ap level_of (sym block_at) ∙ path_at-level setup.shape page setup.shape.levels its_page few_levels (omega arith)
+
+  -- the counter block's own line isn't written: it never gives way to itself
+  block_kept : AreTrusted setup start → meta_line_in setup.shape finish block ≡ meta_line_in setup.shape start block
+  block_kept trusted =
+      ap (option_map (λ lines. stored_meta setup.shape lines block)) (redone_after setup page old new ledger before after shape mirror down trusted keeps tags digests tags_now digests_now noted over.marks over.truth over.regs over.told)
+      ∙ kept (keeps.line_writes (layout.meta_line setup.shape block))
+      ∙ sym (ap (option_map (λ lines. stored_meta setup.shape lines block)) (redone_before setup page old new ledger before after shape mirror down trusted keeps tags digests tags_now digests_now noted over.marks over.truth over.regs over.told))
+    where
+      kept : (told_line after.lines (layout.meta_line setup.shape block) ≡ told_line before.lines (layout.meta_line setup.shape block))
+          ⊎ WasWrittenBack setup.shape old.cache new.cache after.lines (layout.meta_line setup.shape block)
+          → option_map (λ lines. stored_meta setup.shape lines block) after.lines
+          ≡ option_map (λ lines. stored_meta setup.shape lines block) before.lines
+      kept (inl same) = same
+      kept (inr back) = absurd (gone_itself (keeps.slots_before back.bank back.set back.slot back.was_cached))
+        where
+          own : IsTrueSlot setup.shape ledger.truth back.bank back.set back.slot
+          own = own_slot setup page old new ledger before after shape mirror down trusted keeps back.bank back.set back.slot back.was_cached
+
+          here : back.slot.position ≡ block
+          here = omega (arith, back.place)
+
+          its_bank : back.bank ≡ setup.shape.levels
+          its_bank = sym own.its_bank ∙ ap level_of here ∙ block_level
+
+          held : (banks : Banks) → Contains (set_of banks back.bank back.set) back.slot → is_cached setup.shape banks back.bank back.slot.position ≡ true
+          held banks it =
+              list_any_at (λ s. s.position == back.slot.position) (set_of banks back.bank (set_index setup.shape back.slot.position))
+              it.0 back.slot
+              (subst (λ set. it.0 < length (set_of banks back.bank set)) (sym own.its_set) it.1)
+              (ap (λ s. s.position == back.slot.position)
+              (subst (λ set. slice_index_or (set_of banks back.bank set) it.0 back.slot ≡ back.slot) (sym own.its_set) it.2)
+              ∙ eq-eqb back.slot.position back.slot.position refl)
+
+          gone_itself : Contains (set_of new.cache back.bank back.set) back.slot
+              ⊎ HasGivenWay setup.shape page old.cache new.cache after.lines back.bank back.set back.slot → ⊥
+          gone_itself (inl still) = true≢false (sym (held new.cache still) ∙ back.gone)
+          gone_itself (inr way) =
+              true≢false
+              (sym (held old.cache back.was_cached)
+              ∙ ap (λ x. is_cached setup.shape old.cache back.bank x)
+              (here ∙ sym block_at ∙ ap (path_at setup.shape page) (sym its_bank))
+              ∙ way.absent)
+
+  -- the path was fetched
+  pub fetched_ok : IsPathCached setup.shape new.cache page → noted ≡ ledger
+      → IsFetchedTo setup.shape setup.formulas ledger.truth page (setup.shape.levels + 1)
+      (record { cache = record { shape = setup.shape; banks = old.cache }; device = before; digests = digests })
+      (record { cache = record { shape = setup.shape; banks = new.cache }; device = after; digests = digests_now })
+      → HasFetched setup page start finish (Ok tt)
+  fetched_ok cached same fetched =
+      record {
+        done =
+            done_going setup page old new ledger noted before after tags digests tags_now digests_now its_size shape mirror down
+            same_tags over keeps same fetched.work.steady fetched.work.live fetched.work.cuts;
+        answered = λ trusted. tt;
+        unrefused = λ sound. tt;
+        not_down = λ it. it;
+        path_cached = λ ok. cached;
+        mirror = mirror;
+        down = down;
+        regs = over.regs;
+        tags = same_tags;
+        same_ledger = λ unshown. same;
+        still_cached =
+            λ was. (
+              refl,
+              record {
+                lines = fetched.work.lines ∙ ap (λ entries. redone_told entries before.lines) (nothing was) ∙ unarmed [] before.lines refl;
+                regs = over.regs;
+                reads = fetched.work.no_read (none_absent setup.shape old.cache page was (setup.shape.levels + 1) (omega arith));
+                writes = fetched.work.no_write (ap length (nothing was));
+                latches = over.latches;
+              },
+              fetched.digests
+                  ∙ ap (λ n. risen_times n digests) (none_absent setup.shape old.cache page was (setup.shape.levels + 1) (omega arith)),
+            );
+        still_named =
+            λ was named.
+            record {
+              each =
+                  λ j within.
+                  ap₂ (λ shadow n. slot_entry setup.shape shadow j n) mirror
+                  (same_number setup.shape old.cache new.cache j (path_at setup.shape page j) (was.each j within) (cached.each j within)
+                  (fetched.cache.fetched j (omega (arith, within))
+                  ∙ cond-true (is_cached setup.shape old.cache j (path_at setup.shape page j)) _ _ (was.each j within)))
+                  ∙ named.each j within;
+            };
+        block_kept = block_kept;
+        latches = over.latches;
+        steps_of_path =
+            few_steps setup page old new ledger noted before after tags digests tags_now digests_now its_size shape mirror down
+            same_tags over keeps;
+        steps_of_dirty = (
+          dirty_steps setup page old new ledger noted before after tags digests tags_now digests_now its_size shape mirror down
+              same_tags over keeps,
+          λ live. dirty_steps setup page old new ledger noted before after tags digests tags_now digests_now its_size shape mirror
+              down same_tags over keeps,
+        );
+      }
+    where
+      nothing : IsPathCached setup.shape old.cache page → spilled setup.shape old.cache page (setup.shape.levels + 1) ≡ []
+      nothing was = none_spilled setup.shape old.cache page was (setup.shape.levels + 1) (omega arith)
+
+  -- an error is no answer
+  no_answer : {T : Type 0} → false ≡ true → T
+  no_answer it = absurd (true≢false (sym it))
+
+  -- the path was cut at level n
+  pub fetched_cut : (IsPathCached setup.shape old.cache page → ⊥) → noted ≡ ledger
+      → IsCutAt setup.shape setup.formulas ledger.truth page
+      (record { cache = record { shape = setup.shape; banks = old.cache }; device = before; digests = digests })
+      (record { cache = record { shape = setup.shape; banks = new.cache }; device = after; digests = digests_now })
+      → (before.live ≡ true → 1 ≤ dirty_count setup.shape new.cache)
+      → HasFetched setup page start finish (Err Fail.Cut)
+  fetched_cut uncached same it left =
+      record {
+        done =
+            done_cut setup page old new ledger noted before after tags digests tags_now digests_now its_size shape mirror down
+            same_tags over keeps same it.unsteady it.off it.rose;
+        answered = λ trusted. tt;
+        unrefused = λ sound. tt;
+        not_down = λ it. it;
+        path_cached = λ ok. no_answer ok;
+        mirror = mirror;
+        down = down;
+        regs = over.regs;
+        tags = same_tags;
+        same_ledger = λ unshown. same;
+        still_cached = λ was. absurd (uncached was);
+        still_named = λ was named. absurd (uncached was);
+        block_kept = block_kept;
+        latches = over.latches;
+        steps_of_path =
+            record {
+              writes = it.writes.never_falls;
+              latches = omega (arith, over.latches);
+              sum =
+                  λ writes latches.
+                  omega (arith, it.writes.exact writes, over.latches, length_spilled setup.shape old.cache page it.n, it.on_path);
+            };
+        steps_of_dirty = (
+          dirty_steps setup page old new ledger noted before after tags digests tags_now digests_now its_size shape mirror down
+              same_tags over keeps,
+          λ live. fewer_dirty_steps setup page old new ledger noted before after tags digests tags_now digests_now its_size shape
+              mirror down same_tags over keeps (left live),
+        );
+      }
+
+  -- the position of the path at this level wasn't cached before
+  absent_before : (n : ℕ) → n ≤ setup.shape.levels
+      → is_cached setup.shape old.cache n (path_at setup.shape page n) ≡ false
+      → is_cached setup.shape old.cache (level_of (path_at setup.shape page n)) (path_at setup.shape page n) ≡ false
+  absent_before n within absent =
+      ap (λ bank. is_cached setup.shape old.cache bank (path_at setup.shape page n))
+      (path_at-level setup.shape page n its_page few_levels within)
+      ∙ absent
+
+  -- the line read at this level was read, and wasn't cached before
+  fetched_line : AreTrusted setup start → (n : ℕ) (line : Line) → n ≤ setup.shape.levels
+      → is_cached setup.shape old.cache n (path_at setup.shape page n) ≡ false
+      → Tells after.lines (layout.meta_line setup.shape (path_at setup.shape page n)) line
+      → IsFetchedLine setup page (path_at setup.shape page n) line start finish
+  fetched_line trusted n line within absent tells =
+      record {
+        on_path =
+            ap (is_on_path setup.shape page) (path_of-at setup.shape page n within)
+            ∙ path_position-on_path setup.shape page n within;
+        uncached = absent_before n within absent;
+        before =
+            read_was_there setup page old new ledger noted before after tags digests tags_now digests_now its_size shape mirror
+            down same_tags over keeps trusted (path_at setup.shape page n) line (absent_before n within absent) tells;
+        read = tells;
+      }
+
+  true_tree : AreTrusted setup start → IsTrueTree setup.shape setup.formulas ledger.truth before.regs.root
+  true_tree trusted = record { tree = trusted.anchored.truth_is_tree; root_digest = trusted.anchored.root }
+
+  cached_true : AreTrusted setup start → AreCachedTrue old.cache ledger.truth
+  cached_true trusted = search rules
+
+  -- the line read at level n was refused
+  pub fetched_meta : (IsPathCached setup.shape old.cache page → ⊥) → noted ≡ ledger → (x : ℕ)
+      → IsRefusedAt setup.shape setup.formulas ledger.truth page x
+      (record { cache = record { shape = setup.shape; banks = old.cache }; device = before; digests = digests })
+      (record { cache = record { shape = setup.shape; banks = new.cache }; device = after; digests = digests_now })
+      → (IsTrueTree setup.shape setup.formulas ledger.truth before.regs.root → AreCachedTrue old.cache ledger.truth
+      → HasFalseDigest setup.shape setup.formulas ledger.truth x after.lines)
+      → HasFetched setup page start finish (Err (Fail.Meta x))
+  fetched_meta uncached same x it cause =
+      record {
+        done =
+            done_going setup page old new ledger noted before after tags digests tags_now digests_now its_size shape mirror down
+            same_tags over keeps same it.read.work.steady it.read.work.live it.read.work.cuts;
+        answered =
+            λ trusted.
+            let false_digest = cause (true_tree trusted) (cached_true trusted) in
+            record {
+              line = false_digest.line;
+              fetched = at_line trusted false_digest.line false_digest.tells;
+              other_digest = false_digest.differs;
+            };
+        unrefused =
+            λ sound.
+            let false_digest = cause (true_tree (sound_trusted sound)) (cached_true (sound_trusted sound)) in
+            false_digest.differs
+            (ap (setup.formulas.digest_of x)
+            (read_is_true setup page old new ledger noted before after tags digests tags_now digests_now its_size shape mirror down
+            same_tags over keeps sound x false_digest.line false_digest.on_tree
+            (at_line (sound_trusted sound) false_digest.line false_digest.tells).uncached false_digest.tells));
+        not_down = λ it. it;
+        path_cached = λ ok. no_answer ok;
+        mirror = mirror;
+        down = down;
+        regs = over.regs;
+        tags = same_tags;
+        same_ledger = λ unshown. same;
+        still_cached = λ was. absurd (uncached was);
+        still_named = λ was named. absurd (uncached was);
+        block_kept = block_kept;
+        latches = over.latches;
+        steps_of_path =
+            few_steps setup page old new ledger noted before after tags digests tags_now digests_now its_size shape mirror down
+            same_tags over keeps;
+        steps_of_dirty = (
+          dirty_steps setup page old new ledger noted before after tags digests tags_now digests_now its_size shape mirror down
+              same_tags over keeps,
+          λ live. dirty_steps setup page old new ledger noted before after tags digests tags_now digests_now its_size shape mirror
+              down same_tags over keeps,
+        );
+      }
+    where
+      sound_trusted : AreSound setup start → AreTrusted setup start
+      sound_trusted sound =
+          told_gives (λ lines. IsSound setup old lines before.regs ledger) (AreTrusted setup start) before.lines
+          (λ lines told it. it.trusted) sound
+
+      at_line : AreTrusted setup start → (line : Line) → Tells after.lines (layout.meta_line setup.shape x) line
+          → IsFetchedLine setup page x line start finish
+      at_line trusted line tells =
+          subst (λ z. IsFetchedLine setup page z line start finish) (sym it.position)
+          (fetched_line trusted it.n line it.read.on_path it.read.absent
+          (subst (λ z. Tells after.lines (layout.meta_line setup.shape z) line) it.position tells))
+
+  -- the line read at level n was shown
+  pub fetched_shown : (IsPathCached setup.shape old.cache page → ⊥)
+      → IsShownAt setup.shape setup.formulas page
+      (record { cache = record { shape = setup.shape; banks = old.cache }; device = before; digests = digests })
+      (record { cache = record { shape = setup.shape; banks = new.cache }; device = after; digests = digests_now }) ledger noted
+      → (IsTrueTree setup.shape setup.formulas ledger.truth before.regs.root → AreCachedTrue old.cache ledger.truth
+      → HasClash setup.shape setup.formulas after.lines ledger noted)
+      → HasFetched setup page start finish (Err Fail.Shown)
+  fetched_shown uncached it cause =
+      record {
+        done =
+            done_shown setup page old new ledger noted before after tags digests tags_now digests_now its_size shape mirror down
+            same_tags over keeps never it.read.work.steady it.read.work.live it.read.work.cuts;
+        answered = λ trusted. clash trusted;
+        unrefused = never;
+        not_down = λ it. it;
+        path_cached = λ ok. no_answer ok;
+        mirror = mirror;
+        down = down;
+        regs = over.regs;
+        tags = same_tags;
+        same_ledger = λ unshown. absurd (unshown refl);
+        still_cached = λ was. absurd (uncached was);
+        still_named = λ was named. absurd (uncached was);
+        block_kept = block_kept;
+        latches = over.latches;
+        steps_of_path =
+            few_steps setup page old new ledger noted before after tags digests tags_now digests_now its_size shape mirror down
+            same_tags over keeps;
+        steps_of_dirty = (
+          dirty_steps setup page old new ledger noted before after tags digests tags_now digests_now its_size shape mirror down
+              same_tags over keeps,
+          λ live. dirty_steps setup page old new ledger noted before after tags digests tags_now digests_now its_size shape mirror
+              down same_tags over keeps,
+        );
+      }
+    where
+      x : ℕ
+      x = path_at setup.shape page it.n
+
+      read_here : AreTrusted setup start → IsFetchedLine setup page x it.line start finish
+      read_here trusted = fetched_line trusted it.n it.line it.read.on_path it.read.absent it.read.tells
+
+      none_kept : AreTrusted setup start → ledger.exhibit ≡ None
+      none_kept trusted = none_of ledger.exhibit trusted.anchored.no_exhibit
+
+      clash : AreTrusted setup start → IsClashShown setup page start finish
+      clash trusted =
+          let known = cause (true_tree trusted) (cached_true trusted) in
+          let here : Some (Clash x it.line (line_at ledger.truth x)) ≡ Some (Clash known.x known.line (line_at ledger.truth known.x)) =
+          sym (it.shown.exhibit ∙ ap (λ kept. first_exhibit kept (Clash x it.line (line_at ledger.truth x))) (none_kept trusted))
+          ∙ known.shown.exhibit
+          ∙ ap (λ kept. first_exhibit kept (Clash known.x known.line (line_at ledger.truth known.x))) (none_kept trusted) in
+          record {
+            x = x;
+            line = it.line;
+            fetched = read_here trusted;
+            exhibit =
+                it.shown.exhibit ∙ ap (λ kept. first_exhibit kept (Clash x it.line (line_at ledger.truth x))) (none_kept trusted);
+            same_digest =
+                subst₂ (λ y line. setup.formulas.digest_of y line ≡ setup.formulas.digest_of y (line_at ledger.truth y))
+                (sym (ap shown_position here)) (sym (ap shown_line here)) known.same_digest;
+            other_line = it.differs;
+          }
+
+      never : AreSound setup start → ⊥
+      never sound =
+          it.differs
+          (read_is_true setup page old new ledger noted before after tags digests tags_now digests_now its_size shape mirror down
+          same_tags over keeps sound x it.line (path_at-lt setup.shape page it.n its_page it.read.on_path) (absent_before it.n it.read.on_path it.read.absent)
+          it.read.tells)

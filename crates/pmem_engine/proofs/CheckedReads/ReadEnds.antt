@@ -1,0 +1,161 @@
+-- A call that ended: its engine is down where it was cut or shown.
+use Rattle.std.proofs.Common.{rules, ℕ, ◌≡◌, Bool, false, ◌||◌, List, [], Result, sym, ap, subst}
+use Rattle.pmem_base.specs.declared.lines.Line.{Line}
+use Rattle.pmem_base.specs.declared.lines.Ctr.{Ctr}
+use Rattle.pmem_base.specs.declared.answers.Mark.{Mark}
+use Rattle.suite.specs.Setup.{Setup}
+use Rattle.pmem_engine.specs.declared.fault.Fault.{Fault}
+use Rattle.pmem_engine.specs.Engine.{EngineState}
+use Rattle.pmem_engine.specs.Parts.{Parts, parts_of}
+use Rattle.pmem_engine.specs.Outcomes.{Outcome, going, cut_short, shown, outcome_of, CallEffect, OneLossEffect}
+use Rattle.pmem_engine.specs.Faults.{IsFetchedLine, IsMetaRefused, IsClashShown, IsUnsealedLine, IsTagRefused, IsForgedShown}
+use Rattle.pmem_engine.specs.Calls.{IsDownAnswer, AnswersDown, TakesWithin, TakesWithinOfLive, AnswersRead, HasReadLine}
+use Rattle.pmem_engine.specs.Inner.{ended_by, UpReadOutcome}
+
+-- the parts afterwards
+abbrev pub ended_parts : Parts → Outcome → Parts
+ended_parts parts outcome = parts_of (ended_by parts.engine outcome) parts.device parts.ledger parts.tags parts.digests
+
+-- a call that goes on leaves the engine as it is
+pub ended_going : (engine : EngineState) → ended_by engine going ≡ engine
+ended_going engine = ap (λ down. record { shape = engine.shape; cache = engine.cache; mirror = engine.mirror; down = down }) (same engine.down)
+  where
+    same : (down : Bool) → (down || false) ≡ down
+    same v0 = search rules
+
+pub ended_parts_going : (parts : Parts) → ended_parts parts going ≡ parts
+ended_parts_going parts = search rules
+
+pub gone_ended : (setup : Setup) (outcome : Outcome) (made : List Mark) (old new : Parts) → CallEffect setup outcome made old new
+    → CallEffect setup outcome made old (ended_parts new outcome)
+gone_ended setup going made old new it =
+    subst (λ parts. CallEffect setup going made old parts) (sym (ended_parts_going new)) it
+gone_ended setup cut_short made old new it =
+    record {
+      shape = it.shape;
+      size = it.size;
+      told = it.told;
+      valid = it.valid;
+      group = it.group;
+      small_group = it.small_group;
+      power = it.power;
+      reads = it.reads;
+      tags = it.tags;
+      digests = it.digests;
+      marks = it.marks;
+      spare = it.spare;
+      true_lines = it.true_lines;
+      data_lines = it.data_lines;
+      exhibit = it.exhibit;
+      trusted = it.trusted;
+      sound = it.sound;
+      places =
+          λ was.
+          record {
+            seals = (it.places was).seals;
+            data_lines = (it.places was).data_lines;
+            tag_slots = (it.places was).tag_slots;
+          };
+      metadata = it.metadata;
+    }
+gone_ended setup shown made old new it =
+    record {
+      shape = it.shape;
+      size = it.size;
+      told = it.told;
+      valid = it.valid;
+      group = it.group;
+      small_group = it.small_group;
+      power = it.power;
+      reads = it.reads;
+      tags = it.tags;
+      digests = it.digests;
+      marks = it.marks;
+      spare = it.spare;
+      true_lines = it.true_lines;
+      data_lines = it.data_lines;
+      exhibit = it.exhibit;
+      trusted = it.trusted;
+      sound = it.sound;
+      places =
+          λ was.
+          record {
+            seals = (it.places was).seals;
+            data_lines = (it.places was).data_lines;
+            tag_slots = (it.places was).tag_slots;
+          };
+      metadata =
+          search rules;
+    }
+
+pub done_ended : (setup : Setup) (outcome : Outcome) (made : List Mark) (old new : Parts) → OneLossEffect setup outcome made old new
+    → OneLossEffect setup outcome made old (ended_parts new outcome)
+done_ended setup going made old new it =
+    subst (λ parts. OneLossEffect setup going made old parts) (sym (ended_parts_going new)) it
+done_ended setup cut_short made old new it =
+    record { gone = gone_ended setup cut_short made old new it.gone; loss = it.loss; counters = it.counters }
+done_ended setup shown made old new it =
+    record { gone = gone_ended setup shown made old new it.gone; loss = it.loss; counters = it.counters }
+
+-- an engine that isn't down answers Down nowhere
+pub answers_down : {T : Type 0} (answer : Result T Fault) (old new : Parts) → old.engine.down ≡ false
+    → new.engine.down ≡ old.engine.down → (IsDownAnswer answer → ⊥)
+    → AnswersDown old (ended_parts new (outcome_of answer)) answer
+answers_down answer old new was same never = search rules
+
+-- ---- what was seen doesn't depend on the engine afterwards
+
+fetched_line_ended : (setup : Setup) (page x : ℕ) (line : Line) (old new : Parts) (outcome : Outcome)
+    → IsFetchedLine setup page x line old new → IsFetchedLine setup page x line old (ended_parts new outcome)
+fetched_line_ended setup page x line old new outcome it = search rules
+
+pub meta_refused_ended : (setup : Setup) (page x : ℕ) (old new : Parts) (outcome : Outcome)
+    → IsMetaRefused setup page x old new → IsMetaRefused setup page x old (ended_parts new outcome)
+meta_refused_ended setup page x old new outcome it = search rules
+
+pub clash_shown_ended : (setup : Setup) (page : ℕ) (old new : Parts) (outcome : Outcome)
+    → IsClashShown setup page old new → IsClashShown setup page old (ended_parts new outcome)
+clash_shown_ended setup page old new outcome it = search rules
+
+unsealed_line_ended : (setup : Setup) (a : ℕ) (ctr : Ctr) (cipher : Line) (tag : List ℕ) (new : Parts) (outcome : Outcome)
+    → IsUnsealedLine setup a ctr cipher tag new → IsUnsealedLine setup a ctr cipher tag (ended_parts new outcome)
+unsealed_line_ended setup a ctr cipher tag new outcome it = search rules
+
+pub tag_refused_ended : (setup : Setup) (a : ℕ) (new : Parts) (outcome : Outcome)
+    → IsTagRefused setup a new → IsTagRefused setup a (ended_parts new outcome)
+tag_refused_ended setup a new outcome it = search rules
+
+pub forged_shown_ended : (setup : Setup) (a : ℕ) (new : Parts) (outcome : Outcome)
+    → IsForgedShown setup a new → IsForgedShown setup a (ended_parts new outcome)
+forged_shown_ended setup a new outcome it = search rules
+
+pub within_ended : (outcome end : Outcome) (n : ℕ) (old new : Parts) → TakesWithin outcome n old new
+    → TakesWithin outcome n old (ended_parts new end)
+within_ended going end n old new it = it
+within_ended cut_short end n old new it = it
+within_ended shown end n old new it = it
+
+pub within_live_ended : (outcome end : Outcome) (n : ℕ) (old new : Parts) → TakesWithinOfLive outcome n old new
+    → TakesWithinOfLive outcome n old (ended_parts new end)
+within_live_ended outcome end n old new it = (it.0, λ live. within_ended outcome end n old new (it.1 live))
+
+-- ---- a read
+
+answers_read_ended : (setup : Setup) (a : ℕ) (old new : Parts) (answer : Result Line Fault) (outcome : Outcome)
+    → AnswersRead setup a old new answer → AnswersRead setup a old (ended_parts new outcome) answer
+answers_read_ended setup a old new v4 outcome it = search rules
+
+pub read_ended : (setup : Setup) (a : ℕ) (old new : Parts) (answer : Result Line Fault) → old.engine.down ≡ false
+    → UpReadOutcome setup a old new answer → HasReadLine setup a old (ended_parts new (outcome_of answer)) answer
+read_ended setup a old new answer was it =
+    record {
+      down = answers_down answer old new was it.down it.not_down;
+      done = λ up. done_ended setup (outcome_of answer) [] old new it.done;
+      answered = λ up trusted. answers_read_ended setup a old new answer (outcome_of answer) (it.answered trusted);
+      unrefused = λ up sound. it.unrefused sound;
+      path_cached = it.path_cached;
+      of_cached =
+          search rules;
+      steps_of_path = λ up. within_live_ended (outcome_of answer) (outcome_of answer) _ old new it.steps_of_path;
+      steps_of_dirty = λ up. within_live_ended (outcome_of answer) (outcome_of answer) _ old new it.steps_of_dirty;
+    }

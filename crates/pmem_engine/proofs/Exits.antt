@@ -1,8 +1,0 @@
--- What a `?` hands on.
-use Rattle.std.proofs.Common.{◌≡◌, Ok, Err, ap}
-use Rattle.std.specs.Prelude.{Result, IsErrAnd}
-
--- an error of this value
-pub is_err_of : {T E : Type 0} (r : Result T E) (e : E) → IsErrAnd r (λ (x : E). x ≡ e) → r ≡ Err e
-is_err_of (Ok v) e it = absurd it
-is_err_of (Err x) e it = ap Err it

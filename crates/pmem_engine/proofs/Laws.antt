@@ -1,0 +1,24 @@
+-- What each kind of step keeps of the chip, the device and the ledger.
+pub mod PlainLines
+pub mod OpenPages
+pub mod AnchoredSeals
+pub mod FreshSeals
+pub mod AnchoredBegins
+pub mod AnchoredLatches
+pub mod TrueLines
+pub mod AskedCounters
+pub mod AnchoredFormats
+pub mod DeviceRegions
+pub mod CounterBlocks
+pub mod GroupLaws
+pub mod StepChanges
+pub mod ArmLaws
+pub mod NameLaws
+pub mod CacheLaws
+pub mod CommitLaws
+pub mod LossLaws
+pub mod PlaceLaws
+pub mod ChangedLines
+pub mod PathSlots
+pub mod SealLaws
+pub mod MendableLaws

@@ -1,0 +1,187 @@
+-- What the parts of the device show after a write to one of its regions: metadata lines, names, data
+-- lines and tags, each by itself and over any lines.
+use Rattle.std.proofs.lemmas.Grind.{common_steps}
+use Rattle.std.proofs.Common.{rules, ◌≡◌, ◌≢◌, ℕ, ◌<◌, List, length, Some, refl, sym, ap, subst, ◌∙◌, ◌⊎◌, inl, inr, arith}
+use Rattle.std.specs.Prelude.{slice_set}
+use Rattle.std.proofs.lemmas.Bool.{cases_eq}
+use Rattle.pmem_base.specs.declared.lines.Line.{Line}
+use Rattle.pmem_base.specs.declared.answers.Mark.{Mark}
+use Rattle.pmem_base.specs.Shape.{Shape}
+use Rattle.pmem_base.specs.Layout as layout
+use Rattle.pmem_base.specs.Layout.{device_lines, data_lines, meta_lines, tag_line, meta_line, shadow_line}
+use Rattle.pmem_base.specs.Lines.{line_at, tag_slot}
+use Rattle.pmem_base.specs.Marks.{SealOf, last_seal}
+use Rattle.pmem_base.proofs.LineSets.{line_at-set_same}
+use Rattle.pmem_base.proofs.Regions.{tag_line≢data, tag_on_device, data_before_shadow, tag_before_shadow, meta_before_shadow}
+use Rattle.line_seal.specs.Seals.{with_tag}
+use Rattle.line_seal.proofs.TagSlots.{tag_slot-with_other}
+use Rattle.board.specs.Device.{AreLinesOf}
+use Rattle.board.proofs.LineLemmas.{line_at-long}
+use Rattle.bonsai_tree.specs.Positions.{level_of}
+use Rattle.shadow_tables.specs.Entries.{is_named_in, shadow_of}
+use Rattle.shadow_tables.proofs.ShadowLines.{shadow_of-set_before}
+use Rattle.pmem_engine.specs.Invariants.{IsSealStored, stored_meta, is_named}
+use Rattle.pmem_engine.specs.Steps.{IsPlaceKept, SealsOne, sealed_lines}
+
+-- a data line lies in a page
+pub page_within : (g : Shape) (a : ℕ) → a < layout.data_lines g → layout.page_of a < layout.pages g
+page_within g a h = omega arith
+
+-- ---- metadata lines
+
+pub stored_meta-set_data : (g : Shape) (lines : List Line) (a : ℕ) (line : Line) (x : ℕ) → a < data_lines g
+    → stored_meta g (slice_set lines a line) x ≡ stored_meta g lines x
+stored_meta-set_data g lines a line x h = search rules
+
+pub stored_meta-set_tag : (g : Shape) (lines : List Line) (a : ℕ) (line : Line) (x : ℕ) → a < data_lines g
+    → stored_meta g (slice_set lines (tag_line g a) line) x ≡ stored_meta g lines x
+stored_meta-set_tag g lines a line x h = search rules
+
+pub stored_meta-set_same : (g : Shape) (lines : List Line) (x : ℕ) (line : Line)
+    → meta_line g x < length lines → stored_meta g (slice_set lines (meta_line g x) line) x ≡ line
+stored_meta-set_same g lines x line h = line_at-set_same lines (meta_line g x) line h
+
+pub stored_meta-set_other : (g : Shape) (lines : List Line) (x : ℕ) (line : Line) (y : ℕ) → y ≢ x
+    → stored_meta g (slice_set lines (meta_line g x) line) y ≡ stored_meta g lines y
+stored_meta-set_other g lines x line y other = search rules
+
+pub stored_meta-set_shadow : (g : Shape) (lines : List Line) (n : ℕ) (line : Line) (x : ℕ)
+    → x < meta_lines g → stored_meta g (slice_set lines (shadow_line g n) line) x ≡ stored_meta g lines x
+stored_meta-set_shadow g lines n line x h = search rules
+
+-- ---- names
+
+-- a write before the shadow lines changes no name
+pub is_named-set_before : (g : Shape) (lines : List Line) (at : ℕ) (line : Line) (x : ℕ)
+    → at < shadow_line g 0 → is_named g (slice_set lines at line) x ≡ is_named g lines x
+is_named-set_before g lines at line x h =
+    ap (λ shadow. is_named_in g shadow (level_of x) x) (shadow_of-set_before g lines at line h)
+
+pub is_named-set_meta : (g : Shape) (lines : List Line) (y : ℕ) (line : Line) (x : ℕ) → y < meta_lines g
+    → is_named g (slice_set lines (meta_line g y) line) x ≡ is_named g lines x
+is_named-set_meta g lines y line x h =
+    is_named-set_before g lines (meta_line g y) line x (meta_before_shadow g y h)
+
+-- ---- data lines and tags
+
+pub IsPlaceKept-same : (g : Shape) (lines : List Line) (a : ℕ) → IsPlaceKept g lines lines a
+IsPlaceKept-same g lines a = record { its_line = refl; slot = refl }
+
+pub IsPlaceKept-trans : (g : Shape) (first second third : List Line) (a : ℕ) → IsPlaceKept g first second a
+    → IsPlaceKept g second third a → IsPlaceKept g first third a
+IsPlaceKept-trans g first second third a one two = search rules
+
+-- a metadata line or a shadow line is written
+pub IsPlaceKept-set_meta : (g : Shape) (lines : List Line) (x : ℕ) (line : Line) (a : ℕ) → a < data_lines g
+    → IsPlaceKept g lines (slice_set lines (meta_line g x) line) a
+IsPlaceKept-set_meta g lines x line a h = search rules
+
+pub IsPlaceKept-set_shadow : (g : Shape) (lines : List Line) (n : ℕ) (line : Line) (a : ℕ) → a < data_lines g
+    → IsPlaceKept g lines (slice_set lines (shadow_line g n) line) a
+IsPlaceKept-set_shadow g lines n line a h = search rules
+
+-- a line whose last seal, data line and tag slot are as before has its seal stored as before
+pub IsSealStored-kept : (g : Shape) (old new : List Line) (old_marks new_marks : List Mark) (a : ℕ)
+    → last_seal new_marks a ≡ last_seal old_marks a → IsPlaceKept g old new a → IsSealStored g old old_marks a
+    → IsSealStored g new new_marks a
+IsSealStored-kept g old new old_marks new_marks a seal place stored = search rules
+
+pub IsSealStored-set_meta : (g : Shape) (lines : List Line) (x : ℕ) (line : Line) (marks : List Mark) (a : ℕ)
+    → a < data_lines g → IsSealStored g lines marks a → IsSealStored g (slice_set lines (meta_line g x) line) marks a
+IsSealStored-set_meta g lines x line marks a h = search rules
+
+-- ---- one line is sealed: the lines once its group is written
+
+pub length-sealed_lines : (g : Shape) (lines : List Line) (a : ℕ) (seal : SealOf)
+    → length (sealed_lines g lines a seal) ≡ length lines
+length-sealed_lines g lines a seal = search rules
+
+line_at-sealed_lines_data : (g : Shape) (lines : List Line) (a : ℕ) (seal : SealOf) → a < data_lines g
+    → a < length lines → line_at (sealed_lines g lines a seal) a ≡ seal.cipher
+line_at-sealed_lines_data g lines a seal h within = search rules
+
+line_at-sealed_lines_tag : (g : Shape) (lines : List Line) (a : ℕ) (seal : SealOf)
+    → tag_line g a < length lines
+    → line_at (sealed_lines g lines a seal) (tag_line g a) ≡ with_tag (line_at lines (tag_line g a)) a seal.tag
+line_at-sealed_lines_tag g lines a seal within = search rules
+
+line_at-sealed_lines_other : (g : Shape) (lines : List Line) (a : ℕ) (seal : SealOf) (d : ℕ) → d ≢ a
+    → d ≢ tag_line g a → line_at (sealed_lines g lines a seal) d ≡ line_at lines d
+line_at-sealed_lines_other g lines a seal d h h' = search rules
+
+-- what the sealed line's seal needs of the device: its lines are whole, and the tag has 16 bytes
+pub record IsSealable (g : Shape) (lines : List Line) (a : ℕ) (seal : SealOf) : Type 0 where
+  pub whole : AreLinesOf (device_lines g) lines
+  pub its_line : a < data_lines g
+  pub its_tag : length seal.tag ≡ 16
+
+tag_within : (g : Shape) (lines : List Line) (a : ℕ) (seal : SealOf) → IsSealable g lines a seal
+    → tag_line g a < length lines
+tag_within g lines a seal it = omega (arith, it.whole.count, tag_on_device g a it.its_line)
+
+tag_line_long : (g : Shape) (lines : List Line) (a : ℕ) (seal : SealOf) → IsSealable g lines a seal
+    → length (line_at lines (tag_line g a)).0 ≡ 64
+tag_line_long g lines a seal it = line_at-long (device_lines g) lines (tag_line g a) it.whole
+
+-- the sealed line's own seal is stored, whatever stood there before
+pub IsSealStored-sealed_here : (g : Shape) (lines : List Line) (marks : List Mark) (a : ℕ) (seal : SealOf)
+    → IsSealable g lines a seal → last_seal marks a ≡ Some seal → IsSealStored g (sealed_lines g lines a seal) marks a
+IsSealStored-sealed_here g lines marks a seal it here = grind (arith, common_steps)
+
+-- every other line's data line and tag slot are as they were
+pub IsPlaceKept-sealed : (g : Shape) (lines : List Line) (a : ℕ) (seal : SealOf) (b : ℕ) → IsSealable g lines a seal
+    → b < data_lines g → b ≢ a → IsPlaceKept g lines (sealed_lines g lines a seal) b
+IsPlaceKept-sealed g lines a seal b it hb other =
+    record {
+      its_line = line_at-sealed_lines_other g lines a seal b other (tag_line≢data g b a hb);
+      slot = slot_of_other (cases_eq (tag_line g b) (tag_line g a));
+    }
+  where
+    slot_of_other : (tag_line g b ≡ tag_line g a) ⊎ (tag_line g b ≡ tag_line g a → ⊥)
+        → tag_slot (line_at (sealed_lines g lines a seal) (tag_line g b)) b
+        ≡ tag_slot (line_at lines (tag_line g b)) b
+    slot_of_other (inl one_line) =
+        ap (λ d. tag_slot (line_at (sealed_lines g lines a seal) d) b) one_line
+        ∙ ap (λ l. tag_slot l b) (line_at-sealed_lines_tag g lines a seal (tag_within g lines a seal it))
+        ∙ tag_slot-with_other (line_at lines (tag_line g a)) a b seal.tag (tag_line_long g lines a seal it) it.its_tag
+        (λ e. other (omega (arith, e, one_line)))
+        ∙ ap (λ d. tag_slot (line_at lines d) b) (sym one_line)
+    slot_of_other (inr apart) =
+        ap (λ l. tag_slot l b)
+        (line_at-sealed_lines_other g lines a seal (tag_line g b)
+        (λ e. tag_line≢data g a b it.its_line (sym e)) apart)
+
+pub IsSealStored-sealed_elsewhere : (g : Shape) (lines : List Line) (old new : List Mark) (a : ℕ) (seal : SealOf)
+    (b : ℕ) → IsSealable g lines a seal → b < data_lines g → b ≢ a → last_seal new b ≡ last_seal old b
+    → IsSealStored g lines old b → IsSealStored g (sealed_lines g lines a seal) new b
+IsSealStored-sealed_elsewhere g lines old new a seal b it hb other same =
+    IsSealStored-kept g lines (sealed_lines g lines a seal) old new b same
+    (IsPlaceKept-sealed g lines a seal b it hb other)
+
+-- each line's seal is stored once the group of the sealed line is written, where it was before
+pub IsSealStored-sealed : (g : Shape) (lines : List Line) (old new : List Mark) (a : ℕ) (seal : SealOf) (b : ℕ)
+    → IsSealable g lines a seal → SealsOne (data_lines g) old new a seal → b < data_lines g
+    → IsSealStored g lines old b → IsSealStored g (sealed_lines g lines a seal) new b
+IsSealStored-sealed g lines old new a seal b it one hb stored =
+    elim (cases_eq b a) [
+      | inl same ↦
+          subst (λ c. IsSealStored g (sealed_lines g lines a seal) new c) (sym same)
+          (IsSealStored-sealed_here g lines new a seal it one.here)
+      | inr other ↦
+          IsSealStored-sealed_elsewhere g lines old new a seal b it hb other (one.elsewhere b hb other) stored
+    ]
+
+pub stored_meta-sealed_lines : (g : Shape) (lines : List Line) (a : ℕ) (seal : SealOf) (x : ℕ) → a < data_lines g
+    → stored_meta g (sealed_lines g lines a seal) x ≡ stored_meta g lines x
+stored_meta-sealed_lines g lines a seal x h = search rules
+
+pub shadow_of-sealed_lines : (g : Shape) (lines : List Line) (a : ℕ) (seal : SealOf) → a < data_lines g
+    → shadow_of g (sealed_lines g lines a seal) ≡ shadow_of g lines
+shadow_of-sealed_lines g lines a seal h =
+    shadow_of-set_before g (slice_set lines a seal.cipher) (tag_line g a) _ (tag_before_shadow g a h)
+    ∙ shadow_of-set_before g lines a seal.cipher (data_before_shadow g a h)
+
+pub is_named-sealed_lines : (g : Shape) (lines : List Line) (a : ℕ) (seal : SealOf) (x : ℕ) → a < data_lines g
+    → is_named g (sealed_lines g lines a seal) x ≡ is_named g lines x
+is_named-sealed_lines g lines a seal x h =
+    ap (λ shadow. is_named_in g shadow (level_of x) x) (shadow_of-sealed_lines g lines a seal h)

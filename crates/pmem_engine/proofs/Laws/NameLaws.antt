@@ -1,0 +1,202 @@
+-- Shadow entries and dirty blocks: what a sound engine's mirror names, and a shadow line is written.
+use Rattle.std.proofs.lemmas.Grind.{common_steps}
+use Rattle.std.proofs.Common.{arith, rules, ◌≡◌, ℕ, ◌+◌, ◌<◌, true, false, List, sym, ap, subst, subst₂, ◌∙◌, ◌⊎◌, inl, inr}
+use Rattle.std.specs.Prelude.{IsTrue, slice_set}
+use Rattle.std.specs.List.{All, Contains}
+use Rattle.std.proofs.lemmas.Bool.{cases_eq, cases_Bool}
+use Rattle.pmem_base.specs.declared.lines.Line.{Line}
+use Rattle.pmem_base.specs.declared.registers.Regs.{Regs}
+use Rattle.pmem_base.specs.Shape.{Shape}
+use Rattle.pmem_base.specs.Layout.{device_lines, meta_lines, shadow_line}
+use Rattle.pmem_base.specs.Lines.{line_at, IsLine}
+use Rattle.bonsai_tree.specs.Positions.{level_of, is_on_path}
+use Rattle.board.proofs.LineLemmas.{AreLinesOf-set}
+use Rattle.seal_ledger.specs.Ledger.{LedgerState}
+use Rattle.shadow_tables.specs.Entries.{slot_entry, is_named_in, shadow_of}
+use Rattle.shadow_tables.specs.Naming.{Names}
+use Rattle.shadow_tables.proofs.EntryLemmas.{is_named_in-slot}
+use Rattle.shadow_tables.proofs.ShadowLines.{shadow_of-set}
+use Rattle.meta_cache.specs.declared.slot.Slot.{Slot}
+use Rattle.meta_cache.specs.Banks.{Banks, set_of, set_index, slot_number, is_cached_dirty, IsInPlace, IsBanksOf}
+use Rattle.meta_cache.proofs.SlotLemmas.{All-stands, All-from_stands, dirty_slot, cached_slot, same_slot, in_place_of, slot_number_within}
+use Rattle.suite.specs.Setup.{Setup}
+use Rattle.pmem_engine.specs.Engine.{EngineState}
+use Rattle.pmem_engine.specs.Invariants.{IsTrusted, stored_meta, is_named, IsMendable, IsDirtyNamed, IsSound}
+use Rattle.pmem_engine.specs.Steps.{IsPathNamed}
+use Rattle.pmem_engine.specs.Recached.{IsMirrorWritten, IsPathInCache}
+use Rattle.pmem_engine.specs.Named.{slot_line, IsSlotInShadow, ArePathSlotsNamed, AreNodeSlotsNamed}
+use Rattle.pmem_engine.proofs.Laws.DeviceRegions.{stored_meta-set_shadow}
+use Rattle.pmem_engine.proofs.Laws.GroupLaws.{IsMendable-unarmed, IsDurable-unarmed}
+
+-- ---- a slot whose entry names it
+
+-- a position whose slot is named is named
+pub is_named-slot : (g : Shape) (cache : Banks) (shadow : List Line) (bank set : ℕ) (slot : Slot)
+    → IsBanksOf g cache → Contains (set_of cache bank set) slot → IsSlotInShadow g shadow bank set slot
+    → is_named_in g shadow bank slot.position ≡ true
+is_named-slot g cache shadow bank set slot form stands named =
+    let place : IsInPlace g bank set slot = in_place_of g cache bank set slot form stands in
+    is_named_in-slot g shadow bank (slot_number g set slot) slot.position place.its_bank
+    (slot_number_within g set slot place.its_set place.its_way) named
+
+-- a block that isn't true on the device is cached dirty, and so named
+pub true_or_named_from_sound : (g : Shape) (cache : Banks) (lines truth : List Line) → IsBanksOf g cache
+    → ((x : ℕ) → x < meta_lines g → is_cached_dirty g cache (level_of x) x ≡ false
+    → stored_meta g lines x ≡ line_at truth x)
+    → ((bank set : ℕ) → All (IsDirtyNamed g (shadow_of g lines) bank set) (set_of cache bank set))
+    → (x : ℕ) → x < meta_lines g
+    → (stored_meta g lines x ≡ line_at truth x) ⊎ IsTrue (is_named g lines x)
+true_or_named_from_sound g cache lines truth form stored named x h =
+    elim (cases_Bool (is_cached_dirty g cache (level_of x) x)) [
+      | inl dirty ↦ inr (by_slot (dirty_slot g cache (level_of x) x dirty))
+      | inr clean ↦ inl (stored x h clean)
+    ]
+  where
+    by_slot : ((slot : Slot) × Contains (set_of cache (level_of x) (set_index g x)) slot × (slot.position ≡ x)
+        × (slot.dirty ≡ true)) → is_named g lines x ≡ true
+    by_slot s =
+        ap (is_named_in g (shadow_of g lines) (level_of x)) (sym s.2)
+        ∙ is_named-slot g cache (shadow_of g lines) (level_of x) (set_index g x) s.0 form s.1
+        (All-stands (IsDirtyNamed g (shadow_of g lines) (level_of x) (set_index g x))
+        (set_of cache (level_of x) (set_index g x)) s.0 (named (level_of x) (set_index g x)) s.1 s.3)
+
+-- ---- a slot's entry comes to name its position
+
+-- every slot of the cache that was named still is
+pub IsSlotNamed-kept : (g : Shape) (cache : Banks) (old new : List Line) (bank set : ℕ) (slot : Slot)
+    (bank' set' : ℕ) (other : Slot) → IsBanksOf g cache → Contains (set_of cache bank set) slot
+    → Contains (set_of cache bank' set') other
+    → Names g old new bank (slot_number g set slot) slot.position → IsSlotInShadow g old bank' set' other
+    → IsSlotInShadow g new bank' set' other
+IsSlotNamed-kept g cache old new bank set slot bank' set' other form stands stands' names named =
+    by_cases (cases_eq bank bank') (cases_eq (slot_number g set slot) (slot_number g set' other))
+  where
+    place' : IsInPlace g bank' set' other
+    place' = in_place_of g cache bank' set' other form stands'
+
+    apart : ((bank' ≡ bank) × (slot_number g set' other ≡ slot_number g set slot) → ⊥)
+        → IsSlotInShadow g new bank' set' other
+    apart differ =
+        names.others bank' (slot_number g set' other)
+        (slot_number_within g set' other place'.its_set place'.its_way) differ
+        ∙ named
+
+    one : bank ≡ bank' → slot_number g set slot ≡ slot_number g set' other → IsSlotInShadow g new bank' set' other
+    one banks numbers =
+        let same : slot ≡ other = same_slot g cache bank set bank' set' slot other form stands stands' banks numbers in
+        subst₂ (λ b n. slot_entry g new b n ≡ other.position + 1) banks numbers
+        (names.entry ∙ ap (λ (s : Slot). s.position + 1) same)
+
+    by_cases : (bank ≡ bank') ⊎ (bank ≡ bank' → ⊥)
+        → (slot_number g set slot ≡ slot_number g set' other)
+        ⊎ (slot_number g set slot ≡ slot_number g set' other → ⊥)
+        → IsSlotInShadow g new bank' set' other
+    by_cases (inr banks) numbers = apart (λ e. banks (sym e.0))
+    by_cases (inl banks) (inr numbers) = apart (λ e. numbers (sym e.1))
+    by_cases (inl banks) (inl numbers) = one banks numbers
+
+-- ---- the law: a shadow line is written
+
+-- an engine of the same cache, shape and state is trusted as well
+pub IsTrusted-same_cache : (setup : Setup) (old new : EngineState) (regs : Regs) (ledger : LedgerState)
+    → new.shape ≡ old.shape → new.cache ≡ old.cache → new.down ≡ old.down
+    → IsTrusted setup old regs ledger → IsTrusted setup new regs ledger
+IsTrusted-same_cache setup old new regs ledger shape cache down trusted = search rules
+
+-- the engine stays trusted while its mirror is written, whatever the device holds
+pub IsTrusted-named : (setup : Setup) (old new : EngineState) (regs : Regs) (ledger : LedgerState) (n : ℕ)
+    (line : Line) → IsMirrorWritten old new n line → IsTrusted setup old regs ledger
+    → IsTrusted setup new regs ledger
+IsTrusted-named setup old new regs ledger n line written = search rules
+
+-- the other parts of what recovery rests on don't see a shadow line
+pub IsMendable-set_shadow : (setup : Setup) (lines : List Line) (n : ℕ) (line : Line) (regs : Regs)
+    (ledger : LedgerState)
+    → ((x : ℕ) → x < meta_lines setup.shape
+    → (stored_meta setup.shape (slice_set lines (shadow_line setup.shape n) line) x ≡ line_at ledger.truth x)
+    ⊎ IsTrue (is_named setup.shape (slice_set lines (shadow_line setup.shape n) line) x))
+    → IsMendable setup lines regs ledger
+    → IsMendable setup (slice_set lines (shadow_line setup.shape n) line) regs ledger
+IsMendable-set_shadow setup lines n line regs ledger true_or_named before = grind (arith, common_steps)
+
+-- A cached block's shadow line is written, so that its slot's entry names it: Sound stays, with the new
+-- mirror, and with it Durable.
+pub IsSound-named : (setup : Setup) (old new : EngineState) (lines : List Line) (regs : Regs)
+    (ledger : LedgerState) (bank set : ℕ) (slot : Slot) (line : Line) → IsSound setup old lines regs ledger
+    → IsBanksOf setup.shape old.cache → Contains (set_of old.cache bank set) slot
+    → Names setup.shape old.mirror new.mirror bank (slot_number setup.shape set slot) slot.position → IsLine line
+    → IsMirrorWritten old new (slot_line setup.shape bank set slot) line
+    → IsSound setup new (slice_set lines (shadow_line setup.shape (slot_line setup.shape bank set slot)) line) regs
+    ledger
+IsSound-named setup old new lines regs ledger bank set slot line sound form stands names good written =
+    record {
+      trusted = IsTrusted-named setup old new regs ledger (slot_line setup.shape bank set slot) line written sound.trusted;
+      durable =
+          IsDurable-unarmed setup after regs ledger
+          (AreLinesOf-set (device_lines setup.shape) lines
+          (shadow_line setup.shape (slot_line setup.shape bank set slot)) line sound.durable.device_whole good)
+          sound.trusted.no_group
+          (IsMendable-set_shadow setup lines (slot_line setup.shape bank set slot) line regs ledger
+          (true_or_named_from_sound setup.shape old.cache after ledger.truth form stored named_on_board)
+          (IsMendable-unarmed setup lines regs ledger sound.durable sound.trusted.no_group));
+      true_unless_dirty =
+          search rules;
+      dirty_named =
+          subst
+          (λ banks. (bank set : ℕ) → All (IsDirtyNamed setup.shape new.mirror bank set) (set_of banks bank set))
+          (sym written.cache) named;
+      mirror_true = shadow_now;
+    }
+  where
+    after : List Line
+    after = slice_set lines (shadow_line setup.shape (slot_line setup.shape bank set slot)) line
+
+    shadow_now : new.mirror ≡ shadow_of setup.shape after
+    shadow_now =
+        written.mirror
+        ∙ ap (λ mirror. slice_set mirror (slot_line setup.shape bank set slot) line) sound.mirror_true
+        ∙ sym (shadow_of-set setup.shape lines (slot_line setup.shape bank set slot) line)
+
+    stored : (x : ℕ) → x < meta_lines setup.shape
+        → is_cached_dirty setup.shape old.cache (level_of x) x ≡ false
+        → stored_meta setup.shape after x ≡ line_at ledger.truth x
+    stored x h clean =
+        stored_meta-set_shadow setup.shape lines (slot_line setup.shape bank set slot) line x h
+        ∙ sound.true_unless_dirty x h clean
+
+    named : (bank' set' : ℕ) → All (IsDirtyNamed setup.shape new.mirror bank' set') (set_of old.cache bank' set')
+    named bank' set' =
+        All-from_stands (IsDirtyNamed setup.shape new.mirror bank' set') (set_of old.cache bank' set')
+        (λ other stands' dirty.
+        IsSlotNamed-kept setup.shape old.cache old.mirror new.mirror bank set slot bank' set' other form stands
+        stands' names
+        (All-stands (IsDirtyNamed setup.shape old.mirror bank' set') (set_of old.cache bank' set') other
+        (sound.dirty_named bank' set') stands' dirty))
+
+    named_on_board : (bank' set' : ℕ)
+        → All (IsDirtyNamed setup.shape (shadow_of setup.shape after) bank' set') (set_of old.cache bank' set')
+    named_on_board =
+        subst
+        (λ mirror. (bank' set' : ℕ)
+        → All (IsDirtyNamed setup.shape mirror bank' set') (set_of old.cache bank' set'))
+        shadow_now named
+
+-- ---- a path whose slots are named
+
+pub node_slots_named : (g : Shape) (cache : Banks) (shadow : List Line) (page : ℕ)
+    → ArePathSlotsNamed g cache shadow page → AreNodeSlotsNamed g cache shadow page
+node_slots_named g cache shadow page named = search rules
+
+-- a path that is cached, with its slots named, is named on the device
+pub IsPathNamed_from_slots : (g : Shape) (cache : Banks) (lines : List Line) (page : ℕ) → IsBanksOf g cache
+    → IsPathInCache g cache page → ArePathSlotsNamed g cache (shadow_of g lines) page → IsPathNamed g lines page
+IsPathNamed_from_slots g cache lines page form cached named =
+    record { each = λ x h on. by_slot x on (cached_slot g cache (level_of x) x (cached.each x h on)) }
+  where
+    by_slot : (x : ℕ) → is_on_path g page x ≡ true
+        → ((slot : Slot) × Contains (set_of cache (level_of x) (set_index g x)) slot × (slot.position ≡ x))
+        → is_named g lines x ≡ true
+    by_slot x on s =
+        ap (is_named_in g (shadow_of g lines) (level_of x)) (sym s.2)
+        ∙ is_named-slot g cache (shadow_of g lines) (level_of x) (set_index g x) s.0 form s.1
+        (named.each (level_of x) (set_index g x) s.0 s.1 (ap (is_on_path g page) s.2 ∙ on))

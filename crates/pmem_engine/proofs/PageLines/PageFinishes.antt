@@ -1,0 +1,499 @@
+-- The lines of a page sealed anew one after the other: the first of them, one more, all, or not all.
+use Rattle.std.proofs.Common.{rules, ℕ, ◌≡◌, ◌<◌, ◌≤◌, ◌+◌, ◌*◌, ◌++◌, ◌⊎◌, inl, inr, false, List, [], ◌∷◌, length, map, get_or, Some, IsTrue, Result, Ok, Err, refl, sym, ap, subst, ◌∙◌, arith}
+use Rattle.std.specs.Prelude.{◌||◌, slice_get}
+use Rattle.std.proofs.lemmas.Bool.{cases_Bool, true≢false, false≢true, eq-eqb}
+use Rattle.std.proofs.lemmas.List.{append_assoc, append-nil, map-append, length-append, length-map}
+use Rattle.pmem_base.specs.declared.answers.Mark.{Mark}
+use Rattle.pmem_base.specs.Layout as layout
+use Rattle.pmem_base.specs.Lines.{line_at}
+use Rattle.pmem_base.specs.Registers.{not_done, empty_progress, IsValidRegs}
+use Rattle.board.specs.Device.{Device}
+use Rattle.page_reencrypt.specs.Registers.{register_of, register_held, registers_with_done}
+use Rattle.suite.specs.Setup.{Setup}
+use Rattle.plain_model.specs.State.{Memory}
+use Rattle.plain_model.specs.Asked.{reseal_mark, seal_mark}
+use Rattle.pmem_engine.specs.declared.fault.Fault.{Fault}
+use Rattle.pmem_engine.specs.declared.fault.Fault.TheVariants as Fail
+use Rattle.pmem_engine.specs.Sealed.{sealed_counter}
+use Rattle.pmem_engine.specs.Parts.{Parts, regs_of, AreTrusted, HoldsSeal}
+use Rattle.pmem_engine.specs.Outcomes.{going, outcome_of_fault, is_sealed_by, OneLossEffect, TakesSteps}
+use Rattle.pmem_engine.specs.Calls.{IsUsable, IsMemory, IsDownAnswer, IsUnrefused, moment_in}
+use Rattle.pmem_engine.specs.Still.{HasOnlyRead}
+use Rattle.pmem_engine.specs.Resealing.{register_in, line_of_page, HasResealMarks, AnswersReseal, CountsReseal, HasResealed}
+use Rattle.pmem_engine.specs.Writing.{reseals_of, IsFrontOf, IsStoppedAt, HasFinishMarks, AnswersFinish, CountsFinish, HasFinishedPage}
+use Rattle.pmem_engine.specs.Finishing.{IsStillOpen, IsClosed, HasLeft, HasResealedFirst}
+use Rattle.pmem_engine.proofs.CallEnds.CallChains.{done_chained, sealed_by_either, going_unshown}
+use Rattle.pmem_engine.proofs.CallEnds.StillParts.{done_reading}
+use Rattle.pmem_engine.proofs.Laws.AskedCounters.{asked-held}
+use Rattle.pmem_engine.proofs.CallEnds.UsableParts.{usable_after}
+use Rattle.pmem_engine.proofs.PostedWrites.WriteParts.{held_back}
+use Rattle.pmem_engine.proofs.PageLines.LeftPlaces.{first_and_rest, line_held, others_kept, one_less, page_closed, as_many, page_stays, places_left, place_small}
+
+-- what the lines sealed by either part held before
+sealed_before_both : (setup : Setup) (made more : List Mark) (old mid : Parts) → OneLossEffect setup going made old mid
+    → AreTrusted setup old → (a : ℕ) → a < layout.data_lines setup.shape
+    → (IsTrue (is_sealed_by made a) → HoldsSeal setup.shape old a)
+    → (IsTrue (is_sealed_by more a) → HoldsSeal setup.shape mid a)
+    → IsTrue (is_sealed_by (made ++ more) a) → HoldsSeal setup.shape old a
+sealed_before_both setup made more old mid done trusted a within first second by =
+    elim (cases_Bool (is_sealed_by made a)) [
+      | inl sealed ↦ first sealed
+      | inr never ↦
+          held_back setup going made old mid done trusted a within never
+          (elim (sealed_by_either made more a by) [
+            | inl sealed ↦ absurd (true≢false (sym sealed ∙ never))
+            | inr sealed ↦ second sealed
+          ])
+    ]
+
+-- ---- none sealed yet
+
+left_at_first : (old : Parts) (n : ℕ) (left : List ℕ) → not_done (register_in old n) ≡ left → 0 < length left
+    → HasLeft old old n left
+left_at_first old n v2 is some = search rules
+
+pub same_parts : (setup : Setup) (old : Parts) → HasOnlyRead old old
+same_parts setup old = search rules
+
+pub first_none : (setup : Setup) (n : ℕ) (old : Parts) → IsValidRegs setup.shape (regs_of old)
+    → n < length (regs_of old).progress.items → HasResealedFirst setup n 0 old old
+first_none setup n old valid inside =
+    record {
+      made = [];
+      sealed = [];
+      left = not_done (register_in old n);
+      places = refl;
+      count = refl;
+      few = omega arith;
+      done = done_reading setup old old (same_parts setup old);
+      marks = λ trusted memory was. refl;
+      memory_kept = λ trusted memory was. was;
+      sealed_before = λ trusted a within by. absurd (true≢false (sym by));
+      registers =
+          left_at_first old n (not_done (register_in old n)) refl (valid.each_page n empty_progress inside).some_left;
+      others = λ page none. none;
+      metadata = λ trusted x within. refl;
+      steps = record { writes = omega arith; latches = omega arith; sum = λ one two. omega arith };
+      engine = refl;
+      truth = refl;
+      root = refl;
+      digests = refl;
+    }
+
+-- ---- one more
+
+-- a line's next seal is asked under the same counter as long as its register holds it
+reseal_same : (setup : Setup) (memory : Memory) (n i : ℕ) (old new : Parts) → AreTrusted setup old → AreTrusted setup new
+    → new.ledger.truth ≡ old.ledger.truth → (register_in new n).page ≡ (register_in old n).page
+    → line_of_page (register_in old n) i < layout.data_lines setup.shape
+    → register_held (regs_of old).progress.items (line_of_page (register_in old n) i) ≡ Some (register_in old n)
+    → register_held (regs_of new).progress.items (line_of_page (register_in new n) i) ≡ Some (register_in new n)
+    → reseal_mark setup.formulas (moment_in setup memory new) (register_in new n).page i
+    ≡ reseal_mark setup.formulas (moment_in setup memory old) (register_in old n).page i
+reseal_same setup memory n i old new was now truth page within held_was held_now =
+    ap (λ p. reseal_mark setup.formulas (moment_in setup memory new) p i) page
+    ∙ ap (λ ctr. seal_mark setup.formulas at ctr (line_at memory at))
+    (asked-held setup (regs_of new) new.ledger now.anchored at 0 (register_in new n) within
+    (ap (λ p. register_held (regs_of new).progress.items (64 * p + i)) (sym page) ∙ held_now)
+    ∙ ap (λ t. sealed_counter setup.shape t at 0) truth
+    ∙ sym (asked-held setup (regs_of old) old.ledger was.anchored at 0 (register_in old n) within held_was))
+  where
+    at : ℕ
+    at = line_of_page (register_in old n) i
+
+steps_more : (n m : ℕ) (old mid new : Device) → TakesSteps n old mid → TakesSteps m mid new → TakesSteps (n + m) old new
+steps_more n m old mid new first second = search rules
+
+-- the mark asked of the line at a place of the register's page
+abbrev asked_of : Setup → ℕ → Parts → Memory → ℕ → Mark
+asked_of setup n old memory i = reseal_mark setup.formulas (moment_in setup memory old) (register_in old n).page i
+
+-- what is known before the next reseal
+module _ (setup : Setup) (n number : ℕ) (old mid : Parts) (valid : IsValidRegs setup.shape (regs_of old))
+    (inside : n < length (regs_of old).progress.items) (first : HasResealedFirst setup n number old mid)
+    (some : number < length (not_done (register_in old n))) where
+  total : length first.left + number ≡ length (not_done (register_in old n))
+  total =
+      let all = ap length first.places ∙ length-append first.sealed first.left in
+      let count = first.count in
+      omega (arith, all, count)
+
+  open_by : (left : List ℕ) → 0 < length left → HasLeft old mid n left → IsStillOpen old mid n left
+  open_by v0 more it = search rules
+
+  pub still_open : IsStillOpen old mid n first.left
+  still_open = open_by first.left (let all = total in omega (arith, all, some)) first.registers
+
+  pub inside_now : n < length (regs_of mid).progress.items
+  inside_now = let same = still_open.as_many in omega (arith, same, inside)
+
+  valid_now : IsValidRegs setup.shape (regs_of mid)
+  valid_now = first.done.gone.valid valid
+
+  -- the next one was done or not
+  module _ (new : Parts) (answer : Result (ℕ × ℕ) Fault) (it : HasResealed setup n mid new answer) where
+    abbrev next_left : (rest : List ℕ) × (first.left ≡ it.place ∷ rest)
+    next_left = first_and_rest first.left it.place (ap (λ places. slice_get places 0) (sym still_open.places) ∙ it.lowest)
+
+    abbrev rest : List ℕ
+    rest = next_left.0
+
+    left_is : first.left ≡ it.place ∷ rest
+    left_is = next_left.1
+
+    places_now : not_done (register_in mid n) ≡ it.place ∷ rest
+    places_now = still_open.places ∙ left_is
+
+    places_before : not_done (register_in old n) ≡ first.sealed ++ it.place ∷ rest
+    places_before = first.places ∙ ap (λ xs. first.sealed ++ xs) left_is
+
+    small : it.place < 64
+    small =
+        place_small (regs_of old).progress.items n it.place first.sealed rest valid.distinct_pages inside places_before
+
+    at_is : line_of_page (register_in mid n) it.place ≡ line_of_page (register_in old n) it.place
+    at_is = ap (λ p. 64 * p + it.place) still_open.same_page
+
+    within : line_of_page (register_in old n) it.place < layout.data_lines setup.shape
+    within =
+        let page = (valid.each_page n empty_progress inside).its_page in
+        let below = small in
+        omega (arith, page, below)
+
+    same_mark : AreTrusted setup old → (memory : Memory)
+        → reseal_mark setup.formulas (moment_in setup memory mid) (register_in mid n).page it.place ≡ asked_of setup n old memory it.place
+    same_mark trusted memory =
+        reseal_same setup memory n it.place old mid trusted (first.done.gone.trusted trusted) first.truth still_open.same_page
+        within
+        (line_held (regs_of old).progress.items n it.place first.sealed rest valid.distinct_pages inside places_before)
+        (line_held (regs_of mid).progress.items n it.place [] rest valid_now.distinct_pages inside_now places_now)
+
+    all_asked : AreTrusted setup old → (memory : Memory) → IsMemory setup memory old
+        → reseals_of setup.formulas (moment_in setup memory old) (register_in old n)
+        ≡ first.made ++ asked_of setup n old memory it.place ∷ map (asked_of setup n old memory) rest
+    all_asked trusted memory was =
+        ap (map (asked_of setup n old memory)) places_before
+        ∙ map-append (asked_of setup n old memory) first.sealed (it.place ∷ rest)
+        ∙ ap (λ ms. ms ++ asked_of setup n old memory it.place ∷ map (asked_of setup n old memory) rest) (sym (first.marks trusted memory was))
+
+    sealed_of_both : AreTrusted setup old → (a : ℕ) → a < layout.data_lines setup.shape
+        → IsTrue (is_sealed_by (first.made ++ it.made) a) → HoldsSeal setup.shape old a
+    sealed_of_both trusted a below by =
+        sealed_before_both setup first.made it.made old mid first.done trusted a below
+        (λ sealed. first.sealed_before trusted a below sealed)
+        (λ sealed. it.sealed_before (first.done.gone.trusted trusted) a below sealed) by
+
+    few_of_both : length (first.made ++ it.made) ≤ number + 1
+    few_of_both =
+        let both = length-append first.made it.made in
+        let one = first.few in
+        let two = it.few in
+        omega (arith, both, one, two)
+
+-- the parts are usable still
+pub still_usable : (setup : Setup) (n number : ℕ) (old mid : Parts) → HasResealedFirst setup n number old mid
+    → old.engine.down ≡ false → IsUsable setup.shape old.engine old.device old.ledger
+    → IsUsable setup.shape mid.engine mid.device mid.ledger
+still_usable setup n number old mid first up usable =
+    usable_after setup going first.made old mid first.done.gone
+    (ap (λ engine. engine.down) first.engine ∙ up ∙ sym (ap (λ b. b || false) up)) usable
+
+-- the next line was sealed anew
+module _ (setup : Setup) (n number : ℕ) (old mid new : Parts) (valid : IsValidRegs setup.shape (regs_of old))
+    (inside : n < length (regs_of old).progress.items) (first : HasResealedFirst setup n number old mid)
+    (some : number < length (not_done (register_in old n))) (sealed : ℕ × ℕ) (it : HasResealed setup n mid new (Ok sealed)) where
+  abbrev after : List ℕ
+  after = rest setup n number old mid valid inside first some new (Ok sealed) it
+
+  mid_valid : IsValidRegs setup.shape (regs_of mid)
+  mid_valid = first.done.gone.valid valid
+
+  mid_inside : n < length (regs_of mid).progress.items
+  mid_inside = inside_now setup n number old mid valid inside first some
+
+  mid_places : not_done (register_in mid n) ≡ it.place ∷ after
+  mid_places = places_now setup n number old mid valid inside first some new (Ok sealed) it
+
+  mid_page : (register_in mid n).page ≡ (register_in old n).page
+  mid_page = (still_open setup n number old mid valid inside first some).same_page
+
+  mid_count : length (regs_of mid).progress.items ≡ length (regs_of old).progress.items
+  mid_count = (still_open setup n number old mid valid inside first some).as_many
+
+  line_done : (regs_of new).progress.items
+      ≡ registers_with_done (regs_of mid).progress.items (line_of_page (register_in mid n) it.place)
+  line_done = it.line_sealed.line_done.progress
+
+  has_left : (left : List ℕ) → after ≡ left → HasLeft old new n left
+  has_left [] none =
+      record {
+        gone =
+            ap (register_of (regs_of new).progress.items) (sym mid_page)
+            ∙ ap (λ items. register_of items (register_in mid n).page) line_done
+            ∙ page_closed setup.shape (regs_of mid).progress.items n it.place after mid_valid.each_page mid_valid.distinct_pages
+            mid_inside mid_places none;
+        one_less =
+            ap (λ items. length items + 1) line_done
+            ∙ one_less setup.shape (regs_of mid).progress.items n it.place after mid_valid.each_page mid_valid.distinct_pages
+            mid_inside mid_places none
+            ∙ mid_count;
+      }
+  has_left (j ∷ left) more =
+      let some_left : 0 < length after = subst (λ l. 0 < length l) (sym more) (omega arith) in
+      record {
+        same_page =
+            ap (λ items. (get_or items n empty_progress).page) line_done
+            ∙ page_stays setup.shape (regs_of mid).progress.items n it.place after mid_valid.each_page mid_valid.distinct_pages
+            mid_inside mid_places some_left
+            ∙ mid_page;
+        places =
+            ap (λ items. not_done (get_or items n empty_progress)) line_done
+            ∙ places_left setup.shape (regs_of mid).progress.items n it.place after mid_valid.each_page mid_valid.distinct_pages
+            mid_inside mid_places some_left
+            ∙ more;
+        as_many =
+            ap length line_done
+            ∙ as_many setup.shape (regs_of mid).progress.items n it.place after mid_valid.each_page mid_valid.distinct_pages
+            mid_inside mid_places some_left
+            ∙ mid_count;
+      }
+
+  pub first_more : HasResealedFirst setup n (number + 1) old new
+  first_more =
+      record {
+        made = first.made ++ it.made;
+        sealed = first.sealed ++ it.place ∷ [];
+        left = after;
+        places =
+            places_before setup n number old mid valid inside first some new (Ok sealed) it
+            ∙ sym (append_assoc first.sealed (it.place ∷ []) after);
+        count = length-append first.sealed (it.place ∷ []) ∙ ap (λ k. k + 1) first.count;
+        few = few_of_both setup n number old mid valid inside first some new (Ok sealed) it;
+        done = done_chained setup going first.made it.made old mid new first.done it.done;
+        marks =
+            λ trusted memory was.
+            ap (λ ms. ms ++ it.made) (first.marks trusted memory was)
+            ∙ ap (λ ms. map (asked_of setup n old memory) first.sealed ++ ms)
+            (it.marks (first.done.gone.trusted trusted) memory (first.memory_kept trusted memory was)
+            ∙ ap (λ m. m ∷ []) (same_mark setup n number old mid valid inside first some new (Ok sealed) it trusted memory))
+            ∙ sym (map-append (asked_of setup n old memory) first.sealed (it.place ∷ []));
+        memory_kept =
+            λ trusted memory was.
+            it.memory_kept (first.done.gone.trusted trusted) memory (first.memory_kept trusted memory was);
+        sealed_before = sealed_of_both setup n number old mid valid inside first some new (Ok sealed) it;
+        registers = has_left after refl;
+        others =
+            λ page none.
+            ap (λ items. register_of items page) line_done
+            ∙ others_kept (regs_of mid).progress.items (line_of_page (register_in mid n) it.place) page (first.others page none);
+        metadata =
+            λ trusted x within.
+            it.metadata (first.done.gone.trusted trusted) x within ∙ first.metadata trusted x within;
+        steps =
+            subst (λ k. TakesSteps k old.device new.device) (omega arith)
+            (steps_more (4 * number) 4 old.device mid.device new.device first.steps it.counts.0);
+        engine = it.engine ∙ first.engine;
+        truth = it.truth going_unshown ∙ first.truth;
+        root = it.root ∙ first.root;
+        digests = it.digests ∙ first.digests;
+      }
+
+-- ---- not all
+
+undowned : (fault : Fault) → (IsDownAnswer {T = ℕ × ℕ} (Err fault) → ⊥) → IsDownAnswer {T = Unit} (Err fault) → ⊥
+undowned v0 never it = search rules
+
+unrefused_so : (fault : Fault) → IsUnrefused {T = ℕ × ℕ} (Err fault) → IsUnrefused {T = Unit} (Err fault)
+unrefused_so v0 it = search rules
+
+module _ (setup : Setup) (n number : ℕ) (old mid new : Parts) (valid : IsValidRegs setup.shape (regs_of old))
+    (inside : n < length (regs_of old).progress.items) (first : HasResealedFirst setup n number old mid)
+    (some : number < length (not_done (register_in old n))) (fault : Fault) (it : HasResealed setup n mid new (Err fault)) where
+  abbrev later : List ℕ
+  later = rest setup n number old mid valid inside first some new (Err fault) it
+
+  abbrev at_stop : ℕ
+  at_stop = line_of_page (register_in old n) it.place
+
+  stopped : AreTrusted setup old → (memory : Memory) → IsMemory setup memory old → it.made ≡ [] → (b : ℕ) → b ≡ at_stop
+      → IsStoppedAt (reseals_of setup.formulas (moment_in setup memory old) (register_in old n)) (first.made ++ it.made) b
+  stopped trusted memory was none b same =
+      record {
+        next = asked_of setup n old memory it.place;
+        later = map (asked_of setup n old memory) later;
+        front =
+            all_asked setup n number old mid valid inside first some new (Err fault) it trusted memory was
+            ∙ ap (λ ms. ms ++ asked_of setup n old memory it.place ∷ map (asked_of setup n old memory) later)
+            (sym (ap (λ ms. first.made ++ ms) none ∙ append-nil first.made));
+        its_line = eq-eqb at_stop b (sym same);
+      }
+
+  cut_front : AreTrusted setup old → (memory : Memory) → IsMemory setup memory old
+      → (it.made ≡ []) ⊎ (it.made ≡ asked_of setup n old memory it.place ∷ [])
+      → IsFrontOf (reseals_of setup.formulas (moment_in setup memory old) (register_in old n)) (first.made ++ it.made)
+  cut_front trusted memory was (inl none) =
+      record {
+        left = asked_of setup n old memory it.place ∷ map (asked_of setup n old memory) later;
+        front =
+            all_asked setup n number old mid valid inside first some new (Err fault) it trusted memory was
+            ∙ ap (λ ms. ms ++ asked_of setup n old memory it.place ∷ map (asked_of setup n old memory) later)
+            (sym (ap (λ ms. first.made ++ ms) none ∙ append-nil first.made));
+      }
+  cut_front trusted memory was (inr one) =
+      record {
+        left = map (asked_of setup n old memory) later;
+        front =
+            all_asked setup n number old mid valid inside first some new (Err fault) it trusted memory was
+            ∙ sym (append_assoc first.made (asked_of setup n old memory it.place ∷ []) (map (asked_of setup n old memory) later))
+            ∙ ap (λ ms. (first.made ++ ms) ++ map (asked_of setup n old memory) later) (sym one);
+      }
+
+  mid_trusted : AreTrusted setup old → AreTrusted setup mid
+  mid_trusted trusted = first.done.gone.trusted trusted
+
+  step_marks : AreTrusted setup old → (memory : Memory) → IsMemory setup memory old
+      → HasResealMarks setup.formulas (moment_in setup memory mid) (register_in mid n).page it.place it.made (Err fault)
+  step_marks trusted memory was = it.marks (mid_trusted trusted) memory (first.memory_kept trusted memory was)
+
+  step_says : AreTrusted setup old → AnswersReseal setup at_stop mid new (Err fault)
+  step_says trusted =
+      subst (λ a. AnswersReseal setup a mid new (Err fault))
+      (at_is setup n number old mid valid inside first some new (Err fault) it) (it.answered (mid_trusted trusted))
+
+  same_next : AreTrusted setup old → (memory : Memory)
+      → reseal_mark setup.formulas (moment_in setup memory mid) (register_in mid n).page it.place ≡ asked_of setup n old memory it.place
+  same_next trusted memory = same_mark setup n number old mid valid inside first some new (Err fault) it trusted memory
+
+  marks_so : (f : Fault) → AreTrusted setup old → (memory : Memory) → IsMemory setup memory old
+      → HasResealMarks setup.formulas (moment_in setup memory mid) (register_in mid n).page it.place it.made (Err f)
+      → AnswersReseal setup at_stop mid new (Err f)
+      → HasFinishMarks (reseals_of setup.formulas (moment_in setup memory old) (register_in old n)) (first.made ++ it.made) (Err f)
+  marks_so Fail.Cut trusted memory was (inl none) says = cut_front trusted memory was (inl none)
+  marks_so Fail.Cut trusted memory was (inr one) says =
+      cut_front trusted memory was (inr (one ∙ ap (λ m. m ∷ []) (same_next trusted memory)))
+  marks_so (Fail.Tag b) trusted memory was none says = stopped trusted memory was none b says.0
+  marks_so Fail.Shown trusted memory was none says = (at_stop, stopped trusted memory was none at_stop refl)
+  marks_so (Fail.Meta x) trusted memory was none says = none
+  marks_so (Fail.Spent page) trusted memory was none says = none
+  marks_so Fail.Down trusted memory was none says = none
+
+  says_so : (f : Fault) → AreTrusted setup old → (memory : Memory) → IsMemory setup memory old
+      → HasResealMarks setup.formulas (moment_in setup memory mid) (register_in mid n).page it.place it.made (Err f)
+      → AnswersReseal setup at_stop mid new (Err f)
+      → AnswersFinish setup (reseals_of setup.formulas (moment_in setup memory old) (register_in old n)) (first.made ++ it.made)
+      new (Err f)
+  says_so Fail.Cut trusted memory was marks says = tt
+  says_so (Fail.Tag b) trusted memory was marks says = says.1
+  says_so Fail.Shown trusted memory was none says =
+      record { at = at_stop; stopped = stopped trusted memory was none at_stop refl; forged = says }
+  says_so (Fail.Meta x) trusted memory was marks says = tt
+  says_so (Fail.Spent page) trusted memory was marks says = tt
+  says_so Fail.Down trusted memory was marks says = tt
+
+  made_number : AreTrusted setup old → (memory : Memory) → IsMemory setup memory old → it.made ≡ []
+      → number ≡ length (first.made ++ it.made)
+  made_number trusted memory was none =
+      let both = length-append first.made it.made in
+      let before = ap length (first.marks trusted memory was) ∙ length-map first.sealed (asked_of setup n old memory) in
+      let count = first.count in
+      let zero_more : length it.made ≡ 0 = ap length none in
+      omega (arith, both, before, count, zero_more)
+
+  steps_so : AreTrusted setup old → (memory : Memory) → IsMemory setup memory old → it.made ≡ []
+      → TakesSteps 0 mid.device new.device → TakesSteps (4 * length (first.made ++ it.made)) old.device new.device
+  steps_so trusted memory was none steps =
+      subst (λ k. TakesSteps k old.device new.device)
+      (let same = made_number trusted memory was none in omega (arith, same))
+      (steps_more (4 * number) 0 old.device mid.device new.device first.steps steps)
+
+  counts_so : (f : Fault) → AreTrusted setup old → (memory : Memory) → IsMemory setup memory old
+      → HasResealMarks setup.formulas (moment_in setup memory mid) (register_in mid n).page it.place it.made (Err f)
+      → CountsReseal mid new (Err f)
+      → CountsFinish (length (not_done (register_in old n))) (first.made ++ it.made) old new (Err f)
+  counts_so Fail.Cut trusted memory was marks counts =
+      record {
+        writes = let one = first.steps.writes in let two = counts.writes in omega (arith, one, two);
+        latches = let one = first.steps.latches in let two = counts.latches in omega (arith, one, two);
+        sum =
+            search rules;
+      }
+  counts_so (Fail.Tag b) trusted memory was none counts = steps_so trusted memory was none counts
+  counts_so Fail.Shown trusted memory was none counts = steps_so trusted memory was none counts
+  counts_so (Fail.Meta x) trusted memory was none counts = absurd none
+  counts_so (Fail.Spent page) trusted memory was none counts = absurd none
+  counts_so Fail.Down trusted memory was none counts = absurd none
+
+  pub unfinished : HasFinishedPage setup n old new (Err fault)
+  unfinished =
+      record {
+        made = first.made ++ it.made;
+        few =
+            let both = few_of_both setup n number old mid valid inside first some new (Err fault) it in
+            omega (arith, both, some);
+        done = done_chained setup (outcome_of_fault fault) first.made it.made old mid new first.done it.done;
+        marks = λ trusted memory was. marks_so fault trusted memory was (step_marks trusted memory was) (step_says trusted);
+        memory_kept =
+            λ trusted memory was. it.memory_kept (mid_trusted trusted) memory (first.memory_kept trusted memory was);
+        answered = λ trusted memory was. says_so fault trusted memory was (step_marks trusted memory was) (step_says trusted);
+        unrefused = λ sound. unrefused_so fault (it.unrefused (first.done.gone.sound sound));
+        not_down = undowned fault it.not_down;
+        sealed_before = sealed_of_both setup n number old mid valid inside first some new (Err fault) it;
+        closed = λ ok. absurd (false≢true ok);
+        one_less = λ ok. absurd (false≢true ok);
+        others = λ ok. absurd (false≢true ok);
+        metadata = λ trusted x within. it.metadata (mid_trusted trusted) x within ∙ first.metadata trusted x within;
+        counts = λ trusted memory was. counts_so fault trusted memory was (step_marks trusted memory was) it.counts;
+        engine = it.engine ∙ first.engine;
+        truth = λ unshown. it.truth unshown ∙ first.truth;
+        root = it.root ∙ first.root;
+        digests = it.digests ∙ first.digests;
+      }
+
+-- ---- all
+
+pub finished : (setup : Setup) (n number : ℕ) (old new : Parts) → HasResealedFirst setup n number old new
+    → length (not_done (register_in old n)) ≤ number → HasFinishedPage setup n old new (Ok tt)
+finished setup n number old new first whole =
+    record {
+      made = first.made;
+      few = let less = first.few in let all = total in let count = first.count in omega (arith, less, all, count);
+      done = first.done;
+      marks =
+          λ trusted memory was.
+          first.marks trusted memory was
+          ∙ ap (map (asked_of setup n old memory))
+          (sym (first.places ∙ ap (λ xs. first.sealed ++ xs) none_left ∙ append-nil first.sealed));
+      memory_kept = first.memory_kept;
+      answered = λ trusted memory was. tt;
+      unrefused = λ sound. tt;
+      not_down = λ it. it;
+      sealed_before = first.sealed_before;
+      closed = λ ok. closed.gone;
+      one_less = λ ok. closed.one_less;
+      others = λ ok page none. first.others page none;
+      metadata = first.metadata;
+      counts =
+          λ trusted memory was.
+          subst (λ k. TakesSteps k old.device new.device)
+          (let made = ap length (first.marks trusted memory was) ∙ length-map first.sealed (asked_of setup n old memory) in
+          let count = first.count in
+          omega (arith, made, count))
+          first.steps;
+      engine = first.engine;
+      truth = λ unshown. first.truth;
+      root = first.root;
+      digests = first.digests;
+    }
+  where
+    total : length (not_done (register_in old n)) ≡ length first.sealed + length first.left
+    total = ap length first.places ∙ length-append first.sealed first.left
+
+    no_places : (xs : List ℕ) → length xs ≡ 0 → xs ≡ []
+    no_places [] none = refl
+    no_places (x ∷ xs) none = absurd (omega (arith, none))
+
+    none_left : first.left ≡ []
+    none_left = no_places first.left (let all = total in let count = first.count in omega (arith, all, count, whole))
+
+    closed : IsClosed old new n
+    closed = subst (HasLeft old new n) none_left first.registers

@@ -1,0 +1,413 @@
+-- The exits of a reseal: its line isn't unsealed, its group is cut, or the line is sealed anew.
+use Rattle.std.proofs.Common.{rules, ℕ, ◌≡◌, ◌<◌, ◌≤◌, ◌+◌, ◌++◌, inl, inr, true, false, [], ◌∷◌, length, get_or, Some, Ok, Err, refl, sym, ap, ap₂, subst, subst₂, ◌∙◌, arith}
+use Rattle.std.specs.Prelude.{◌==◌, not, IfSome}
+use Rattle.std.proofs.lemmas.Bool.{true≢false, eq-eqb, and_from}
+use Rattle.std.proofs.lemmas.Option.{same_Some, get_or_from_slice_get}
+use Rattle.pmem_base.specs.declared.registers.Progress.{Progress}
+use Rattle.pmem_base.specs.declared.answers.Mark.{Mark}
+use Rattle.pmem_base.specs.declared.answers.Mark.TheVariants.{Seal}
+use Rattle.pmem_base.specs.Counts.{last_count, risen}
+use Rattle.pmem_base.specs.Shape.{Shape}
+use Rattle.pmem_base.specs.Layout as layout
+use Rattle.pmem_base.specs.Layout.{page_of, index_in_page}
+use Rattle.pmem_base.specs.Lines.{IsLine, line_at}
+use Rattle.pmem_base.specs.Registers.{IsProgress, is_done, not_done, empty_progress}
+use Rattle.suite.specs.Formulas.{AreInRange}
+use Rattle.suite.specs.Setup.{Setup}
+use Rattle.split_counters.specs.Blocks.{unpacked, block_counter}
+use Rattle.board.specs.Device.{Device, IsDevice}
+use Rattle.commit_regs.specs.Groups.{redone_told}
+use Rattle.page_reencrypt.specs.Registers.{register_held, counter_under}
+use Rattle.page_reencrypt.proofs.DoneBits.{not_done-not_done}
+use Rattle.page_reencrypt.proofs.Holding.{old_major-unpacked}
+use Rattle.page_reencrypt.proofs.AtPlace.{register_held-at}
+use Rattle.seal_ledger.specs.Ledger.{LedgerState, IsSealValue}
+use Rattle.plain_model.specs.State.{Memory}
+use Rattle.plain_model.specs.View.{view_of, counter_at, plain_line}
+use Rattle.plain_model.specs.Asked.{reseal_mark, next_major, seal_mark}
+use Rattle.plain_model.proofs.Views.{counter_at-last}
+use Rattle.pmem_engine.specs.declared.fault.Fault.{Fault}
+use Rattle.pmem_engine.specs.declared.fault.Fault.TheVariants as Fail
+use Rattle.pmem_engine.specs.declared.reading.Unsealed.{Unsealed}
+use Rattle.pmem_engine.specs.declared.resealing.HeldLine.{HeldLine}
+use Rattle.pmem_engine.specs.declared.resealing.NextSeal.{NextSeal}
+use Rattle.pmem_engine.specs.Engine.{EngineState}
+use Rattle.pmem_engine.specs.Truth.{true_block}
+use Rattle.pmem_engine.specs.Invariants.{IsSealStored}
+use Rattle.pmem_engine.specs.Parts.{Parts, parts_of, regs_of, lines_redone, AreTrusted, AreSound, HoldsSeal, meta_line_in}
+use Rattle.pmem_engine.specs.Outcomes.{going, cut_short, is_going, is_sealed_by, NeverFalls, TakesSteps, TakesFewer}
+use Rattle.pmem_engine.specs.Calls.{IsUsable, IsMemory, IsDownAnswer, IsUnrefused, moment_in}
+use Rattle.pmem_engine.specs.Inner.{HasUnsealed, IsLastCounter}
+use Rattle.pmem_engine.specs.Committing.{next_seal_of, entries_of}
+use Rattle.pmem_engine.specs.Resealing.{IsNextHeld, HasLineSealed, HasResealCommitted, IsCutUnarmed, IsResealCutArmed, IsResealCut, line_of_page, HasResealMarks, AnswersReseal, CountsReseal, HasResealed}
+use Rattle.pmem_engine.proofs.CallEnds.StillParts.{sound_trusted}
+use Rattle.pmem_engine.proofs.CallEnds.CallChains.{done_chained}
+use Rattle.pmem_engine.proofs.Laws.PlainLines.{plain_line-resealed}
+use Rattle.pmem_engine.proofs.CheckedReads.UnsealedLines.{risen_never_falls, same_never_falls}
+use Rattle.pmem_engine.specs.Faults.{IsTagRefused, IsForgedShown}
+use Rattle.pmem_engine.proofs.PageLines.LineReseals.{IsResealing, sealed_here, done_resealed, cut_resealed}
+
+-- a metadata line where lines and registers are as they were
+pub meta_of_same : (g : Shape) (x : ℕ) (old new : Parts) → regs_of new ≡ regs_of old → new.device.lines ≡ old.device.lines
+    → meta_line_in g new x ≡ meta_line_in g old x
+meta_of_same g x old new regs lines = search rules
+
+-- what a call passed to the line that it works on
+module _ (setup : Setup) (n : ℕ) (engine : EngineState) (old : Device) (before : LedgerState) (tags digests : ℕ) (held : HeldLine)
+    (usable : IsUsable setup.shape engine old before) (up : engine.down ≡ false) (inside : n < length old.regs.progress.items)
+    (next : IsNextHeld (get_or old.regs.progress.items n empty_progress) held) where
+  abbrev start : Parts
+  start = parts_of engine old before tags digests
+
+  abbrev register : Progress
+  register = get_or old.regs.progress.items n empty_progress
+
+  in_use : IsProgress setup.shape register
+  in_use = usable.ready.valid_regs.each_page n empty_progress inside
+
+  unarmed : old.regs.group.items ≡ []
+  unarmed = usable.ready.no_group up
+
+  -- the line is one of the page
+  pub held_in_range : held.at < layout.data_lines setup.shape
+  held_in_range = search rules
+
+  its_page : page_of held.at ≡ register.page
+  its_page = let place = next.inside in let it = next.its_line in omega (arith, place, it)
+
+  its_place : index_in_page held.at ≡ next.place
+  its_place = let place = next.inside in let it = next.its_line in omega (arith, place, it)
+
+  not_yet : is_done register next.place ≡ false
+  not_yet =
+      subst (λ i. is_done register i ≡ false) (get_or_from_slice_get (not_done register) 0 next.place 0 next.lowest)
+      (not_done-not_done register 0 0 in_use.some_left)
+
+  -- its page's register holds it
+  holds : register_held old.regs.progress.items held.at ≡ Some register
+  holds =
+      register_held-at old.regs.progress.items held.at n empty_progress usable.ready.valid_regs.distinct_pages inside
+      (and_from (register.page == page_of held.at) (not (is_done register (index_in_page held.at)))
+      (eq-eqb register.page (page_of held.at) (sym its_page))
+      (ap (λ i. not (is_done register i)) its_place ∙ ap not not_yet))
+
+  -- so its last counter is the old one
+  last_counter : AreTrusted setup start → IsLastCounter start held.at held.now
+  last_counter trusted =
+      trusted.anchored.last_counters held.at held_in_range
+      ∙ ap Some
+      (ap (λ r. counter_under r (true_block setup.shape before.truth (page_of held.at)) held.at) holds
+      ∙ ap (block_counter (unpacked register.old)) its_place ∙ sym next.now)
+
+  -- ---- the line isn't unsealed
+
+  not_made : (new : Parts) (fault : Fault) → HasUnsealed setup held.at held.now start new (Err fault)
+      → AreTrusted setup start → (memory : Memory)
+      → HasResealMarks setup.formulas (moment_in setup memory start) register.page next.place [] (Err fault)
+  not_made new Fail.Cut it trusted memory = inl refl
+  not_made new (Fail.Tag b) it trusted memory = refl
+  not_made new Fail.Shown it trusted memory = refl
+  not_made new (Fail.Meta x) it trusted memory = it.answered trusted (last_counter trusted)
+  not_made new (Fail.Spent page) it trusted memory = it.answered trusted (last_counter trusted)
+  not_made new Fail.Down it trusted memory = it.answered trusted (last_counter trusted)
+
+  says : (new : Parts) (fault : Fault) → HasUnsealed setup held.at held.now start new (Err fault) → AreTrusted setup start
+      → AnswersReseal setup (line_of_page register next.place) start new (Err fault)
+  says new Fail.Cut it trusted = tt
+  says new (Fail.Tag b) it trusted =
+      let said = it.answered trusted (last_counter trusted) in
+      (said.0 ∙ next.its_line, subst (λ a. IsTagRefused setup a new) (sym said.0) said.1)
+  says new Fail.Shown it trusted =
+      subst (λ a. IsForgedShown setup a new) next.its_line (it.answered trusted (last_counter trusted))
+  says new (Fail.Meta x) it trusted = tt
+  says new (Fail.Spent page) it trusted = tt
+  says new Fail.Down it trusted = tt
+
+  unrefused_by : (new : Parts) (fault : Fault) → HasUnsealed setup held.at held.now start new (Err fault)
+      → AreSound setup start → IsUnrefused {T = ℕ × ℕ} (Err fault)
+  unrefused_by new Fail.Cut it sound = tt
+  unrefused_by new (Fail.Spent page) it sound = tt
+  unrefused_by new (Fail.Tag b) it sound = it.unrefused sound (last_counter (sound_trusted setup start sound))
+  unrefused_by new Fail.Shown it sound = it.unrefused sound (last_counter (sound_trusted setup start sound))
+  unrefused_by new (Fail.Meta x) it sound = it.unrefused sound (last_counter (sound_trusted setup start sound))
+  unrefused_by new Fail.Down it sound = it.unrefused sound (last_counter (sound_trusted setup start sound))
+
+  not_down_by : (new : Parts) (fault : Fault) → HasUnsealed setup held.at held.now start new (Err fault)
+      → IsDownAnswer {T = ℕ × ℕ} (Err fault) → ⊥
+  not_down_by new v1 it down = search rules
+
+  counted_none : (new : Parts) (fault : Fault) → TakesSteps 0 old new.device → CountsReseal start new (Err fault)
+  counted_none new Fail.Cut none = fewer none
+    where
+      fewer : TakesSteps 0 old new.device → TakesFewer 4 old new.device
+      fewer none = search rules
+  counted_none new (Fail.Tag b) none = none
+  counted_none new Fail.Shown none = none
+  counted_none new (Fail.Meta x) none = none
+  counted_none new (Fail.Spent page) none = none
+  counted_none new Fail.Down none = none
+
+  kept_memory : (new : Parts) (fault : Fault) → HasUnsealed setup held.at held.now start new (Err fault)
+      → (memory : Memory) → IsMemory setup memory start → IsMemory setup memory new
+  kept_memory new fault it memory was a within = search rules
+
+  pub not_unsealed : (new : Device) (after : LedgerState) (tags_now digests_now : ℕ) (fault : Fault)
+      → HasUnsealed setup held.at held.now start (parts_of engine new after tags_now digests_now) (Err fault)
+      → HasResealed setup n start (parts_of engine new after tags_now digests_now) (Err fault)
+  not_unsealed new after tags_now digests_now fault it =
+      record {
+        place = next.place;
+        lowest = next.lowest;
+        made = [];
+        done = it.done;
+        marks = λ trusted memory was. not_made final fault it trusted memory;
+        memory_kept = λ trusted memory was. kept_memory final fault it memory was;
+        line_sealed = tt;
+        answered = λ trusted. says final fault it trusted;
+        unrefused = λ sound. unrefused_by final fault it sound;
+        not_down = λ down. not_down_by final fault it down;
+        few = omega arith;
+        sealed_before = λ trusted a within made. absurd (true≢false (sym made));
+        counts = counted_none final fault it.no_steps;
+        engine = refl;
+        truth = λ unshown. ap (λ ledger. ledger.truth) (it.same_ledger unshown);
+        root = ap (λ regs. regs.root) it.regs;
+        digests = it.digests;
+        metadata = λ trusted x within. meta_of_same setup.shape x start final it.regs it.lines;
+      }
+    where
+      final : Parts
+      final = parts_of engine new after tags_now digests_now
+
+  -- ---- the line is unsealed
+
+  module _ (mid : Device) (ledger : LedgerState) (tags_mid digests_mid : ℕ) (unsealed : Unsealed)
+      (it : HasUnsealed setup held.at held.now start (parts_of engine mid ledger tags_mid digests_mid) (Ok unsealed)) where
+    abbrev middle : Parts
+    middle = parts_of engine mid ledger tags_mid digests_mid
+
+    abbrev sealing : NextSeal
+    sealing = next_seal_of setup.formulas held.at held.next unsealed.plain unsealed.tag_line
+
+    abbrev mark : Mark
+    mark = Seal sealing.at sealing.ctr sealing.cipher sealing.tag
+
+    same_ledger : ledger ≡ before
+    same_ledger = it.same_ledger (λ e. absurd (true≢false (ap is_going e)))
+
+    resealing : IsResealing setup sealing register mid
+    resealing =
+        record {
+          its_line = held_in_range;
+          held =
+              ap (λ regs. register_held regs.progress.items held.at) it.regs ∙ holds;
+          its_counter = next.next;
+          tagged = refl;
+          tags = unsealed.tag_line;
+          tags_read = it.tells_tag_line;
+          tag_line = refl;
+        }
+
+    still_unarmed : mid.regs.group.items ≡ []
+    still_unarmed = ap (λ regs. regs.group.items) it.regs ∙ unarmed
+
+    mid_size : mid.size ≡ layout.device_lines setup.shape
+    mid_size = it.done.gone.size ∙ usable.ready.its_size
+
+    -- what was unsealed is the line's plain line
+    plain_before : AreTrusted setup start → plain_line setup.formulas before.marks held.at ≡ Some unsealed.plain
+    plain_before trusted = (it.answered trusted (last_counter trusted)).0
+
+    stored_before : AreTrusted setup start → HoldsSeal setup.shape start held.at
+    stored_before trusted =
+        subst₂ (λ told seals. IfSome told (λ lines. IsSealStored setup.shape lines seals.marks held.at))
+        (ap₂ (λ regs lines. redone_told regs.group.items lines) it.regs it.lines) same_ledger
+        (it.answered trusted (last_counter trusted)).1
+
+    -- the mark is the one that is asked
+    next_is : AreTrusted setup start
+        → held.next ≡ next_major (counter_at (view_of setup.shape before.marks) held.at) 0
+    next_is trusted =
+        next.next
+        ∙ ap (λ n. record { major = n + 1; minor = 0 })
+        (old_major-unpacked register
+        ∙ sym (ap (λ ctr. ctr.major) (counter_at-last setup.shape before.marks held.at held.now held_in_range (last_counter trusted) ∙ next.now)))
+
+    mark_is : AreTrusted setup start → (memory : Memory) → IsMemory setup memory start
+        → mark ≡ reseal_mark setup.formulas (moment_in setup memory start) register.page next.place
+    mark_is trusted memory was =
+        ap₂ (λ ctr plain. seal_mark setup.formulas held.at ctr plain) (next_is trusted)
+        (same_Some unsealed.plain (line_at memory held.at) (sym (plain_before trusted) ∙ was held.at held_in_range))
+        ∙ ap
+        (λ a. seal_mark setup.formulas a (next_major (counter_at (view_of setup.shape before.marks) a) 0) (line_at memory a))
+        next.its_line
+
+    -- every line keeps its plain line
+    memory_now : AreInRange setup.formulas → IsLine unsealed.plain → (after : LedgerState) → IsSealValue sealing.ctr sealing.cipher sealing.tag
+        → after.marks ≡ ledger.marks ++ mark ∷ [] → AreTrusted setup start → (memory : Memory) → IsMemory setup memory start
+        → (a : ℕ) → a < layout.data_lines setup.shape → plain_line setup.formulas after.marks a ≡ Some (line_at memory a)
+    memory_now in_range whole after fits marks trusted memory was a within =
+        ap (λ marks. plain_line setup.formulas marks a)
+        (marks ∙ ap (λ seals. seals.marks ++ mark ∷ []) same_ledger)
+        ∙ plain_line-resealed setup.formulas before.marks held.at held.next unsealed.plain sealing.tag in_range
+        (record { major = fits.major; minor = minor_small }) whole (plain_before trusted) a
+        ∙ was a within
+      where
+        minor_small : held.next.minor ≤ 127
+        minor_small = subst (λ ctr. ctr.minor ≤ 127) (sym next.next) (omega arith)
+
+    -- the line alone was sealed
+    stored_sealed : AreTrusted setup start → (a : ℕ) → is_sealed_by (mark ∷ []) a ≡ true → HoldsSeal setup.shape start a
+    stored_sealed trusted a made =
+        subst (HoldsSeal setup.shape start) (sym (sealed_here held.at a sealing.ctr sealing.cipher sealing.tag made))
+        (stored_before trusted)
+
+    -- ---- the group is cut before it was armed
+
+    pub cut_unarmed : (new : Device) (after : LedgerState) (tags_now digests_now : ℕ) → tags_now ≡ risen tags_mid
+        → digests_now ≡ digests_mid → IsCutUnarmed mid new ledger after
+        → HasResealed setup n start (parts_of engine new after tags_now digests_now) (Err Fail.Cut)
+    cut_unarmed new after tags_now digests_now more_tags same_digests was_cut =
+        record {
+          place = next.place;
+          lowest = next.lowest;
+          made = [];
+          done =
+              search rules;
+          marks = λ trusted memory was. inl refl;
+          memory_kept =
+              λ trusted memory was a within.
+              ap (λ seals. plain_line setup.formulas seals.marks a) (was_cut.ledger ∙ same_ledger) ∙ was a within;
+          line_sealed = tt;
+          answered = λ trusted. tt;
+          unrefused = λ sound. tt;
+          not_down = λ it. it;
+          few = omega arith;
+          sealed_before = λ trusted a within made. absurd (true≢false (sym made));
+          counts =
+              search rules;
+          engine = refl;
+          truth = λ unshown. ap (λ seals. seals.truth) (was_cut.ledger ∙ same_ledger);
+          root = ap (λ regs. regs.root) (was_cut.device.regs ∙ it.regs);
+          digests = same_digests ∙ it.digests;
+          metadata =
+              λ trusted x within.
+              meta_of_same setup.shape x start final (was_cut.device.regs ∙ it.regs) (was_cut.device.lines ∙ it.lines);
+        }
+      where
+        final : Parts
+        final = parts_of engine new after tags_now digests_now
+
+        fewer : new.writes < last_count → new.latches < last_count → new.writes + new.latches < old.writes + old.latches + 4
+        fewer one two = search rules
+
+    module _ (new : Device) (after : LedgerState) (tags_now digests_now : ℕ) (more_tags : tags_now ≡ risen tags_mid)
+        (same_digests : digests_now ≡ digests_mid) (in_range : AreInRange setup.formulas) (whole : IsLine unsealed.plain)
+        (device : IsDevice mid) where
+      abbrev final : Parts
+      final = parts_of engine new after tags_now digests_now
+
+      never_tags : NeverFalls tags_mid tags_now
+      never_tags = subst (NeverFalls tags_mid) (sym more_tags) (risen_never_falls tags_mid)
+
+      never_digests : NeverFalls digests_mid digests_now
+      never_digests = same_never_falls digests_mid digests_now same_digests
+
+      truth_is : HasLineSealed setup.shape sealing mid new ledger after → after.truth ≡ before.truth
+      truth_is done = done.mark.truth ∙ ap (λ seals. seals.truth) same_ledger
+
+      root_is : HasLineSealed setup.shape sealing mid new ledger after → new.regs.root ≡ old.regs.root
+      root_is done = done.line_done.root ∙ ap (λ regs. regs.root) it.regs
+
+      -- no metadata line is in its group
+      kept_meta : AreTrusted setup start → (x : ℕ) → HasLineSealed setup.shape sealing mid new ledger after
+          → lines_redone final ≡ redone_told (entries_of setup.shape sealing) mid.lines
+          → meta_line_in setup.shape final x ≡ meta_line_in setup.shape start x
+      kept_meta trusted x done comes = search rules
+
+      -- ---- or while it was armed
+
+      pub cut_armed : IsDevice new → IsResealCutArmed setup.shape sealing mid new ledger after
+          → HasResealed setup n start (parts_of engine new after tags_now digests_now) (Err Fail.Cut)
+      cut_armed device_now was_cut =
+          record {
+            place = next.place;
+            lowest = next.lowest;
+            made = mark ∷ [];
+            done =
+                done_chained setup cut_short [] (mark ∷ []) start middle final it.done
+                (cut_resealed setup sealing register engine mid new ledger after tags_mid digests_mid tags_now digests_now
+                resealing was_cut.line_sealed still_unarmed device device_now mid_size never_tags never_digests
+                was_cut.device);
+            marks = λ trusted memory was. inr (ap (λ m. m ∷ []) (mark_is trusted memory was));
+            memory_kept =
+                λ trusted memory was.
+                memory_now in_range whole after was_cut.line_sealed.fits was_cut.line_sealed.mark.marks trusted memory was;
+            line_sealed = tt;
+            answered = λ trusted. tt;
+            unrefused = λ sound. tt;
+            not_down = λ it. it;
+            few = omega arith;
+            sealed_before = λ trusted a within made. stored_sealed trusted a made;
+            counts =
+                search rules;
+            engine = refl;
+            truth = λ unshown. truth_is was_cut.line_sealed;
+            root = root_is was_cut.line_sealed;
+            digests = same_digests ∙ it.digests;
+            metadata =
+                λ trusted x within.
+                kept_meta trusted x was_cut.line_sealed
+                (ap (λ items. redone_told items new.lines) was_cut.device.armed ∙ was_cut.device.again);
+          }
+        where
+          fewer : new.writes < last_count → new.latches < last_count
+              → new.writes + new.latches < old.writes + old.latches + 4
+          fewer one two = search rules
+
+      -- either
+      pub cut_resealing : IsDevice new → IsResealCut setup.shape sealing mid new ledger after
+          → HasResealed setup n start (parts_of engine new after tags_now digests_now) (Err Fail.Cut)
+      cut_resealing device_now (inl before_it) = cut_unarmed new after tags_now digests_now more_tags same_digests before_it
+      cut_resealing device_now (inr amid_it) = cut_armed device_now amid_it
+
+      -- ---- the line is sealed anew
+
+      pub resealed : (answer : ℕ × ℕ) → answer.0 ≡ held.at → answer.1 + 1 ≡ length (not_done register)
+          → HasResealCommitted setup.shape sealing mid new ledger after
+          → HasResealed setup n start (parts_of engine new after tags_now digests_now) (Ok answer)
+      resealed answer at_is left_is committed =
+          record {
+            place = next.place;
+            lowest = next.lowest;
+            made = mark ∷ [];
+            done =
+                done_chained setup going [] (mark ∷ []) start middle final it.done
+                (done_resealed setup sealing register engine mid new ledger after tags_mid digests_mid tags_now digests_now
+                resealing committed.line_sealed still_unarmed device mid_size never_tags never_digests committed.device);
+            marks = λ trusted memory was. ap (λ m. m ∷ []) (mark_is trusted memory was);
+            memory_kept =
+                λ trusted memory was.
+                memory_now in_range whole after committed.line_sealed.fits committed.line_sealed.mark.marks trusted memory was;
+            line_sealed =
+                search rules;
+            answered = λ trusted. tt;
+            unrefused = λ sound. tt;
+            not_down = λ it. it;
+            few = omega arith;
+            sealed_before = λ trusted a within made. stored_sealed trusted a made;
+            counts = search rules;
+            engine = refl;
+            truth = λ unshown. truth_is committed.line_sealed;
+            root = root_is committed.line_sealed;
+            digests = same_digests ∙ it.digests;
+            metadata =
+                search rules;
+          }
+        where
+          four : new.writes < last_count → new.latches < last_count
+              → new.writes + new.latches ≡ old.writes + old.latches + 4
+          four one two = search rules
+
+          read_twice : new.reads < last_count → new.reads ≡ old.reads + 2
+          read_twice below = search rules

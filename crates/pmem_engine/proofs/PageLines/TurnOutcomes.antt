@@ -1,0 +1,213 @@
+-- The exits of a turn: the engine is down, no page is open, or the oldest page's lowest line was to be sealed anew.
+use Rattle.std.proofs.lemmas.Grind.{common_steps}
+use Rattle.std.proofs.Common.{rules, ℕ, ◌≡◌, ◌<◌, ◌+◌, ◌*◌, Bool, true, false, List, [], ◌∷◌, length, map, get_or, Option, Some, None, Ok, Err, refl, sym, ap, subst, ◌∙◌, arith}
+use Rattle.std.specs.Prelude.{Result, MatchOption, IfOk, option_map, option_and_then, not, ◌||◌, IsSome, is_some}
+use Rattle.std.proofs.lemmas.Bool.{true≢false}
+use Rattle.pmem_base.specs.declared.lines.Line.{Line}
+use Rattle.pmem_base.specs.declared.lines.Ctr.{Ctr}
+use Rattle.pmem_base.specs.declared.registers.Progress.{Progress}
+use Rattle.pmem_base.specs.declared.answers.Place.{Place}
+use Rattle.pmem_base.specs.Registers.{not_done, empty_progress}
+use Rattle.suite.specs.Setup.{Setup}
+use Rattle.plain_model.specs.State.{Memory}
+use Rattle.plain_model.specs.Asked.{first_of, mark_of_page_turn, mark_of_turn, reseal_mark}
+use Rattle.plain_model.specs.Fits.{IsTurnMark, IsLowestLeft, IsLeftAfterTurn, oldest_page}
+use Rattle.pmem_engine.specs.declared.fault.Fault.{Fault}
+use Rattle.pmem_engine.specs.declared.fault.Fault.TheVariants as Fail
+use Rattle.pmem_engine.specs.Engine.{EngineState}
+use Rattle.pmem_engine.specs.Invariants.{register_page}
+use Rattle.pmem_engine.specs.Parts.{Parts, regs_of, AreTrusted}
+use Rattle.pmem_engine.specs.Outcomes.{going, outcome_of, is_going, OneLossEffect}
+use Rattle.pmem_engine.specs.Faults.{IsUnsealedLine, IsTagRefused, IsForgedShown}
+use Rattle.pmem_engine.specs.Calls.{IsDownAnswer, IsUnrefused, IsLeftAlone, moment_in, AreMarksOfTurn, AnswersTurn, CountsTurn, HasTurned}
+use Rattle.pmem_engine.specs.Resealing.{HasResealMarks, HasSealedHeld, CountsReseal, AnswersReseal, HasResealed, register_in, line_of_page}
+use Rattle.pmem_engine.proofs.CallEnds.EndedEngines.{with_engine, done_ended}
+
+left_alone : (parts : Parts) → IsLeftAlone parts parts
+left_alone parts = record { engine = refl; device = refl; ledger = refl; tags = refl; digests = refl }
+
+-- ---- the engine is down
+
+pub turned_down : (setup : Setup) (parts : Parts) → parts.engine.down ≡ true → HasTurned setup parts parts (Err Fail.Down)
+turned_down setup parts down =
+    record {
+      made = [];
+      down =
+          search rules;
+      done = λ up. absurd (true≢false (sym down ∙ up));
+      marks = λ up trusted memory was. absurd (true≢false (sym down ∙ up));
+      idle = λ up. absurd (true≢false (sym down ∙ up));
+      memory_kept = λ trusted memory was. was;
+      answered = λ up trusted. absurd (true≢false (sym down ∙ up));
+      unrefused = λ up sound. absurd (true≢false (sym down ∙ up));
+      sealed_before = λ trusted a within made. absurd (true≢false (sym made));
+      counts = λ up. absurd (true≢false (sym down ∙ up));
+      cache = refl;
+      digests = refl;
+    }
+
+-- ---- no page is open
+
+pub turned_idle : (setup : Setup) (parts : Parts) → parts.engine.down ≡ false → (regs_of parts).progress.items ≡ []
+    → HasTurned setup parts parts (Ok None)
+turned_idle setup parts up none =
+    record {
+      made = [];
+      down =
+          search rules;
+      done =
+          search rules;
+      marks = λ it trusted memory was. (refl, trusted.anchored.open_pages ∙ ap (map register_page) none);
+      idle = λ it. (λ idle. none, λ empty. refl);
+      memory_kept = λ trusted memory was. was;
+      answered = λ it trusted. tt;
+      unrefused = λ it sound. tt;
+      sealed_before = λ trusted a within made. absurd (true≢false (sym made));
+      counts = λ it. left_alone parts;
+      cache = refl;
+      digests = refl;
+    }
+
+-- ---- a line was to be sealed
+
+-- a reseal's answer as a turn's
+abbrev pub turned_of : Result (ℕ × ℕ) Fault → Result (Option (ℕ × ℕ)) Fault
+turned_of (Ok sealed) = Ok (Some sealed)
+turned_of (Err fault) = Err fault
+
+same_outcome : (answer : Result (ℕ × ℕ) Fault) → outcome_of (turned_of answer) ≡ outcome_of answer
+same_outcome v0 = search rules
+
+-- no element
+pub none_from_length : {X : Type 0} (xs : List X) → length xs ≡ 0 → xs ≡ []
+none_from_length [] none = refl
+none_from_length (x ∷ xs) none = absurd (omega (arith, none))
+
+first_is : (registers : List Progress) → 0 < length registers
+    → first_of (map register_page registers) ≡ Some (register_page (get_or registers 0 empty_progress))
+first_is [] some = absurd (omega (arith, some))
+first_is (first ∷ registers) some = refl
+
+module _ (setup : Setup) (old mid : Parts) (answer : Result (ℕ × ℕ) Fault) (engine : EngineState) (up : old.engine.down ≡ false)
+    (some : 0 < length (regs_of old).progress.items) (it : HasResealed setup 0 old mid answer)
+    (shape : engine.shape ≡ mid.engine.shape) (cache : engine.cache ≡ mid.engine.cache) (mirror : engine.mirror ≡ mid.engine.mirror)
+    (down : engine.down ≡ (mid.engine.down || not (is_going (outcome_of answer)))) where
+  abbrev new : Parts
+  new = with_engine mid engine
+
+  abbrev register : Progress
+  register = register_in old 0
+
+  mid_up : mid.engine.down ≡ false
+  mid_up = ap (λ e. e.down) it.engine ∙ up
+
+  same_engine : outcome_of answer ≡ going → engine ≡ mid.engine
+  same_engine goes = search rules
+
+  -- the oldest page, and the mark that is asked
+  oldest : AreTrusted setup old → (memory : Memory) → oldest_page (moment_in setup memory old) ≡ Some (register_page register)
+  oldest trusted memory = ap first_of trusted.anchored.open_pages ∙ first_is (regs_of old).progress.items some
+
+  asked : AreTrusted setup old → (memory : Memory)
+      → mark_of_turn setup.formulas (moment_in setup memory old)
+      ≡ Some (reseal_mark setup.formulas (moment_in setup memory old) register.page it.place)
+  asked trusted memory =
+      ap (option_and_then (mark_of_page_turn setup.formulas (moment_in setup memory old))) (oldest trusted memory)
+      ∙ ap (option_map (reseal_mark setup.formulas (moment_in setup memory old) register.page)) it.lowest
+
+  is_mark : AreTrusted setup old → (memory : Memory)
+      → it.made ≡ reseal_mark setup.formulas (moment_in setup memory old) register.page it.place ∷ []
+      → IsTurnMark setup.formulas (moment_in setup memory old) it.made
+  is_mark trusted memory made =
+      subst (λ o. MatchOption o ⊥ (λ mark. it.made ≡ mark ∷ [])) (sym (asked trusted memory)) made
+
+  is_lowest : AreTrusted setup old → (memory : Memory) (b : ℕ) → b ≡ line_of_page register it.place
+      → IsLowestLeft (oldest_page (moment_in setup memory old)) (Place.Line b)
+  is_lowest trusted memory b same =
+      subst (λ o. IsLowestLeft o (Place.Line b)) (sym (oldest trusted memory))
+      (subst (λ o. MatchOption o ⊥ (λ i. b ≡ 64 * register.page + i)) (sym it.lowest) same)
+
+  is_left : AreTrusted setup old → (memory : Memory) (left : ℕ) → left + 1 ≡ length (not_done register)
+      → IsLeftAfterTurn (oldest_page (moment_in setup memory old)) left
+  is_left trusted memory left number =
+      subst (λ o. IsLeftAfterTurn o left) (sym (oldest trusted memory)) (sym number)
+
+  is_open : AreTrusted setup old → (memory : Memory) → IsSome (oldest_page (moment_in setup memory old))
+  is_open trusted memory = ap is_some (oldest trusted memory)
+
+  turn_marks : (reply : Result (ℕ × ℕ) Fault) → AreTrusted setup old → (memory : Memory)
+      → HasResealMarks setup.formulas (moment_in setup memory old) register.page it.place it.made reply
+      → IfOk reply (HasSealedHeld (line_of_page register it.place) (length (not_done register)) old mid)
+      → AnswersReseal setup (line_of_page register it.place) old mid reply
+      → AreMarksOfTurn setup.formulas (moment_in setup memory old) it.made (turned_of reply)
+  turn_marks v0 trusted memory made line says = grind (arith, common_steps)
+
+  -- what is shown doesn't speak of the engine
+  read_line : (a : ℕ) (ctr : Ctr) (cipher : Line) (tag : List ℕ) → IsUnsealedLine setup a ctr cipher tag mid
+      → IsUnsealedLine setup a ctr cipher tag new
+  read_line a ctr cipher tag said = search rules
+
+  refused_line : (a : ℕ) → IsTagRefused setup a mid → IsTagRefused setup a new
+  refused_line a said = search rules
+
+  forged_line : (a : ℕ) → IsForgedShown setup a mid → IsForgedShown setup a new
+  forged_line a said = search rules
+
+  turn_answered : (reply : Result (ℕ × ℕ) Fault) → AreTrusted setup old
+      → AnswersReseal setup (line_of_page register it.place) old mid reply → AnswersTurn setup old new (turned_of reply)
+  turn_answered (Ok sealed) trusted says = tt
+  turn_answered (Err Fail.Cut) trusted says = tt
+  turn_answered (Err (Fail.Tag b)) trusted says = refused_line b says.1
+  turn_answered (Err Fail.Shown) trusted says =
+      record {
+        at = line_of_page register it.place;
+        lowest = is_lowest trusted [] (line_of_page register it.place) refl;
+        forged = forged_line (line_of_page register it.place) says;
+      }
+  turn_answered (Err (Fail.Meta x)) trusted says = tt
+  turn_answered (Err (Fail.Spent page)) trusted says = tt
+  turn_answered (Err Fail.Down) trusted says = tt
+
+  turn_unrefused : (reply : Result (ℕ × ℕ) Fault) → IsUnrefused reply → IsUnrefused (turned_of reply)
+  turn_unrefused v0 it = search rules
+
+  turn_counts : (reply : Result (ℕ × ℕ) Fault) → CountsReseal old mid reply → CountsTurn old new (turned_of reply)
+  turn_counts v0 it = search rules
+
+  turn_not_down : (reply : Result (ℕ × ℕ) Fault) → (IsDownAnswer reply → ⊥) → IsDownAnswer (turned_of reply) → ⊥
+  turn_not_down v0 never it = search rules
+
+  turn_busy : (reply : Result (ℕ × ℕ) Fault) → turned_of reply ≡ Ok None → ⊥
+  turn_busy reply idle = cc_busy reply idle
+    where
+      is_idle : Result (Option (ℕ × ℕ)) Fault → Bool
+      is_idle (Ok None) = true
+      is_idle (Ok (Some sealed)) = false
+      is_idle (Err fault) = false
+
+      cc_busy : (reply : Result (ℕ × ℕ) Fault) → turned_of reply ≡ Ok None → ⊥
+      cc_busy v0 idle = search rules
+
+  pub turned : HasTurned setup old new (turned_of answer)
+  turned =
+      record {
+        made = it.made;
+        down =
+            search rules;
+        done =
+            λ is_up.
+            subst (λ outcome. OneLossEffect setup outcome it.made old new) (sym (same_outcome answer))
+            (done_ended setup (outcome_of answer) it.made old mid engine shape cache same_engine it.done);
+        marks =
+            λ is_up trusted memory was.
+            turn_marks answer trusted memory (it.marks trusted memory was) it.line_sealed (it.answered trusted);
+        idle =
+            search rules;
+        memory_kept = λ trusted memory was. it.memory_kept trusted memory was;
+        answered = λ is_up trusted. turn_answered answer trusted (it.answered trusted);
+        unrefused = λ is_up sound. turn_unrefused answer (it.unrefused sound);
+        sealed_before = it.sealed_before;
+        counts = λ is_up. turn_counts answer it.counts;
+        cache = cache ∙ ap (λ e. e.cache) it.engine;
+        digests = it.digests;
+      }

@@ -1,0 +1,304 @@
+-- A path was named, or a cut came before one of its entries was written: what the call keeps.
+use Rattle.std.proofs.Common.{rules, ℕ, ◌≡◌, ◌<◌, ◌≤◌, ◌+◌, ◌⊎◌, inl, inr, true, false, List, [], length, Some, Ok, Err, refl, sym, ap, ap₂, subst, ◌∙◌, arith}
+use Rattle.std.specs.Prelude.{MatchOption, IfSome, option_map, is_some, is_ok, Result}
+use Rattle.std.proofs.lemmas.Bool.{true≢false}
+use Rattle.pmem_base.specs.declared.lines.Line.{Line}
+use Rattle.pmem_base.specs.Counts.{HasRisen}
+use Rattle.pmem_base.specs.Layout as layout
+use Rattle.pmem_base.specs.Lines.{line_at, tag_slot, put_lines}
+use Rattle.bonsai_tree.specs.Positions.{level_of, counter_position}
+use Rattle.bonsai_tree.proofs.Levels.{counter_position-lt}
+use Rattle.board.specs.Device.{Device}
+use Rattle.commit_regs.specs.Groups.{redone_told}
+use Rattle.seal_ledger.specs.Ledger.{LedgerState}
+use Rattle.shadow_tables.specs.Entries.{slot_entry}
+use Rattle.meta_cache.specs.Banks.{is_cached_dirty, IsBanksOf}
+use Rattle.meta_cache.specs.State.{IsCacheOf}
+use Rattle.meta_path.specs.Blocks.{path_at, IsPathCached}
+use Rattle.meta_path.specs.Naming.{path_number, named_path, naming_writes, IsNamedTo, IsNamingCut}
+use Rattle.meta_path.proofs.NameLemmas.{length-naming_writes}
+use Rattle.suite.specs.Setup.{Setup}
+use Rattle.pmem_engine.specs.declared.fault.Fault.{Fault}
+use Rattle.pmem_engine.specs.declared.fault.Fault.TheVariants as Fail
+use Rattle.pmem_engine.specs.Engine.{EngineState}
+use Rattle.pmem_engine.specs.Invariants.{IsSound, IsDurable, IsSealStored, IsCounterStored, stored_meta}
+use Rattle.pmem_engine.specs.Recached.{IsTrueOrDirty}
+use Rattle.pmem_engine.specs.Parts.{Parts, parts_of, AreTrusted, AreSound, HoldsCounters, lines_redone, meta_line_in}
+use Rattle.pmem_engine.specs.Outcomes.{Outcome, going, cut_short, is_going, outcome_of, KeepsPlaces, KeepsMeta, CallEffect, OneLossEffect, HasPower, HasSmallGroup, LeavesTrusted, LeavesSound, KeepsMetaWhere}
+use Rattle.pmem_engine.specs.Inner.{HasNamedPath}
+use Rattle.pmem_engine.proofs.CallEnds.ToldLines.{told_redone, unarmed}
+use Rattle.pmem_engine.proofs.Laws.CounterBlocks.{IsCounterStored-same}
+use Rattle.pmem_engine.proofs.Laws.DeviceRegions.{IsSealStored-kept}
+use Rattle.pmem_engine.proofs.PathNaming.PathNames.{IsMirror, meta_kept, place_kept, none_written, sound_at}
+
+-- the first n blocks of the path were named on the board; the engine's copy may be one ahead
+module _ (setup : Setup) (page n : ℕ) (old new : EngineState) (before after : Device) (ledger : LedgerState) (tags digests : ℕ)
+    (its_shape : old.shape ≡ setup.shape) (shape : new.shape ≡ old.shape) (cache : new.cache ≡ old.cache) (down : new.down ≡ old.down)
+    (lines : after.lines ≡ redone_told (naming_writes setup.shape old.cache page old.mirror n) before.lines)
+    (same_regs : after.regs ≡ before.regs) (size : after.size ≡ before.size) (reads : after.reads ≡ before.reads) where
+  abbrev start : Parts
+  start = parts_of old before ledger tags digests
+
+  abbrev finish : Parts
+  finish = parts_of new after ledger tags digests
+
+  abbrev now_of : List Line → List Line
+  now_of lines = put_lines (naming_writes setup.shape old.cache page old.mirror n) lines
+
+  told : is_some after.lines ≡ is_some before.lines
+  told = ap is_some lines ∙ told_redone (naming_writes setup.shape old.cache page old.mirror n) before.lines
+
+  lines_now : (were are : List Line) → before.lines ≡ Some were → after.lines ≡ Some are → are ≡ now_of were
+  lines_now were are was is = search rules
+
+  holds_now : AreTrusted setup start → (P Q : List Line → Type 0) → ((were : List Line) → P were → Q (now_of were))
+      → IfSome (lines_redone start) P → IfSome (lines_redone finish) Q
+  holds_now trusted P Q give held = search rules
+
+  seen_same : {A : Type 0} → AreTrusted setup start → (f : List Line → A) → ((were : List Line) → f (now_of were) ≡ f were)
+      → option_map f (lines_redone finish) ≡ option_map f (lines_redone start)
+  seen_same trusted f same = search rules
+
+  pub meta_same : AreTrusted setup start → (x : ℕ) → x < layout.meta_lines setup.shape
+      → meta_line_in setup.shape finish x ≡ meta_line_in setup.shape start x
+  meta_same trusted x within =
+      seen_same trusted (λ lines. stored_meta setup.shape lines x)
+      (λ were. meta_kept setup.shape old.cache page old.mirror were n x within)
+
+  places : AreTrusted setup start → KeepsPlaces setup [] start finish
+  places trusted =
+      record {
+        seals =
+            λ a within held.
+            elim held [
+              | inl stored ↦
+                  holds_now trusted (λ lines. IsSealStored setup.shape lines ledger.marks a)
+                  (λ lines. IsSealStored setup.shape lines ledger.marks a)
+                  (λ were had.
+                  IsSealStored-kept setup.shape were (now_of were) ledger.marks ledger.marks a refl
+                  (place_kept setup.shape old.cache page old.mirror were n a within) had)
+                  stored
+              | inr made ↦ absurd (true≢false (sym made))
+            ];
+        data_lines =
+            λ a within unsealed.
+            seen_same trusted (λ lines. line_at lines a)
+            (λ were. (place_kept setup.shape old.cache page old.mirror were n a within).its_line);
+        tag_slots =
+            λ a within unsealed.
+            seen_same trusted (λ lines. tag_slot (line_at lines (layout.tag_line setup.shape a)) a)
+            (λ were. (place_kept setup.shape old.cache page old.mirror were n a within).slot);
+      }
+
+  metadata : AreTrusted setup start → KeepsMeta setup [] start finish
+  metadata trusted =
+      record {
+        true_or_dirty =
+            λ x within held.
+            subst (λ banks. IfSome (lines_redone finish) (λ lines. IsTrueOrDirty setup.shape banks lines ledger.truth x)) (sym cache)
+            (holds_now trusted (λ lines. IsTrueOrDirty setup.shape old.cache lines ledger.truth x)
+            (λ lines. IsTrueOrDirty setup.shape old.cache lines ledger.truth x)
+            (λ were had. still x within were had) held);
+        changed = λ x within. inl (meta_same trusted x within);
+        dirty = λ bank x now. inl (subst (λ banks. is_cached_dirty setup.shape banks bank x ≡ true) cache now);
+      }
+    where
+      still : (x : ℕ) → x < layout.meta_lines setup.shape → (were : List Line)
+          → (stored_meta setup.shape were x ≡ line_at ledger.truth x) ⊎ (is_cached_dirty setup.shape old.cache (level_of x) x ≡ true)
+          → (stored_meta setup.shape (now_of were) x ≡ line_at ledger.truth x)
+          ⊎ (is_cached_dirty setup.shape old.cache (level_of x) x ≡ true)
+      still x within were (inl stored) = inl (meta_kept setup.shape old.cache page old.mirror were n x within ∙ stored)
+      still x within were (inr dirty) = inr dirty
+
+  counters_kept : AreTrusted setup start → (p : ℕ) → p < layout.pages setup.shape → HoldsCounters setup start p
+      → HoldsCounters setup finish p
+  counters_kept trusted p within held =
+      subst (λ regs. IfSome (lines_redone finish) (λ lines. IsCounterStored setup lines regs.loss ledger.truth p)) (sym same_regs)
+      (holds_now trusted (λ lines. IsCounterStored setup lines before.regs.loss ledger.truth p)
+      (λ lines. IsCounterStored setup lines before.regs.loss ledger.truth p)
+      (λ were had.
+      IsCounterStored-same setup were (now_of were) before.regs.loss ledger.truth ledger.truth p
+      (meta_kept setup.shape old.cache page old.mirror were n (counter_position setup.shape p)
+      (counter_position-lt setup.shape p within))
+      refl had)
+      held)
+
+  trusted_after : AreTrusted setup start → AreTrusted setup finish
+  trusted_after trusted = search rules
+
+  -- what is sound of the lines once they are written
+  sound_gives : (P : List Line → Type 0)
+      → ((were : List Line) → IsSound setup old were before.regs ledger → P (now_of were)) → AreSound setup start
+      → MatchOption after.lines ⊥ P
+  sound_gives P give sound = search rules
+
+  pub gone : (outcome : Outcome) → HasPower outcome before after
+      → (AreTrusted setup start → LeavesTrusted setup outcome finish)
+      → (AreSound setup start → LeavesSound setup outcome finish)
+      → (AreTrusted setup start → KeepsPlaces setup [] start finish)
+      → (AreTrusted setup start → KeepsMetaWhere setup outcome [] start finish)
+      → (before.regs.group.items ≡ [] → HasSmallGroup outcome finish)
+      → CallEffect setup outcome [] start finish
+  gone outcome power leaves_trusted leaves_sound keeps_places keeps_meta small = search rules
+
+  pub named_going : (before.steady ≡ true → after.steady ≡ true) → (before.live ≡ true → after.live ≡ true)
+      → after.cuts ≡ before.cuts
+      → ((were : List Line) → IsSound setup old were before.regs ledger → IsSound setup new (now_of were) before.regs ledger)
+      → OneLossEffect setup going [] start finish
+  named_going steady live cuts sound =
+      record {
+        gone =
+            gone going (steady, live, cuts) trusted_after
+            (λ was.
+            sound_gives (λ lines. IsSound setup new lines after.regs ledger)
+            (λ were had. subst (λ regs. IsSound setup new (now_of were) regs ledger) (sym same_regs) (sound were had)) was)
+            places metadata (λ none. tt);
+        loss = ap (λ regs. regs.loss) same_regs;
+        counters = λ trusted p within held. counters_kept trusted p within held;
+      }
+
+  pub named_cut : before.steady ≡ false → after.live ≡ false → HasRisen before.cuts after.cuts
+      → ((were : List Line) → IsSound setup old were before.regs ledger → IsDurable setup (now_of were) before.regs ledger)
+      → OneLossEffect setup cut_short [] start finish
+  named_cut unsteady off rose durable =
+      record {
+        gone =
+            gone cut_short (unsteady, off, rose) (λ was. (trusted_after was).anchored)
+            (λ was.
+            sound_gives (λ lines. IsDurable setup lines after.regs ledger)
+            (λ were had. subst (λ regs. IsDurable setup (now_of were) regs ledger) (sym same_regs) (durable were had)) was)
+            places (λ was. tt)
+            (λ none.
+            let few : length after.regs.group.items ≡ 0 = ap (λ regs. length regs.group.items) same_regs ∙ ap length none in
+            omega (arith, few));
+        loss = ap (λ regs. regs.loss) same_regs;
+        counters = λ trusted p within held. counters_kept trusted p within held;
+      }
+
+-- ---- the call
+
+module _ (setup : Setup) (page : ℕ) (old new : EngineState) (before after : Device) (ledger : LedgerState) (tags digests : ℕ)
+    (its_shape : old.shape ≡ setup.shape) (shape : new.shape ≡ old.shape) (cache : new.cache ≡ old.cache) (down : new.down ≡ old.down)
+    (its_page : page < layout.pages setup.shape) (few_levels : setup.shape.levels ≤ 6) (some_sets : 1 ≤ setup.shape.sets)
+    (cache_form : IsCacheOf setup.shape old.cache) (form : IsBanksOf setup.shape old.cache)
+    (cached : IsPathCached setup.shape old.cache page) (its_mirror : IsMirror setup.shape old.mirror) where
+  abbrev levels : ℕ
+  levels = setup.shape.levels
+
+  pub path_named : IsNamedTo setup.shape old.cache page (levels + 1) old.mirror new.mirror before after
+      → HasNamedPath setup page (parts_of old before ledger tags digests) (parts_of new after ledger tags digests) (Ok tt)
+  path_named it =
+      record {
+        done =
+            named_going setup page (levels + 1) old new before after ledger tags digests its_shape shape cache down it.work.lines
+            it.work.regs it.work.size (it.work.no_read refl) it.work.steady it.work.live it.work.cuts
+            (λ were sound.
+            subst (λ e. IsSound setup e (put_lines (naming_writes setup.shape old.cache page old.mirror (levels + 1)) were)
+            before.regs ledger)
+            (sym same_engine)
+            (sound_at setup page old were before.regs ledger its_page few_levels some_sets cache_form form cached its_mirror sound
+            (levels + 1) (omega arith)));
+        cut_alone = tt;
+        not_spent = λ spent e. absurd (true≢false (ap (λ (a : Result Unit Fault). is_ok a) e));
+        path_named =
+            λ ok.
+            record {
+              each =
+                  λ j within.
+                  subst (λ banks. slot_entry setup.shape new.mirror j (path_number setup.shape banks page j) ≡ path_at setup.shape page j + 1)
+                  (sym cache) (it.entries.named j (omega (arith, within)));
+            };
+        cache = cache;
+        down = down;
+        regs = it.work.regs;
+        ledger = refl;
+        tags = refl;
+        digests = refl;
+        reads = it.work.no_read refl;
+        metadata =
+            λ trusted x within.
+            meta_same setup page (levels + 1) old new before after ledger tags digests its_shape shape cache down it.work.lines
+            it.work.regs it.work.size (it.work.no_read refl) trusted x within;
+        steps =
+            record {
+              writes = it.work.writes.never_falls;
+              latches = omega (arith, it.work.latches);
+              sum =
+                  λ writes latches.
+                  omega (
+                    arith,
+                    it.work.writes.exact writes,
+                    it.work.latches,
+                    length-naming_writes setup.shape old.cache page old.mirror (levels + 1),
+                  );
+            };
+        still_named =
+            λ named.
+            let none = none_written setup.shape old.cache page old.mirror (levels + 1) (omega arith) named.each in (
+              refl,
+              record {
+                lines = it.work.lines ∙ ap (λ writes. redone_told writes before.lines) none.0 ∙ unarmed [] before.lines refl;
+                regs = it.work.regs;
+                reads = it.work.no_read refl;
+                writes = it.work.no_write (ap length none.0);
+                latches = it.work.latches;
+              },
+            );
+      }
+    where
+      same_engine : new ≡ record {
+        shape = old.shape;
+        cache = old.cache;
+        mirror = named_path setup.shape old.cache page old.mirror (levels + 1);
+        down = old.down;
+      }
+      same_engine =
+          ap (λ s. record { shape = s; cache = new.cache; mirror = new.mirror; down = new.down }) shape
+          ∙ ap₂ (λ banks m. record { shape = old.shape; cache = banks; mirror = m; down = new.down }) cache it.mirror
+          ∙ ap (λ d. record {
+            shape = old.shape;
+            cache = old.cache;
+            mirror = named_path setup.shape old.cache page old.mirror (levels + 1);
+            down = d;
+          }) down
+
+  pub path_cut : IsNamingCut setup.shape old.cache page old.mirror new.mirror before after
+      → HasNamedPath setup page (parts_of old before ledger tags digests) (parts_of new after ledger tags digests) (Err Fail.Cut)
+  path_cut it =
+      record {
+        done =
+            named_cut setup page it.n old new before after ledger tags digests its_shape shape cache down it.lines it.regs it.size
+            it.reads it.unsteady it.off it.rose
+            (λ were sound.
+            (sound_at setup page old were before.regs ledger its_page few_levels some_sets cache_form form cached its_mirror sound
+            it.n (omega (arith, it.on_path))).durable);
+        cut_alone = tt;
+        not_spent = λ spent e. absurd (true≢false (sym (ap (λ (a : Result Unit Fault). is_going (outcome_of a)) e)));
+        path_named = λ ok. absurd (true≢false (sym ok));
+        cache = cache;
+        down = down;
+        regs = it.regs;
+        ledger = refl;
+        tags = refl;
+        digests = refl;
+        reads = it.reads;
+        metadata =
+            λ trusted x within.
+            meta_same setup page it.n old new before after ledger tags digests its_shape shape cache down it.lines it.regs it.size
+            it.reads trusted x within;
+        steps =
+            record {
+              writes = it.writes.never_falls;
+              latches = omega (arith, it.latches);
+              sum =
+                  λ writes latches.
+                  omega (
+                    arith,
+                    it.writes.exact writes,
+                    it.latches,
+                    it.on_path,
+                    length-naming_writes setup.shape old.cache page old.mirror it.n,
+                  );
+            };
+        still_named = λ named. absurd (it.unnamed (named.each it.n it.on_path));
+      }

@@ -1,0 +1,106 @@
+-- A write as a call: of an engine that is down, or of one that is up and then down where it was cut or stopped.
+use Rattle.std.proofs.Common.{rules, ℕ, ◌≡◌, ◌%◌, true, false, List, [], Option, Result, Err, refl, sym, ◌∙◌, arith}
+use Rattle.std.specs.Prelude.{IfOk}
+use Rattle.std.proofs.lemmas.Bool.{true≢false}
+use Rattle.std.proofs.lemmas.List.{drop_all}
+use Rattle.pmem_base.specs.declared.lines.Line.{Line}
+use Rattle.pmem_base.specs.declared.lines.Ctr.{Ctr}
+use Rattle.pmem_base.specs.declared.commands.Posted.{Posted}
+use Rattle.pmem_base.specs.declared.answers.Mark.{Mark}
+use Rattle.pmem_base.specs.Layout.{page_of}
+use Rattle.pmem_base.specs.Lines.{IsLine}
+use Rattle.pmem_base.specs.Ranges.{IsU32, IsPosted}
+use Rattle.pmem_base.specs.Shape.{Shape}
+use Rattle.suite.specs.Setup.{Setup}
+use Rattle.pmem_engine.specs.declared.fault.Fault.{Fault}
+use Rattle.pmem_engine.specs.declared.fault.Fault.TheVariants as Fail
+use Rattle.pmem_engine.specs.Parts.{Parts, regs_of}
+use Rattle.pmem_engine.specs.Outcomes.{Outcome, outcome_of}
+use Rattle.pmem_engine.specs.Calls.{IsBlockTrue, AnswersWrite, TakesSpent, TakesOfWrite, whole_write, HasWrittenLine}
+use Rattle.pmem_engine.specs.Writing.{UpWriteOutcome}
+use Rattle.pmem_engine.proofs.CheckedReads.ReadEnds.{ended_parts, done_ended, answers_down}
+
+-- a whole line is posted
+pub whole_posted : (at : ℕ) (line : Line) → IsU32 at → IsLine line → IsPosted (whole_write at line)
+whole_posted at line range whole =
+    record {
+      at_range = range;
+      some_bytes = omega arith;
+      inside = omega arith;
+      line_range = whole;
+      zero_before = refl;
+      zero_after = drop_all 64 line.0 (omega (arith, whole.long));
+    }
+
+-- ---- the engine is down
+
+pub written_down : (setup : Setup) (write : Posted) (parts : Parts) → parts.engine.down ≡ true
+    → HasWrittenLine setup write parts parts (Err Fail.Down)
+written_down setup write parts down =
+    record {
+      made = [];
+      down =
+          search rules;
+      done = λ up. absurd (true≢false (sym down ∙ up));
+      marks = λ up trusted memory was. absurd (true≢false (sym down ∙ up));
+      memory = λ trusted memory long was. was;
+      answered = λ up trusted memory was. absurd (true≢false (sym down ∙ up));
+      unrefused = λ up sound. absurd (true≢false (sym down ∙ up));
+      sealed_before = λ trusted a within made other. absurd (true≢false (sym made));
+      path_cached = λ ok. absurd (true≢false (sym ok));
+      path_named = λ ok. absurd (true≢false (sym ok));
+      steps = λ up trusted memory was. absurd (true≢false (sym down ∙ up));
+      steps_of_spent = λ up trusted memory was none. absurd (true≢false (sym down ∙ up));
+      steps_of_named = λ cached named one. tt;
+      block_kept = λ trusted none. refl;
+      block_written = λ trusted. tt;
+    }
+
+-- ---- the engine was up
+
+answers_ended : (setup : Setup) (asked : Option (List Mark)) (made : List Mark) (write : Posted) (old new : Parts)
+    (answer : Result Ctr Fault) (outcome : Outcome) → AnswersWrite setup asked made write old new answer
+    → AnswersWrite setup asked made write old (ended_parts new outcome) answer
+answers_ended setup asked made write old new v6 outcome it = search rules
+
+spent_ended : (g : Shape) (outcome end : Outcome) (old new : Parts) → TakesSpent g outcome old new
+    → TakesSpent g outcome old (ended_parts new end)
+spent_ended g outcome end old new it = search rules
+
+takes_ended : (g : Shape) (asked : Option (List Mark)) (made : List Mark) (old new : Parts) (answer : Result Ctr Fault)
+    (end : Outcome) → TakesOfWrite g asked made old new answer → TakesOfWrite g asked made old (ended_parts new end) answer
+takes_ended g v1 made old new v5 end it = search rules
+
+block_ended : (setup : Setup) (page loss : ℕ) (new : Parts) (answer : Result Ctr Fault) (end : Outcome)
+    → IfOk answer (λ ctr. ctr.minor % loss ≡ 0 → IsBlockTrue setup new page)
+    → IfOk answer (λ ctr. ctr.minor % loss ≡ 0 → IsBlockTrue setup (ended_parts new end) page)
+block_ended setup page loss new v4 end it = search rules
+
+pub written_ended : (setup : Setup) (write : Posted) (old new : Parts) (answer : Result Ctr Fault) → old.engine.down ≡ false
+    → UpWriteOutcome setup write old new answer → HasWrittenLine setup write old (ended_parts new (outcome_of answer)) answer
+written_ended setup write old new answer was it =
+    record {
+      made = it.made;
+      down = answers_down answer old new was it.down it.not_down;
+      done = λ up. done_ended setup (outcome_of answer) it.made old new it.done;
+      marks = λ up trusted memory held. it.marks trusted memory held;
+      memory = it.memory;
+      answered =
+          λ up trusted memory held.
+          answers_ended setup _ it.made write old new answer (outcome_of answer) (it.answered trusted memory held);
+      unrefused = λ up sound. it.unrefused sound;
+      sealed_before = it.sealed_before;
+      path_cached = it.path_cached;
+      path_named = λ ok. record { each = (it.path_named ok).each };
+      steps =
+          λ up trusted memory held.
+          takes_ended setup.shape _ it.made old new answer (outcome_of answer) (it.steps trusted memory held);
+      steps_of_spent =
+          λ up trusted memory held none.
+          spent_ended setup.shape (outcome_of answer) (outcome_of answer) old new (it.steps_of_spent trusted memory held none);
+      steps_of_named = it.steps_of_named;
+      block_kept = it.block_kept;
+      block_written =
+          λ trusted.
+          block_ended setup (page_of write.at) (regs_of old).loss new answer (outcome_of answer) (it.block_written trusted);
+    }

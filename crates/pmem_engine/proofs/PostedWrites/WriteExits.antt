@@ -1,0 +1,193 @@
+-- What a write answers where a part ended it, by the part's answer.
+use Rattle.std.proofs.lemmas.Grind.{common_steps}
+use Rattle.std.proofs.Common.{rules, ℕ, ◌≡◌, ◌<◌, ◌≤◌, ◌+◌, ◌-◌, ◌*◌, ◌^◌, ◌++◌, inl, inr, Bool, true, false, cond, List, [], ◌∷◌, length, IsTrue, Option, Some, None, Err, refl, sym, ap, subst, ◌∙◌, arith}
+use Rattle.std.specs.Prelude.{◌==◌, ◌||◌, nat_lt, unwrap_or, is_none, IsSome}
+use Rattle.std.proofs.lemmas.Bool.{true≢false, cond-false, lt-ltb}
+use Rattle.std.proofs.lemmas.List.{append_assoc, length-append}
+use Rattle.pmem_base.specs.declared.lines.Ctr.{Ctr}
+use Rattle.pmem_base.specs.declared.commands.Posted.{Posted}
+use Rattle.pmem_base.specs.declared.answers.Mark.{Mark}
+use Rattle.pmem_base.specs.declared.answers.Mark.TheVariants.{Begin}
+use Rattle.pmem_base.specs.Layout.{page_of}
+use Rattle.suite.specs.Setup.{Setup}
+use Rattle.suite.specs.Formulas.{Formulas}
+use Rattle.meta_path.specs.Blocks.{dirty_count}
+use Rattle.pmem_base.specs.Lines.{line_at}
+use Rattle.pmem_base.specs.WaitingWrites.{put_write}
+use Rattle.plain_model.specs.State.{Memory, memory_with}
+use Rattle.plain_model.specs.View.{counter_at, open_page, is_left}
+use Rattle.plain_model.specs.Asked.{Moment, seal_mark, next_major, page_to_finish, finishing_marks_of, marks_of_write}
+use Rattle.plain_model.specs.Bounds.{path_length, seal_count}
+use Rattle.plain_model.specs.Fits.{IsResealOf}
+use Rattle.pmem_engine.specs.declared.fault.Fault.{Fault}
+use Rattle.pmem_engine.specs.declared.fault.Fault.TheVariants as Fail
+use Rattle.pmem_engine.specs.Parts.{Parts, AreTrusted, AreSound}
+use Rattle.pmem_engine.specs.Outcomes.{outcome_of_fault, is_seal_of, is_sealed_by, TakesAtMost}
+use Rattle.pmem_engine.specs.Calls.{IsMemory, IsDownAnswer, IsUnrefused, TakesWithin, TakesWithinOfLive, moment_in, IsPartOf, IsRefusedLine, AreMarksOfWrite, AnswersWrite, write_bound, TakesSpent, TakesOfWrite}
+use Rattle.pmem_engine.specs.Inner.{AnswersFetch}
+use Rattle.pmem_engine.specs.Writing.{AnswersPlain, IsFrontOf, IsStoppedAt, HasFinishMarks, AnswersFinish, CountsFinish, UpWriteOutcome}
+use Rattle.pmem_engine.proofs.PostedWrites.WriteParts.{IsWritePart}
+use Rattle.pmem_engine.proofs.PostedWrites.WriteFinishes.{finish_front}
+
+-- ---- marks left
+
+-- something is left of marks that end in a seal
+pub some_after : (front : List Mark) (mark : Mark) (rest : List Mark) → IsTrue (nat_lt 0 (length (front ++ mark ∷ rest)))
+some_after front mark rest = lt-ltb 0 (length (front ++ mark ∷ rest)) (omega (arith, length-append front (mark ∷ rest)))
+
+-- no asked marks, or some
+abbrev pub IsSomeAsked : Option (List Mark) → Type 0
+IsSomeAsked asked = IsTrue (is_none asked || nat_lt 0 (length (unwrap_or asked [])))
+
+pub some_asked : (f : Formulas) (now : Moment) (write : Posted) → IsSomeAsked (marks_of_write f now write)
+some_asked f now write =
+    let last = counter_at now.view write.at in
+    let plain = put_write (line_at now.memory write.at) write in
+    of_cases (is_left now.view write.at) (nat_lt last.minor 127) (last.major == 2 ^ 64 - 1)
+    (seal_mark f write.at (next_major last 1) plain) (seal_mark f write.at (record last { minor = last.minor + 1 }) plain)
+    (finishing_marks_of f now (page_to_finish now.view (open_page now.view (page_of write.at)))) (Begin (page_of write.at))
+    (seal_mark f write.at (next_major last 1) plain ∷ [])
+  where
+    of_cases : (a b c : Bool) (held first : Mark) (front : List Mark) (mark : Mark) (rest : List Mark)
+        → IsSomeAsked (cond a (Some (held ∷ [])) (cond b (Some (first ∷ [])) (cond c None (Some (front ++ mark ∷ rest)))))
+    of_cases true b c held first front mark rest = refl
+    of_cases false true c held first front mark rest = refl
+    of_cases false false true held first front mark rest = refl
+    of_cases false false false held first front mark rest = some_after front mark rest
+
+pub part_of_nothing : (asked : Option (List Mark)) → IsSomeAsked asked → IsPartOf asked []
+part_of_nothing asked some = record { left = unwrap_or asked []; front = refl; not_all = some }
+
+-- a front of the front, with something after it
+pub part_of_front : (front rest made : List Mark) → 0 < length rest → IsFrontOf front made → IsPartOf (Some (front ++ rest)) made
+part_of_front front rest made some it =
+    record {
+      left = it.left ++ rest;
+      front = ap (λ ms. ms ++ rest) it.front ∙ append_assoc made it.left rest;
+      not_all = lt-ltb 0 (length (it.left ++ rest)) (omega (arith, some, length-append it.left rest));
+    }
+
+reseal_of : (b : ℕ) (next : Mark) (tail : List Mark) → is_seal_of b next ≡ true → 0 < length tail → IsResealOf b (next ∷ tail)
+reseal_of b v1 tail its some = search rules
+
+-- stopped at a line's seal
+pub refused_at : (front rest made : List Mark) (write : Posted) (b : ℕ) → 0 < length rest → IsStoppedAt front made b
+    → IsRefusedLine (Some (front ++ rest)) made write b
+refused_at front rest made write b some it =
+    inl (
+      record {
+        left = it.next ∷ (it.later ++ rest);
+        front = ap (λ ms. ms ++ rest) it.front ∙ append_assoc made (it.next ∷ it.later) rest;
+        not_all = some_after [] it.next (it.later ++ rest);
+      },
+      reseal_of b it.next (it.later ++ rest) it.its_line (omega (arith, some, length-append it.later rest)),
+    )
+
+-- ---- a write that a part ended
+
+pub stopped : (setup : Setup) (write : Posted) (old new : Parts) (made : List Mark) (fault : Fault)
+    → IsWritePart setup write.at (outcome_of_fault fault) made old new
+    → (AreTrusted setup old → (memory : Memory) → IsMemory setup memory old
+    → AreMarksOfWrite (marks_of_write setup.formulas (moment_in setup memory old) write) made write (Err fault))
+    → (AreTrusted setup old → (memory : Memory) → IsMemory setup memory old
+    → AnswersWrite setup (marks_of_write setup.formulas (moment_in setup memory old) write) made write old new (Err fault))
+    → (AreSound setup old → IsUnrefused {T = Ctr} (Err fault)) → (IsDownAnswer {T = Ctr} (Err fault) → ⊥)
+    → (AreTrusted setup old → (memory : Memory) → IsMemory setup memory old
+    → TakesOfWrite setup.shape (marks_of_write setup.formulas (moment_in setup memory old) write) made old new (Err fault))
+    → (AreTrusted setup old → (memory : Memory) → IsMemory setup memory old
+    → marks_of_write setup.formulas (moment_in setup memory old) write ≡ None
+    → TakesSpent setup.shape (outcome_of_fault fault) old new)
+    → UpWriteOutcome setup write old new (Err fault)
+stopped setup write old new made fault part marks answered unrefused not_down steps steps_of_spent =
+    record {
+      made = made;
+      done = part.done;
+      marks = marks;
+      memory =
+          λ trusted memory long was.
+          subst (λ m. IsMemory setup m new)
+          (sym (cond-false (is_sealed_by made write.at) (memory_with memory write) memory (part.not_own trusted memory was)))
+          (part.memory_kept trusted memory was);
+      answered = answered;
+      unrefused = unrefused;
+      not_down = not_down;
+      sealed_before = λ trusted a within sealed other. part.sealed_before trusted a within sealed;
+      path_cached = λ ok. absurd (true≢false (sym ok));
+      path_named = λ ok. absurd (true≢false (sym ok));
+      down = part.down;
+      steps = steps;
+      steps_of_spent = steps_of_spent;
+      steps_of_named = λ cached named one. tt;
+      block_kept = part.block_kept;
+      block_written = λ trusted. tt;
+    }
+
+-- another answer's fault is no better and no worse
+pub fault_unrefused : (T U : Type 0) (fault : Fault) → IsUnrefused {T = T} (Err fault) → IsUnrefused {T = U} (Err fault)
+fault_unrefused v0 v1 v2 it = search rules
+
+pub fault_down : (T U : Type 0) (fault : Fault) → IsDownAnswer {T = T} (Err fault) → IsDownAnswer {T = U} (Err fault)
+fault_down v0 v1 v2 it = search rules
+
+-- ---- in the fetch
+
+pub unfetched_marks : (setup : Setup) (write : Posted) (old new : Parts) (asked : Option (List Mark)) (fault : Fault) → IsSomeAsked asked
+    → AnswersFetch setup (page_of write.at) old new (Err fault) → AreMarksOfWrite asked [] write (Err fault)
+unfetched_marks setup write old new asked v5 some it = search rules
+
+pub unfetched_answers : (setup : Setup) (write : Posted) (old new : Parts) (asked : Option (List Mark)) (fault : Fault)
+    → AnswersFetch setup (page_of write.at) old new (Err fault) → AnswersWrite setup asked [] write old new (Err fault)
+unfetched_answers setup write old new asked v5 it = search rules
+
+pub unfetched_steps : (setup : Setup) (write : Posted) (old new : Parts) (asked : Option (List Mark)) (fault : Fault)
+    → AnswersFetch setup (page_of write.at) old new (Err fault)
+    → TakesWithin (outcome_of_fault fault) (path_length setup.shape) old new
+    → TakesWithinOfLive (outcome_of_fault fault) (dirty_count setup.shape old.engine.cache) old new
+    → TakesOfWrite setup.shape asked [] old new (Err fault)
+unfetched_steps setup write old new v4 v5 says path dirty = search rules
+
+-- ---- in the plain line; the counter isn't used up
+
+pub unplain_marks : (setup : Setup) (write : Posted) (old new : Parts) (asked : Option (List Mark)) (fault : Fault) → IsSomeAsked asked
+    → IsSome asked → AnswersPlain setup write old new (Err fault) → AreMarksOfWrite asked [] write (Err fault)
+unplain_marks setup write old new asked v5 some unspent it = search rules
+
+pub unplain_answers : (setup : Setup) (write : Posted) (old mid new : Parts) (asked : Option (List Mark)) (fault : Fault)
+    → IsSome asked → AnswersPlain setup write mid new (Err fault) → AnswersWrite setup asked [] write old new (Err fault)
+unplain_answers setup write old mid new asked v6 unspent it = search rules
+
+pub unplain_steps : (setup : Setup) (write : Posted) (old mid new : Parts) (asked : Option (List Mark)) (fault : Fault)
+    → IsSome asked → AnswersPlain setup write mid new (Err fault)
+    → TakesAtMost (path_length setup.shape) old.device new.device → TakesOfWrite setup.shape asked [] old new (Err fault)
+unplain_steps setup write old mid new v5 fault unspent says path = search rules
+
+-- ---- in the finishing: the marks asked are those of the finishing, and more
+
+pub unfinished_marks : (write : Posted) (front rest made : List Mark) (fault : Fault) → 0 < length rest
+    → HasFinishMarks front made (Err fault) → AreMarksOfWrite (Some (front ++ rest)) made write (Err fault)
+unfinished_marks write front rest made Fail.Cut some it = inr (part_of_front front rest made some it)
+unfinished_marks write front rest made (Fail.Tag b) some it = refused_at front rest made write b some it
+unfinished_marks write front rest made Fail.Shown some it =
+    part_of_front front rest made some (finish_front front made (Err Fail.Shown) it)
+unfinished_marks write front rest made (Fail.Meta x) some it = absurd it
+unfinished_marks write front rest made (Fail.Spent page) some it = absurd it
+unfinished_marks write front rest made Fail.Down some it = absurd it
+
+pub unfinished_answers : (setup : Setup) (write : Posted) (old new : Parts) (front rest made : List Mark) (fault : Fault) → 0 < length rest
+    → HasFinishMarks front made (Err fault) → AnswersFinish setup front made new (Err fault)
+    → AnswersWrite setup (Some (front ++ rest)) made write old new (Err fault)
+unfinished_answers setup write old new front rest made Fail.Cut some marks it = tt
+unfinished_answers setup write old new front rest made (Fail.Tag b) some marks it = it
+unfinished_answers setup write old new front rest made Fail.Shown some marks it =
+    inr (record { at = it.at; refusable = refused_at front rest made write it.at some it.stopped; forged = it.forged })
+unfinished_answers setup write old new front rest made (Fail.Meta x) some marks it = absurd marks
+unfinished_answers setup write old new front rest made (Fail.Spent page) some marks it = tt
+unfinished_answers setup write old new front rest made Fail.Down some marks it = tt
+
+pub unfinished_steps : (setup : Setup) (old mid new : Parts) (front rest made : List Mark) (fault : Fault)
+    → seal_count front ≡ length front
+    → 2 * path_length setup.shape + 1 + 4 * length front ≤ write_bound setup.shape (front ++ rest)
+    → HasFinishMarks front made (Err fault)
+    → TakesAtMost (path_length setup.shape) old.device mid.device → CountsFinish (length front) made mid new (Err fault)
+    → TakesOfWrite setup.shape (Some (front ++ rest)) made old new (Err fault)
+unfinished_steps setup old mid new front rest made v7 seals bound marks path it = grind (arith, common_steps)

@@ -1,0 +1,122 @@
+-- What each part of a write asks of the parts before it.
+use Rattle.std.proofs.Common.{rules, ℕ, ◌≡◌, ◌<◌, ◌≤◌, ◌+◌, ◌-◌, ◌^◌, ◌==◌, inl, inr, Bool, true, false, ◌||◌, List, [], length, cond, Option, Some, None, Result, Ok, Err, refl, sym, ap, subst, ◌∙◌, arith}
+use Rattle.std.specs.Prelude.{nat_lt, not}
+use Rattle.std.proofs.lemmas.Bool.{cases_Bool, cond-false, true≢false, ltb-true}
+use Rattle.std.proofs.lemmas.List.Filters.{length-filter_both}
+use Rattle.pmem_base.specs.declared.registers.Progress.{Progress}
+use Rattle.pmem_base.specs.declared.answers.Mark.{Mark}
+use Rattle.pmem_base.specs.Registers.{places_of_page, is_done, not_done}
+use Rattle.page_reencrypt.proofs.DoneBits.{length-places}
+use Rattle.seal_ledger.specs.Ledger.{LedgerState}
+use Rattle.meta_path.specs.Blocks.{IsPathCached}
+use Rattle.split_counters.specs.declared.Block.{Block}
+use Rattle.split_counters.specs.Blocks.{minor_of, next_block}
+use Rattle.split_counters.proofs.Packing.{zero_minors-zero}
+use Rattle.suite.specs.Setup.{Setup}
+use Rattle.pmem_engine.specs.declared.fault.Fault.{Fault}
+use Rattle.pmem_engine.specs.declared.fault.Fault.TheVariants as Fail
+use Rattle.pmem_engine.specs.Parts.{Parts, regs_of}
+use Rattle.pmem_engine.specs.Outcomes.{going, OneLossEffect}
+use Rattle.pmem_engine.specs.Calls.{IsUsable, IsPathNamedInMirror}
+use Rattle.pmem_engine.specs.Resealing.{register_in}
+use Rattle.pmem_engine.specs.Writing.{overflow_of, register_to_finish, HasFinishedWhere, HasFinishedFor, HasBegunFor}
+use Rattle.pmem_engine.proofs.CallEnds.UsableParts.{usable_after}
+use Rattle.pmem_engine.proofs.PostedWrites.WriteParts.{alone_done}
+
+-- amid a write: the parts are usable, and the engine isn't down
+pub record IsAmid (setup : Setup) (now : Parts) : Type 0 where
+  pub its_shape : now.engine.shape ≡ setup.shape
+  pub up : now.engine.down ≡ false
+  pub usable : IsUsable setup.shape now.engine now.device now.ledger
+
+-- so they are after a part that goes on
+pub amid_after : (setup : Setup) (made : List Mark) (old new : Parts) → IsAmid setup old → OneLossEffect setup going made old new
+    → new.engine.down ≡ old.engine.down → IsAmid setup new
+amid_after setup made old new it done same =
+    record {
+      its_shape = done.gone.shape ∙ it.its_shape;
+      up = same ∙ it.up;
+      usable =
+          usable_after setup going made old new done.gone
+          (same ∙ it.up ∙ sym (ap (λ b. b || false) it.up)) it.usable;
+    }
+
+-- the same by the engine's own shape, as the calls ask for it
+pub usable_here : (setup : Setup) (now : Parts) → IsAmid setup now → IsUsable now.engine.shape now.engine now.device now.ledger
+usable_here setup now it = subst (λ g. IsUsable g now.engine now.device now.ledger) (sym it.its_shape) it.usable
+
+-- the line's minor isn't used up once its page is begun where it was
+pub minor_below : (old new : Block) (page i : ℕ) (overflows : Bool) → i < 64 → overflow_of old page i ≡ Ok overflows
+    → (overflows ≡ true → new ≡ next_block old) → (overflows ≡ false → new ≡ old) → minor_of new i < 127
+minor_below old new page i true small over begun same =
+    let zero : minor_of new i ≡ 0 = ap (λ block. minor_of block i) (begun refl) ∙ zero_minors-zero i small in
+    omega (arith, zero)
+minor_below old new page i false small over begun same =
+    elim (cases_Bool (nat_lt (minor_of old i) 127)) [
+      | inl below ↦ subst (λ block. minor_of block i < 127) (sym (same refl)) (ltb-true (minor_of old i) 127 below)
+      | inr past ↦ absurd (past_end (old.major == 2 ^ 64 - 1) (sym (cond-false (nat_lt (minor_of old i) 127) (Ok false) _ past) ∙ over))
+    ]
+  where
+    is_false : Result Bool Fault → Bool
+    is_false (Ok false) = true
+    is_false (Ok true) = false
+    is_false (Err fault) = false
+
+    past_end : (b : Bool) → cond b (Err (Fail.Spent page)) (Ok true) ≡ Ok false → ⊥
+    past_end true is = true≢false (sym (ap is_false is))
+    past_end false is = true≢false (sym (ap is_false is))
+
+-- ---- the page that was finished
+
+few_left : (register : Progress) → length (not_done register) ≤ 64
+unfolding not_done
+few_left register =
+    let both =
+    length-filter_both (λ i. not (is_done register i)) (λ i. not (not (is_done register i))) (λ i. refl) places_of_page in
+    let all = length-places in
+    omega (arith, both, all)
+
+module _ (setup : Setup) (page : ℕ) (old new : Parts) where
+  amid_where : (place : Option ℕ) → IsAmid setup old → HasFinishedWhere setup place old new (Ok tt) → IsAmid setup new
+  amid_where None amid it = amid_after setup [] old new amid (alone_done setup old new it.alone) (ap (λ e. e.down) it.alone.engine)
+  amid_where (Some n) amid it = amid_after setup it.made old new amid it.done (ap (λ e. e.down) it.engine)
+
+  pub amid_finished : (overflows : Bool) → IsAmid setup old → HasFinishedFor overflows setup page old new (Ok tt) → IsAmid setup new
+  amid_finished true amid it = amid_where (register_to_finish (regs_of old).progress.items page) amid it
+  amid_finished false amid it = amid_where None amid it
+
+  room_where : (place : Option ℕ) (m : ℕ) → m + 64 ≤ old.ledger.spare → HasFinishedWhere setup place old new (Ok tt)
+      → m ≤ new.ledger.spare
+  room_where None m room it = let same = ap (λ (l : LedgerState). l.spare) it.alone.ledger in omega (arith, same, room)
+  room_where (Some n) m room it =
+      let used = it.done.gone.spare in
+      let few = it.few in
+      let all = few_left (register_in old n) in
+      omega (arith, room, used, few, all)
+
+  pub room_finished : (overflows : Bool) (m : ℕ) → m + 64 ≤ old.ledger.spare → HasFinishedFor overflows setup page old new (Ok tt)
+      → m ≤ new.ledger.spare
+  room_finished true m room it = room_where (register_to_finish (regs_of old).progress.items page) m room it
+  room_finished false m room it = room_where None m room it
+
+  -- ---- the page that was begun
+
+  pub amid_begun : (overflows : Bool) → IsAmid setup old → HasBegunFor overflows setup page old new (Ok tt) → IsAmid setup new
+  amid_begun true amid it = amid_after setup it.made old new amid it.done it.down
+  amid_begun false amid it = amid_after setup [] old new amid (alone_done setup old new it.alone) (ap (λ e. e.down) it.alone.engine)
+
+  pub room_begun : (overflows : Bool) → 2 ≤ old.ledger.spare → HasBegunFor overflows setup page old new (Ok tt)
+      → 1 ≤ new.ledger.spare
+  room_begun v0 room it = search rules
+
+  pub cached_begun : (overflows : Bool) → IsPathCached setup.shape old.engine.cache page
+      → HasBegunFor overflows setup page old new (Ok tt) → IsPathCached setup.shape new.engine.cache page
+  cached_begun v0 was it = search rules
+
+  pub named_begun : (overflows : Bool) → IsPathNamedInMirror setup.shape old.engine page
+      → HasBegunFor overflows setup page old new (Ok tt) → IsPathNamedInMirror setup.shape new.engine page
+  named_begun v0 was it = search rules
+
+  pub same_unbegun : (overflows : Bool) → overflows ≡ false → HasBegunFor overflows setup page old new (Ok tt)
+      → new.engine ≡ old.engine
+  same_unbegun v0 is it = search rules

@@ -1,0 +1,288 @@
+-- A write's own seal, after the parts before it: its marks, memory, steps and counter block.
+use Rattle.std.proofs.Common.{rules, ℕ, ◌≡◌, ◌≢◌, ◌<◌, ◌≤◌, ◌+◌, ◌%◌, ◌++◌, ◌⊎◌, inl, inr, Bool, true, false, cond, List, [], ◌∷◌, length, IsTrue, Option, Some, Result, Ok, Err, refl, sym, ap, ap₂, subst, ◌∙◌, arith}
+use Rattle.std.specs.Prelude.{◌==◌, ◌||◌, option_map, IsOk, IfOk}
+use Rattle.std.specs.List.{list_any}
+use Rattle.std.proofs.lemmas.Bool.{cond-true, cond-false, cases_eq, eq-eqb, or_parts}
+use Rattle.std.proofs.lemmas.List.{append-nil, length-append}
+use Rattle.std.proofs.lemmas.List.Folds.{list_any-append}
+use Rattle.pmem_base.specs.declared.lines.Line.{Line}
+use Rattle.pmem_base.specs.declared.lines.Ctr.{Ctr}
+use Rattle.pmem_base.specs.declared.commands.Posted.{Posted}
+use Rattle.pmem_base.specs.declared.answers.Mark.{Mark}
+use Rattle.pmem_base.specs.Layout as layout
+use Rattle.pmem_base.specs.Layout.{page_of}
+use Rattle.pmem_base.specs.Lines.{line_at}
+use Rattle.pmem_base.specs.Marks.{SealOf, last_seal}
+use Rattle.pmem_base.proofs.LineSets.{line_at-set_same, line_at-set_other}
+use Rattle.seal_ledger.proofs.MarkLemmas.{last_seal-sealed}
+use Rattle.bonsai_tree.specs.Positions.{counter_position}
+use Rattle.meta_path.specs.Blocks.{IsPathCached}
+use Rattle.suite.specs.Formulas.{cipher_of}
+use Rattle.suite.specs.Setup.{Setup}
+use Rattle.plain_model.specs.State.{Memory, put_write, memory_with}
+use Rattle.plain_model.specs.View.{plain_line}
+use Rattle.plain_model.specs.Asked.{seal_mark, marks_of_write}
+use Rattle.pmem_engine.specs.declared.fault.Fault.{Fault}
+use Rattle.pmem_engine.specs.declared.fault.Fault.TheVariants as Fail
+use Rattle.pmem_engine.specs.Parts.{Parts, regs_of, AreTrusted, HoldsSeal, meta_line_in}
+use Rattle.pmem_engine.specs.Outcomes.{going, outcome_of, is_seal_of, is_sealed_by, TakesSteps, TakesAtMost}
+use Rattle.pmem_engine.specs.Calls.{IsMemory, IsDownAnswer, IsUnrefused, IsPathNamedInMirror, IsBlockTrue, moment_in, memory_after, is_persisting, AreMarksOfWrite, AnswersWrite, write_bound, TakesOfWrite}
+use Rattle.pmem_engine.specs.Sealing.{next_counter_of, seal_steps, HasNextMarks, TakesSealSteps, HasSealedNext}
+use Rattle.pmem_engine.specs.Writing.{UpWriteOutcome}
+use Rattle.pmem_engine.proofs.CallEnds.CallChains.{done_chained}
+use Rattle.pmem_engine.proofs.PostedWrites.WriteParts.{IsWritePart}
+use Rattle.pmem_engine.proofs.PostedWrites.WriteSteps.{most_then, fewer_then, steps_most, more_most, more_fewer}
+use Rattle.pmem_engine.proofs.PostedWrites.WriteExits.{some_after}
+
+module _ (setup : Setup) (write : Posted) (within : write.at < layout.data_lines setup.shape) (old p5 new : Parts) (plain : Line)
+    (before : List Mark) (part5 : IsWritePart setup write.at going before old p5) (wanted : Memory → List Mark) (most : Memory → ℕ)
+    (asked_is : AreTrusted setup old → (memory : Memory) → marks_of_write setup.formulas (moment_in setup memory old) write ≡ Some (wanted memory))
+    (plain_is : AreTrusted setup old → (memory : Memory) → IsMemory setup memory old → plain ≡ put_write (line_at memory write.at) write)
+    (whole : AreTrusted setup old → (memory : Memory) → IsMemory setup memory old
+    → before ++ seal_mark setup.formulas write.at (next_counter_of setup.shape p5.engine write.at) plain ∷ [] ≡ wanted memory)
+    (steps5 : AreTrusted setup old → (memory : Memory) → IsMemory setup memory old → TakesAtMost (most memory) old.device p5.device)
+    (bound : (memory : Memory) → most memory + 5 ≤ write_bound setup.shape (wanted memory))
+    (held_short : AreTrusted setup old → write.len < 64 → HoldsSeal setup.shape old write.at)
+    (alone : IsPathCached setup.shape old.engine.cache (page_of write.at) → IsPathNamedInMirror setup.shape old.engine (page_of write.at)
+    → length before ≡ 0 → (n : ℕ) → TakesSteps n p5.device new.device → TakesSteps n old.device new.device)
+    (answer : Result Ctr Fault) (it : HasSealedNext setup write.at plain p5 new answer) where
+  abbrev page : ℕ
+  page = page_of write.at
+
+  abbrev next : Ctr
+  next = next_counter_of setup.shape p5.engine write.at
+
+  abbrev seal : Mark
+  seal = seal_mark setup.formulas write.at next plain
+
+  trusted5 : AreTrusted setup old → AreTrusted setup p5
+  trusted5 trusted = part5.done.gone.trusted trusted
+
+  -- made is the seal, or nothing
+  made_cases : (reply : Result Ctr Fault) → HasNextMarks setup.formulas write.at next plain it.made reply
+      → (it.made ≡ []) ⊎ (it.made ≡ seal ∷ [])
+  made_cases v0 marks = search rules
+
+  made_is : (it.made ≡ []) ⊎ (it.made ≡ seal ∷ [])
+  made_is = made_cases answer it.marks
+
+  -- whether it seals a line
+  none_sealed : it.made ≡ [] → (a : ℕ) → is_sealed_by it.made a ≡ false
+  none_sealed none a = ap (λ marks. is_sealed_by marks a) none
+
+  one_sealed : it.made ≡ seal ∷ [] → is_sealed_by it.made write.at ≡ true
+  one_sealed one = ap (λ marks. is_sealed_by marks write.at) one ∙ ap (λ b. b || false) (eq-eqb write.at write.at refl)
+
+  other_unsealed : it.made ≡ seal ∷ [] → (a : ℕ) → a ≢ write.at → is_sealed_by it.made a ≡ false
+  other_unsealed one a apart = search rules
+
+  sealed_at : (a : ℕ) → is_sealed_by it.made a ≡ true → a ≡ write.at
+  sealed_at a sealed = search rules
+
+  -- ---- the marks
+
+  sealed_marks : AreTrusted setup old → (memory : Memory) → IsMemory setup memory old → (reply : Result Ctr Fault)
+      → HasNextMarks setup.formulas write.at next plain it.made reply
+      → AreMarksOfWrite (Some (wanted memory)) (before ++ it.made) write reply
+  sealed_marks trusted memory was (Ok ctr) marks =
+      ap Some (sym (whole trusted memory was) ∙ ap (λ ms. before ++ ms) (sym marks.1))
+  sealed_marks trusted memory was (Err Fail.Cut) (inl none) =
+      inr (record {
+        left = seal ∷ [];
+        front =
+            sym (whole trusted memory was)
+            ∙ ap (λ ms. ms ++ seal ∷ []) (sym (append-nil before) ∙ ap (λ ms. before ++ ms) (sym none));
+        not_all = some_after [] seal [];
+      })
+  sealed_marks trusted memory was (Err Fail.Cut) (inr one) =
+      inl (ap Some (sym (whole trusted memory was) ∙ ap (λ ms. before ++ ms) (sym one)))
+  sealed_marks trusted memory was (Err Fail.Down) marks = absurd marks
+  sealed_marks trusted memory was (Err Fail.Shown) marks = absurd marks
+  sealed_marks trusted memory was (Err (Fail.Meta x)) marks = absurd marks
+  sealed_marks trusted memory was (Err (Fail.Tag b)) marks = absurd marks
+  sealed_marks trusted memory was (Err (Fail.Spent spent)) marks = absurd marks
+
+  -- the counter answered is the last one
+  last_is : (reply : Result Ctr Fault) → HasNextMarks setup.formulas write.at next plain it.made reply
+      → (asks : Option (List Mark)) → AnswersWrite setup asks (before ++ it.made) write old new reply
+  last_is (Ok ctr) marks asks =
+      ap (λ ms. option_map (λ (s : SealOf). s.ctr) (last_seal ms write.at))
+      (it.done.gone.marks ∙ ap (λ ms. p5.ledger.marks ++ ms) marks.1)
+      ∙ ap (option_map (λ (s : SealOf). s.ctr))
+      (last_seal-sealed p5.ledger.marks write.at next (cipher_of setup.formulas write.at next plain)
+      (setup.formulas.tag_of write.at next (cipher_of setup.formulas write.at next plain)))
+      ∙ ap Some (sym marks.0)
+  last_is (Err Fail.Cut) marks asks = tt
+  last_is (Err Fail.Down) marks asks = absurd marks
+  last_is (Err Fail.Shown) marks asks = absurd marks
+  last_is (Err (Fail.Meta x)) marks asks = absurd marks
+  last_is (Err (Fail.Tag b)) marks asks = absurd marks
+  last_is (Err (Fail.Spent spent)) marks asks = absurd marks
+
+  sealed_unrefused : (reply : Result Ctr Fault) → HasNextMarks setup.formulas write.at next plain it.made reply
+      → IsUnrefused reply
+  sealed_unrefused v0 marks = search rules
+
+  sealed_not_down : (reply : Result Ctr Fault) → HasNextMarks setup.formulas write.at next plain it.made reply
+      → IsDownAnswer reply → ⊥
+  sealed_not_down v0 marks is = search rules
+
+  -- ---- memory
+
+  -- the write's own seal is among the marks where it was made now
+  own_sealed : AreTrusted setup old → (memory : Memory) → IsMemory setup memory old
+      → is_sealed_by (before ++ it.made) write.at ≡ is_sealed_by it.made write.at
+  own_sealed trusted memory was =
+      list_any-append (is_seal_of write.at) before it.made
+      ∙ ap (λ b. b || is_sealed_by it.made write.at) (part5.not_own trusted memory was)
+
+  plain_now : (a : ℕ) (b : Bool) → is_sealed_by it.made a ≡ b
+      → plain_line setup.formulas new.ledger.marks a ≡ cond b (Some plain) (plain_line setup.formulas p5.ledger.marks a)
+  plain_now a b is = search rules
+
+  memory_put : AreTrusted setup old → (memory : Memory) → write.at < length memory → IsMemory setup memory old
+      → it.made ≡ seal ∷ [] → IsMemory setup (memory_with memory write) new
+  memory_put trusted memory long was one a inside =
+      elim (cases_eq a write.at) [
+        | inl same ↦
+            plain_now a true (ap (is_sealed_by it.made) same ∙ one_sealed one)
+            ∙ ap Some
+            (plain_is trusted memory was
+            ∙ sym (line_at-set_same memory write.at (put_write (line_at memory write.at) write) long)
+            ∙ ap (line_at (memory_with memory write)) (sym same))
+        | inr apart ↦
+            plain_now a false (other_unsealed one a apart)
+            ∙ part5.memory_kept trusted memory was a inside
+            ∙ ap Some (sym (line_at-set_other memory write.at a (put_write (line_at memory write.at) write) apart))
+      ]
+
+  memory_same : AreTrusted setup old → (memory : Memory) → IsMemory setup memory old
+      → it.made ≡ [] → IsMemory setup memory new
+  memory_same trusted memory was none a inside =
+      plain_now a false (none_sealed none a) ∙ part5.memory_kept trusted memory was a inside
+
+  memory_now : AreTrusted setup old → (memory : Memory) → write.at < length memory → IsMemory setup memory old
+      → IsMemory setup (memory_after memory write (before ++ it.made)) new
+  memory_now trusted memory long was =
+      elim made_is [
+        | inl none ↦
+            subst (λ m. IsMemory setup m new)
+            (sym (cond-false (is_sealed_by (before ++ it.made) write.at) (memory_with memory write) memory
+            (own_sealed trusted memory was ∙ none_sealed none write.at)))
+            (memory_same trusted memory was none)
+        | inr one ↦
+            subst (λ m. IsMemory setup m new)
+            (sym (cond-true (is_sealed_by (before ++ it.made) write.at) (memory_with memory write) memory
+            (own_sealed trusted memory was ∙ one_sealed one)))
+            (memory_put trusted memory long was one)
+      ]
+
+  -- ---- what was stored before
+
+  stored_before : AreTrusted setup old → (a : ℕ) → a < layout.data_lines setup.shape
+      → IsTrue (is_sealed_by (before ++ it.made) a) → (a ≢ write.at) ⊎ (write.len < 64) → (b : Bool)
+      → is_sealed_by before a ≡ b → HoldsSeal setup.shape old a
+  stored_before trusted a inside sealed other true is = part5.sealed_before trusted a inside is
+  stored_before trusted a inside sealed other false is =
+      let same : a ≡ write.at =
+      sealed_at a
+      (ap (λ t. t || is_sealed_by it.made a) (sym is)
+      ∙ sym (list_any-append (is_seal_of a) before it.made) ∙ sealed) in
+      elim other [
+        | inl apart ↦ absurd (apart same)
+        | inr short ↦
+            subst (HoldsSeal setup.shape old) (sym same)
+            (held_short trusted short)
+      ]
+
+  -- ---- steps
+
+  few_steps : (loss : ℕ) (ctr : Ctr) → seal_steps loss ctr ≤ 5
+  few_steps loss ctr = search rules
+
+  sealed_steps : AreTrusted setup old → (memory : Memory) → IsMemory setup memory old → (reply : Result Ctr Fault)
+      → HasNextMarks setup.formulas write.at next plain it.made reply
+      → TakesSealSteps (seal_steps (regs_of p5).loss next) p5 new reply
+      → TakesOfWrite setup.shape (Some (wanted memory)) (before ++ it.made) old new reply
+  sealed_steps trusted memory was (Ok ctr) marks steps =
+      subst (λ ms. TakesAtMost (write_bound setup.shape ms) old.device new.device)
+      (sym (whole trusted memory was) ∙ ap (λ ms. before ++ ms) (sym marks.1))
+      (more_most
+      (most memory + seal_steps (regs_of p5).loss next)
+      (write_bound setup.shape (wanted memory)) old.device new.device
+      (omega (arith, bound memory, few_steps (regs_of p5).loss next))
+      (most_then (most memory) (seal_steps (regs_of p5).loss next) old.device p5.device new.device (steps5 trusted memory was)
+      (steps_most (seal_steps (regs_of p5).loss next) p5.device new.device steps)))
+  sealed_steps trusted memory was (Err Fail.Cut) marks steps =
+      more_fewer
+      (most memory + seal_steps (regs_of p5).loss next)
+      (write_bound setup.shape (wanted memory)) old.device new.device
+      (omega (arith, bound memory, few_steps (regs_of p5).loss next))
+      (fewer_then (most memory) (seal_steps (regs_of p5).loss next) old.device p5.device new.device (steps5 trusted memory was) steps)
+  sealed_steps trusted memory was (Err Fail.Down) marks steps = absurd marks
+  sealed_steps trusted memory was (Err Fail.Shown) marks steps = absurd marks
+  sealed_steps trusted memory was (Err (Fail.Meta x)) marks steps = absurd marks
+  sealed_steps trusted memory was (Err (Fail.Tag b)) marks steps = absurd marks
+  sealed_steps trusted memory was (Err (Fail.Spent spent)) marks steps = absurd marks
+
+  -- ---- the counter block
+
+  kept_before : AreTrusted setup old → list_any (is_persisting (regs_of old).loss write.at) (before ++ it.made) ≡ false
+      → meta_line_in setup.shape new (counter_position setup.shape page)
+      ≡ meta_line_in setup.shape old (counter_position setup.shape page)
+  kept_before trusted none =
+      let apart =
+      or_parts (list_any (is_persisting (regs_of old).loss write.at) before)
+      (list_any (is_persisting (regs_of old).loss write.at) it.made)
+      (sym (list_any-append (is_persisting (regs_of old).loss write.at) before it.made) ∙ none) in
+      it.block_kept (trusted5 trusted)
+      (ap (λ loss. list_any (is_persisting loss write.at) it.made) part5.done.loss ∙ apart.1)
+      ∙ part5.block_kept trusted apart.0
+
+  written_by : (reply : Result Ctr Fault) → HasNextMarks setup.formulas write.at next plain it.made reply
+      → (IsOk reply → (next.minor % (regs_of p5).loss == 0) ≡ true → IsBlockTrue setup new page)
+      → IfOk reply (λ ctr. ctr.minor % (regs_of old).loss ≡ 0 → IsBlockTrue setup new page)
+  written_by v0 marks block = search rules
+
+  -- ---- one seal, where the path was cached and named
+
+  named_steps : IsPathCached setup.shape old.engine.cache page → IsPathNamedInMirror setup.shape old.engine page
+      → length (before ++ it.made) ≡ 1 → (reply : Result Ctr Fault)
+      → HasNextMarks setup.formulas write.at next plain it.made reply
+      → TakesSealSteps (seal_steps (regs_of p5).loss next) p5 new reply
+      → IfOk reply (λ ctr. TakesSteps (seal_steps (regs_of old).loss ctr) old.device new.device)
+  named_steps cached was_named one (Err fault) marks steps = tt
+  named_steps cached was_named one (Ok ctr) marks steps =
+      subst (λ n. TakesSteps n old.device new.device)
+      (ap₂ seal_steps part5.done.loss (sym marks.0))
+      (alone cached was_named (omega (arith, one, length-append before it.made, ap length marks.1)) _ steps)
+
+  pub written_with_seal : UpWriteOutcome setup write old new answer
+  written_with_seal =
+      record {
+        made = before ++ it.made;
+        done = done_chained setup (outcome_of answer) before it.made old p5 new part5.done it.done;
+        marks =
+            λ trusted memory was.
+            subst (λ marks. AreMarksOfWrite marks (before ++ it.made) write answer) (sym (asked_is trusted memory))
+            (sealed_marks trusted memory was answer it.marks);
+        memory = memory_now;
+        answered = λ trusted memory was. last_is answer it.marks (marks_of_write setup.formulas (moment_in setup memory old) write);
+        unrefused = λ sound. sealed_unrefused answer it.marks;
+        not_down = sealed_not_down answer it.marks;
+        sealed_before =
+            λ trusted a inside sealed other.
+            stored_before trusted a inside sealed other (is_sealed_by before a) refl;
+        path_cached = it.path_cached;
+        path_named = it.path_named;
+        down = it.down ∙ part5.down;
+        steps =
+            λ trusted memory was.
+            subst (λ marks. TakesOfWrite setup.shape marks (before ++ it.made) old new answer) (sym (asked_is trusted memory))
+            (sealed_steps trusted memory was answer it.marks it.steps);
+        steps_of_spent =
+            λ trusted memory was none. (let some = asked_is trusted memory in absurd (cc));
+        steps_of_named = λ cached was_named one. named_steps cached was_named one answer it.marks it.steps;
+        block_kept = kept_before;
+        block_written = λ trusted. written_by answer it.marks (it.block_written (trusted5 trusted));
+      }

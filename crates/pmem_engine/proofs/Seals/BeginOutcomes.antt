@@ -1,0 +1,217 @@
+-- The exits of a page's begin: cut before its group was armed, or while it was, or done.
+use Rattle.std.proofs.Common.{rules, ℕ, ◌≡◌, ◌<◌, ◌≤◌, ◌+◌, ◌-◌, ◌^◌, inl, inr, true, false, List, [], ◌∷◌, length, None, Ok, Err, refl, sym, ap, ap₂, subst, ◌∙◌, arith}
+use Rattle.std.specs.Prelude.{option_map}
+use Rattle.std.proofs.lemmas.Bool.{true≢false}
+use Rattle.pmem_base.specs.declared.lines.Line.{Line}
+use Rattle.pmem_base.specs.declared.registers.Progress.{Progress}
+use Rattle.pmem_base.specs.declared.answers.Mark.TheVariants.{Begin}
+use Rattle.pmem_base.specs.Counts.{last_count}
+use Rattle.pmem_base.specs.Layout as layout
+use Rattle.pmem_base.specs.Lines.{line_at}
+use Rattle.suite.specs.Formulas.{AreInRange}
+use Rattle.suite.specs.Setup.{Setup}
+use Rattle.split_counters.specs.Blocks.{packed, unpacked, next_block, IsBlock}
+use Rattle.split_counters.proofs.Packing.{unpacked-packed, packed-unpacked}
+use Rattle.bonsai_tree.specs.Positions.{counter_position}
+use Rattle.board.specs.Device.{Device, IsDevice, AreToldLines}
+use Rattle.commit_regs.specs.Groups.{redone_told}
+use Rattle.page_reencrypt.specs.Registers.{register_of, begun}
+use Rattle.page_reencrypt.proofs.Holding.{begun-IsProgress}
+use Rattle.seal_ledger.specs.Ledger.{LedgerState}
+use Rattle.meta_path.specs.Blocks.{line_in, IsPathCached, AreCachedTrue}
+use Rattle.meta_path.specs.Storing.{IsRenewed}
+use Rattle.pmem_base.proofs.LineLemmas.{IsLine-line_at}
+use Rattle.pmem_engine.specs.declared.fault.Fault.TheVariants as Fail
+use Rattle.pmem_engine.specs.Engine.{EngineState}
+use Rattle.pmem_engine.specs.Truth.{true_block}
+use Rattle.pmem_engine.specs.Invariants.{IsTrusted, stored_meta}
+use Rattle.pmem_engine.specs.Parts.{Parts, parts_of}
+use Rattle.pmem_engine.specs.Outcomes.{going, NeverFalls, OneLossEffect}
+use Rattle.pmem_engine.specs.Calls.{IsUsable, IsPathNamedInMirror}
+use Rattle.pmem_engine.specs.Committing.{HasCommitted, IsCutArmed}
+use Rattle.pmem_engine.specs.Inner.{cached_block}
+use Rattle.pmem_engine.specs.Sealing.{begin_group, HasPageBegun, HasBeginCommitted, IsNothingDone, IsBeginCut, HasBegunPage}
+use Rattle.pmem_engine.proofs.Seals.StoredPaths.{cached_true_line, cached_lines_true, kept_named}
+use Rattle.pmem_engine.proofs.Seals.PathBegins.{IsBeginning, done_begun, cut_begun, begun_line, begun_clean, begun_block}
+use Rattle.commit_regs.proofs.GroupLemmas.{redone-nil}
+
+one_made : {page : ℕ} → Begin page ∷ [] ≡ [] → ⊥
+one_made none = omega (arith, ap length none)
+
+module _ (setup : Setup) (page : ℕ) (engine engine_now : EngineState) (old new : Device) (before after : LedgerState)
+    (tags digests tags_now digests_now : ℕ) (lines : List (ℕ × Line)) (root : List ℕ)
+    (usable : IsUsable setup.shape engine old before) (up : engine.down ≡ false) (few : setup.shape.levels ≤ 6)
+    (in_range : AreInRange setup.formulas) (inside : page < layout.pages setup.shape)
+    (cached : IsPathCached setup.shape engine.cache page) (named : IsPathNamedInMirror setup.shape engine page)
+    (closed : register_of old.regs.progress.items page ≡ None)
+    (major : (cached_block setup.shape engine page).major < 2 ^ 64 - 1) (valid : IsBlock (cached_block setup.shape engine page))
+    (renewed : (truth : List Line) → AreCachedTrue engine.cache truth
+    → IsRenewed setup.shape setup.formulas truth page (packed (next_block (cached_block setup.shape engine page))) lines root)
+    (same_tags : tags_now ≡ tags) (never_digests : NeverFalls digests digests_now) where
+  abbrev start : Parts
+  start = parts_of engine old before tags digests
+
+  abbrev final : Parts
+  final = parts_of engine_now new after tags_now digests_now
+
+  abbrev old_block : Line
+  old_block = packed (cached_block setup.shape engine page)
+
+  abbrev register : Progress
+  register = begun page old_block
+
+  abbrev block : Line
+  block = packed (next_block (cached_block setup.shape engine page))
+
+  never_tags : NeverFalls tags tags_now
+  never_tags within = (omega (arith, same_tags, within), omega (arith, same_tags, within))
+
+  unarmed : old.regs.group.items ≡ []
+  unarmed = usable.ready.no_group up
+
+  -- cut before
+  pub begin_undone : IsNothingDone engine engine_now old new before after
+      → HasBegunPage setup page start final (Err Fail.Cut)
+  begin_undone was =
+      record {
+        made = [];
+        done =
+            search rules;
+        marks = inl refl;
+        opened = λ ok. absurd (true≢false (sym ok));
+        block_kept =
+            search rules;
+        down = ap (λ e. e.down) was.engine;
+        steps =
+            search rules;
+        reads = was.device.reads;
+        tags = same_tags;
+      }
+
+  module _ (done : HasPageBegun setup.shape page register block lines root engine engine_now old.regs new.regs before after) where
+    -- the cached block is the true one
+    line_true : IsTrusted setup engine old.regs before
+        → line_in setup.shape engine.cache setup.shape.levels (counter_position setup.shape page)
+        ≡ line_at before.truth (counter_position setup.shape page)
+    line_true trusted =
+        cached_true_line setup.shape engine.cache before.truth page done.stored.banks_before trusted.cached_true cached
+
+    block_true : IsTrusted setup engine old.regs before
+        → cached_block setup.shape engine page ≡ true_block setup.shape before.truth page
+    block_true trusted = ap unpacked (line_true trusted)
+
+    beginning : IsBeginning setup page register block lines root engine old before
+    beginning =
+        record {
+          its_page = inside;
+          few = few;
+          in_range = in_range;
+          cached = cached;
+          named = named;
+          closed = closed;
+          in_use =
+              begun-IsProgress setup.shape page old_block inside
+              (subst (λ b. b.major < 2 ^ 64 - 1) (sym (unpacked-packed (cached_block setup.shape engine page) valid)) major);
+          of_page = refl;
+          can_roll = λ trusted. subst (λ b. b.major < 2 ^ 64 - 1) (block_true trusted) major;
+          its_register =
+              λ trusted.
+              ap (λ line. begun page line)
+              (ap packed (block_true trusted)
+              ∙ packed-unpacked (line_at before.truth (counter_position setup.shape page))
+              (IsLine-line_at before.truth (counter_position setup.shape page) trusted.anchored.of_shape.truth_lines));
+          new_block = λ trusted. ap (λ b. packed (next_block b)) (block_true trusted);
+          renewed = λ trusted. renewed before.truth (cached_lines_true setup.shape engine.cache before.truth trusted.cached_true);
+        }
+
+    -- cut while its group was armed
+    pub begin_cut : IsDevice old → IsDevice new → IsCutArmed (begin_group setup.shape page block) old new
+        → HasBegunPage setup page start final (Err Fail.Cut)
+    begin_cut whole whole_now armed =
+        record {
+          made = Begin page ∷ [];
+          done =
+              cut_begun setup page register block lines root engine engine_now old new before after tags digests tags_now digests_now
+              beginning done unarmed whole whole_now usable.ready.its_size never_tags never_digests armed;
+          marks = inr refl;
+          opened = λ ok. absurd (true≢false (sym ok));
+          block_kept = λ none. absurd (one_made none);
+          down = done.stored.down;
+          steps =
+              search rules;
+          reads = armed.reads;
+          tags = same_tags;
+        }
+      where
+        fewer : new.writes < last_count → new.latches < last_count → new.writes + new.latches < old.writes + old.latches + 3
+        fewer one two = search rules
+
+    -- done
+    pub begin_done : IsDevice old → HasCommitted (begin_group setup.shape page block) old new
+        → HasBegunPage setup page start final (Ok tt)
+    begin_done whole finished =
+        record {
+          made = Begin page ∷ [];
+          done = it_is;
+          marks = refl;
+          opened =
+              λ ok.
+              record {
+                registers = done.progress;
+                block =
+                    λ trusted.
+                    ap unpacked
+                    (cached_true_line setup.shape engine_now.cache after.truth page done.stored.banks
+                    (it_is.gone.trusted trusted).cached_true done.stored.cached)
+                    ∙ begun_block setup page register block lines root engine engine_now old new before after tags digests tags_now
+                    digests_now beginning done trusted
+                    ∙ ap next_block (sym (block_true trusted));
+                block_true =
+                    λ trusted.
+                    record {
+                      line =
+                          ap₂ (λ items told. option_map (λ ls. stored_meta setup.shape ls (counter_position setup.shape page))
+                          (redone_told items told)) finished.no_group finished.lines
+                          ∙ ap (option_map (λ ls. stored_meta setup.shape ls (counter_position setup.shape page)))
+                          (redone-nil (redone_told (begin_group setup.shape page block) old.lines))
+                          ∙ begun_line setup page register block lines root engine engine_now old new before after tags digests tags_now
+                          digests_now beginning done trusted old.lines
+                          (subst (λ size. AreToldLines size old.lines) usable.ready.its_size whole)
+                          ∙ ap (option_map (λ ls. line_at after.truth (counter_position setup.shape page))) (sym finished.lines);
+                      clean =
+                          begun_clean setup page register block lines root engine engine_now old new before after tags digests tags_now
+                          digests_now beginning done trusted;
+                    };
+                path_cached = done.stored.cached;
+                path_named = path_named;
+              };
+          block_kept = λ none. absurd (one_made none);
+          down = done.stored.down;
+          steps =
+              search rules;
+          reads = finished.reads;
+          tags = same_tags;
+        }
+      where
+        it_is : OneLossEffect setup going (Begin page ∷ []) start final
+        it_is =
+            done_begun setup page register block lines root engine engine_now old new before after tags digests tags_now digests_now
+            beginning done unarmed whole usable.ready.its_size never_tags never_digests finished
+
+        path_named : IsPathNamedInMirror setup.shape engine_now page
+        path_named = kept_named setup.shape page true lines engine engine_now done.stored cached named
+
+        three : new.writes < last_count → new.latches < last_count → new.writes + new.latches ≡ old.writes + old.latches + 3
+        three one two = search rules
+
+  -- a cut, whenever it came
+  pub page_cut : IsDevice old → IsDevice new
+      → IsBeginCut setup.shape page register block lines root engine engine_now old new before after
+      → HasBegunPage setup page start final (Err Fail.Cut)
+  page_cut whole whole_now (inl was) = begin_undone was
+  page_cut whole whole_now (inr was) = begin_cut was.page_begun whole whole_now was.device
+
+  pub page_begun : IsDevice old
+      → HasBeginCommitted setup.shape page register block lines root engine engine_now old new before after
+      → HasBegunPage setup page start final (Ok tt)
+  page_begun whole was = begin_done was.page_begun whole was.device

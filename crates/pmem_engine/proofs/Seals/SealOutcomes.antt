@@ -1,0 +1,301 @@
+-- The exits of a seal under the next counter: its tag line isn't read, its group is cut, or the line is sealed.
+use Rattle.std.proofs.Common.{rules, ℕ, ◌≡◌, ◌<◌, ◌≤◌, ◌+◌, ◌%◌, ◌++◌, inl, inr, Bool, true, false, List, [], ◌∷◌, length, IsTrue, Some, Ok, Err, cond, refl, sym, ap, ap₂, subst, ◌∙◌, arith}
+use Rattle.std.specs.Prelude.{option_map, ◌↔◌, ◌==◌, if◌then◌else◌}
+use Rattle.std.specs.List.{list_any}
+use Rattle.std.proofs.lemmas.Bool.{true≢false, cond-true, cond-false}
+use Rattle.pmem_base.specs.declared.lines.Line.{Line}
+use Rattle.pmem_base.specs.declared.lines.Ctr.{Ctr}
+use Rattle.pmem_base.specs.declared.answers.Mark.{Mark}
+use Rattle.pmem_base.specs.declared.answers.Mark.TheVariants.{Seal}
+use Rattle.pmem_base.specs.Counts.{last_count, risen}
+use Rattle.pmem_base.specs.Layout as layout
+use Rattle.pmem_base.specs.Layout.{page_of, index_in_page}
+use Rattle.pmem_base.specs.Lines.{IsLine, IsCtr, line_at}
+use Rattle.suite.specs.Formulas.{AreInRange}
+use Rattle.suite.specs.Setup.{Setup}
+use Rattle.split_counters.specs.declared.Block.{Block}
+use Rattle.split_counters.specs.Blocks.{packed, unpacked, minor_of, with_minor}
+use Rattle.bonsai_tree.specs.Positions.{counter_position}
+use Rattle.board.specs.Device.{Device, IsDevice, AreToldLines}
+use Rattle.board.specs.Steps.{HasRead, WasCut, Tells}
+use Rattle.commit_regs.specs.Groups.{redone_told}
+use Rattle.seal_ledger.specs.Ledger.{LedgerState}
+use Rattle.meta_path.specs.Blocks.{IsPathCached, AreCachedTrue}
+use Rattle.meta_path.specs.Storing.{IsRenewed}
+use Rattle.plain_model.specs.View.{plain_line}
+use Rattle.pmem_engine.specs.declared.fault.Fault.TheVariants as Fail
+use Rattle.pmem_engine.specs.declared.resealing.NextSeal.{NextSeal}
+use Rattle.pmem_engine.specs.Engine.{EngineState}
+use Rattle.pmem_engine.specs.Truth.{true_block}
+use Rattle.pmem_engine.specs.Invariants.{IsTrusted, stored_meta}
+use Rattle.pmem_engine.specs.Parts.{Parts, parts_of, lines_redone, AreTrusted, meta_line_in}
+use Rattle.pmem_engine.specs.Outcomes.{going, cut_short, is_sealed_by, NeverFalls, OneLossEffect}
+use Rattle.pmem_engine.specs.Calls.{IsUsable, IsPathNamedInMirror, is_persisting}
+use Rattle.pmem_engine.specs.Committing.{next_seal_of, HasCommitted, IsCutArmed}
+use Rattle.pmem_engine.specs.Inner.{cached_block}
+use Rattle.pmem_engine.specs.Sealing.{next_counter_of, raised_block, seal_steps, seal_group, HasPathSealed, HasSealCommitted, IsNothingDone, IsSealCut, HasSealedNext}
+use Rattle.pmem_engine.proofs.CallEnds.CallChains.{done_chained}
+use Rattle.pmem_engine.proofs.Laws.PlainLines.{plain_line-sealed, plain_line-other}
+use Rattle.pmem_engine.proofs.CheckedReads.UnsealedLines.{risen_never_falls}
+use Rattle.pmem_engine.proofs.PageLines.LineReseals.{sealed_here, unsealed_other}
+use Rattle.pmem_engine.proofs.Seals.StoredPaths.{cached_true_line, cached_lines_true, kept_named}
+use Rattle.pmem_engine.proofs.Seals.PathSeals.{IsPathSealing, done_sealed, cut_sealed, sealed_line_true, sealed_line_kept, sealed_clean}
+use Rattle.commit_regs.proofs.GroupLemmas.{redone-nil}
+
+module _ (setup : Setup) (at : ℕ) (plain : Line) (engine : EngineState) (old : Device) (before : LedgerState) (tags digests : ℕ)
+    (usable : IsUsable setup.shape engine old before) (up : engine.down ≡ false) where
+  abbrev start : Parts
+  start = parts_of engine old before tags digests
+
+  -- the board was cut, and nothing done
+  pub seal_unread : (new : Device) (tags_now digests_now : ℕ) → tags_now ≡ tags → NeverFalls digests digests_now → WasCut old new
+      → 4 ≤ seal_steps old.regs.loss (next_counter_of setup.shape engine at)
+      → HasSealedNext setup at plain start (parts_of engine new before tags_now digests_now) (Err Fail.Cut)
+  seal_unread new tags_now digests_now same_tags never_digests was some =
+      record {
+        made = [];
+        done =
+            search rules;
+        marks = inl refl;
+        plain_now = λ a. refl;
+        path_cached = λ ok. absurd (true≢false (sym ok));
+        path_named = λ ok. absurd (true≢false (sym ok));
+        down = refl;
+        steps =
+            search rules;
+        block_kept =
+            search rules;
+        block_written = λ trusted ok. absurd (true≢false (sym ok));
+      }
+
+-- a seal that doesn't write the counter block
+undivided : (loss at : ℕ) (ctr : Ctr) (cipher : Line) (tag : List ℕ)
+    → list_any (is_persisting loss at) (Seal at ctr cipher tag ∷ []) ≡ false → (ctr.minor % loss == 0) ≡ false
+undivided loss at ctr cipher tag unmade = search rules
+
+-- how many steps
+pub some_steps : (loss : ℕ) (ctr : Ctr) → 4 ≤ seal_steps loss ctr
+some_steps loss ctr = search rules
+
+module _ (setup : Setup) (at : ℕ) (plain tag_line : Line) (persisted : Bool) (engine engine_now : EngineState) (old mid new : Device)
+    (before after : LedgerState) (tags digests tags_now digests_now : ℕ) (lines : List (ℕ × Line)) (root : List ℕ)
+    (usable : IsUsable setup.shape engine old before) (up : engine.down ≡ false) (few : setup.shape.levels ≤ 6)
+    (in_range : AreInRange setup.formulas) (inside : at < layout.data_lines setup.shape) (whole : IsLine plain)
+    (cached : IsPathCached setup.shape engine.cache (page_of at)) (named : IsPathNamedInMirror setup.shape engine (page_of at))
+    (minor_low : minor_of (cached_block setup.shape engine (page_of at)) (index_in_page at) < 127)
+    (is_ctr : IsCtr (next_counter_of setup.shape engine at))
+    (renewed : (truth : List Line) → AreCachedTrue engine.cache truth
+    → IsRenewed setup.shape setup.formulas truth (page_of at) (packed (raised_block setup.shape engine at)) lines root)
+    (read : HasRead old (layout.tag_line setup.shape at) tag_line mid)
+    (due : IsTrue persisted ↔ ((next_counter_of setup.shape engine at).minor % old.regs.loss ≡ 0))
+    (more_tags : tags_now ≡ risen tags) (never_digests : NeverFalls digests digests_now)
+    (device : IsDevice mid) where
+  abbrev first : Parts
+  first = parts_of engine old before tags digests
+
+  abbrev middle : Parts
+  middle = parts_of engine mid before tags digests
+
+  abbrev final : Parts
+  final = parts_of engine_now new after tags_now digests_now
+
+  abbrev ctr : Ctr
+  ctr = next_counter_of setup.shape engine at
+
+  abbrev next : NextSeal
+  next = next_seal_of setup.formulas at ctr plain tag_line
+
+  abbrev mark : Mark
+  mark = Seal next.at next.ctr next.cipher next.tag
+
+  abbrev block : Line
+  block = packed (raised_block setup.shape engine at)
+
+  abbrev group : List (ℕ × Line)
+  group = seal_group setup.shape next persisted block
+
+  abbrev position : ℕ
+  position = counter_position setup.shape (page_of at)
+
+  was_unarmed : old.regs.group.items ≡ []
+  was_unarmed = usable.ready.no_group up
+
+  mid_unarmed : mid.regs.group.items ≡ []
+  mid_unarmed = ap (λ regs. regs.group.items) read.regs ∙ was_unarmed
+
+  mid_size : mid.size ≡ layout.device_lines setup.shape
+  mid_size = read.size ∙ usable.ready.its_size
+
+  never_tags : NeverFalls tags tags_now
+  never_tags = subst (NeverFalls tags) (sym more_tags) (risen_never_falls tags)
+
+  -- the tag line was read, no more
+  was_read : OneLossEffect setup going [] first middle
+  was_read = search rules
+
+  -- whether the block is in the group
+  is_due : (ctr.minor % old.regs.loss == 0) ≡ persisted
+  is_due = search rules
+
+  steps_are : seal_steps old.regs.loss ctr ≡ length group + 2
+  steps_are = search rules
+
+  -- the plain lines
+  plain_after : after.marks ≡ before.marks ++ mark ∷ [] → (a : ℕ)
+      → plain_line setup.formulas after.marks a
+      ≡ (if is_sealed_by (mark ∷ []) a then Some plain else plain_line setup.formulas before.marks a)
+  plain_after marks a = ap (λ ms. plain_line setup.formulas ms a) marks ∙ go (is_sealed_by (mark ∷ []) a) refl
+    where
+      go : (b : Bool) → is_sealed_by (mark ∷ []) a ≡ b
+          → plain_line setup.formulas (before.marks ++ mark ∷ []) a
+          ≡ cond (is_sealed_by (mark ∷ []) a) (Some plain) (plain_line setup.formulas before.marks a)
+      go true is =
+          subst (λ b. plain_line setup.formulas (before.marks ++ mark ∷ []) b ≡ Some plain)
+          (sym (sealed_here at a next.ctr next.cipher next.tag is))
+          (plain_line-sealed setup.formulas before.marks at ctr plain next.tag in_range is_ctr whole)
+          ∙ sym (cond-true (is_sealed_by (mark ∷ []) a) (Some plain) (plain_line setup.formulas before.marks a) is)
+      go false is =
+          plain_line-other setup.formulas before.marks at ctr next.cipher next.tag a
+          (unsealed_other at a next.ctr next.cipher next.tag is)
+          ∙ sym (cond-false (is_sealed_by (mark ∷ []) a) (Some plain) (plain_line setup.formulas before.marks a) is)
+
+  module _ (done : HasPathSealed setup.shape next persisted block lines root engine engine_now mid.regs new.regs before after) where
+    block_true : IsTrusted setup engine mid.regs before
+        → cached_block setup.shape engine (page_of at) ≡ true_block setup.shape before.truth (page_of at)
+    block_true trusted =
+        ap unpacked
+        (cached_true_line setup.shape engine.cache before.truth (page_of at) done.stored.banks_before trusted.cached_true cached)
+
+    sealing : IsPathSealing setup next ctr.minor persisted block lines root engine mid before
+    sealing =
+        record {
+          its_line = inside;
+          few = few;
+          in_range = in_range;
+          its_minor = omega (arith, minor_low);
+          tagged = refl;
+          tags = tag_line;
+          tags_read = subst (λ o. Tells o (layout.tag_line setup.shape at) tag_line) (sym read.lines) read.tells;
+          tag_line = refl;
+          rest =
+              search rules;
+          cached = cached;
+          named = named;
+          counter =
+              λ trusted. ap (λ (b : Block). record { major = b.major; minor = ctr.minor }) (block_true trusted);
+          new_block =
+              λ trusted. ap (λ b. packed (with_minor b (index_in_page at) ctr.minor)) (block_true trusted);
+          raised = λ trusted. ap (λ b. minor_of b (index_in_page at) + 1) (block_true trusted);
+          renewed =
+              λ trusted. renewed before.truth (cached_lines_true setup.shape engine.cache before.truth trusted.cached_true);
+        }
+
+    trusted_mid : AreTrusted setup first → IsTrusted setup engine mid.regs before
+    trusted_mid trusted = was_read.gone.trusted trusted
+
+    block_as_it_was : lines_redone final ≡ redone_told group mid.lines → AreTrusted setup first
+        → list_any (is_persisting old.regs.loss at) (mark ∷ []) ≡ false
+        → meta_line_in setup.shape final position ≡ meta_line_in setup.shape first position
+    block_as_it_was comes trusted unmade =
+        let rest : (ctr.minor % old.regs.loss == 0) ≡ false = undivided old.regs.loss at ctr next.cipher next.tag unmade in
+        ap (option_map (λ ls. stored_meta setup.shape ls position)) comes
+        ∙ sealed_line_kept setup next ctr.minor persisted block lines root engine engine_now mid new before after tags digests tags_now
+        digests_now sealing done (trusted_mid trusted) (sym is_due ∙ rest) mid.lines refl
+        ∙ ap (option_map (λ ls. stored_meta setup.shape ls position))
+        (read.lines ∙ sym (ap (λ items. redone_told items old.lines) was_unarmed ∙ redone-nil old.lines))
+
+    -- cut while its group was armed
+    pub seal_cut : IsDevice new → IsCutArmed group mid new → HasSealedNext setup at plain first final (Err Fail.Cut)
+    seal_cut device_now armed =
+        record {
+          made = mark ∷ [];
+          done =
+              done_chained setup cut_short [] (mark ∷ []) first middle final was_read
+              (cut_sealed setup next ctr.minor persisted block lines root engine engine_now mid new before after tags digests tags_now
+              digests_now sealing done mid_unarmed device device_now mid_size never_tags never_digests armed);
+          marks = inr refl;
+          plain_now = plain_after done.noted.marks;
+          path_cached = λ ok. absurd (true≢false (sym ok));
+          path_named = λ ok. absurd (true≢false (sym ok));
+          down = done.stored.down;
+          steps =
+              search rules;
+          block_kept =
+              block_as_it_was (ap (λ items. redone_told items new.lines) armed.armed ∙ armed.again);
+          block_written = λ trusted ok. absurd (true≢false (sym ok));
+        }
+      where
+        fewer : new.writes < last_count → new.latches < last_count
+            → new.writes + new.latches < old.writes + old.latches + seal_steps old.regs.loss ctr
+        fewer one two = search rules
+
+    -- sealed
+    pub seal_done : HasCommitted group mid new → HasSealedNext setup at plain first final (Ok ctr)
+    seal_done finished =
+        record {
+          made = mark ∷ [];
+          done =
+              done_chained setup going [] (mark ∷ []) first middle final was_read
+              (done_sealed setup next ctr.minor persisted block lines root engine engine_now mid new before after tags digests tags_now
+              digests_now sealing done mid_unarmed device mid_size never_tags never_digests finished);
+          marks = (refl, refl);
+          plain_now = plain_after done.noted.marks;
+          path_cached = λ ok. done.stored.cached;
+          path_named = λ ok. path_named;
+          down = done.stored.down;
+          steps =
+              search rules;
+          block_kept = block_as_it_was comes;
+          block_written =
+              λ trusted ok zero.
+              record {
+                line =
+                    ap (option_map (λ ls. stored_meta setup.shape ls position)) comes
+                    ∙ sealed_line_true setup next ctr.minor persisted block lines root engine engine_now mid new before after tags digests
+                    tags_now digests_now sealing done (trusted_mid trusted) (sym is_due ∙ zero) mid.lines refl
+                    (subst (λ size. AreToldLines size mid.lines) mid_size device)
+                    ∙ ap (option_map (λ ls. line_at after.truth position)) (sym finished.lines);
+                clean =
+                    sealed_clean setup next ctr.minor persisted block lines root engine engine_now mid new before after tags digests
+                    tags_now digests_now sealing done (trusted_mid trusted) (sym is_due ∙ zero);
+              };
+        }
+      where
+        comes : lines_redone final ≡ redone_told group mid.lines
+        comes = ap₂ redone_told finished.no_group finished.lines ∙ redone-nil (redone_told group mid.lines)
+
+        path_named : IsPathNamedInMirror setup.shape engine_now (page_of at)
+        path_named = kept_named setup.shape (page_of at) persisted lines engine engine_now done.stored cached named
+
+        exact : new.writes < last_count → new.latches < last_count
+            → new.writes + new.latches ≡ old.writes + old.latches + seal_steps old.regs.loss ctr
+        exact one two = search rules
+
+  -- a cut before its group was armed
+  pub seal_undone : IsNothingDone engine engine_now mid new before after → HasSealedNext setup at plain first final (Err Fail.Cut)
+  seal_undone was =
+      record {
+        made = [];
+        done =
+            search rules;
+        marks = inl refl;
+        plain_now = λ a. ap (λ ledger. plain_line setup.formulas ledger.marks a) was.ledger;
+        path_cached = λ ok. absurd (true≢false (sym ok));
+        path_named = λ ok. absurd (true≢false (sym ok));
+        down = ap (λ e. e.down) was.engine;
+        steps =
+            search rules;
+        block_kept =
+            search rules;
+        block_written = λ trusted ok. absurd (true≢false (sym ok));
+      }
+
+  pub seal_cuts : IsDevice new
+      → IsSealCut setup.shape next persisted block lines root engine engine_now mid new before after
+      → HasSealedNext setup at plain first final (Err Fail.Cut)
+  seal_cuts device_now (inl was) = seal_undone was
+  seal_cuts device_now (inr was) = seal_cut was.path_sealed device_now was.device
+
+  pub seal_goes : HasSealCommitted setup.shape next persisted block lines root engine engine_now mid new before after
+      → HasSealedNext setup at plain first final (Ok ctr)
+  seal_goes was = seal_done was.path_sealed was.device
