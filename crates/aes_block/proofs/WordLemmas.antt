@@ -5,7 +5,7 @@ use Rattle.std.specs.Int.{w32, to_be_bytes, from_be_bytes}
 use Rattle.std.proofs.lemmas.Nat.{be_bytes_4, from_be_bytes-to_be_bytes_4, xor_shr, xor_mod}
 use Rattle.std.proofs.lemmas.List.{drop-drop, drop_more, drop_all}
 use Rattle.aes_block.specs.Cipher.{xor_with, word_of, round_key}
-use Rattle.aes_block.specs.Words.{bytes_of, words_of}
+use Rattle.aes_block.specs.Words.{bytes_of, words_of_bytes}
 use Rattle.aes_block.proofs.ListLemmas.{cells_of, four_at, drop-four_at}
 
 -- ---- one word
@@ -79,11 +79,11 @@ round_key-bytes_of words round k at room =
     ∙ ap (take 16) (drop-bytes_of k words ∙ ap bytes_of (drop-four_at words k room))
 
 pub words_of-bytes_of : (words : List ℕ) → ((i : ℕ) → get_or words i 0 < 2 ^ 32) →
-    words_of (bytes_of words) ≡ words
-unfolding bytes_of words_of
+    words_of_bytes (bytes_of words) ≡ words
+unfolding bytes_of words_of_bytes
 words_of-bytes_of [] below = refl
 words_of-bytes_of (word ∷ words) below =
-    ap (λ w. w ∷ words_of (bytes_of words)) (from_be_bytes-to_be_bytes_4 word (below 0))
+    ap (λ w. w ∷ words_of_bytes (bytes_of words)) (from_be_bytes-to_be_bytes_4 word (below 0))
     ∙ ap (λ ws. word ∷ ws) (words_of-bytes_of words (λ i. below (suc i)))
 
 -- ---- four words

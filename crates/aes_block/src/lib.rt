@@ -29,7 +29,7 @@ pub struct Aes128 {
 impl Model for Aes128 {
     ghost use Rattle.std.specs.Prelude.{List, ℕ};
     ghost use Rattle.aes_block.specs.Cipher.{expanded_key};
-    ghost use Rattle.aes_block.specs.Words.{key_of, words_of, IsExpanded};
+    ghost use Rattle.aes_block.specs.Words.{key_of, words_of_bytes, IsExpanded};
     ghost use Rattle.std.proofs.Common.{ap, sym, ◌∙◌};
 
     ghost Value = { List ℕ };
@@ -38,9 +38,9 @@ impl Model for Aes128 {
 
     ghost invariant = { λ a. IsExpanded a.words };
 
-    ghost inverse = { λ key. record { words = words_of (expanded_key key 40) } };
+    ghost inverse = { λ key. record { words = words_of_bytes (expanded_key key 40) } };
 
-    ghost inverse_ok = { λ a h. ap (λ words. record { words = words }) (ap words_of (sym h.expanded) ∙ h.in_range) };
+    ghost inverse_ok = { λ a h. ap (λ words. record { words = words }) (ap words_of_bytes (sym h.expanded) ∙ h.in_range) };
 }
 
 impl Aes128 {

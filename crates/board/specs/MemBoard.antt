@@ -1,9 +1,9 @@
 -- What contracts see of a `MemBoard`.
 use Rattle.std.specs.Option.{option_map}
 use Rattle.board.specs.declared.memory.MemBoard.{MemBoard}
-use Rattle.board.specs.Memory.{Memory}
+use Rattle.board.specs.Memory.{BoardMemory}
 
-abbrev pub memory_of : MemBoard → Memory
+abbrev pub memory_of : MemBoard → BoardMemory
 memory_of board =
     record {
       lines = board.lines.items;

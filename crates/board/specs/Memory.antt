@@ -7,7 +7,7 @@ use Rattle.pmem_base.specs.Lines.{line_at, line_of, zero_line}
 use Rattle.pmem_base.specs.Registers.{empty_regs}
 use Rattle.board.specs.Device.{Device}
 
-pub record Memory : Type 0 where
+pub record BoardMemory : Type 0 where
   pub lines : List Line
   pub regs : Regs
   pub powered : Bool
@@ -20,7 +20,7 @@ pub record Memory : Type 0 where
   pub cuts : ℕ
 
 -- so many zero lines, empty registers, power on, and neither a fuse nor a snapshot
-abbrev pub new_memory : ℕ → Memory
+abbrev pub new_memory : ℕ → BoardMemory
 new_memory size =
     record {
       lines = replicate size zero_line;
@@ -35,7 +35,7 @@ new_memory size =
     }
 
 -- no persist step can be done: power is off, or the fuse stands at 0
-abbrev pub IsSpent : Memory → Type 0
+abbrev pub IsSpent : BoardMemory → Type 0
 IsSpent memory = (memory.powered ≡ false) ⊎ (memory.fuse ≡ Some 0)
 
 -- the fuse after one persist step
@@ -44,10 +44,10 @@ burnt_fuse None = None
 burnt_fuse (Some left) = Some (left - 1)
 
 -- the memory after a read, a line write, a latch or a cut
-abbrev pub after_read : Memory → Memory
+abbrev pub after_read : BoardMemory → BoardMemory
 after_read memory = record memory { reads = risen memory.reads }
 
-abbrev pub after_write : Memory → ℕ → Line → Memory
+abbrev pub after_write : BoardMemory → ℕ → Line → BoardMemory
 after_write memory at line =
     record memory {
       lines = slice_set memory.lines at line;
@@ -55,7 +55,7 @@ after_write memory at line =
       fuse = burnt_fuse memory.fuse;
     }
 
-abbrev pub after_latch : Memory → Regs → Memory
+abbrev pub after_latch : BoardMemory → Regs → BoardMemory
 after_latch memory regs =
     record memory {
       regs = regs;
@@ -63,14 +63,14 @@ after_latch memory regs =
       fuse = burnt_fuse memory.fuse;
     }
 
-abbrev pub after_cut : Memory → Memory
+abbrev pub after_cut : BoardMemory → BoardMemory
 after_cut memory = record memory { powered = false; fuse = None; cuts = risen memory.cuts }
 
 -- the memory with other lines, or with one line replaced
-abbrev pub with_lines : Memory → List Line → Memory
+abbrev pub with_lines : BoardMemory → List Line → BoardMemory
 with_lines memory lines = record memory { lines = lines }
 
-abbrev pub with_line_at : Memory → ℕ → Line → Memory
+abbrev pub with_line_at : BoardMemory → ℕ → Line → BoardMemory
 with_line_at memory at line = with_lines memory (slice_set memory.lines at line)
 
 -- a line with one bit turned: bit b is bit b mod 8 of byte b / 8
@@ -84,7 +84,7 @@ restored_lines lines None at = lines
 restored_lines lines (Some kept) at = slice_set lines at (line_at kept at)
 
 -- what callers see of it as a board
-abbrev pub device_of : Memory → Device
+abbrev pub device_of : BoardMemory → Device
 device_of memory =
     record {
       size = length memory.lines;

@@ -1,6 +1,6 @@
 -- Positions and levels: children and parents are inverse, each level is an interval, and a parent is one level up.
-use Rattle.std.proofs.Common.{ℕ, zero, suc, ◌≡◌, ◌<◌, ◌≤◌, ◌+◌, ◌-◌, ◌*◌, ◌/◌, ◌^◌, cond, inl, inr, refl, sym, ap, subst, ◌∙◌, arith, add-one, lit<}
-use Rattle.std.proofs.Math.Nat.{pow-suc, pow-le-pow_right}
+use Rattle.std.proofs.Common.{ℕ, zero, suc, ◌≡◌, ◌<◌, ◌≤◌, ◌+◌, ◌-◌, ◌*◌, ◌/◌, ◌^◌, cond, inl, inr, refl, sym, ap, subst, ◌∙◌, arith, add-one}
+use Rattle.std.proofs.Math.Nat.{pow-suc}
 use Rattle.std.specs.Prelude.{nat_le}
 use Rattle.std.proofs.lemmas.Bool.{cases_Bool, cases_lt, leb-true, leb-false}
 use Rattle.pmem_base.specs.Shape.{Shape}
@@ -12,14 +12,8 @@ use Rattle.bonsai_tree.specs.Positions.{parent, child_slot, child_position, leve
 pub parent-child : (x i : ℕ) → i < 4 → parent (child_position x i) ≡ x
 parent-child x i small = omega (arith, small)
 
-pub child_slot-child : (x i : ℕ) → i < 4 → child_slot (child_position x i) ≡ i
-child_slot-child x i small = omega (arith, small)
-
 pub child-of_parent : (x : ℕ) → 1 ≤ x → child_position (parent x) (child_slot x) ≡ x
 child-of_parent x below = omega (arith, below)
-
-pub parent-lt : (x : ℕ) → 1 ≤ x → parent x < x
-parent-lt x below = omega (arith, below)
 
 -- ---- where levels begin
 
@@ -67,9 +61,6 @@ pub record IsAtLevel (j x : ℕ) : Type 0 where
 -- they are an interval of 4 ^ j
 pub IsAtLevel-place : (j i : ℕ) → i < 4 ^ j → IsAtLevel j (level_start j + i)
 IsAtLevel-place j i inside = record { from = omega arith; below = omega (arith, inside, level_start-next j) }
-
-pub place-IsAtLevel : (j x : ℕ) → IsAtLevel j x → (x - level_start j < 4 ^ j) × (level_start j + (x - level_start j) ≡ x)
-place-IsAtLevel j x at = (omega (arith, at.from, at.below, level_start-next j), omega (arith, at.from))
 
 -- the parent is one level up
 pub parent-IsAtLevel : (j x : ℕ) → IsAtLevel (suc j) x → IsAtLevel j (parent x)
@@ -138,14 +129,6 @@ level_of-le g x few inside =
       | inr fine ↦ fine
     ]
 
--- a parent's level is one less
-pub level_of-parent : (g : Shape) (x : ℕ) → g.levels ≤ 6 → 1 ≤ x → x < meta_lines g → level_of x ≡ level_of (parent x) + 1
-level_of-parent g x few below inside = go (level_of x) refl (level_of-IsAtLevel g x few inside) (level_of-le g x few inside)
-  where
-    go : (j : ℕ) → level_of x ≡ j → IsAtLevel j x → j ≤ g.levels → level_of x ≡ level_of (parent x) + 1
-    go zero is at le = absurd (omega (arith, at.below, below))
-    go (suc j) is at le = is ∙ omega (arith, level_of-at j (parent x) (omega (arith, le, few)) (parent-IsAtLevel j x at))
-
 -- ---- counter blocks
 
 pub meta_lines-counters : (g : Shape) → meta_lines g ≡ level_start g.levels + pages g
@@ -161,9 +144,3 @@ counter_position-lt g page inside = omega (arith, meta_lines-counters g, inside)
 -- a position of the last level is that of a page's counter block
 pub counter_position-of_last : (g : Shape) (x : ℕ) → IsAtLevel g.levels x → (x - counter_position g 0 < pages g) × (counter_position g (x - counter_position g 0) ≡ x)
 counter_position-of_last g x at = (omega (arith, at.from, at.below, level_start-next g.levels), omega (arith, at.from))
-
--- a memory has at most 5461 metadata lines
-pub meta_lines-most : (g : Shape) → g.levels ≤ 6 → meta_lines g ≤ 5461
-meta_lines-most g few =
-    let most : 4 ^ (g.levels + 1) ≤ 4 ^ 7 = pow-le-pow_right {n = 4} (lit< tt) {i = g.levels + 1} {j = 7} (omega (arith, few)) in
-    omega (arith, most)

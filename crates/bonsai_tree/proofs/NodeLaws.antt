@@ -1,12 +1,11 @@
 -- Nodes: a node is the digests of its four children, and depends on their lines alone.
 use Rattle.std.proofs.Common.{ℕ, zero, suc, ◌≡◌, ◌≢◌, ◌<◌, length, refl, sym, ap, ◌∙◌, arith}
 use Rattle.pmem_base.specs.declared.lines.Line.{Line}
-use Rattle.pmem_base.specs.Lines.{IsLine}
-use Rattle.suite.specs.Formulas.{Formulas, AreInRange}
+use Rattle.suite.specs.Formulas.{Formulas}
 use Rattle.bonsai_tree.specs.Positions.{child_position}
 use Rattle.bonsai_tree.specs.Nodes.{node_over, child_digest, child_digest_over}
 use Rattle.bonsai_tree.specs.Paths.{with_child_digest}
-use Rattle.bonsai_tree.proofs.Slots.{put_first, put_second, put_third, put_fourth, four-same, four-IsLine, first_of_four, second_of_four, third_of_four, fourth_of_four}
+use Rattle.bonsai_tree.proofs.Slots.{put_first, put_second, put_third, put_fourth, four-same, first_of_four, second_of_four, third_of_four, fourth_of_four}
 
 -- a child's digest follows its line
 digest-same : (f : Formulas) (x i : ℕ) (a b : ℕ → Line) → a (child_position x i) ≡ b (child_position x i) → child_digest_over f x a i ≡ child_digest_over f x b i
@@ -54,12 +53,3 @@ child_digest-node_over f x (suc (suc (suc zero))) line long small =
     let D = child_digest_over f x line in
     fourth_of_four (D 0) (D 1) (D 2) (D 3) (long 0 (omega arith)) (long 1 (omega arith)) (long 2 (omega arith)) (long 3 (omega arith))
 child_digest-node_over f x (suc (suc (suc (suc i)))) line long small = absurd (omega (arith, small))
-
--- over whole lines a node is a whole line
-pub node_over-IsLine : (f : Formulas) (x : ℕ) (line : ℕ → Line) → AreInRange f → ((i : ℕ) → i < 4 → IsLine (line (child_position x i))) → IsLine (node_over f x line)
-node_over-IsLine f x line in_range whole =
-    four-IsLine (child_digest_over f x line 0) (child_digest_over f x line 1) (child_digest_over f x line 2) (child_digest_over f x line 3)
-    (in_range.digests (child_position x 0) (line (child_position x 0)) (whole 0 (omega arith)))
-    (in_range.digests (child_position x 1) (line (child_position x 1)) (whole 1 (omega arith)))
-    (in_range.digests (child_position x 2) (line (child_position x 2)) (whole 2 (omega arith)))
-    (in_range.digests (child_position x 3) (line (child_position x 3)) (whole 3 (omega arith)))

@@ -3,7 +3,7 @@ use Rattle.std.proofs.Common.{ℕ, zero, suc, ◌≡◌, ◌≢◌, ◌<◌, ◌
 use Rattle.std.specs.Prelude.{◌==◌, All, slice_index}
 use Rattle.std.specs.List.{list_any}
 use Rattle.std.proofs.Math.Nat.{pow-suc, div-one, div-eq_of_lt, div-div-eq-div-mul}
-use Rattle.std.proofs.lemmas.Bool.{cases_Bool, cases_lt, cases_eq, eqb-true, eq-eqb, or_cases, or_left, or_right, false≢true}
+use Rattle.std.proofs.lemmas.Bool.{cases_Bool, cases_eq, eqb-true, eq-eqb, or_cases, or_left, or_right, false≢true}
 use Rattle.std.proofs.lemmas.List.{get_or_at, get_or_append_left}
 use Rattle.std.proofs.lemmas.List.Folds.{list_any-append, list_any_at}
 use Rattle.std.proofs.lemmas.List.Elements.{All-cons, All-nil, All-append, All-weaker}
@@ -163,120 +163,10 @@ path-done g page j path end built =
     ∙ (ap (λ n. path_down_to n (path_position g page n)) end
     ∙ ap (path_down_to g.levels) (path_position-block g page))
 
--- ---- what two paths share
-
--- they share their first n positions, and nowhere else the same position
-pub record SharesFront (n : ℕ) (xs ys : List ℕ) : Type 0 where
-  pub same : (i : ℕ) → i < n → slice_index xs i ≡ slice_index ys i
-  pub apart : (i k : ℕ) → i < length xs → k < length ys → slice_index xs i ≡ slice_index ys k → (i ≡ k) × (i < n)
-
--- below a common position at level j the paths are one
-path_position-front : (g : Shape) (p q j i : ℕ) → j ≤ g.levels → path_position g p j ≡ path_position g q j → i ≤ j → path_position g p i ≡ path_position g q i
-path_position-front g p q zero i le same within =
-    let top : i ≡ 0 = omega (arith, within) in
-    subst (λ n. path_position g p n ≡ path_position g q n) (sym top) same
-path_position-front g p q (suc j) i le same within =
-    elim (cases_eq i (suc j)) [
-      | inl last ↦ subst (λ n. path_position g p n ≡ path_position g q n) (sym last) same
-      | inr before ↦
-          path_position-front g p q j i (omega (arith, le))
-          (sym (path_position-parent g p j (omega (arith, le))) ∙ (ap parent same ∙ path_position-parent g q j (omega (arith, le))))
-          (omega (arith, within, before))
-    ]
-
--- how many levels the paths share down to level j
-record SharesTo (g : Shape) (p q j n : ℕ) : Type 0 where
-  pub some : 1 ≤ n
-  pub most : n ≤ suc j
-  pub same : (i : ℕ) → i < n → path_position g p i ≡ path_position g q i
-  pub differ : (i : ℕ) → n ≤ i → i ≤ j → path_position g p i ≢ path_position g q i
-
-shares_to : (g : Shape) (p q j : ℕ) → p < pages g → q < pages g → j ≤ g.levels → (n : ℕ) × SharesTo g p q j n
-shares_to g p q zero one two le = (
-  1,
-  record {
-    some = omega arith;
-    most = omega arith;
-    same =
-        λ i below.
-        path_position-front g p q 0 i le (path_position-top g p one ∙ sym (path_position-top g q two)) (omega (arith, below));
-    differ = λ i low high. absurd (omega (arith, low, high));
-  },
-)
-shares_to g p q (suc j) one two le =
-    elim (cases_eq (path_position g p (suc j)) (path_position g q (suc j))) [
-      | inl same ↦ (
-        suc (suc j),
-        record {
-          some = omega arith;
-          most = omega arith;
-          same = λ i below. path_position-front g p q (suc j) i le same (omega (arith, below));
-          differ = λ i low high. absurd (omega (arith, low, high));
-        },
-      )
-      | inr apart ↦ go apart (shares_to g p q j one two (omega (arith, le)))
-    ]
-  where
-    go : path_position g p (suc j) ≢ path_position g q (suc j) → (n : ℕ) × SharesTo g p q j n → (n : ℕ) × SharesTo g p q (suc j) n
-    go apart (n, shares) = (
-      n,
-      record {
-        some = shares.some;
-        most = omega (arith, shares.most);
-        same = shares.same;
-        differ =
-            λ i low high.
-            elim (cases_eq i (suc j)) [
-              | inl last ↦ subst (λ k. path_position g p k ≢ path_position g q k) (sym last) apart
-              | inr before ↦ shares.differ i low (omega (arith, high, before))
-            ];
-      },
-    )
-
--- two pages' paths share exactly a front, with the top at least
-pub paths-SharesFront : (g : Shape) (p q : ℕ) → p < pages g → q < pages g → (n : ℕ) × (1 ≤ n) × (n ≤ g.levels + 1) × SharesFront n (path_of g p) (path_of g q)
-paths-SharesFront g p q one two = go (shares_to g p q g.levels one two (omega arith))
-  where
-    go : (n : ℕ) × SharesTo g p q g.levels n → (n : ℕ) × (1 ≤ n) × (n ≤ g.levels + 1) × SharesFront n (path_of g p) (path_of g q)
-    go (n, shares) = (
-      n,
-      shares.some,
-      omega (arith, shares.most),
-      record {
-        same =
-            λ i below.
-            path_of-at g p i (omega (arith, below, shares.most))
-            ∙ (shares.same i below ∙ sym (path_of-at g q i (omega (arith, below, shares.most))));
-        apart =
-            λ i k first second same.
-            let i-level : i ≤ g.levels = omega (arith, first, length-path_of g p) in
-            let k-level : k ≤ g.levels = omega (arith, second, length-path_of g q) in
-            let level : i ≡ k =
-            IsAtLevel-once i k (slice_index (path_of g p) i) (path_of-IsAtLevel g p i one i-level)
-            (subst (IsAtLevel k) (sym same) (path_of-IsAtLevel g q k two k-level)) in
-            let here : path_position g p i ≡ path_position g q i =
-            sym (path_of-at g p i i-level)
-            ∙ (same ∙ (path_of-at g q k k-level ∙ ap (path_position g q) (sym level))) in (
-              level,
-              elim (cases_lt i n) [ inl below ↦ below | inr above ↦ absurd (shares.differ i above i-level here) ],
-            );
-      },
-    )
-
--- the paths of two pages part above their counter blocks
-pub SharesFront-parts : (g : Shape) (p q n : ℕ) → p ≢ q → SharesFront n (path_of g p) (path_of g q) → n ≤ g.levels
-SharesFront-parts g p q n apart shares =
-    elim (cases_lt g.levels n) [
-      | inl all ↦
-          absurd
-          (apart
-          (omega (arith, sym (path_of-block g p) ∙ (shares.same g.levels all ∙ path_of-block g q))))
-      | inr fine ↦ fine
-    ]
-
 -- ---- which positions are on a page's path
 
-path_down_to-last : (j x : ℕ) → list_any (λ z. z == x) (path_down_to j x) ≡ true
+-- a path ends in its position
+pub path_down_to-last : (j x : ℕ) → list_any (λ z. z == x) (path_down_to j x) ≡ true
 path_down_to-last zero x = or_left (x == x) false (eq-eqb x x refl)
 path_down_to-last (suc j) x =
     list_any-append (λ z. z == x) (path_down_to j (parent x)) (x ∷ [])
@@ -348,16 +238,6 @@ other_block_off_path g page other inside within apart =
 pub off_path-other_block : (g : Shape) (page x : ℕ) → is_on_path g page x ≡ false → x ≢ counter_position g page
 off_path-other_block g page x off same =
     false≢true (sym off ∙ ap (is_on_path g page) same ∙ own_block_on_path g page)
-
--- the parent of a position on the path is on it
-pub parent-on_path : (g : Shape) (page x : ℕ) → 1 ≤ x → page < pages g → is_on_path g page x ≡ true → is_on_path g page (parent x) ≡ true
-parent-on_path g page x below inside on = go (on_path-position g page x on)
-  where
-    go : (j : ℕ) × (j ≤ g.levels) × (x ≡ path_position g page j) → is_on_path g page (parent x) ≡ true
-    go (zero, within, is) = absurd (omega (arith, below, is, path_position-top g page inside))
-    go (suc j, within, is) =
-        ap (is_on_path g page) (ap parent is ∙ path_position-parent g page j (omega (arith, within)))
-        ∙ path_position-on_path g page j (omega (arith, within))
 
 -- ---- positions of a path by their levels
 

@@ -1,24 +1,17 @@
 -- A node's slots: what a digest put into one of them changes.
 use Rattle.std.proofs.Common.{ℕ, ◌≡◌, ◌≢◌, ◌<◌, ◌+◌, ◌*◌, List, [], ◌∷◌, ◌++◌, length, take, drop, get_or, refl, sym, ap, subst, inl, inr, ◌∙◌, arith, append_assoc, append-nil, length-append}
-use Rattle.std.specs.Prelude.{slice_range}
 use Rattle.std.specs.List.{concat}
 use Rattle.std.proofs.lemmas.Bool.{cases_lt}
 use Rattle.std.proofs.lemmas.Grind.{take_at_read}
 use Rattle.std.proofs.lemmas.List.{take_at, drop_at, length-drop, length-take-le}
-use Rattle.std.proofs.lemmas.List.Elements.{All-append, All-nil}
 use Rattle.std.proofs.lemmas.List.Folds.{concat-append}
 use Rattle.pmem_base.specs.declared.lines.Line.{Line}
-use Rattle.pmem_base.specs.Lines.{IsLine, IsTag, line_of, put_bytes}
-use Rattle.pmem_base.proofs.Parts.{part-put_bytes_same, part-put_bytes_before, part-put_bytes_behind}
+use Rattle.pmem_base.specs.Lines.{line_of, put_bytes}
+use Rattle.pmem_base.proofs.Parts.{part-put_bytes_before, part-put_bytes_behind}
 use Rattle.bonsai_tree.specs.Nodes.{node_of, child_digest}
 use Rattle.bonsai_tree.specs.Paths.{with_child_digest}
 
 -- ---- the digest of a slot
-
-pub child_digest-with_same : (node : Line) (slot : ℕ) (digest : List ℕ) → length node.0 ≡ 64 → slot < 4 → length digest ≡ 16 → child_digest (with_child_digest node slot digest) slot ≡ digest
-child_digest-with_same node slot digest whole small long =
-    ap (λ n. slice_range (with_child_digest node slot digest).0 (16 * slot) (16 * slot + n)) (sym long)
-    ∙ part-put_bytes_same node (16 * slot) digest (omega (arith, whole, small))
 
 pub child_digest-with_other : (node : Line) (slot other : ℕ) (digest : List ℕ) → length node.0 ≡ 64 → slot < 4 → length digest ≡ 16 → other ≢ slot → child_digest (with_child_digest node slot digest) other ≡ child_digest node other
 child_digest-with_other node slot other digest whole small long apart =
@@ -88,23 +81,6 @@ fourth_of_four a b c d la lb lc ld =
     ap (λ xs. a ++ xs) (sym (append_assoc b c (d ++ []))) ∙ sym (append_assoc a (b ++ c) (d ++ [])) in
     ap (λ xs. child_digest (line_of xs) 3) split
     ∙ middle_is (a ++ (b ++ c)) d [] 48 front ld
-
--- four digests are a line
-pub four-IsLine : (a b c d : List ℕ) → IsTag a → IsTag b → IsTag c → IsTag d → IsLine (four a b c d)
-four-IsLine a b c d ta tb tc td =
-    let long0 = length-append a (b ++ (c ++ (d ++ []))) in
-    let long1 = length-append b (c ++ (d ++ [])) in
-    let long2 = length-append c (d ++ []) in
-    let long3 = length-append d [] in
-    let none : length {A = ℕ} [] ≡ 0 = refl in
-    record {
-      long = omega (arith, ta.long, tb.long, tc.long, td.long);
-      bytes =
-          All-append (λ b. b < 256) a (b ++ (c ++ (d ++ []))) ta.bytes
-          (All-append (λ b. b < 256) b (c ++ (d ++ [])) tb.bytes
-          (All-append (λ b. b < 256) c (d ++ []) tc.bytes
-          (All-append (λ b. b < 256) d [] td.bytes (All-nil (λ b. b < 256)))));
-    }
 
 -- ---- a node filled slot by slot
 

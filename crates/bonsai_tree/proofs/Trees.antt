@@ -6,7 +6,7 @@ use Rattle.std.specs.List.{list_any}
 use Rattle.std.specs.Prelude.{◌==◌, slice_set}
 use Rattle.std.proofs.lemmas.List.Folds.{list_any-append}
 use Rattle.std.proofs.lemmas.List.Elements.{All-set, All-nil, All-cons, All-push, All-weaker}
-use Rattle.std.proofs.lemmas.Bool.{cases_lt, cases_eq, or_parts, or_left, or_right, eqb-false, eq-eqb}
+use Rattle.std.proofs.lemmas.Bool.{cases_lt, cases_eq, or_parts, or_left, eqb-false}
 use Rattle.pmem_base.specs.declared.lines.Line.{Line}
 use Rattle.pmem_base.specs.Lines.{IsLine, line_at, put_lines}
 use Rattle.pmem_base.proofs.LineLemmas.{IsLine-line_at}
@@ -19,6 +19,7 @@ use Rattle.bonsai_tree.specs.Nodes.{node_over, child_digest, IsHashTree}
 use Rattle.bonsai_tree.specs.Paths.{with_child_digest, node_above, new_path, new_root, path_with, root_with, lines_with, IsTreeWith}
 use Rattle.bonsai_tree.proofs.Levels.{IsAtLevel, child-of_parent, level_start-suc, parent-IsAtLevel, counter_position-IsAtLevel, meta_lines-level}
 use Rattle.bonsai_tree.proofs.NodeLaws.{AreSixteen, node_over-same, child_replaced, child_digest-node_over}
+use Rattle.bonsai_tree.proofs.PathPositions.{path_down_to-last}
 
 sixteen : (f : Formulas) → AreInRange f → (lines : List Line) → All IsLine lines → (x : ℕ) → AreSixteen f x (line_at lines)
 sixteen f in_range lines whole x i small = (in_range.digests (child_position x i) (line_at lines (child_position x i)) (IsLine-line_at lines (child_position x i) whole)).long
@@ -152,13 +153,6 @@ new_path-positions f old (suc j) x line =
     map-append (λ entry. entry.0) (new_path f old j (parent x) node) ((x, line) ∷ [])
     ∙ ap (λ xs. xs ++ x ∷ []) (new_path-positions f old j (parent x) node)
 
--- a path ends in its position
-ends_path : (j x : ℕ) → list_any (λ z. z == x) (path_down_to j x) ≡ true
-ends_path zero x = or_left (x == x) false (eq-eqb x x refl)
-ends_path (suc j) x =
-    list_any-append (λ z. z == x) (path_down_to j (parent x)) (x ∷ [])
-    ∙ or_right (list_any (λ z. z == x) (path_down_to j (parent x))) (list_any (λ z. z == x) (x ∷ [])) (or_left (x == x) false (eq-eqb x x refl))
-
 -- only the old lines on the path count
 new_path-same : (f : Formulas) (a b : ℕ → Line) (j x : ℕ) (line : Line) → ((y : ℕ) → list_any (λ z. z == y) (path_down_to j x) ≡ true → a y ≡ b y) → (new_path f a j x line ≡ new_path f b j x line) × (new_root f a j x line ≡ new_root f b j x line)
 new_path-same f a b zero x line same = (refl, refl)
@@ -166,7 +160,7 @@ new_path-same f a b (suc j) x line same =
     let path = path_down_to j (parent x) in
     let more : (y : ℕ) → list_any (λ z. z == y) path ≡ true → a y ≡ b y =
     λ y on. same y (list_any-append (λ z. z == y) path (x ∷ []) ∙ or_left (list_any (λ z. z == y) path) (list_any (λ z. z == y) (x ∷ [])) on) in
-    let nodes : node_above f a x line ≡ node_above f b x line = ap (λ l. with_child_digest l (child_slot x) (f.digest_of x line)) (more (parent x) (ends_path j (parent x))) in
+    let nodes : node_above f a x line ≡ node_above f b x line = ap (λ l. with_child_digest l (child_slot x) (f.digest_of x line)) (more (parent x) (path_down_to-last j (parent x))) in
     let above = new_path-same f a b j (parent x) (node_above f a x line) more in (
       ap (λ es. es ++ (x, line) ∷ []) (above.0 ∙ ap (new_path f b j (parent x)) nodes),
       above.1 ∙ ap (new_root f b j (parent x)) nodes,
@@ -239,18 +233,6 @@ path_with-entries g f lines page block size inside =
     grown-entries f lines g.levels (counter_position g page) block (counter_position-IsAtLevel g page inside) (omega (arith, size, meta_lines-level g))
 
 -- ---- one new tree after another
-
--- a page's path made anew twice is made anew once
-pub IsTreeWith-twice : (g : Shape) (f : Formulas) (page : ℕ) (first second : Line) (root last_root : List ℕ) (old mid new : List Line) → IsTreeWith g f page first root old mid → IsTreeWith g f page second last_root mid new → IsTreeWith g f page second last_root old new
-IsTreeWith-twice g f page first second root last_root old mid new one two =
-    record {
-      tree = two.tree;
-      whole = two.whole;
-      its_block = two.its_block;
-      other_blocks = λ other apart. two.other_blocks other apart ∙ one.other_blocks other apart;
-      off_path = λ x off. two.off_path x off ∙ one.off_path x off;
-      top = two.top;
-    }
 
 -- a tree is the same with the block that it has
 pub IsTreeWith-itself : (g : Shape) (f : Formulas) (page : ℕ) (lines : List Line) (root : List ℕ) → IsHashTree g f lines → All IsLine lines → root ≡ f.digest_of 0 (line_at lines 0) → IsTreeWith g f page (line_at lines (counter_position g page)) root lines lines

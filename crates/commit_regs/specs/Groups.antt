@@ -1,8 +1,8 @@
 -- What a commit group makes of a device.
-use Rattle.std.specs.Prelude.{true, false, ◌≡◌, ◌⊎◌, ℕ, ◌+◌, ◌<◌, ◌≤◌, List, [], ◌∷◌, Option, Some, None, length, All}
+use Rattle.std.specs.Prelude.{true, false, ◌≡◌, ◌⊎◌, ℕ, ◌+◌, ◌<◌, ◌≤◌, List, [], ◌∷◌, Option, Some, None, length}
 use Rattle.pmem_base.specs.declared.lines.Line.{Line}
 use Rattle.pmem_base.specs.Counts.{HasRisen, last_count}
-use Rattle.pmem_base.specs.Lines.{line_at, put_lines}
+use Rattle.pmem_base.specs.Lines.{put_lines}
 use Rattle.pmem_base.specs.Registers.{without_group}
 use Rattle.board.specs.Counts.{RisesBy}
 use Rattle.board.specs.Device.{Device}
@@ -20,10 +20,6 @@ redone_told group (Some lines) = Some (redone group lines)
 abbrev pub Writes : ℕ → List (ℕ × Line) → Type 0
 Writes at [] = ⊥
 Writes at (entry ∷ rest) = (at ≡ entry.0) ⊎ Writes at rest
-
--- each line of the group stands in its place
-abbrev pub AreWritten : List (ℕ × Line) → List Line → Type 0
-AreWritten group lines = All (λ entry. line_at lines entry.0 ≡ entry.1) group
 
 -- the latches that a group takes to be finished
 abbrev pub finishing_latches : List (ℕ × Line) → ℕ

@@ -1,2 +1,1 @@
 pub mod TagSlots
-pub mod SealLaws

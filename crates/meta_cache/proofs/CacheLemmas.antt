@@ -137,13 +137,13 @@ IsSetOf-nil g n =
       distinct_positions = λ i j d less h e. absurd (omega arith);
     }
 
-abbrev no_slots : List Slot
+abbrev pub no_slots : List Slot
 no_slots = []
 
-abbrev empty_sets : Shape → List (List Slot)
+abbrev pub empty_sets : Shape → List (List Slot)
 empty_sets g = replicate g.sets no_slots
 
-empty_banks_at : (g : Shape) (bank : ℕ) → bank < g.levels + 1
+pub empty_banks_at : (g : Shape) (bank : ℕ) → bank < g.levels + 1
     → get_or (empty_banks g) bank [] ≡ empty_sets g
 empty_banks_at g bank h = get_or-replicate (g.levels + 1) bank (empty_sets g) [] h
 

@@ -9,6 +9,7 @@ use Rattle.std.proofs.lemmas.List.{get_or-reverse, reverse-reverse, length-rever
 use Rattle.std.proofs.lemmas.List.Folds.{list_any_at, list_any_none}
 use Rattle.std.proofs.lemmas.List.FromFn.{length-range_with_len, get_or-range_with_len}
 use Rattle.pmem_base.specs.Shape.{Shape}
+use Rattle.pmem_base.proofs.ListLaws.{find_none}
 use Rattle.meta_cache.specs.Banks.{Slot, Banks, set_of, set_index, is_cached_dirty}
 use Rattle.meta_cache.specs.Sets.{oldest_dirty_in}
 use Rattle.meta_cache.specs.State.{bank_of, IsCacheOf, oldest_dirty_of, dirty_in_bank, oldest_dirty}
@@ -152,15 +153,6 @@ no_answers {X = X} {Y = Y} f (x ∷ xs) none = by_answer (f x) refl none (λ res
         → (slice_get (filter_map f xs) 0 ≡ None → All (λ y. f y ≡ None) xs) → All (λ y. f y ≡ None) (x ∷ xs)
     by_answer None silent rest again = All-cons (λ y. f y ≡ None) x xs silent (again rest)
     by_answer (Some y) answers rest again = absurd cc
-
-find_none : {X : Type 0} (p : X → Bool) (xs : List X) → find p xs ≡ None → All (λ x. p x ≡ false) xs
-find_none p [] none = All-nil (λ x. p x ≡ false)
-find_none p (x ∷ xs) none = by_test (p x) refl none (λ rest. find_none p xs rest)
-  where
-    by_test : (test : Bool) → p x ≡ test → cond test (Some x) (find p xs) ≡ None
-        → (find p xs ≡ None → All (λ y. p y ≡ false) xs) → All (λ y. p y ≡ false) (x ∷ xs)
-    by_test true passes rest again = absurd cc
-    by_test false fails rest again = All-cons (λ y. p y ≡ false) x xs fails (again rest)
 
 mapped_none : {X Y : Type 0} (f : X → Y) (answer : Option X) → option_map f answer ≡ None → answer ≡ None
 mapped_none f None e = refl

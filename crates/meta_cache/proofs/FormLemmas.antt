@@ -1,5 +1,5 @@
 -- A set keeps its form through each call.
-use Rattle.std.proofs.Common.{◌≡◌, ◌≢◌, ℕ, zero, suc, ◌+◌, ◌-◌, ◌*◌, ◌<◌, ◌≤◌, Bool, true, false, cond, List, [], ◌∷◌, length, get_or, take, drop, map, refl, sym, ap, subst, ◌∙◌, ◌⊎◌, inl, inr, arith, Some, mul-le-mul_right}
+use Rattle.std.proofs.Common.{◌≡◌, ◌≢◌, ℕ, zero, suc, ◌+◌, ◌-◌, ◌<◌, ◌≤◌, Bool, true, false, cond, List, [], ◌∷◌, length, get_or, take, drop, map, refl, sym, ap, subst, ◌∙◌, ◌⊎◌, inl, inr, arith, Some}
 use Rattle.std.specs.Prelude.{◌==◌, nat_lt, not, remove, option_map, All, AllPairs, Any}
 use Rattle.std.specs.List.{list_any, position_or_len, range_with_len}
 use Rattle.std.proofs.lemmas.Bool.{cases_lt, cases_order, eq-eqb, eqb-true, cond-true, cond-false, false≢true, both_ways, lt-ltb, le-ltb, not-true}
@@ -15,7 +15,7 @@ use Rattle.pmem_base.specs.Lines.{IsLine}
 use Rattle.pmem_base.specs.Shape.{Shape}
 use Rattle.meta_cache.specs.Alone.{IsAlone}
 use Rattle.meta_cache.specs.Banks.{Slot, set_index}
-use Rattle.meta_cache.specs.Sets.{holds, slot_with, touched, lined, marked, with_line, with_mark, free_way, next_way, placed, IsSetOf}
+use Rattle.meta_cache.specs.Sets.{holds, slot_with, touched, lined, slot_marked, with_slot_line, with_mark, free_way, next_way, placed, IsSetOf}
 use Rattle.meta_cache.proofs.SetLemmas.{blank, is_of, alone_at, touched_is, next_way-room, next_way-full}
 
 -- ---- pairs
@@ -87,11 +87,11 @@ IsSetOf-map g n f slots ways positions lines form =
           ∙ e ∙ ap (λ (slot : Slot). slot.position) (get_or-map f slots j d d low) ∙ positions (get_or slots j d));
     }
 
-same_way_if : (test : Bool) (a b : Slot) → a.way ≡ b.way → (cond test a b).way ≡ b.way
+pub same_way_if : (test : Bool) (a b : Slot) → a.way ≡ b.way → (cond test a b).way ≡ b.way
 same_way_if true a b e = e
 same_way_if false a b e = refl
 
-same_position_if : (test : Bool) (a b : Slot) → a.position ≡ b.position → (cond test a b).position ≡ b.position
+pub same_position_if : (test : Bool) (a b : Slot) → a.position ≡ b.position → (cond test a b).position ≡ b.position
 same_position_if true a b e = e
 same_position_if false a b e = refl
 
@@ -99,10 +99,10 @@ whole_if : (test : Bool) (a b : Slot) → IsLine a.line → IsLine b.line → Is
 whole_if true a b ha hb = ha
 whole_if false a b ha hb = hb
 
-pub IsSetOf-with_line : (g : Shape) (n : ℕ) (slots : List Slot) (x : ℕ) (line : Line) → IsLine line
-    → IsSetOf g n slots → IsSetOf g n (with_line slots x line)
-unfolding with_line
-IsSetOf-with_line g n slots x line whole form =
+pub IsSetOf-with_slot_line : (g : Shape) (n : ℕ) (slots : List Slot) (x : ℕ) (line : Line) → IsLine line
+    → IsSetOf g n slots → IsSetOf g n (with_slot_line slots x line)
+unfolding with_slot_line
+IsSetOf-with_slot_line g n slots x line whole form =
     IsSetOf-map g n (λ slot. cond (slot.position == x) (lined slot line) slot) slots
     (λ slot. same_way_if (slot.position == x) (lined slot line) slot refl)
     (λ slot. same_position_if (slot.position == x) (lined slot line) slot refl)
@@ -112,10 +112,10 @@ pub IsSetOf-with_mark : (g : Shape) (n : ℕ) (slots : List Slot) (x : ℕ) (dir
     → IsSetOf g n slots → IsSetOf g n (with_mark slots x dirty)
 unfolding with_mark
 IsSetOf-with_mark g n slots x dirty form =
-    IsSetOf-map g n (λ slot. cond (slot.position == x) (marked slot dirty) slot) slots
-    (λ slot. same_way_if (slot.position == x) (marked slot dirty) slot refl)
-    (λ slot. same_position_if (slot.position == x) (marked slot dirty) slot refl)
-    (λ slot h. whole_if (slot.position == x) (marked slot dirty) slot h h) form
+    IsSetOf-map g n (λ slot. cond (slot.position == x) (slot_marked slot dirty) slot) slots
+    (λ slot. same_way_if (slot.position == x) (slot_marked slot dirty) slot refl)
+    (λ slot. same_position_if (slot.position == x) (slot_marked slot dirty) slot refl)
+    (λ slot h. whole_if (slot.position == x) (slot_marked slot dirty) slot h h) form
 
 -- ---- one slot comes first
 
@@ -313,7 +313,3 @@ found_has P (slot ∷ slots) x way e all = by_test (slot.position == x) e (λ re
 pub way_low : (g : Shape) (n : ℕ) (slots : List Slot) (x way : ℕ) → IsSetOf g n slots
     → option_map (λ (slot : Slot). slot.way) (slot_with slots x) ≡ Some way → way < g.ways
 way_low g n slots x way form e = found_has (λ w. w < g.ways) slots x way e form.its_ways
-
-pub number_low : (sets ways n way : ℕ) → n < sets → way < ways → n * ways + way < sets * ways
-number_low sets ways n way low h =
-    let more : (n + 1) * ways ≤ sets * ways = mul-le-mul_right ways (omega arith) in omega arith

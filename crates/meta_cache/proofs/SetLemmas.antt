@@ -1,9 +1,9 @@
 -- Slots of one set: where a position is, and what a call makes of the set.
-use Rattle.std.proofs.Common.{◌≡◌, ℕ, ◌+◌, ◌-◌, ◌<◌, ◌≤◌, Bool, true, false, cond, List, [], ◌∷◌, ◌++◌, length, get_or, set, take, drop, reverse, refl, sym, ap, ap₂, ◌∙◌, inl, inr, arith, Option, Some, None}
-use Rattle.std.specs.Prelude.{◌==◌, ◌||◌, nat_lt, not, is_some, find, slice_get, remove, option_map, All, Any}
+use Rattle.std.proofs.Common.{◌≡◌, ℕ, ◌+◌, ◌-◌, ◌<◌, ◌≤◌, Bool, true, false, cond, List, [], ◌∷◌, ◌++◌, length, get_or, set, take, drop, refl, sym, ap, ap₂, ◌∙◌, inl, inr, arith, Some, None}
+use Rattle.std.specs.Prelude.{◌==◌, ◌||◌, nat_lt, not, is_some, slice_get, remove, All, Any}
 use Rattle.std.specs.List.{list_any, position_or_len, range_with_len}
 use Rattle.std.proofs.lemmas.Bool.{cases_lt, eq-eqb, eqb-true, ne_eqb, cond-true, cond-false, both_ways, lt-ltb, le-ltb, not_from_true, not_from_false}
-use Rattle.std.proofs.lemmas.List.{get_or-take, get_or-drop, length-take-le, length-drop, take_more, reverse-append}
+use Rattle.std.proofs.lemmas.List.{get_or-take, get_or-drop, length-take-le, length-drop}
 use Rattle.std.proofs.lemmas.Option.{slice_get-get_or}
 use Rattle.std.proofs.lemmas.List.Folds.{Any-from_list_any}
 use Rattle.std.proofs.lemmas.List.FromFn.{length-range_with_len, get_or-range_with_len}
@@ -11,7 +11,7 @@ use Rattle.std.proofs.lemmas.List.Sums.{position_or_len_is, fails_before_first, 
 use Rattle.pmem_base.specs.declared.lines.Line.{Line}
 use Rattle.meta_cache.specs.Alone.{IsAlone}
 use Rattle.meta_cache.specs.Banks.{Slot}
-use Rattle.meta_cache.specs.Sets.{holds, slot_with, touched, lined, marked, with_line, with_mark, free_way, way_over, next_way, oldest_dirty_in, ArePositionsApart}
+use Rattle.meta_cache.specs.Sets.{holds, slot_with, touched, lined, slot_marked, with_slot_line, with_mark, free_way, way_over, next_way, ArePositionsApart}
 use Rattle.meta_cache.proofs.ListLemmas.{filter_alone, filter_others, map_alone}
 
 -- whether a slot is that of position x
@@ -41,9 +41,6 @@ pub alone_at : (slots : List Slot) (x : ℕ) (d : Slot) → holds slots x ≡ tr
 alone_at slots x d held apart =
     record { within = within; passes = passes; before = before; behind = behind }
   where
-    place : ℕ
-    place = position_or_len (is_of x) slots
-
     found : Any (λ slot. is_of x slot ≡ true) slots
     found = Any-from_list_any (is_of x) slots held
 
@@ -100,15 +97,15 @@ touched_is slots x i d alone =
 
 pub with_line_is : (slots : List Slot) (x i : ℕ) (line : Line) (d : Slot)
     → IsAlone (λ slot. slot.position == x) slots i d
-    → with_line slots x line ≡ set slots i (lined (get_or slots i d) line)
-unfolding with_line
+    → with_slot_line slots x line ≡ set slots i (lined (get_or slots i d) line)
+unfolding with_slot_line
 with_line_is slots x i line d alone = map_alone (is_of x) (λ slot. lined slot line) slots i d alone
 
 pub with_mark_is : (slots : List Slot) (x i : ℕ) (dirty : Bool) (d : Slot)
     → IsAlone (λ slot. slot.position == x) slots i d
-    → with_mark slots x dirty ≡ set slots i (marked (get_or slots i d) dirty)
+    → with_mark slots x dirty ≡ set slots i (slot_marked (get_or slots i d) dirty)
 unfolding with_mark
-with_mark_is slots x i dirty d alone = map_alone (is_of x) (λ slot. marked slot dirty) slots i d alone
+with_mark_is slots x i dirty d alone = map_alone (is_of x) (λ slot. slot_marked slot dirty) slots i d alone
 
 -- ---- a free way, and the oldest dirty slot
 
@@ -131,21 +128,6 @@ free_way_is ways w slots h used free =
 
     numbered : (k : ℕ) → k < ways → get_or (range_with_len 0 ways) k 0 ≡ k
     numbered k l = omega (arith, get_or-range_with_len 0 ways k 0 l)
-
-newer : (dirty : Bool) (slot : Slot) (rest : Option Slot)
-    → option_map (λ (s : Slot). s.position) (cond dirty (Some slot) rest)
-    ≡ cond dirty (Some slot.position) (option_map (λ (s : Slot). s.position) rest)
-newer true slot rest = refl
-newer false slot rest = refl
-
-pub oldest_dirty_in-more : (slots : List Slot) (i : ℕ) (d : Slot) → i < length slots
-    → oldest_dirty_in (take (i + 1) slots)
-    ≡ cond (get_or slots i d).dirty (Some (get_or slots i d).position) (oldest_dirty_in (take i slots))
-oldest_dirty_in-more slots i d h =
-    ap oldest_dirty_in (take_more slots i d h)
-    ∙ ap (λ order. option_map (λ (s : Slot). s.position) (find (λ (s : Slot). s.dirty) order))
-    (reverse-append (take i slots) (get_or slots i d ∷ []))
-    ∙ newer (get_or slots i d).dirty (get_or slots i d) (find (λ (s : Slot). s.dirty) (reverse (take i slots)))
 
 pub next_way-room : (ways : ℕ) (slots : List Slot) → length slots < ways → next_way ways slots ≡ free_way ways slots
 unfolding next_way

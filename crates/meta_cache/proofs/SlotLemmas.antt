@@ -9,7 +9,7 @@ use Rattle.pmem_base.specs.Shape.{Shape}
 use Rattle.pmem_base.specs.Layout.{slots}
 use Rattle.meta_cache.specs.declared.slot.Slot.{Slot}
 use Rattle.meta_cache.specs.KeptSlots.{IsFromBefore, IsStillDirty}
-use Rattle.meta_cache.specs.Sets.{slot_with, with_mark, marked, ArePositionsApart}
+use Rattle.meta_cache.specs.Sets.{slot_with, with_mark, slot_marked, ArePositionsApart}
 use Rattle.meta_cache.specs.Banks.{Banks, set_of, set_index, slot_number, is_cached, is_cached_dirty, IsInPlace, IsBanksOf}
 
 -- what holds of each slot of a set holds of one that stands in it
@@ -180,10 +180,10 @@ pub IsFromBefore-cleaned : (slots : List Slot) (x : ℕ) (slot : Slot) → Conta
     → IsFromBefore slots slot
 unfolding with_mark
 IsFromBefore-cleaned slots x slot stands =
-    let found = contained-map (λ s. cond (s.position == x) (marked s false) s) slots slot stands in
+    let found = contained-map (λ s. cond (s.position == x) (slot_marked s false) s) slots slot stands in
     at found.0 found.1 (found.0.position == x) found.2
   where
-    at : (before : Slot) → Contains slots before → (test : Bool) → cond test (marked before false) before ≡ slot
+    at : (before : Slot) → Contains slots before → (test : Bool) → cond test (slot_marked before false) before ≡ slot
         → IsFromBefore slots slot
     at before stands true e =
         record {
@@ -201,13 +201,13 @@ pub IsStillDirty-cleaned : (slots : List Slot) (x : ℕ) (slot : Slot) → Conta
     → slot.position ≢ x → IsStillDirty (with_mark slots x false) slot
 unfolding with_mark
 IsStillDirty-cleaned slots x slot stands dirty apart =
-    let same : cond (slot.position == x) (marked slot false) slot ≡ slot =
-    cond-false (slot.position == x) (marked slot false) slot (ne_eqb slot.position x apart) in
+    let same : cond (slot.position == x) (slot_marked slot false) slot ≡ slot =
+    cond-false (slot.position == x) (slot_marked slot false) slot (ne_eqb slot.position x apart) in
     record {
       now = slot;
       stands =
-          subst (Contains (map (λ s. cond (s.position == x) (marked s false) s) slots)) same
-          (map-contained (λ s. cond (s.position == x) (marked s false) s) slots slot stands);
+          subst (Contains (map (λ s. cond (s.position == x) (slot_marked s false) s) slots)) same
+          (map-contained (λ s. cond (s.position == x) (slot_marked s false) s) slots slot stands);
       position = refl;
       dirty = dirty;
     }

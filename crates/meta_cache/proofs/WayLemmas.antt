@@ -6,8 +6,9 @@ use Rattle.std.proofs.lemmas.Bool.{both_ways, eqb-true, cond-false}
 use Rattle.std.proofs.lemmas.List.Folds.{find-append}
 use Rattle.pmem_base.specs.declared.lines.Line.{Line}
 use Rattle.meta_cache.specs.Banks.{Slot}
-use Rattle.meta_cache.specs.Sets.{holds, slot_with, way_in, KeepsWays, touched, lined, marked, with_line, with_mark, next_way, placed}
+use Rattle.meta_cache.specs.Sets.{holds, slot_with, way_in, KeepsWays, touched, lined, slot_marked, with_slot_line, with_mark, next_way, placed}
 use Rattle.meta_cache.proofs.SetLemmas.{is_of, is_some-slot_with}
+use Rattle.meta_cache.proofs.FormLemmas.{same_way_if, same_position_if}
 
 -- ---- a search over a part of a list
 
@@ -52,27 +53,19 @@ ways-map f positions ways (slot ∷ slots) x =
     by_test true rest = ap (λ way. Some way) (ways slot)
     by_test false rest = rest
 
-same_way : (test : Bool) (a b : Slot) → a.way ≡ b.way → (cond test a b).way ≡ b.way
-same_way true a b e = e
-same_way false a b e = refl
-
-same_position : (test : Bool) (a b : Slot) → a.position ≡ b.position → (cond test a b).position ≡ b.position
-same_position true a b e = e
-same_position false a b e = refl
-
-pub KeepsWays-with_line : (slots : List Slot) (x : ℕ) (line : Line) → KeepsWays slots (with_line slots x line)
-unfolding with_line
-KeepsWays-with_line slots x line y before after =
+pub KeepsWays-with_slot_line : (slots : List Slot) (x : ℕ) (line : Line) → KeepsWays slots (with_slot_line slots x line)
+unfolding with_slot_line
+KeepsWays-with_slot_line slots x line y before after =
     ways-map (λ slot. cond (slot.position == x) (lined slot line) slot)
-    (λ slot. same_position (slot.position == x) (lined slot line) slot refl)
-    (λ slot. same_way (slot.position == x) (lined slot line) slot refl) slots y
+    (λ slot. same_position_if (slot.position == x) (lined slot line) slot refl)
+    (λ slot. same_way_if (slot.position == x) (lined slot line) slot refl) slots y
 
 pub KeepsWays-with_mark : (slots : List Slot) (x : ℕ) (dirty : Bool) → KeepsWays slots (with_mark slots x dirty)
 unfolding with_mark
 KeepsWays-with_mark slots x dirty y before after =
-    ways-map (λ slot. cond (slot.position == x) (marked slot dirty) slot)
-    (λ slot. same_position (slot.position == x) (marked slot dirty) slot refl)
-    (λ slot. same_way (slot.position == x) (marked slot dirty) slot refl) slots y
+    ways-map (λ slot. cond (slot.position == x) (slot_marked slot dirty) slot)
+    (λ slot. same_position_if (slot.position == x) (slot_marked slot dirty) slot refl)
+    (λ slot. same_way_if (slot.position == x) (slot_marked slot dirty) slot refl) slots y
 
 -- one number is not another
 apart : (position x y : ℕ) → (x == y) ≡ false → (position == x) ≡ true → (position == y) ≡ false

@@ -33,18 +33,18 @@ abbrev pub lined : Slot → Line → Slot
 lined slot line = record slot { line = line }
 
 -- the slot with another mark
-abbrev pub marked : Slot → Bool → Slot
-marked slot dirty = record slot { dirty = dirty }
+abbrev pub slot_marked : Slot → Bool → Slot
+slot_marked slot dirty = record slot { dirty = dirty }
 
 -- another line in the slot of position x
-unfoldable pub with_line : List Slot → ℕ → Line → List Slot
-with_line slots x line =
+unfoldable pub with_slot_line : List Slot → ℕ → Line → List Slot
+with_slot_line slots x line =
     map (λ slot. if slot.position == x then lined slot line else slot) slots
 
 -- another mark on the slot of position x
 unfoldable pub with_mark : List Slot → ℕ → Bool → List Slot
 with_mark slots x dirty =
-    map (λ slot. if slot.position == x then marked slot dirty else slot) slots
+    map (λ slot. if slot.position == x then slot_marked slot dirty else slot) slots
 
 -- the slot to give way: the least recently used one, where no way is free
 abbrev pub victim_of : ℕ → List Slot → Option Slot

@@ -1,7 +1,7 @@
 //! One bank of the cache.
 ghost use Rattle.std.specs.Prelude.{◌≡◌, ◌<◌, ◌≤◌, List, [], Option, IfOk, IsTrue, length, replicate, slice_set, slice_index_or};
 ghost use Rattle.meta_cache.specs.declared.slot.Slot.{Slot};
-ghost use Rattle.meta_cache.specs.Sets.{holds, touched, with_line, with_mark, placed, ArePositionsApart};
+ghost use Rattle.meta_cache.specs.Sets.{holds, touched, with_slot_line, with_mark, placed, ArePositionsApart};
 ghost use Rattle.meta_cache.specs.State.{oldest_dirty_of};
 
 use crate::set::Set;
@@ -58,7 +58,7 @@ impl Bank {
         requires within { n < length self.old }
         requires holds { IsTrue (holds (slice_index_or self.old n []) x) }
         requires apart { ArePositionsApart (slice_index_or self.old n []) }
-        ensures { self.new ≡ slice_set self.old n (with_line (slice_index_or self.old n []) x line.now) }
+        ensures { self.new ≡ slice_set self.old n (with_slot_line (slice_index_or self.old n []) x line.now) }
     {
         let set = &mut self.sets[n];
         set.store(x, line);

@@ -6,7 +6,7 @@ ghost use Rattle.pmem_base.specs.Geo.{shape_of};
 ghost use Rattle.pmem_base.specs.Layout.{slots};
 ghost use Rattle.pmem_base.specs.Lines.{IsLine};
 ghost use Rattle.meta_cache.specs.Banks.{Slot, Banks, set_of, set_index, slot_number, is_cached, is_cached_dirty, IsBanksOf};
-ghost use Rattle.meta_cache.specs.Sets.{slot_with, touched, with_line, with_mark, victim_of, placed};
+ghost use Rattle.meta_cache.specs.Sets.{slot_with, touched, with_slot_line, with_mark, victim_of, placed};
 ghost use Rattle.meta_cache.specs.State.{CacheState, bank_of, empty_banks, slots_of, IsCacheOf, ChangesSet, oldest_dirty_of, dirty_in_bank, oldest_dirty};
 
 use crate::bank::Bank;
@@ -139,7 +139,7 @@ impl Cache {
         requires bank { bank ≤ self.old.shape.levels }
         requires cached { IsTrue (is_cached self.old.shape self.old.banks bank x) }
         ensures { ChangesSet self.old self.new bank (set_index self.old.shape x)
-            (with_line (slots_of self.old bank x) x line.now) }
+            (with_slot_line (slots_of self.old bank x) x line.now) }
     {
         let n = self.set_of(x);
         line.is_whole();

@@ -4,7 +4,7 @@ ghost use Rattle.std.specs.Option.{option_copied};
 ghost use Rattle.std.specs.List.{list_any, position_or_len};
 ghost use Rattle.meta_cache.specs.declared.slot.Slot.{Slot};
 ghost use Rattle.meta_cache.specs.Alone.{IsAlone};
-ghost use Rattle.meta_cache.specs.Sets.{holds, slot_with, touched, with_line, with_mark, victim_of, free_way, next_way, without_victim, placed, oldest_dirty_in, ArePositionsApart};
+ghost use Rattle.meta_cache.specs.Sets.{holds, slot_with, touched, with_slot_line, with_mark, victim_of, free_way, next_way, without_victim, placed, oldest_dirty_in, ArePositionsApart};
 
 use crate::slot::Slot;
 use arrayvec::ArrayVec;
@@ -96,7 +96,7 @@ impl Set {
     pub(crate) fn store(&mut self, x: u32, line: &Line)
         requires holds { IsTrue (holds self.old x) }
         requires apart { ArePositionsApart self.old }
-        ensures { self.new ≡ with_line self.old x line.now }
+        ensures { self.new ≡ with_slot_line self.old x line.now }
     {
         let i = self.own_place(x);
         let slot = &mut self.slots.as_mut_slice()[i];

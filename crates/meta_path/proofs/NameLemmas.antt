@@ -3,6 +3,7 @@ use Rattle.std.proofs.Common.{rules, ◌≡◌, ℕ, zero, suc, ◌+◌, ◌<◌
 use Rattle.std.specs.Prelude.{◌↔◌, IsNone, OnErr, option_map, unwrap_or, is_some}
 use Rattle.std.proofs.lemmas.Bool.{cases_eq, eq-eqb, false≢true, both_ways}
 use Rattle.std.proofs.lemmas.List.{length-append}
+use Rattle.pmem_base.proofs.LayoutLemmas.{number_low}
 use Rattle.pmem_base.specs.declared.lines.Line.{Line}
 use Rattle.pmem_base.specs.Counts.{HasRisen}
 use Rattle.pmem_base.specs.Shape.{Shape}
@@ -17,7 +18,7 @@ use Rattle.meta_cache.specs.Banks.{Banks, set_index, slot_number, is_cached}
 use Rattle.meta_cache.specs.Sets.{slot_with, IsSetOf}
 use Rattle.meta_cache.specs.State.{CacheState, slots_of, IsCacheOf}
 use Rattle.meta_cache.proofs.SetLemmas.{is_some-slot_with}
-use Rattle.meta_cache.proofs.FormLemmas.{way_low, number_low}
+use Rattle.meta_cache.proofs.FormLemmas.{way_low}
 use Rattle.meta_path.specs.Blocks.{path_at, slots_at, number_in, IsPathCached}
 use Rattle.meta_path.specs.Work.{HasWorked}
 use Rattle.meta_path.specs.Naming.{path_number, is_slot_named, named_slot, naming_write, named_path, naming_writes, IsSlotNamed, IsSlotCut, ArePathEntries, IsNamedTo, IsNamingCut}

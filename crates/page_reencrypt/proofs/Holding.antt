@@ -26,7 +26,7 @@ use Rattle.page_reencrypt.specs.Registers.{is_holding, register_held, counter_un
 
 -- ---- one register
 
-with_done-page : (a : ℕ) (register : Progress) → (register_with_done a register).page ≡ register.page
+pub with_done-page : (a : ℕ) (register : Progress) → (register_with_done a register).page ≡ register.page
 with_done-page a register =
     elim (cases_Bool (register.page == page_of a)) [
       | inl its ↦ ap (λ t. (cond t (with_done register (index_in_page a)) register).page) its
@@ -349,23 +349,6 @@ free_from_done (first ∷ registers) a register apart found done =
           (ap (λ r. r.page) (get_or_tail first registers (i + 1) d (omega arith) ∙ ap (λ n. get_or registers n d) (back_one i)) ∙ e ∙ sym (ap (λ r. r.page) (get_or_tail first registers (j + 1) d (omega arith) ∙ ap (λ n. get_or registers n d) (back_one j)))))
           (sym (ap (λ t. cond t (Some first) (register_of registers (page_of a))) other) ∙ found) done
     ]
-
--- ---- after a begin
-
--- the new register is its page's, and holds each of its lines
-pub register_of-begun : (registers : List Progress) (page : ℕ) (old : Line) → register_of registers page ≡ None → register_of (registers ++ begun page old ∷ []) page ≡ Some (begun page old)
-register_of-begun registers page old none =
-    find-append (λ register. register.page == page) registers (begun page old ∷ [])
-    ∙ (ap (λ r. option_or r (cond (page == page) (Some (begun page old)) None)) none
-    ∙ ap (λ t. cond t (Some (begun page old)) None) (eq-eqb page page refl))
-
-pub register_held-begun : (registers : List Progress) (page : ℕ) (old : Line) (a : ℕ) → page_of a ≡ page → register_of registers page ≡ None → register_held (registers ++ begun page old ∷ []) a ≡ Some (begun page old)
-register_held-begun registers page old a its none =
-    let holds : is_holding (begun page old) a ≡ true = and_from (page == page_of a) (not (is_done (begun page old) (index_in_page a))) (eq-eqb page (page_of a) (sym its)) (ap not (is_done-begun page old (index_in_page a))) in
-    let free : register_held registers a ≡ None = free_from_none registers a (ap (register_of registers) its ∙ none) in
-    find-append (λ register. is_holding register a) registers (begun page old ∷ [])
-    ∙ (ap (λ r. option_or r (cond (is_holding (begun page old) a) (Some (begun page old)) None)) free
-    ∙ ap (λ t. cond t (Some (begun page old)) None) holds)
 
 -- ---- whether a line is held
 

@@ -1,5 +1,5 @@
 -- The lines that are left of a page: the least of them, and how many.
-use Rattle.std.proofs.Common.{ℕ, zero, suc, ◌≡◌, ◌≢◌, ◌<◌, ◌≤◌, ◌+◌, ◌-◌, ◌*◌, ◌%◌, ◌^◌, Bool, true, false, cond, List, [], ◌∷◌, ◌++◌, length, Some, None, inl, inr, refl, sym, ap, ◌∙◌, arith}
+use Rattle.std.proofs.Common.{ℕ, zero, suc, ◌≡◌, ◌≢◌, ◌<◌, ◌≤◌, ◌+◌, ◌-◌, ◌*◌, ◌%◌, ◌^◌, Bool, true, false, cond, List, [], ◌∷◌, length, Some, None, inl, inr, refl, sym, ap, ◌∙◌, arith}
 use Rattle.std.specs.Prelude.{not, ◌==◌, bit_or, nat_lt, filter, slice_get}
 use Rattle.std.specs.Int.{w64, bit_at, bit_not, trailing_ones}
 use Rattle.std.specs.List.{range_with_len}
@@ -11,6 +11,7 @@ use Rattle.std.proofs.lemmas.Nat.Bits.{bit_at-lt, bit_at-zero, bit_at_not, bit_a
 use lib.Count.{ones}
 use Rattle.pmem_base.specs.declared.registers.Progress.{Progress}
 use Rattle.pmem_base.specs.Registers.{places_of_page, is_done, not_done, with_done}
+use Rattle.pmem_base.proofs.ListLaws.{range_more}
 use Rattle.page_reencrypt.proofs.DoneBits.{none_left_from_done, done_from_none_left}
 use Rattle.page_reencrypt.specs.Marked.{marked}
 
@@ -40,12 +41,6 @@ least_left register some =
     (λ j above below. ap (λ b. not (b == 1)) (found.2 j below))
 
 -- ---- how many
-
-range_more : (start n : ℕ) → range_with_len start (suc n) ≡ range_with_len start n ++ (start + n) ∷ []
-range_more start zero = ap (λ m. m ∷ []) (omega arith)
-range_more start (suc n) =
-    let place : start + 1 + n ≡ start + suc n = omega arith in
-    ap (λ ms. start ∷ ms) (range_more (start + 1) n ∙ ap (λ m. range_with_len (start + 1) n ++ m ∷ []) place)
 
 one_bit : (b i : ℕ) → b < 2 → length (cond (b == 1) (i ∷ []) []) ≡ ones b
 unfolding ones

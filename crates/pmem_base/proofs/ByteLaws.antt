@@ -1,7 +1,8 @@
--- Laws of the test on equal bytes.
-use Rattle.std.proofs.Common.{ℕ, ◌≡◌, true, eqb, List, [], ◌∷◌, refl, subst}
+-- Laws of the test on equal bytes, and of a number's bytes.
+use Rattle.std.proofs.Common.{ℕ, zero, suc, ◌≡◌, ◌<◌, ◌/◌, ◌%◌, ◌^◌, true, eqb, List, [], ◌∷◌, length, refl, ap, subst, arith}
+use Rattle.std.proofs.lemmas.List.Elements.{All-nil, All-cons}
 use Rattle.std.proofs.lemmas.Bool.{eqb-true, eq-eqb, and_parts, and_from, false≢true}
-use Rattle.pmem_base.specs.Lines.{same_bytes}
+use Rattle.pmem_base.specs.Lines.{AreBytes, same_bytes, big_endian}
 
 pub same_bytes-refl : (xs : List ℕ) → same_bytes xs xs ≡ true
 same_bytes-refl [] = refl
@@ -19,3 +20,12 @@ same_bytes-true (x ∷ xs) (y ∷ ys) h =
     let first = eqb-true x y parts.0 in
     let rest = same_bytes-true xs ys parts.1 in
     cc
+
+pub length-big_endian : (n value : ℕ) → length (big_endian n value) ≡ n
+length-big_endian zero value = refl
+length-big_endian (suc n) value = ap suc (length-big_endian n value)
+
+pub big_endian-AreBytes : (n value : ℕ) → AreBytes (big_endian n value)
+big_endian-AreBytes zero value = All-nil (λ b. b < 256)
+big_endian-AreBytes (suc n) value =
+    All-cons (λ b. b < 256) ((value / 256 ^ n) % 256) (big_endian n value) (omega arith) (big_endian-AreBytes n value)

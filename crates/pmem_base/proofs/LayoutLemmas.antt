@@ -1,5 +1,5 @@
--- Bounds on the pages of a memory.
-use Rattle.std.proofs.Common.{ℕ, ◌≤◌, ◌^◌, lit<}
+-- Bounds on the pages of a memory, and on the number of a slot.
+use Rattle.std.proofs.Common.{ℕ, ◌≤◌, ◌<◌, ◌+◌, ◌*◌, ◌^◌, lit<, mul-le-mul_right, arith}
 use Rattle.std.proofs.Math.Nat.{pow-le-pow_right}
 
 -- a memory has 4 to 4096 pages
@@ -10,3 +10,8 @@ pub pages-most : (levels : ℕ) → levels ≤ 6 → 4 ^ levels ≤ 4096
 pages-most levels most = pow-le-pow_right {n = 4} (lit< tt) {i = levels} {j = 6} most
 
 pub ruleset page_bounds = (pages-least, pages-most)
+
+-- of the numbers of sets in order, each with as many ways
+pub number_low : (sets ways n way : ℕ) → n < sets → way < ways → n * ways + way < sets * ways
+number_low sets ways n way low h =
+    let more : (n + 1) * ways ≤ sets * ways = mul-le-mul_right ways (omega arith) in omega arith

@@ -1,7 +1,7 @@
 -- Lists of lines with lines put into them.
 use Rattle.std.proofs.Common.{ℕ, ◌≡◌, ◌≢◌, ◌<◌, ◌≤◌, ◌+◌, List, [], ◌∷◌, ◌++◌, length, take, drop, refl, ◌∙◌, arith}
 use Rattle.std.specs.Prelude.{All, slice_set}
-use Rattle.std.proofs.lemmas.List.{length-set, length-take, length-drop, length-append, get_or-set_same, get_or-set_other, set-get_or}
+use Rattle.std.proofs.lemmas.List.{length-set, length-take, length-drop, length-append, get_or-set_same, get_or-set_other}
 use Rattle.std.proofs.lemmas.List.Elements.{All-set, All-append, All-take, All-drop, All-head, All-tail}
 use Rattle.pmem_base.specs.declared.lines.Line.{Line}
 use Rattle.pmem_base.specs.Lines.{IsLine, AreBytes, put_bytes, zero_line, line_at, put_lines}
@@ -19,10 +19,6 @@ line_at-set_same lines x line in_list = get_or-set_same lines x line zero_line i
 
 pub line_at-set_other : (lines : List Line) (x y : ℕ) (line : Line) → y ≢ x → line_at (slice_set lines x line) y ≡ line_at lines y
 line_at-set_other lines x y line apart = get_or-set_other lines x y line zero_line apart
-
--- a write of what stands there changes nothing
-pub set-line_at : (lines : List Line) (x : ℕ) → slice_set lines x (line_at lines x) ≡ lines
-set-line_at lines x = set-get_or lines x zero_line
 
 -- bytes put inside a whole line leave it whole
 pub put_bytes-IsLine : (line : Line) (o : ℕ) (bytes : List ℕ) → IsLine line → AreBytes bytes → o + length bytes ≤ 64 → IsLine (put_bytes line o bytes)

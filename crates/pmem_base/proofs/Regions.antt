@@ -1,7 +1,7 @@
 -- The regions of the device lie apart, and each of their lines is on the device.
 use Rattle.std.proofs.Common.{◌≡◌, ◌≢◌, ℕ, ◌<◌, arith}
 use Rattle.pmem_base.specs.Shape.{Shape}
-use Rattle.pmem_base.specs.Layout.{data_lines, meta_lines, tag_line, meta_line, shadow_line, shadow_lines, device_lines}
+use Rattle.pmem_base.specs.Layout.{data_lines, meta_lines, tag_line, meta_line, shadow_line, device_lines}
 
 -- a data line isn't a tag line, a metadata line or a shadow line
 pub tag_line≢data : (g : Shape) (a b : ℕ) → a < data_lines g → a ≢ tag_line g b
@@ -27,18 +27,11 @@ shadow_line≢meta g x n h e = omega arith
 pub meta_line_injective : (g : Shape) (x y : ℕ) → meta_line g x ≡ meta_line g y → x ≡ y
 meta_line_injective g x y e = omega arith
 
--- each place lies on the device
-pub data_on_device : (g : Shape) (a : ℕ) → a < data_lines g → a < device_lines g
-data_on_device g a h = omega arith
-
 pub tag_on_device : (g : Shape) (a : ℕ) → a < data_lines g → tag_line g a < device_lines g
 tag_on_device g a h = omega arith
 
 pub meta_on_device : (g : Shape) (x : ℕ) → x < meta_lines g → meta_line g x < device_lines g
 meta_on_device g x h = omega arith
-
-pub shadow_on_device : (g : Shape) (n : ℕ) → n < shadow_lines g → shadow_line g n < device_lines g
-shadow_on_device g n h = omega arith
 
 -- what stands before the shadow lines
 pub data_before_shadow : (g : Shape) (a : ℕ) → a < data_lines g → a < shadow_line g 0

@@ -12,11 +12,11 @@ use Rattle.pmem_base.specs.declared.answers.Mark.{Mark}
 use Rattle.pmem_base.specs.declared.answers.Mark.TheVariants.{Begin, Seal}
 use Rattle.pmem_base.specs.Marks.{SealOf, seal_of, later_of, last_seal, is_below, IsAfter, IsFresh}
 
-later_of_assoc : (a b c : Option SealOf) → later_of a (later_of b c) ≡ later_of (later_of a b) c
+pub later_of_assoc : (a b c : Option SealOf) → later_of a (later_of b c) ≡ later_of (later_of a b) c
 later_of_assoc a b None = refl
 later_of_assoc a b (Some c) = refl
 
-later_of_none : (a : Option SealOf) → later_of None a ≡ a
+pub later_of_none : (a : Option SealOf) → later_of None a ≡ a
 later_of_none None = refl
 later_of_none (Some a) = refl
 

@@ -1,11 +1,10 @@
 -- Numbers as bytes and back.
-use Rattle.std.proofs.Common.{◌≡◌, ℕ, zero, suc, ◌+◌, ◌*◌, ◌/◌, ◌%◌, ◌^◌, ◌≤◌, ◌<◌, length, mul-le-mul_right, refl, sym, ap, ◌∙◌, arith}
-use Rattle.std.specs.Prelude.{All}
+use Rattle.std.proofs.Common.{◌≡◌, ℕ, zero, suc, ◌+◌, ◌*◌, ◌/◌, ◌%◌, ◌^◌, ◌≤◌, ◌<◌, length, mul-le-mul_right, sym, ap, ◌∙◌, arith}
 use Rattle.std.proofs.Math.Nat.{div-add-mod, one-le-pow}
 use Rattle.std.proofs.lemmas.Nat.{mod-mul-add}
 use Rattle.std.proofs.lemmas.Grind.{pow_more}
-use Rattle.std.proofs.lemmas.List.Elements.{All-cons, All-nil}
 use Rattle.pmem_base.specs.Lines.{big_endian, from_big_endian}
+use Rattle.pmem_base.proofs.ByteLaws.{length-big_endian}
 
 pub pow_positive : (b n : ℕ) → 0 < b → 0 < b ^ n
 pow_positive b n h = omega (arith, one-le-pow n b h)
@@ -21,15 +20,6 @@ mod_next v w b hw hb =
     let small : (v / w % b) * w + v % w < w * b = omega arith in
     let whole : v / w / b * (w * b) + ((v / w % b) * w + v % w) ≡ v = omega arith in
     sym (ap (λ t. t % (w * b)) (sym whole) ∙ mod-mul-add (v / w / b) (w * b) ((v / w % b) * w + v % w) small)
-
-pub length-big_endian : (n value : ℕ) → length (big_endian n value) ≡ n
-length-big_endian zero value = refl
-length-big_endian (suc n) value = ap suc (length-big_endian n value)
-
-pub big_endian_bytes : (n value : ℕ) → All (λ b. b < 256) (big_endian n value)
-big_endian_bytes zero value = All-nil (λ b. b < 256)
-big_endian_bytes (suc n) value =
-    All-cons (λ b. b < 256) ((value / 256 ^ n) % 256) (big_endian n value) (omega arith) (big_endian_bytes n value)
 
 pub from_big_endian-big_endian : (n value : ℕ) → from_big_endian (big_endian n value) ≡ value % 256 ^ n
 from_big_endian-big_endian zero value = omega arith

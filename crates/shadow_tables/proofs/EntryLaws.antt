@@ -1,10 +1,10 @@
 -- Laws of shadow entries: zero lines name nothing, and a table names no more positions than it has slots.
-use Rattle.std.proofs.Common.{ℕ, ◌≡◌, ◌<◌, ◌≤◌, ◌+◌, ◌-◌, ◌*◌, ◌/◌, ◌%◌, ◌^◌, Bool, false, eqb, List, [], ◌∷◌, length, drop, replicate, All, slice_range, refl, ap, sym, ◌∙◌, subst, arith}
-use Rattle.std.specs.List.{filter, list_any, range_with_len}
+use Rattle.std.proofs.Common.{ℕ, ◌≡◌, ◌+◌, ◌-◌, ◌*◌, ◌/◌, ◌%◌, ◌^◌, false, eqb, List, [], ◌∷◌, length, drop, replicate, All, slice_range, refl, ap, sym, ◌∙◌, arith}
+use Rattle.std.specs.List.{list_any, range_with_len}
 use Rattle.std.proofs.lemmas.List.Elements.{All-head, All-tail, All-take, All-drop, All-replicate}
 use Rattle.std.proofs.lemmas.List.Folds.{list_any_none}
-use Rattle.std.proofs.lemmas.Bool.{ne_eqb, cond-true, cond-false, eq-eqb, cond_both}
-use Rattle.pmem_base.proofs.ListLaws.{length-filter_named, All-into_range, filter_agree_on}
+use Rattle.std.proofs.lemmas.Bool.{ne_eqb, cond_both}
+use Rattle.pmem_base.proofs.ListLaws.{All-into_range}
 use Rattle.pmem_base.specs.declared.lines.Line.{Line}
 use Rattle.pmem_base.specs.Shape.{Shape}
 use Rattle.pmem_base.specs.Layout.{slots, shadow_counter_lines}
@@ -55,34 +55,3 @@ is_named_in-zero g shadow bank x h =
     (λ b. b ≡ false)
     (λ _. none_named shadow 0 (slots g) x h)
     (λ _. none_named shadow (shadow_counter_lines g) (g.levels * slots g) x h)
-
--- ---- how many positions a table names
-
--- of counter blocks, whose bank is the last, at most as many are named as their table has slots
-pub length_named_counters : (g : Shape) (shadow : List Line) (first n : ℕ) (bank : ℕ → ℕ) → ((p : ℕ) → p < n → bank p ≡ g.levels) → length (filter (λ p. is_named_in g shadow (bank p) (first + p)) (range_with_len 0 n)) ≤ slots g
-length_named_counters g shadow first n bank lowest =
-    subst (λ l. length l ≤ slots g) (filter_agree_on by_entries (λ p. is_named_in g shadow (bank p) (first + p)) (range_with_len 0 n) (All-into_range (λ p. by_entries p ≡ is_named_in g shadow (bank p) (first + p)) 0 n (λ p low high. same p (omega arith))))
-    (length-filter_named (table_entry shadow 0) (λ p. first + p + 1) 0 (slots g) 0 n (λ x y e. omega arith))
-  where
-    by_entries : ℕ → Bool
-    by_entries p = list_any (λ k. eqb (table_entry shadow 0 k) (first + p + 1)) (range_with_len 0 (slots g))
-
-    same : (p : ℕ) → p < n → by_entries p ≡ is_named_in g shadow (bank p) (first + p)
-    same p h = sym (cond-true (eqb (bank p) g.levels) (by_entries p)
-        (list_any (λ k. eqb (table_entry shadow (shadow_counter_lines g) k) (first + p + 1)) (range_with_len 0 (g.levels * slots g)))
-        (eq-eqb (bank p) g.levels (lowest p h)))
-
--- of nodes, whose bank is another, at most as many are named as the tree table has slots
-pub length_named_nodes : (g : Shape) (shadow : List Line) (first n : ℕ) (bank : ℕ → ℕ) → ((x : ℕ) → first ≤ x → x < first + n → bank x ≡ g.levels → ⊥) → length (filter (λ x. is_named_in g shadow (bank x) x) (range_with_len first n)) ≤ g.levels * slots g
-length_named_nodes g shadow first n bank other =
-    subst (λ l. length l ≤ g.levels * slots g) (filter_agree_on by_entries (λ x. is_named_in g shadow (bank x) x) (range_with_len first n) (All-into_range (λ x. by_entries x ≡ is_named_in g shadow (bank x) x) first n (λ x low high. same x low high)))
-    (length-filter_named (table_entry shadow (shadow_counter_lines g)) (λ x. x + 1) 0 (g.levels * slots g) first n (λ x y e. omega arith))
-  where
-    by_entries : ℕ → Bool
-    by_entries x = list_any (λ k. eqb (table_entry shadow (shadow_counter_lines g) k) (x + 1)) (range_with_len 0 (g.levels * slots g))
-
-    same : (x : ℕ) → first ≤ x → x < first + n → by_entries x ≡ is_named_in g shadow (bank x) x
-    same x low high = sym (cond-false (eqb (bank x) g.levels)
-        (list_any (λ k. eqb (table_entry shadow 0 k) (x + 1)) (range_with_len 0 (slots g)))
-        (by_entries x)
-        (ne_eqb (bank x) g.levels (other x low high)))

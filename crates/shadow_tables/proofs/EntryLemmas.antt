@@ -11,6 +11,7 @@ use Rattle.pmem_base.specs.Shape.{Shape}
 use Rattle.pmem_base.specs.Layout.{slots, shadow_counter_lines, shadow_lines}
 use Rattle.pmem_base.specs.Lines.{line_at, zero_line, from_big_endian, big_endian}
 use Rattle.pmem_base.proofs.Parts.{part-put_bytes_same, part-put_bytes_before, part-put_bytes_behind}
+use Rattle.pmem_base.proofs.LayoutLemmas.{number_low}
 use Rattle.shadow_tables.proofs.ByteLemmas.{from_big_endian-big_endian}
 use Rattle.shadow_tables.specs.Entries.{entry_of, table_entry, slot_entry, is_named_in}
 use Rattle.shadow_tables.specs.Naming.{entry_line, entry_index, with_entry}
@@ -24,12 +25,6 @@ slot_entry-at_counter g shadow bank n h = cond-true (bank == g.levels) _ _ (eq-e
 pub slot_entry-at_node : (g : Shape) (shadow : List Line) (bank n : ℕ) → bank ≢ g.levels
     → slot_entry g shadow bank n ≡ table_entry shadow (shadow_counter_lines g) (bank * slots g + n)
 slot_entry-at_node g shadow bank n h = cond-false (bank == g.levels) _ _ (ne_eqb bank g.levels h)
-
--- a slot of a bank of nodes has an entry of the tree table
-pub node_slot_within : (levels size bank n : ℕ) → bank < levels → n < size → bank * size + n < levels * size
-node_slot_within levels size bank n low h =
-    let more : (bank + 1) * size ≤ levels * size = mul-le-mul_right size (omega arith) in
-    omega arith
 
 -- a slot's entry that names x is one of the entries of its level's table that do
 pub is_named_in-slot : (g : Shape) (shadow : List Line) (bank n x : ℕ) → bank ≤ g.levels → n < slots g
@@ -47,7 +42,7 @@ is_named_in-slot g shadow bank n x low h names =
       | inr other ↦
           let m : ℕ = bank * slots g + n in
           let within : m < g.levels * slots g =
-          node_slot_within g.levels (slots g) bank n (omega arith) h in
+          number_low g.levels (slots g) bank n (omega arith) h in
           let at : get_or (range_with_len 0 (g.levels * slots g)) m 0 ≡ m =
           omega (arith, get_or-range_with_len 0 (g.levels * slots g) m 0 within) in
           cond-false (bank == g.levels) _ _ (ne_eqb bank g.levels other)
@@ -190,7 +185,7 @@ entry_line_within g bank n low h =
       | inl same ↦ omega (arith, entry_line-at_counter g bank n same)
       | inr other ↦
           let within : bank * slots g + n < g.levels * slots g =
-          node_slot_within g.levels (slots g) bank n (omega arith) h in
+          number_low g.levels (slots g) bank n (omega arith) h in
           omega (arith, entry_line-at_node g bank n other)
     ]
 

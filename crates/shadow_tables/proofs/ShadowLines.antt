@@ -1,15 +1,14 @@
 -- The shadow lines among a device's lines, after one of the device's lines was set.
-use Rattle.std.proofs.Common.{◌≡◌, ℕ, zero, suc, ◌+◌, ◌-◌, ◌*◌, ◌<◌, List, [], ◌∷◌, length, take, drop, length-take, refl, ap, ◌∙◌, arith}
+use Rattle.std.proofs.Common.{◌≡◌, ℕ, zero, suc, ◌+◌, ◌-◌, ◌*◌, ◌<◌, List, [], ◌∷◌, take, drop, refl, ap, ◌∙◌, arith}
 use Rattle.std.specs.Prelude.{slice_set}
-use Rattle.std.proofs.lemmas.List.{length-drop}
 use Rattle.pmem_base.specs.declared.lines.Line.{Line}
 use Rattle.pmem_base.specs.Shape.{Shape}
-use Rattle.pmem_base.specs.Layout.{shadow_lines, shadow_line, device_lines}
+use Rattle.pmem_base.specs.Layout.{shadow_line, device_lines}
 use Rattle.pmem_base.specs.Lines.{IsLine, big_endian}
 use Rattle.pmem_base.proofs.LineSets.{put_bytes-IsLine}
+use Rattle.pmem_base.proofs.ByteLaws.{big_endian-AreBytes, length-big_endian}
 use Rattle.shadow_tables.specs.Entries.{shadow_of}
 use Rattle.shadow_tables.specs.Naming.{with_entry}
-use Rattle.shadow_tables.proofs.ByteLemmas.{length-big_endian, big_endian_bytes}
 
 take-set_within : {X : Type 0} (m : ℕ) (xs : List X) (n : ℕ) (y : X) → take m (slice_set xs n y) ≡ slice_set (take m xs) n y
 take-set_within zero xs n y = refl
@@ -44,18 +43,8 @@ shadow_of-set g lines n line =
     (drop-set_from (shadow_line g 0) lines (shadow_line g n) n line (omega arith))
     ∙ take-set_within (device_lines g - shadow_line g 0) (drop (shadow_line g 0) lines) n line
 
--- as many as the layout says
-pub length-shadow_of : (g : Shape) (lines : List Line) → length lines ≡ device_lines g
-    → length (shadow_of g lines) ≡ shadow_lines g
-length-shadow_of g lines h =
-    omega (
-      arith,
-      length-take (device_lines g - shadow_line g 0) (drop (shadow_line g 0) lines),
-      length-drop (shadow_line g 0) lines,
-    )
-
 -- a shadow line with an entry written into it is a line
 pub IsLine-with_entry : (line : Line) (i value : ℕ) → IsLine line → i < 16 → IsLine (with_entry line i value)
 IsLine-with_entry line i value whole h =
-    put_bytes-IsLine line (4 * i) (big_endian 4 value) whole (big_endian_bytes 4 value)
+    put_bytes-IsLine line (4 * i) (big_endian 4 value) whole (big_endian-AreBytes 4 value)
     (omega (arith, length-big_endian 4 value))

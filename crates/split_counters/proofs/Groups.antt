@@ -1,7 +1,7 @@
 -- Eight minors are seven bytes: the line of a block and the block of a line, by groups.
-use Rattle.std.proofs.Common.{ℕ, ◌≡◌, ◌<◌, ◌≤◌, ◌+◌, ◌-◌, ◌*◌, ◌/◌, ◌%◌, ◌^◌, List, [], ◌∷◌, ◌++◌, length, take, drop, get_or, refl, sym, ap, subst, ◌∙◌, arith}
+use Rattle.std.proofs.Common.{ℕ, ◌≡◌, ◌<◌, ◌≤◌, ◌+◌, ◌-◌, ◌*◌, ◌/◌, ◌%◌, ◌^◌, List, [], ◌∷◌, ◌++◌, length, take, drop, refl, sym, ap, subst, ◌∙◌, arith}
 use Rattle.std.specs.Prelude.{All}
-use Rattle.std.proofs.lemmas.List.{append_assoc, append-nil, length-drop, length-take-le, take_all, take_more, drop-drop}
+use Rattle.std.proofs.lemmas.List.{append_assoc, append-nil, length-drop, length-take-le, take_all, drop-drop}
 use Rattle.std.proofs.lemmas.Slice.{take-put_mid}
 use borrow.Rule.Slice.PartMut.{put_mid, same_len_mid}
 use Rattle.std.specs.Int.{w64, to_be_bytes, from_be_bytes}
@@ -13,13 +13,6 @@ use Rattle.pmem_base.specs.Lines.{AreBytes, IsLine, line_of, big_endian, from_bi
 use Rattle.split_counters.specs.declared.Block.{Block}
 use Rattle.split_counters.specs.Blocks.{packed, unpacked, number_of_minors, minors_of_number}
 use Rattle.split_counters.proofs.Digits.{big_endian-join, from_big_endian-append, from_big_endian-below, minors_of_number-join, number_of_minors-append, number_of_minors-below}
-
--- one more minor
-pub number_of_minors-more : (minors : List ℕ) (i : ℕ) → i < length minors → number_of_minors (take (i + 1) minors) ≡ 128 * number_of_minors (take i minors) + get_or minors i 0
-number_of_minors-more minors i inside =
-    ap number_of_minors (take_more minors i 0 inside)
-    ∙ (number_of_minors-append (take i minors) (get_or minors i 0 ∷ [])
-    ∙ omega arith)
 
 -- seven minors have 49 bits
 pub number_of_minors-few : (minors : List ℕ) (i : ℕ) → i ≤ 7 → length minors ≡ 8 → All (λ m. m ≤ 127) minors → number_of_minors (take i minors) < 2 ^ 49

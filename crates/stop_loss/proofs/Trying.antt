@@ -9,17 +9,11 @@ use Rattle.std.proofs.lemmas.Bool.{cases_Bool, cases_lt}
 use Rattle.pmem_base.specs.declared.lines.Line.{Line}
 use Rattle.pmem_base.specs.Counts.{last_count, risen, risen_times}
 use Rattle.pmem_base.specs.Lines.{same_bytes}
+use Rattle.pmem_base.proofs.ListLaws.{range_more}
 use Rattle.suite.specs.Formulas.{Formulas}
 use Rattle.stop_loss.specs.declared.Found.{Found}
 use Rattle.stop_loss.specs.Windows.{minors_within}
-use Rattle.stop_loss.specs.Trials.{is_match, matching_minors, found_among, found_after, IsWithin}
-
--- one more candidate at the end
-range_more : (first n : ℕ) → range_with_len first (suc n) ≡ range_with_len first n ++ (first + n) ∷ []
-range_more first zero = ap (λ m. m ∷ []) (omega arith)
-range_more first (suc n) =
-    let place : first + 1 + n ≡ first + suc n = omega arith in
-    ap (λ ms. first ∷ ms) (range_more (first + 1) n ∙ ap (λ m. range_with_len (first + 1) n ++ m ∷ []) place)
+use Rattle.stop_loss.specs.Trials.{is_match, matching_minors, found_among, found_after, IsFoundWithin}
 
 found_among-more : (minors : List ℕ) (minor : ℕ) (matches : Bool) → found_after (found_among minors) minor matches ≡ found_among (minors ++ cond matches (minor ∷ []) [])
 found_among-more minors minor false = ap found_among (sym (append-nil minors))
@@ -86,40 +80,40 @@ All-range start n =
     subst (λ m. (start ≤ m) × (m < start + n)) (sym (get_or-range_with_len start n k 0 small)) (omega arith, omega (arith, small)))
 
 -- a first match, and those after it
-found_first : (start last : ℕ) (more : List ℕ) → start ≤ last → All (λ m. (start + 1 ≤ m) × (m ≤ last)) more → IsWithin start last (found_among (start ∷ more))
+found_first : (start last : ℕ) (more : List ℕ) → start ≤ last → All (λ m. (start + 1 ≤ m) × (m ≤ last)) more → IsFoundWithin start last (found_among (start ∷ more))
 found_first start last [] inside later = (omega arith, inside)
 found_first start last (high ∷ more) inside later =
     let next = All-head (λ m. (start + 1 ≤ m) × (m ≤ last)) high more later in
     (omega arith, omega (arith, next.0), next.1)
 
-wider : (start last : ℕ) (found : Found) → IsWithin (start + 1) last found → IsWithin start last found
+wider : (start last : ℕ) (found : Found) → IsFoundWithin (start + 1) last found → IsFoundWithin start last found
 wider start last Found.Nothing within = tt
 wider start last (Found.One minor) within = (omega (arith, within.0), within.1)
 wider start last (Found.Twin low high) within = (omega (arith, within.0), within.1, within.2)
 
-found_within : (p : ℕ → Bool) (n start last : ℕ) → start + n ≡ last + 1 → IsWithin start last (found_among (filter p (range_with_len start n)))
+found_within : (p : ℕ → Bool) (n start last : ℕ) → start + n ≡ last + 1 → IsFoundWithin start last (found_among (filter p (range_with_len start n)))
 found_within p zero start last end = tt
 found_within p (suc n) start last end =
     let rest = filter p (range_with_len (start + 1) n) in
     elim (cases_Bool (p start)) [
       | inl passes ↦
-          subst (λ b. IsWithin start last (found_among (cond b (start ∷ rest) rest))) (sym passes)
+          subst (λ b. IsFoundWithin start last (found_among (cond b (start ∷ rest) rest))) (sym passes)
           (found_first start last rest (omega (arith, end))
           (All-filter p (λ m. (start + 1 ≤ m) × (m ≤ last)) (range_with_len (start + 1) n)
           (All-weaker (λ m. (start + 1 ≤ m) × (m < start + 1 + n)) (λ m. (start + 1 ≤ m) × (m ≤ last)) (λ m both. (both.0, omega (arith, both.1, end))) (range_with_len (start + 1) n) (All-range (start + 1) n))))
       | inr fails ↦
-          subst (λ b. IsWithin start last (found_among (cond b (start ∷ rest) rest))) (sym fails)
+          subst (λ b. IsFoundWithin start last (found_among (cond b (start ∷ rest) rest))) (sym fails)
           (wider start last (found_among rest) (found_within p n (start + 1) last (omega (arith, end))))
     ]
 
 -- an empty window, or one with its ends
-pub result_within : (formulas : Formulas) (a major : ℕ) (cipher : Line) (tag : List ℕ) (first last : ℕ) (found : Found) → found ≡ found_among (matching_minors formulas a major cipher tag (minors_within first last)) → IsWithin first last found
+pub result_within : (formulas : Formulas) (a major : ℕ) (cipher : Line) (tag : List ℕ) (first last : ℕ) (found : Found) → found ≡ found_among (matching_minors formulas a major cipher tag (minors_within first last)) → IsFoundWithin first last found
 result_within formulas a major cipher tag first last found same =
-    subst (IsWithin first last) (sym same)
+    subst (IsFoundWithin first last) (sym same)
     (elim (cases_lt last first) [
       | inl empty ↦
           let none : 0 ≡ last + 1 - first = omega (arith, empty) in
-          subst (λ n. IsWithin first last (found_among (matching_minors formulas a major cipher tag (range_with_len first n)))) none tt
+          subst (λ n. IsFoundWithin first last (found_among (matching_minors formulas a major cipher tag (range_with_len first n)))) none tt
       | inr some ↦
           found_within (is_match formulas a major cipher tag) (last + 1 - first) first last (omega (arith, some))
     ])

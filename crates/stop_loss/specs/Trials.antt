@@ -23,10 +23,10 @@ found_among (minor ∷ []) = One minor
 found_among (low ∷ high ∷ more) = Twin low high
 
 -- what is found are candidates from first to last, and of two the lower comes first
-abbrev pub IsWithin : ℕ → ℕ → Found → Type 0
-IsWithin first last Nothing = Unit {0}
-IsWithin first last (One minor) = (first ≤ minor) × (minor ≤ last)
-IsWithin first last (Twin low high) = (first ≤ low) × (low < high) × (high ≤ last)
+abbrev pub IsFoundWithin : ℕ → ℕ → Found → Type 0
+IsFoundWithin first last Nothing = Unit {0}
+IsFoundWithin first last (One minor) = (first ≤ minor) × (minor ≤ last)
+IsFoundWithin first last (Twin low high) = (first ≤ low) × (low < high) × (high ≤ last)
 
 -- what is found after one more candidate, and whether its tag matches
 abbrev pub found_after : Found → ℕ → Bool → Found

@@ -4,7 +4,7 @@ ghost use Rattle.std.specs.Prelude.{◌≡◌, ◌≤◌, ◌+◌, ◌%◌, ◌�
 ghost use Rattle.pmem_base.specs.Counts.{last_count, risen_times};
 ghost use Rattle.pmem_base.specs.Lines.{same_bytes};
 ghost use Rattle.pmem_base.specs.Shape.{is_loss};
-ghost use Rattle.stop_loss.specs.Trials.{matching_minors, found_among, found_after, IsWithin};
+ghost use Rattle.stop_loss.specs.Trials.{matching_minors, found_among, found_after, IsFoundWithin};
 ghost use Rattle.stop_loss.specs.Windows.{minors_within, window_ends, window_minors, HoldsCandidates};
 
 use pmem_base::{Ctr, Line, Tag};
@@ -52,7 +52,7 @@ pub fn find<S: Suite>(
     requires { window.1 ≤ 127 }
     ensures found { result ≡ found_among (matching_minors (S.formulas_of (S.keys suite.old)) at major
         cipher.now tag.now (minors_within window.0 window.1)) }
-    ensures inside { IsWithin window.0 window.1 result }
+    ensures inside { IsFoundWithin window.0 window.1 result }
     // Each candidate is tried once.
     ensures tries { S.tags suite.new ≡ risen_times (length (minors_within window.0 window.1)) (S.tags suite.old) }
     ensures count { S.tags suite.old ≤ last_count

@@ -1,14 +1,15 @@
 -- A block encrypted under a key of 16 bytes is 16 bytes.
-use Rattle.std.proofs.Common.{ℕ, zero, suc, ◌≡◌, ◌<◌, ◌≤◌, ◌+◌, ◌-◌, ◌*◌, ◌/◌, ◌%◌, ◌^◌, ◌==◌, true, false, List, [], ◌∷◌, ◌++◌, length, map, drop, refl, ◌∙◌, arith, rules, length-append}
+use Rattle.std.proofs.Common.{ℕ, zero, suc, ◌≡◌, ◌<◌, ◌+◌, ◌-◌, ◌*◌, ◌/◌, ◌%◌, ◌^◌, ◌==◌, true, false, List, [], ◌∷◌, ◌++◌, length, map, drop, refl, ◌∙◌, arith, rules, length-append}
 use Rattle.std.specs.Prelude.{bit_xor, slice_index, slice_range, sum_by, if◌then◌else◌}
 use Rattle.std.specs.List.{range_with_len}
 use Rattle.std.proofs.lemmas.Nat.{xor_of_8, mod_below}
-use Rattle.std.proofs.lemmas.List.{length-take-le, length-drop, length-map}
+use Rattle.std.proofs.lemmas.List.{length-map}
 use Rattle.std.proofs.lemmas.List.Elements.{All-nil, All-cons, All-head, All-tail, All-append, All-take, All-drop, All-map, All-replicate, All-from_recursion}
 use Rattle.std.proofs.lemmas.List.FromFn.{length-map-range_with_len}
 use Rattle.aes_block.specs.Field.{affine, affine_bit, inverse, sub_byte}
 use Rattle.aes_block.specs.Cipher.{State, cell, xor_with, sub_bytes, shift_rows, round_constants, rotated_word, word_of, temporary, with_next_word, expanded_key, round_key, after_rounds, aes128_under, aes128_of}
 use Rattle.pmem_base.specs.Lines.{AreBytes}
+use Rattle.pmem_base.proofs.Parts.{length-part}
 use Rattle.suite.proofs.ByteLemmas.{get_or-below}
 
 -- ---- bytes
@@ -50,10 +51,6 @@ length-xor_with (x ∷ xs) (y ∷ ys) (suc n) one two =
 slice_range-AreBytes : (bytes : List ℕ) (i j : ℕ) → AreBytes bytes → AreBytes (slice_range bytes i j)
 slice_range-AreBytes bytes i j small =
     All-take (λ b. b < 256) (j - i) (drop i bytes) (All-drop (λ b. b < 256) i bytes small)
-
-length-slice_range : (bytes : List ℕ) (i n : ℕ) → i + n ≤ length bytes → length (slice_range bytes i (i + n)) ≡ n
-length-slice_range bytes i n inside =
-    length-take-le (i + n - i) (drop i bytes) (omega (arith, length-drop i bytes, inside)) ∙ omega arith
 
 -- ---- the key's words
 
@@ -115,9 +112,9 @@ length-expanded_key key (suc n) long =
     let next = xor_with (word_of bytes n) (temporary (word_of bytes (n + 3)) (n + 4)) in
     let more : length next ≡ 4 =
     length-xor_with (word_of bytes n) (temporary (word_of bytes (n + 3)) (n + 4)) 4
-    (length-slice_range bytes (4 * n) 4 (omega (arith, before)))
+    (length-part bytes (4 * n) 4 (omega (arith, before)))
     (length-temporary (word_of bytes (n + 3)) (n + 4)
-    (length-slice_range bytes (4 * (n + 3)) 4 (omega (arith, before)))) in
+    (length-part bytes (4 * (n + 3)) 4 (omega (arith, before)))) in
     omega (arith, length-append bytes next, before, more)
 
 -- ---- the last round
@@ -140,7 +137,7 @@ module _ (key block : List ℕ) (long : length key ≡ 16) where
   last_key-long : length (round_key (expanded_key key 40) 10) ≡ 16
   unfolding round_key
   last_key-long =
-      length-slice_range (expanded_key key 40) 160 16 (omega (arith, length-expanded_key key 40 long))
+      length-part (expanded_key key 40) 160 16 (omega (arith, length-expanded_key key 40 long))
 
   pub length-aes128_of : length (aes128_of key block) ≡ 16
   unfolding aes128_of aes128_under

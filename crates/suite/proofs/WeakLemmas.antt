@@ -6,12 +6,13 @@ use Rattle.std.proofs.lemmas.Nat.{xor_of_8, mod_below}
 use Rattle.std.proofs.lemmas.List.{get_or_append_left}
 use Rattle.std.proofs.lemmas.List.FromFn.{length-map-range_with_len, fill_by_all}
 use Rattle.std.proofs.lemmas.List.Elements.{All-nil, All-cons, All-head, All-tail, All-append, All-map, All-replicate}
+use Rattle.pmem_base.proofs.ByteLaws.{big_endian-AreBytes}
 use Rattle.pmem_base.specs.declared.lines.Line.{Line}
 use Rattle.pmem_base.specs.declared.lines.Ctr.{Ctr}
 use Rattle.pmem_base.specs.Lines.{IsLine, IsTag, AreBytes, line_of, big_endian}
 use Rattle.suite.specs.Formulas.{AreInRange, tag_text, digest_text}
 use Rattle.suite.specs.Weak.{first_key_byte, first_tag_key_byte, blur_byte, blur_flag, folded, last_byte_tag, tagged_ctr, weak_pad_byte, weak_pad, weak_formulas}
-use Rattle.suite.proofs.ByteLemmas.{get_or-below, big_endian-AreBytes}
+use Rattle.suite.proofs.ByteLemmas.{get_or-below}
 
 last_byte_tag-IsTag : (b : ℕ) → b < 256 → IsTag (last_byte_tag b)
 last_byte_tag-IsTag b small =

@@ -4,8 +4,8 @@ use Rattle.std.specs.Prelude.{◌==◌, ◌||◌, nat_lt, nat_le, if◌then◌el
 use Rattle.std.specs.Int.{bit_at}
 use Rattle.std.specs.List.{list_all, range_with_len}
 use Rattle.std.proofs.lemmas.List.Sums.{AllPass-from_list_all, list_all-from_AllPass}
-use Rattle.std.proofs.lemmas.Nat.Bits.{bit_at-zero, bit_at_ones, same_from_bits_below}
-use Rattle.std.proofs.lemmas.Bool.{false≢true, both_ways, or_cases, ne_eqb, cases_lt, cases_Bool, eq-eqb, eqb-true, and_from, and_left, and_right, lt-ltb, le-ltb, le-leb, lt-leb, cond-true, cond-false, or_parts}
+use Rattle.std.proofs.lemmas.Nat.Bits.{bit_at_ones, same_from_bits_below}
+use Rattle.std.proofs.lemmas.Bool.{false≢true, both_ways, or_cases, cases_lt, cases_Bool, eq-eqb, eqb-true, and_from, and_left, and_right, lt-ltb, le-ltb, le-leb, lt-leb, cond-true, cond-false, or_parts}
 use Rattle.std.proofs.lemmas.List.Elements.{All-head, All-tail, filter_more}
 use Rattle.std.proofs.lemmas.List.Folds.{list_any-append}
 use Rattle.std.proofs.lemmas.List.FromFn.{fill_by_all, length-range_with_len, get_or-range_with_len}
@@ -197,14 +197,6 @@ mask_from_cover_line writes seen sight small covered =
     ∙ sym (bit_at_ones 64 i h))
 
 -- ---- one write more
-
-pub IsSight-none : (seen : Seen) → seen.mask ≡ 0 → seen.line ≡ zero_line → IsSight [] seen
-IsSight-none seen none blank =
-    record {
-      seen_bytes = λ i h. ne_eqb (bit_at seen.mask i) 1
-          (λ e. absurd (omega (arith, e, ap (λ n. bit_at n i) none, bit_at-zero i)));
-      newest = blank;
-    }
 
 pub IsSight-push : (xs ys : List Posted) (old new : Seen) → IsSight xs old
     → ((i : ℕ) → i < 64 → is_seen new i ≡ (is_seen old i || have_byte ys i))

@@ -1,8 +1,9 @@
 -- The way is one of the set's, and the set one of the bank's.
 use Rattle.std.proofs.Common.{◌*◌, ◌<◌, ◌≡◌, ap, ◌∙◌, arith}
+use Rattle.pmem_base.proofs.LayoutLemmas.{number_low}
 use Rattle.meta_cache.specs.Banks.{set_index}
 use Rattle.meta_cache.specs.State.{CacheState, slots_of}
-use Rattle.meta_cache.proofs.FormLemmas.{way_low, number_low}
+use Rattle.meta_cache.proofs.FormLemmas.{way_low}
 use Rattle.meta_cache.proofs.cache.Cache.slot_of.Goals as goal
 
 pub returns-clause-within : goal.returns-clause-within
