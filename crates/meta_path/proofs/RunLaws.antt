@@ -5,6 +5,7 @@ use Rattle.pmem_base.specs.declared.lines.Line.{Line}
 use Rattle.pmem_base.specs.Shape.{Shape, HasLevels, HasSets, HasWays}
 use Rattle.pmem_base.specs.Layout.{pages, device_lines}
 use Rattle.pmem_base.specs.Lines.{IsLine}
+use Rattle.pmem_base.specs.Counts.{risen_times}
 use Rattle.suite.specs.Formulas.{Formulas, AreInRange}
 use Rattle.board.specs.Device.{IsDevice}
 use Rattle.seal_ledger.specs.Ledger.{LedgerState}
@@ -16,7 +17,7 @@ use Rattle.meta_cache.specs.State.{IsCacheOf}
 use Rattle.meta_path.specs.declared.faults.PathFault.{PathFault}
 use Rattle.meta_path.specs.declared.faults.PathFault.TheVariants as Fault
 use Rattle.meta_path.specs.Blocks.{path_at, dirty_count, AreInTheirBanks, AreCachedTrue, IsPathCached}
-use Rattle.meta_path.specs.Work.{risen_times, FetchState}
+use Rattle.meta_path.specs.Work.{FetchState}
 use Rattle.meta_path.specs.Levels.{IsLevelFetched, IsLevelFault}
 use Rattle.meta_path.specs.Fetching.{absent_count, spilled, IsFetchedTo, IsReadAt, IsCutAt, IsPathFault}
 use Rattle.meta_path.specs.Keeping.{KeepsBlocks, IsUndisturbed, IsTrueTree, IsFaultCaused}

@@ -13,7 +13,7 @@ use Rattle.pmem_base.specs.declared.lines.Line.{Line}
 use Rattle.pmem_base.specs.Shape.{Shape}
 use Rattle.pmem_base.specs.Layout.{meta_line}
 use Rattle.meta_cache.specs.declared.slot.Slot.{Slot}
-use Rattle.meta_cache.specs.Sets.{holds, slot_with, touched, lined, marked, with_line, with_mark, victim_of, way_over, next_way, without_victim, placed, ArePositionsApart}
+use Rattle.meta_cache.specs.Sets.{holds, slot_with, touched, lined, slot_marked, with_slot_line, with_mark, victim_of, way_over, next_way, without_victim, placed, ArePositionsApart}
 use Rattle.meta_cache.proofs.SetLemmas.{blank}
 use Rattle.meta_path.specs.Blocks.{dirty_in}
 use Rattle.meta_path.specs.Levels.{victim_write, room_write, without_dirty}
@@ -264,20 +264,20 @@ apart_front front victim apart =
 
 -- marking the last slot leaves the others
 with_mark-last : (front : List Slot) (victim : Slot) (dirty : Bool) → ArePositionsApart (front ++ victim ∷ [])
-    → with_mark (front ++ victim ∷ []) victim.position dirty ≡ front ++ marked victim dirty ∷ []
+    → with_mark (front ++ victim ∷ []) victim.position dirty ≡ front ++ slot_marked victim dirty ∷ []
 unfolding with_mark
 with_mark-last front victim dirty apart =
     map-append mark front (victim ∷ [])
     ∙ ap₂ (λ a b. a ++ b ∷ [])
     (map_fixed mark front
     (λ k d h.
-    cond-false ((get_or front k d).position == victim.position) (marked (get_or front k d) dirty) (get_or front k d)
+    cond-false ((get_or front k d).position == victim.position) (slot_marked (get_or front k d) dirty) (get_or front k d)
     (ne_eqb (get_or front k d).position victim.position (apart_front front victim apart k d h))))
-    (cond-true (victim.position == victim.position) (marked victim dirty) victim
+    (cond-true (victim.position == victim.position) (slot_marked victim dirty) victim
     (eq-eqb victim.position victim.position refl))
   where
     mark : Slot → Slot
-    mark slot = cond (slot.position == victim.position) (marked slot dirty) slot
+    mark slot = cond (slot.position == victim.position) (slot_marked slot dirty) slot
 
 -- ---- room is made
 
@@ -294,7 +294,7 @@ placed-without_dirty ways slots x line room apart = by_victim (victim_of ways sl
         let full : IsFull ways slots front victim = victim_last ways slots victim room some in
         ap (λ set. placed ways (with_mark set victim.position false) x line) full.split
         ∙ ap (λ set. placed ways set x line) (with_mark-last front victim false (subst ArePositionsApart full.split apart))
-        ∙ placed-full ways front (marked victim false) x line full.long
+        ∙ placed-full ways front (slot_marked victim false) x line full.long
         ∙ sym (placed-full ways front victim x line full.long)
         ∙ ap (λ set. placed ways set x line) (sym full.split)
 
@@ -324,7 +324,7 @@ clean_victim ways slots room apart = by_victim (victim_of ways slots) refl
         (sym (ap (λ set. with_mark set victim.position false) full.split
         ∙ with_mark-last front victim false (subst ArePositionsApart full.split apart)))
         (subst (λ found. IfSome found (λ (slot : Slot). slot.dirty ≡ false))
-        (sym (victim_of-full ways front (marked victim false) full.long)) refl)
+        (sym (victim_of-full ways front (slot_marked victim false) full.long)) refl)
 
     by_mark : (victim : Slot) (dirty : Bool) → victim.dirty ≡ dirty → victim_of ways slots ≡ Some victim
         → Clean (cond dirty (with_mark slots victim.position false) slots)
@@ -343,12 +343,12 @@ holds-with_mark [] y dirty x = refl
 holds-with_mark (slot ∷ slots) y dirty x =
     ap₂ (λ a b. a || b) (ap (λ p. p == x) (by_test (slot.position == y))) (holds-with_mark slots y dirty x)
   where
-    by_test : (test : Bool) → (cond test (marked slot dirty) slot).position ≡ slot.position
+    by_test : (test : Bool) → (cond test (slot_marked slot dirty) slot).position ≡ slot.position
     by_test true = refl
     by_test false = refl
 
-pub holds-with_line : (slots : List Slot) (y : ℕ) (line : Line) (x : ℕ) → holds (with_line slots y line) x ≡ holds slots x
-unfolding with_line
+pub holds-with_line : (slots : List Slot) (y : ℕ) (line : Line) (x : ℕ) → holds (with_slot_line slots y line) x ≡ holds slots x
+unfolding with_slot_line
 holds-with_line [] y line x = refl
 holds-with_line (slot ∷ slots) y line x =
     ap₂ (λ a b. a || b) (ap (λ p. p == x) (by_test (slot.position == y))) (holds-with_line slots y line x)

@@ -17,9 +17,9 @@ use Rattle.seal_ledger.specs.Ledger.{LedgerState}
 use Rattle.seal_ledger.specs.Notes.{HasMeta}
 use Rattle.meta_cache.specs.declared.slot.Slot.{Slot}
 use Rattle.meta_cache.specs.Banks.{Banks, set_of, set_index, is_cached}
-use Rattle.meta_cache.specs.Sets.{holds, lined, marked, with_line, with_mark}
+use Rattle.meta_cache.specs.Sets.{holds, lined, slot_marked, with_slot_line, with_mark}
 use Rattle.meta_cache.specs.State.{CacheState, ChangesSet}
-use Rattle.meta_cache.proofs.WayLemmas.{KeepsWays-with_line, KeepsWays-with_mark}
+use Rattle.meta_cache.proofs.WayLemmas.{KeepsWays-with_slot_line, KeepsWays-with_mark}
 use Rattle.meta_path.specs.Blocks.{path_at, slots_at, IsPathCached, IsOfItsBank, AreInTheirBanks}
 use Rattle.meta_path.specs.Storing.{new_line, IsPathOf, stored_set, stored_mark, IsStoredTo, AreTold, IsStoredSlot, KeepsSlots}
 use Rattle.meta_path.proofs.SetFacts.{slots_from, slots_to, holds-with_line, holds-with_mark}
@@ -32,7 +32,7 @@ use Rattle.meta_path.proofs.KeepLaws.{all_of}
 
 -- a line and a mark are one change
 pub stored_twice : (old mid new : CacheState) (bank x : ℕ) (line : Line) (dirty : Bool)
-    → ChangesSet old mid bank (set_index old.shape x) (with_line (slots_at old.shape old.banks bank x) x line)
+    → ChangesSet old mid bank (set_index old.shape x) (with_slot_line (slots_at old.shape old.banks bank x) x line)
     → ChangesSet mid new bank (set_index mid.shape x) (with_mark (slots_at mid.shape mid.banks bank x) x dirty)
     → ChangesSet old new bank (set_index old.shape x) (stored_set (slots_at old.shape old.banks bank x) x line dirty)
 stored_twice old mid new bank x line dirty one two =
@@ -41,9 +41,9 @@ stored_twice old mid new bank x line dirty one two =
       here =
           ap (λ (k : Shape). set_of new.banks bank (set_index k x)) (sym one.shape) ∙ two.here ∙ same;
       ways = λ y before after.
-          KeepsWays-with_mark (with_line slots x line) x dirty y
+          KeepsWays-with_mark (with_slot_line slots x line) x dirty y
           (holds-with_line slots x line y ∙ before) after
-          ∙ KeepsWays-with_line slots x line y before (holds-with_line slots x line y ∙ before);
+          ∙ KeepsWays-with_slot_line slots x line y before (holds-with_line slots x line y ∙ before);
       elsewhere =
           λ bank' set' apart.
           two.elsewhere bank' set' (λ e. apart (e.0, e.1 ∙ ap (λ (k : Shape). set_index k x) one.shape))
@@ -60,7 +60,7 @@ stored_twice old mid new bank x line dirty one two =
 
 -- the position is still cached
 pub lined_cached : (old mid : CacheState) (bank x : ℕ) (line : Line)
-    → ChangesSet old mid bank (set_index old.shape x) (with_line (slots_at old.shape old.banks bank x) x line)
+    → ChangesSet old mid bank (set_index old.shape x) (with_slot_line (slots_at old.shape old.banks bank x) x line)
     → is_cached old.shape old.banks bank x ≡ true → is_cached mid.shape mid.banks bank x ≡ true
 lined_cached old mid bank x line one cached =
     ap (λ (k : Shape). is_cached k mid.banks bank x) one.shape
@@ -188,7 +188,7 @@ store_at-is x line dirty slot =
       | inl here ↦
           subst (IsStoreOf x line dirty slot)
           (sym (ap (mark_at x dirty) (cond-true (slot.position == x) (lined slot line) slot here)
-          ∙ cond-true (slot.position == x) (marked (lined slot line) dirty) (lined slot line) here))
+          ∙ cond-true (slot.position == x) (slot_marked (lined slot line) dirty) (lined slot line) here))
           (record {
             way = refl;
             position = refl;
@@ -199,7 +199,7 @@ store_at-is x line dirty slot =
       | inr other ↦
           subst (IsStoreOf x line dirty slot)
           (sym (ap (mark_at x dirty) (cond-false (slot.position == x) (lined slot line) slot other)
-          ∙ cond-false (slot.position == x) (marked slot dirty) slot other))
+          ∙ cond-false (slot.position == x) (slot_marked slot dirty) slot other))
           (record {
             way = refl;
             position = refl;
@@ -210,7 +210,7 @@ store_at-is x line dirty slot =
     ]
 
 stored_map : (slots : List Slot) (x : ℕ) (line : Line) (dirty : Bool) → stored_set slots x line dirty ≡ map (store_at x line dirty) slots
-unfolding with_line with_mark
+unfolding with_slot_line with_mark
 stored_map slots x line dirty = map-map (mark_at x dirty) (line_of_at x line) slots
 
 -- a slot of a set that is stored
@@ -267,7 +267,7 @@ module _ {g : Shape} {page : ℕ} {persisted : Bool} {lines : List (ℕ × Line)
             let y : ℕ = path_at g page bank in
             ap (λ n. holds (set_of new.banks bank n) x) at.its_set
             ∙ ap (λ slots. holds slots x) (stored.stored bank at.reached)
-            ∙ holds-with_mark (with_line (slots_at g old.banks bank y) y (new_line lines bank)) y (stored_mark g persisted bank) x
+            ∙ holds-with_mark (with_slot_line (slots_at g old.banks bank y) y (new_line lines bank)) y (stored_mark g persisted bank) x
             ∙ holds-with_line (slots_at g old.banks bank y) y (new_line lines bank) x
             ∙ ap (λ n. holds (set_of old.banks bank n) x) (sym at.its_set)
         | inr apart ↦ ap (λ slots. holds slots x) (stored.elsewhere bank (set_index g x) apart)

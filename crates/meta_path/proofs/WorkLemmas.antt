@@ -10,7 +10,7 @@ use Rattle.board.specs.Device.{Device}
 use Rattle.board.specs.Steps.{HasWritten}
 use Rattle.board.proofs.CountLemmas.{RisesBy-then}
 use Rattle.commit_regs.specs.Groups.{redone_told}
-use Rattle.meta_path.specs.Work.{risen_times, HasWorked}
+use Rattle.meta_path.specs.Work.{HasWorked}
 
 pub redone_told-append : (front back : List (ℕ × Line)) (told : Option (List Line))
     → redone_told (front ++ back) told ≡ redone_told back (redone_told front told)

@@ -1,4 +1,4 @@
--- A block is written back and marked clean.
+-- A block is written back and slot_marked clean.
 use Rattle.std.proofs.Common.{rules, ◌≡◌, ◌≢◌, ℕ, ◌+◌, ◌<◌, ◌≤◌, Bool, true, false, cond, List, [], ◌∷◌, get_or, map, refl, sym, ap, ap₂, subst, ◌∙◌, ◌⊎◌, inl, inr, arith, mod-lt}
 use Rattle.std.specs.Prelude.{◌==◌, ◌&&◌, ◌||◌, Contains}
 use Rattle.std.specs.List.{list_any}
@@ -14,7 +14,7 @@ use Rattle.pmem_base.specs.Lines.{line_at}
 use Rattle.bonsai_tree.specs.Positions.{level_of}
 use Rattle.meta_cache.specs.declared.slot.Slot.{Slot}
 use Rattle.meta_cache.specs.Banks.{Banks, set_of, set_index, is_cached, is_cached_dirty}
-use Rattle.meta_cache.specs.Sets.{holds, marked, with_mark, ArePositionsApart}
+use Rattle.meta_cache.specs.Sets.{holds, slot_marked, with_mark, ArePositionsApart}
 use Rattle.meta_cache.specs.State.{CacheState, ChangesSet}
 use Rattle.meta_path.specs.Blocks.{slots_at, dirty_in, bank_dirty_count, dirty_count, IsOfItsBank, AreInTheirBanks, AreCachedTrue}
 use Rattle.meta_path.specs.Storing.{IsCleanedSlot, KeepsCleaned}
@@ -58,17 +58,17 @@ dirty_on_tree g banks bank x its dirty =
 
 -- ---- what a mark changes
 
--- a slot after its position was marked
+-- a slot after its position was slot_marked
 abbrev pub mark_at : ℕ → Bool → Slot → Slot
-mark_at x dirty slot = cond (slot.position == x) (marked slot dirty) slot
+mark_at x dirty slot = cond (slot.position == x) (slot_marked slot dirty) slot
 
 pub mark_at-position : (x : ℕ) (dirty : Bool) (slot : Slot) → (mark_at x dirty slot).position ≡ slot.position
 mark_at-position x dirty slot =
-    elim (slot.position == x) as (λ test. (cond test (marked slot dirty) slot).position ≡ slot.position) [ true ↦ refl | false ↦ refl ]
+    elim (slot.position == x) as (λ test. (cond test (slot_marked slot dirty) slot).position ≡ slot.position) [ true ↦ refl | false ↦ refl ]
 
 pub mark_at-line : (x : ℕ) (dirty : Bool) (slot : Slot) → (mark_at x dirty slot).line ≡ slot.line
 mark_at-line x dirty slot =
-    elim (slot.position == x) as (λ test. (cond test (marked slot dirty) slot).line ≡ slot.line) [ true ↦ refl | false ↦ refl ]
+    elim (slot.position == x) as (λ test. (cond test (slot_marked slot dirty) slot).line ≡ slot.line) [ true ↦ refl | false ↦ refl ]
 
 -- a slot after a mark was one before
 pub with_mark_contains : (slots : List Slot) (x : ℕ) (dirty : Bool) (slot : Slot) → Contains (with_mark slots x dirty) slot
@@ -167,7 +167,7 @@ rest_marked : (slot : Slot) (slots : List Slot) (x : ℕ) → slot.position ≡ 
 rest_marked slot slots x here apart =
     map_fixed (mark_at x false) slots
     (λ k d h.
-    cond-false ((get_or slots k d).position == x) (marked (get_or slots k d) false) (get_or slots k d)
+    cond-false ((get_or slots k d).position == x) (slot_marked (get_or slots k d) false) (get_or slots k d)
     (ne_eqb (get_or slots k d).position x
     (λ e. pairs_head (λ (a b : Slot). a.position ≢ b.position) slot slots apart k d h (here ∙ sym e))))
 
@@ -206,7 +206,7 @@ dirty_in-cleaned (slot ∷ slots) x apart dirty =
         let one : marks slot ≡ 1 =
         first slot.dirty refl here (ap (λ (b : Bool). (b && slot.dirty) || list_any (λ (s : Slot). s.position == x && s.dirty) slots) (sym same) ∙ any) in
         let none : marks (mark_at x false slot) ≡ 0 =
-        ap (λ (s : Slot). marks s) (cond-true (slot.position == x) (marked slot false) slot same) in
+        ap (λ (s : Slot). marks s) (cond-true (slot.position == x) (slot_marked slot false) slot same) in
         omega (
           arith,
           one,
@@ -217,7 +217,7 @@ dirty_in-cleaned (slot ∷ slots) x apart dirty =
         )
     by_test (inr other) any rest =
         let kept : marks (mark_at x false slot) ≡ marks slot =
-        ap (λ (s : Slot). marks s) (cond-false (slot.position == x) (marked slot false) slot other) in
+        ap (λ (s : Slot). marks s) (cond-false (slot.position == x) (slot_marked slot false) slot other) in
         let more : dirty_in (map (mark_at x false) slots) + 1 ≡ dirty_in slots =
         rest (ap (λ (b : Bool). (b && slot.dirty) || list_any (λ (s : Slot). s.position == x && s.dirty) slots) (sym other) ∙ any) in
         omega (
@@ -251,7 +251,7 @@ mark_at-is : (cleaned x bank : ℕ) (slot : Slot) → bank ≡ cleaned → IsCle
 mark_at-is cleaned x bank slot here =
     elim (cases_Bool (slot.position == x)) [
       | inl same ↦
-          subst (IsCleanedSlot cleaned x bank slot) (sym (cond-true (slot.position == x) (marked slot false) slot same))
+          subst (IsCleanedSlot cleaned x bank slot) (sym (cond-true (slot.position == x) (slot_marked slot false) slot same))
           (record {
             way = refl;
             position = refl;
@@ -260,7 +260,7 @@ mark_at-is cleaned x bank slot here =
             clean = λ b e. refl;
           })
       | inr other ↦
-          subst (IsCleanedSlot cleaned x bank slot) (sym (cond-false (slot.position == x) (marked slot false) slot other))
+          subst (IsCleanedSlot cleaned x bank slot) (sym (cond-false (slot.position == x) (slot_marked slot false) slot other))
           (record {
             way = refl;
             position = refl;

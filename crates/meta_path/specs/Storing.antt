@@ -12,7 +12,7 @@ use Rattle.board.specs.Steps.{HasWritten}
 use Rattle.seal_ledger.specs.Ledger.{LedgerState}
 use Rattle.meta_cache.specs.declared.slot.Slot.{Slot}
 use Rattle.meta_cache.specs.Banks.{Banks, set_of, set_index}
-use Rattle.meta_cache.specs.Sets.{with_line, with_mark}
+use Rattle.meta_cache.specs.Sets.{with_slot_line, with_mark}
 use Rattle.meta_cache.specs.State.{CacheState, ChangesSet}
 use Rattle.meta_path.specs.Blocks.{path_at, slots_at, line_in, IsPathCached, dirty_count}
 
@@ -41,7 +41,7 @@ pub record IsRenewed (g : Shape) (f : Formulas) (truth : List Line) (page : ℕ)
 
 -- a set in which position x has this line and this mark
 abbrev pub stored_set : List Slot → ℕ → Line → Bool → List Slot
-stored_set slots x line dirty = with_mark (with_line slots x line) x dirty
+stored_set slots x line dirty = with_mark (with_slot_line slots x line) x dirty
 
 -- the mark of level j after its new line was stored: nodes are dirty, the counter block is unless it
 -- was persisted

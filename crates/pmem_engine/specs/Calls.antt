@@ -21,7 +21,7 @@ use Rattle.seal_ledger.specs.Ledger.{LedgerState}
 use Rattle.meta_cache.specs.Banks.{is_cached, is_cached_dirty}
 use Rattle.meta_cache.specs.State.{oldest_dirty}
 use Rattle.shadow_tables.specs.Entries.{slot_entry}
-use Rattle.meta_path.specs.Blocks.{path_at, IsPathCached, dirty_in_bank, dirty_count}
+use Rattle.meta_path.specs.Blocks.{path_at, IsPathCached, bank_dirty_count, dirty_count}
 use Rattle.meta_path.specs.Naming.{path_number}
 use Rattle.suite.specs.Setup.{Setup}
 use Rattle.suite.specs.Formulas.{Formulas}
@@ -386,10 +386,10 @@ IsCutInLoss dirty old_loss n old new =
 
 abbrev pub AnswersLoss : Shape → ℕ → Parts → Parts → Result ℕ Fault → Type 0
 AnswersLoss g n old new (Ok steps) =
-    AreStepsOfLoss (dirty_in_bank g old.engine.cache g.levels) (regs_of old).loss n steps
+    AreStepsOfLoss (bank_dirty_count g old.engine.cache g.levels) (regs_of old).loss n steps
     × TakesSteps steps old.device new.device × ((regs_of new).loss ≡ n)
 AnswersLoss g n old new (Err Fail.Cut) =
-    IsCutInLoss (dirty_in_bank g old.engine.cache g.levels) (regs_of old).loss n old new
+    IsCutInLoss (bank_dirty_count g old.engine.cache g.levels) (regs_of old).loss n old new
     × ((regs_of new).loss ≡ (regs_of old).loss)
 AnswersLoss g n old new (Err fault) = ⊥
 

@@ -10,7 +10,7 @@ use Rattle.board.specs.Steps.{WasCut, HasLatched}
 use Rattle.seal_ledger.specs.Ledger.{LedgerState}
 use Rattle.meta_cache.specs.Banks.{is_cached, is_cached_dirty}
 use Rattle.meta_cache.specs.State.{CacheState}
-use Rattle.meta_path.specs.Blocks.{dirty_in_bank}
+use Rattle.meta_path.specs.Blocks.{bank_dirty_count}
 use Rattle.meta_path.specs.Storing.{IsCleaned}
 use Rattle.suite.specs.Setup.{Setup}
 use Rattle.pmem_engine.specs.declared.fault.Fault.{Fault}
@@ -55,8 +55,8 @@ pub record HasWrittenBlocks (count : ℕ) (old new : EngineState) (before after 
   pub mirror : new.mirror ≡ old.mirror
   pub down : new.down ≡ old.down
   pub dirty :
-      dirty_in_bank old.shape new.cache old.shape.levels + count
-      ≡ dirty_in_bank old.shape old.cache old.shape.levels
+      bank_dirty_count old.shape new.cache old.shape.levels + count
+      ≡ bank_dirty_count old.shape old.cache old.shape.levels
   pub cached :
       (bank x : ℕ) → is_cached old.shape new.cache bank x ≡ is_cached old.shape old.cache bank x
   pub size : after.size ≡ before.size
@@ -75,7 +75,7 @@ pub record HasMadeWay (n count : ℕ) (old new : EngineState) (before after : De
   pub greater : before.regs.loss < n → count ≡ 0
   pub smaller :
       n < before.regs.loss
-      → IsBankClean new new.shape.levels × (count ≡ dirty_in_bank old.shape old.cache old.shape.levels)
+      → IsBankClean new new.shape.levels × (count ≡ bank_dirty_count old.shape old.cache old.shape.levels)
 
 -- a cut came before one of these writes
 pub record IsCutInBlocks (n : ℕ) (old new : EngineState) (before after : Device) : Type 0 where

@@ -5,7 +5,7 @@ ghost use Rattle.pmem_base.specs.Layout.{device_lines};
 ghost use Rattle.board.specs.Steps.{WasCut};
 ghost use Rattle.meta_cache.specs.Banks.{is_cached, is_cached_dirty};
 ghost use Rattle.meta_cache.specs.State.{oldest_dirty};
-ghost use Rattle.meta_path.specs.Blocks.{line_in, dirty_in_bank};
+ghost use Rattle.meta_path.specs.Blocks.{line_in, bank_dirty_count};
 ghost use Rattle.pmem_engine.specs.Flushed.{HasWrittenBack, HasWrittenOldest, HasWrittenBlocks, HasMadeWay, IsCutInBlocks, HasChangedLoss, with_loss, IsBankClean};
 
 use crate::engine::Engine;
@@ -64,7 +64,7 @@ impl Engine {
         requires size { (B.device board.old).size ≡ device_lines self.old.shape }
         ensures ok { IfOk result (λ count. HasWrittenBlocks count self.old self.new (B.device board.old) (B.device board.new)) }
         ensures clean { OnOk result (IsBankClean self.new self.new.shape.levels) }
-        ensures all { IfOk result (λ count. count ≡ dirty_in_bank self.old.shape self.old.cache self.old.shape.levels) }
+        ensures all { IfOk result (λ count. count ≡ bank_dirty_count self.old.shape self.old.cache self.old.shape.levels) }
         ensures few { IfOk result (λ count. count ≤ 512) }
         ensures cut { (n : ℕ) → n < (B.device board.old).regs.loss
             → OnErr result (IsCutInBlocks n self.old self.new (B.device board.old) (B.device board.new)) }
@@ -82,7 +82,7 @@ impl Engine {
     fn dirty_block(&self) -> Option<u32>
         ensures dirty { IfSome result (λ x. IsTrue (is_cached_dirty self.now.shape self.now.cache self.now.shape.levels x)) }
         ensures clean { IsNone result → IsBankClean self.now self.now.shape.levels }
-        ensures none { IsNone result → dirty_in_bank self.now.shape self.now.cache self.now.shape.levels ≡ 0 }
+        ensures none { IsNone result → bank_dirty_count self.now.shape self.now.cache self.now.shape.levels ≡ 0 }
     {
         self.cache.are_banks();
         self.cache.oldest_dirty_of(self.geo.levels())
@@ -95,8 +95,8 @@ impl Engine {
         ensures ok { OnOk result (HasWrittenBack self.old.shape.levels x self.old self.new (B.device board.old) (B.device board.new)) }
         ensures cut { OnErr result (WasCut (B.device board.old) (B.device board.new)) }
         ensures same { OnErr result (self.new ≡ self.old) }
-        ensures fewer { OnOk result (dirty_in_bank self.old.shape self.new.cache self.old.shape.levels + 1
-            ≡ dirty_in_bank self.old.shape self.old.cache self.old.shape.levels) }
+        ensures fewer { OnOk result (bank_dirty_count self.old.shape self.new.cache self.old.shape.levels + 1
+            ≡ bank_dirty_count self.old.shape self.old.cache self.old.shape.levels) }
     {
         self.cache.are_banks();
         board.write_line(self.geo.meta_line(x), self.block_line(x))?;

@@ -20,8 +20,8 @@ use Rattle.pmem_engine.specs.Invariants.{IsAnchored, IsTrusted, IsTrueSlot, IsMe
 use Rattle.pmem_engine.specs.Mendable.{IsLineMendable, IsShadowZero, new_engine}
 use Rattle.pmem_engine.specs.Steps.{IsEmptied}
 use Rattle.pmem_engine.specs.Recached.{IsNewEngine}
-use Rattle.pmem_engine.proofs.SealLaws.{IsLineMendable-at}
-use Rattle.pmem_engine.proofs.MendableLaws.{shadow_of-zero}
+use Rattle.pmem_engine.proofs.Laws.SealLaws.{IsLineMendable-at}
+use Rattle.pmem_engine.proofs.Laws.MendableLaws.{shadow_of-zero}
 use Rattle.pmem_recovery.specs.declared.faults.RecFault.{RecFault}
 use Rattle.pmem_recovery.specs.declared.faults.RecFault.TheVariants.{NoCounter, Root, Twin}
 use Rattle.pmem_recovery.specs.Trials.{stored_block, tried_minors, IsTwinOfLastSeal}

@@ -4,8 +4,8 @@ use Rattle.std.proofs.lemmas.Bool.{true≢false}
 use Rattle.pmem_base.specs.declared.lines.Line.{Line}
 use Rattle.pmem_base.specs.declared.registers.Regs.{Regs}
 use Rattle.pmem_base.specs.Shape.{IsShape}
-use Rattle.pmem_base.specs.Layout.{pages}
-use Rattle.bonsai_tree.specs.Positions.{level_start, counter_position}
+use Rattle.pmem_base.specs.Layout.{pages, level_start}
+use Rattle.bonsai_tree.specs.Positions.{counter_position}
 use Rattle.suite.specs.Setup.{Setup}
 use Rattle.pmem_engine.specs.Invariants.{is_named}
 use Rattle.pmem_recovery.specs.declared.entries.Made.{Made}

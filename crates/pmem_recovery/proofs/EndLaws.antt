@@ -16,7 +16,7 @@ use Rattle.pmem_engine.specs.Engine.{EngineState}
 use Rattle.pmem_engine.specs.Invariants.{IsMendable, IsDurable, IsSound, stored_meta}
 use Rattle.pmem_engine.specs.Mendable.{IsAllTrue, IsShadowZero}
 use Rattle.pmem_engine.specs.Recached.{IsNewEngine}
-use Rattle.pmem_engine.proofs.MendableLaws.{is_named-zero, IsMendable-mending, IsMendable-no_group, IsSound-new_engine, shadow_of-same}
+use Rattle.pmem_engine.proofs.Laws.MendableLaws.{is_named-zero, IsMendable-mending, IsMendable-no_group, IsSound-new_engine, shadow_of-same}
 use Rattle.pmem_recovery.specs.declared.entries.Made.{Made}
 use Rattle.pmem_recovery.specs.Trials.{first_undecided}
 use Rattle.pmem_recovery.specs.Upward.{is_made, IsMadeLine, AreMade}

@@ -25,7 +25,7 @@ use Rattle.suite.specs.Setup.{Setup}
 use Rattle.pmem_engine.specs.Truth.{true_block}
 use Rattle.pmem_engine.specs.Invariants.{stored_meta, is_named, IsMendable}
 use Rattle.pmem_engine.specs.Mendable.{IsLineMendable}
-use Rattle.pmem_engine.proofs.SealLaws.{IsLineMendable-at}
+use Rattle.pmem_engine.proofs.Laws.SealLaws.{IsLineMendable-at}
 use Rattle.pmem_recovery.specs.Trials.{stored_block, tried_minors, true_minor, first_undecided}
 use Rattle.pmem_recovery.specs.Fixed.{fixed_minor, fixed_block, fixed_line_above, fixed_line, found_root}
 use Rattle.pmem_recovery.proofs.TrialLaws.{tried_minors_single}

@@ -30,8 +30,8 @@ use Rattle.pmem_engine.specs.Truth.{true_block}
 use Rattle.pmem_engine.specs.Mendable.{IsShadowZero, new_engine}
 use Rattle.pmem_engine.specs.Formatted.{first_seal, first_block, IsFormatted}
 use Rattle.pmem_engine.specs.Invariants.{IsAnchored, IsTrusted, IsMendable, IsSound, stored_meta}
-use Rattle.pmem_engine.proofs.Formats.{anchored-formatted, last_first}
-use Rattle.pmem_engine.proofs.MendableLaws.{IsSound-new_engine}
+use Rattle.pmem_engine.proofs.Laws.AnchoredFormats.{anchored-formatted, last_first}
+use Rattle.pmem_engine.proofs.Laws.MendableLaws.{IsSound-new_engine}
 use Rattle.pmem_recovery.specs.Formatting.{first_counter, first_cipher, first_tag, first_regs, IsFirstSealed, HasSealedFrom, StaysSteady, HasSealedAll, HasToldMeta, HasWrittenMeta, HasClearedTables, HasFormatted}
 use Rattle.pmem_recovery.proofs.AnswerLaws.{told_lines, IsTrusted-fresh, IsNewEngine-fresh}
 use Rattle.pmem_recovery.proofs.FormatSteps.{StaysSteady-then}

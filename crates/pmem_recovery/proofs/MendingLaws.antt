@@ -16,7 +16,7 @@ use Rattle.board.proofs.CountLemmas.{RisesBy-then}
 use Rattle.shadow_tables.specs.Entries.{shadow_of}
 use Rattle.suite.specs.Setup.{Setup}
 use Rattle.pmem_engine.specs.Mendable.{IsShadowZero}
-use Rattle.pmem_engine.proofs.MendableLaws.{line_at-shadow_of, shadow_of-same}
+use Rattle.pmem_engine.proofs.Laws.MendableLaws.{line_at-shadow_of, shadow_of-same}
 use Rattle.pmem_recovery.specs.declared.entries.Made.{Made}
 use Rattle.pmem_recovery.specs.Parts.{Told, KeepsDevice, HasRoot}
 use Rattle.pmem_recovery.specs.Upward.{is_other, IsMadeLine}

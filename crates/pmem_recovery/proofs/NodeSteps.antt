@@ -3,8 +3,8 @@ use Rattle.std.proofs.Common.{ℕ, suc, ◌<◌, ◌≤◌, ◌+◌, ◌-◌, Li
 use Rattle.pmem_base.specs.declared.lines.Line.{Line}
 use Rattle.pmem_base.specs.declared.registers.Regs.{Regs}
 use Rattle.pmem_base.specs.Shape.{Shape, IsShape}
+use Rattle.pmem_base.specs.Layout.{level_start}
 use Rattle.pmem_base.proofs.LayoutLemmas.{pages-most}
-use Rattle.bonsai_tree.specs.Positions.{level_start}
 use Rattle.bonsai_tree.proofs.Levels.{level_start-pow}
 use Rattle.shadow_tables.specs.Entries.{shadow_of}
 use Rattle.suite.specs.Setup.{Setup}

@@ -14,7 +14,7 @@ use Rattle.seal_ledger.specs.Ledger.{LedgerState}
 use Rattle.pmem_engine.specs.Invariants.{IsAnchored, IsSealStored, IsMendable, IsDurable, IsSound}
 use Rattle.pmem_engine.specs.Mendable.{IsShadowZero, new_engine}
 use Rattle.pmem_engine.specs.Steps.{IsEmptied}
-use Rattle.pmem_engine.proofs.MendableLaws.{IsValidRegs-emptied, IsAnchored-emptied, IsDurable-emptied, IsDurable-no_group, IsMendable-emptied, IsSealStored-same}
+use Rattle.pmem_engine.proofs.Laws.MendableLaws.{IsValidRegs-emptied, IsAnchored-emptied, IsDurable-emptied, IsDurable-no_group, IsMendable-emptied, IsSealStored-same}
 use Rattle.pmem_recovery.specs.declared.faults.Work.{Work}
 use Rattle.pmem_engine.specs.Outcomes.{TakesAtMost}
 use Rattle.pmem_recovery.specs.declared.faults.RecFault.{RecFault}

@@ -14,7 +14,7 @@ use Rattle.pmem_recovery.specs.declared.faults.RecFault.TheVariants.{Memory, NoC
 use Rattle.pmem_recovery.specs.Trials.{first_undecided}
 use Rattle.pmem_recovery.specs.Fixed.{found_root}
 use Rattle.pmem_recovery.specs.Parts.{IsRootAnswer, IsRootFault, IsRefusal, IsFaultShown}
-use Rattle.pmem_engine.proofs.MendableLaws.{line_at-shadow_of}
+use Rattle.pmem_engine.proofs.Laws.MendableLaws.{line_at-shadow_of}
 
 -- ---- the shadow lines
 

@@ -26,7 +26,7 @@ use Rattle.suite.specs.Setup.{Setup}
 use Rattle.pmem_engine.specs.Truth.{true_block, true_counter}
 use Rattle.pmem_engine.specs.Invariants.{IsHeldBack, stored_meta}
 use Rattle.pmem_engine.specs.Mendable.{IsLineMendable}
-use Rattle.pmem_engine.proofs.SealLaws.{seal_at, true_tag_met}
+use Rattle.pmem_engine.proofs.Laws.SealLaws.{seal_at, true_tag_met}
 use Rattle.pmem_recovery.specs.Trials.{stored_block, is_tag_met, minors_tried, tried_minors, stored_minor, true_minor, IsTwinOfLastSeal}
 
 -- ---- the window of a stored minor

@@ -19,7 +19,7 @@ use Rattle.split_counters.specs.declared.Block.{Block}
 use Rattle.suite.specs.Formulas.{Formulas}
 use Rattle.suite.specs.Setup.{Setup}
 use Rattle.stop_loss.specs.declared.Found.{Found}
-use Rattle.stop_loss.specs.Trials.{is_match, matching_minors, found_among, IsWithin}
+use Rattle.stop_loss.specs.Trials.{is_match, matching_minors, found_among, IsFoundWithin}
 use Rattle.stop_loss.specs.Windows.{window_minors}
 use Rattle.pmem_recovery.specs.declared.faults.RecFault.{RecFault}
 use Rattle.pmem_recovery.specs.declared.faults.RecFault.TheVariants.{Memory, Cut, NoCounter, Root, Twin}
@@ -37,7 +37,7 @@ module _ (f : Formulas) (at major : ℕ) (cipher : Line) (tag : List ℕ) where
       All-into_filter (λ minor. is_match f at major cipher tag minor) (λ minor. f.tag_of at (record { major = major; minor = minor }) cipher ≡ tag) candidates
       (λ k d inside met. same_bytes-true (f.tag_of at (record { major = major; minor = get_or candidates k d }) cipher) tag met)
 
-  decided_from : (matching : List ℕ) (last : ℕ) → last ≤ 127 → (first : ℕ) → IsWithin first last (found_among matching) → All (λ minor. f.tag_of at (record { major = major; minor = minor }) cipher ≡ tag) matching → IsDecided f at major cipher tag matching (decided_of (found_among matching) at major cipher tag)
+  decided_from : (matching : List ℕ) (last : ℕ) → last ≤ 127 → (first : ℕ) → IsFoundWithin first last (found_among matching) → All (λ minor. f.tag_of at (record { major = major; minor = minor }) cipher ≡ tag) matching → IsDecided f at major cipher tag matching (decided_of (found_among matching) at major cipher tag)
   decided_from [] last small first within all = (refl, refl)
   decided_from (minor ∷ []) last small first within all = (refl, omega (arith, small, within.1))
   decided_from (low ∷ high ∷ more) last small first within all =
@@ -59,11 +59,11 @@ module _ (f : Formulas) (at major : ℕ) (cipher : Line) (tag : List ℕ) where
         },
       )
 
-  pub decided_is : (candidates : List ℕ) (first last : ℕ) (found : Found) → last ≤ 127 → found ≡ found_among (matching_minors f at major cipher tag candidates) → IsWithin first last found → IsDecided f at major cipher tag (matching_minors f at major cipher tag candidates) (decided_of found at major cipher tag)
+  pub decided_is : (candidates : List ℕ) (first last : ℕ) (found : Found) → last ≤ 127 → found ≡ found_among (matching_minors f at major cipher tag candidates) → IsFoundWithin first last found → IsDecided f at major cipher tag (matching_minors f at major cipher tag candidates) (decided_of found at major cipher tag)
   decided_is candidates first last found small e within =
       let matching = matching_minors f at major cipher tag candidates in
       subst (λ z. IsDecided f at major cipher tag matching (decided_of z at major cipher tag)) (sym e)
-      (decided_from matching last small first (subst (IsWithin first last) e within) (matches candidates))
+      (decided_from matching last small first (subst (IsFoundWithin first last) e within) (matches candidates))
 
   pub shown_undecided : (matching : List ℕ) (fault : RecFault) → IsUndecided f at major cipher tag matching fault → IsFaultShown f fault
   shown_undecided matching Memory u = u

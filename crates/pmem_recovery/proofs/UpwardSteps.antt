@@ -5,7 +5,8 @@ use Rattle.pmem_base.specs.declared.lines.Line.{Line}
 use Rattle.pmem_base.specs.declared.registers.Regs.{Regs}
 use Rattle.pmem_base.specs.Shape.{IsShape}
 use Rattle.pmem_base.specs.Layout as layout
-use Rattle.bonsai_tree.specs.Positions.{level_start, counter_position}
+use Rattle.pmem_base.specs.Layout.{level_start}
+use Rattle.bonsai_tree.specs.Positions.{counter_position}
 use Rattle.bonsai_tree.proofs.Levels.{IsAtLevel, child-IsAtLevel, level_start-next, level_start-le, counter_position-lt, IsAtLevel-inner}
 use Rattle.suite.specs.Setup.{Setup}
 use Rattle.pmem_engine.specs.Invariants.{is_named}

@@ -15,7 +15,7 @@ use Rattle.board.specs.Steps.{HasWritten, WasCut}
 use Rattle.board.proofs.StepLemmas.{is_some-with_line}
 use Rattle.shadow_tables.specs.Entries.{shadow_of}
 use Rattle.pmem_engine.specs.Invariants.{stored_meta}
-use Rattle.pmem_engine.proofs.MendableLaws.{line_at-shadow_of}
+use Rattle.pmem_engine.proofs.Laws.MendableLaws.{line_at-shadow_of}
 use Rattle.pmem_recovery.specs.declared.entries.Made.{Made}
 use Rattle.pmem_recovery.specs.Parts.{IsUncut}
 use Rattle.pmem_recovery.specs.Upward.{is_other}

@@ -8,7 +8,7 @@ use Rattle.pmem_base.specs.declared.answers.Answer.TheVariants as Say
 use Rattle.pmem_base.specs.Shape.{Shape}
 use Rattle.pmem_base.specs.Layout as layout
 use Rattle.pmem_base.specs.WaitingWrites.{no_writes}
-use Rattle.board.specs.Memory.{Memory}
+use Rattle.board.specs.Memory.{BoardMemory}
 use Rattle.meta_cache.specs.Banks.{IsBanksOf}
 use Rattle.suite.specs.Setup.{Setup}
 use Rattle.plain_model.specs.State.{PlainState, with_flag}
@@ -17,7 +17,7 @@ use Rattle.plain_model.specs.Answers.{decided_answer}
 use Rattle.pmem_engine.specs.declared.fault.Fault.{Fault}
 use Rattle.pmem_engine.specs.declared.fault.Fault.TheVariants as Fail
 use Rattle.pmem_engine.specs.Engine.{EngineState}
-use Rattle.pmem_engine.specs.Outcomes.{going, HasDone}
+use Rattle.pmem_engine.specs.Outcomes.{going, OneLossEffect}
 use Rattle.pmem_engine.specs.Calls.{HasFlushed}
 use Rattle.pmem_replay.specs.Flagged.{Dirtying, HasDirtyingOf, with_dirtying}
 use Rattle.pmem_replay.specs.World.{WorldState, WorldParts, IsOn, state_in, world_of}
@@ -33,7 +33,7 @@ use Rattle.pmem_replay.proofs.Stepping.{stepped_by_engine}
 use Rattle.pmem_replay.proofs.TableSteps.{lit_in}
 use Rattle.pmem_replay.proofs.Served.{called, IsServed, call_of, state_going, state_cut, same_room, few_steps}
 
-module _ (setup : Setup) (p : WorldParts) (board : Memory) (steps : ℕ)
+module _ (setup : Setup) (p : WorldParts) (board : BoardMemory) (steps : ℕ)
     (engine after : EngineState) (taken : Taken) (served : IsServed setup p p.keys board steps engine taken) where
   abbrev old : WorldState
   old = world_of setup p
@@ -54,7 +54,7 @@ module _ (setup : Setup) (p : WorldParts) (board : Memory) (steps : ℕ)
   undecided : decided_answer setup.shape (state_in setup p) Do.Flush ≡ None
   undecided = rw (lit_in setup old engine served.going.whole served.was_on) refl
 
-  state : (dirtying : Dirtying) → HasDone setup going [] (parts_in old engine none_taken) (parts_in (on_new p.dirtying) after taken)
+  state : (dirtying : Dirtying) → OneLossEffect setup going [] (parts_in old engine none_taken) (parts_in (on_new p.dirtying) after taken)
       → (on_new dirtying).state ≡ with_dirtying (counted_state (state_in setup p) (steps_in taken)) dirtying
   state dirtying done =
       ap (λ (s : PlainState). with_dirtying s dirtying)

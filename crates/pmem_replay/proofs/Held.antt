@@ -7,7 +7,7 @@ use Rattle.pmem_base.specs.declared.commands.Posted.{Posted}
 use Rattle.pmem_base.specs.declared.commands.Command.{Command}
 use Rattle.pmem_base.specs.declared.answers.Stat.{Stat}
 use Rattle.pmem_base.specs.Shape.{Shape}
-use Rattle.board.specs.Memory.{Memory}
+use Rattle.board.specs.Memory.{BoardMemory}
 use Rattle.seal_ledger.specs.Ledger.{LedgerState}
 use Rattle.suite.specs.Formulas.{Formulas}
 use Rattle.suite.specs.Setup.{Setup}
@@ -24,7 +24,7 @@ use Rattle.pmem_replay.proofs.Called.{on_in}
 use Rattle.pmem_replay.proofs.Stepping.{holds_after}
 use Rattle.pmem_replay.proofs.TableSteps.{IsGoingOn, dark_in, lit_in}
 
-abbrev pub held : List ℕ → Memory → LedgerState → Option EngineState → ℕ → ℕ → List (List Posted) → Tampering → Dirtying → ℕ → Stat → Bool → WorldParts
+abbrev pub held : List ℕ → BoardMemory → LedgerState → Option EngineState → ℕ → ℕ → List (List Posted) → Tampering → Dirtying → ℕ → Stat → Bool → WorldParts
 held keys board ledger engine tags digests queues tampering dirtying steps start shown =
     record {
       keys = keys;

@@ -8,7 +8,7 @@ use Rattle.pmem_base.specs.declared.commands.Command.TheVariants as Do
 use Rattle.pmem_base.specs.declared.answers.Answer.TheVariants as Say
 use Rattle.pmem_base.specs.Shape.{is_loss}
 use Rattle.pmem_base.specs.WaitingWrites.{no_writes}
-use Rattle.board.specs.Memory.{Memory}
+use Rattle.board.specs.Memory.{BoardMemory}
 use Rattle.meta_cache.specs.Banks.{IsBanksOf}
 use Rattle.suite.specs.Setup.{Setup}
 use Rattle.plain_model.specs.Answers.{decided_answer}
@@ -47,7 +47,7 @@ module _ (setup : Setup) (p : WorldParts) (going : IsGoingOn setup (world_of set
       (record { marks_asked = refl; peek_true = tt; steps_counted = tt; flush_true = tt; within_bounds = rw equal (refl, tt) })
       (ap (λ (l : ℕ). record (counted_state (state_in setup p) 0) { loss = l }) same) refl refl tt
 
-module _ (setup : Setup) (p : WorldParts) (board : Memory) (steps : ℕ)
+module _ (setup : Setup) (p : WorldParts) (board : BoardMemory) (steps : ℕ)
     (engine after : EngineState) (taken : Taken) (served : IsServed setup p p.keys board steps engine taken)
     (n : ℕ) (some : IsTrue (is_loss n)) (other : n ≢ p.board.regs.loss) where
   abbrev old : WorldState

@@ -19,7 +19,7 @@ use Rattle.pmem_base.specs.Registers.{without_group}
 use Rattle.pmem_base.specs.WaitingWrites.{no_writes}
 use Rattle.bonsai_tree.specs.Positions.{level_of}
 use Rattle.board.specs.Device.{AreLinesOf}
-use Rattle.board.specs.Memory.{Memory}
+use Rattle.board.specs.Memory.{BoardMemory}
 use Rattle.commit_regs.specs.Groups.{redone, finishing_latches, RisesAtMost}
 use Rattle.meta_cache.specs.declared.slot.Slot.{Slot}
 use Rattle.meta_cache.specs.Banks.{set_of, set_index, IsBanksOf, is_cached_dirty}
@@ -93,11 +93,11 @@ small_recovery g shape =
 -- ---- the call
 
 -- the board with power on
-abbrev pub lit : Memory → Memory
+abbrev pub lit : BoardMemory → BoardMemory
 lit board = record board { powered = true }
 
 -- what surrounds recovery in this world, which leaves the board so
-pub record IsOnCall (setup : Setup) (old new : WorldState) (left : Memory) (taken : Taken)
+pub record IsOnCall (setup : Setup) (old new : WorldState) (left : BoardMemory) (taken : Taken)
     (answer : Result (EngineState × Work) RecFault) : Type 0 where
   pub world : IsWorld setup old
   pub was_off : old.engine ≡ None
@@ -118,7 +118,7 @@ off_in setup world whole none = subst (λ e. IsPowered setup world e) none whole
 rises : (n before : ℕ) (taken : Taken) (count : ℕ) → RisesAtMost n 0 count → count < last_count → count ≤ n
 rises n before taken count rise exact = omega (arith, rise.bound exact)
 
-module _ (setup : Setup) (old new : WorldState) (left : Memory) (taken : Taken) (answer : Result (EngineState × Work) RecFault)
+module _ (setup : Setup) (old new : WorldState) (left : BoardMemory) (taken : Taken) (answer : Result (EngineState × Work) RecFault)
     (call : IsOnCall setup old new left taken answer) where
   pub off : IsOff setup old
   off = off_in setup old call.world call.was_off
@@ -202,7 +202,7 @@ recovered_state g state taken =
       fuse = option_map (λ n. n - taken) state.fuse;
     }
 
-module _ (setup : Setup) (old new : WorldState) (left : Memory) (taken : Taken) (engine : EngineState) (work : Work)
+module _ (setup : Setup) (old new : WorldState) (left : BoardMemory) (taken : Taken) (engine : EngineState) (work : Work)
     (call : IsOnCall setup old new left taken (Ok (engine, work))) where
   abbrev its_off : IsOff setup old
   its_off = off setup old new left taken (Ok (engine, work)) call
@@ -334,7 +334,7 @@ cut_on_state state taken =
       steps = steps_with state.steps taken;
     }
 
-module _ (setup : Setup) (old new : WorldState) (left : Memory) (taken : Taken) (call : IsOnCall setup old new left taken (Err Fail.Cut)) where
+module _ (setup : Setup) (old new : WorldState) (left : BoardMemory) (taken : Taken) (call : IsOnCall setup old new left taken (Err Fail.Cut)) where
   abbrev off_cut : IsOff setup old
   off_cut = off setup old new left taken (Err Fail.Cut) call
 

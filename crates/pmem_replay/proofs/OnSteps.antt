@@ -18,7 +18,7 @@ use Rattle.pmem_base.specs.Lines.{IsLine, IsTag, line_at, tag_slot}
 use Rattle.pmem_base.specs.Ranges.{IsAnswer}
 use Rattle.pmem_base.specs.Registers.{without_group}
 use Rattle.pmem_base.specs.WaitingWrites.{no_writes}
-use Rattle.board.specs.Memory.{Memory}
+use Rattle.board.specs.Memory.{BoardMemory}
 use Rattle.commit_regs.specs.Groups.{finishing_latches}
 use Rattle.meta_cache.specs.Banks.{IsBanksOf, IsInPlace}
 use Rattle.meta_cache.specs.State.{empty_banks}
@@ -35,7 +35,7 @@ use Rattle.pmem_recovery.specs.Parts.{SuiteState, IsRefusal, suite_state}
 use Rattle.pmem_recovery.specs.Trials.{first_undecided, tried_minors}
 use Rattle.pmem_recovery.specs.Fixed.{found_root}
 use Rattle.pmem_recovery.specs.Recovered.{HasRecovered, HasOnlyRedone}
-use Rattle.pmem_recovery.proofs.EmptyBanks.{set_of-empty_banks}
+use Rattle.meta_path.proofs.PathFacts.{set_of-empty_banks}
 use Rattle.pmem_replay.specs.Flagged.{Tampering, Dirtying, HasDirtyingOf, with_tampering, with_dirtying}
 use Rattle.pmem_replay.specs.World.{WorldState, WorldParts, IsOff, IsWorld, state_in, world_of, lines_in}
 use Rattle.pmem_replay.specs.declared.taken.Taken.{Taken}
@@ -74,13 +74,13 @@ apart_err (Err its) engine fault apart = (apart.0, ap Err (sym apart.1))
 
 -- ---- what surrounds recovery
 
-pub record IsOnServed (setup : Setup) (p : WorldParts) (board : Memory) (steps : ℕ) (taken : Taken) : Type 0 where
+pub record IsOnServed (setup : Setup) (p : WorldParts) (board : BoardMemory) (steps : ℕ) (taken : Taken) : Type 0 where
   pub going : IsGoingOn setup (world_of setup p)
   pub was_off : p.engine ≡ None
   pub watched : IsWatched (lit p.board) board taken
   pub counted : steps ≡ steps_with p.steps (steps_in taken)
 
-module _ (setup : Setup) (p : WorldParts) (keys : List ℕ) (board : Memory) (pads pads_new tags digests steps : ℕ) (taken : Taken)
+module _ (setup : Setup) (p : WorldParts) (keys : List ℕ) (board : BoardMemory) (pads pads_new tags digests steps : ℕ) (taken : Taken)
     (served : IsOnServed setup p board steps taken) where
   abbrev old : WorldState
   old = world_of setup p
@@ -306,11 +306,11 @@ module _ (setup : Setup) (p : WorldParts) (keys : List ℕ) (board : Memory) (pa
 
   -- ---- refused, and power goes off
 
-  abbrev pub rest_new : Option EngineState → Memory → Bool → WorldState
+  abbrev pub rest_new : Option EngineState → BoardMemory → Bool → WorldState
   rest_new engine rested shown =
       world_of setup (record (called p keys rested p.ledger engine tags digests steps) { shown = shown })
 
-  abbrev dim : Memory
+  abbrev dim : BoardMemory
   dim = record board { powered = false }
 
   -- the line or the root as recovery saw it
@@ -340,7 +340,7 @@ module _ (setup : Setup) (p : WorldParts) (keys : List ℕ) (board : Memory) (pa
       (λ quiet. counter-world setup old new board taken at call its_state refl refl)
       there
 
-  pub on-counter : (engine : Option EngineState) (outcome : Result Work RecFault) (rested : Memory) (at : ℕ)
+  pub on-counter : (engine : Option EngineState) (outcome : Result Work RecFault) (rested : BoardMemory) (at : ℕ)
       → Was engine outcome → outcome ≡ Err (Fail.NoCounter at) → rested ≡ dim → (n : ℕ) → n ≡ steps_in taken
       → HasStepped setup old Do.On (without_marks (Say.NoCounter at n)) (rest_new engine rested p.shown)
   on-counter engine outcome rested at was is rest n its =
@@ -348,7 +348,7 @@ module _ (setup : Setup) (p : WorldParts) (keys : List ℕ) (board : Memory) (pa
       let step = on_counter_none at (subst Has apart.1 was.recovered) in
       subst (λ (k : ℕ). HasStepped setup old Do.On (without_marks (Say.NoCounter at k)) (rest_new engine rested p.shown)) (sym its)
       (subst (λ (e : Option EngineState). HasStepped setup old Do.On (without_marks (Say.NoCounter at (steps_in taken))) (rest_new e rested p.shown)) (sym apart.0)
-      (subst (λ (b : Memory). HasStepped setup old Do.On (without_marks (Say.NoCounter at (steps_in taken))) (rest_new None b p.shown)) (sym rest) step))
+      (subst (λ (b : BoardMemory). HasStepped setup old Do.On (without_marks (Say.NoCounter at (steps_in taken))) (rest_new None b p.shown)) (sym rest) step))
 
   on_root_none : (kept found : List ℕ) → Has (Err (Fail.Root kept found)) → IsTag kept → IsTag found
       → HasStepped setup old Do.On (without_marks (Say.WrongRoot kept found (steps_in taken))) (rest_new None dim p.shown)
@@ -372,7 +372,7 @@ module _ (setup : Setup) (p : WorldParts) (keys : List ℕ) (board : Memory) (pa
       (λ quiet. root-world setup old new board taken kept found call its_state refl refl)
       there
 
-  pub on-root : (engine : Option EngineState) (outcome : Result Work RecFault) (rested : Memory) (kept found : List ℕ)
+  pub on-root : (engine : Option EngineState) (outcome : Result Work RecFault) (rested : BoardMemory) (kept found : List ℕ)
       → Was engine outcome → outcome ≡ Err (Fail.Root kept found) → rested ≡ dim → IsTag kept → IsTag found → (n : ℕ) → n ≡ steps_in taken
       → HasStepped setup old Do.On (without_marks (Say.WrongRoot kept found n)) (rest_new engine rested p.shown)
   on-root engine outcome rested kept found was is rest kept_tag found_tag n its =
@@ -380,7 +380,7 @@ module _ (setup : Setup) (p : WorldParts) (keys : List ℕ) (board : Memory) (pa
       let step = on_root_none kept found (subst Has apart.1 was.recovered) kept_tag found_tag in
       subst (λ (k : ℕ). HasStepped setup old Do.On (without_marks (Say.WrongRoot kept found k)) (rest_new engine rested p.shown)) (sym its)
       (subst (λ (e : Option EngineState). HasStepped setup old Do.On (without_marks (Say.WrongRoot kept found (steps_in taken))) (rest_new e rested p.shown)) (sym apart.0)
-      (subst (λ (b : Memory). HasStepped setup old Do.On (without_marks (Say.WrongRoot kept found (steps_in taken))) (rest_new None b p.shown)) (sym rest) step))
+      (subst (λ (b : BoardMemory). HasStepped setup old Do.On (without_marks (Say.WrongRoot kept found (steps_in taken))) (rest_new None b p.shown)) (sym rest) step))
 
   -- ---- shown
 
@@ -420,7 +420,7 @@ module _ (setup : Setup) (p : WorldParts) (keys : List ℕ) (board : Memory) (pa
         ),
       )
 
-  pub on-twin : (engine : Option EngineState) (outcome : Result Work RecFault) (rested : Memory) (at major low high : ℕ) (cipher : Line) (tag : List ℕ)
+  pub on-twin : (engine : Option EngineState) (outcome : Result Work RecFault) (rested : BoardMemory) (at major low high : ℕ) (cipher : Line) (tag : List ℕ)
       → Was engine outcome → outcome ≡ Err (Fail.Twin at major low high cipher tag) → rested ≡ dim
       → major < 2 ^ 64 → IsLine cipher → IsTag tag
       → HasStepped setup old Do.On (without_marks (Say.Shown (Show.Twin at major low high cipher tag))) (rest_new engine rested true)
@@ -430,7 +430,7 @@ module _ (setup : Setup) (p : WorldParts) (keys : List ℕ) (board : Memory) (pa
       let apart = apart_err was.answer engine fault (subst (IsTakenApart was.answer engine) is was.apart) in
       let step = on_twin_none at major low high cipher tag (subst Has apart.1 was.recovered) small_major whole_cipher whole_tag in
       subst (λ (e : Option EngineState). HasStepped setup old Do.On (without_marks said) (rest_new e rested true)) (sym apart.0)
-      (subst (λ (b : Memory). HasStepped setup old Do.On (without_marks said) (rest_new None b true)) (sym rest) step)
+      (subst (λ (b : BoardMemory). HasStepped setup old Do.On (without_marks said) (rest_new None b true)) (sym rest) step)
 
   -- ---- no memory
 
@@ -461,7 +461,7 @@ module _ (setup : Setup) (p : WorldParts) (keys : List ℕ) (board : Memory) (pa
       ∙ ap (λ (x : ℕ). record p.board { cuts = x }) (served.watched.follows.uncut lasting)
 
   -- nothing has changed
-  pub on-memory : (engine : Option EngineState) (outcome : Result Work RecFault) (rested : Memory)
+  pub on-memory : (engine : Option EngineState) (outcome : Result Work RecFault) (rested : BoardMemory)
       → Was engine outcome → outcome ≡ Err Fail.Memory → rested ≡ dim
       → called p keys rested p.ledger engine tags digests steps ≡ p
   on-memory engine outcome rested was is rest =
@@ -472,7 +472,7 @@ module _ (setup : Setup) (p : WorldParts) (keys : List ℕ) (board : Memory) (pa
       let latches : taken.latches ≡ 0 = ap (λ d. d.latches) same in
       let its_steps : steps ≡ p.steps = omega (arith, served.counted, writes, latches, served.going.whole.steps.in_range) in
       ap (λ (x : List ℕ). called p x rested p.ledger engine tags digests steps) (ap (λ (s : SuiteState). s.keys) has.uncounted)
-      ∙ ap (λ (x : Memory). called p p.keys x p.ledger engine tags digests steps) (rest ∙ unmoved has)
+      ∙ ap (λ (x : BoardMemory). called p p.keys x p.ledger engine tags digests steps) (rest ∙ unmoved has)
       ∙ ap (λ (x : Option EngineState). called p p.keys p.board p.ledger x tags digests steps) (apart.0 ∙ sym served.was_off)
       ∙ ap (λ (x : ℕ). record p { tags = x; digests = digests; steps = steps }) (ap (λ (s : SuiteState). s.tags) has.uncounted)
       ∙ ap (λ (x : ℕ). record p { digests = x; steps = steps }) (ap (λ (s : SuiteState). s.digests) has.uncounted)

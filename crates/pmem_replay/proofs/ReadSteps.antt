@@ -17,7 +17,7 @@ use Rattle.pmem_base.specs.Lines.{IsLine}
 use Rattle.pmem_base.specs.Ranges.{IsAnswer, IsExhibitValue}
 use Rattle.pmem_base.specs.WaitingWrites.{queue_of, no_writes, writes_to, put_writes}
 use Rattle.commit_regs.specs.Groups.{redone}
-use Rattle.board.specs.Memory.{Memory}
+use Rattle.board.specs.Memory.{BoardMemory}
 use Rattle.seal_ledger.specs.Ledger.{LedgerState, IsMark}
 use Rattle.meta_cache.specs.Banks.{IsBanksOf}
 use Rattle.suite.specs.Setup.{Setup}
@@ -26,7 +26,7 @@ use Rattle.plain_model.specs.Answers.{decided_answer, is_shown, is_covered}
 use Rattle.pmem_engine.specs.declared.fault.Fault.{Fault}
 use Rattle.pmem_engine.specs.declared.fault.Fault.TheVariants as Fail
 use Rattle.pmem_engine.specs.Engine.{EngineState}
-use Rattle.pmem_engine.specs.Outcomes.{going, outcome_of, HasDone}
+use Rattle.pmem_engine.specs.Outcomes.{going, outcome_of, OneLossEffect}
 use Rattle.pmem_engine.specs.Invariants.{IsTrusted, IsSealStored}
 use Rattle.pmem_engine.specs.Calls.{HasReadLine}
 use Rattle.pmem_replay.specs.World.{WorldState, WorldParts, IsWorld, IsOn, state_in, world_of}
@@ -45,7 +45,7 @@ use Rattle.pmem_replay.proofs.Stepping.{stepped_by_engine}
 use Rattle.pmem_replay.proofs.TableSteps.{lit_in}
 use Rattle.pmem_replay.proofs.Served.{called, IsServed, call_of, state_going, state_cut, same_room, few_steps}
 
-module _ (setup : Setup) (p : WorldParts) (keys : List ℕ) (board : Memory) (ledger : LedgerState) (tags digests steps : ℕ)
+module _ (setup : Setup) (p : WorldParts) (keys : List ℕ) (board : BoardMemory) (ledger : LedgerState) (tags digests steps : ℕ)
     (engine after : EngineState) (taken : Taken) (served : IsServed setup p keys board steps engine taken)
     (port at : ℕ) (within : at < layout.data_lines setup.shape) (uncovered : is_covered (state_in setup p) port at ≡ false) where
   abbrev old : WorldState
@@ -79,8 +79,8 @@ module _ (setup : Setup) (p : WorldParts) (keys : List ℕ) (board : Memory) (le
   -- ---- a call that goes on
 
   module _ (answer : Result Line Fault) (read : Has answer) (goes : outcome_of answer ≡ going) where
-    done : HasDone setup going [] (parts_in old engine none_taken) (parts_in on_new after taken)
-    done = subst (λ o. HasDone setup o [] (parts_in old engine none_taken) (parts_in on_new after taken)) goes (read.done on_now.trusted.not_down)
+    done : OneLossEffect setup going [] (parts_in old engine none_taken) (parts_in on_new after taken)
+    done = subst (λ o. OneLossEffect setup o [] (parts_in old engine none_taken) (parts_in on_new after taken)) goes (read.done on_now.trusted.not_down)
 
     same_marks : ledger.marks ≡ p.ledger.marks
     same_marks = done.gone.marks ∙ append-nil p.ledger.marks

@@ -12,7 +12,7 @@ use Rattle.pmem_base.specs.declared.answers.Place.{Place}
 use Rattle.pmem_base.specs.Shape.{Shape}
 use Rattle.pmem_base.specs.Ranges.{IsAnswer, IsExhibitValue}
 use Rattle.pmem_base.specs.WaitingWrites.{no_writes}
-use Rattle.board.specs.Memory.{Memory}
+use Rattle.board.specs.Memory.{BoardMemory}
 use Rattle.meta_cache.specs.Banks.{IsBanksOf}
 use Rattle.seal_ledger.specs.Ledger.{LedgerState, IsMark}
 use Rattle.seal_ledger.specs.Notes.{HasRoom}
@@ -23,7 +23,7 @@ use Rattle.plain_model.specs.Answers.{decided_answer, is_shown}
 use Rattle.pmem_engine.specs.declared.fault.Fault.{Fault}
 use Rattle.pmem_engine.specs.declared.fault.Fault.TheVariants as Fail
 use Rattle.pmem_engine.specs.Engine.{EngineState}
-use Rattle.pmem_engine.specs.Outcomes.{going, HasDone, KeepsPlaces}
+use Rattle.pmem_engine.specs.Outcomes.{going, OneLossEffect, KeepsPlaces}
 use Rattle.pmem_engine.specs.Calls.{HasTurned}
 use Rattle.pmem_replay.specs.World.{WorldState, WorldParts, IsWorld, IsOn, plain_memory, state_in, world_of, view_in}
 use Rattle.pmem_replay.specs.declared.taken.Taken.{Taken}
@@ -43,7 +43,7 @@ use Rattle.pmem_replay.proofs.Reserved.{good_before}
 use Rattle.pmem_replay.proofs.Served.{called, IsServed, call_of, state_called, state_cut_with, memory_is, few_steps}
 
 -- `before` is the ledger before room was made
-module _ (setup : Setup) (p : WorldParts) (keys : List ℕ) (board : Memory) (before ledger : LedgerState) (tags digests steps : ℕ)
+module _ (setup : Setup) (p : WorldParts) (keys : List ℕ) (board : BoardMemory) (before ledger : LedgerState) (tags digests steps : ℕ)
     (engine after : EngineState) (taken : Taken) (served : IsServed setup p keys board steps engine taken)
     (n : ℕ) (room : HasRoom before p.ledger n) where
   -- the world before, and once room was made
@@ -123,7 +123,7 @@ module _ (setup : Setup) (p : WorldParts) (keys : List ℕ) (board : Memory) (be
   same_first : old.state ≡ first.state
   same_first = ap (λ (ms : List Mark). record (state_in setup p) { memory = plain_memory setup ms }) room.marks
 
-  state : (answer : Result (Option (ℕ × ℕ)) Fault) (turn : Has answer) → HasDone setup going turn.made (parts_in old engine none_taken) (parts_in on_new after taken)
+  state : (answer : Result (Option (ℕ × ℕ)) Fault) (turn : Has answer) → OneLossEffect setup going turn.made (parts_in old engine none_taken) (parts_in on_new after taken)
       → on_new.state ≡ counted_state old.state (steps_in taken)
   state answer turn done =
       state_called setup p keys board ledger (Some after) tags digests steps engine taken (plain_memory setup p.ledger.marks) p.board.regs.loss served

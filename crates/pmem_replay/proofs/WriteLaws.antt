@@ -33,10 +33,10 @@ use Rattle.plain_model.specs.Fits.{Fits, IsStopped, IsSpentNext, IsPlaceInFlight
 use Rattle.pmem_engine.specs.declared.fault.Fault.TheVariants as Fail
 use Rattle.pmem_engine.specs.Engine.{EngineState}
 use Rattle.pmem_engine.specs.Parts.{Parts}
-use Rattle.pmem_engine.specs.Outcomes.{going, is_sealed_by, HasDone, KeepsPlaces, TakesAtMost}
+use Rattle.pmem_engine.specs.Outcomes.{going, is_sealed_by, OneLossEffect, KeepsPlaces, TakesAtMost}
 use Rattle.pmem_engine.specs.Faults.{IsClashShown}
 use Rattle.pmem_engine.specs.Calls.{HasWrittenLine, IsPartOf, IsRefusedLine, TakesOfWrite, TakesSpent, write_bound, IsForgedInWrite}
-use Rattle.pmem_engine.proofs.TrueLines.{true_line-is}
+use Rattle.pmem_engine.proofs.Laws.TrueLines.{true_line-is}
 use Rattle.pmem_replay.specs.World.{WorldState, IsOn, IsWorld, view_in, lines_in}
 use Rattle.pmem_replay.specs.declared.taken.Taken.{Taken}
 use Rattle.pmem_replay.specs.During.{none_taken, parts_in, steps_in, step_limit}
@@ -221,7 +221,7 @@ module _ (setup : Setup) (old mid new : WorldState) (command : Command) (d : Opt
     pub meta-good : IsGood setup old command (record { marks = made ++ written.made; answer = Say.Refused d (Place.Meta x) (spent + steps_in taken) })
     meta-good =
         let refused = written.answered on_mid.trusted.not_down on_mid.trusted mid.state.memory call.world.memory.each in
-        let done = subst (λ m. HasDone setup going m (parts_in mid engine none_taken) (parts_in new after taken)) meta-made (written.done on_mid.trusted.not_down) in
+        let done = subst (λ m. OneLossEffect setup going m (parts_in mid engine none_taken) (parts_in new after taken)) meta-made (written.done on_mid.trusted.not_down) in
         let powered = done.gone.power.1 (call.world.board.power ∙ on_mid.powered) in
         let in_tree = on_path-within setup.shape (page_of write.at) x (omega (arith, within)) refused.fetched.on_path in
         let other : refused.line ≢ line_at mid.ledger.truth x = λ same. refused.other_digest (ap (setup.formulas.digest_of x) same) in

@@ -22,7 +22,7 @@ use Rattle.plain_model.specs.Asked.{moment_of, marks_of_write}
 use Rattle.plain_model.specs.Bounds.{can_be_dirty}
 use Rattle.pmem_engine.specs.declared.fault.Fault.{Fault}
 use Rattle.pmem_engine.specs.Engine.{EngineState}
-use Rattle.pmem_engine.specs.Outcomes.{going, cut, outcome_of, is_sealed_by, HasDone}
+use Rattle.pmem_engine.specs.Outcomes.{going, cut_short, outcome_of, is_sealed_by, OneLossEffect}
 use Rattle.pmem_engine.specs.Calls.{HasWrittenLine, IsMemory}
 use Rattle.pmem_replay.specs.World.{WorldState, IsMemoryOf, HasFlags, HasQueues, IsOn, IsWorld, view_in, lines_in}
 use Rattle.pmem_replay.specs.declared.taken.Taken.{Taken}
@@ -230,9 +230,9 @@ module _ (setup : Setup) (old new : WorldState) (engine after : EngineState) (ta
         }
 
     module _ (goes : outcome_of answer ≡ going) where
-      going_done : HasDone setup going written.made (parts_in old engine none_taken) (parts_in new after taken)
+      going_done : OneLossEffect setup going written.made (parts_in old engine none_taken) (parts_in new after taken)
       going_done =
-          subst (λ o. HasDone setup o written.made (parts_in old engine none_taken) (parts_in new after taken)) goes
+          subst (λ o. OneLossEffect setup o written.made (parts_in old engine none_taken) (parts_in new after taken)) goes
           (written.done on_now.trusted.not_down)
 
       may_be_dirty : new.state.touched ≡ touched_now → new.state.flushed ≡ flushed_now
@@ -299,10 +299,10 @@ module _ (setup : Setup) (old new : WorldState) (engine after : EngineState) (ta
           whole_cache
           (may_be_dirty (ap (λ s. s.touched) state) (ap (λ s. s.flushed) state))
 
-    module _ (ends : outcome_of answer ≡ cut) where
-      cut_done : HasDone setup cut written.made (parts_in old engine none_taken) (parts_in new after taken)
+    module _ (ends : outcome_of answer ≡ cut_short) where
+      cut_done : OneLossEffect setup cut_short written.made (parts_in old engine none_taken) (parts_in new after taken)
       cut_done =
-          subst (λ o. HasDone setup o written.made (parts_in old engine none_taken) (parts_in new after taken)) ends
+          subst (λ o. OneLossEffect setup o written.made (parts_in old engine none_taken) (parts_in new after taken)) ends
           (written.done on_now.trusted.not_down)
 
       -- the write was kept in a cut

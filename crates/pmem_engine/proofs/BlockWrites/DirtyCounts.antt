@@ -10,7 +10,7 @@ use Rattle.meta_cache.specs.Banks.{Banks, set_of, set_index, is_cached_dirty}
 use Rattle.meta_cache.specs.Sets.{with_mark}
 use Rattle.meta_cache.specs.State.{CacheState, ChangesSet}
 use Rattle.meta_cache.proofs.SlotLemmas.{All-stands, All-from_stands, is_cached_dirty_from}
-use Rattle.meta_path.specs.Blocks.{slots_at, dirty_in, sum_below, dirty_in_bank}
+use Rattle.meta_path.specs.Blocks.{slots_at, dirty_in, sum_below, bank_dirty_count}
 use Rattle.meta_path.proofs.PathFacts.{AreSets}
 use Rattle.meta_path.proofs.KeepLemmas.{sum_below-one}
 use Rattle.meta_path.proofs.WriteLemmas.{dirty_in-cleaned}
@@ -19,7 +19,7 @@ use Rattle.meta_path.proofs.WriteLemmas.{dirty_in-cleaned}
 pub dirty_in_bank-cleaned : (g : Shape) (old new : CacheState) (bank x : ℕ) → AreSets g old.banks → 1 ≤ g.sets
     → is_cached_dirty g old.banks bank x ≡ true
     → ChangesSet old new bank (set_index g x) (with_mark (slots_at g old.banks bank x) x false)
-    → dirty_in_bank g new.banks bank + 1 ≡ dirty_in_bank g old.banks bank
+    → bank_dirty_count g new.banks bank + 1 ≡ bank_dirty_count g old.banks bank
 dirty_in_bank-cleaned g old new bank x sets some dirty changes =
     sum_below-one (λ set. dirty_in (set_of new.banks bank set)) (λ set. dirty_in (set_of old.banks bank set)) g.sets
     (set_index g x) 1 (mod-lt x (omega (arith, some)))
@@ -33,9 +33,9 @@ sum_below-few f few (suc n) = omega (arith, sum_below-few f few n, few n)
 
 -- at most 64 sets of 8 ways
 pub dirty_in_bank-few : (g : Shape) (banks : Banks) (bank : ℕ) → AreSets g banks → g.sets ≤ 64 → g.ways ≤ 8
-    → dirty_in_bank g banks bank ≤ 512
+    → bank_dirty_count g banks bank ≤ 512
 dirty_in_bank-few g banks bank sets few_sets few_ways =
-    let all : dirty_in_bank g banks bank ≤ g.sets * 8 =
+    let all : bank_dirty_count g banks bank ≤ g.sets * 8 =
     sum_below-few (λ set. dirty_in (set_of banks bank set)) few g.sets in
     omega (arith, all, few_sets)
   where
@@ -59,7 +59,7 @@ sum_below-none f none zero = refl
 sum_below-none f none (suc n) = omega (arith, sum_below-none f none n, none n)
 
 pub dirty_in_bank-none : (g : Shape) (banks : Banks) (bank : ℕ) → AreSets g banks
-    → ((x : ℕ) → is_cached_dirty g banks bank x ≡ false) → dirty_in_bank g banks bank ≡ 0
+    → ((x : ℕ) → is_cached_dirty g banks bank x ≡ false) → bank_dirty_count g banks bank ≡ 0
 dirty_in_bank-none g banks bank sets clean =
     sum_below-none (λ set. dirty_in (set_of banks bank set)) (λ set. dirty_in-none (set_of banks bank set) (all set)) g.sets
   where

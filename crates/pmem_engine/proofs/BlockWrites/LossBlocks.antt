@@ -7,7 +7,7 @@ use Rattle.board.specs.Steps.{HasWritten}
 use Rattle.meta_cache.specs.Banks.{set_index, is_cached}
 use Rattle.meta_cache.specs.Sets.{with_mark}
 use Rattle.meta_cache.specs.State.{CacheState, ChangesSet, slots_of}
-use Rattle.meta_path.specs.Blocks.{line_in, dirty_in_bank}
+use Rattle.meta_path.specs.Blocks.{line_in, bank_dirty_count}
 use Rattle.meta_path.specs.Storing.{IsCleaned}
 use Rattle.pmem_engine.specs.Engine.{EngineState}
 use Rattle.pmem_engine.specs.Parts.{parts_of}
@@ -54,7 +54,7 @@ blocks_none engine device =
 pub blocks_more : (count x : ℕ) (old mid new : EngineState) (before middle after : Device)
     → before.size ≡ device_lines old.shape → IsDevice middle → HasWrittenBlocks count old mid before middle
     → HasWrittenBack mid.shape.levels x mid new middle after
-    → dirty_in_bank mid.shape new.cache mid.shape.levels + 1 ≡ dirty_in_bank mid.shape mid.cache mid.shape.levels
+    → bank_dirty_count mid.shape new.cache mid.shape.levels + 1 ≡ bank_dirty_count mid.shape mid.cache mid.shape.levels
     → HasWrittenBlocks (count + 1) old new before after
 blocks_more count x old mid new before middle after its_size whole first it fewer =
     record {
@@ -62,8 +62,8 @@ blocks_more count x old mid new before middle after its_size whole first it fewe
       mirror = it.mirror ∙ first.mirror;
       down = it.down ∙ first.down;
       dirty =
-          let less : dirty_in_bank old.shape new.cache old.shape.levels + 1 ≡ dirty_in_bank old.shape mid.cache old.shape.levels =
-          subst (λ (g : Shape). dirty_in_bank g new.cache g.levels + 1 ≡ dirty_in_bank g mid.cache g.levels) first.shape fewer in
+          let less : bank_dirty_count old.shape new.cache old.shape.levels + 1 ≡ bank_dirty_count old.shape mid.cache old.shape.levels =
+          subst (λ (g : Shape). bank_dirty_count g new.cache g.levels + 1 ≡ bank_dirty_count g mid.cache g.levels) first.shape fewer in
           omega (arith, less, first.dirty);
       cached =
           λ bank y.

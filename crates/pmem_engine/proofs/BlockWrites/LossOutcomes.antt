@@ -17,7 +17,7 @@ use Rattle.board.specs.Steps.{WasCut, HasLatched}
 use Rattle.commit_regs.specs.Groups.{redone_told}
 use Rattle.seal_ledger.specs.Ledger.{LedgerState}
 use Rattle.meta_cache.specs.Banks.{is_cached, is_cached_dirty}
-use Rattle.meta_path.specs.Blocks.{dirty_in_bank}
+use Rattle.meta_path.specs.Blocks.{bank_dirty_count}
 use Rattle.stop_loss.proofs.Windows.{is_loss_cases}
 use Rattle.suite.specs.Setup.{Setup}
 use Rattle.pmem_engine.specs.declared.fault.Fault.{Fault}
@@ -275,10 +275,10 @@ module _ (setup : Setup) (n : ℕ) (old new : EngineState) (before after : Devic
   -- ---- steps
 
   abbrev dirty : ℕ
-  dirty = dirty_in_bank setup.shape old.cache setup.shape.levels
+  dirty = bank_dirty_count setup.shape old.cache setup.shape.levels
 
-  dirty_as : dirty_in_bank old.shape old.cache old.shape.levels ≡ dirty
-  dirty_as = ap (λ g. dirty_in_bank g old.cache g.levels) its_shape
+  dirty_as : bank_dirty_count old.shape old.cache old.shape.levels ≡ dirty
+  dirty_as = ap (λ g. bank_dirty_count g old.cache g.levels) its_shape
 
   count_few : (count : ℕ) (mid : Device) → HasWrittenBlocks count old new before mid → count ≤ dirty
   count_few count mid written = omega (arith, written.dirty, dirty_as)

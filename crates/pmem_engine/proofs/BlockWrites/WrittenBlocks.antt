@@ -13,7 +13,7 @@ use Rattle.board.specs.Steps.{with_line}
 use Rattle.seal_ledger.specs.Ledger.{LedgerState}
 use Rattle.meta_cache.specs.declared.slot.Slot.{Slot}
 use Rattle.meta_cache.specs.Banks.{set_of, set_index, is_cached, is_cached_dirty}
-use Rattle.meta_cache.specs.Sets.{holds, marked, with_mark}
+use Rattle.meta_cache.specs.Sets.{holds, slot_marked, with_mark}
 use Rattle.meta_cache.specs.KeptSlots.{IsFromBefore, IsStillDirty}
 use Rattle.meta_cache.proofs.SlotLemmas.{IsFromBefore-cleaned, IsStillDirty-cleaned}
 use Rattle.meta_path.specs.Blocks.{line_in}
@@ -42,13 +42,13 @@ marked_clean [] x = refl
 marked_clean (slot ∷ slots) x =
     ap₂ (λ a b. a || b) (by (slot.position == x) refl) (marked_clean slots x)
   where
-    same_slot : (b : Bool) → (slot.position == x) ≡ b → (now : Slot) → cond b (marked slot false) slot ≡ now
+    same_slot : (b : Bool) → (slot.position == x) ≡ b → (now : Slot) → cond b (slot_marked slot false) slot ≡ now
         → (now.position == x && now.dirty) ≡ false
     same_slot v0 e now is = search rules
 
     by : (b : Bool) → (slot.position == x) ≡ b
-        → ((cond (slot.position == x) (marked slot false) slot).position == x
-        && (cond (slot.position == x) (marked slot false) slot).dirty) ≡ false
+        → ((cond (slot.position == x) (slot_marked slot false) slot).position == x
+        && (cond (slot.position == x) (slot_marked slot false) slot).dirty) ≡ false
     by b e = search rules
 
 -- what the cache holds once a block was written back

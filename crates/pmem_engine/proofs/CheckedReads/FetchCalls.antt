@@ -12,7 +12,7 @@ use Rattle.meta_path.specs.declared.faults.PathFault.TheVariants as Path
 use Rattle.meta_path.specs.Blocks.{IsPathCached, AreCachedTrue, dirty_count}
 use Rattle.meta_path.specs.Work.{FetchState}
 use Rattle.meta_path.specs.Fetching.{absent_count, IsFetchedTo, IsPathFault}
-use Rattle.meta_path.specs.Keeping.{KeepsBlocks, IsTrueTree, HasCause}
+use Rattle.meta_path.specs.Keeping.{KeepsBlocks, IsTrueTree, IsFaultCaused}
 use Rattle.suite.specs.Setup.{Setup}
 use Rattle.pmem_engine.specs.Engine.{EngineState}
 use Rattle.pmem_engine.specs.Outcomes.{NeverFalls, fault_of_path}
@@ -71,7 +71,7 @@ module _ (setup : Setup) (page : ℕ) (old new : EngineState) (ledger noted : Le
   pub fetch_err : (fault : PathFault) → (IsPathCached setup.shape old.cache page → ⊥)
       → IsPathFault setup.shape setup.formulas page state_before state_after ledger noted fault
       → (IsTrueTree setup.shape setup.formulas ledger.truth before.regs.root → AreCachedTrue old.cache ledger.truth
-      → HasCause setup.shape setup.formulas after.lines ledger noted fault)
+      → IsFaultCaused setup.shape setup.formulas after.lines ledger noted fault)
       → (fault ≡ Path.Cut → before.live ≡ true → 1 ≤ dirty_count setup.shape new.cache)
       → HasFetched setup page (parts_of old before ledger tags digests) (parts_of new after noted tags_now digests_now)
       (Err (fault_of_path fault))

@@ -10,10 +10,11 @@ use Rattle.pmem_base.specs.declared.answers.Mark.{Mark}
 use Rattle.pmem_base.specs.Layout as layout
 use Rattle.pmem_base.specs.Layout.{page_of, index_in_page}
 use Rattle.pmem_base.specs.Lines.{line_at}
+use Rattle.pmem_base.specs.WaitingWrites.{put_write}
 use Rattle.page_reencrypt.specs.Registers.{register_held}
 use Rattle.meta_path.specs.Blocks.{IsPathCached}
 use Rattle.suite.specs.Setup.{Setup}
-use Rattle.plain_model.specs.State.{Memory, put_write}
+use Rattle.plain_model.specs.State.{Memory}
 use Rattle.plain_model.specs.Asked.{seal_mark, marks_of_write}
 use Rattle.plain_model.specs.Bounds.{path_length, seal_count}
 use Rattle.pmem_engine.specs.declared.fault.Fault.{Fault}

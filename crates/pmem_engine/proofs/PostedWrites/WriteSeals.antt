@@ -13,13 +13,14 @@ use Rattle.pmem_base.specs.Layout as layout
 use Rattle.pmem_base.specs.Layout.{page_of}
 use Rattle.pmem_base.specs.Lines.{line_at}
 use Rattle.pmem_base.specs.Marks.{SealOf, last_seal}
+use Rattle.pmem_base.specs.WaitingWrites.{put_write}
 use Rattle.pmem_base.proofs.LineSets.{line_at-set_same, line_at-set_other}
 use Rattle.seal_ledger.proofs.MarkLemmas.{last_seal-sealed}
 use Rattle.bonsai_tree.specs.Positions.{counter_position}
 use Rattle.meta_path.specs.Blocks.{IsPathCached}
 use Rattle.suite.specs.Formulas.{cipher_of}
 use Rattle.suite.specs.Setup.{Setup}
-use Rattle.plain_model.specs.State.{Memory, put_write, memory_with}
+use Rattle.plain_model.specs.State.{Memory, memory_with}
 use Rattle.plain_model.specs.View.{plain_line}
 use Rattle.plain_model.specs.Asked.{seal_mark, marks_of_write}
 use Rattle.pmem_engine.specs.declared.fault.Fault.{Fault}

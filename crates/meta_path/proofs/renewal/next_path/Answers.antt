@@ -9,7 +9,6 @@ use Rattle.pmem_base.specs.Geo.{shape_of}
 use Rattle.pmem_base.specs.Lines.{IsLine}
 use Rattle.bonsai_tree.specs.Positions.{parent}
 use Rattle.meta_cache.specs.Banks.{is_cached}
-use Rattle.meta_path.specs.Work.{risen_times}
 use Rattle.meta_path.proofs.PathFacts.{position_is, path_at-below}
 use Rattle.meta_path.proofs.RenewalLemmas.{IsRenewedTo-none, IsRenewedTo-more, parent_cached, node_is, IsPathOf-path_with, IsRenewed-true}
 use Rattle.meta_path.proofs.renewal.next_path.Given.{Over}

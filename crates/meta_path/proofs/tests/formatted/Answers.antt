@@ -5,7 +5,7 @@ use Rattle.pmem_base.specs.declared.lines.Line.{Line}
 use Rattle.pmem_base.specs.Geo.{shape_of}
 use Rattle.pmem_base.specs.Layout.{shadow_lines}
 use Rattle.pmem_base.specs.Lines.{zero_line}
-use Rattle.board.specs.Memory.{Memory}
+use Rattle.board.specs.Memory.{BoardMemory}
 use Rattle.meta_cache.specs.State.{CacheState}
 use Rattle.meta_path.specs.Blocks.{AreInTheirBanks}
 use Rattle.meta_path.proofs.PathFacts.{AreInTheirBanks-empty}
@@ -21,6 +21,6 @@ invariant_of-bench g c =
       its_mirror = ap (λ (lines : List Line). length lines) c.in_ok-new-2.ensures ∙ length-replicate (shadow_lines shape) zero_line;
       its_truth = c.in_ok-new-4.ensures.shape.truth_count;
       its_size =
-          ap (λ (memory : Memory). length memory.lines) c.in_ok-new-3.ensures ∙ length-replicate c.size.result zero_line
+          ap (λ (memory : BoardMemory). length memory.lines) c.in_ok-new-3.ensures ∙ length-replicate c.size.result zero_line
           ∙ c.size.ensures.value;
     }

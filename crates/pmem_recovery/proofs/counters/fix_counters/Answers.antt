@@ -5,8 +5,8 @@ use Rattle.pmem_base.specs.declared.lines.Line.{Line}
 use Rattle.pmem_base.specs.Geo.{shape_of}
 use Rattle.suite.specs.Setup.{Setup}
 use Rattle.pmem_base.specs.Shape.{Shape, is_loss}
-use Rattle.pmem_base.specs.Layout.{pages, meta_lines, slots}
-use Rattle.bonsai_tree.specs.Positions.{level_start, counter_position}
+use Rattle.pmem_base.specs.Layout.{pages, meta_lines, slots, level_start}
+use Rattle.bonsai_tree.specs.Positions.{counter_position}
 use Rattle.bonsai_tree.proofs.Levels.{meta_lines-counters}
 use Rattle.stop_loss.proofs.Windows.{is_loss_cases}
 use Rattle.shadow_tables.specs.Entries.{shadow_of}

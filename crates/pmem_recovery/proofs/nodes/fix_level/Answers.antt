@@ -3,7 +3,7 @@ use Rattle.pmem_base.specs.declared.lines.Line.{Line}
 use Rattle.pmem_base.specs.declared.geometry.Geo.{Geo}
 use Rattle.pmem_base.specs.Geo.{shape_of}
 use Rattle.pmem_base.specs.Shape.{Shape}
-use Rattle.bonsai_tree.specs.Positions.{level_start}
+use Rattle.pmem_base.specs.Layout.{level_start}
 use Rattle.bonsai_tree.proofs.Levels.{level_start-le, meta_lines-counters}
 use Rattle.pmem_recovery.specs.Named.{names, count_named, IsNextAt}
 use Rattle.pmem_recovery.specs.Upward.{AreMadeTo, node_made}

@@ -3,8 +3,7 @@ use Rattle.std.proofs.lemmas.Result.{err_from_is_err_and}
 use Rattle.pmem_base.specs.declared.lines.Line.{Line}
 use Rattle.pmem_base.specs.declared.geometry.Geo.{Geo}
 use Rattle.pmem_base.specs.Geo.{shape_of}
-use Rattle.pmem_base.specs.Layout.{slots, pages, meta_lines, device_lines}
-use Rattle.bonsai_tree.specs.Positions.{level_start}
+use Rattle.pmem_base.specs.Layout.{slots, pages, meta_lines, device_lines, level_start}
 use Rattle.suite.specs.Formulas.{Formulas}
 use Rattle.suite.specs.Setup.{Setup}
 use Rattle.pmem_recovery.specs.Named.{count_named}

@@ -4,7 +4,7 @@ use Rattle.pmem_base.specs.Shape.{Shape}
 use Rattle.pmem_base.specs.Geo.{shape_of}
 use Rattle.meta_cache.specs.Banks.{set_of, is_cached_dirty}
 use Rattle.meta_cache.specs.Sets.{IsSetOf}
-use Rattle.meta_path.specs.Blocks.{dirty_in_bank}
+use Rattle.meta_path.specs.Blocks.{bank_dirty_count}
 use Rattle.meta_path.proofs.PathFacts.{AreSets}
 use Rattle.pmem_engine.specs.Engine.{EngineState}
 use Rattle.pmem_engine.proofs.BlockWrites.DirtyCounts.{dirty_in_bank-none}
@@ -20,7 +20,7 @@ returns-clause-none c = λ none.
           subst (λ (s : Shape). IsSetOf s set (set_of c.self.inside.cache.banks bank set)) c.self.invariant.0
           (c.are_banks.ensures.cache.each_set bank set);
     } in
-    subst (λ (e : EngineState). dirty_in_bank e.shape e.cache e.shape.levels ≡ 0) c.self.view_is
+    subst (λ (e : EngineState). bank_dirty_count e.shape e.cache e.shape.levels ≡ 0) c.self.view_is
     (dirty_in_bank-none shape c.self.inside.cache.banks shape.levels sets
     (λ x.
     subst₂ (λ (s : Shape) (bank : ℕ). is_cached_dirty s c.self.inside.cache.banks bank x ≡ false) c.self.invariant.0 c.levels.ensures

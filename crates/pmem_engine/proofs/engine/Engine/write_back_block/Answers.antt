@@ -8,7 +8,7 @@ use Rattle.board.specs.Steps.{HasWritten}
 use Rattle.meta_cache.specs.Banks.{set_of, set_index, is_cached, is_cached_dirty}
 use Rattle.meta_cache.specs.Sets.{with_mark, IsSetOf}
 use Rattle.meta_cache.specs.State.{IsCacheOf, ChangesSet, slots_of}
-use Rattle.meta_path.specs.Blocks.{line_in, slots_at, dirty_in_bank}
+use Rattle.meta_path.specs.Blocks.{line_in, slots_at, bank_dirty_count}
 use Rattle.meta_path.proofs.PathFacts.{AreSets}
 use Rattle.meta_path.proofs.WriteLemmas.{dirty_is_cached, dirty_on_tree, IsMarkedSet-with_mark, AreInTheirBanks-marked}
 use Rattle.pmem_engine.specs.Engine.{EngineState}
@@ -92,7 +92,7 @@ returns-clause-fewer g c =
           (c.are_banks.ensures.cache.each_set bank set);
     } in
     subst
-    (λ (e : EngineState). dirty_in_bank e.shape c.set_clean.new.self.banks e.shape.levels + 1 ≡ dirty_in_bank e.shape e.cache e.shape.levels)
+    (λ (e : EngineState). bank_dirty_count e.shape c.set_clean.new.self.banks e.shape.levels + 1 ≡ bank_dirty_count e.shape e.cache e.shape.levels)
     c.self.view_is
     (dirty_in_bank-cleaned shape c.self.inside.cache c.set_clean.new.self shape.levels c.args.x sets c.self.inside.geo.has_sets.0
     dirty changes)

@@ -4,7 +4,7 @@ use Rattle.pmem_base.specs.Shape.{Shape}
 use Rattle.pmem_base.specs.Geo.{shape_of}
 use Rattle.meta_cache.specs.Banks.{set_of}
 use Rattle.meta_cache.specs.Sets.{IsSetOf}
-use Rattle.meta_path.specs.Blocks.{dirty_in_bank}
+use Rattle.meta_path.specs.Blocks.{bank_dirty_count}
 use Rattle.meta_path.proofs.PathFacts.{AreSets}
 use Rattle.pmem_engine.specs.Engine.{EngineState}
 use Rattle.pmem_engine.proofs.BlockWrites.DirtyCounts.{dirty_in_bank-few}
@@ -24,7 +24,7 @@ blocks-2-init g c =
     record {
       written = blocks_none c.args.self.now (g.B.Board.device c.args.board.now);
       few =
-          subst (λ (e : EngineState). dirty_in_bank e.shape e.cache e.shape.levels ≤ 512) c.self.view_is
+          subst (λ (e : EngineState). bank_dirty_count e.shape e.cache e.shape.levels ≤ 512) c.self.view_is
           (dirty_in_bank-few shape c.self.inside.cache.banks shape.levels sets c.self.inside.geo.has_sets.1 c.self.inside.geo.has_ways.1);
     }
 

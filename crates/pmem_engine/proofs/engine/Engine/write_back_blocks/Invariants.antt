@@ -1,6 +1,6 @@
 -- So many blocks were written, and as many fewer of the bank are dirty.
 use Rattle.std.proofs.Common.{◌≤◌}
-use Rattle.meta_path.specs.Blocks.{dirty_in_bank}
+use Rattle.meta_path.specs.Blocks.{bank_dirty_count}
 use Rattle.pmem_engine.specs.Flushed.{HasWrittenBlocks}
 use Rattle.pmem_engine.proofs.engine.Engine.write_back_blocks.Given as goal
 
@@ -9,8 +9,8 @@ invariant-blocks-2 g l =
     record {
       written :
           HasWrittenBlocks l.written l.fn.self l.self (g.B.Board.device l.fn.board) (g.B.Board.device l.board);
-      few : dirty_in_bank l.fn.self.shape l.fn.self.cache l.fn.self.shape.levels ≤ 512;
+      few : bank_dirty_count l.fn.self.shape l.fn.self.cache l.fn.self.shape.levels ≤ 512;
     }
 
 abbrev pub decreases-blocks-2 : goal.decreases-blocks-2
-decreases-blocks-2 g l = dirty_in_bank l.self.shape l.self.cache l.self.shape.levels
+decreases-blocks-2 g l = bank_dirty_count l.self.shape l.self.cache l.self.shape.levels

@@ -1,5 +1,5 @@
 -- A whole line is a posted write.
-use Rattle.pmem_engine.proofs.WriteEnded.{whole_posted}
+use Rattle.pmem_engine.proofs.PostedWrites.WriteEnds.{whole_posted}
 use Rattle.pmem_recovery.proofs.tests.writes.whole.Goals as goal
 
 pub returns : goal.returns

@@ -3,7 +3,7 @@ use Rattle.std.proofs.Common.{arith, rules, ◌≡◌, ap, sym, subst, ◌∙◌
 use Rattle.std.specs.Prelude.{true, false}
 use Rattle.pmem_base.specs.Geo.{shape_of}
 use Rattle.board.specs.MemBoard.{memory_of}
-use Rattle.board.specs.Memory.{Memory}
+use Rattle.board.specs.Memory.{BoardMemory}
 use Rattle.seal_ledger.specs.View.{ledger_of}
 use Rattle.pmem_base.specs.declared.commands.Command.TheVariants as Do
 use Rattle.pmem_recovery.specs.Parts.{suite_state}
@@ -34,11 +34,11 @@ invariant_of-self-in-Err-Memory g c =
     record {
       going = going;
       was_off = none;
-      watched = subst (λ (b : Memory). IsWatched b board taken) lights c.recover-done.ensures.watched;
+      watched = subst (λ (b : BoardMemory). IsWatched b board taken) lights c.recover-done.ensures.watched;
       counted = omega (arith, c.saturating_add-self-inside.ensures, c.steps-steps.ensures);
     } in
     let was : Was setup p (g.S.Suite.keys c.recover-done.new.suite) board (g.S.Suite.pads inside.suite) (g.S.Suite.pads c.recover-done.new.suite) (g.S.Suite.tags c.recover-done.new.suite) (g.S.Suite.digests c.recover-done.new.suite) steps taken served c.recover-done.new.engine c.recover-done.result.answer =
-    subst (λ (b : Memory). WasRecovered setup p.ledger (device_during b none_taken) (device_during board taken)
+    subst (λ (b : BoardMemory). WasRecovered setup p.ledger (device_during b none_taken) (device_during board taken)
     (suite_state p.keys (g.S.Suite.pads inside.suite) p.tags p.digests)
     (suite_state (g.S.Suite.keys c.recover-done.new.suite) (g.S.Suite.pads c.recover-done.new.suite) (g.S.Suite.tags c.recover-done.new.suite) (g.S.Suite.digests c.recover-done.new.suite))
     c.recover-done.new.engine c.recover-done.result.answer) lights c.recover-done.ensures.recovered in
@@ -63,11 +63,11 @@ returns-in-Err-Memory-clause-err g c =
     record {
       going = going;
       was_off = none;
-      watched = subst (λ (b : Memory). IsWatched b board taken) lights c.recover-done.ensures.watched;
+      watched = subst (λ (b : BoardMemory). IsWatched b board taken) lights c.recover-done.ensures.watched;
       counted = omega (arith, c.saturating_add-self-inside.ensures, c.steps-steps.ensures);
     } in
     let was : Was setup p (g.S.Suite.keys c.recover-done.new.suite) board (g.S.Suite.pads inside.suite) (g.S.Suite.pads c.recover-done.new.suite) (g.S.Suite.tags c.recover-done.new.suite) (g.S.Suite.digests c.recover-done.new.suite) steps taken served c.recover-done.new.engine c.recover-done.result.answer =
-    subst (λ (b : Memory). WasRecovered setup p.ledger (device_during b none_taken) (device_during board taken)
+    subst (λ (b : BoardMemory). WasRecovered setup p.ledger (device_during b none_taken) (device_during board taken)
     (suite_state p.keys (g.S.Suite.pads inside.suite) p.tags p.digests)
     (suite_state (g.S.Suite.keys c.recover-done.new.suite) (g.S.Suite.pads c.recover-done.new.suite) (g.S.Suite.tags c.recover-done.new.suite) (g.S.Suite.digests c.recover-done.new.suite))
     c.recover-done.new.engine c.recover-done.result.answer) lights c.recover-done.ensures.recovered in
@@ -92,11 +92,11 @@ invariant_of-self g c =
     record {
       going = going;
       was_off = none;
-      watched = subst (λ (b : Memory). IsWatched b board taken) lights c.recover-done.ensures.watched;
+      watched = subst (λ (b : BoardMemory). IsWatched b board taken) lights c.recover-done.ensures.watched;
       counted = omega (arith, c.saturating_add-self-inside.ensures, c.steps-steps.ensures);
     } in
     let was : Was setup p (g.S.Suite.keys c.recover-done.new.suite) board (g.S.Suite.pads inside.suite) (g.S.Suite.pads c.recover-done.new.suite) (g.S.Suite.tags c.recover-done.new.suite) (g.S.Suite.digests c.recover-done.new.suite) steps taken served c.recover-done.new.engine c.recover-done.result.answer =
-    subst (λ (b : Memory). WasRecovered setup p.ledger (device_during b none_taken) (device_during board taken)
+    subst (λ (b : BoardMemory). WasRecovered setup p.ledger (device_during b none_taken) (device_during board taken)
     (suite_state p.keys (g.S.Suite.pads inside.suite) p.tags p.digests)
     (suite_state (g.S.Suite.keys c.recover-done.new.suite) (g.S.Suite.pads c.recover-done.new.suite) (g.S.Suite.tags c.recover-done.new.suite) (g.S.Suite.digests c.recover-done.new.suite))
     c.recover-done.new.engine c.recover-done.result.answer) lights c.recover-done.ensures.recovered in
@@ -122,11 +122,11 @@ returns-in-Ok-clause-stepped g c =
     record {
       going = going;
       was_off = none;
-      watched = subst (λ (b : Memory). IsWatched b board taken) lights c.recover-done.ensures.watched;
+      watched = subst (λ (b : BoardMemory). IsWatched b board taken) lights c.recover-done.ensures.watched;
       counted = omega (arith, c.saturating_add-self-inside.ensures, c.steps-steps.ensures);
     } in
     let was : Was setup p (g.S.Suite.keys c.recover-done.new.suite) board (g.S.Suite.pads inside.suite) (g.S.Suite.pads c.recover-done.new.suite) (g.S.Suite.tags c.recover-done.new.suite) (g.S.Suite.digests c.recover-done.new.suite) steps taken served c.recover-done.new.engine c.recover-done.result.answer =
-    subst (λ (b : Memory). WasRecovered setup p.ledger (device_during b none_taken) (device_during board taken)
+    subst (λ (b : BoardMemory). WasRecovered setup p.ledger (device_during b none_taken) (device_during board taken)
     (suite_state p.keys (g.S.Suite.pads inside.suite) p.tags p.digests)
     (suite_state (g.S.Suite.keys c.recover-done.new.suite) (g.S.Suite.pads c.recover-done.new.suite) (g.S.Suite.tags c.recover-done.new.suite) (g.S.Suite.digests c.recover-done.new.suite))
     c.recover-done.new.engine c.recover-done.result.answer) lights c.recover-done.ensures.recovered in
@@ -152,11 +152,11 @@ invariant_of-self-in-Err-Cut g c =
     record {
       going = going;
       was_off = none;
-      watched = subst (λ (b : Memory). IsWatched b board taken) lights c.recover-done.ensures.watched;
+      watched = subst (λ (b : BoardMemory). IsWatched b board taken) lights c.recover-done.ensures.watched;
       counted = omega (arith, c.saturating_add-self-inside.ensures, c.steps-steps.ensures);
     } in
     let was : Was setup p (g.S.Suite.keys c.recover-done.new.suite) board (g.S.Suite.pads inside.suite) (g.S.Suite.pads c.recover-done.new.suite) (g.S.Suite.tags c.recover-done.new.suite) (g.S.Suite.digests c.recover-done.new.suite) steps taken served c.recover-done.new.engine c.recover-done.result.answer =
-    subst (λ (b : Memory). WasRecovered setup p.ledger (device_during b none_taken) (device_during board taken)
+    subst (λ (b : BoardMemory). WasRecovered setup p.ledger (device_during b none_taken) (device_during board taken)
     (suite_state p.keys (g.S.Suite.pads inside.suite) p.tags p.digests)
     (suite_state (g.S.Suite.keys c.recover-done.new.suite) (g.S.Suite.pads c.recover-done.new.suite) (g.S.Suite.tags c.recover-done.new.suite) (g.S.Suite.digests c.recover-done.new.suite))
     c.recover-done.new.engine c.recover-done.result.answer) lights c.recover-done.ensures.recovered in
@@ -182,11 +182,11 @@ returns-in-Err-Cut-clause-stepped g c =
     record {
       going = going;
       was_off = none;
-      watched = subst (λ (b : Memory). IsWatched b board taken) lights c.recover-done.ensures.watched;
+      watched = subst (λ (b : BoardMemory). IsWatched b board taken) lights c.recover-done.ensures.watched;
       counted = omega (arith, c.saturating_add-self-inside.ensures, c.steps-steps.ensures);
     } in
     let was : Was setup p (g.S.Suite.keys c.recover-done.new.suite) board (g.S.Suite.pads inside.suite) (g.S.Suite.pads c.recover-done.new.suite) (g.S.Suite.tags c.recover-done.new.suite) (g.S.Suite.digests c.recover-done.new.suite) steps taken served c.recover-done.new.engine c.recover-done.result.answer =
-    subst (λ (b : Memory). WasRecovered setup p.ledger (device_during b none_taken) (device_during board taken)
+    subst (λ (b : BoardMemory). WasRecovered setup p.ledger (device_during b none_taken) (device_during board taken)
     (suite_state p.keys (g.S.Suite.pads inside.suite) p.tags p.digests)
     (suite_state (g.S.Suite.keys c.recover-done.new.suite) (g.S.Suite.pads c.recover-done.new.suite) (g.S.Suite.tags c.recover-done.new.suite) (g.S.Suite.digests c.recover-done.new.suite))
     c.recover-done.new.engine c.recover-done.result.answer) lights c.recover-done.ensures.recovered in
@@ -212,11 +212,11 @@ invariant_of-self-in-Err-NoCounter g c =
     record {
       going = going;
       was_off = none;
-      watched = subst (λ (b : Memory). IsWatched b board taken) lights c.recover-done.ensures.watched;
+      watched = subst (λ (b : BoardMemory). IsWatched b board taken) lights c.recover-done.ensures.watched;
       counted = omega (arith, c.saturating_add-self-inside.ensures, c.steps-steps.ensures);
     } in
     let was : Was setup p (g.S.Suite.keys c.recover-done.new.suite) board (g.S.Suite.pads inside.suite) (g.S.Suite.pads c.recover-done.new.suite) (g.S.Suite.tags c.recover-done.new.suite) (g.S.Suite.digests c.recover-done.new.suite) steps taken served c.recover-done.new.engine c.recover-done.result.answer =
-    subst (λ (b : Memory). WasRecovered setup p.ledger (device_during b none_taken) (device_during board taken)
+    subst (λ (b : BoardMemory). WasRecovered setup p.ledger (device_during b none_taken) (device_during board taken)
     (suite_state p.keys (g.S.Suite.pads inside.suite) p.tags p.digests)
     (suite_state (g.S.Suite.keys c.recover-done.new.suite) (g.S.Suite.pads c.recover-done.new.suite) (g.S.Suite.tags c.recover-done.new.suite) (g.S.Suite.digests c.recover-done.new.suite))
     c.recover-done.new.engine c.recover-done.result.answer) lights c.recover-done.ensures.recovered in
@@ -242,11 +242,11 @@ returns-in-Err-NoCounter-clause-stepped g c =
     record {
       going = going;
       was_off = none;
-      watched = subst (λ (b : Memory). IsWatched b board taken) lights c.recover-done.ensures.watched;
+      watched = subst (λ (b : BoardMemory). IsWatched b board taken) lights c.recover-done.ensures.watched;
       counted = omega (arith, c.saturating_add-self-inside.ensures, c.steps-steps.ensures);
     } in
     let was : Was setup p (g.S.Suite.keys c.recover-done.new.suite) board (g.S.Suite.pads inside.suite) (g.S.Suite.pads c.recover-done.new.suite) (g.S.Suite.tags c.recover-done.new.suite) (g.S.Suite.digests c.recover-done.new.suite) steps taken served c.recover-done.new.engine c.recover-done.result.answer =
-    subst (λ (b : Memory). WasRecovered setup p.ledger (device_during b none_taken) (device_during board taken)
+    subst (λ (b : BoardMemory). WasRecovered setup p.ledger (device_during b none_taken) (device_during board taken)
     (suite_state p.keys (g.S.Suite.pads inside.suite) p.tags p.digests)
     (suite_state (g.S.Suite.keys c.recover-done.new.suite) (g.S.Suite.pads c.recover-done.new.suite) (g.S.Suite.tags c.recover-done.new.suite) (g.S.Suite.digests c.recover-done.new.suite))
     c.recover-done.new.engine c.recover-done.result.answer) lights c.recover-done.ensures.recovered in
@@ -272,11 +272,11 @@ invariant_of-self-in-Err-Root g c =
     record {
       going = going;
       was_off = none;
-      watched = subst (λ (b : Memory). IsWatched b board taken) lights c.recover-done.ensures.watched;
+      watched = subst (λ (b : BoardMemory). IsWatched b board taken) lights c.recover-done.ensures.watched;
       counted = omega (arith, c.saturating_add-self-inside.ensures, c.steps-steps.ensures);
     } in
     let was : Was setup p (g.S.Suite.keys c.recover-done.new.suite) board (g.S.Suite.pads inside.suite) (g.S.Suite.pads c.recover-done.new.suite) (g.S.Suite.tags c.recover-done.new.suite) (g.S.Suite.digests c.recover-done.new.suite) steps taken served c.recover-done.new.engine c.recover-done.result.answer =
-    subst (λ (b : Memory). WasRecovered setup p.ledger (device_during b none_taken) (device_during board taken)
+    subst (λ (b : BoardMemory). WasRecovered setup p.ledger (device_during b none_taken) (device_during board taken)
     (suite_state p.keys (g.S.Suite.pads inside.suite) p.tags p.digests)
     (suite_state (g.S.Suite.keys c.recover-done.new.suite) (g.S.Suite.pads c.recover-done.new.suite) (g.S.Suite.tags c.recover-done.new.suite) (g.S.Suite.digests c.recover-done.new.suite))
     c.recover-done.new.engine c.recover-done.result.answer) lights c.recover-done.ensures.recovered in
@@ -302,11 +302,11 @@ returns-in-Err-Root-clause-stepped g c =
     record {
       going = going;
       was_off = none;
-      watched = subst (λ (b : Memory). IsWatched b board taken) lights c.recover-done.ensures.watched;
+      watched = subst (λ (b : BoardMemory). IsWatched b board taken) lights c.recover-done.ensures.watched;
       counted = omega (arith, c.saturating_add-self-inside.ensures, c.steps-steps.ensures);
     } in
     let was : Was setup p (g.S.Suite.keys c.recover-done.new.suite) board (g.S.Suite.pads inside.suite) (g.S.Suite.pads c.recover-done.new.suite) (g.S.Suite.tags c.recover-done.new.suite) (g.S.Suite.digests c.recover-done.new.suite) steps taken served c.recover-done.new.engine c.recover-done.result.answer =
-    subst (λ (b : Memory). WasRecovered setup p.ledger (device_during b none_taken) (device_during board taken)
+    subst (λ (b : BoardMemory). WasRecovered setup p.ledger (device_during b none_taken) (device_during board taken)
     (suite_state p.keys (g.S.Suite.pads inside.suite) p.tags p.digests)
     (suite_state (g.S.Suite.keys c.recover-done.new.suite) (g.S.Suite.pads c.recover-done.new.suite) (g.S.Suite.tags c.recover-done.new.suite) (g.S.Suite.digests c.recover-done.new.suite))
     c.recover-done.new.engine c.recover-done.result.answer) lights c.recover-done.ensures.recovered in
@@ -332,11 +332,11 @@ returns-in-Err-Twin-clause-stepped g c =
     record {
       going = going;
       was_off = none;
-      watched = subst (λ (b : Memory). IsWatched b board taken) lights c.recover-done.ensures.watched;
+      watched = subst (λ (b : BoardMemory). IsWatched b board taken) lights c.recover-done.ensures.watched;
       counted = omega (arith, c.saturating_add-self-inside.ensures, c.steps-steps.ensures);
     } in
     let was : Was setup p (g.S.Suite.keys c.recover-done.new.suite) board (g.S.Suite.pads inside.suite) (g.S.Suite.pads c.recover-done.new.suite) (g.S.Suite.tags c.recover-done.new.suite) (g.S.Suite.digests c.recover-done.new.suite) steps taken served c.recover-done.new.engine c.recover-done.result.answer =
-    subst (λ (b : Memory). WasRecovered setup p.ledger (device_during b none_taken) (device_during board taken)
+    subst (λ (b : BoardMemory). WasRecovered setup p.ledger (device_during b none_taken) (device_during board taken)
     (suite_state p.keys (g.S.Suite.pads inside.suite) p.tags p.digests)
     (suite_state (g.S.Suite.keys c.recover-done.new.suite) (g.S.Suite.pads c.recover-done.new.suite) (g.S.Suite.tags c.recover-done.new.suite) (g.S.Suite.digests c.recover-done.new.suite))
     c.recover-done.new.engine c.recover-done.result.answer) lights c.recover-done.ensures.recovered in
