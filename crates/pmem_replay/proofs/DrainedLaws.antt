@@ -52,14 +52,6 @@ drained-after setup old new port made spent drained = state_drained setup old ne
 
 -- ---- a fence
 
--- with nothing waiting any more, all were drained
-pub all_drained : (setup : Setup) (old new : WorldState) (port n : ℕ) (made : List Mark) (spent : ℕ) → IsDrainedTo setup old new port n made spent
-    → port < length old.state.queues → queue_of new.state.queues port ≡ [] → n ≡ length (queue_of old.state.queues port)
-all_drained setup old new port n made spent drained within none =
-    let rest : drop n (queue_of old.state.queues port) ≡ [] =
-    sym (queue_after old.state port n within) ∙ ap (λ (s : PlainState). queue_of s.queues port) (sym drained.state) ∙ none in
-    omega (arith, drained.few, ap length rest, length-drop n (queue_of old.state.queues port))
-
 pub fenced-good : (setup : Setup) (old new : WorldState) (port n : ℕ) (made : List Mark) (spent : ℕ) → IsDrainedTo setup old new port n made spent
     → n ≡ length (queue_of old.state.queues port)
     → IsGood setup old (Do.Fence port) (record { marks = made; answer = Say.Fenced n spent })

@@ -147,19 +147,6 @@ module _ (formulas_of : List ℕ → Formulas) (mid now new : WorldState) (port 
         within = omega (arith, below);
       }
 
-  -- a call takes few steps
-  pub few_given : (gave : Gave) → HasGiven (setup_of formulas_of now) now port gave new → gave_steps gave ≤ 65536
-  few_given (Put k) it = omega (arith, it.1.counted, it.1.given.follows.few)
-  few_given (Refused place k) it = omega (arith, it.counted, it.given.follows.few)
-  few_given (Spent page k) it = omega (arith, it.counted, it.given.follows.few)
-  few_given (Kept k) it = omega (arith, it.counted, it.given.follows.few)
-  few_given (Lost k) it = omega (arith, it.counted, it.given.follows.few)
-  few_given (Shown exhibit) it = omega arith
-
-  -- and so do those so far
-  pub few_so_far : steps ≤ 65536 * 16
-  few_so_far = omega (arith, draining.fencing.few, draining.fencing.small)
-
   said_since : (marks : List Mark) (said answer : Answer) → HasStepped setup mid (Do.Fence port) (record { marks = marks; answer = said }) new → answer ≡ said
       → HasStepped setup mid (Do.Fence port) (with_marks_since mid new answer) new
   said_since marks said answer step same =

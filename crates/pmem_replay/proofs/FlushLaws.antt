@@ -169,6 +169,3 @@ module _ (setup : Setup) (old new : WorldState) (engine after : EngineState) (ta
                 within_bounds = omega (arith, none);
               };
         }
-
-    pub cut-world : new.state ≡ cut_state old.state (steps_in taken) → new.engine ≡ None → IsWorld setup new
-    cut-world state there = quiet-cut setup old new engine after taken call (flush.done on_now.trusted.not_down) there state

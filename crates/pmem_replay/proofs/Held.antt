@@ -136,3 +136,27 @@ engine_some (Some found) none its is = (found, refl)
 pub from_no_error : {T E P : Type 0} (answer : Result T E) → (IsErr answer → ⊥) → OnOk answer P → P
 from_no_error (Ok value) fine holds = holds
 from_no_error (Err error) fine holds = absurd (fine refl)
+
+-- what a command owes as it returns: the world that it leaves, and its step
+pub record Ends (formulas_of : List ℕ → Formulas) (g : Shape) (now : WorldState) (command : Command) (reply : Reply) (q : WorldParts) : Type 0 where
+  pub holds : q.shown ≡ false → IsWorld (setup_in formulas_of g q) (world_of (setup_in formulas_of g q) q)
+  pub stepped : HasStepped (setup_of formulas_of now) now command reply (world_of (setup_in formulas_of g q) q)
+
+-- the keys stay
+pub ends : (formulas_of : List ℕ → Formulas) (g : Shape) (p q : WorldParts) (now : WorldState) (command : Command) (reply : Reply)
+    → world_of (setup_in formulas_of g p) p ≡ now → q.keys ≡ p.keys
+    → HasStepped (setup_in formulas_of g p) (world_of (setup_in formulas_of g p) p) command reply (world_of (setup_in formulas_of g p) q)
+    → Ends formulas_of g now command reply q
+ends formulas_of g p q now command reply is same step =
+    let its = rekeyed formulas_of g p q command reply same step in
+    record {
+      holds = held_after formulas_of g p (world_of (setup_in formulas_of g q) q) command reply its;
+      stepped = seen_from formulas_of g p now (world_of (setup_in formulas_of g q) q) command reply is its;
+    }
+
+-- the steps as a number of their own
+pub numbered : (setup : Setup) (old new : WorldState) (command : Command) (marks : List Mark) (say : ℕ → Answer) (n m : ℕ) → n ≡ m
+    → HasStepped setup old command (record { marks = marks; answer = say m }) new
+    → HasStepped setup old command (record { marks = marks; answer = say n }) new
+numbered setup old new command marks say n m its step =
+    subst (λ (k : ℕ). HasStepped setup old command (record { marks = marks; answer = say k }) new) (sym its) step

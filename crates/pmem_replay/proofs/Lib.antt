@@ -46,3 +46,4 @@ pub mod TurnSteps
 pub mod FlagLemmas
 pub mod Held
 pub mod Forwarded
+pub mod EngineCalls

@@ -114,9 +114,6 @@ pub record IsOnCall (setup : Setup) (old new : WorldState) (left : Memory) (take
 pub off_in : (setup : Setup) (world : WorldState) → IsWorld setup world → world.engine ≡ None → IsOff setup world
 off_in setup world whole none = subst (λ e. IsPowered setup world e) none whole.chip
 
-rises : (n before : ℕ) (taken : Taken) (count : ℕ) → RisesAtMost n 0 count → count < last_count → count ≤ n
-rises n before taken count rise exact = omega (arith, rise.bound exact)
-
 module _ (setup : Setup) (old new : WorldState) (left : Memory) (taken : Taken) (answer : Result (EngineState × Work) RecFault)
     (call : IsOnCall setup old new left taken answer) where
   pub off : IsOff setup old
@@ -182,10 +179,6 @@ module _ (setup : Setup) (old new : WorldState) (left : Memory) (taken : Taken) 
   -- where nothing is loose afterwards, nothing was named
   tight_named : (old.state.loose || has_flags old.state.named) ≡ false → has_flags old.state.named ≡ false
   tight_named tight = (or_parts old.state.loose (has_flags old.state.named) tight).1
-
-  -- the memory, as nothing was sealed
-  memory_kept : IsMemoryOf setup new.ledger.marks old.state.memory
-  memory_kept = subst (λ (ledger : LedgerState). IsMemoryOf setup ledger.marks old.state.memory) (sym call.ledger) call.world.memory
 
 -- ---- recovered
 

@@ -116,11 +116,6 @@ module _ (setup : Setup) (old new : WorldState) (engine after : EngineState) (ta
               };
         }
 
-    pub read-world : new.state ≡ counted_state old.state (steps_in taken) → new.engine ≡ Some after → IsBanksOf setup.shape after.cache
-        → IsWorld setup new
-    read-world state there whole_cache =
-        quiet-going setup old new engine after taken call (read.done on_now.trusted.not_down) there whole_cache state
-
   -- ---- a refused metadata line
 
   module _ (x : ℕ) (read : HasReadLine setup at (parts_in old engine none_taken) (parts_in new after taken) (Err (Fail.Meta x))) where
@@ -160,11 +155,6 @@ module _ (setup : Setup) (old new : WorldState) (engine after : EngineState) (ta
               };
         }
 
-    pub meta-world : new.state ≡ counted_state old.state (steps_in taken) → new.engine ≡ Some after → IsBanksOf setup.shape after.cache
-        → IsWorld setup new
-    meta-world state there whole_cache =
-        quiet-going setup old new engine after taken call (read.done on_now.trusted.not_down) there whole_cache state
-
   -- ---- a refused data line
 
   module _ (b : ℕ) (read : HasReadLine setup at (parts_in old engine none_taken) (parts_in new after taken) (Err (Fail.Tag b))) where
@@ -201,11 +191,6 @@ module _ (setup : Setup) (old new : WorldState) (engine after : EngineState) (ta
               };
         }
 
-    pub tag-world : new.state ≡ counted_state old.state (steps_in taken) → new.engine ≡ Some after → IsBanksOf setup.shape after.cache
-        → IsWorld setup new
-    tag-world state there whole_cache =
-        quiet-going setup old new engine after taken call (read.done on_now.trusted.not_down) there whole_cache state
-
   -- ---- a cut
 
   module _ (read : HasReadLine setup at (parts_in old engine none_taken) (parts_in new after taken) (Err Fail.Cut)) where
@@ -236,9 +221,6 @@ module _ (setup : Setup) (old new : WorldState) (engine after : EngineState) (ta
                 within_bounds = (lt-ltb (steps_in taken) (path_length setup.shape) bounds.0, lt-ltb (steps_in taken) (dirty_bound setup.shape old.state) bounds.1);
               };
         }
-
-    pub cut-world : new.state ≡ cut_state old.state (steps_in taken) → new.engine ≡ None → IsWorld setup new
-    cut-world state there = quiet-cut setup old new engine after taken call (read.done on_now.trusted.not_down) there state
 
   -- ---- an exhibit
 

@@ -32,6 +32,18 @@ pub same_room : (ledger : LedgerState) → HasRoom ledger ledger 0
 same_room ledger =
     record { enough = omega arith; never_falls = omega arith; marks = refl; truth = refl; data_lines = refl; exhibit = refl }
 
+-- room for no mark
+pub no_room : (before after : LedgerState) (n : ℕ) → HasRoom before after n → HasRoom before after 0
+no_room before after n room =
+    record {
+      enough = omega arith;
+      never_falls = room.never_falls;
+      marks = room.marks;
+      truth = room.truth;
+      data_lines = room.data_lines;
+      exhibit = room.exhibit;
+    }
+
 -- room that was made, and some more
 pub room_before : (first later : LedgerState) (spare n : ℕ) → first.spare ≤ spare → HasRoom (with_spare first spare) later n → HasRoom first later n
 room_before first later spare n more room =

@@ -30,35 +30,6 @@ use Rattle.pmem_replay.proofs.TableSteps.{IsGoingOn, lit_in}
 
 -- ---- what the engine asks
 
-counter_some : (seal : Option SealOf) (ctr : _) → option_map (λ s. s.ctr) seal ≡ Some ctr → IsSome seal
-counter_some None ctr is = absurd (none-some ctr is)
-counter_some (Some seal) ctr is = refl
-
--- a world with power on meets what the engine asks of its parts
-pub ready_in : (setup : Setup) (world : WorldState) (engine : EngineState) → IsWorld setup world → world.engine ≡ Some engine
-    → IsReady setup.shape engine (device_during world.board none_taken)
-ready_in setup world engine whole there =
-    let on = on_in setup world engine whole there in
-    record {
-      its_size = whole.whole_lines.count;
-      valid_regs = on.trusted.anchored.valid_regs;
-      no_group = λ up. on.trusted.no_group;
-    }
-
-pub usable_in : (setup : Setup) (world : WorldState) (engine : EngineState) → IsWorld setup world → world.engine ≡ Some engine
-    → IsUsable setup.shape engine (device_during world.board none_taken) world.ledger
-usable_in setup world engine whole there =
-    let on = on_in setup world engine whole there in
-    record {
-      ready = ready_in setup world engine whole there;
-      true_lines = on.trusted.anchored.of_shape.truth_count;
-      line_count = on.trusted.anchored.of_shape.line_count;
-      each_sealed =
-          λ a within.
-          counter_some (last_seal world.ledger.marks a) (true_counter setup.shape world.board.regs.progress.items world.ledger.truth a)
-          (on.trusted.anchored.last_counters a within);
-    }
-
 -- ---- after a call
 
 -- the parts after a call
@@ -172,11 +143,6 @@ pub state_cut : (setup : Setup) (p : WorldParts) (keys : List ℕ) (board : Memo
 state_cut setup p keys board ledger engine tags digests steps queues before taken served marks dark loss empty =
     state_cut_with setup p keys board ledger engine tags digests steps queues before taken (plain_memory setup p.ledger.marks) served
     (ap (plain_memory setup) marks) dark loss empty
-
--- no room was made
-pub same_room : (ledger : LedgerState) → HasRoom ledger ledger 0
-same_room ledger =
-    record { enough = omega arith; never_falls = omega arith; marks = refl; truth = refl; data_lines = refl; exhibit = refl }
 
 -- a call's steps are in range
 pub few_steps : (old new : Memory) (taken : Taken) → IsWatched old new taken → steps_in taken < 2 ^ 64

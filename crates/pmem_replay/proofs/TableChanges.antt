@@ -254,15 +254,6 @@ module _ (setup : Setup) (p : WorldParts) (going : IsGoingOn setup (world_of set
           (record { board = is; engine = refl; ledger = refl; tags = refl; digests = refl })
           (now.0 ∙ sym (tampered_still false d on_device)) now.1 tt
 
-  -- there is no copy
-  pub back-none : (d : ℕ) → d < layout.device_lines setup.shape → p.board.snapshot ≡ None
-      → HasStepped setup old (Do.Back d) (without_marks Say.NoSnap) old
-  back-none d on_device none =
-      let unsnapped : is_some p.board.snapshot ≡ false = ap is_some none in
-      stepped_unchanged setup old (Do.Back d) Say.NoSnap going
-      (rw (lt-ltb d (layout.device_lines setup.shape) on_device) (rw unsnapped refl)) refl tt refl
-      (record { marks_asked = refl; peek_true = tt; steps_counted = tt; flush_true = tt; within_bounds = tt }) refl refl refl tt
-
   -- ---- looks
 
   pub peek-ok : (d : ℕ) (line : Line) → d < layout.device_lines setup.shape → line ≡ line_at p.board.lines d

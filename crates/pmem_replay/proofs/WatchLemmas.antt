@@ -9,31 +9,6 @@ use Rattle.pmem_base.specs.Counts.{last_count}
 use Rattle.board.specs.Memory.{Memory, IsSpent, burnt_fuse, after_read, after_write, after_latch, after_cut}
 use Rattle.pmem_replay.specs.During.{taken_of, step_limit, FollowsOn}
 
-none_burnt : (fuse : Option ℕ) → fuse ≡ option_map (λ n. n - (0 + 0)) fuse
-none_burnt None = refl
-none_burnt (Some n) = ap (λ (k : ℕ). Some k) (omega arith)
-
-none_lasts : (fuse : Option ℕ) → IfSome fuse (λ n. 0 + 0 ≤ n)
-none_lasts None = tt
-none_lasts (Some n) = omega arith
-
--- no step yet
-pub follows-none : (start board : Memory) (cuts : ℕ) → board ≡ start → board.powered ≡ true → start.writes ≤ last_count → start.latches ≤ last_count
-    → FollowsOn start board (taken_of 0 0 cuts)
-follows-none start board cuts same on writes latches =
-    record {
-      snapshot = ap (λ (m : Memory). m.snapshot) same;
-      writes = omega (arith, ap (λ (m : Memory). m.writes) same, writes);
-      latches = omega (arith, ap (λ (m : Memory). m.latches) same, latches);
-      reads = omega (arith, ap (λ (m : Memory). m.reads) same);
-      few = omega arith;
-      lasting = λ powered. none_lasts start.fuse;
-      burnt = λ powered. ap (λ (m : Memory). m.fuse) same ∙ none_burnt start.fuse;
-      cleared = λ off. absurd (true≢false (sym on ∙ off));
-      uncut = λ powered. ap (λ (m : Memory). m.cuts) same;
-      spent = λ off. absurd (true≢false (sym on ∙ off));
-    }
-
 -- a read
 follows-read : (start board : Memory) (writes latches cuts : ℕ) → board.reads ≤ (after_read board).reads
     → FollowsOn start board (taken_of writes latches cuts) → FollowsOn start (after_read board) (taken_of writes latches cuts)

@@ -152,9 +152,6 @@ module _ (setup : Setup) (old new : WorldState) (engine after : EngineState) (ta
   within : write.at < layout.data_lines setup.shape
   within = front_on_memory setup old.state port write later call.world.queues small waits
 
-  abbrev asked : Option (List Mark)
-  asked = marks_of_write setup.formulas (moment_of old.state (view_in setup old)) write
-
   module _ (answer : Result Ctr Fault) (written : HasWrittenLine setup write (parts_in old engine none_taken) (parts_in new after taken) answer) where
     abbrev touched_now : List Bool
     touched_now = touched_after old.state.touched written.made
