@@ -43,8 +43,8 @@ pub record WorldState : Type 0 where
   pub shown : Bool
 
 -- the geometry, and a suite's formulas under the world's keys
-abbrev pub setup_of : (List ℕ → Formulas) → WorldState → Setup
-setup_of formulas_of world = record { shape = world.shape; formulas = formulas_of world.keys }
+abbrev pub setup_of_world : (List ℕ → Formulas) → WorldState → Setup
+setup_of_world formulas_of world = record { shape = world.shape; formulas = formulas_of world.keys }
 
 -- what the world's marks say
 abbrev pub view_in : Setup → WorldState → DeviceView

@@ -1,12 +1,12 @@
 -- A bit is turned.
 use Rattle.std.proofs.Common.{arith}
-use Rattle.pmem_replay.proofs.TableChanges.{flip-ok}
+use Rattle.pmem_replay.proofs.Table.TableChanges.{flip-ok}
 use Rattle.pmem_base.specs.Geo.{shape_of}
 use Rattle.board.specs.MemBoard.{memory_of}
 use Rattle.seal_ledger.specs.View.{ledger_of}
 use Rattle.pmem_base.specs.declared.commands.Command.TheVariants as Do
 use Rattle.pmem_replay.specs.World.{WorldParts, state_in}
-use Rattle.pmem_replay.proofs.Held.{held, setup_in, going_in, power_is, seen_from, held_after}
+use Rattle.pmem_replay.proofs.Steps.PartsOfWorld.{held, setup_in, going_in, power_is, seen_from, held_after}
 use Rattle.pmem_replay.proofs.world.World.flip.Goals as goal
 
 pub invariant_of-self : goal.invariant_of-self

@@ -6,10 +6,10 @@ use Rattle.board.specs.MemBoard.{memory_of}
 use Rattle.seal_ledger.specs.View.{ledger_of}
 use Rattle.pmem_engine.specs.declared.fault.Fault.{Fault}
 use Rattle.pmem_replay.specs.World.{WorldParts}
-use Rattle.pmem_replay.proofs.EngineCalls.{EngineCall, setup_at}
-use Rattle.pmem_replay.proofs.Held.{held, going_in, shape_in, none_wait}
-use Rattle.pmem_replay.proofs.FlushSteps.{Has, flush-clean, flush-flushed, flush-cut, flush_on_tree}
-use Rattle.pmem_replay.proofs.Reserved.{same_room}
+use Rattle.pmem_replay.proofs.Steps.EngineCalls.{EngineCall, setup_at}
+use Rattle.pmem_replay.proofs.Steps.PartsOfWorld.{held, going_in, shape_in, none_wait}
+use Rattle.pmem_replay.proofs.Commands.FlushSteps.{Has, flush-clean, flush-flushed, flush-cut, flush_on_tree}
+use Rattle.pmem_replay.proofs.Steps.ReservedRoom.{same_room}
 use Rattle.pmem_replay.proofs.world.World.flush.Given.{Over}
 use Rattle.pmem_replay.proofs.world.World.flush.Goals.{After-saturating_add-self-inside}
 use Rattle.pmem_replay.proofs.world.World.flush.Goals as goal
@@ -62,8 +62,11 @@ module _ (g : Over) (c : After-saturating_add-self-inside g) where
 pub flush-requires : goal.flush-requires
 flush-requires g c =
     let place = (goal.at.flush-requires g c).After-saturating_add-self-inside in
-    omega (arith, flush_on_tree (call g place) c.in-Ok-Some.x (found g place (Ok (Some c.in-Ok-Some.x)) (let h = c.in-Ok-Some.is in search rules)),
-    (call g place).served.going.whole.flags.flushed)
+    omega (
+      arith,
+      flush_on_tree (call g place) c.in-Ok-Some.x (found g place (Ok (Some c.in-Ok-Some.x)) (let h = c.in-Ok-Some.is in search rules)),
+      (call g place).served.going.whole.flags.flushed,
+    )
 
 pub invariant_of-self-in-Ok-None : goal.invariant_of-self-in-Ok-None
 invariant_of-self-in-Ok-None g c =

@@ -13,13 +13,13 @@ use Rattle.plain_model.specs.After.{after_marks}
 use Rattle.pmem_engine.specs.Outcomes.{is_sealed_by}
 use Rattle.pmem_engine.specs.Calls.{HasWrittenLine}
 use Rattle.pmem_replay.specs.Flagged.{with_dirtying}
-use Rattle.pmem_replay.specs.World.{WorldParts, WorldState, IsWorld, setup_of, world_of}
+use Rattle.pmem_replay.specs.World.{WorldParts, WorldState, IsWorld, setup_of_world, world_of}
 use Rattle.pmem_replay.specs.During.{none_taken, parts_in}
 use Rattle.pmem_replay.specs.Given.{HasGiven, IsGivenShown}
-use Rattle.pmem_replay.proofs.EngineCalls.{EngineCall, setup_at, old_world, parts_left, its_banks}
-use Rattle.pmem_replay.proofs.Held.{held, setup_in, going_in, shape_in}
-use Rattle.pmem_replay.proofs.GivenSteps.{Has, front_is, moved_as, given_exhibit, given_shown, given_marks, given_longer, given_within, given_as, given_world}
-use Rattle.pmem_replay.proofs.Reserved.{same_room}
+use Rattle.pmem_replay.proofs.Steps.EngineCalls.{EngineCall, setup_at, old_world, parts_left, its_banks}
+use Rattle.pmem_replay.proofs.Steps.PartsOfWorld.{held, setup_in, going_in, shape_in}
+use Rattle.pmem_replay.proofs.Drains.GivenWrites.{Has, front_is, moved_as, given_exhibit, given_shown, given_marks, given_longer, given_within, given_as, given_world}
+use Rattle.pmem_replay.proofs.Steps.ReservedRoom.{same_room}
 use Rattle.pmem_replay.proofs.world.World.give.Given.{Over}
 use Rattle.pmem_replay.proofs.world.World.give.Goals.{After-saturating_add-self-inside}
 use Rattle.pmem_replay.proofs.world.World.give.Goals as goal
@@ -81,9 +81,9 @@ module _ (g : Over) (c : After-saturating_add-self-inside g) where
 moved : (R : Setup → WorldState → WorldState → Type 0) (formulas_of : List ℕ → Formulas) (g : Shape) (p q : WorldParts) (now : WorldState)
     → world_of (setup_in formulas_of g p) p ≡ now → q.keys ≡ p.keys
     → R (setup_in formulas_of g p) (world_of (setup_in formulas_of g p) p) (world_of (setup_in formulas_of g p) q)
-    → R (setup_of formulas_of now) now (world_of (setup_in formulas_of g q) q)
+    → R (setup_of_world formulas_of now) now (world_of (setup_in formulas_of g q) q)
 moved R formulas_of g p q now is same it =
-    subst (λ (w : WorldState). R (setup_of formulas_of w) w (world_of (setup_in formulas_of g q) q)) is
+    subst (λ (w : WorldState). R (setup_of_world formulas_of w) w (world_of (setup_in formulas_of g q) q)) is
     (subst (λ (k : List ℕ). R (setup_in formulas_of g p) (world_of (setup_in formulas_of g p) p) (world_of (record { shape = g; formulas = formulas_of k }) q)) (sym same) it)
 
 pub exhibit_of-requires : goal.exhibit_of-requires
@@ -103,14 +103,22 @@ returns-then-is_shown g c =
 pub note_since-requires-clause-from : goal.note_since-requires-clause-from
 note_since-requires-clause-from g c =
     let place = (goal.at.note_since-requires-clause-from g c).After-saturating_add-self-inside in
-    omega (arith, ap length c.marks-from.ensures, given_longer (call g place) c.args.port c.requires.port c.in-Some-front.write (later g place) (waits g place)
-    c.write_part-done.result.answer (written g place))
+    omega (
+      arith,
+      ap length c.marks-from.ensures,
+      given_longer (call g place) c.args.port c.requires.port c.in-Some-front.write (later g place) (waits g place)
+          c.write_part-done.result.answer (written g place),
+    )
 
 pub is_sealed_since-put-requires : goal.is_sealed_since-put-requires
 is_sealed_since-put-requires g c =
     let place = (goal.at.is_sealed_since-put-requires g c).After-saturating_add-self-inside in
-    omega (arith, ap length c.marks-from.ensures, given_longer (call g place) c.args.port c.requires.port c.in-Some-front.write (later g place) (waits g place)
-    c.write_part-done.result.answer (written g place))
+    omega (
+      arith,
+      ap length c.marks-from.ensures,
+      given_longer (call g place) c.args.port c.requires.port c.in-Some-front.write (later g place) (waits g place)
+          c.write_part-done.result.answer (written g place),
+    )
 
 pub note_since-requires-clause-marks : goal.note_since-requires-clause-marks
 note_since-requires-clause-marks g c =

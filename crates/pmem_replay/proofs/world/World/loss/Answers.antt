@@ -8,10 +8,10 @@ use Rattle.board.specs.MemBoard.{memory_of}
 use Rattle.seal_ledger.specs.View.{ledger_of}
 use Rattle.pmem_engine.specs.declared.fault.Fault.{Fault}
 use Rattle.pmem_replay.specs.World.{WorldParts}
-use Rattle.pmem_replay.proofs.EngineCalls.{EngineCall, setup_at}
-use Rattle.pmem_replay.proofs.Held.{held, going_in, shape_in, none_wait}
-use Rattle.pmem_replay.proofs.LossSteps.{Has, loss-set, loss-cut}
-use Rattle.pmem_replay.proofs.Reserved.{same_room}
+use Rattle.pmem_replay.proofs.Steps.EngineCalls.{EngineCall, setup_at}
+use Rattle.pmem_replay.proofs.Steps.PartsOfWorld.{held, going_in, shape_in, none_wait}
+use Rattle.pmem_replay.proofs.Commands.LossSteps.{Has, loss-set, loss-cut}
+use Rattle.pmem_replay.proofs.Steps.ReservedRoom.{same_room}
 use Rattle.pmem_replay.proofs.world.World.loss.Given.{Over}
 use Rattle.pmem_replay.proofs.world.World.loss.Goals.{After-saturating_add-self-inside}
 use Rattle.pmem_replay.proofs.world.World.loss.Goals as goal

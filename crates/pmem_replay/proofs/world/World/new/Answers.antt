@@ -8,8 +8,8 @@ use Rattle.seal_ledger.specs.View.{ledger_of}
 use Rattle.suite.specs.Setup.{Setup}
 use Rattle.pmem_replay.specs.World.{WorldParts, IsWorld, world_of}
 use Rattle.pmem_replay.specs.Stepped.{IsNewWorld}
-use Rattle.pmem_replay.proofs.NewSteps.{IsJustMade, device_count, length-new, made_world, made_new}
-use Rattle.pmem_replay.proofs.Held.{held, none_wait}
+use Rattle.pmem_replay.proofs.Power.NewWorlds.{IsJustMade, device_count, length-new, made_world, made_new}
+use Rattle.pmem_replay.proofs.Steps.PartsOfWorld.{held, none_wait}
 use Rattle.pmem_replay.proofs.world.World.new.Goals as goal
 
 pub invariant_of-result : goal.invariant_of-result

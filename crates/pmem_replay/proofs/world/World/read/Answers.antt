@@ -14,11 +14,11 @@ use Rattle.pmem_engine.specs.declared.fault.Fault.TheVariants as Fail
 use Rattle.pmem_engine.specs.Calls.{HasReadLine}
 use Rattle.pmem_replay.specs.During.{parts_in, none_taken}
 use Rattle.pmem_replay.specs.World.{WorldParts, state_in, world_of}
-use Rattle.pmem_replay.proofs.EngineCalls.{EngineCall, setup_at, old_world, parts_left}
-use Rattle.pmem_replay.proofs.Held.{held, setup_in, going_in, shape_in, none_wait, seen_from, same_engine}
-use Rattle.pmem_replay.proofs.Forwarded.{same_puts, covered_by, uncovered_by, read-forwarded}
-use Rattle.pmem_replay.proofs.ReadSteps.{Has, read-got, read-meta, read-tag, read-cut, read-shown}
-use Rattle.pmem_replay.proofs.Reserved.{same_room}
+use Rattle.pmem_replay.proofs.Steps.EngineCalls.{EngineCall, setup_at, old_world, parts_left}
+use Rattle.pmem_replay.proofs.Steps.PartsOfWorld.{held, setup_in, going_in, shape_in, none_wait, seen_from, same_engine}
+use Rattle.pmem_replay.proofs.Table.ForwardedReads.{same_puts, covered_by, uncovered_by, read-forwarded}
+use Rattle.pmem_replay.proofs.Commands.ReadSteps.{Has, read-got, read-meta, read-tag, read-cut, read-shown}
+use Rattle.pmem_replay.proofs.Steps.ReservedRoom.{same_room}
 use Rattle.pmem_replay.proofs.world.World.read.Given.{Over}
 use Rattle.pmem_replay.proofs.world.World.read.Goals.{After-saturating_add-self-inside}
 use Rattle.pmem_replay.proofs.world.World.read.Goals as goal

@@ -10,10 +10,10 @@ use Rattle.pmem_engine.specs.declared.fault.Fault.TheVariants as Fail
 use Rattle.pmem_engine.specs.Calls.{HasTurned}
 use Rattle.pmem_replay.specs.During.{parts_in, none_taken}
 use Rattle.pmem_replay.specs.World.{WorldParts, world_of}
-use Rattle.pmem_replay.proofs.EngineCalls.{EngineCall, setup_at, old_world, parts_left}
-use Rattle.pmem_replay.proofs.Held.{held, setup_in, going_in, shape_in, none_wait, since}
-use Rattle.pmem_replay.proofs.Reserved.{reserved, no_room}
-use Rattle.pmem_replay.proofs.TurnSteps.{Has, turn-idle, turn-turned, turn-refused, turn-cut, turn-shown, turn_exhibit, turn_up, turn_unspent, turn_unfetched}
+use Rattle.pmem_replay.proofs.Steps.EngineCalls.{EngineCall, setup_at, old_world, parts_left}
+use Rattle.pmem_replay.proofs.Steps.PartsOfWorld.{held, setup_in, going_in, shape_in, none_wait, since}
+use Rattle.pmem_replay.proofs.Steps.ReservedRoom.{reserved, no_room}
+use Rattle.pmem_replay.proofs.Commands.TurnSteps.{Has, turn-idle, turn-turned, turn-refused, turn-cut, turn-shown, turn_exhibit, turn_up, turn_unspent, turn_unfetched}
 use Rattle.pmem_replay.proofs.world.World.turn.Given.{Over}
 use Rattle.pmem_replay.proofs.world.World.turn.Goals.{After-saturating_add-self-inside}
 use Rattle.pmem_replay.proofs.world.World.turn.Goals as goal
@@ -52,7 +52,7 @@ module _ (g : Over) (c : After-saturating_add-self-inside g) where
         said = c.steps-steps.result;
         served =
             record {
-              going = 
+              going =
                   reserved (setup_in g.S.Suite.formulas_of (shape_of c.self.inside.geo) p) p (ledger_of c.reserve.new.self) 1 c.in_ok-reserve.ensures.ok
                   (going_in g.S.Suite.formulas_of (shape_of c.self.inside.geo) p c.args.self.now c.self.view_is c.requires c.self.invariant);
               was_on = c.in-Some.is;
