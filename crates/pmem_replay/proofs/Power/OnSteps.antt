@@ -1,6 +1,6 @@
 -- Powering on: what the world answers, and what becomes of it.
 use Rattle.std.proofs.Common.{[], ℕ, ◌≡◌, ◌≢◌, ◌<◌, ◌≤◌, ◌-◌, ◌^◌, Bool, true, false, inl, inr, List, Option, Some, None, Ok, Err, refl, sym, ap, subst, ◌∙◌, arith}
-use Rattle.std.specs.Prelude.{Result, option_map, is_some}
+use Rattle.std.specs.Prelude.{Result, option_map}
 use Rattle.std.proofs.lemmas.Bool.{true≢false}
 use Rattle.std.proofs.lemmas.Option.{same_Some}
 use Rattle.std.proofs.lemmas.List.{append-nil}
@@ -21,7 +21,7 @@ use Rattle.commit_regs.specs.Groups.{finishing_latches}
 use Rattle.meta_cache.specs.Banks.{IsBanksOf}
 use Rattle.suite.specs.Setup.{Setup}
 use Rattle.plain_model.specs.State.{PlainState, no_writes}
-use Rattle.plain_model.specs.After.{after_clean, after_loosening, state_after, steps_with, steps_of}
+use Rattle.plain_model.specs.After.{after_clean, after_loosening, state_after, steps_of}
 use Rattle.plain_model.specs.Bounds.{recovery_bound}
 use Rattle.plain_model.specs.Answers.{decided_answer, is_shown}
 use Rattle.pmem_engine.specs.Engine.{EngineState}
@@ -95,18 +95,8 @@ module _ (s : RecoveryCall) where
       → state_in setup (left_with engine s.board)
       ≡ record (counted_state (state_in setup s.parts) (steps_in s.taken)) { power = true }
   lit_state engine lasting loss =
-      let now = state_in setup (left_with engine s.board) in
-      ap (λ (b : Bool). record now { power = b }) lasting
-      ∙ ap (λ (b : Bool). record now { power = true; snapped = b }) (ap is_some s.served.watched.follows.snapshot)
-      ∙ ap (λ (f : Option ℕ). record now { power = true; snapped = is_some s.parts.board.snapshot; fuse = f }) (s.served.watched.follows.burnt lasting)
-      ∙ ap (λ (n : ℕ). record (state_in setup s.parts) { power = true; fuse = option_map (λ n. n - steps_in s.taken) s.parts.board.fuse; loss = s.board.regs.loss; steps = n })
-      s.served.counted
-      ∙ ap (λ (n : ℕ). record (state_in setup s.parts) {
-        power = true;
-        fuse = option_map (λ n. n - steps_in s.taken) s.parts.board.fuse;
-        steps = steps_with s.parts.steps (steps_in s.taken);
-        loss = n;
-      }) loss
+      let fuse : s.board.fuse ≡ option_map (λ n. n - steps_in s.taken) s.parts.board.fuse = s.served.watched.follows.burnt lasting in
+      cc (lasting, fuse, s.served.watched.follows.snapshot, s.served.counted, loss)
 
   -- where it rests again
   rest_state : (engine : Option EngineState) → s.board.powered ≡ true → s.board.regs.loss ≡ s.parts.board.regs.loss
@@ -122,19 +112,8 @@ module _ (s : RecoveryCall) where
       → state_in setup (record (left_with engine s.board) { queues = queues })
       ≡ cut_state (state_in setup s.parts) (steps_in s.taken)
   dark_state engine queues dark loss empty =
-      let now = state_in setup (record (left_with engine s.board) { queues = queues }) in
-      ap (λ (b : Bool). record now { power = b }) dark
-      ∙ ap (λ (b : Bool). record now { power = false; snapped = b }) (ap is_some s.served.watched.follows.snapshot)
-      ∙ ap (λ (f : Option ℕ). record now { power = false; snapped = is_some s.parts.board.snapshot; fuse = f }) (s.served.watched.follows.cleared dark)
-      ∙ ap (λ (q : List (List Posted)). record (state_in setup s.parts) { queues = q; power = false; fuse = None; loss = s.board.regs.loss; steps = s.steps }) empty
-      ∙ ap (λ (n : ℕ). record (state_in setup s.parts) { queues = no_writes; power = false; fuse = None; loss = s.board.regs.loss; steps = n }) s.served.counted
-      ∙ ap (λ (n : ℕ). record (state_in setup s.parts) {
-        queues = no_writes;
-        power = false;
-        fuse = None;
-        steps = steps_with s.parts.steps (steps_in s.taken);
-        loss = n;
-      }) loss
+      let fuse : s.board.fuse ≡ None = s.served.watched.follows.cleared dark in
+      cc (dark, fuse, s.served.watched.follows.snapshot, empty, s.served.counted, loss)
 
   -- a step with recovery in it
   powered : (answer : Result (EngineState × Work) RecFault) → Has answer → (said : Answer) (new : WorldState)

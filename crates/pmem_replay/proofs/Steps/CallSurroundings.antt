@@ -1,6 +1,6 @@
 -- What surrounds a call of the engine in the world's own parts.
-use Rattle.std.proofs.Common.{ℕ, ◌≡◌, ◌<◌, ◌-◌, ◌^◌, Bool, true, false, List, Option, Some, None, sym, ap, subst, ◌∙◌, arith, zero-add}
-use Rattle.std.specs.Prelude.{length, map, unwrap_or, All, is_some, option_map}
+use Rattle.std.proofs.Common.{ℕ, ◌≡◌, ◌<◌, ◌-◌, ◌^◌, true, false, List, Option, Some, None, sym, ap, subst, ◌∙◌, arith, zero-add}
+use Rattle.std.specs.Prelude.{length, map, unwrap_or, All, option_map}
 use Rattle.std.specs.List.{range_with_len}
 use Rattle.std.proofs.lemmas.List.{ext_get_or}
 use Rattle.std.proofs.lemmas.List.FromFn.{length-map-range_with_len, get_or-map-range_with_len}
@@ -80,21 +80,8 @@ pub state_called : (setup : Setup) (p : WorldParts) (keys : List ℕ) (board : M
 state_called setup p keys board ledger engine tags digests steps before taken memory loss served its lit its_loss =
     let power : board.powered ≡ p.board.powered =
     lit ∙ sym (served.going.whole.board.power ∙ lit_in setup (world_of setup p) before served.going.whole served.was_on) in
-    let now = state_in setup (called p keys board ledger engine tags digests steps) in
-    ap (λ (m : List Line). record now { memory = m }) its
-    ∙ ap (λ (b : Bool). record now { memory = memory; power = b }) power
-    ∙ ap (λ (b : Bool). record now { memory = memory; power = p.board.powered; snapped = b })
-    (ap is_some served.watched.follows.snapshot)
-    ∙ ap (λ (f : Option ℕ). record now { memory = memory; power = p.board.powered; snapped = is_some p.board.snapshot; fuse = f })
-    (served.watched.follows.burnt lit)
-    ∙ ap (λ (n : ℕ). record (state_in setup p) { memory = memory; fuse = option_map (λ n. n - steps_in taken) p.board.fuse; loss = board.regs.loss; steps = n })
-    served.counted
-    ∙ ap (λ (n : ℕ). record (state_in setup p) {
-      memory = memory;
-      fuse = option_map (λ n. n - steps_in taken) p.board.fuse;
-      steps = steps_with p.steps (steps_in taken);
-      loss = n;
-    }) its_loss
+    let fuse : board.fuse ≡ option_map (λ n. n - steps_in taken) p.board.fuse = served.watched.follows.burnt lit in
+    cc (its, power, fuse, served.watched.follows.snapshot, served.counted, its_loss)
 
 -- where it makes no mark and the stop-loss number stays
 pub state_going : (setup : Setup) (p : WorldParts) (keys : List ℕ) (board : Memory) (ledger : LedgerState) (engine : Option EngineState)
@@ -112,22 +99,8 @@ pub state_cut_with : (setup : Setup) (p : WorldParts) (keys : List ℕ) (board :
     → state_in setup (record (called p keys board ledger engine tags digests steps) { queues = queues })
     ≡ record (cut_state (state_in setup p) (steps_in taken)) { memory = memory }
 state_cut_with setup p keys board ledger engine tags digests steps queues before taken memory served its dark loss empty =
-    let now = state_in setup (record (called p keys board ledger engine tags digests steps) { queues = queues }) in
-    ap (λ (m : List Line). record now { memory = m }) its
-    ∙ ap (λ (b : Bool). record now { memory = memory; power = b }) dark
-    ∙ ap (λ (b : Bool). record now { memory = memory; power = false; snapped = b }) (ap is_some served.watched.follows.snapshot)
-    ∙ ap (λ (f : Option ℕ). record now { memory = memory; power = false; snapped = is_some p.board.snapshot; fuse = f })
-    (served.watched.follows.cleared dark)
-    ∙ ap (λ (q : List (List Posted)). record (state_in setup p) { memory = memory; queues = q; power = false; fuse = None; loss = board.regs.loss; steps = steps }) empty
-    ∙ ap (λ (n : ℕ). record (state_in setup p) { memory = memory; queues = no_writes; power = false; fuse = None; loss = board.regs.loss; steps = n }) served.counted
-    ∙ ap (λ (n : ℕ). record (state_in setup p) {
-      memory = memory;
-      queues = no_writes;
-      power = false;
-      fuse = None;
-      steps = steps_with p.steps (steps_in taken);
-      loss = n;
-    }) loss
+    let fuse : board.fuse ≡ None = served.watched.follows.cleared dark in
+    cc (its, dark, fuse, served.watched.follows.snapshot, empty, served.counted, loss)
 
 -- where it makes no mark
 pub state_cut : (setup : Setup) (p : WorldParts) (keys : List ℕ) (board : Memory) (ledger : LedgerState) (engine : Option EngineState)

@@ -1,5 +1,5 @@
 -- Commands that the table decides: the world goes on.
-use Rattle.std.proofs.Common.{ℕ, ◌≡◌, ◌<◌, ◌++◌, Bool, true, false, List, [], ◌∷◌, length, Option, Some, None, refl, sym, ap, ap₂, subst, ◌∙◌, arith}
+use Rattle.std.proofs.Common.{rules, ℕ, ◌≡◌, ◌<◌, ◌++◌, Bool, true, false, List, [], ◌∷◌, length, Option, Some, None, refl, sym, ap, ap₂, subst, ◌∙◌, arith}
 use Rattle.std.specs.Prelude.{All, MatchOption, is_some, slice_set}
 use Rattle.std.proofs.lemmas.List.{length-set, length-append}
 use Rattle.std.proofs.lemmas.List.Elements.{All-set, All-push}
@@ -38,17 +38,8 @@ counted_none setup world whole =
 chip_same : (setup : Setup) (old : WorldState) (queues : List (List Posted)) (snapped : Bool) (fuse : Option ℕ) (board : Memory)
     → board.lines ≡ old.board.lines → board.regs ≡ old.board.regs → (engine : Option EngineState) → IsPowered setup old engine
     → IsPowered setup (record old { state = record (old.state) { queues = queues; snapped = snapped; fuse = fuse }; board = record board { lines = old.board.lines; regs = old.board.regs } }) engine
-chip_same setup old queues snapped fuse board lines regs None off =
-    record { unpowered = off.unpowered; anchored = off.anchored; durable = off.durable }
-chip_same setup old queues snapped fuse board lines regs (Some engine) on =
-    record {
-      powered = on.powered;
-      trusted = on.trusted;
-      sound = on.sound;
-      whole_cache = on.whole_cache;
-      metadata = on.metadata;
-      dirty = on.dirty;
-    }
+chip_same setup old queues snapped fuse board lines regs None off = search rules
+chip_same setup old queues snapped fuse board lines regs (Some engine) on = search rules
 
 -- other queues, another fuse or another snapshot
 other_parts : (setup : Setup) (old new : WorldState) (queues : List (List Posted)) (snapped : Bool) (fuse : Option ℕ) (snapshot : Option (List Line))
@@ -71,15 +62,8 @@ other_parts setup old new queues snapped fuse snapshot world same its_queues its
       whole_lines = world.whole_lines;
       memory = world.memory;
       chip = chip_same setup old queues snapped fuse (record (old.board) { fuse = fuse; snapshot = snapshot }) refl refl old.engine world.chip;
-      kept = record { seals = world.kept.seals; spoiled = world.kept.spoiled; counters = world.kept.counters };
-      flags =
-          record {
-            named = world.flags.named;
-            hurt = world.flags.hurt;
-            spoiled = world.flags.spoiled;
-            touched = world.flags.touched;
-            flushed = world.flags.flushed;
-          };
+      kept = search rules;
+      flags = search rules;
       queues = its_queues;
       board =
           record {
@@ -185,15 +169,8 @@ world-off setup old new engine world there same =
       whole_lines = world.whole_lines;
       memory = world.memory;
       chip = record { unpowered = refl; anchored = on.trusted.anchored; durable = λ honest. (on.sound honest).durable };
-      kept = record { seals = world.kept.seals; spoiled = world.kept.spoiled; counters = world.kept.counters };
-      flags =
-          record {
-            named = world.flags.named;
-            hurt = world.flags.hurt;
-            spoiled = world.flags.spoiled;
-            touched = world.flags.touched;
-            flushed = world.flags.flushed;
-          };
+      kept = search rules;
+      flags = search rules;
       queues = HasQueues-none setup.shape (after_power_loss old.state) refl;
       board =
           record {

@@ -19,7 +19,10 @@ invariant_of-self-2 g c =
     (g.S.Suite.digests inside.suite) inside.ports inside.tampered inside.dirtied inside.steps inside.start inside.shown in
     let going = going_in formulas_of geo p c.args.self.now c.self.view_is c.requires c.self.invariant in
     held_after formulas_of geo p _ (Do.Back c.args.at) _
-    (back-ok (setup_in formulas_of geo p) p going c.args.at (memory_of c.back.new.self) c.tamper.new.self (omega (arith, c.if-at-from.false, c.from.ensures, c.size.ensures.value)) (λ none. let h = c.back.ensures.none.1 none in cc) c.back.ensures.lines c.back.new.self.each_line (c.tamper.ensures (state_in (setup_in formulas_of geo p) p) (power_is (setup_in formulas_of geo p) p c.is_some.result going c.is_some.ensures)))
+    (back-ok (setup_in formulas_of geo p) p going c.args.at (memory_of c.back.new.self) c.tamper.new.self
+    (omega (arith, c.if-at-from.false, c.from.ensures, c.size.ensures.value)) (λ none. let h = c.back.ensures.none.1 none in cc) c.back.ensures.lines
+    c.back.new.self.each_line
+    (c.tamper.ensures (state_in (setup_in formulas_of geo p) p) (power_is (setup_in formulas_of geo p) p c.is_some.result going c.is_some.ensures)))
 
 pub returns : goal.returns
 returns g c =
@@ -31,4 +34,7 @@ returns g c =
     (g.S.Suite.digests inside.suite) inside.ports inside.tampered inside.dirtied inside.steps inside.start inside.shown in
     let going = going_in formulas_of geo p c.args.self.now c.self.view_is c.requires c.self.invariant in
     seen_from formulas_of geo p c.args.self.now _ (Do.Back c.args.at) _ c.self.view_is
-    (back-ok (setup_in formulas_of geo p) p going c.args.at (memory_of c.back.new.self) c.tamper.new.self (omega (arith, c.if-at-from.false, c.from.ensures, c.size.ensures.value)) (λ none. let h = c.back.ensures.none.1 none in cc) c.back.ensures.lines c.back.new.self.each_line (c.tamper.ensures (state_in (setup_in formulas_of geo p) p) (power_is (setup_in formulas_of geo p) p c.is_some.result going c.is_some.ensures)))
+    (back-ok (setup_in formulas_of geo p) p going c.args.at (memory_of c.back.new.self) c.tamper.new.self
+    (omega (arith, c.if-at-from.false, c.from.ensures, c.size.ensures.value)) (λ none. let h = c.back.ensures.none.1 none in cc) c.back.ensures.lines
+    c.back.new.self.each_line
+    (c.tamper.ensures (state_in (setup_in formulas_of geo p) p) (power_is (setup_in formulas_of geo p) p c.is_some.result going c.is_some.ensures)))
