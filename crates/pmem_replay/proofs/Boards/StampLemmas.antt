@@ -1,4 +1,5 @@
 -- Flags as stamps of an epoch: read, set, cleared, counted.
+use Rattle.std.proofs.Common.{rules}
 use Rattle.std.proofs.Common.{ℕ, zero, suc, ◌≡◌, ◌≢◌, ◌<◌, ◌≤◌, ◌+◌, ◌-◌, ◌^◌, Bool, true, false, cond, List, [], ◌∷◌, length, replicate, get_or, refl, sym, ap, ap₂, subst, ◌∙◌, arith, inl, inr}
 use Rattle.std.specs.Prelude.{All, count_by, not, ◌||◌, ◌==◌, slice_set}
 use Rattle.std.proofs.lemmas.Bool.{cases_Bool, eq-eqb, ne_eqb, eqb-true}
@@ -97,13 +98,7 @@ count-unset stamps epoch i d within its begun =
 -- flag i set, which wasn't
 pub stamped-set : (stamps : List ℕ) (epoch count i stamp : ℕ) → IsStamped stamps epoch count → i < length stamps
     → stamp ≡ get_or stamps i stamp → stamp ≢ epoch → IsStamped (slice_set stamps i epoch) epoch (count + 1)
-stamped-set stamps epoch count i stamp it within is other =
-    record {
-      few = omega (arith, it.few, length-set stamps i epoch);
-      begun = it.begun;
-      each = All-set (λ stamp. stamp ≤ epoch) stamps i epoch (omega arith) it.each;
-      counted = ap (λ n. n + 1) it.counted ∙ sym (count-set stamps epoch i stamp within (λ same. other (is ∙ same)));
-    }
+stamped-set stamps epoch count i stamp it within is other = search (rules, arith, length-set, count-set)
 
 pub count-fits : (stamps : List ℕ) (epoch count i stamp : ℕ) → IsStamped stamps epoch count → i < length stamps
     → stamp ≡ get_or stamps i stamp → stamp ≢ epoch → count + 1 < 2 ^ 32

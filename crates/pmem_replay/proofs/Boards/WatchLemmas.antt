@@ -1,4 +1,5 @@
 -- Each call of a watched board follows on from the start.
+use Rattle.std.proofs.Common.{rules}
 use Rattle.std.proofs.Common.{◌≡◌, ℕ, ◌+◌, ◌-◌, ◌<◌, ◌≤◌, true, false, Option, Some, None, arith, refl, sym, ◌∙◌, ap, inl, inr, subst}
 use Rattle.std.specs.Prelude.{IfSome, option_map}
 use Rattle.std.proofs.lemmas.Option.{same_Some, none-some}
@@ -11,19 +12,7 @@ use Rattle.pmem_replay.specs.During.{taken_of, step_limit, FollowsOn}
 -- a read
 follows-read : (start board : Memory) (writes latches cuts : ℕ) → board.reads ≤ (after_read board).reads
     → FollowsOn start board (taken_of writes latches cuts) → FollowsOn start (after_read board) (taken_of writes latches cuts)
-follows-read start board writes latches cuts rises f =
-    record {
-      snapshot = f.snapshot;
-      writes = f.writes;
-      latches = f.latches;
-      reads = omega (arith, f.reads, rises);
-      few = f.few;
-      lasting = f.lasting;
-      burnt = f.burnt;
-      cleared = f.cleared;
-      uncut = f.uncut;
-      spent = f.spent;
-    }
+follows-read start board writes latches cuts rises f = search (rules, arith)
 
 -- a step at a fuse that isn't spent leaves one less
 one_less : (fuse start : Option ℕ) (steps : ℕ) → fuse ≡ option_map (λ n. n - steps) start → IfSome start (λ n. steps ≤ n) → (fuse ≡ Some 0 → ⊥)
@@ -49,40 +38,12 @@ lit board lasts =
 -- a line write
 follows-written : (start board : Memory) (at : ℕ) (line : Line) (writes latches cuts : ℕ) → (IsSpent board → ⊥) → writes + latches < step_limit
     → FollowsOn start board (taken_of writes latches cuts) → FollowsOn start (after_write board at line) (taken_of (writes + 1) latches cuts)
-follows-written start board at line writes latches cuts lasts few f =
-    let on = lit board lasts in
-    let next = one_less board.fuse start.fuse (writes + latches) (f.burnt on) (f.lasting on) (λ zero. lasts (inr zero)) (writes + 1 + latches) (omega arith) in
-    record {
-      snapshot = f.snapshot;
-      writes = omega (arith, f.writes);
-      latches = f.latches;
-      reads = f.reads;
-      few = omega (arith, few);
-      lasting = λ powered. next.1;
-      burnt = λ powered. next.0;
-      cleared = λ off. absurd (true≢false (sym on ∙ off));
-      uncut = f.uncut;
-      spent = λ off. absurd (true≢false (sym on ∙ off));
-    }
+follows-written start board at line writes latches cuts lasts few f = search (rules, arith, lit, one_less)
 
 -- a latch
 follows-latched : (start board : Memory) (regs : Regs) (writes latches cuts : ℕ) → (IsSpent board → ⊥) → writes + latches < step_limit
     → FollowsOn start board (taken_of writes latches cuts) → FollowsOn start (after_latch board regs) (taken_of writes (latches + 1) cuts)
-follows-latched start board regs writes latches cuts lasts few f =
-    let on = lit board lasts in
-    let next = one_less board.fuse start.fuse (writes + latches) (f.burnt on) (f.lasting on) (λ zero. lasts (inr zero)) (writes + (latches + 1)) (omega arith) in
-    record {
-      snapshot = f.snapshot;
-      writes = f.writes;
-      latches = omega (arith, f.latches);
-      reads = f.reads;
-      few = omega (arith, few);
-      lasting = λ powered. next.1;
-      burnt = λ powered. next.0;
-      cleared = λ off. absurd (true≢false (sym on ∙ off));
-      uncut = f.uncut;
-      spent = λ off. absurd (true≢false (sym on ∙ off));
-    }
+follows-latched start board regs writes latches cuts lasts few f = search (rules, arith, lit, one_less)
 
 -- where no step is left, the fuse stood at the steps taken
 stood : (start : Option ℕ) (steps : ℕ) → Some 0 ≡ option_map (λ n. n - steps) start → IfSome start (λ n. steps ≤ n) → start ≡ Some steps

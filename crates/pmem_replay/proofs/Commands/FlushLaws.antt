@@ -1,4 +1,5 @@
 -- Flushes: the engine's answer is legal and fits, and the world goes on.
+use Rattle.std.proofs.Common.{rules}
 use Rattle.std.proofs.Common.{ℕ, ◌≡◌, ◌≢◌, inl, inr, Bool, true, false, IsTrue, Some, None, Ok, Err, refl, sym, ap, subst, ◌∙◌, arith}
 use Rattle.std.specs.Prelude.{not, ◌&&◌}
 use Rattle.std.specs.List.{list_any, range_with_len}
@@ -58,15 +59,7 @@ module _ (setup : Setup) (old new : WorldState) (engine after : EngineState) (ta
 
   module _ (flush : HasFlushed setup (parts_in old engine none_taken) (parts_in new after taken) (Ok None)) where
     pub clean-good : IsGood setup old Do.Flush (without_marks Say.Clean)
-    clean-good =
-        record {
-          legal =
-              record {
-                legal = record { listed = refl; within_fuse = zero_within old.state.fuse; writes_whole = refl; caused = tt };
-                shown = tt;
-              };
-          fits = record { marks_asked = refl; peek_true = tt; steps_counted = tt; flush_true = tt; within_bounds = tt };
-        }
+    clean-good = search (rules, zero_within)
 
     pub clean-world : new.state ≡ state_after setup.shape old.state Do.Flush (without_marks Say.Clean) → new.engine ≡ Some after
         → IsBanksOf setup.shape after.cache → IsWorld setup new
@@ -142,30 +135,4 @@ module _ (setup : Setup) (old new : WorldState) (engine after : EngineState) (ta
 
   module _ (flush : HasFlushed setup (parts_in old engine none_taken) (parts_in new after taken) (Err Fail.Cut)) where
     pub cut-good : IsGood setup old Do.Flush (without_marks (Say.Cut (steps_in taken)))
-    cut-good =
-        let answered = flush.answered on_now.trusted.not_down in
-        let done = flush.done on_now.trusted.not_down in
-        let none = exactly old.board new.board taken 0 call.follows.few answered.1 in
-        record {
-          legal =
-              record {
-                legal =
-                    record {
-                      listed = refl;
-                      within_fuse =
-                          cut_at_fuse old.state old.board new.board taken call.world.board call.follows done.gone.power.1
-                          (omega (arith, none));
-                      writes_whole = refl;
-                      caused = tt;
-                    };
-                shown = tt;
-              };
-          fits =
-              record {
-                marks_asked = refl;
-                peek_true = tt;
-                steps_counted = tt;
-                flush_true = tt;
-                within_bounds = omega (arith, none);
-              };
-        }
+    cut-good = search (rules, arith, cut_at_fuse, exactly, within_fuse, on_now)

@@ -1,4 +1,5 @@
 -- Reads: the engine's answer is legal and fits, and the world goes on.
+use Rattle.std.proofs.Common.{rules}
 use Rattle.std.proofs.Common.{ℕ, ◌≡◌, ◌≢◌, ◌<◌, ◌≤◌, inl, inr, true, false, [], IsTrue, Some, None, Ok, Err, refl, sym, ap, subst, ◌∙◌, arith}
 use Rattle.std.specs.Prelude.{Result, IfSome, option_map}
 use Rattle.std.proofs.lemmas.Option.{same_Some}
@@ -227,18 +228,7 @@ module _ (setup : Setup) (old new : WorldState) (engine after : EngineState) (ta
       (exhibit : Exhibit) (its : new.ledger.exhibit ≡ Some exhibit) where
     could_refuse : (place : Place) → IsRefusalCaused setup old.state (Do.Read port at) place
         → CanBeRefused setup old.state (view_in setup old) (Do.Read port at) [] None place
-    could_refuse place caused =
-        record {
-          legal = record { listed = refl; within_fuse = zero_within old.state.fuse; writes_whole = refl; caused = caused };
-          fits =
-              record {
-                marks_asked = refl;
-                peek_true = tt;
-                steps_counted = tt;
-                flush_true = tt;
-                within_bounds = (le-leb 0 (path_length setup.shape) (omega arith), le-leb 0 (dirty_bound setup.shape old.state) (omega arith));
-              };
-        }
+    could_refuse place caused = search (rules, arith, le-leb, within_fuse, zero_within)
 
     clash-shown : (clash : IsClashShown setup (page_of at) (parts_in old engine none_taken) (parts_in new after taken))
         → clash.line ≡ line_at old.board.lines (layout.meta_line setup.shape clash.x)

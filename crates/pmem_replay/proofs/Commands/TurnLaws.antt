@@ -1,4 +1,5 @@
 -- Turns: the engine's answer is legal and fits, and the world goes on.
+use Rattle.std.proofs.Common.{rules}
 use Rattle.std.proofs.Common.{ℕ, ◌≡◌, ◌≢◌, ◌<◌, ◌⊎◌, inl, inr, true, false, List, [], IsTrue, Option, Some, None, Ok, Err, refl, sym, ap, subst, ◌∙◌, arith}
 use Rattle.std.specs.Prelude.{Result, IfSome, IsSome, option_map, All}
 use Rattle.std.proofs.lemmas.Option.{same_Some}
@@ -71,17 +72,7 @@ module _ (setup : Setup) (old new : WorldState) (engine after : EngineState) (ta
 
   module _ (turn : HasTurned setup (parts_in old engine none_taken) (parts_in new after taken) (Ok None)) where
     pub idle-good : IsGood setup old Do.Turn (without_marks Say.Idle)
-    idle-good =
-        let marks = turn.marks on_now.trusted.not_down on_now.trusted old.state.memory call.world.memory.each in
-        record {
-          legal =
-              record {
-                legal = record { listed = refl; within_fuse = zero_within old.state.fuse; writes_whole = refl; caused = tt };
-                shown = tt;
-              };
-          fits =
-              record { marks_asked = (refl, marks.1); peek_true = tt; steps_counted = tt; flush_true = tt; within_bounds = tt };
-        }
+    idle-good = search (rules, zero_within)
 
     pub idle-made : turn.made ≡ []
     idle-made = (turn.marks on_now.trusted.not_down on_now.trusted old.state.memory call.world.memory.each).0

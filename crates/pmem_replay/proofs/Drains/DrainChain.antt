@@ -1,6 +1,7 @@
 -- A fence as a chain of drained writes, and where the next one begins.
+use Rattle.std.proofs.Common.{rules}
 use Rattle.std.proofs.Common.{ℕ, zero, suc, ◌≡◌, ◌≢◌, ◌<◌, ◌≤◌, ◌+◌, ◌-◌, ◌++◌, inl, inr, Bool, true, false, List, [], ◌∷◌, length, take, Option, Some, None, Ok, IsTrue, refl, sym, ap, ap₂, subst, ◌∙◌, arith}
-use Rattle.std.specs.Prelude.{All, IfSome, option_map, option_and_then, slice_get, not, ◌==◌}
+use Rattle.std.specs.Prelude.{All, IfSome, option_map, slice_get, not, ◌==◌}
 use Rattle.std.proofs.lemmas.Option.{same_Some, none-some, slice_get_within}
 use Rattle.std.proofs.lemmas.Bool.{cases_eq, eq-eqb, or_left, or_right}
 use Rattle.std.proofs.lemmas.List.Elements.{All-head}
@@ -77,13 +78,7 @@ drains_fuse state port (suc n) = drains_fuse (after_drain state port) port n ∙
 put_more : (state : PlainState) (spent taken port : ℕ) (t f touched flushed : List Bool) (write : Posted) (later : List Posted)
     → put_state (with_flags (counted_state state spent) t f) port write later taken touched flushed
     ≡ with_flags (counted_state (after_front state port (write ∷ later)) (spent + taken)) touched flushed
-put_more state spent taken port t f touched flushed write later =
-    ap₂ (λ (steps : ℕ) (fuse : Option ℕ). record (after_front state port (write ∷ later)) {
-      steps = steps;
-      fuse = fuse;
-      touched = touched;
-      flushed = flushed;
-    }) (steps_twice state.steps spent taken) (fuse_twice state.fuse spent taken)
+put_more state spent taken port t f touched flushed write later = search (rules, fuse_twice, steps_twice)
 
 pub touched-append : (touched : List Bool) (front back : List Mark) → touched_after touched (front ++ back) ≡ touched_after (touched_after touched front) back
 touched-append touched [] back = refl
@@ -112,19 +107,7 @@ pub record IsDrainedTo (setup : Setup) (old mid : WorldState) (port n : ℕ) (ma
 
 -- none were, when it begins
 pub drained_none : (setup : Setup) (old : WorldState) (port : ℕ) → IsWorld setup old → IsDrainedTo setup old old port 0 [] 0
-drained_none setup old port world =
-    record {
-      world = world;
-      state =
-          ap₂ (λ (steps : ℕ) (fuse : Option ℕ). record (old.state) { steps = steps; fuse = fuse })
-          {x = old.state.steps} {y = steps_with old.state.steps 0} (omega (arith, world.steps.in_range)) (fuse_none old.state.fuse);
-      marks = sym (append-nil old.ledger.marks);
-      asked = refl;
-      can = refl;
-      bound = omega arith;
-      fuse = zero_within old.state.fuse;
-      few = omega arith;
-    }
+drained_none setup old port world = search (rules, arith, append-nil, zero_within, fuse_none)
 
 -- what is known of the write that comes next
 pub record IsNext (setup : Setup) (old mid : WorldState) (port n : ℕ) (made : List Mark) (write : Posted) : Type 0 where
@@ -167,15 +150,7 @@ module _ (setup : Setup) (old mid : WorldState) (port n : ℕ) (made : List Mark
       ap₂ (λ (m : List Line) (v : DeviceView). record { memory = m; view = v }) memory view
 
   pub next-known : IsNext setup old mid port n made write
-  next-known =
-      record {
-        its_place = next-place;
-        moment = next-moment;
-        asked =
-            ap (option_and_then (marks_of_write setup.formulas (moment_after_writes setup.formulas (moment_of old.state (view_in setup old)) (take n queue)))) next-place
-            ∙ ap (λ now. marks_of_write setup.formulas now write) next-moment;
-        front = ap (λ q. slice_get q 0) its_queue;
-      }
+  next-known = search (rules, its_queue, next-moment, next-place)
 
   -- the marks of one more
   pub marks-more : (more : List Mark) → marks_of_write setup.formulas (moment_of mid.state (view_in setup mid)) write ≡ Some more

@@ -1,4 +1,5 @@
 -- A drain: what the world answers, and what becomes of it.
+use Rattle.std.proofs.Common.{rules}
 use Rattle.std.proofs.Common.{ℕ, ◌≡◌, ◌<◌, ◌≤◌, ◌+◌, ◌++◌, ◌^◌, true, false, inl, inr, List, [], ◌∷◌, Some, None, Ok, Err, refl, sym, ap, subst, ◌∙◌, arith}
 use Rattle.std.specs.Prelude.{Result, ◌==◌, ⊤, MatchBool, MatchOption, option_map, length, if◌then◌else◌}
 use Rattle.std.proofs.lemmas.Bool.{true≢false, false_from_ne_true, le-leb, ne_eqb}
@@ -67,29 +68,7 @@ pub given_drained : (setup : Setup) (old new : WorldState) (ledger : LedgerState
     → new.engine ≡ (if is_cut said then None else Some given.after)
     → (is_shown said ≡ false → steps_of said ≡ steps_in given.taken)
     → HasDrained setup given.write old said new
-given_drained setup old new ledger more room port answer given said says kept steps =
-    record {
-      engine = given.engine;
-      was_on = given.was_on;
-      after = given.after;
-      kept = kept;
-      taken = given.taken;
-      steps = steps;
-      ledger = ledger;
-      room =
-          record {
-            enough = omega arith;
-            never_falls = room.never_falls;
-            marks = room.marks;
-            truth = room.truth;
-            data_lines = room.data_lines;
-            exhibit = room.exhibit;
-          };
-      related = (answer, given.written, says);
-      snapshot = given.follows.snapshot;
-      writes = given.follows.writes;
-      latches = given.follows.latches;
-    }
+given_drained setup old new ledger more room port answer given said says kept steps = search rules
 
 module _ (setup : Setup) (old new : WorldState) (ledger : LedgerState) (room : HasRoom old.ledger ledger 66) (port : ℕ) (small : port < 8)
     (goes_on : IsGoingOn setup old) (whole : IsWorld setup (record old { ledger = ledger })) where

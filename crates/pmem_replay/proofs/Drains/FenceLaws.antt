@@ -1,4 +1,5 @@
 -- A fence: writes drained one by one, and the one that ends it.
+use Rattle.std.proofs.Common.{rules}
 use Rattle.std.proofs.Common.{ℕ, suc, ◌≡◌, ◌<◌, ◌≤◌, ◌+◌, ◌*◌, ◌++◌, true, false, inl, inr, List, [], ◌∷◌, Option, Some, None, refl, sym, ap, subst, ◌∙◌, arith}
 use Rattle.std.specs.Prelude.{MatchOption, length, drop, IsSome}
 use Rattle.std.proofs.lemmas.Bool.{true≢false}
@@ -40,21 +41,7 @@ use Rattle.pmem_replay.proofs.Table.UnchangedSteps.{lit_in}
 -- its first write is drained as well before room was made
 drained_before : (setup : Setup) (old new : WorldState) (spare : ℕ) → old.ledger.spare ≤ spare → (write : Posted) (one : Answer)
     → HasDrained setup write (record old { ledger = with_spare old.ledger spare }) one new → HasDrained setup write old one new
-drained_before setup old new spare more write one it =
-    record {
-      engine = it.engine;
-      was_on = it.was_on;
-      after = it.after;
-      kept = it.kept;
-      taken = it.taken;
-      steps = it.steps;
-      ledger = it.ledger;
-      room = room_before old.ledger it.ledger spare 0 more it.room;
-      related = it.related;
-      snapshot = it.snapshot;
-      writes = it.writes;
-      latches = it.latches;
-    }
+drained_before setup old new spare more write one it = search (rules, room_before)
 
 -- and so are all its writes
 fenced_before : (setup : Setup) (old new : WorldState) (spare : ℕ) → old.ledger.spare ≤ spare → (answer : Answer) (queue : List Posted)

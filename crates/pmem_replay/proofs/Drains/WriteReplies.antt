@@ -188,15 +188,7 @@ module _ (setup : Setup) (old mid : WorldState) (command : Command) (d : Option 
   dropped_is : dropped_state mid.state port later taken (touched_after mid.state.touched more) (flushed_after setup.shape mid.state.flushed more)
       ≡ with_flags (counted_state (without_front x_state port (write ∷ later)) (spent + taken))
       (touched_after old.state.touched (made ++ more)) (flushed_after setup.shape old.state.flushed (made ++ more))
-  dropped_is =
-      ap₂ (λ t f. dropped_state mid.state port later taken t f) touched_all flushed_all
-      ∙ ap (λ s. dropped_state s port later taken (touched_after old.state.touched (made ++ more)) (flushed_after setup.shape old.state.flushed (made ++ more))) drained.state
-      ∙ ap₂ (λ (steps : ℕ) (fuse : Option ℕ). record (without_front x_state port (write ∷ later)) {
-        steps = steps;
-        fuse = fuse;
-        touched = touched_after old.state.touched (made ++ more);
-        flushed = flushed_after setup.shape old.state.flushed (made ++ more);
-      }) (steps_twice x_state.steps spent taken) (fuse_twice x_state.fuse spent taken)
+  dropped_is = search (rules, fuse_twice, steps_twice, flushed_all, touched_all)
 
   dropped_after : (answer : Answer) → after_steps (after_writes old.state port answer) answer ≡ counted_state (after_drop x_state port) (spent + taken)
       → dropped_state mid.state port later taken (touched_after mid.state.touched more) (flushed_after setup.shape mid.state.flushed more)

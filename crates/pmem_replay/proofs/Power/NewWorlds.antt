@@ -1,4 +1,5 @@
 -- The first world, as formatting leaves it.
+use Rattle.std.proofs.Common.{rules}
 use Rattle.std.proofs.Common.{ℕ, ◌≡◌, ◌<◌, ◌≤◌, Bool, true, false, inl, List, [], Option, Some, None, refl, sym, ap, subst, ◌∙◌, arith}
 use Rattle.std.specs.Prelude.{length, replicate, All, is_none, is_some, MatchOption, map}
 use Rattle.std.proofs.lemmas.Bool.{true≢false, and_parts}
@@ -228,15 +229,7 @@ module _ (setup : Setup) (p : WorldParts) (old : Device) (made : IsJustMade setu
       }
 
   pub made_new : IsNewWorld setup world
-  made_new =
-      record {
-        its_shape = refl;
-        state = its_state;
-        view = its_view;
-        not_shown = made.shown;
-        holds = made_world;
-        start = made.start;
-      }
+  made_new = search (rules, its_state, its_view, made_world)
 
 -- as many lines as before
 pub device_count : (setup : Setup) (p : WorldParts) (old : Device) → WasFormatted setup p.ledger old (device_of p.board) p.engine

@@ -1,9 +1,10 @@
 -- Powering on: recovery's answer is legal and fits, and the world goes on.
-use Rattle.std.proofs.Common.{ℕ, mul-le-mul_left, mul-le-mul_right, ◌≡◌, ◌<◌, ◌≤◌, ◌+◌, ◌-◌, ◌*◌, inl, inr, true, false, List, [], ◌∷◌, length, Some, None, Ok, Err, refl, sym, ap, subst, ◌∙◌, arith}
+use Rattle.std.proofs.Common.{rules}
+use Rattle.std.proofs.Common.{ℕ, mul-le-mul_left, mul-le-mul_right, ◌≡◌, ◌<◌, ◌≤◌, ◌-◌, ◌*◌, inl, inr, true, false, List, [], ◌∷◌, length, Some, None, Ok, Err, refl, sym, ap, subst, ◌∙◌, arith}
 use Rattle.std.specs.Prelude.{All, Result, IfSome, option_map, is_some, ◌||◌}
 use Rattle.std.specs.Prelude.{◌==◌, ◌&&◌}
 use Rattle.std.specs.List.{list_any}
-use Rattle.std.proofs.lemmas.Bool.{true≢false, or_parts}
+use Rattle.std.proofs.lemmas.Bool.{or_parts}
 use Rattle.pmem_base.specs.declared.lines.Line.{Line}
 use Rattle.pmem_base.specs.declared.registers.Regs.{Regs}
 use Rattle.pmem_base.specs.declared.commands.Command.TheVariants as Do
@@ -13,7 +14,6 @@ use Rattle.pmem_base.specs.Shape.{Shape, IsShape}
 use Rattle.pmem_base.specs.Layout as layout
 use Rattle.pmem_base.specs.Lines.{IsLine, line_at}
 use Rattle.pmem_base.specs.Registers.{without_group}
-use Rattle.bonsai_tree.specs.Positions.{level_of}
 use Rattle.board.specs.Device.{AreLinesOf}
 use Rattle.board.specs.Memory.{Memory}
 use Rattle.commit_regs.specs.Groups.{redone, finishing_latches}
@@ -24,7 +24,7 @@ use Rattle.plain_model.specs.State.{PlainState, is_flagged, has_flags, no_flags,
 use Rattle.plain_model.specs.After.{steps_with}
 use Rattle.plain_model.specs.Bounds.{recovery_bound, path_length}
 use Rattle.pmem_engine.specs.Engine.{EngineState}
-use Rattle.pmem_engine.specs.Invariants.{IsTrusted, IsSound, IsDurable, IsSealStored, stored_meta}
+use Rattle.pmem_engine.specs.Invariants.{IsTrusted, IsSound, IsDurable, IsSealStored}
 use Rattle.pmem_recovery.proofs.EmptyBanks.{set_of-empty_banks}
 use Rattle.pmem_recovery.specs.declared.faults.Work.{Work}
 use Rattle.pmem_recovery.specs.declared.faults.RecFault.{RecFault}
@@ -106,13 +106,7 @@ module _ (setup : Setup) (old new : WorldState) (left : Memory) (taken : Taken) 
       go (entry ∷ rest) = omega arith
 
   few_steps : steps_in taken ≤ recovery_bound setup.shape
-  few_steps =
-      let writes : taken.writes ≤ 0 + (length group + ((setup.shape.levels + 1) * layout.slots setup.shape + layout.shadow_lines setup.shape)) =
-      call.recovered.writes.bound exact.0 in
-      let latches : taken.latches ≤ 0 + finishing_latches group = call.recovered.latches.bound exact.1 in
-      let regroup : 4 + path_length setup.shape * layout.slots setup.shape + layout.shadow_lines setup.shape
-      ≡ 4 + ((setup.shape.levels + 1) * layout.slots setup.shape + layout.shadow_lines setup.shape) = omega arith in
-      omega (arith, writes, latches, one_latch, call.world.board.few_armed, regroup)
+  few_steps = search (rules, arith, exact, one_latch)
 
   fuse_before : old.board.fuse ≡ old.state.fuse
   fuse_before = call.world.board.fuse
@@ -124,17 +118,7 @@ module _ (setup : Setup) (old new : WorldState) (left : Memory) (taken : Taken) 
   left_lines = record { count = call.recovered.size ∙ call.world.whole_lines.count; each = call.each_line }
 
   pub left_steps : (new_state : PlainState) → new_state.steps ≡ steps_with old.state.steps (steps_in taken) → HasSteps new_state left old.start
-  left_steps new_state it =
-      steps-taken old.state new_state (lit old.board) left old.start taken
-      (record {
-        in_range = call.world.steps.in_range;
-        reads = call.world.steps.reads;
-        writes = call.world.steps.writes;
-        latches = call.world.steps.latches;
-        sum = λ exact low. call.world.steps.sum (record { writes = exact.writes; latches = exact.latches }) low;
-      })
-      (record { writes = call.in_count.writes; latches = call.in_count.latches })
-      call.follows it
+  left_steps new_state it = search (rules, steps-taken, exact)
 
   -- the data lines and their seals are as they were
   pub seals_kept : (a : ℕ) → a < layout.data_lines setup.shape → is_flagged old.state.hurt a ≡ false
@@ -224,18 +208,7 @@ module _ (setup : Setup) (old new : WorldState) (left : Memory) (taken : Taken) 
 
   recovered_on : (lines : redone left.regs.group.items left.lines ≡ left.lines) → IsBanksOf setup.shape engine.cache
       → IsOn setup (record new { state = recovered_state setup.shape old.state (steps_in taken); board = left; ledger = old.ledger }) engine
-  recovered_on lines whole_cache =
-      record {
-        powered = refl;
-        trusted = trusted_now;
-        sound = sound_now;
-        whole_cache = whole_cache;
-        metadata =
-            λ tight x within unnamed.
-            inl (ap (λ lines. stored_meta setup.shape lines x) lines
-            ∙ (sound_now (tight_named setup old new left taken (Ok (engine, work)) call tight)).true_unless_dirty x within (clean_now (level_of x) x));
-        dirty = λ bank x dirty. absurd (true≢false (sym dirty ∙ clean_now bank x));
-      }
+  recovered_on lines whole_cache = search (rules, clean_now, sound_now, tight_named, trusted_now)
 
   pub recovered-world : new.state ≡ recovered_state setup.shape old.state (steps_in taken) → new.board ≡ left → new.engine ≡ Some engine
       → IsBanksOf setup.shape engine.cache → IsWorld setup new
@@ -304,23 +277,7 @@ module _ (setup : Setup) (old new : WorldState) (left : Memory) (taken : Taken) 
   cut_dark = call.recovered.power.off
 
   pub cut-good : steps_in taken < recovery_bound setup.shape → IsGood setup old Do.On (without_marks (Say.Cut (steps_in taken)))
-  cut-good few =
-      record {
-        legal =
-            record {
-              legal =
-                  record {
-                    listed = refl;
-                    within_fuse =
-                        sym (fuse_before setup old new left taken (Err Fail.Cut) call)
-                        ∙ call.follows.spent cut_dark (omega (arith, few, small_recovery setup.shape call.world.whole_shape));
-                    writes_whole = refl;
-                    caused = tt;
-                  };
-              shown = tt;
-            };
-        fits = record { marks_asked = refl; peek_true = tt; steps_counted = tt; flush_true = tt; within_bounds = few };
-      }
+  cut-good few = search (rules, arith, cut_dark, fuse_before, small_recovery)
 
   durable_now : has_flags old.state.named ≡ false → IsDurable setup left.lines left.regs old.ledger
   durable_now honest = (mended setup old new left taken (Err Fail.Cut) call).from_durable (off_cut.durable honest)

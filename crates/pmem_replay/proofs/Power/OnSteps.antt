@@ -1,4 +1,5 @@
 -- Powering on: what the world answers, and what becomes of it.
+use Rattle.std.proofs.Common.{rules}
 use Rattle.std.proofs.Common.{[], ℕ, ◌≡◌, ◌≢◌, ◌<◌, ◌≤◌, ◌-◌, ◌^◌, Bool, true, false, inl, inr, List, Option, Some, None, Ok, Err, refl, sym, ap, subst, ◌∙◌, arith}
 use Rattle.std.specs.Prelude.{Result, option_map}
 use Rattle.std.proofs.lemmas.Bool.{true≢false}
@@ -72,20 +73,7 @@ module _ (s : RecoveryCall) where
 
   on_call : (answer : Result (EngineState × Work) RecFault) → Has answer → (new : WorldState) → new.shape ≡ setup.shape → new.start ≡ s.parts.start
       → new.ledger ≡ s.parts.ledger → IsOnCall setup old new s.board s.taken answer
-  on_call answer has new shape start ledger =
-      record {
-        world = s.served.going.whole;
-        was_off = s.served.was_off;
-        suite_old = suite_state s.parts.keys s.pads s.parts.tags s.parts.digests;
-        suite_new = suite_state s.keys s.pads_new s.tags s.digests;
-        recovered = has;
-        follows = s.served.watched.follows;
-        in_count = record { writes = s.served.watched.in_count.writes; latches = s.served.watched.in_count.latches };
-        each_line = s.served.watched.each_line;
-        shape = shape;
-        start = start;
-        ledger = ledger;
-      }
+  on_call answer has new shape start ledger = search rules
 
   few : steps_in s.taken < 2 ^ 64
   few = omega (arith, s.served.watched.follows.few)

@@ -1,4 +1,5 @@
 -- Powering on, refused: the line or the root that recovery names, and a twin.
+use Rattle.std.proofs.Common.{rules}
 use Rattle.std.proofs.Common.{ℕ, zero, suc, ◌≡◌, ◌<◌, ◌≤◌, ◌+◌, ◌-◌, ◌*◌, ◌/◌, ◌^◌, true, false, List, length, Option, Some, None, Err, IsTrue, refl, sym, ap, ap₂, subst, ◌∙◌, arith}
 use Rattle.std.specs.Prelude.{All, option_map, is_some, ◌||◌, ◌==◌, not}
 use Rattle.std.specs.List.{range_with_len}
@@ -180,28 +181,7 @@ module _ (setup : Setup) (old new : WorldState) (left : Memory) (taken : Taken) 
       }))
 
   pub counter-good : IsGood setup old Do.On (without_marks (Say.NoCounter at (steps_in taken)))
-  counter-good =
-      record {
-        legal =
-            record {
-              legal =
-                  record {
-                    listed = refl;
-                    within_fuse = within_lasting setup old new left taken (Err (Fail.NoCounter at)) call counter_lasting;
-                    writes_whole = refl;
-                    caused = counter_caused;
-                  };
-              shown = tt;
-            };
-        fits =
-            record {
-              marks_asked = refl;
-              peek_true = tt;
-              steps_counted = tt;
-              flush_true = tt;
-              within_bounds = refused_few setup old new left taken (Fail.NoCounter at) call call.recovered.regs call.recovered.unchanged;
-            };
-      }
+  counter-good = search (rules, within_lasting, counter_caused, counter_lasting, refused_few)
 
   pub counter-world : new.state ≡ counted_state old.state (steps_in taken) → new.board ≡ record left { powered = false } → new.engine ≡ None
       → IsWorld setup new

@@ -1,4 +1,5 @@
 -- A call of the engine within a command: what surrounds it, and how the command returns.
+use Rattle.std.proofs.Common.{rules}
 use Rattle.std.proofs.Common.{ℕ, ◌≡◌, ◌++◌, false, List, Option, Some, None, refl, ap, subst, ◌∙◌}
 use Rattle.std.specs.Prelude.{if◌then◌else◌}
 use Rattle.pmem_base.specs.declared.answers.Mark.{Mark}
@@ -87,21 +88,7 @@ module _ (s : EngineCall) where
       → (is_shown answer ≡ false → steps_of answer ≡ steps_in s.taken)
       → relation (parts_in old_world s.engine none_taken) (parts_in (world_of setup_at q) s.after s.taken)
       → HasCalled relation first_world (world_of setup_at q) answer
-  was_called relation q answer board kept steps related =
-      record {
-        engine = s.engine;
-        was_on = s.served.was_on;
-        after = s.after;
-        kept = kept;
-        taken = s.taken;
-        steps = steps;
-        ledger = s.parts.ledger;
-        room = s.room;
-        related = related;
-        snapshot = ap (λ (b : Memory). b.snapshot) board ∙ s.served.watched.follows.snapshot;
-        writes = ap (λ (b : Memory). b.writes) board ∙ s.served.watched.follows.writes;
-        latches = ap (λ (b : Memory). b.latches) board ∙ s.served.watched.follows.latches;
-      }
+  was_called relation q answer board kept steps related = search rules
 
   -- the command returns
   pub returned : (command : Command) (marks : List Mark) (say : ℕ → Answer) (q : WorldParts)

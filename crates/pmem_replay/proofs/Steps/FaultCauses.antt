@@ -1,4 +1,5 @@
 -- What a refusal, an exhibit and an answered read rest on: lines that were tampered with, and lines that weren't.
+use Rattle.std.proofs.Common.{rules}
 use Rattle.std.proofs.Common.{ℕ, ◌≡◌, ◌≢◌, ◌<◌, ◌≤◌, ◌++◌, inl, inr, Bool, true, false, List, [], IsTrue, Option, Some, None, refl, sym, ap, subst, subst₂, ◌∙◌, arith}
 use Rattle.std.specs.Prelude.{All, IfSome, option_map, ◌||◌, ◌==◌}
 use Rattle.std.specs.List.{Any}
@@ -95,18 +96,7 @@ module _ (setup : Setup) (old new : WorldState) (engine after : EngineState) (ta
       → new.ledger.marks ≡ old.ledger.marks ++ made → (a : ℕ) → a < layout.data_lines setup.shape
       → is_sealed_by made a ≡ false → IsSealStored setup.shape (lines_in new) new.ledger.marks a
       → IsSealStored setup.shape (lines_in old) old.ledger.marks a
-  stored_before places marks a within unsealed stored =
-      let its_line : line_at (lines_in new) a ≡ line_at (lines_in old) a =
-      same_Some (line_at (lines_in new) a) (line_at (lines_in old) a) (places.data_lines a within unsealed) in
-      let its_slot : tag_slot (line_at (lines_in new) (layout.tag_line setup.shape a)) a ≡ tag_slot (line_at (lines_in old) (layout.tag_line setup.shape a)) a =
-      same_Some (tag_slot (line_at (lines_in new) (layout.tag_line setup.shape a)) a) (tag_slot (line_at (lines_in old) (layout.tag_line setup.shape a)) a)
-      (places.tag_slots a within unsealed) in
-      let its_seal : last_seal new.ledger.marks a ≡ last_seal old.ledger.marks a =
-      ap (λ marks. last_seal marks a) marks ∙ last_seal-unsealed old.ledger.marks made a unsealed in
-      record {
-        cipher = ap (option_map (λ seal. seal.cipher)) (sym its_seal) ∙ stored.cipher ∙ ap (λ line. Some line) its_line;
-        tag = ap (option_map (λ seal. seal.tag)) (sym its_seal) ∙ stored.tag ∙ ap (λ (tag : List ℕ). Some tag) its_slot;
-      }
+  stored_before places marks a within unsealed stored = search (rules, last_seal-unsealed, same_Some)
 
 -- what is stored of a line is what was read of it
 pub record IsReadOf (setup : Setup) (world : WorldState) (a : ℕ) (cipher : Line) (tag : List ℕ) : Type 0 where
@@ -216,17 +206,7 @@ pub forged_unstored : (setup : Setup) (world : WorldState) (engine : EngineState
     → world.board.regs.group.items ≡ []
     → IsForgedShown setup a (parts_in world engine taken)
     → IsSealStored setup.shape (lines_in world) world.ledger.marks a → ⊥
-forged_unstored setup world engine taken a none forged stored =
-    let lines = sym (lines_unarmed world none) in
-    cipher_stored setup world a forged.cipher forged.tag
-    (record {
-      its_line = forged.unsealed.cipher_read ∙ ap (λ lines. line_at lines a) lines;
-      its_slot =
-          ap (λ lines. tag_slot (line_at lines (layout.tag_line setup.shape a)) a) (sym lines)
-          ∙ ap (λ line. tag_slot line a) (sym forged.unsealed.tag_read)
-          ∙ forged.unsealed.its_slot;
-    })
-    stored forged.other_cipher
+forged_unstored setup world engine taken a none forged stored = search (rules, cipher_stored, lines_unarmed)
 
 -- and isn't that of memory's line under the last counter
 pub forged_other : (setup : Setup) (regs : Regs) (ledger : LedgerState) (memory : List Line) (a : ℕ) (ctr : Ctr) (cipher : Line)

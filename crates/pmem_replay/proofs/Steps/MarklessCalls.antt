@@ -1,4 +1,5 @@
 -- Calls that make no mark: the state stays but for its counts, or power is cut.
+use Rattle.std.proofs.Common.{rules}
 use Rattle.std.proofs.Common.{ℕ, ◌≡◌, ◌<◌, ◌≤◌, ◌+◌, ◌-◌, refl, inl, inr, Bool, true, false, List, [], length, IsTrue, Some, None, sym, ap, subst, ◌∙◌, arith}
 use Rattle.std.specs.Prelude.{MatchOption, option_map, All}
 use Rattle.std.proofs.lemmas.Bool.{true≢false}
@@ -75,14 +76,7 @@ cut_state state taken =
 -- the flags stay
 pub same_flags : (g : Shape) (old new : PlainState) → HasFlags g old → new.named ≡ old.named → new.hurt ≡ old.hurt → new.spoiled ≡ old.spoiled
     → new.touched ≡ old.touched → new.flushed ≡ old.flushed → HasFlags g new
-same_flags g old new flags named hurt spoiled touched flushed =
-    record {
-      named = ap length named ∙ flags.named;
-      hurt = ap length hurt ∙ flags.hurt;
-      spoiled = ap length spoiled ∙ flags.spoiled;
-      touched = ap length touched ∙ flags.touched;
-      flushed = ap length flushed ∙ flags.flushed;
-    }
+same_flags g old new flags named hurt spoiled touched flushed = search rules
 
 IsQueue-nil : IsQueue []
 IsQueue-nil = record { room = omega arith; posted = λ k d within. absurd (omega (arith, within)) }

@@ -35,27 +35,11 @@ same_room ledger =
 
 -- room for no mark
 pub no_room : (before after : LedgerState) (n : ℕ) → HasRoom before after n → HasRoom before after 0
-no_room before after n room =
-    record {
-      enough = omega arith;
-      never_falls = room.never_falls;
-      marks = room.marks;
-      truth = room.truth;
-      data_lines = room.data_lines;
-      exhibit = room.exhibit;
-    }
+no_room before after n room = search (rules, arith)
 
 -- room that was made, and some more
 pub room_before : (first later : LedgerState) (spare n : ℕ) → first.spare ≤ spare → HasRoom (with_spare first spare) later n → HasRoom first later n
-room_before first later spare n more room =
-    record {
-      enough = room.enough;
-      never_falls = omega (arith, more, room.never_falls);
-      marks = room.marks;
-      truth = room.truth;
-      data_lines = room.data_lines;
-      exhibit = room.exhibit;
-    }
+room_before first later spare n more room = search (rules, arith)
 
 anchored_spare : (setup : Setup) (regs : Regs) (ledger : LedgerState) (n : ℕ) → IsAnchored setup regs ledger → IsAnchored setup regs (with_spare ledger n)
 anchored_spare setup regs ledger n a = search rules

@@ -1,6 +1,7 @@
 -- What a world still holds after a call of the engine that goes on, or that is cut.
+use Rattle.std.proofs.Common.{rules}
 use Rattle.std.proofs.Common.{ℕ, ◌≡◌, ◌≢◌, ◌<◌, ◌≤◌, ◌+◌, ◌-◌, ◌++◌, ◌⊎◌, inl, inr, true, false, List, [], length, IsTrue, Some, None, refl, sym, ap, subst, subst₂, ◌∙◌, arith}
-use Rattle.std.specs.Prelude.{IfSome, option_map, is_some, All}
+use Rattle.std.specs.Prelude.{IfSome, option_map, All}
 use Rattle.std.proofs.lemmas.Option.{same_Some}
 use Rattle.std.proofs.lemmas.Bool.{true≢false}
 use Rattle.pmem_base.specs.declared.answers.Mark.{Mark}
@@ -153,22 +154,7 @@ counted-rises start before more after it low high = omega (arith, it, low, high)
 pub steps-taken : (old_state new_state : PlainState) (old new : Memory) (start : Stat) (taken : Taken)
     → HasSteps old_state old start → AreInCount old → FollowsOn old new taken
     → new_state.steps ≡ steps_with old_state.steps (steps_in taken) → HasSteps new_state new start
-steps-taken old_state new_state old new start taken steps in_count follows after =
-    record {
-      in_range = omega (arith, after);
-      reads = omega (arith, steps.reads, follows.reads);
-      writes = counted-rises start.writes old.writes taken.writes new.writes follows.writes steps.writes in_count.writes;
-      latches = counted-rises start.latches old.latches taken.latches new.latches follows.latches steps.latches in_count.latches;
-      sum =
-          λ exact low.
-          let writes = counted-exact old.writes taken.writes new.writes follows.writes exact.writes in
-          let latches = counted-exact old.latches taken.latches new.latches follows.latches exact.latches in
-          let was : start.writes + start.latches + old_state.steps ≡ old.writes + old.latches =
-          steps.sum (record { writes = omega (arith, writes, exact.writes); latches = omega (arith, latches, exact.latches) })
-          (omega (arith, after, low)) in
-          let now : new_state.steps ≡ old_state.steps + (taken.writes + taken.latches) = omega (arith, after, low) in
-          omega (arith, was, now, writes, latches);
-    }
+steps-taken old_state new_state old new start taken steps in_count follows after = search (rules, arith, counted-exact, counted-rises)
 
 -- the board after a call that goes on
 pub board-going : (old_state new_state : PlainState) (old new : Memory) (taken : Taken)
@@ -177,14 +163,7 @@ pub board-going : (old_state new_state : PlainState) (old new : Memory) (taken :
     → new_state.fuse ≡ option_map (λ n. n - steps_in taken) old_state.fuse
     → new.regs.loss ≡ new_state.loss → length new.regs.group.items ≤ 3
     → HasBoard new_state new
-board-going old_state new_state old new taken board follows powered power snapped fuse loss few =
-    record {
-      power = powered ∙ sym power;
-      fuse = follows.burnt powered ∙ ap (option_map (λ n. n - steps_in taken)) board.fuse ∙ sym fuse;
-      snapped = ap is_some follows.snapshot ∙ board.snapped ∙ sym snapped;
-      loss = loss;
-      few_armed = few;
-    }
+board-going old_state new_state old new taken board follows powered power snapped fuse loss few = search rules
 
 -- the board after a cut
 pub board-cut : (old_state new_state : PlainState) (old new : Memory) (taken : Taken)
@@ -193,14 +172,7 @@ pub board-cut : (old_state new_state : PlainState) (old new : Memory) (taken : T
     → new_state.fuse ≡ None
     → new.regs.loss ≡ new_state.loss → length new.regs.group.items ≤ 3
     → HasBoard new_state new
-board-cut old_state new_state old new taken board follows powered power snapped fuse loss few =
-    record {
-      power = powered ∙ sym power;
-      fuse = follows.cleared powered ∙ sym fuse;
-      snapped = ap is_some follows.snapshot ∙ board.snapped ∙ sym snapped;
-      loss = loss;
-      few_armed = few;
-    }
+board-cut old_state new_state old new taken board follows powered power snapped fuse loss few = search rules
 
 -- a cut below the limit comes where the fuse stood at the steps taken
 pub cut_at_fuse : (state : PlainState) (old new : Memory) (taken : Taken) → HasBoard state old → FollowsOn old new taken

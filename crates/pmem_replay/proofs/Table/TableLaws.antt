@@ -134,17 +134,7 @@ world-armed setup old new n world same =
 pub world-snapped : (setup : Setup) (old new : WorldState) → IsWorld setup old
     → IsSameWorld (record old { state = record (old.state) { snapped = true }; board = record (old.board) { snapshot = Some old.board.lines } }) new
     → IsWorld setup new
-world-snapped setup old new world same =
-    other_parts setup old new old.state.queues true old.state.fuse (Some old.board.lines) world
-    (record {
-      shape = same.shape;
-      start = same.start;
-      board = same.board ∙ ap (λ fuse. record (old.board) { snapshot = Some old.board.lines; fuse = fuse }) world.board.fuse;
-      ledger = same.ledger;
-      engine = same.engine;
-      state = same.state;
-    })
-    (record { ports = world.queues.ports; on_memory = world.queues.on_memory }) refl
+world-snapped setup old new world same = search (rules, other_parts)
 
 -- ---- power off
 

@@ -1,4 +1,5 @@
 -- Tampering: whatever becomes of one device line, the world holds what it holds.
+use Rattle.std.proofs.Common.{rules}
 use Rattle.std.proofs.Common.{ℕ, ◌≡◌, ◌≢◌, ◌<◌, ◌≤◌, ◌+◌, ◌-◌, ◌*◌, ◌/◌, ◌%◌, ◌^◌, ◌⊎◌, inl, inr, Bool, true, false, List, [], ◌∷◌, length, Option, Some, None, IsTrue, refl, sym, ap, subst, subst₂, ◌∙◌, arith}
 use Rattle.std.specs.Prelude.{All, IfSome, option_map, not, ◌&&◌, slice_set, bit_xor, slice_index}
 use Rattle.std.specs.Int.{bit_at}
@@ -125,22 +126,7 @@ flag_other flags q p within unset same =
 
 four_other : (flags : List Bool) (a p : ℕ) → a + 3 < length flags → is_flagged (with_four_flags flags a) p ≡ false
     → (is_flagged flags p ≡ false) × (p ≢ a) × (p ≢ a + 1) × (p ≢ a + 2) × (p ≢ a + 3)
-four_other flags a p within unset =
-    let one = with_flag flags a in
-    let two = with_flag one (a + 1) in
-    let three = with_flag two (a + 2) in
-    let second = flag_unset three (a + 3) p unset in
-    let third = flag_unset two (a + 2) p second in
-    let fourth = flag_unset one (a + 1) p third in
-    let count1 = length-set flags a true in
-    let count2 = length-set one (a + 1) true in
-    let count3 = length-set two (a + 2) true in (
-      flag_unset flags a p fourth,
-      flag_other flags a p (omega (arith, within)) fourth,
-      flag_other one (a + 1) p (omega (arith, within, count1)) third,
-      flag_other two (a + 2) p (omega (arith, within, count1, count2)) second,
-      flag_other three (a + 3) p (omega (arith, within, count1, count2, count3)) unset,
-    )
+four_other flags a p within unset = search (rules, arith, length-set, flag_other, flag_unset)
 
 length-four : (flags : List Bool) (a : ℕ) → length (with_four_flags flags a) ≡ length flags
 length-four flags a =

@@ -1,5 +1,6 @@
 -- Commands that the table answers and that change nothing.
-use Rattle.std.proofs.Common.{◌≡◌, true, false, Some, None, IsTrue, refl, sym, subst, ◌∙◌}
+use Rattle.std.proofs.Common.{rules}
+use Rattle.std.proofs.Common.{◌≡◌, true, false, Some, None, IsTrue, subst}
 use Rattle.pmem_base.specs.declared.commands.Command.{Command}
 use Rattle.pmem_base.specs.declared.answers.Answer.{Answer}
 use Rattle.pmem_base.specs.Ranges.{IsAnswer}
@@ -38,10 +39,4 @@ pub stepped_unchanged : (setup : Setup) (world : WorldState) (command : Command)
     → engine_after world.engine command answer ≡ world.engine
     → IsSeenOnDevice setup world command answer world
     → HasStepped setup world command (without_marks answer) world
-stepped_unchanged setup world command answer going decided listed in_range none fits state board engine seen =
-    stepped_by_table setup world world command answer decided listed in_range fits
-    (record { shape = refl; keys = refl; start = refl })
-    (going.unshown ∙ sym none)
-    (record { board = sym board; engine = sym engine; ledger = refl; tags = refl; digests = refl })
-    (sym (state ∙ counted_none setup world going.whole))
-    going.whole seen
+stepped_unchanged setup world command answer going decided listed in_range none fits state board engine seen = search (rules, counted_none, stepped_by_table)
