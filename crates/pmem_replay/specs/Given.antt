@@ -7,10 +7,9 @@ use Rattle.pmem_base.specs.declared.answers.Place.{Place}
 use Rattle.pmem_base.specs.declared.answers.Answer.{Answer}
 use Rattle.pmem_base.specs.declared.answers.Answer.TheVariants as Say
 use Rattle.pmem_base.specs.Lines.{IsLine}
-use Rattle.pmem_base.specs.WaitingWrites.{queue_of, no_writes}
 use Rattle.seal_ledger.specs.Notes.{HasRoom}
 use Rattle.suite.specs.Setup.{Setup}
-use Rattle.plain_model.specs.State.{PlainState, memory_with, without_flag}
+use Rattle.plain_model.specs.State.{PlainState, queue_of, memory_with, no_writes, without_flag}
 use Rattle.plain_model.specs.After.{after_marks, steps_with}
 use Rattle.pmem_engine.specs.declared.fault.Fault.{Fault}
 use Rattle.pmem_engine.specs.declared.fault.Fault.TheVariants as Fail
@@ -131,13 +130,13 @@ IsGave (Err Fail.Cut) false steps gave = gave ≡ Lost steps
 IsGave (Err fault) put steps gave = ⊥
 
 -- what a drain answers
-abbrev pub IsDrained : Gave → Answer → Type 0
-IsDrained (Put steps) answer = answer ≡ Say.Drained steps
-IsDrained (Refused place steps) answer = answer ≡ Say.Refused None place steps
-IsDrained (Spent page steps) answer = answer ≡ Say.Spent None page steps
-IsDrained (Kept steps) answer = answer ≡ Say.CutKept None steps
-IsDrained (Lost steps) answer = answer ≡ Say.CutLost None steps
-IsDrained (Shown exhibit) answer = answer ≡ Say.Shown exhibit
+abbrev pub IsDrainReply : Gave → Answer → Type 0
+IsDrainReply (Put steps) answer = answer ≡ Say.Drained steps
+IsDrainReply (Refused place steps) answer = answer ≡ Say.Refused None place steps
+IsDrainReply (Spent page steps) answer = answer ≡ Say.Spent None page steps
+IsDrainReply (Kept steps) answer = answer ≡ Say.CutKept None steps
+IsDrainReply (Lost steps) answer = answer ≡ Say.CutLost None steps
+IsDrainReply (Shown exhibit) answer = answer ≡ Say.Shown exhibit
 
 -- what a fence answers that ends with this write, after n drained ones that took `spent` steps
 abbrev pub IsEnded : Gave → ℕ → ℕ → Answer → Type 0
@@ -161,7 +160,7 @@ gave_steps (Lost steps) = steps
 gave_steps (Shown exhibit) = 0
 
 -- room was made for more marks, and nothing else was done
-pub record HasRoomMade (setup : Setup) (old : WorldState) (more : ℕ) (new : WorldState) : Type 0 where
+pub record HasMarkRoom (setup : Setup) (old : WorldState) (more : ℕ) (new : WorldState) : Type 0 where
   pub same : new ≡ record old { ledger = new.ledger }
   pub room : HasRoom old.ledger new.ledger more
   pub holds : IsWorld setup new

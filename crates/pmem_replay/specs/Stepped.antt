@@ -15,12 +15,11 @@ use Rattle.pmem_base.specs.Layout as layout
 use Rattle.pmem_base.specs.Lines.{line_at, tag_slot}
 use Rattle.pmem_base.specs.Marks.{last_seal}
 use Rattle.pmem_base.specs.Ranges.{IsAnswer}
-use Rattle.pmem_base.specs.WaitingWrites.{queue_of}
-use Rattle.board.specs.Memory.{BoardMemory, with_line_at, with_lines, flipped_line, restored_lines}
+use Rattle.board.specs.Memory.{Memory, with_line_at, with_lines, flipped_line, restored_lines}
 use Rattle.seal_ledger.specs.Ledger.{LedgerState}
 use Rattle.seal_ledger.specs.Notes.{HasRoom}
 use Rattle.suite.specs.Setup.{Setup}
-use Rattle.plain_model.specs.State.{Reply, start_state}
+use Rattle.plain_model.specs.State.{Reply, queue_of, start_state}
 use Rattle.plain_model.specs.View.{start_view}
 use Rattle.plain_model.specs.After.{state_after, steps_of, is_cut}
 use Rattle.plain_model.specs.Answers.{decided_answer, is_answer_to, is_shown}
@@ -48,7 +47,7 @@ use Rattle.pmem_replay.specs.During.{none_taken, steps_in, device_during, counte
 -- ---- what the table's answers do to the board and to the engine
 
 -- the board after a command that the table answers
-abbrev pub board_after : BoardMemory → Command → Answer → BoardMemory
+abbrev pub board_after : Memory → Command → Answer → Memory
 board_after board (Do.Cut n) Say.Ok = record board { fuse = Some n }
 board_after board Do.Off Say.Ok = record board { powered = false; fuse = None }
 board_after board (Do.Poke d line) Say.Ok = with_line_at board d line
@@ -183,7 +182,7 @@ engine_given (Err fault) = None
 
 -- recovery, over the board with power on; where it is refused, power goes off again
 pub record HasPoweredOn (setup : Setup) (old new : WorldState) (answer : Answer) : Type 0 where
-  pub left : BoardMemory
+  pub left : Memory
   pub taken : Taken
   pub steps : is_shown answer ≡ false → steps_of answer ≡ steps_in taken
   pub outcome : Result (EngineState × Work) RecFault
@@ -233,24 +232,24 @@ IsStatAnswer world (Say.Counts counts) = IsStatOf world counts
 IsStatAnswer world answer = ⊥
 
 -- where the table decides nothing: what the engine, recovery or a look does
-abbrev pub HasWorked : Setup → WorldState → Command → Answer → WorldState → Type 0
-HasWorked setup old (Do.Read port at) answer new =
+abbrev pub IsCommandDone : Setup → WorldState → Command → Answer → WorldState → Type 0
+IsCommandDone setup old (Do.Read port at) answer new =
     HasCalled (λ p q. (r : Result Line Fault) × HasReadLine setup at p q r × IsReadAnswer new r answer) old new answer
-HasWorked setup old (Do.Drain port) answer new =
+IsCommandDone setup old (Do.Drain port) answer new =
     MatchOption (front_of old.state port) ⊥
     (λ write. HasDrained setup write old answer new)
-HasWorked setup old (Do.Fence port) answer new = HasFenced setup (queue_of old.state.queues port) 0 0 old answer new
-HasWorked setup old Do.Turn answer new =
+IsCommandDone setup old (Do.Fence port) answer new = HasFenced setup (queue_of old.state.queues port) 0 0 old answer new
+IsCommandDone setup old Do.Turn answer new =
     HasCalled (λ p q. (r : Result (Option (ℕ × ℕ)) Fault) × HasTurned setup p q r × IsTurnAnswer new r answer) old new answer
-HasWorked setup old Do.Flush answer new =
+IsCommandDone setup old Do.Flush answer new =
     HasCalled (λ p q. (r : Result (Option ℕ) Fault) × HasFlushed setup p q r × IsFlushAnswer new r answer) old new answer
-HasWorked setup old (Do.Loss n) answer new =
+IsCommandDone setup old (Do.Loss n) answer new =
     HasCalled (λ p q. (r : Result ℕ Fault) × HasSetLoss setup n p q r × IsLossAnswer new r answer) old new answer
-HasWorked setup old Do.On answer new = HasPoweredOn setup old new answer
-HasWorked setup old (Do.Peek d) answer new =
+IsCommandDone setup old Do.On answer new = HasPoweredOn setup old new answer
+IsCommandDone setup old (Do.Peek d) answer new =
     IsByTable old (Do.Peek d) answer new × (answer ≡ Say.Raw (line_at old.board.lines d))
-HasWorked setup old Do.Stat answer new = IsByTable old Do.Stat answer new × IsStatAnswer old answer
-HasWorked setup old command answer new = ⊥
+IsCommandDone setup old Do.Stat answer new = IsByTable old Do.Stat answer new × IsStatAnswer old answer
+IsCommandDone setup old command answer new = ⊥
 
 -- ---- what an answer shows of the device as it stands afterwards
 
@@ -281,18 +280,18 @@ IsExhibitSeen setup new (Show.Twin at major low high cipher tag) =
     × ((more : List ℕ) × (tried_minors setup (lines_in new) new.board.regs at ≡ low ∷ high ∷ more))
 
 -- a read that is answered and not forwarded found the line's last seal
-abbrev pub IsSeen : Setup → WorldState → Command → Answer → WorldState → Type 0
-IsSeen setup old (Do.Read port at) (Say.Got line steps) new =
+abbrev pub IsSeenOnDevice : Setup → WorldState → Command → Answer → WorldState → Type 0
+IsSeenOnDevice setup old (Do.Read port at) (Say.Got line steps) new =
     decided_answer setup.shape old.state (Do.Read port at) ≡ None
     → IsSealStored setup.shape new.board.lines new.ledger.marks at
-IsSeen setup old command (Say.Refused drained place steps) new = IsPlaceWrong setup new place
-IsSeen setup old command (Say.NoCounter at steps) new =
+IsSeenOnDevice setup old command (Say.Refused drained place steps) new = IsPlaceWrong setup new place
+IsSeenOnDevice setup old command (Say.NoCounter at steps) new =
     (first_undecided setup (lines_in new) new.board.regs ≡ Some at)
     × (tried_minors setup (lines_in new) new.board.regs at ≡ [])
-IsSeen setup old command (Say.WrongRoot kept found steps) new =
+IsSeenOnDevice setup old command (Say.WrongRoot kept found steps) new =
     found ≡ found_root setup (lines_in new) new.board.regs
-IsSeen setup old command (Say.Shown exhibit) new = IsExhibitSeen setup new exhibit
-IsSeen setup old command answer new = ⊤
+IsSeenOnDevice setup old command (Say.Shown exhibit) new = IsExhibitSeen setup new exhibit
+IsSeenOnDevice setup old command answer new = ⊤
 
 -- ---- a step
 
@@ -317,9 +316,9 @@ pub record HasStepped (setup : Setup) (old : WorldState) (command : Command) (re
   pub holds : is_shown reply.answer ≡ false → IsWorld setup new
   pub parts :
       MatchOption (decided_answer setup.shape old.state command)
-      (HasWorked setup old command reply.answer new)
+      (IsCommandDone setup old command reply.answer new)
       (λ answer. IsByTable old command answer new)
-  pub seen : IsSeen setup old command reply.answer new
+  pub seen : IsSeenOnDevice setup old command reply.answer new
 
 -- ---- the first world
 

@@ -2,7 +2,7 @@
 ghost use Rattle.std.specs.Prelude.{◌≡◌, false, length, IfOk, OnErr, IsTrue};
 ghost use Rattle.pmem_base.specs.Ranges.{IsCommand};
 ghost use Rattle.plain_model.specs.Run.{takes_memory};
-ghost use Rattle.pmem_replay.specs.World.{setup_of};
+ghost use Rattle.pmem_replay.specs.World.{setup_of_world};
 ghost use Rattle.pmem_replay.specs.Replies.{with_marks_since};
 ghost use Rattle.pmem_replay.specs.Stepped.{HasStepped, reply_in};
 
@@ -16,7 +16,7 @@ impl<S: Counted + Drop> World<S> {
     pub fn step(&mut self, alloc: Global, command: &Command) -> Result<Reply, MemFault>
         requires running { self.old.shown ≡ false }
         requires command { IsCommand command.now }
-        ensures stepped { IfOk result (λ reply. HasStepped (setup_of S.formulas_of self.old) self.old command.now (reply_in self.new reply) self.new) }
+        ensures stepped { IfOk result (λ reply. HasStepped (setup_of_world S.formulas_of self.old) self.old command.now (reply_in self.new reply) self.new) }
         ensures from { IfOk result (λ reply. reply.from ≡ length self.old.ledger.marks) }
         ensures to { IfOk result (λ reply. reply.to ≡ length self.new.ledger.marks) }
         ensures err { OnErr result (self.new ≡ self.old) }
@@ -32,11 +32,11 @@ impl<S: Counted + Drop> World<S> {
     }
 
     /// What a command answers.
-    #[tactic(auto, using(crate::proofs::Held::unmarked))]
+    #[tactic(auto, using(crate::proofs::Steps::PartsOfWorld::unmarked))]
     fn answer(&mut self, alloc: Global, command: &Command) -> Result<Answer, MemFault>
         requires running { self.old.shown ≡ false }
         requires command { IsCommand command.now }
-        ensures stepped { IfOk result (λ answer. HasStepped (setup_of S.formulas_of self.old) self.old command.now (with_marks_since self.old self.new answer) self.new) }
+        ensures stepped { IfOk result (λ answer. HasStepped (setup_of_world S.formulas_of self.old) self.old command.now (with_marks_since self.old self.new answer) self.new) }
         ensures err { OnErr result (self.new ≡ self.old) }
         ensures memory { OnErr result (IsTrue (takes_memory command.now)) }
     {

@@ -1,13 +1,14 @@
 //! Waiting writes, given to the engine one by one.
 ghost use Rattle.std.specs.Prelude.{◌≡◌, ◌<◌, ◌≤◌, ◌*◌, false, length, slice_set, drop, None, IsSome, is_some, IfOk, OnOk, OnErr, if◌then◌else◌};
 ghost use Rattle.pmem_base.specs.declared.commands.Command.TheVariants as Do;
-ghost use Rattle.pmem_base.specs.WaitingWrites.{queue_of, no_writes};
+ghost use Rattle.plain_model.specs.State.{queue_of};
 ghost use Rattle.pmem_replay.specs.Replies.{with_marks_since};
 ghost use Rattle.pmem_replay.specs.Stepped.{HasStepped};
 ghost use Rattle.pmem_engine.specs.Outcomes.{is_sealed_by};
-ghost use Rattle.pmem_replay.specs.World.{IsWorld, setup_of};
-ghost use Rattle.pmem_replay.specs.Given.{HasGiven, HasRoomMade, IsGave, IsDrained, IsEnded, IsNotPut, gave_steps, is_fault_shown, is_fault_cut, is_fault_down};
+ghost use Rattle.pmem_replay.specs.World.{IsWorld, setup_of_world};
+ghost use Rattle.pmem_replay.specs.Given.{HasGiven, HasMarkRoom, IsGave, IsDrainReply, IsEnded, IsNotPut, gave_steps, is_fault_shown, is_fault_cut, is_fault_down};
 ghost use Rattle.seal_ledger.specs.View.{ledger_of};
+ghost use Rattle.write_ports.specs.Queues.{no_writes};
 
 use crate::serving::exhibit_of;
 use crate::{World, calls};
@@ -32,7 +33,7 @@ impl<S: Counted + Drop> World<S> {
     /// A law: what the world always holds until an answer was an exhibit.
     fn holds(&self)
         requires { self.now.shown ≡ false }
-        ensures { IsWorld (setup_of S.formulas_of self.now) self.now }
+        ensures { IsWorld (setup_of_world S.formulas_of self.now) self.now }
     {
         let _ = &self.shown;
     }
@@ -56,7 +57,7 @@ impl<S: Counted + Drop> World<S> {
     /// Makes room for `more` marks.
     fn make_room(&mut self, more: u32) -> Result<(), MemFault>
         requires { self.old.shown ≡ false }
-        ensures ok { OnOk result (HasRoomMade (setup_of S.formulas_of self.old) self.old more self.new) }
+        ensures ok { OnOk result (HasMarkRoom (setup_of_world S.formulas_of self.old) self.old more self.new) }
         ensures err { OnErr result (self.new ≡ self.old) }
     {
         self.ledger.reserve(more)?;
@@ -67,7 +68,7 @@ impl<S: Counted + Drop> World<S> {
     pub(crate) fn drain(&mut self, port: u8) -> Result<Answer, MemFault>
         requires shown { self.old.shown ≡ false }
         requires port { port < 8 }
-        ensures stepped { IfOk result (λ answer. HasStepped (setup_of S.formulas_of self.old) self.old (Do.Drain port) (with_marks_since self.old self.new answer) self.new) }
+        ensures stepped { IfOk result (λ answer. HasStepped (setup_of_world S.formulas_of self.old) self.old (Do.Drain port) (with_marks_since self.old self.new answer) self.new) }
         ensures err { OnErr result (self.new ≡ self.old) }
     {
         self.holds();
@@ -86,7 +87,7 @@ impl<S: Counted + Drop> World<S> {
     pub(crate) fn fence(&mut self, port: u8) -> Result<Answer, MemFault>
         requires shown { self.old.shown ≡ false }
         requires port { port < 8 }
-        ensures stepped { IfOk result (λ answer. HasStepped (setup_of S.formulas_of self.old) self.old (Do.Fence port) (with_marks_since self.old self.new answer) self.new) }
+        ensures stepped { IfOk result (λ answer. HasStepped (setup_of_world S.formulas_of self.old) self.old (Do.Fence port) (with_marks_since self.old self.new answer) self.new) }
         ensures err { OnErr result (self.new ≡ self.old) }
     {
         self.holds();
@@ -106,7 +107,7 @@ impl<S: Counted + Drop> World<S> {
         requires count { count ≡ length (queue_of self.old.state.queues port) }
         requires most { count < 17 }
         requires room { 66 * count ≤ self.old.ledger.spare }
-        ensures { HasStepped (setup_of S.formulas_of self.old) self.old (Do.Fence port) (with_marks_since self.old self.new result) self.new }
+        ensures { HasStepped (setup_of_world S.formulas_of self.old) self.old (Do.Fence port) (with_marks_since self.old self.new result) self.new }
     {
         self.holds();
         let mut done: u8 = 0;
@@ -132,7 +133,7 @@ impl<S: Counted + Drop> World<S> {
         requires on { IsSome self.old.engine }
         requires some { 0 < length (queue_of self.old.state.queues port) }
         requires room { 66 ≤ self.old.ledger.spare }
-        ensures { HasGiven (setup_of S.formulas_of self.old) self.old port result self.new }
+        ensures { HasGiven (setup_of_world S.formulas_of self.old) self.old port result self.new }
     {
         let Some(engine) = &mut self.engine else {
             unreachable!()
@@ -167,7 +168,7 @@ impl<S: Counted + Drop> World<S> {
 
 /// What a drain answers.
 fn drained(gave: Gave) -> Answer
-    ensures { IsDrained gave result }
+    ensures { IsDrainReply gave result }
 {
     match gave {
         Gave::Put { steps } => Answer::Drained { steps },

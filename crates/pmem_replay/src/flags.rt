@@ -28,7 +28,7 @@ impl Model for Flags {
 
 impl Flags {
     /// No flag of `n` is set. The one error is want of memory.
-    #[tactic(auto, using(crate::proofs::StampLemmas::new_flags))]
+    #[tactic(auto, using(crate::proofs::Boards::StampLemmas::new_flags))]
     pub fn new(alloc: Global, n: u32) -> Result<Flags, MemFault>
         ensures { IfOk result (λ flags. flags ≡ no_flags n) }
     {
@@ -40,7 +40,7 @@ impl Flags {
     }
 
     /// Whether flag `i` is set.
-    #[tactic(auto, using(crate::proofs::StampLemmas::read_flags))]
+    #[tactic(auto, using(crate::proofs::Boards::StampLemmas::read_flags))]
     pub fn get(&self, i: u32) -> bool
         requires { i < length self.now }
         ensures { result ≡ is_flagged self.now i }
@@ -49,7 +49,7 @@ impl Flags {
     }
 
     /// Sets flag `i`.
-    #[tactic(auto, using(crate::proofs::StampLemmas::set_flags))]
+    #[tactic(auto, using(crate::proofs::Boards::StampLemmas::set_flags))]
     pub fn set(&mut self, i: u32)
         requires { i < length self.old }
         ensures { self.new ≡ with_flag self.old i }
@@ -61,7 +61,7 @@ impl Flags {
     }
 
     /// Clears flag `i`.
-    #[tactic(auto, using(crate::proofs::StampLemmas::set_flags))]
+    #[tactic(auto, using(crate::proofs::Boards::StampLemmas::set_flags))]
     pub fn unset(&mut self, i: u32)
         requires { i < length self.old }
         ensures { self.new ≡ without_flag self.old i }
@@ -73,7 +73,7 @@ impl Flags {
     }
 
     /// Whether any flag is set.
-    #[tactic(auto, using(crate::proofs::StampLemmas::any_flags))]
+    #[tactic(auto, using(crate::proofs::Boards::StampLemmas::any_flags))]
     pub fn any(&self) -> bool
         ensures { result ≡ has_flags self.now }
     {
@@ -81,7 +81,7 @@ impl Flags {
     }
 
     /// Clears all flags.
-    #[tactic(auto, using(crate::proofs::StampLemmas::clear_flags))]
+    #[tactic(auto, using(crate::proofs::Boards::StampLemmas::clear_flags))]
     pub fn clear(&mut self)
         ensures { self.new ≡ no_flags (length self.old) }
     {

@@ -7,6 +7,7 @@ mod dirtied;
 mod draining;
 mod flags;
 mod kept;
+mod numbers;
 mod posting;
 mod powering;
 mod serving;

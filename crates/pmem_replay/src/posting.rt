@@ -3,7 +3,7 @@ ghost use Rattle.std.specs.Prelude.{◌≡◌, ◌<◌, ◌≤◌, ◌+◌, fals
 ghost use Rattle.pmem_base.specs.declared.commands.Command.TheVariants as Do;
 ghost use Rattle.pmem_base.specs.Ranges.{IsPosted, IsPartLine};
 ghost use Rattle.plain_model.specs.After.{posted_line, posted_part};
-ghost use Rattle.pmem_replay.specs.World.{setup_of};
+ghost use Rattle.pmem_replay.specs.World.{setup_of_world};
 ghost use Rattle.pmem_replay.specs.Replies.{without_marks};
 ghost use Rattle.pmem_replay.specs.Stepped.{HasStepped};
 
@@ -16,7 +16,7 @@ impl<S: Counted + Drop> World<S> {
     pub(crate) fn post(&mut self, port: u8, at: u64, line: &Line) -> Answer
         requires shown { self.old.shown ≡ false }
         requires port { port < 8 }
-        ensures { HasStepped (setup_of S.formulas_of self.old) self.old (Do.Post port at line.now) (without_marks result) self.new }
+        ensures { HasStepped (setup_of_world S.formulas_of self.old) self.old (Do.Post port at line.now) (without_marks result) self.new }
     {
         if self.engine.is_none() {
             return Answer::Off;
@@ -36,7 +36,7 @@ impl<S: Counted + Drop> World<S> {
         requires shown { self.old.shown ≡ false }
         requires port { port < 8 }
         requires part { IsPartLine count line.now }
-        ensures { HasStepped (setup_of S.formulas_of self.old) self.old (Do.Part port at from count line.now) (without_marks result) self.new }
+        ensures { HasStepped (setup_of_world S.formulas_of self.old) self.old (Do.Part port at from count line.now) (without_marks result) self.new }
     {
         if self.engine.is_none() {
             return Answer::Off;

@@ -1,11 +1,12 @@
 //! Power, and recovery.
-ghost use Rattle.std.specs.Prelude.{◌≡◌, ◌<◌, ◌^◌, false, IfOk, OnErr};
+ghost use Rattle.std.specs.Prelude.{◌≡◌, false, IfOk, OnErr};
 ghost use Rattle.pmem_base.specs.Lines.{AreBytes, IsTag};
 ghost use Rattle.pmem_base.specs.declared.commands.Command.TheVariants as Do;
-ghost use Rattle.pmem_replay.specs.World.{setup_of};
+ghost use Rattle.pmem_replay.specs.World.{setup_of_world};
 ghost use Rattle.pmem_replay.specs.Replies.{without_marks};
 ghost use Rattle.pmem_replay.specs.Stepped.{HasStepped};
 
+use crate::numbers::is_number;
 use crate::{World, calls};
 use pmem_base::{Answer, Exhibit, MemFault, Tag};
 use pmem_recovery::RecFault;
@@ -16,7 +17,7 @@ impl<S: Counted + Drop> World<S> {
     /// Power is to be cut after `n` more persist steps.
     pub(crate) fn cut(&mut self, n: u64) -> Answer
         requires { self.old.shown ≡ false }
-        ensures { HasStepped (setup_of S.formulas_of self.old) self.old (Do.Cut n) (without_marks result) self.new }
+        ensures { HasStepped (setup_of_world S.formulas_of self.old) self.old (Do.Cut n) (without_marks result) self.new }
     {
         self.board.arm(n);
         Answer::Ok
@@ -25,7 +26,7 @@ impl<S: Counted + Drop> World<S> {
     /// Power goes off.
     pub(crate) fn off(&mut self) -> Answer
         requires { self.old.shown ≡ false }
-        ensures { HasStepped (setup_of S.formulas_of self.old) self.old Do.Off (without_marks result) self.new }
+        ensures { HasStepped (setup_of_world S.formulas_of self.old) self.old Do.Off (without_marks result) self.new }
     {
         if self.engine.is_none() {
             return Answer::Off;
@@ -39,7 +40,7 @@ impl<S: Counted + Drop> World<S> {
     /// Power comes on, with recovery. The one error is want of memory.
     pub(crate) fn on(&mut self, alloc: Global) -> Result<Answer, MemFault>
         requires { self.old.shown ≡ false }
-        ensures stepped { IfOk result (λ answer. HasStepped (setup_of S.formulas_of self.old) self.old Do.On (without_marks answer) self.new) }
+        ensures stepped { IfOk result (λ answer. HasStepped (setup_of_world S.formulas_of self.old) self.old Do.On (without_marks answer) self.new) }
         ensures err { OnErr result (self.new ≡ self.old) }
     {
         if self.engine.is_some() {
@@ -113,13 +114,6 @@ impl<S: Counted + Drop> World<S> {
             }
         }
     }
-}
-
-/// A law: a number of 64 bits is in its range.
-fn is_number(n: u64)
-    ensures { n < 2 ^ 64 }
-{
-    let _ = n;
 }
 
 /// A law: a tag is 16 bytes.

@@ -1,12 +1,13 @@
 //! Commands that the engine serves.
-ghost use Rattle.std.specs.Prelude.{◌≡◌, ◌<◌, ◌^◌, false, IsTrue, IsSome, IfOk, OnErr, Some};
+ghost use Rattle.std.specs.Prelude.{◌≡◌, ◌<◌, false, IsTrue, IsSome, IfOk, OnErr, Some};
 ghost use Rattle.pmem_base.specs.declared.commands.Command.TheVariants as Do;
 ghost use Rattle.pmem_base.specs.Shape as shape;
 ghost use Rattle.seal_ledger.specs.View.{ledger_of};
-ghost use Rattle.pmem_replay.specs.World.{setup_of};
+ghost use Rattle.pmem_replay.specs.World.{setup_of_world};
 ghost use Rattle.pmem_replay.specs.Replies.{without_marks, with_marks_since};
 ghost use Rattle.pmem_replay.specs.Stepped.{HasStepped};
 
+use crate::numbers::is_byte;
 use crate::{World, calls};
 use board::Board;
 use pmem_base::{Answer, Exhibit, MemFault, Place};
@@ -20,7 +21,7 @@ impl<S: Counted + Drop> World<S> {
     pub(crate) fn read(&mut self, port: u8, at: u64) -> Answer
         requires shown { self.old.shown ≡ false }
         requires port { port < 8 }
-        ensures { HasStepped (setup_of S.formulas_of self.old) self.old (Do.Read port at) (without_marks result) self.new }
+        ensures { HasStepped (setup_of_world S.formulas_of self.old) self.old (Do.Read port at) (without_marks result) self.new }
     {
         let Some(engine) = &mut self.engine else {
             return Answer::Off;
@@ -81,7 +82,7 @@ impl<S: Counted + Drop> World<S> {
     /// leaves no block dirty.
     pub(crate) fn turn(&mut self) -> Result<Answer, MemFault>
         requires { self.old.shown ≡ false }
-        ensures stepped { IfOk result (λ answer. HasStepped (setup_of S.formulas_of self.old) self.old Do.Turn (with_marks_since self.old self.new answer) self.new) }
+        ensures stepped { IfOk result (λ answer. HasStepped (setup_of_world S.formulas_of self.old) self.old Do.Turn (with_marks_since self.old self.new answer) self.new) }
         ensures err { OnErr result (self.new ≡ self.old) }
     {
         let Some(engine) = &mut self.engine else {
@@ -122,7 +123,7 @@ impl<S: Counted + Drop> World<S> {
     /// The oldest dirty block is written back.
     pub(crate) fn flush(&mut self) -> Answer
         requires { self.old.shown ≡ false }
-        ensures { HasStepped (setup_of S.formulas_of self.old) self.old Do.Flush (without_marks result) self.new }
+        ensures { HasStepped (setup_of_world S.formulas_of self.old) self.old Do.Flush (without_marks result) self.new }
     {
         let Some(engine) = &mut self.engine else {
             return Answer::Off;
@@ -152,7 +153,7 @@ impl<S: Counted + Drop> World<S> {
     /// The stop-loss number is set.
     pub(crate) fn loss(&mut self, n: u64) -> Answer
         requires { self.old.shown ≡ false }
-        ensures { HasStepped (setup_of S.formulas_of self.old) self.old (Do.Loss n) (without_marks result) self.new }
+        ensures { HasStepped (setup_of_world S.formulas_of self.old) self.old (Do.Loss n) (without_marks result) self.new }
     {
         let Some(engine) = &mut self.engine else {
             return Answer::Off;
@@ -177,13 +178,6 @@ impl<S: Counted + Drop> World<S> {
             }
         }
     }
-}
-
-/// A law: a number of 8 bits is in its range.
-fn is_byte(n: u8)
-    ensures { n < 2 ^ 8 }
-{
-    let _ = n;
 }
 
 /// The exhibit that the ledger has.

@@ -2,7 +2,7 @@
 ghost use Rattle.std.specs.Prelude.{◌≡◌, ◌<◌, ◌≤◌, ◌-◌, IfOk, OnErr, false};
 ghost use Rattle.pmem_base.specs.Counts.{last_count};
 ghost use Rattle.pmem_base.specs.declared.commands.Command.TheVariants as Do;
-ghost use Rattle.pmem_replay.specs.World.{setup_of};
+ghost use Rattle.pmem_replay.specs.World.{setup_of_world};
 ghost use Rattle.pmem_replay.specs.Replies.{without_marks};
 ghost use Rattle.pmem_replay.specs.Stepped.{HasStepped};
 
@@ -15,7 +15,7 @@ impl<S: Counted + Drop> World<S> {
     /// A device line is replaced.
     pub(crate) fn poke(&mut self, at: u64, line: &Line) -> Answer
         requires { self.old.shown ≡ false }
-        ensures { HasStepped (setup_of S.formulas_of self.old) self.old (Do.Poke at line.now) (without_marks result) self.new }
+        ensures { HasStepped (setup_of_world S.formulas_of self.old) self.old (Do.Poke at line.now) (without_marks result) self.new }
     {
         if at >= u64::from(self.geo.size()) {
             return Answer::Range;
@@ -29,7 +29,7 @@ impl<S: Counted + Drop> World<S> {
     /// A bit of a device line is turned.
     pub(crate) fn flip(&mut self, at: u64, bit: u64) -> Answer
         requires { self.old.shown ≡ false }
-        ensures { HasStepped (setup_of S.formulas_of self.old) self.old (Do.Flip at bit) (without_marks result) self.new }
+        ensures { HasStepped (setup_of_world S.formulas_of self.old) self.old (Do.Flip at bit) (without_marks result) self.new }
     {
         if at >= u64::from(self.geo.size()) || bit > 511 {
             return Answer::Range;
@@ -43,7 +43,7 @@ impl<S: Counted + Drop> World<S> {
     /// A device line is copied to another place.
     pub(crate) fn move_line(&mut self, from: u64, to: u64) -> Answer
         requires { self.old.shown ≡ false }
-        ensures { HasStepped (setup_of S.formulas_of self.old) self.old (Do.Move from to) (without_marks result) self.new }
+        ensures { HasStepped (setup_of_world S.formulas_of self.old) self.old (Do.Move from to) (without_marks result) self.new }
     {
         let size = u64::from(self.geo.size());
         if from >= size || to >= size {
@@ -58,7 +58,7 @@ impl<S: Counted + Drop> World<S> {
     /// A copy of all device lines is kept. Only the first takes memory.
     pub(crate) fn snap(&mut self) -> Result<Answer, MemFault>
         requires { self.old.shown ≡ false }
-        ensures stepped { IfOk result (λ answer. HasStepped (setup_of S.formulas_of self.old) self.old Do.Snap (without_marks answer) self.new) }
+        ensures stepped { IfOk result (λ answer. HasStepped (setup_of_world S.formulas_of self.old) self.old Do.Snap (without_marks answer) self.new) }
         ensures err { OnErr result (self.new ≡ self.old) }
     {
         self.board.snap()?;
@@ -68,7 +68,7 @@ impl<S: Counted + Drop> World<S> {
     /// A device line gets the bytes of that copy.
     pub(crate) fn back(&mut self, at: u64) -> Answer
         requires { self.old.shown ≡ false }
-        ensures { HasStepped (setup_of S.formulas_of self.old) self.old (Do.Back at) (without_marks result) self.new }
+        ensures { HasStepped (setup_of_world S.formulas_of self.old) self.old (Do.Back at) (without_marks result) self.new }
     {
         if at >= u64::from(self.geo.size()) {
             return Answer::Range;
@@ -84,7 +84,7 @@ impl<S: Counted + Drop> World<S> {
     /// A device line is shown.
     pub(crate) fn peek(&self, at: u64) -> Answer
         requires { self.now.shown ≡ false }
-        ensures { HasStepped (setup_of S.formulas_of self.now) self.now (Do.Peek at) (without_marks result) self.now }
+        ensures { HasStepped (setup_of_world S.formulas_of self.now) self.now (Do.Peek at) (without_marks result) self.now }
     {
         if at >= u64::from(self.geo.size()) {
             return Answer::Range;
@@ -97,7 +97,7 @@ impl<S: Counted + Drop> World<S> {
     /// The counts since formatting ended.
     pub(crate) fn stat(&self) -> Answer
         requires { self.now.shown ≡ false }
-        ensures { HasStepped (setup_of S.formulas_of self.now) self.now (Do.Stat) (without_marks result) self.now }
+        ensures { HasStepped (setup_of_world S.formulas_of self.now) self.now (Do.Stat) (without_marks result) self.now }
     {
         let now = counts_of(&self.board, &self.suite);
         let (writes, latches) = steps_told(&now, &self.start, self.steps);

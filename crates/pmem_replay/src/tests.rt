@@ -6,7 +6,7 @@ use crate::Flags;
 use std::test::Fail;
 
 #[test]
-#[tactic(auto, using(crate::proofs::StampLemmas::flag_lengths))]
+#[tactic(auto, using(crate::proofs::Boards::StampLemmas::flag_lengths))]
 fn flags_are_set_and_cleared(rt: HostRuntime) -> Result<(), Fail> {
     let mut flags = Flags::new(rt.alloc(), 4)?;
     assert!(rt; !flags.any());

@@ -1,11 +1,11 @@
 //! A board in memory, watched through calls that know it only as a board.
 ghost use Rattle.std.specs.Prelude.{◌≡◌, ◌<◌, ◌≤◌, ◌+◌, ℕ, true, Some, length, IfOk, OnOk, OnErr};
 ghost use Rattle.std.proofs.Props.{props};
-ghost use Rattle.board.specs.Memory.{BoardMemory, new_memory};
+ghost use Rattle.board.specs.Memory.{Memory, new_memory};
 ghost use Rattle.board.specs.MemBoard.{memory_of};
-ghost use Rattle.pmem_base.specs.Counts.{last_count};
 ghost use Rattle.pmem_replay.specs.During.{AreInCount, FollowsOn, IsWatched, device_during, none_taken};
 
+use crate::numbers::is_number;
 use crate::taken::Taken;
 use board::{Board, MemBoard};
 use pmem_base::{Cut, Line, Regs};
@@ -16,7 +16,7 @@ const STEP_LIMIT: u32 = 65_536;
 
 /// The board as a call finds it, and the reference to it.
 pub(crate) trait Start {
-    ghost start: { BoardMemory };
+    ghost start: { Memory };
 
     ghost name: { ℕ };
 }
@@ -47,13 +47,6 @@ pub(crate) struct Left<'a, T> {
     pub(crate) answer: T,
 }
 
-/// A law: a count of 64 bits is in its range.
-fn is_count(n: u64)
-    ensures { n ≤ last_count }
-{
-    let _ = n;
-}
-
 impl<'a, K: Start> Watched<'a, K> {
     /// No step was taken yet.
     pub(crate) fn new(board: &'a mut MemBoard) -> Watched<'a, K>
@@ -65,8 +58,8 @@ impl<'a, K: Start> Watched<'a, K> {
         ensures now { memory_of result.board.now ≡ K.start }
     {
         let (_, writes, latches) = board.counts();
-        is_count(writes);
-        is_count(latches);
+        is_number(writes);
+        is_number(latches);
         Watched {
             board,
             taken: Taken {

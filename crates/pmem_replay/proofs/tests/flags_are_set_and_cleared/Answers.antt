@@ -1,6 +1,6 @@
 -- The flags of the test keep their number.
 use Rattle.std.proofs.Common.{arith}
-use Rattle.pmem_replay.proofs.StampLemmas.{length-none, length-with, length-without}
+use Rattle.pmem_replay.proofs.Boards.StampLemmas.{length-none, length-with, length-without}
 use Rattle.pmem_replay.proofs.tests.flags_are_set_and_cleared.Goals as goal
 
 pub set-requires-2 : goal.set-requires-2

@@ -1,5 +1,5 @@
 -- The flags keep their number.
-use Rattle.pmem_replay.proofs.FlagLemmas.{touched-counts}
+use Rattle.pmem_replay.proofs.Boards.FlagLemmas.{touched-counts}
 use Rattle.pmem_replay.proofs.dirtied.Dirtied.note.Goals as goal
 
 pub returns-in-Begin-clause-flags : goal.returns-in-Begin-clause-flags

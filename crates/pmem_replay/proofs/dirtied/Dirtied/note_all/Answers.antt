@@ -1,6 +1,6 @@
 -- One mark more is done.
 use Rattle.pmem_base.specs.Geo.{shape_of}
-use Rattle.pmem_replay.proofs.FlagLemmas.{marks_step}
+use Rattle.pmem_replay.proofs.Boards.FlagLemmas.{marks_step}
 use Rattle.pmem_replay.proofs.dirtied.Dirtied.note_all.Goals as goal
 
 pub marks-preserved : goal.marks-preserved

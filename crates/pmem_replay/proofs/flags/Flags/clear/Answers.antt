@@ -1,7 +1,7 @@
 -- A new epoch clears all flags.
 use Rattle.std.proofs.Common.{vec_len, arith, ◌≡◌, length, sym, ap, ◌∙◌}
 use Rattle.plain_model.specs.State.{no_flags}
-use Rattle.pmem_replay.proofs.StampLemmas.{length-flags, flags-later, stamped-later, flags-empty}
+use Rattle.pmem_replay.proofs.Boards.StampLemmas.{length-flags, flags-later, stamped-later, flags-empty}
 use Rattle.pmem_replay.proofs.flags.Flags.clear.Goals as goal
 
 pub invariant_of-self : goal.invariant_of-self

@@ -1,7 +1,7 @@
 -- A flag is set: its stamp is the epoch's, and it is counted where it wasn't before.
 use Rattle.std.proofs.Common.{length, sym, ap, ◌∙◌, arith}
 use Rattle.plain_model.specs.State.{with_flag}
-use Rattle.pmem_replay.proofs.StampLemmas.{length-flags, stamped-set, count-fits, flags-set_true, flags-already}
+use Rattle.pmem_replay.proofs.Boards.StampLemmas.{length-flags, stamped-set, count-fits, flags-set_true, flags-already}
 use Rattle.pmem_replay.proofs.flags.Flags.set.Goals as goal
 
 pub index-requires : goal.index-requires

@@ -1,7 +1,7 @@
 -- A flag is cleared: its stamp is of no epoch, and it is counted no more where it was set.
 use Rattle.std.proofs.Common.{length, sym, ap, ◌∙◌, arith}
 use Rattle.plain_model.specs.State.{without_flag}
-use Rattle.pmem_replay.proofs.StampLemmas.{length-flags, stamped-unset, count-some, flags-set_false, flags-unset_already}
+use Rattle.pmem_replay.proofs.Boards.StampLemmas.{length-flags, stamped-unset, count-some, flags-set_false, flags-unset_already}
 use Rattle.pmem_replay.proofs.flags.Flags.unset.Goals as goal
 
 pub index-requires : goal.index-requires

@@ -1,6 +1,6 @@
 -- A latch follows on: it is done, or cut where no step is left, or at the limit.
 use Rattle.std.proofs.Common.{refl, arith}
-use Rattle.pmem_replay.proofs.WatchLemmas.{follows-limit, latch-ok, cut-over}
+use Rattle.pmem_replay.proofs.Boards.WatchLemmas.{follows-limit, latch-ok, cut-over}
 use Rattle.pmem_replay.proofs.watched.WatchedBoard.latch.Goals as goal
 
 pub invariant_of-self : goal.invariant_of-self

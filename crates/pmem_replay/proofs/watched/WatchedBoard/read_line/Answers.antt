@@ -1,6 +1,6 @@
 -- A read follows on: it is done, or cut where power is off.
 use Rattle.std.proofs.Common.{refl, inl}
-use Rattle.pmem_replay.proofs.WatchLemmas.{read-ok, cut-over}
+use Rattle.pmem_replay.proofs.Boards.WatchLemmas.{read-ok, cut-over}
 use Rattle.pmem_replay.proofs.watched.WatchedBoard.read_line.Goals as goal
 
 pub invariant_of-self : goal.invariant_of-self

@@ -1,11 +1,11 @@
 -- The fuse is set.
-use Rattle.pmem_replay.proofs.TableChanges.{cut-ok}
+use Rattle.pmem_replay.proofs.Table.TableChanges.{cut-ok}
 use Rattle.pmem_base.specs.Geo.{shape_of}
 use Rattle.board.specs.MemBoard.{memory_of}
 use Rattle.seal_ledger.specs.View.{ledger_of}
 use Rattle.pmem_base.specs.declared.commands.Command.TheVariants as Do
 use Rattle.pmem_replay.specs.World.{WorldParts}
-use Rattle.pmem_replay.proofs.Held.{held, setup_in, going_in, seen_from, held_after}
+use Rattle.pmem_replay.proofs.Steps.PartsOfWorld.{held, setup_in, going_in, seen_from, held_after}
 use Rattle.pmem_replay.proofs.world.World.cut.Goals as goal
 
 pub invariant_of-self : goal.invariant_of-self

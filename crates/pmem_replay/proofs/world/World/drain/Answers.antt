@@ -1,5 +1,5 @@
 -- The port's oldest write is drained.
-use Rattle.pmem_replay.proofs.DrainSteps.{drained_as}
+use Rattle.pmem_replay.proofs.Drains.DrainSteps.{drained_as}
 use Rattle.pmem_replay.proofs.world.World.drain.Goals as goal
 
 pub returns-clause-stepped : goal.returns-clause-stepped

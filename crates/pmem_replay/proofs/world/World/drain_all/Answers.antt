@@ -1,6 +1,6 @@
 -- Writes are drained until none waits, or one ends it.
 use Rattle.std.proofs.Common.{arith}
-use Rattle.pmem_replay.proofs.FenceLaws.{fence_starts, still_waits, fence_next, fence_ended, fence_done}
+use Rattle.pmem_replay.proofs.Drains.FenceLaws.{fence_starts, still_waits, fence_next, fence_ended, fence_done}
 use Rattle.pmem_replay.proofs.world.World.drain_all.Goals as goal
 
 pub writes-init : goal.writes-init

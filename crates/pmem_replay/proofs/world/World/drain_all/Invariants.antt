@@ -1,6 +1,6 @@
 -- So many writes were drained.
 use Rattle.std.proofs.Common.{◌-◌}
-use Rattle.pmem_replay.proofs.FenceLaws.{IsDraining}
+use Rattle.pmem_replay.proofs.Drains.FenceLaws.{IsDraining}
 use Rattle.pmem_replay.proofs.world.World.drain_all.Given as goal
 
 abbrev pub invariant-writes : goal.invariant-writes

@@ -1,6 +1,6 @@
 -- All writes of the port are drained.
 use Rattle.std.proofs.Common.{rules}
-use Rattle.pmem_replay.proofs.FenceLaws.{fence_before, on_lit}
+use Rattle.pmem_replay.proofs.Drains.FenceLaws.{fence_before, on_lit}
 use Rattle.pmem_replay.proofs.world.World.fence.Goals as goal
 
 pub returns-clause-stepped : goal.returns-clause-stepped

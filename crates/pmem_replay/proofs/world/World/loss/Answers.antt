@@ -1,130 +1,90 @@
 -- The number is set, or power is cut.
-use Rattle.std.proofs.Common.{arith, rules, ap, refl, sym, subst, ◌∙◌, Ok, Err}
-use Rattle.std.specs.Prelude.{IsTrue, ◌≢◌}
+use Rattle.std.proofs.Common.{ℕ, ◌≡◌, arith, rules, ap, refl, sym, subst, ◌∙◌, Ok, Err}
+use Rattle.std.specs.Prelude.{IsTrue, ◌≢◌, Result}
 use Rattle.pmem_base.specs.declared.registers.Regs.{Regs}
 use Rattle.pmem_base.specs.Shape.{is_loss}
 use Rattle.pmem_base.specs.Geo.{shape_of}
 use Rattle.board.specs.MemBoard.{memory_of}
 use Rattle.seal_ledger.specs.View.{ledger_of}
-use Rattle.pmem_base.specs.declared.commands.Command.TheVariants as Do
+use Rattle.pmem_engine.specs.declared.fault.Fault.{Fault}
 use Rattle.pmem_replay.specs.World.{WorldParts}
-use Rattle.pmem_replay.proofs.Held.{held, setup_in, going_in, shape_in, none_wait, seen_from, held_after}
-use Rattle.pmem_replay.proofs.Served.{IsServed}
-use Rattle.pmem_replay.proofs.LossSteps.{Has, loss-set, loss-cut, loss_answers}
+use Rattle.pmem_replay.proofs.Steps.EngineCalls.{EngineCall, setup_at}
+use Rattle.pmem_replay.proofs.Steps.PartsOfWorld.{held, going_in, shape_in, none_wait}
+use Rattle.pmem_replay.proofs.Commands.LossSteps.{Has, loss-set, loss-cut}
+use Rattle.pmem_replay.proofs.Steps.ReservedRoom.{same_room}
+use Rattle.pmem_replay.proofs.world.World.loss.Given.{Over}
+use Rattle.pmem_replay.proofs.world.World.loss.Goals.{After-saturating_add-self-inside}
 use Rattle.pmem_replay.proofs.world.World.loss.Goals as goal
+
+-- once the engine has answered
+module _ (g : Over) (c : After-saturating_add-self-inside g) where
+  abbrev p : WorldParts
+  p =
+      held (g.S.Suite.keys c.self.inside.suite) (memory_of c.self.inside.board) (ledger_of c.self.inside.ledger) c.self.inside.engine
+      (g.S.Suite.tags c.self.inside.suite) (g.S.Suite.digests c.self.inside.suite) c.self.inside.ports c.self.inside.tampered
+      c.self.inside.dirtied c.self.inside.steps c.self.inside.start c.self.inside.shown
+
+  abbrev call : EngineCall
+  call =
+      record {
+        formulas_of = g.S.Suite.formulas_of;
+        geometry = shape_of c.self.inside.geo;
+        now = c.args.self.now;
+        parts = p;
+        before = p.ledger;
+        is = c.self.view_is;
+        room = same_room p.ledger;
+        keys = p.keys;
+        board = memory_of c.set_loss-done.new.board;
+        ledger = p.ledger;
+        tags = p.tags;
+        digests = p.digests;
+        steps = c.saturating_add-self-inside.result;
+        engine = c.in-Some.engine;
+        after = c.set_loss-done.new.engine;
+        taken = c.set_loss-done.result.taken;
+        said = c.steps-steps.result;
+        served =
+            record {
+              going = going_in g.S.Suite.formulas_of (shape_of c.self.inside.geo) p c.args.self.now c.self.view_is c.requires c.self.invariant;
+              was_on = c.in-Some.is;
+              watched = c.set_loss-done.ensures.watched;
+              same_keys = refl;
+              counted = omega (arith, c.saturating_add-self-inside.ensures, c.steps-steps.ensures);
+            };
+        counted = c.steps-steps.ensures;
+        banks = c.has_banks.ensures;
+      }
+
+  some : IsTrue (is_loss c.args.n)
+  some = search (rules, c.is_loss.ensures, c.if-not-is_loss.false)
+
+  other : c.args.n ≢ p.board.regs.loss
+  other same = c.if-n-from.false (same ∙ sym (c.from.ensures ∙ ap (λ (r : Regs). r.loss) c.regs.ensures))
+
+  found : (answer : Result ℕ Fault) → c.set_loss-done.result.answer ≡ answer → Has call c.args.n some other answer
+  found answer is =
+      subst (Has call c.args.n some other) is
+      (c.set_loss-done.ensures.set (setup_at call) p.ledger p.tags p.digests (shape_in (setup_at call) p c.in-Some.engine call.served.going c.in-Some.is))
 
 pub invariant_of-self-in-Ok : goal.invariant_of-self-in-Ok
 invariant_of-self-in-Ok g c =
-    let formulas_of = g.S.Suite.formulas_of in
-    let inside = c.self.inside in
-    let geo = shape_of inside.geo in
-    let p : WorldParts =
-    held (g.S.Suite.keys inside.suite) (memory_of inside.board) (ledger_of inside.ledger) inside.engine (g.S.Suite.tags inside.suite)
-    (g.S.Suite.digests inside.suite) inside.ports inside.tampered inside.dirtied inside.steps inside.start inside.shown in
-    let going = going_in formulas_of geo p c.args.self.now c.self.view_is c.requires c.self.invariant in
-    let setup = setup_in formulas_of geo p in
-    let engine = c.in-Some.engine in
-    let after = c.set_loss-done.new.engine in
-    let board = memory_of c.set_loss-done.new.board in
-    let taken = c.set_loss-done.result.taken in
-    let steps = c.saturating_add-self-inside.result in
-    let served : IsServed setup p (p.keys) board steps engine taken =
-    record {
-      going = going;
-      was_on = c.in-Some.is;
-      watched = c.set_loss-done.ensures.watched;
-      same_keys = refl;
-      counted = omega (arith, c.saturating_add-self-inside.ensures, c.steps-steps.ensures);
-    } in
-    let some : IsTrue (is_loss c.args.n) = search (rules, c.is_loss.ensures, c.if-not-is_loss.false) in
-    let other : c.args.n ≢ p.board.regs.loss =
-    λ same. c.if-n-from.false (same ∙ sym (c.from.ensures ∙ ap (λ (r : Regs). r.loss) c.regs.ensures)) in
-    held_after formulas_of geo p _ (Do.Loss c.args.n) _
-    (loss-set setup p board steps engine after taken served c.args.n some other c.in-Ok.field-0 (subst (Has setup p board steps engine after taken served c.args.n some other) {x = c.set_loss-done.result.answer} {y = Ok c.in-Ok.field-0} (c.in-Ok.is) (c.set_loss-done.ensures.set setup (ledger_of inside.ledger) p.tags p.digests (shape_in setup p engine going c.in-Some.is))) c.has_banks.ensures c.steps-steps.result c.steps-steps.ensures)
+    let place = (goal.at.invariant_of-self-in-Ok g c).After-saturating_add-self-inside in
+    (loss-set (call g place) c.args.n (some g place) (other g place) c.in-Ok.field-0 (found g place (Ok c.in-Ok.field-0) c.in-Ok.is)).holds
 
 pub returns-in-Ok : goal.returns-in-Ok
 returns-in-Ok g c =
-    let formulas_of = g.S.Suite.formulas_of in
-    let inside = c.self.inside in
-    let geo = shape_of inside.geo in
-    let p : WorldParts =
-    held (g.S.Suite.keys inside.suite) (memory_of inside.board) (ledger_of inside.ledger) inside.engine (g.S.Suite.tags inside.suite)
-    (g.S.Suite.digests inside.suite) inside.ports inside.tampered inside.dirtied inside.steps inside.start inside.shown in
-    let going = going_in formulas_of geo p c.args.self.now c.self.view_is c.requires c.self.invariant in
-    let setup = setup_in formulas_of geo p in
-    let engine = c.in-Some.engine in
-    let after = c.set_loss-done.new.engine in
-    let board = memory_of c.set_loss-done.new.board in
-    let taken = c.set_loss-done.result.taken in
-    let steps = c.saturating_add-self-inside.result in
-    let served : IsServed setup p (p.keys) board steps engine taken =
-    record {
-      going = going;
-      was_on = c.in-Some.is;
-      watched = c.set_loss-done.ensures.watched;
-      same_keys = refl;
-      counted = omega (arith, c.saturating_add-self-inside.ensures, c.steps-steps.ensures);
-    } in
-    let some : IsTrue (is_loss c.args.n) = search (rules, c.is_loss.ensures, c.if-not-is_loss.false) in
-    let other : c.args.n ≢ p.board.regs.loss =
-    λ same. c.if-n-from.false (same ∙ sym (c.from.ensures ∙ ap (λ (r : Regs). r.loss) c.regs.ensures)) in
-    seen_from formulas_of geo p c.args.self.now _ (Do.Loss c.args.n) _ c.self.view_is
-    (loss-set setup p board steps engine after taken served c.args.n some other c.in-Ok.field-0 (subst (Has setup p board steps engine after taken served c.args.n some other) {x = c.set_loss-done.result.answer} {y = Ok c.in-Ok.field-0} (c.in-Ok.is) (c.set_loss-done.ensures.set setup (ledger_of inside.ledger) p.tags p.digests (shape_in setup p engine going c.in-Some.is))) c.has_banks.ensures c.steps-steps.result c.steps-steps.ensures)
+    let place = (goal.at.returns-in-Ok g c).After-saturating_add-self-inside in
+    (loss-set (call g place) c.args.n (some g place) (other g place) c.in-Ok.field-0 (found g place (Ok c.in-Ok.field-0) c.in-Ok.is)).stepped
 
 pub invariant_of-self-in-Err : goal.invariant_of-self-in-Err
 invariant_of-self-in-Err g c =
-    let formulas_of = g.S.Suite.formulas_of in
-    let inside = c.self.inside in
-    let geo = shape_of inside.geo in
-    let p : WorldParts =
-    held (g.S.Suite.keys inside.suite) (memory_of inside.board) (ledger_of inside.ledger) inside.engine (g.S.Suite.tags inside.suite)
-    (g.S.Suite.digests inside.suite) inside.ports inside.tampered inside.dirtied inside.steps inside.start inside.shown in
-    let going = going_in formulas_of geo p c.args.self.now c.self.view_is c.requires c.self.invariant in
-    let setup = setup_in formulas_of geo p in
-    let engine = c.in-Some.engine in
-    let after = c.set_loss-done.new.engine in
-    let board = memory_of c.set_loss-done.new.board in
-    let taken = c.set_loss-done.result.taken in
-    let steps = c.saturating_add-self-inside.result in
-    let served : IsServed setup p (p.keys) board steps engine taken =
-    record {
-      going = going;
-      was_on = c.in-Some.is;
-      watched = c.set_loss-done.ensures.watched;
-      same_keys = refl;
-      counted = omega (arith, c.saturating_add-self-inside.ensures, c.steps-steps.ensures);
-    } in
-    let some : IsTrue (is_loss c.args.n) = search (rules, c.is_loss.ensures, c.if-not-is_loss.false) in
-    let other : c.args.n ≢ p.board.regs.loss =
-    λ same. c.if-n-from.false (same ∙ sym (c.from.ensures ∙ ap (λ (r : Regs). r.loss) c.regs.ensures)) in
-    held_after formulas_of geo p _ (Do.Loss c.args.n) _
-    (loss-cut setup p board steps engine after taken served c.args.n some other c.clear.new.self (none_wait c.clear.new.self c.clear.ensures) (let found = (subst (Has setup p board steps engine after taken served c.args.n some other) {x = c.set_loss-done.result.answer} {y = Err c.in-Err.field-0} (c.in-Err.is) (c.set_loss-done.ensures.set setup (ledger_of inside.ledger) p.tags p.digests (shape_in setup p engine going c.in-Some.is))) in subst (λ f. Has setup p board steps engine after taken served c.args.n some other (Err f)) (loss_answers setup p board steps engine after taken served c.args.n some other c.in-Err.field-0 found) found) c.steps-steps.result c.steps-steps.ensures)
+    let place = (goal.at.invariant_of-self-in-Err g c).After-saturating_add-self-inside in
+    (loss-cut (call g place) c.args.n (some g place) (other g place) c.in-Err.field-0 c.clear.new.self
+    (none_wait c.clear.new.self c.clear.ensures) (found g place (Err c.in-Err.field-0) c.in-Err.is)).holds
 
 pub returns-in-Err : goal.returns-in-Err
 returns-in-Err g c =
-    let formulas_of = g.S.Suite.formulas_of in
-    let inside = c.self.inside in
-    let geo = shape_of inside.geo in
-    let p : WorldParts =
-    held (g.S.Suite.keys inside.suite) (memory_of inside.board) (ledger_of inside.ledger) inside.engine (g.S.Suite.tags inside.suite)
-    (g.S.Suite.digests inside.suite) inside.ports inside.tampered inside.dirtied inside.steps inside.start inside.shown in
-    let going = going_in formulas_of geo p c.args.self.now c.self.view_is c.requires c.self.invariant in
-    let setup = setup_in formulas_of geo p in
-    let engine = c.in-Some.engine in
-    let after = c.set_loss-done.new.engine in
-    let board = memory_of c.set_loss-done.new.board in
-    let taken = c.set_loss-done.result.taken in
-    let steps = c.saturating_add-self-inside.result in
-    let served : IsServed setup p (p.keys) board steps engine taken =
-    record {
-      going = going;
-      was_on = c.in-Some.is;
-      watched = c.set_loss-done.ensures.watched;
-      same_keys = refl;
-      counted = omega (arith, c.saturating_add-self-inside.ensures, c.steps-steps.ensures);
-    } in
-    let some : IsTrue (is_loss c.args.n) = search (rules, c.is_loss.ensures, c.if-not-is_loss.false) in
-    let other : c.args.n ≢ p.board.regs.loss =
-    λ same. c.if-n-from.false (same ∙ sym (c.from.ensures ∙ ap (λ (r : Regs). r.loss) c.regs.ensures)) in
-    seen_from formulas_of geo p c.args.self.now _ (Do.Loss c.args.n) _ c.self.view_is
-    (loss-cut setup p board steps engine after taken served c.args.n some other c.clear.new.self (none_wait c.clear.new.self c.clear.ensures) (let found = (subst (Has setup p board steps engine after taken served c.args.n some other) {x = c.set_loss-done.result.answer} {y = Err c.in-Err.field-0} (c.in-Err.is) (c.set_loss-done.ensures.set setup (ledger_of inside.ledger) p.tags p.digests (shape_in setup p engine going c.in-Some.is))) in subst (λ f. Has setup p board steps engine after taken served c.args.n some other (Err f)) (loss_answers setup p board steps engine after taken served c.args.n some other c.in-Err.field-0 found) found) c.steps-steps.result c.steps-steps.ensures)
+    let place = (goal.at.returns-in-Err g c).After-saturating_add-self-inside in
+    (loss-cut (call g place) c.args.n (some g place) (other g place) c.in-Err.field-0 c.clear.new.self
+    (none_wait c.clear.new.self c.clear.ensures) (found g place (Err c.in-Err.field-0) c.in-Err.is)).stepped

@@ -3,10 +3,10 @@ use Rattle.std.proofs.Common.{subst}
 use Rattle.pmem_base.specs.Geo.{shape_of}
 use Rattle.board.specs.MemBoard.{memory_of}
 use Rattle.seal_ledger.specs.View.{ledger_of}
-use Rattle.pmem_replay.specs.World.{WorldParts, WorldState, setup_of, world_of}
-use Rattle.pmem_replay.specs.Given.{HasRoomMade}
-use Rattle.pmem_replay.proofs.Reserved.{reserved, room_made}
-use Rattle.pmem_replay.proofs.Held.{held, setup_in, going_in}
+use Rattle.pmem_replay.specs.World.{WorldParts, WorldState, setup_of_world, world_of}
+use Rattle.pmem_replay.specs.Given.{HasMarkRoom}
+use Rattle.pmem_replay.proofs.Steps.ReservedRoom.{reserved, room_made}
+use Rattle.pmem_replay.proofs.Steps.PartsOfWorld.{held, setup_in, going_in}
 use Rattle.pmem_replay.proofs.world.World.make_room.Goals as goal
 
 pub invariant_of-self-2 : goal.invariant_of-self-2
@@ -29,5 +29,5 @@ returns-clause-ok g c =
     held (g.S.Suite.keys inside.suite) (memory_of inside.board) (ledger_of inside.ledger) inside.engine (g.S.Suite.tags inside.suite)
     (g.S.Suite.digests inside.suite) inside.ports inside.tampered inside.dirtied inside.steps inside.start inside.shown in
     let going = going_in formulas_of geo p c.args.self.now c.self.view_is c.requires c.self.invariant in
-    subst (λ (w : WorldState). HasRoomMade (setup_of formulas_of w) w c.args.more (world_of (setup_in formulas_of geo p) (record p { ledger = ledger_of c.reserve.new.self }))) c.self.view_is
+    subst (λ (w : WorldState). HasMarkRoom (setup_of_world formulas_of w) w c.args.more (world_of (setup_in formulas_of geo p) (record p { ledger = ledger_of c.reserve.new.self }))) c.self.view_is
     (room_made (setup_in formulas_of geo p) p (ledger_of c.reserve.new.self) c.args.more c.in_ok-reserve.ensures.ok going)

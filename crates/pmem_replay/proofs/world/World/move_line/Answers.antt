@@ -1,12 +1,12 @@
 -- A line is copied.
 use Rattle.std.proofs.Common.{arith}
-use Rattle.pmem_replay.proofs.TableChanges.{move-ok}
+use Rattle.pmem_replay.proofs.Table.TableChanges.{move-ok}
 use Rattle.pmem_base.specs.Geo.{shape_of}
 use Rattle.board.specs.MemBoard.{memory_of}
 use Rattle.seal_ledger.specs.View.{ledger_of}
 use Rattle.pmem_base.specs.declared.commands.Command.TheVariants as Do
 use Rattle.pmem_replay.specs.World.{WorldParts, state_in}
-use Rattle.pmem_replay.proofs.Held.{held, setup_in, going_in, power_is, seen_from, held_after}
+use Rattle.pmem_replay.proofs.Steps.PartsOfWorld.{held, setup_in, going_in, power_is, seen_from, held_after}
 use Rattle.pmem_replay.proofs.world.World.move_line.Goals as goal
 
 pub invariant_of-self : goal.invariant_of-self
@@ -19,7 +19,10 @@ invariant_of-self g c =
     (g.S.Suite.digests inside.suite) inside.ports inside.tampered inside.dirtied inside.steps inside.start inside.shown in
     let going = going_in formulas_of geo p c.args.self.now c.self.view_is c.requires c.self.invariant in
     held_after formulas_of geo p _ (Do.Move c.args.from c.args.to) _
-    (move-ok (setup_in formulas_of geo p) p going c.args.from c.args.to (memory_of c.move_line.new.self) c.tamper.new.self (omega (arith, c.if-from-size.false, c.from-size.ensures, c.size.ensures.value)) (omega (arith, c.if-to-size.false, c.from-size.ensures, c.size.ensures.value)) c.move_line.ensures (c.tamper.ensures (state_in (setup_in formulas_of geo p) p) (power_is (setup_in formulas_of geo p) p c.is_some.result going c.is_some.ensures)))
+    (move-ok (setup_in formulas_of geo p) p going c.args.from c.args.to (memory_of c.move_line.new.self) c.tamper.new.self
+    (omega (arith, c.if-from-size.false, c.from-size.ensures, c.size.ensures.value))
+    (omega (arith, c.if-to-size.false, c.from-size.ensures, c.size.ensures.value)) c.move_line.ensures
+    (c.tamper.ensures (state_in (setup_in formulas_of geo p) p) (power_is (setup_in formulas_of geo p) p c.is_some.result going c.is_some.ensures)))
 
 pub returns : goal.returns
 returns g c =
@@ -31,4 +34,7 @@ returns g c =
     (g.S.Suite.digests inside.suite) inside.ports inside.tampered inside.dirtied inside.steps inside.start inside.shown in
     let going = going_in formulas_of geo p c.args.self.now c.self.view_is c.requires c.self.invariant in
     seen_from formulas_of geo p c.args.self.now _ (Do.Move c.args.from c.args.to) _ c.self.view_is
-    (move-ok (setup_in formulas_of geo p) p going c.args.from c.args.to (memory_of c.move_line.new.self) c.tamper.new.self (omega (arith, c.if-from-size.false, c.from-size.ensures, c.size.ensures.value)) (omega (arith, c.if-to-size.false, c.from-size.ensures, c.size.ensures.value)) c.move_line.ensures (c.tamper.ensures (state_in (setup_in formulas_of geo p) p) (power_is (setup_in formulas_of geo p) p c.is_some.result going c.is_some.ensures)))
+    (move-ok (setup_in formulas_of geo p) p going c.args.from c.args.to (memory_of c.move_line.new.self) c.tamper.new.self
+    (omega (arith, c.if-from-size.false, c.from-size.ensures, c.size.ensures.value))
+    (omega (arith, c.if-to-size.false, c.from-size.ensures, c.size.ensures.value)) c.move_line.ensures
+    (c.tamper.ensures (state_in (setup_in formulas_of geo p) p) (power_is (setup_in formulas_of geo p) p c.is_some.result going c.is_some.ensures)))

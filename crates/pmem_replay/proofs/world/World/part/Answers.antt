@@ -3,15 +3,15 @@ use Rattle.std.proofs.Common.{arith, ap, subst, ◌∙◌, ◌++◌, [], ◌∷�
 use Rattle.std.specs.Prelude.{slice_set, IsErr}
 use Rattle.pmem_base.specs.declared.commands.Posted.{Posted}
 use Rattle.pmem_base.specs.Ranges.{IsPosted}
-use Rattle.pmem_replay.proofs.TableChanges.{part-ok}
-use Rattle.pmem_replay.proofs.Held.{engine_some, from_no_error}
+use Rattle.plain_model.specs.State.{queue_of}
+use Rattle.pmem_replay.proofs.Table.TableChanges.{part-ok}
+use Rattle.pmem_replay.proofs.Steps.PartsOfWorld.{engine_some, from_no_error}
 use Rattle.pmem_base.specs.Geo.{shape_of}
 use Rattle.board.specs.MemBoard.{memory_of}
 use Rattle.seal_ledger.specs.View.{ledger_of}
 use Rattle.pmem_base.specs.declared.commands.Command.TheVariants as Do
-use Rattle.pmem_base.specs.WaitingWrites.{queue_of}
 use Rattle.pmem_replay.specs.World.{WorldParts}
-use Rattle.pmem_replay.proofs.Held.{held, setup_in, going_in, seen_from, held_after}
+use Rattle.pmem_replay.proofs.Steps.PartsOfWorld.{held, setup_in, going_in, seen_from, held_after}
 use Rattle.pmem_replay.proofs.world.World.part.Goals as goal
 
 pub invariant_of-self-2 : goal.invariant_of-self-2
@@ -26,7 +26,10 @@ invariant_of-self-2 g c =
     let going = going_in formulas_of geo p c.args.self.now c.self.view_is c.requires.shown c.self.invariant in
     let found = engine_some p.engine c.is_none.result c.is_none.ensures c.if-is_none.false in
     held_after formulas_of geo p _ (Do.Part c.args.port c.args.at c.args.from c.args.count c.args.line.now) _
-    (part-ok (setup_in formulas_of geo p) p going found.0 found.1 c.args.port c.args.at c.args.from c.args.count c.args.line.now c.post.new.self c.requires.port (λ full. fine (c.post.ensures.full.1 full)) (subst IsPosted c.part_of_line-write.ensures.value c.part_of_line-write.ensures.posted) (omega (arith, c.if-at-from.false, c.from.ensures, c.lines.ensures.value)) (omega (arith, c.if-from.false, c.from-2.ensures, c.requires.part.inside)) (from_no_error c.post.result fine c.post.ensures.ok ∙ ap (λ (w : Posted). slice_set inside.ports c.args.port (queue_of inside.ports c.args.port ++ w ∷ [])) c.part_of_line-write.ensures.value))
+    (part-ok (setup_in formulas_of geo p) p going found.0 found.1 c.args.port c.args.at c.args.from c.args.count c.args.line.now c.post.new.self
+    c.requires.port (λ full. fine (c.post.ensures.full.1 full)) (subst IsPosted c.part_of_line-write.ensures.value c.part_of_line-write.ensures.posted)
+    (omega (arith, c.if-at-from.false, c.from.ensures, c.lines.ensures.value)) (omega (arith, c.if-from.false, c.from-2.ensures, c.requires.part.inside))
+    (from_no_error c.post.result fine c.post.ensures.ok ∙ ap (λ (w : Posted). slice_set inside.ports c.args.port (queue_of inside.ports c.args.port ++ w ∷ [])) c.part_of_line-write.ensures.value))
 
 pub returns : goal.returns
 returns g c =
@@ -40,4 +43,7 @@ returns g c =
     let going = going_in formulas_of geo p c.args.self.now c.self.view_is c.requires.shown c.self.invariant in
     let found = engine_some p.engine c.is_none.result c.is_none.ensures c.if-is_none.false in
     seen_from formulas_of geo p c.args.self.now _ (Do.Part c.args.port c.args.at c.args.from c.args.count c.args.line.now) _ c.self.view_is
-    (part-ok (setup_in formulas_of geo p) p going found.0 found.1 c.args.port c.args.at c.args.from c.args.count c.args.line.now c.post.new.self c.requires.port (λ full. fine (c.post.ensures.full.1 full)) (subst IsPosted c.part_of_line-write.ensures.value c.part_of_line-write.ensures.posted) (omega (arith, c.if-at-from.false, c.from.ensures, c.lines.ensures.value)) (omega (arith, c.if-from.false, c.from-2.ensures, c.requires.part.inside)) (from_no_error c.post.result fine c.post.ensures.ok ∙ ap (λ (w : Posted). slice_set inside.ports c.args.port (queue_of inside.ports c.args.port ++ w ∷ [])) c.part_of_line-write.ensures.value))
+    (part-ok (setup_in formulas_of geo p) p going found.0 found.1 c.args.port c.args.at c.args.from c.args.count c.args.line.now c.post.new.self
+    c.requires.port (λ full. fine (c.post.ensures.full.1 full)) (subst IsPosted c.part_of_line-write.ensures.value c.part_of_line-write.ensures.posted)
+    (omega (arith, c.if-at-from.false, c.from.ensures, c.lines.ensures.value)) (omega (arith, c.if-from.false, c.from-2.ensures, c.requires.part.inside))
+    (from_no_error c.post.result fine c.post.ensures.ok ∙ ap (λ (w : Posted). slice_set inside.ports c.args.port (queue_of inside.ports c.args.port ++ w ∷ [])) c.part_of_line-write.ensures.value))

@@ -1,12 +1,12 @@
 -- A line is shown.
 use Rattle.std.proofs.Common.{arith}
-use Rattle.pmem_replay.proofs.TableChanges.{peek-ok}
+use Rattle.pmem_replay.proofs.Table.TableChanges.{peek-ok}
 use Rattle.pmem_base.specs.Geo.{shape_of}
 use Rattle.board.specs.MemBoard.{memory_of}
 use Rattle.seal_ledger.specs.View.{ledger_of}
 use Rattle.pmem_base.specs.declared.commands.Command.TheVariants as Do
 use Rattle.pmem_replay.specs.World.{WorldParts}
-use Rattle.pmem_replay.proofs.Held.{held, setup_in, going_in, seen_still}
+use Rattle.pmem_replay.proofs.Steps.PartsOfWorld.{held, setup_in, going_in, seen_still}
 use Rattle.pmem_replay.proofs.world.World.peek.Goals as goal
 
 pub returns : goal.returns

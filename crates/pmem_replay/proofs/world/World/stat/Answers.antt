@@ -1,14 +1,14 @@
 -- The counts since formatting ended.
 use Rattle.std.proofs.Common.{ℕ, arith, ap, ◌∙◌, ◌-◌}
 use Rattle.pmem_base.specs.declared.answers.Stat.{Stat}
-use Rattle.pmem_replay.proofs.TableChanges.{stat-ok}
-use Rattle.pmem_replay.proofs.PeekLaws.{all_told}
+use Rattle.pmem_replay.proofs.Table.TableChanges.{stat-ok}
+use Rattle.pmem_replay.proofs.Table.PeekLaws.{all_told}
 use Rattle.pmem_base.specs.Geo.{shape_of}
 use Rattle.board.specs.MemBoard.{memory_of}
 use Rattle.seal_ledger.specs.View.{ledger_of}
 use Rattle.pmem_base.specs.declared.commands.Command.TheVariants as Do
 use Rattle.pmem_replay.specs.World.{WorldParts, AreExact}
-use Rattle.pmem_replay.proofs.Held.{held, setup_in, going_in, seen_still}
+use Rattle.pmem_replay.proofs.Steps.PartsOfWorld.{held, setup_in, going_in, seen_still}
 use Rattle.pmem_replay.proofs.world.World.stat.Goals as goal
 
 pub returns : goal.returns

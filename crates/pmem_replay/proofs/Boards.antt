@@ -1,0 +1,4 @@
+-- The watched board, and flags.
+pub mod WatchLemmas
+pub mod StampLemmas
+pub mod FlagLemmas

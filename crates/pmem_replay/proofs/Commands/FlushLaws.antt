@@ -1,0 +1,138 @@
+-- Flushes: the engine's answer is legal and fits, and the world goes on.
+use Rattle.std.proofs.Common.{rules}
+use Rattle.std.proofs.Common.{ℕ, ◌≡◌, ◌≢◌, inl, inr, Bool, true, false, IsTrue, Some, None, Ok, Err, refl, sym, ap, subst, ◌∙◌, arith}
+use Rattle.std.specs.Prelude.{not, ◌&&◌}
+use Rattle.std.specs.List.{list_any, range_with_len}
+use Rattle.std.proofs.lemmas.Bool.{true≢false, and_parts, and_from}
+use Rattle.std.proofs.lemmas.List.{length-replicate, length-set, get_or-set_other}
+use Rattle.pmem_base.specs.Layout as layout
+use Rattle.pmem_base.specs.declared.commands.Command.TheVariants as Do
+use Rattle.pmem_base.specs.declared.answers.Answer.TheVariants as Say
+use Rattle.bonsai_tree.specs.Positions.{level_of, is_on_path}
+use Rattle.board.specs.Device.{Device}
+use Rattle.meta_cache.specs.Banks.{set_of, set_index, is_cached_dirty, IsBanksOf}
+use Rattle.meta_cache.proofs.SlotLemmas.{dirty_slot, All-stands}
+use Rattle.suite.specs.Setup.{Setup}
+use Rattle.plain_model.specs.State.{is_flagged, with_flag, no_flags}
+use Rattle.plain_model.specs.After.{state_after}
+use Rattle.plain_model.specs.Bounds.{can_be_dirty}
+use Rattle.pmem_engine.specs.declared.fault.Fault.TheVariants as Fail
+use Rattle.pmem_engine.specs.Engine.{EngineState}
+use Rattle.pmem_engine.specs.Invariants.{IsTrusted, IsTrueSlot}
+use Rattle.pmem_engine.specs.Calls.{HasFlushed, IsLeftAlone}
+use Rattle.pmem_replay.specs.World.{WorldState, IsOn, IsWorld}
+use Rattle.pmem_replay.specs.declared.taken.Taken.{Taken}
+use Rattle.pmem_replay.specs.During.{none_taken, parts_in, steps_in}
+use Rattle.pmem_replay.proofs.Steps.WorldsAfterCalls.{on_in, IsCall, cut_at_fuse, within_fuse}
+use Rattle.pmem_replay.proofs.Steps.MarklessCalls.{exactly, flagged_state, flags-going}
+use Rattle.pmem_replay.proofs.Steps.FaultCauses.{zero_within}
+use Rattle.pmem_replay.specs.Replies.{without_marks}
+use Rattle.pmem_replay.proofs.Steps.GoodReplies.{IsGood}
+
+-- where nothing was done no step was taken
+pub left_alone-steps : (setup : Setup) (old new : WorldState) (engine after : EngineState) (taken : Taken)
+    → IsLeftAlone (parts_in old engine none_taken) (parts_in new after taken) → steps_in taken ≡ 0
+left_alone-steps setup old new engine after taken alone =
+    let writes : taken.writes ≡ 0 = ap (λ (device : Device). device.writes) alone.device in
+    let latches : taken.latches ≡ 0 = ap (λ (device : Device). device.latches) alone.device in
+    omega (arith, writes, latches)
+
+-- a position that is no longer dirty in its level's bank isn't in any other
+clean_everywhere : (setup : Setup) (world : WorldState) (after : EngineState) (bank x y : ℕ)
+    → IsTrusted setup after world.board.regs world.ledger
+    → is_cached_dirty setup.shape after.cache (level_of x) x ≡ false
+    → is_cached_dirty setup.shape after.cache bank y ≡ true → y ≢ x
+clean_everywhere setup world after bank x y trusted clean dirty same =
+    let slot = dirty_slot setup.shape after.cache bank y dirty in
+    let its = All-stands (IsTrueSlot setup.shape world.ledger.truth bank (set_index setup.shape y)) (set_of after.cache bank (set_index setup.shape y)) slot.0
+    (trusted.cached_true bank (set_index setup.shape y)) slot.1 in
+    let level : level_of x ≡ bank = ap level_of (sym same ∙ sym slot.2) ∙ its.its_bank in
+    true≢false (sym (subst (λ z. is_cached_dirty setup.shape after.cache bank z ≡ true) same dirty)
+    ∙ subst (λ b. is_cached_dirty setup.shape after.cache b x ≡ false) level clean)
+
+module _ (setup : Setup) (old new : WorldState) (engine after : EngineState) (taken : Taken)
+    (call : IsCall setup old new engine after taken) where
+  on_now : IsOn setup old engine
+  on_now = on_in setup old engine call.world call.was_on
+
+  -- ---- nothing is dirty
+
+  module _ (flush : HasFlushed setup (parts_in old engine none_taken) (parts_in new after taken) (Ok None)) where
+    pub clean-good : IsGood setup old Do.Flush (without_marks Say.Clean)
+    clean-good = search (rules, zero_within)
+
+    pub clean-world : new.state ≡ state_after setup.shape old.state Do.Flush (without_marks Say.Clean) → new.engine ≡ Some after
+        → IsBanksOf setup.shape after.cache → IsWorld setup new
+    unfolding no_flags
+    clean-world state there whole_cache =
+        let answered = flush.answered on_now.trusted.not_down in
+        let zero = left_alone-steps setup old new engine after taken answered.0 in
+        flags-going setup old new engine after taken call (flush.done on_now.trusted.not_down) there whole_cache
+        (no_flags (layout.pages setup.shape)) (no_flags (layout.meta_lines setup.shape))
+        (subst (λ n. new.state ≡ flagged_state old.state n (no_flags (layout.pages setup.shape)) (no_flags (layout.meta_lines setup.shape))) (sym zero) state)
+        (length-replicate (layout.pages setup.shape) false) (length-replicate (layout.meta_lines setup.shape) false)
+        (λ bank x now.
+        absurd (true≢false (sym now
+        ∙ ap (λ (engine : EngineState). is_cached_dirty setup.shape engine.cache bank x) answered.0.engine
+        ∙ answered.1 bank x)))
+
+  -- ---- a block is written back
+
+  module _ (x : ℕ) (flush : HasFlushed setup (parts_in old engine none_taken) (parts_in new after taken) (Ok (Some x))) where
+    pub flushed-good : IsGood setup old Do.Flush (without_marks (Say.Flushed x (steps_in taken)))
+    flushed-good =
+        let answered = flush.answered on_now.trusted.not_down in
+        let done = flush.done on_now.trusted.not_down in
+        let powered = done.gone.power.1 (call.world.board.power ∙ on_now.powered) in
+        record {
+          legal =
+              record {
+                legal =
+                    record {
+                      listed = refl;
+                      within_fuse = within_fuse old.state old.board new.board taken call.world.board call.follows powered;
+                      writes_whole = refl;
+                      caused = tt;
+                    };
+                shown = tt;
+              };
+          fits =
+              record {
+                marks_asked = refl;
+                peek_true = tt;
+                steps_counted = tt;
+                flush_true = on_now.dirty (level_of x) x answered.0;
+                within_bounds = exactly old.board new.board taken 1 call.follows.few answered.3;
+              };
+        }
+
+    pub flushed-world : new.state ≡ state_after setup.shape old.state Do.Flush (without_marks (Say.Flushed x (steps_in taken)))
+        → new.engine ≡ Some after → IsBanksOf setup.shape after.cache → IsWorld setup new
+    flushed-world state there whole_cache =
+        let answered = flush.answered on_now.trusted.not_down in
+        let done = flush.done on_now.trusted.not_down in
+        flags-going setup old new engine after taken call done there whole_cache
+        old.state.touched (with_flag old.state.flushed x) state call.world.flags.touched
+        (length-set old.state.flushed x true ∙ call.world.flags.flushed)
+        (λ bank y now.
+        elim ((done.gone.metadata on_now.trusted).dirty bank y now) [
+          | inl was ↦
+              let may = on_now.dirty bank y was in
+              let parts = and_parts (touched_block y) (not (is_flagged old.state.flushed y)) may in
+              let apart = clean_everywhere setup new after bank x y (done.gone.trusted on_now.trusted) answered.1 now in
+              subst (λ s. IsTrue (can_be_dirty setup.shape s y)) (sym state)
+              (and_from (touched_block y) (not (is_flagged (with_flag old.state.flushed x) y)) parts.0
+              (ap not (get_or-set_other old.state.flushed x y true false apart) ∙ parts.1))
+          | inr touched ↦ absurd (true≢false (sym touched.1))
+        ])
+      where
+        touched_block : ℕ → Bool
+        touched_block y =
+            list_any (λ page. is_flagged old.state.touched page && is_on_path setup.shape page y)
+            (range_with_len 0 (layout.pages setup.shape))
+
+  -- ---- a cut
+
+  module _ (flush : HasFlushed setup (parts_in old engine none_taken) (parts_in new after taken) (Err Fail.Cut)) where
+    pub cut-good : IsGood setup old Do.Flush (without_marks (Say.Cut (steps_in taken)))
+    cut-good = search (rules, arith, cut_at_fuse, exactly, within_fuse, on_now)

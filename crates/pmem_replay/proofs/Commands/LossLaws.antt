@@ -1,0 +1,229 @@
+-- The stop-loss number: the engine's answer is legal and fits, and the world goes on.
+use Rattle.std.proofs.Common.{ℕ, mul-le-mul_left, mul-le-mul_right, ◌≡◌, ◌≢◌, ◌<◌, ◌≤◌, ◌+◌, ◌-◌, inl, inr, Bool, true, false, [], ◌∷◌, IsTrue, Some, None, Ok, Err, refl, sym, ap, subst, ◌∙◌, arith, cond}
+use Rattle.std.specs.Prelude.{MatchBool, option_map, nat_lt, ◌==◌}
+use Rattle.std.proofs.lemmas.Bool.{true≢false, ne_eqb, lt-ltb, le-leb}
+use Rattle.std.proofs.lemmas.List.{append-nil}
+use Rattle.pmem_base.specs.Layout as layout
+use Rattle.pmem_base.specs.Shape.{Shape, IsShape}
+use Rattle.pmem_base.specs.declared.commands.Command.TheVariants as Do
+use Rattle.pmem_base.specs.declared.answers.Answer.TheVariants as Say
+use Rattle.bonsai_tree.specs.Positions.{counter_position}
+use Rattle.meta_cache.specs.Banks.{IsBanksOf}
+use Rattle.meta_path.specs.Blocks.{dirty_in_bank}
+use Rattle.suite.specs.Setup.{Setup}
+use Rattle.plain_model.specs.State.{PlainState}
+use Rattle.plain_model.specs.After.{steps_with}
+use Rattle.plain_model.specs.Bounds.{can_be_dirty, dirty_bound, AreAllWithin}
+use Rattle.pmem_engine.specs.declared.fault.Fault.TheVariants as Fail
+use Rattle.pmem_engine.specs.Engine.{EngineState}
+use Rattle.pmem_engine.specs.Outcomes.{TakesFewer}
+use Rattle.pmem_engine.specs.Calls.{HasSetLoss}
+use Rattle.pmem_replay.specs.World.{WorldState, IsMemoryOf, HasFlags, HasQueues, IsOn, IsWorld}
+use Rattle.pmem_replay.specs.declared.taken.Taken.{Taken}
+use Rattle.pmem_replay.specs.During.{none_taken, parts_in, device_during, steps_in}
+use Rattle.pmem_replay.proofs.Steps.WorldsAfterCalls.{on_in, IsCall, IsHealed-same, cut_at_fuse, within_fuse, world-going, world-cut}
+use Rattle.pmem_replay.proofs.Marks.DirtyBlocks.{dirty_blocks-le, dirty_slots-le}
+use Rattle.pmem_replay.proofs.Steps.MarklessCalls.{fewer, exactly, cut_state, accounted_in, HasQueues-none, same_flags}
+use Rattle.pmem_replay.proofs.Steps.FaultCauses.{counter_position-within}
+use Rattle.pmem_replay.specs.Replies.{without_marks}
+use Rattle.pmem_replay.proofs.Steps.GoodReplies.{IsGood}
+
+-- the state with another stop-loss number, and these steps counted
+abbrev pub loss_state : PlainState → ℕ → ℕ → PlainState
+loss_state state n taken =
+    record state {
+      loss = n;
+      steps = steps_with state.steps taken;
+      fuse = option_map (λ left. left - taken) state.fuse;
+    }
+
+-- the slots of a bank are few
+pub few_slots : (g : Shape) → IsShape g → layout.slots g ≤ 512
+few_slots g shape =
+    omega (arith, mul-le-mul_left g.sets shape.at_most_eight_ways, mul-le-mul_right 8 shape.at_most_64_sets)
+
+module _ (setup : Setup) (old new : WorldState) (engine after : EngineState) (taken : Taken)
+    (call : IsCall setup old new engine after taken) (n : ℕ) (other : n ≢ old.state.loss) where
+  on_now : IsOn setup old engine
+  on_now = on_in setup old engine call.world call.was_on
+
+  abbrev dirty_now : ℕ
+  dirty_now = dirty_in_bank setup.shape engine.cache setup.shape.levels
+
+  not_same : (n == old.board.regs.loss) ≡ false
+  not_same = ne_eqb n old.board.regs.loss (λ same. other (same ∙ call.world.board.loss))
+
+  few_dirty : (dirty_now ≤ layout.slots setup.shape) × (dirty_now ≤ dirty_bound setup.shape old.state)
+  few_dirty =
+      let accounted = accounted_in setup old engine call.world on_now in (
+        dirty_slots-le setup.shape engine.cache old.state accounted setup.shape.levels,
+        dirty_blocks-le setup.shape engine.cache old.state accounted setup.shape.levels,
+      )
+
+  -- ---- the number is set
+
+  module _ (steps : ℕ) (set : HasSetLoss setup n (parts_in old engine none_taken) (parts_in new after taken) (Ok steps)) where
+    its_steps : MatchBool (nat_lt old.state.loss n) (steps_in taken ≡ 1) (steps_in taken ≡ dirty_now + 1)
+    its_steps =
+        let answered = set.answered on_now.trusted.not_down in
+        let same : steps_in taken ≡ steps = exactly old.board new.board taken steps call.follows.few answered.1 in
+        let by_less : MatchBool (nat_lt old.board.regs.loss n) (steps ≡ 1) (steps ≡ dirty_now + 1) =
+        subst (λ b. MatchBool b (steps ≡ 0) (MatchBool (nat_lt old.board.regs.loss n) (steps ≡ 1) (steps ≡ dirty_now + 1))) not_same answered.0 in
+        subst (λ loss. MatchBool (nat_lt loss n) (steps_in taken ≡ 1) (steps_in taken ≡ dirty_now + 1)) call.world.board.loss
+        (subst (λ k. MatchBool (nat_lt old.board.regs.loss n) (k ≡ 1) (k ≡ dirty_now + 1)) (sym same) by_less)
+
+    set_steps : (less : Bool) → MatchBool less (steps_in taken ≡ 1) (steps_in taken ≡ dirty_now + 1)
+        → MatchBool less (steps_in taken ≡ 1) ((1 ≤ steps_in taken) × (steps_in taken ≤ layout.slots setup.shape + 1))
+    set_steps true one = one
+    set_steps false many = (omega (arith, many), omega (arith, many, few_dirty.0))
+
+    set_bounds : (less : Bool) → MatchBool less (steps_in taken ≡ 1) (steps_in taken ≡ dirty_now + 1)
+        → AreAllWithin false (steps_in taken)
+        (cond less (1 ∷ []) ((layout.slots setup.shape + 1) ∷ (dirty_bound setup.shape old.state + 1) ∷ []))
+    set_bounds true one = (le-leb (steps_in taken) 1 (omega (arith, one)), tt)
+    set_bounds false many = (
+      le-leb (steps_in taken) (layout.slots setup.shape + 1) (omega (arith, many, few_dirty.0)),
+      (le-leb (steps_in taken) (dirty_bound setup.shape old.state + 1) (omega (arith, many, few_dirty.1)), tt),
+    )
+
+    pub set-good : IsGood setup old (Do.Loss n) (without_marks (Say.LossSet (steps_in taken)))
+    set-good =
+        let gone = set.gone on_now.trusted.not_down in
+        let powered = gone.power.1 (call.world.board.power ∙ on_now.powered) in
+        record {
+          legal =
+              record {
+                legal =
+                    record {
+                      listed = refl;
+                      within_fuse = within_fuse old.state old.board new.board taken call.world.board call.follows powered;
+                      writes_whole = refl;
+                      caused = set_steps (nat_lt old.state.loss n) its_steps;
+                    };
+                shown = tt;
+              };
+          fits =
+              record {
+                marks_asked = refl;
+                peek_true = tt;
+                steps_counted = tt;
+                flush_true = tt;
+                within_bounds =
+                    subst (λ b. AreAllWithin false (steps_in taken)
+                    (cond b (0 ∷ []) (cond (nat_lt old.state.loss n) (1 ∷ []) ((layout.slots setup.shape + 1) ∷ (dirty_bound setup.shape old.state + 1) ∷ []))))
+                    (sym (ne_eqb n old.state.loss other))
+                    (set_bounds (nat_lt old.state.loss n) its_steps);
+              };
+        }
+
+    pub set-world : new.state ≡ loss_state old.state n (steps_in taken) → new.engine ≡ Some after → IsBanksOf setup.shape after.cache
+        → IsWorld setup new
+    set-world state there whole_cache =
+        let gone = set.gone on_now.trusted.not_down in
+        let marks : new.ledger.marks ≡ old.ledger.marks = gone.marks ∙ append-nil old.ledger.marks in
+        world-going setup old new engine after taken [] call gone
+        (record {
+          each =
+              λ tight page within unnamed it.
+              set.counters on_now.trusted.not_down on_now.trusted page within
+              (on_now.metadata tight (counter_position setup.shape page) (counter_position-within setup.shape page within) unnamed) it;
+        })
+        (IsHealed-same setup old.state new.state (ap (λ s. s.named) state) (ap (λ s. s.loose) state) (ap (λ s. s.hurt) state) (ap (λ s. s.spoiled) state))
+        (record { snapped = ap (λ s. s.snapped) state; steps = ap (λ s. s.steps) state })
+        (ap (λ s. s.fuse) state) (ap (λ s. s.power) state ∙ on_now.powered) there
+        ((set.answered on_now.trusted.not_down).2 ∙ sym (ap (λ s. s.loss) state))
+        (subst (λ s. IsMemoryOf setup new.ledger.marks s.memory) (sym state)
+        (subst (λ m. IsMemoryOf setup m old.state.memory) (sym marks) call.world.memory))
+        (subst (λ s. HasFlags setup.shape s) (sym state) (same_flags setup.shape old.state _ call.world.flags refl refl refl refl refl))
+        (subst (λ s. HasQueues setup.shape s) (sym state)
+        (record { ports = call.world.queues.ports; on_memory = call.world.queues.on_memory }))
+        whole_cache
+        (λ bank x now.
+        elim ((gone.metadata on_now.trusted).dirty bank x now) [
+          | inl was ↦ subst (λ s. IsTrue (can_be_dirty setup.shape s x)) (sym state) (on_now.dirty bank x was)
+          | inr touched ↦ absurd (true≢false (sym touched.1))
+        ])
+
+  -- ---- a cut
+
+  module _ (set : HasSetLoss setup n (parts_in old engine none_taken) (parts_in new after taken) (Err Fail.Cut)) where
+    cut_steps : MatchBool (nat_lt old.state.loss n) (steps_in taken < 1) (steps_in taken < dirty_now + 1)
+    cut_steps =
+        let answered = set.answered on_now.trusted.not_down in
+        let by_less =
+        subst (λ b. MatchBool b ⊥ (MatchBool (nat_lt old.board.regs.loss n)
+        (TakesFewer 1 (device_during old.board none_taken) (device_during new.board taken))
+        (TakesFewer (dirty_now + 1) (device_during old.board none_taken) (device_during new.board taken)))) not_same answered.0 in
+        subst (λ loss. MatchBool (nat_lt loss n) (steps_in taken < 1) (steps_in taken < dirty_now + 1)) call.world.board.loss
+        (go (nat_lt old.board.regs.loss n) by_less)
+      where
+        go : (less : Bool)
+            → MatchBool less (TakesFewer 1 (device_during old.board none_taken) (device_during new.board taken))
+            (TakesFewer (dirty_now + 1) (device_during old.board none_taken) (device_during new.board taken))
+            → MatchBool less (steps_in taken < 1) (steps_in taken < dirty_now + 1)
+        go true it = fewer old.board new.board taken 1 call.follows.few it
+        go false it = fewer old.board new.board taken (dirty_now + 1) call.follows.few it
+
+    cut_bounds : (less : Bool) → MatchBool less (steps_in taken < 1) (steps_in taken < dirty_now + 1)
+        → AreAllWithin true (steps_in taken)
+        (cond less (1 ∷ []) ((layout.slots setup.shape + 1) ∷ (dirty_bound setup.shape old.state + 1) ∷ []))
+    cut_bounds true one = (lt-ltb (steps_in taken) 1 one, tt)
+    cut_bounds false many = (
+      lt-ltb (steps_in taken) (layout.slots setup.shape + 1) (omega (arith, many, few_dirty.0)),
+      (lt-ltb (steps_in taken) (dirty_bound setup.shape old.state + 1) (omega (arith, many, few_dirty.1)), tt),
+    )
+
+    few_steps : (less : Bool) → MatchBool less (steps_in taken < 1) (steps_in taken < dirty_now + 1) → steps_in taken < 1000
+    few_steps true one = omega (arith, one)
+    few_steps false many = omega (arith, many, few_dirty.0, few_slots setup.shape call.world.whole_shape)
+
+    pub cut-good : IsGood setup old (Do.Loss n) (without_marks (Say.Cut (steps_in taken)))
+    cut-good =
+        let gone = set.gone on_now.trusted.not_down in
+        record {
+          legal =
+              record {
+                legal =
+                    record {
+                      listed = refl;
+                      within_fuse =
+                          cut_at_fuse old.state old.board new.board taken call.world.board call.follows gone.power.1
+                          (omega (arith, few_steps (nat_lt old.state.loss n) cut_steps));
+                      writes_whole = refl;
+                      caused = tt;
+                    };
+                shown = tt;
+              };
+          fits =
+              record {
+                marks_asked = refl;
+                peek_true = tt;
+                steps_counted = tt;
+                flush_true = tt;
+                within_bounds =
+                    subst (λ b. AreAllWithin true (steps_in taken)
+                    (cond b (0 ∷ []) (cond (nat_lt old.state.loss n) (1 ∷ []) ((layout.slots setup.shape + 1) ∷ (dirty_bound setup.shape old.state + 1) ∷ []))))
+                    (sym (ne_eqb n old.state.loss other))
+                    (cut_bounds (nat_lt old.state.loss n) cut_steps);
+              };
+        }
+
+    pub cut-world : new.state ≡ cut_state old.state (steps_in taken) → new.engine ≡ None → IsWorld setup new
+    cut-world state there =
+        let gone = set.gone on_now.trusted.not_down in
+        let marks : new.ledger.marks ≡ old.ledger.marks = gone.marks ∙ append-nil old.ledger.marks in
+        world-cut setup old new engine after taken [] call gone
+        (record {
+          each =
+              λ tight page within unnamed it.
+              set.counters on_now.trusted.not_down on_now.trusted page within
+              (on_now.metadata tight (counter_position setup.shape page) (counter_position-within setup.shape page within) unnamed) it;
+        })
+        (IsHealed-same setup old.state new.state (ap (λ s. s.named) state) (ap (λ s. s.loose) state) (ap (λ s. s.hurt) state) (ap (λ s. s.spoiled) state))
+        (record { snapped = ap (λ s. s.snapped) state; steps = ap (λ s. s.steps) state })
+        (ap (λ s. s.fuse) state) (ap (λ s. s.power) state) there
+        ((set.answered on_now.trusted.not_down).1 ∙ call.world.board.loss ∙ sym (ap (λ s. s.loss) state))
+        (subst (λ s. IsMemoryOf setup new.ledger.marks s.memory) (sym state)
+        (subst (λ m. IsMemoryOf setup m old.state.memory) (sym marks) call.world.memory))
+        (subst (λ s. HasFlags setup.shape s) (sym state) (same_flags setup.shape old.state _ call.world.flags refl refl refl refl refl))
+        (HasQueues-none setup.shape new.state (ap (λ s. s.queues) state))

@@ -1,0 +1,324 @@
+-- Turns: the engine's answer is legal and fits, and the world goes on.
+use Rattle.std.proofs.Common.{rules}
+use Rattle.std.proofs.Common.{ℕ, ◌≡◌, ◌≢◌, ◌<◌, ◌⊎◌, inl, inr, true, false, List, [], IsTrue, Option, Some, None, Ok, Err, refl, sym, ap, subst, ◌∙◌, arith}
+use Rattle.std.specs.Prelude.{Result, IfSome, IsSome, option_map, All}
+use Rattle.std.proofs.lemmas.Option.{same_Some}
+use Rattle.std.proofs.lemmas.Bool.{true≢false, cases_Bool}
+use Rattle.std.proofs.lemmas.List.{append-nil}
+use Rattle.pmem_base.specs.declared.answers.Mark.{Mark}
+use Rattle.pmem_base.specs.declared.answers.Exhibit.{Exhibit}
+use Rattle.pmem_base.specs.declared.answers.Exhibit.TheVariants.{Forged}
+use Rattle.pmem_base.specs.declared.answers.Place.{Place}
+use Rattle.pmem_base.specs.Layout as layout
+use Rattle.pmem_base.specs.Marks.{last_seal}
+use Rattle.pmem_base.specs.declared.commands.Command.TheVariants as Do
+use Rattle.pmem_base.specs.declared.answers.Answer.TheVariants as Say
+use Rattle.meta_cache.specs.Banks.{IsBanksOf}
+use Rattle.suite.specs.Setup.{Setup}
+use Rattle.plain_model.specs.State.{PlainState, is_flagged}
+use Rattle.plain_model.proofs.Views.{counter_at-last}
+use Rattle.plain_model.specs.After.{state_after, after_marks}
+use Rattle.plain_model.specs.Asked.{Moment, moment_of}
+use Rattle.plain_model.specs.Shown.{IsShown}
+use Rattle.plain_model.specs.Fits.{IsTurnMark, oldest_page}
+use Rattle.plain_model.specs.Bounds.{can_be_dirty}
+use Rattle.pmem_engine.specs.declared.fault.Fault.{Fault}
+use Rattle.pmem_engine.specs.declared.fault.Fault.TheVariants as Fail
+use Rattle.pmem_engine.specs.Engine.{EngineState}
+use Rattle.pmem_engine.specs.Outcomes.{going, shown, is_sealed_by, HasDone, KeepsPlaces}
+use Rattle.pmem_engine.specs.Calls.{HasTurned}
+use Rattle.pmem_replay.specs.World.{WorldState, IsMemoryOf, HasFlags, HasQueues, IsOn, IsWorld, view_in, lines_in}
+use Rattle.pmem_replay.specs.declared.taken.Taken.{Taken}
+use Rattle.pmem_replay.specs.During.{none_taken, parts_in, steps_in}
+use Rattle.pmem_replay.proofs.Steps.WorldsAfterCalls.{on_in, IsCall, IsHealed, cut_at_fuse, within_fuse, world-going, world-cut}
+use Rattle.pmem_replay.proofs.Steps.FaultCauses.{stored_unspoiled, hurt_before, tag_unstored, forged_unstored, forged_other, zero_within, shown_uncut}
+use Rattle.pmem_replay.proofs.Steps.MarklessCalls.{fewer, exactly, counted_state, cut_state, quiet-going, HasQueues-none, same_flags}
+use Rattle.pmem_replay.proofs.Commands.FlushLaws.{left_alone-steps}
+use Rattle.pmem_replay.proofs.Marks.OpenPages.{IsWholePage, whole_pages, lowest_within, turn_mark, reseal_quiet, reseal_untouching}
+use Rattle.pmem_replay.specs.Replies.{without_marks}
+use Rattle.pmem_replay.proofs.Steps.GoodReplies.{IsGood}
+
+-- marks that only seal lines whose last seal was stored, with the flags as they were
+pub healed_by_stored : (setup : Setup) (old new : WorldState) (made : List Mark) → IsWorld setup old
+    → new.state.named ≡ old.state.named → new.state.loose ≡ old.state.loose → new.state.hurt ≡ old.state.hurt → new.state.spoiled ≡ old.state.spoiled
+    → ((a : ℕ) → a < layout.data_lines setup.shape → IsTrue (is_sealed_by made a) → is_flagged old.state.spoiled a ≡ false)
+    → IsHealed setup made old.state new.state
+healed_by_stored setup old new made world named loose hurt spoiled unspoiled =
+    record {
+      named = named;
+      loose = loose;
+      hurt = λ a within whole. inl (subst (λ flags. is_flagged flags a ≡ false) hurt whole);
+      spoiled =
+          λ a within broken.
+          let was = subst (λ flags. is_flagged flags a ≡ true) spoiled broken in
+          elim (cases_Bool (is_sealed_by made a)) [
+            | inl sealed ↦ absurd (true≢false (sym was ∙ unspoiled a within sealed))
+            | inr unsealed ↦ (was, unsealed)
+          ];
+    }
+
+module _ (setup : Setup) (old new : WorldState) (engine after : EngineState) (taken : Taken)
+    (call : IsCall setup old new engine after taken) where
+  on_now : IsOn setup old engine
+  on_now = on_in setup old engine call.world call.was_on
+
+  abbrev pub now : Moment
+  now = moment_of old.state (view_in setup old)
+
+  pages_whole : All (IsWholePage setup.shape) (view_in setup old).open_pages
+  pages_whole = whole_pages setup old.board.regs old.ledger on_now.trusted.anchored
+
+  -- ---- no page is open
+
+  module _ (turn : HasTurned setup (parts_in old engine none_taken) (parts_in new after taken) (Ok None)) where
+    pub idle-good : IsGood setup old Do.Turn (without_marks Say.Idle)
+    idle-good = search (rules, zero_within)
+
+    pub idle-made : turn.made ≡ []
+    idle-made = (turn.marks on_now.trusted.not_down on_now.trusted old.state.memory call.world.memory.each).0
+
+    pub idle-world : new.state ≡ counted_state old.state 0 → new.engine ≡ Some after → IsBanksOf setup.shape after.cache → IsWorld setup new
+    idle-world state there whole_cache =
+        let zero = left_alone-steps setup old new engine after taken (turn.counts on_now.trusted.not_down) in
+        quiet-going setup old new engine after taken call
+        (subst (λ made. HasDone setup going made (parts_in old engine none_taken) (parts_in new after taken)) idle-made
+        (turn.done on_now.trusted.not_down))
+        there whole_cache
+        (subst (λ n. new.state ≡ counted_state old.state n) (sym zero) state)
+
+  -- a sealed line was stored before
+  sealed_unspoiled : (answer : Result (Option (ℕ × ℕ)) Fault)
+      (turn : HasTurned setup (parts_in old engine none_taken) (parts_in new after taken) answer)
+      → (a : ℕ) → a < layout.data_lines setup.shape → IsTrue (is_sealed_by turn.made a) → is_flagged old.state.spoiled a ≡ false
+  sealed_unspoiled answer turn a within sealed =
+      stored_unspoiled setup old.state (lines_in old) old.board.regs.loss old.ledger a call.world.kept within
+      (turn.sealed_before on_now.trusted a within sealed)
+
+  -- ---- a line is sealed anew
+
+  module _ (turned : ℕ × ℕ) (turn : HasTurned setup (parts_in old engine none_taken) (parts_in new after taken) (Ok (Some turned))) where
+    pub turned-good : IsGood setup old Do.Turn (record { marks = turn.made; answer = Say.Turned turned.1 (steps_in taken) })
+    turned-good =
+        let marks = turn.marks on_now.trusted.not_down on_now.trusted old.state.memory call.world.memory.each in
+        let counts = turn.counts on_now.trusted.not_down in
+        let done = turn.done on_now.trusted.not_down in
+        let powered = done.gone.power.1 (call.world.board.power ∙ on_now.powered) in
+        record {
+          legal =
+              record {
+                legal =
+                    record {
+                      listed = refl;
+                      within_fuse = within_fuse old.state old.board new.board taken call.world.board call.follows powered;
+                      writes_whole = refl;
+                      caused = tt;
+                    };
+                shown = tt;
+              };
+          fits =
+              record {
+                marks_asked = (marks.0, marks.2);
+                peek_true = tt;
+                steps_counted = tt;
+                flush_true = tt;
+                within_bounds = exactly old.board new.board taken 4 call.follows.few counts.0;
+              };
+        }
+
+    pub turned-world : new.state ≡ state_after setup.shape old.state Do.Turn (record { marks = turn.made; answer = Say.Turned turned.1 (steps_in taken) })
+        → new.engine ≡ Some after → IsBanksOf setup.shape after.cache → IsWorld setup new
+    turned-world after_state there whole_cache =
+        let done = turn.done on_now.trusted.not_down in
+        let marks = turn.marks on_now.trusted.not_down on_now.trusted old.state.memory call.world.memory.each in
+        let reseal = turn_mark setup.formulas now turn.made marks.0 in
+        let state : new.state ≡ counted_state old.state (steps_in taken) =
+        after_state ∙ reseal_quiet setup.shape setup.formulas now turn.made (counted_state old.state (steps_in taken)) reseal in
+        world-going setup old new engine after taken turn.made call done.gone
+        (record { each = λ tight page within unnamed it. done.counters on_now.trusted page within it })
+        (healed_by_stored setup old new turn.made call.world (ap (λ s. s.named) state) (ap (λ s. s.loose) state) (ap (λ s. s.hurt) state) (ap (λ s. s.spoiled) state)
+        (sealed_unspoiled (Ok (Some turned)) turn))
+        (record { snapped = ap (λ s. s.snapped) state; steps = ap (λ s. s.steps) state })
+        (ap (λ s. s.fuse) state) (ap (λ s. s.power) state ∙ on_now.powered) there
+        (done.loss ∙ call.world.board.loss ∙ sym (ap (λ s. s.loss) state))
+        (subst (λ s. IsMemoryOf setup new.ledger.marks s.memory) (sym state)
+        (record { count = call.world.memory.count; each = turn.memory_kept on_now.trusted old.state.memory call.world.memory.each }))
+        (subst (λ s. HasFlags setup.shape s) (sym state) (same_flags setup.shape old.state _ call.world.flags refl refl refl refl refl))
+        (subst (λ s. HasQueues setup.shape s) (sym state)
+        (record { ports = call.world.queues.ports; on_memory = call.world.queues.on_memory }))
+        whole_cache
+        (λ bank x dirty.
+        elim ((done.gone.metadata on_now.trusted).dirty bank x dirty) [
+          | inl was ↦ subst (λ s. IsTrue (can_be_dirty setup.shape s x)) (sym state) (on_now.dirty bank x was)
+          | inr touched ↦ absurd (reseal_untouching setup.shape setup.formulas now turn.made x reseal touched)
+        ])
+
+  -- ---- a refused line
+
+  module _ (b : ℕ) (turn : HasTurned setup (parts_in old engine none_taken) (parts_in new after taken) (Err (Fail.Tag b))) where
+    refused_made : turn.made ≡ []
+    refused_made = (turn.marks on_now.trusted.not_down on_now.trusted old.state.memory call.world.memory.each).0
+
+    refused_done : HasDone setup going [] (parts_in old engine none_taken) (parts_in new after taken)
+    refused_done =
+        subst (λ made. HasDone setup going made (parts_in old engine none_taken) (parts_in new after taken)) refused_made
+        (turn.done on_now.trusted.not_down)
+
+    pub refused-good : IsGood setup old Do.Turn (without_marks (Say.Refused None (Place.Line b) (steps_in taken)))
+    refused-good =
+        let marks = turn.marks on_now.trusted.not_down on_now.trusted old.state.memory call.world.memory.each in
+        let done = refused_done in
+        let powered = done.gone.power.1 (call.world.board.power ∙ on_now.powered) in
+        let within = lowest_within setup.shape (view_in setup old).open_pages b pages_whole marks.1 in
+        record {
+          legal =
+              record {
+                legal =
+                    record {
+                      listed = refl;
+                      within_fuse = within_fuse old.state old.board new.board taken call.world.board call.follows powered;
+                      writes_whole = refl;
+                      caused = (
+                        hurt_before setup old new engine after taken [] b call.world.kept (done.gone.places on_now.trusted) within
+                            (tag_unstored setup new after taken b (done.gone.trusted on_now.trusted) (turn.answered on_now.trusted.not_down on_now.trusted)),
+                        tt,
+                      );
+                    };
+                shown = tt;
+              };
+          fits =
+              record {
+                marks_asked = (refl, marks.1);
+                peek_true = tt;
+                steps_counted = tt;
+                flush_true = tt;
+                within_bounds = exactly old.board new.board taken 0 call.follows.few (turn.counts on_now.trusted.not_down);
+              };
+        }
+
+    pub refused-world : new.state ≡ counted_state old.state (steps_in taken) → new.engine ≡ Some after → IsBanksOf setup.shape after.cache
+        → IsWorld setup new
+    refused-world state there whole_cache = quiet-going setup old new engine after taken call refused_done there whole_cache state
+
+  -- ---- a cut
+
+  module _ (turn : HasTurned setup (parts_in old engine none_taken) (parts_in new after taken) (Err Fail.Cut)) where
+    cut_marks : IsSome (oldest_page now) × ((turn.made ≡ []) ⊎ IsTurnMark setup.formulas now turn.made)
+    cut_marks = turn.marks on_now.trusted.not_down on_now.trusted old.state.memory call.world.memory.each
+
+    pub cut-good : IsGood setup old Do.Turn (record { marks = turn.made; answer = Say.Cut (steps_in taken) })
+    cut-good =
+        let done = turn.done on_now.trusted.not_down in
+        let few = fewer old.board new.board taken 4 call.follows.few (turn.counts on_now.trusted.not_down) in
+        record {
+          legal =
+              record {
+                legal =
+                    record {
+                      listed = refl;
+                      within_fuse =
+                          cut_at_fuse old.state old.board new.board taken call.world.board call.follows done.gone.power.1
+                          (omega (arith, few));
+                      writes_whole = refl;
+                      caused = tt;
+                    };
+                shown = tt;
+              };
+          fits =
+              record {
+                marks_asked = cut_marks;
+                peek_true = tt;
+                steps_counted = tt;
+                flush_true = tt;
+                within_bounds = few;
+              };
+        }
+
+    pub cut_quiet : (state : PlainState) → after_marks setup.shape state turn.made ≡ state
+    cut_quiet state =
+        elim cut_marks.1 [
+          | inl none ↦ ap (after_marks setup.shape state) none
+          | inr mark ↦ reseal_quiet setup.shape setup.formulas now turn.made state (turn_mark setup.formulas now turn.made mark)
+        ]
+
+    pub cut-world : new.state ≡ state_after setup.shape old.state Do.Turn (record { marks = turn.made; answer = Say.Cut (steps_in taken) })
+        → new.engine ≡ None → IsWorld setup new
+    cut-world after_state there =
+        let done = turn.done on_now.trusted.not_down in
+        let state : new.state ≡ cut_state old.state (steps_in taken) =
+        after_state ∙ cut_quiet (cut_state old.state (steps_in taken)) in
+        world-cut setup old new engine after taken turn.made call done.gone
+        (record { each = λ tight page within unnamed it. done.counters on_now.trusted page within it })
+        (healed_by_stored setup old new turn.made call.world (ap (λ s. s.named) state) (ap (λ s. s.loose) state) (ap (λ s. s.hurt) state) (ap (λ s. s.spoiled) state)
+        (sealed_unspoiled (Err Fail.Cut) turn))
+        (record { snapped = ap (λ s. s.snapped) state; steps = ap (λ s. s.steps) state })
+        (ap (λ s. s.fuse) state) (ap (λ s. s.power) state) there
+        (done.loss ∙ call.world.board.loss ∙ sym (ap (λ s. s.loss) state))
+        (subst (λ s. IsMemoryOf setup new.ledger.marks s.memory) (sym state)
+        (record { count = call.world.memory.count; each = turn.memory_kept on_now.trusted old.state.memory call.world.memory.each }))
+        (subst (λ s. HasFlags setup.shape s) (sym state) (same_flags setup.shape old.state _ call.world.flags refl refl refl refl refl))
+        (HasQueues-none setup.shape new.state (ap (λ s. s.queues) state))
+
+  -- ---- an exhibit
+
+  module _ (turn : HasTurned setup (parts_in old engine none_taken) (parts_in new after taken) (Err Fail.Shown))
+      (exhibit : Exhibit) (its : new.ledger.exhibit ≡ Some exhibit) where
+    pub shown-made : turn.made ≡ []
+    shown-made = (turn.marks on_now.trusted.not_down on_now.trusted old.state.memory call.world.memory.each).0
+
+    pub shown-good : KeepsPlaces setup [] (parts_in old engine none_taken) (parts_in new after taken)
+        → IsGood setup old Do.Turn (without_marks (Say.Shown exhibit))
+    shown-good places =
+        let marks_of = turn.marks on_now.trusted.not_down on_now.trusted old.state.memory call.world.memory.each in
+        let done = subst (λ made. HasDone setup shown made (parts_in old engine none_taken) (parts_in new after taken)) shown-made
+        (turn.done on_now.trusted.not_down) in
+        let found = turn.answered on_now.trusted.not_down on_now.trusted in
+        let forged = found.forged in
+        let within = lowest_within setup.shape (view_in setup old).open_pages found.at pages_whole found.lowest in
+        let marks : new.ledger.marks ≡ old.ledger.marks = done.gone.marks ∙ append-nil old.ledger.marks in
+        let none : new.board.regs.group.items ≡ [] = ap (λ group. group.items) (done.gone.group shown_uncut) ∙ on_now.trusted.no_group in
+        let same = same_Some (Forged found.at forged.ctr forged.cipher forged.tag) exhibit (sym forged.exhibit ∙ its) in
+        let its_ctr : option_map (λ seal. seal.ctr) (last_seal old.ledger.marks found.at) ≡ Some forged.ctr =
+        ap (λ marks. option_map (λ seal. seal.ctr) (last_seal marks found.at)) (sym marks) ∙ forged.unsealed.counter in
+        record {
+          legal =
+              record {
+                legal = record { listed = refl; within_fuse = zero_within old.state.fuse; writes_whole = refl; caused = tt };
+                shown =
+                    subst (λ e. IsShown setup old.state (view_in setup old) Do.Turn [] e) same
+                    (record {
+                      holds = forged.right_tag;
+                      in_run =
+                          record {
+                            last_counter = sym (counter_at-last setup.shape old.ledger.marks found.at forged.ctr within its_ctr);
+                            refusable = (
+                              None,
+                              record {
+                                legal =
+                                    record {
+                                      listed = refl;
+                                      within_fuse = zero_within old.state.fuse;
+                                      writes_whole = refl;
+                                      caused = (
+                                        hurt_before setup old new engine after taken [] found.at call.world.kept places within
+                                            (forged_unstored setup new after taken found.at none forged),
+                                        tt,
+                                      );
+                                    };
+                                fits =
+                                    record {
+                                      marks_asked = (refl, found.lowest);
+                                      peek_true = tt;
+                                      steps_counted = tt;
+                                      flush_true = tt;
+                                      within_bounds = refl;
+                                    };
+                              },
+                              forged_other setup old.board.regs old.ledger old.state.memory found.at forged.ctr forged.cipher call.world.whole_formulas
+                                  on_now.trusted.anchored call.world.memory within its_ctr
+                                  (subst (λ marks. IfSome (last_seal marks found.at) (λ seal. forged.cipher ≢ seal.cipher)) marks forged.other_cipher),
+                            );
+                          };
+                    });
+              };
+          fits = record { marks_asked = (refl, marks_of.1); peek_true = tt; steps_counted = tt; flush_true = tt; within_bounds = tt };
+        }

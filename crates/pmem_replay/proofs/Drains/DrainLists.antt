@@ -1,0 +1,202 @@
+-- Writes drained in order: their marks, the memory and the view after them, and the state of the plain machine.
+use Rattle.std.proofs.Common.{ℕ, zero, suc, ◌≡◌, ◌<◌, ◌≤◌, ◌+◌, ◌++◌, true, cond, List, [], ◌∷◌, length, take, drop, Option, Some, None, IsTrue, refl, sym, ap, ◌∙◌, arith}
+use Rattle.std.specs.Prelude.{unwrap_or, option_map, option_and_then, slice_get}
+use Rattle.std.proofs.lemmas.Option.{same_Some, none-some}
+use Rattle.std.proofs.lemmas.Bool.{and_from, and_parts}
+use Rattle.std.proofs.lemmas.List.{append-nil, append_assoc, length-append, length-set, get_or-set_same, drop-drop}
+use Rattle.std.proofs.lemmas.List.Sums.{sum_by-append, count_by-le-length}
+use Rattle.pmem_base.specs.declared.commands.Posted.{Posted}
+use Rattle.pmem_base.specs.declared.answers.Mark.{Mark}
+use Rattle.pmem_base.specs.Shape.{Shape}
+use Rattle.suite.specs.Formulas.{Formulas}
+use Rattle.plain_model.specs.State.{PlainState, queue_of, memory_with}
+use Rattle.plain_model.specs.After.{after_front, after_drain, after_drains}
+use Rattle.plain_model.specs.View.{view_after_marks}
+use Rattle.plain_model.proofs.Views.{view_after_marks-append}
+use Rattle.plain_model.specs.Asked.{Moment, marks_of_write, marks_of_writes, moment_after, moment_after_writes}
+use Rattle.plain_model.specs.Legal.{front_of, can_put, can_put_first}
+use Rattle.plain_model.specs.Bounds.{is_seal, seal_count, writing_bound}
+
+-- ---- marks of writes
+
+one_more : (made : List Mark) (asked : Option (List Mark))
+    → option_and_then (λ here. option_map (λ later. here ++ later) (Some [])) asked ≡ option_map (λ here. [] ++ here) asked
+one_more made None = refl
+one_more made (Some marks) = ap (λ (m : List Mark). Some m) (append-nil marks)
+
+with_front : (here later : List Mark) (asked : Option (List Mark))
+    → option_map (λ later. here ++ later) (option_map (λ h. later ++ h) asked) ≡ option_map (λ h. (here ++ later) ++ h) asked
+with_front here later None = refl
+with_front here later (Some marks) = ap (λ (m : List Mark). Some m) (sym (append_assoc here later marks))
+
+-- the marks of writes and of one more
+pub marks_of_writes-more : (f : Formulas) (now : Moment) (writes : List Posted) (write : Posted) (made : List Mark)
+    → marks_of_writes f now writes ≡ Some made
+    → marks_of_writes f now (writes ++ write ∷ []) ≡ option_map (λ here. made ++ here) (marks_of_write f (moment_after_writes f now writes) write)
+marks_of_writes-more f now [] write made it =
+    one_more made (marks_of_write f now write)
+    ∙ ap (λ (m : List Mark). option_map (λ here. m ++ here) (marks_of_write f now write)) (same_Some [] made it)
+marks_of_writes-more f now (first ∷ writes) write made it =
+    by_first (marks_of_writes-more f (moment_after f now first) writes write) (marks_of_write f now first) refl it
+  where
+    next : Moment
+    next = moment_after f now first
+
+    asked : Option (List Mark)
+    asked = marks_of_write f (moment_after_writes f next writes) write
+
+    by_rest : ((later : List Mark) → marks_of_writes f next writes ≡ Some later
+        → marks_of_writes f next (writes ++ write ∷ []) ≡ option_map (λ h. later ++ h) asked)
+        → (here : List Mark) (rest : Option (List Mark)) → marks_of_writes f next writes ≡ rest
+        → option_map (λ later. here ++ later) rest ≡ Some made
+        → option_map (λ later. here ++ later) (marks_of_writes f next (writes ++ write ∷ [])) ≡ option_map (λ h. made ++ h) asked
+    by_rest again here None none same = absurd (none-some made same)
+    by_rest again here (Some later) there same =
+        ap (option_map (λ later. here ++ later)) (again later there)
+        ∙ with_front here later asked
+        ∙ ap (λ (m : List Mark). option_map (λ h. m ++ h) asked) (same_Some (here ++ later) made same)
+
+    by_first : ((later : List Mark) → marks_of_writes f next writes ≡ Some later
+        → marks_of_writes f next (writes ++ write ∷ []) ≡ option_map (λ h. later ++ h) asked)
+        → (one : Option (List Mark)) → marks_of_write f now first ≡ one
+        → option_and_then (λ here. option_map (λ later. here ++ later) (marks_of_writes f next writes)) one ≡ Some made
+        → option_and_then (λ here. option_map (λ later. here ++ later) (marks_of_writes f next (writes ++ write ∷ []))) (marks_of_write f now first)
+        ≡ option_map (λ h. made ++ h) asked
+    by_first again None none same = absurd (none-some made same)
+    by_first again (Some here) there same =
+        ap (option_and_then (λ here. option_map (λ later. here ++ later) (marks_of_writes f next (writes ++ write ∷ [])))) there
+        ∙ by_rest again here (marks_of_writes f next writes) refl same
+
+-- the view after writes is what their marks say
+pub moment_view : (f : Formulas) (now : Moment) (writes : List Posted) (made : List Mark)
+    → marks_of_writes f now writes ≡ Some made → (moment_after_writes f now writes).view ≡ view_after_marks now.view made
+moment_view f now [] made it = ap (view_after_marks now.view) (same_Some [] made it)
+moment_view f now (first ∷ writes) made it =
+    by_first (moment_view f (moment_after f now first) writes) (marks_of_write f now first) refl it
+  where
+    next : Moment
+    next = moment_after f now first
+
+    by_rest : ((later : List Mark) → marks_of_writes f next writes ≡ Some later
+        → (moment_after_writes f next writes).view ≡ view_after_marks next.view later)
+        → (here : List Mark) (rest : Option (List Mark)) → next.view ≡ view_after_marks now.view here
+        → marks_of_writes f next writes ≡ rest → option_map (λ later. here ++ later) rest ≡ Some made
+        → (moment_after_writes f next writes).view ≡ view_after_marks now.view made
+    by_rest again here None its none same = absurd (none-some made same)
+    by_rest again here (Some later) its there same =
+        again later there
+        ∙ ap (λ view. view_after_marks view later) its
+        ∙ sym (view_after_marks-append now.view here later)
+        ∙ ap (view_after_marks now.view) (same_Some (here ++ later) made same)
+
+    by_first : ((later : List Mark) → marks_of_writes f next writes ≡ Some later
+        → (moment_after_writes f next writes).view ≡ view_after_marks next.view later)
+        → (one : Option (List Mark)) → marks_of_write f now first ≡ one
+        → option_and_then (λ here. option_map (λ later. here ++ later) (marks_of_writes f next writes)) one ≡ Some made
+        → (moment_after_writes f next writes).view ≡ view_after_marks now.view made
+    by_first again None none same = absurd (none-some made same)
+    by_first again (Some here) there same =
+        by_rest again here (marks_of_writes f next writes) (ap (λ o. view_after_marks now.view (unwrap_or o [])) there) refl same
+
+-- ---- lists
+
+pub slice_get-drop : {X : Type 0} (xs : List X) (n : ℕ) (x : X) (later : List X) → drop n xs ≡ x ∷ later → slice_get xs n ≡ Some x
+slice_get-drop [] zero x later it = absurd (false_list it)
+  where
+    false_list : [] ≡ x ∷ later → ⊥
+    false_list same = cc
+slice_get-drop (y ∷ xs) zero x later it = ap (λ l. slice_get l 0) it
+slice_get-drop [] (suc n) x later it = absurd (false_list it)
+  where
+    false_list : [] ≡ x ∷ later → ⊥
+    false_list same = cc
+slice_get-drop (y ∷ xs) (suc n) x later it = slice_get-drop xs n x later it
+
+pub take-next : {X : Type 0} (xs : List X) (n : ℕ) (x : X) → slice_get xs n ≡ Some x → take (suc n) xs ≡ take n xs ++ x ∷ []
+take-next [] n x it = absurd (none-some x it)
+take-next (y ∷ xs) zero x it = ap (λ z. z ∷ []) (same_Some y x it)
+take-next (y ∷ xs) (suc n) x it = ap (λ l. y ∷ l) (take-next xs n x it)
+
+-- ---- states
+
+-- the queues are as many as before
+pub queues_after : (state : PlainState) (port n : ℕ) → length (after_drains state port n).queues ≡ length state.queues
+queues_after state port zero = refl
+queues_after state port (suc n) = queues_after (after_drain state port) port n ∙ one (queue_of state.queues port)
+  where
+    one : (queue : List Posted) → length (after_front state port queue).queues ≡ length state.queues
+    one [] = refl
+    one (write ∷ later) = length-set state.queues port later
+
+-- the port's queue loses so many writes from its front
+pub queue_after : (state : PlainState) (port n : ℕ) → port < length state.queues
+    → queue_of (after_drains state port n).queues port ≡ drop n (queue_of state.queues port)
+queue_after state port zero within = refl
+queue_after state port (suc n) within =
+    queue_after (after_drain state port) port n (omega (arith, within, queues_after state port 1))
+    ∙ ap (drop n) (one (queue_of state.queues port) refl)
+    ∙ drop-drop n 1 (queue_of state.queues port)
+    ∙ ap (λ k. drop k (queue_of state.queues port)) {x = 1 + n} {y = suc n} (omega arith)
+  where
+    one : (queue : List Posted) → queue_of state.queues port ≡ queue
+        → queue_of (after_front state port queue).queues port ≡ drop 1 queue
+    one [] its = its
+    one (write ∷ later) its = get_or-set_same state.queues port later [] within
+
+-- one more is drained after the others
+pub drains_more : (state : PlainState) (port n : ℕ) → after_drains state port (suc n) ≡ after_drain (after_drains state port n) port
+drains_more state port zero = refl
+drains_more state port (suc n) = drains_more (after_drain state port) port n
+
+-- a write may be put after the others
+pub can_put_more : (state : PlainState) (port n : ℕ) → IsTrue (can_put_first state port n)
+    → IsTrue (can_put (after_drains state port n) (front_of (after_drains state port n) port))
+    → IsTrue (can_put_first state port (suc n))
+can_put_more state port zero first next = and_from (can_put state (front_of state port)) true next refl
+can_put_more state port (suc n) first next =
+    let parts = and_parts (can_put state (front_of state port)) (can_put_first (after_drain state port) port n) first in
+    and_from (can_put state (front_of state port)) (can_put_first (after_drain state port) port (suc n)) parts.0
+    (can_put_more (after_drain state port) port n parts.1 next)
+
+take_nil : (m : ℕ) → take {A = Posted} m [] ≡ []
+take_nil zero = refl
+take_nil (suc m) = refl
+
+-- the memory after drained writes
+pub drains_memory : (f : Formulas) (now : Moment) (state : PlainState) (port n : ℕ) → port < length state.queues → now.memory ≡ state.memory
+    → (moment_after_writes f now (take n (queue_of state.queues port))).memory ≡ (after_drains state port n).memory
+drains_memory f now state port zero within same = same
+drains_memory f now state port (suc n) within same =
+    by_queue (drains_memory f now state port n within same)
+    (λ write later.
+    drains_memory f (moment_after f now write) (after_front state port (write ∷ later)) port n
+    (omega (arith, within, length-set state.queues port later))
+    (ap (λ memory. memory_with memory write) same))
+    (queue_of state.queues port) refl
+  where
+    by_queue : (moment_after_writes f now (take n (queue_of state.queues port))).memory ≡ (after_drains state port n).memory
+        → ((write : Posted) (later : List Posted)
+        → (moment_after_writes f (moment_after f now write) (take n (queue_of (after_front state port (write ∷ later)).queues port))).memory
+        ≡ (after_drains (after_front state port (write ∷ later)) port n).memory)
+        → (queue : List Posted) → queue_of state.queues port ≡ queue
+        → (moment_after_writes f now (take (suc n) queue)).memory ≡ (after_drains (after_front state port queue) port n).memory
+    by_queue here there [] none =
+        ap (λ writes. (moment_after_writes f now writes).memory) (sym (take_nil n) ∙ ap (take n) (sym none)) ∙ here
+    by_queue here there (write ∷ later) is =
+        ap (λ queue. (moment_after_writes f (moment_after f now write) (take n queue)).memory)
+        (sym (get_or-set_same state.queues port later [] within))
+        ∙ there write later
+
+-- ---- bounds
+
+count-append : (a b : List Mark) → seal_count (a ++ b) ≡ seal_count a + seal_count b
+count-append a b = sum_by-append (λ mark. cond (is_seal mark) 1 0) a b
+
+-- the bounds of writes add up
+pub writing_bound-append : (g : Shape) (n m : ℕ) (a b : List Mark) → writing_bound g (n + m) (a ++ b) ≡ writing_bound g n a + writing_bound g m b
+writing_bound-append g n m a b =
+    omega (arith, count-append a b, length-append a b, count_by-le-length is_seal a, count_by-le-length is_seal b)
+
+-- and are small
+pub writing_bound-few : (g : Shape) (marks : List Mark) → g.levels ≤ 6 → length marks ≤ 66 → writing_bound g 1 marks < 1000
+writing_bound-few g marks low few = omega (arith, low, few, count_by-le-length is_seal marks)

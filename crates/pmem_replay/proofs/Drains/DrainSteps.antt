@@ -1,0 +1,359 @@
+-- A drain: what the world answers, and what becomes of it.
+use Rattle.std.proofs.Common.{rules}
+use Rattle.std.proofs.Common.{ℕ, ◌≡◌, ◌<◌, ◌≤◌, ◌+◌, ◌++◌, ◌^◌, true, false, inl, inr, List, [], ◌∷◌, Some, None, Ok, Err, refl, sym, ap, subst, ◌∙◌, arith}
+use Rattle.std.specs.Prelude.{Result, ◌==◌, ⊤, MatchBool, MatchOption, option_map, length, if◌then◌else◌}
+use Rattle.std.proofs.lemmas.Bool.{true≢false, false_from_ne_true, le-leb, ne_eqb}
+use Rattle.std.proofs.lemmas.List.{append-nil}
+use Rattle.pmem_base.specs.declared.lines.Ctr.{Ctr}
+use Rattle.pmem_base.specs.declared.commands.Posted.{Posted}
+use Rattle.pmem_base.specs.declared.commands.Command.TheVariants as Do
+use Rattle.pmem_base.specs.declared.answers.Answer.{Answer}
+use Rattle.pmem_base.specs.declared.answers.Answer.TheVariants as Say
+use Rattle.pmem_base.specs.declared.answers.Mark.{Mark}
+use Rattle.pmem_base.specs.declared.answers.Place.{Place}
+use Rattle.pmem_base.specs.Layout as layout
+use Rattle.pmem_base.specs.declared.answers.Exhibit.{Exhibit}
+use Rattle.pmem_base.specs.Marks.{last_seal}
+use Rattle.pmem_base.specs.Ranges.{IsAnswer, IsExhibitValue}
+use Rattle.meta_cache.specs.Banks.{IsBanksOf}
+use Rattle.seal_ledger.specs.Ledger.{LedgerState}
+use Rattle.seal_ledger.specs.Notes.{HasRoom}
+use Rattle.suite.specs.Formulas.{Formulas}
+use Rattle.suite.specs.Setup.{Setup}
+use Rattle.plain_model.specs.State.{PlainState, Reply}
+use Rattle.plain_model.specs.Legal.{front_of}
+use Rattle.plain_model.specs.Asked.{moment_of, marks_of_write}
+use Rattle.plain_model.specs.Bounds.{path_length, dirty_bound, is_spent_in_flight}
+use Rattle.plain_model.specs.After.{state_after, after_marks, steps_of, is_cut}
+use Rattle.plain_model.specs.Answers.{decided_answer, is_shown}
+use Rattle.pmem_engine.specs.declared.fault.Fault.{Fault}
+use Rattle.pmem_engine.specs.declared.fault.Fault.TheVariants as Fail
+use Rattle.pmem_engine.specs.Outcomes.{is_sealed_by}
+use Rattle.pmem_engine.specs.Calls.{IsPartOf}
+use Rattle.pmem_replay.specs.World.{WorldState, IsOn, IsWorld, view_in, setup_of_world}
+use Rattle.pmem_replay.specs.declared.taken.Taken.{Taken}
+use Rattle.pmem_replay.specs.During.{steps_in}
+use Rattle.pmem_replay.specs.Given.{given_state, WasGiven, IsGiven, IsGivenShown, HasGiven, HasMarkRoom, IsDrainReply}
+use Rattle.pmem_replay.specs.Replies.{with_marks_since}
+use Rattle.pmem_replay.specs.declared.draining.Gave.{Gave}
+use Rattle.pmem_replay.specs.declared.draining.Gave.TheVariants.{Put, Refused, Spent, Kept, Lost, Shown}
+use Rattle.pmem_replay.proofs.Steps.PartsOfWorld.{since}
+use Rattle.pmem_replay.specs.Stepped.{HasStepped, HasDrained, IsDrainAnswer, IsSeenOnDevice, IsExhibitSeen}
+use Rattle.pmem_replay.proofs.Marks.AfterMarks.{touched_after, flushed_after, with_flags, after_marks-is}
+use Rattle.pmem_replay.proofs.Steps.WorldsAfterCalls.{on_in, IsCall}
+use Rattle.pmem_replay.proofs.Steps.FaultCauses.{on_path-within, forged_unstored, shown_uncut}
+use Rattle.pmem_replay.proofs.Marks.AskedMarks.{refused_within}
+use Rattle.pmem_replay.proofs.Marks.OpenPages.{whole_pages}
+use Rattle.pmem_engine.proofs.WriteParts.{last_seal-unsealed}
+use Rattle.pmem_replay.proofs.Drains.DrainChain.{IsDrainedTo, drained_none, drained-more}
+use Rattle.pmem_replay.proofs.Drains.DrainedLaws.{drained-good, drained-after}
+use Rattle.pmem_replay.proofs.Steps.GoodReplies.{IsGood}
+use Rattle.pmem_replay.proofs.Marks.SealedLines.{same_truth}
+use Rattle.pmem_replay.proofs.Steps.DeviceEvidence.{meta_wrong, tag_wrong, small_position, small_line, clash_sight, forged_sight_by, seal_counter}
+use Rattle.pmem_replay.proofs.Steps.WorldSteps.{stepped_by_engine}
+use Rattle.pmem_replay.proofs.Table.UnchangedSteps.{IsGoingOn, lit_in}
+use Rattle.pmem_replay.proofs.Drains.WriteLaws.{shown-good, meta-good, tag-good, spent-good, spent-steps, lost-good, kept-good, cut-bound, cut-dirty, lost-unsealed, kept-sealed}
+use Rattle.pmem_replay.proofs.Drains.WriteReplies.{IsWriting, drain_is_writing, after_refused, after_spent, after_lost, after_kept}
+use Rattle.pmem_replay.proofs.Drains.WriteWorlds.{front_on_memory}
+
+some_long : (write : Posted) (later : List Posted) → (length (write ∷ later) == 0) ≡ false
+some_long write later = ne_eqb (length (write ∷ later)) 0 zero_not
+  where
+    zero_not : length (write ∷ later) ≡ 0 → ⊥
+    zero_not same = omega (arith, same)
+
+-- a write that was given, once room was made, is drained as a drain answers it
+pub given_drained : (setup : Setup) (old new : WorldState) (ledger : LedgerState) (more : ℕ) → HasRoom old.ledger ledger more → (port : ℕ) (answer : Result Ctr Fault)
+    → (given : WasGiven setup (record old { ledger = ledger }) port answer new) (said : Answer) → IsDrainAnswer new answer said
+    → new.engine ≡ (if is_cut said then None else Some given.after)
+    → (is_shown said ≡ false → steps_of said ≡ steps_in given.taken)
+    → HasDrained setup given.write old said new
+given_drained setup old new ledger more room port answer given said says kept steps = search rules
+
+module _ (setup : Setup) (old new : WorldState) (ledger : LedgerState) (room : HasRoom old.ledger ledger 66) (port : ℕ) (small : port < 8)
+    (goes_on : IsGoingOn setup old) (whole : IsWorld setup (record old { ledger = ledger })) where
+  abbrev mid : WorldState
+  mid = record old { ledger = ledger }
+
+  drained : IsDrainedTo setup mid mid port 0 [] 0
+  drained = drained_none setup mid port whole
+
+  writing : IsWriting setup mid (Do.Drain port) None port 0
+  writing = drain_is_writing setup mid port
+
+  good_mid : (reply : Reply) → IsGood setup mid (Do.Drain port) reply → IsGood setup old (Do.Drain port) reply
+  good_mid reply good =
+      let still : IsGood setup (record old { ledger = record ledger { marks = old.ledger.marks } }) (Do.Drain port) reply =
+      subst (λ (ms : List Mark). IsGood setup (record old { ledger = record ledger { marks = ms } }) (Do.Drain port) reply) room.marks good in
+      record { legal = still.legal; fits = still.fits }
+
+  module _ (answer : Result Ctr Fault) (given : WasGiven setup mid port answer new) where
+    abbrev call : IsCall setup mid new given.engine given.after given.taken
+    call =
+        record {
+          world = whole;
+          was_on = given.was_on;
+          shape = given.shape;
+          start = given.start;
+          follows = given.follows;
+          in_count = given.in_count;
+          each_line = given.each_line;
+        }
+
+    lit : old.state.power ≡ true
+    lit = lit_in setup old given.engine goes_on.whole given.was_on
+
+    undecided : decided_answer setup.shape old.state (Do.Drain port) ≡ None
+    undecided = rw lit (rw given.waits (rw (some_long given.write given.later) refl))
+
+    called_one : (said : Answer) → IsDrainAnswer new answer said
+        → new.engine ≡ (if is_cut said then None else Some given.after)
+        → (is_shown said ≡ false → steps_of said ≡ steps_in given.taken)
+        → MatchOption (front_of old.state port) ⊥
+        (λ write. HasDrained setup write old said new)
+    called_one said says kept steps = rw given.waits (given_drained setup old new ledger 66 room port answer given said says kept steps)
+
+    on_mid : IsOn setup mid given.engine
+    on_mid = on_in setup mid given.engine whole given.was_on
+
+    -- a step of the engine's
+    one_step : (said : Answer) → IsGood setup mid (Do.Drain port) (record { marks = given.written.made; answer = said }) → IsAnswer said
+        → IsDrainAnswer new answer said → new.engine ≡ (if is_cut said then None else Some given.after)
+        → (is_shown said ≡ false → steps_of said ≡ steps_in given.taken)
+        → new.shown ≡ is_shown said
+        → (is_shown said ≡ false → new.state ≡ state_after setup.shape old.state (Do.Drain port) (record { marks = given.written.made; answer = said }))
+        → (is_shown said ≡ false → IsWorld setup new)
+        → IsSeenOnDevice setup old (Do.Drain port) said new
+        → HasStepped setup old (Do.Drain port) (record { marks = given.written.made; answer = said }) new
+    one_step said good its says kept steps shown state holds seen =
+        stepped_by_engine setup old new (Do.Drain port) (record { marks = given.written.made; answer = said }) undecided
+        (good_mid (record { marks = given.written.made; answer = said }) good) its
+        (record { shape = given.shape; keys = given.keys; start = given.start })
+        shown
+        (given.marks ∙ ap (λ (ms : List Mark). ms ++ given.written.made) room.marks)
+        state holds (called_one said says kept steps) seen
+
+  -- ---- drained
+
+  few : (taken : Taken) → steps_in taken ≤ 65536 → 0 + steps_in taken < 2 ^ 64
+  few taken low = omega (arith, low)
+
+  all_steps : (n m : ℕ) → n ≡ m → 0 + m ≡ n
+  all_steps n m same = omega (arith, same)
+
+  none_more : (m : ℕ) → 0 + m ≡ m
+  none_more m = omega arith
+
+  state_form : (s : PlainState) (made : List Mark) → new.state ≡ after_marks setup.shape s made
+      → new.state ≡ with_flags s (touched_after s.touched made) (flushed_after setup.shape s.flushed made)
+  state_form s made is = is ∙ after_marks-is setup.shape s made
+
+  pub drain-put : (ctr : Ctr) (n : ℕ) (is : IsGiven setup mid port n (Ok ctr) true true new)
+      → HasStepped setup old (Do.Drain port) (record { marks = is.given.written.made; answer = Say.Drained n }) new
+  drain-put ctr n is =
+      let g = is.given in
+      let whole_cache : IsBanksOf setup.shape g.after.cache = (on_in setup new g.after is.holds is.engine).whole_cache in
+      let more : IsDrainedTo setup mid new port 1 g.written.made (0 + steps_in g.taken) =
+      drained-more setup mid mid port 0 [] 0 drained whole small g.write g.later g.waits new g.engine g.after g.taken (call (Ok ctr) g) ctr g.written
+      (state_form (given_state mid.state port g.write g.later (steps_in g.taken) true true) g.written.made is.state) is.engine whole_cache in
+      subst (λ (k : ℕ). HasStepped setup old (Do.Drain port) (record { marks = g.written.made; answer = Say.Drained k }) new) (all_steps n (steps_in g.taken) is.counted)
+      (one_step (Ok ctr) g (Say.Drained (0 + steps_in g.taken))
+      (drained-good setup mid new port g.written.made (0 + steps_in g.taken) more)
+      (few g.taken g.follows.few) tt is.engine (λ quiet. none_more (steps_in g.taken)) is.unshown
+      (λ quiet. drained-after setup mid new port g.written.made (0 + steps_in g.taken) more)
+      (λ quiet. is.holds) tt)
+
+  -- ---- refused
+
+  within : (answer : Result Ctr Fault) (g : WasGiven setup mid port answer new) → g.write.at < layout.data_lines setup.shape
+  within answer g = front_on_memory setup mid.state port g.write g.later whole.queues small g.waits
+
+  pub drain-meta : (x n : ℕ) (is : IsGiven setup mid port n (Err (Fail.Meta x)) false true new)
+      → HasStepped setup old (Do.Drain port) (record { marks = is.given.written.made; answer = Say.Refused None (Place.Meta x) n }) new
+  drain-meta x n is =
+      let g = is.given in
+      let c = call (Err (Fail.Meta x)) g in
+      let on = on_mid (Err (Fail.Meta x)) g in
+      let refused = g.written.answered on.trusted.not_down on.trusted mid.state.memory whole.memory.each in
+      let inside = within (Err (Fail.Meta x)) g in
+      let in_tree = on_path-within setup.shape (layout.page_of g.write.at) x (omega (arith, inside)) refused.fetched.on_path in
+      let done = g.written.done on.trusted.not_down in
+      let none : g.written.made ≡ [] = g.written.marks on.trusted.not_down on.trusted mid.state.memory whole.memory.each in
+      let marks : new.ledger.marks ≡ ledger.marks = g.marks ∙ ap (λ (ms : List Mark). ledger.marks ++ ms) none ∙ append-nil ledger.marks in
+      subst (λ (k : ℕ). HasStepped setup old (Do.Drain port) (record { marks = g.written.made; answer = Say.Refused None (Place.Meta x) k }) new) (all_steps n (steps_in g.taken) is.counted)
+      (one_step (Err (Fail.Meta x)) g (Say.Refused None (Place.Meta x) (0 + steps_in g.taken))
+      (meta-good setup mid mid new (Do.Drain port) None port 0 [] 0 writing drained whole small g.write g.later g.waits g.engine g.after g.taken c x g.written)
+      (tt, small_position setup.shape whole.whole_shape x in_tree, few g.taken g.follows.few) refl is.engine (λ quiet. none_more (steps_in g.taken)) is.unshown
+      (λ quiet. state_form (given_state mid.state port g.write g.later (steps_in g.taken) false true) g.written.made is.state
+      ∙ after_refused setup mid mid (Do.Drain port) None port 0 [] g.written.made 0 (steps_in g.taken) writing drained g.write g.later g.waits (Place.Meta x))
+      (λ quiet. is.holds)
+      (meta_wrong setup new ledger x refused.line refused.fetched.read
+      (same_truth setup old.board.regs new.board.regs ledger new.ledger whole.whole_shape on.trusted.anchored
+      (done.gone.trusted on.trusted).anchored marks) refused.other_digest))
+
+  pub drain-tag : (b n : ℕ) (is : IsGiven setup mid port n (Err (Fail.Tag b)) false true new)
+      → HasStepped setup old (Do.Drain port) (record { marks = is.given.written.made; answer = Say.Refused None (Place.Line b) n }) new
+  drain-tag b n is =
+      let g = is.given in
+      let c = call (Err (Fail.Tag b)) g in
+      let on = on_mid (Err (Fail.Tag b)) g in
+      let small_b = small_line setup.shape whole.whole_shape b
+      (refused_within setup.shape setup.formulas (moment_of mid.state (view_in setup mid)) g.write g.written.made b
+      (whole_pages setup mid.board.regs mid.ledger on.trusted.anchored) (within (Err (Fail.Tag b)) g)
+      (g.written.marks on.trusted.not_down on.trusted mid.state.memory whole.memory.each)) in
+      subst (λ (k : ℕ). HasStepped setup old (Do.Drain port) (record { marks = g.written.made; answer = Say.Refused None (Place.Line b) k }) new) (all_steps n (steps_in g.taken) is.counted)
+      (one_step (Err (Fail.Tag b)) g (Say.Refused None (Place.Line b) (0 + steps_in g.taken))
+      (tag-good setup mid mid new (Do.Drain port) None port 0 [] 0 writing drained whole small g.write g.later g.waits g.engine g.after g.taken c b g.written)
+      (tt, small_b, few g.taken g.follows.few) refl is.engine (λ quiet. none_more (steps_in g.taken)) is.unshown
+      (λ quiet. state_form (given_state mid.state port g.write g.later (steps_in g.taken) false true) g.written.made is.state
+      ∙ after_refused setup mid mid (Do.Drain port) None port 0 [] g.written.made 0 (steps_in g.taken) writing drained g.write g.later g.waits (Place.Line b))
+      (λ quiet. is.holds)
+      (tag_wrong setup new g.after g.taken b (g.written.answered on.trusted.not_down on.trusted mid.state.memory whole.memory.each)))
+
+  pub drain-spent : (page n : ℕ) (is : IsGiven setup mid port n (Err (Fail.Spent page)) false true new)
+      → HasStepped setup old (Do.Drain port) (record { marks = is.given.written.made; answer = Say.Spent None page n }) new
+  drain-spent page n is =
+      let g = is.given in
+      let c = call (Err (Fail.Spent page)) g in
+      let on = on_mid (Err (Fail.Spent page)) g in
+      let its_page : page ≡ layout.page_of g.write.at = (g.written.marks on.trusted.not_down on.trusted mid.state.memory whole.memory.each).2 in
+      let small_at = small_line setup.shape whole.whole_shape g.write.at (within (Err (Fail.Spent page)) g) in
+      let small_page : page < 2 ^ 32 = omega (arith, its_page, small_at) in
+      let steps = spent-steps setup mid mid new (Do.Drain port) None port 0 [] 0 writing drained whole small g.write g.later g.waits g.engine g.after g.taken c page g.written in
+      subst (λ (k : ℕ). HasStepped setup old (Do.Drain port) (record { marks = g.written.made; answer = Say.Spent None page k }) new) (all_steps n (steps_in g.taken) is.counted)
+      (one_step (Err (Fail.Spent page)) g (Say.Spent None page (0 + steps_in g.taken))
+      (spent-good setup mid mid new (Do.Drain port) None port 0 [] 0 writing drained whole small g.write g.later g.waits g.engine g.after g.taken c page g.written
+      (le-leb (0 + steps_in g.taken) (path_length setup.shape) (omega (arith, steps.0)), le-leb (0 + steps_in g.taken) (dirty_bound setup.shape mid.state) (omega (arith, steps.1))))
+      (tt, small_page, few g.taken g.follows.few) refl is.engine (λ quiet. none_more (steps_in g.taken)) is.unshown
+      (λ quiet. state_form (given_state mid.state port g.write g.later (steps_in g.taken) false true) g.written.made is.state
+      ∙ after_spent setup mid mid (Do.Drain port) None port 0 [] g.written.made 0 (steps_in g.taken) writing drained g.write g.later g.waits page)
+      (λ quiet. is.holds) tt)
+
+  -- ---- cut
+
+  pub drain-kept : (n : ℕ) (is : IsGiven setup mid port n (Err Fail.Cut) true false new)
+      → HasStepped setup old (Do.Drain port) (record { marks = is.given.written.made; answer = Say.CutKept None n }) new
+  drain-kept n is =
+      let g = is.given in
+      let c = call (Err Fail.Cut) g in
+      let on = on_mid (Err Fail.Cut) g in
+      let bound = cut-bound setup mid mid new (Do.Drain port) None port 0 [] 0 writing drained whole small g.write g.later g.waits g.engine g.after g.taken c g.written in
+      let dirty = cut-dirty setup mid mid new (Do.Drain port) None port 0 [] 0 writing drained whole small g.write g.later g.waits g.engine g.after g.taken c g.written in
+      let below : MatchBool (is_spent_in_flight setup mid.state (view_in setup mid) port 0) (0 + steps_in g.taken < dirty_bound setup.shape mid.state) ⊤ =
+      subst (λ (m : ℕ). MatchBool (is_spent_in_flight setup mid.state (view_in setup mid) port 0) (m < dirty_bound setup.shape mid.state) ⊤) (sym (none_more (steps_in g.taken))) dirty in
+      let all : marks_of_write setup.formulas (moment_of mid.state (view_in setup mid)) g.write ≡ Some g.written.made =
+      elim (g.written.marks on.trusted.not_down on.trusted mid.state.memory whole.memory.each) [
+        | inl asked ↦ asked
+        | inr part ↦
+            absurd (true≢false (sym is.sealed
+            ∙ lost-unsealed setup mid mid new (Do.Drain port) None port 0 [] 0 writing drained whole small g.write g.later g.waits g.engine g.after g.taken c g.written part))
+      ] in
+      subst (λ (k : ℕ). HasStepped setup old (Do.Drain port) (record { marks = g.written.made; answer = Say.CutKept None k }) new) (all_steps n (steps_in g.taken) is.counted)
+      (one_step (Err Fail.Cut) g (Say.CutKept None (0 + steps_in g.taken))
+      (kept-good setup mid mid new (Do.Drain port) None port 0 [] 0 writing drained whole small g.write g.later g.waits g.engine g.after g.taken c g.written all (bound, below))
+      (tt, few g.taken g.follows.few) tt is.engine (λ quiet. none_more (steps_in g.taken)) is.unshown
+      (λ quiet. state_form (given_state mid.state port g.write g.later (steps_in g.taken) true false) g.written.made is.state
+      ∙ after_kept setup mid mid (Do.Drain port) None port 0 [] g.written.made 0 (steps_in g.taken) writing drained g.write g.later g.waits)
+      (λ quiet. is.holds) tt)
+
+  pub drain-lost : (n : ℕ) (is : IsGiven setup mid port n (Err Fail.Cut) false false new)
+      → HasStepped setup old (Do.Drain port) (record { marks = is.given.written.made; answer = Say.CutLost None n }) new
+  drain-lost n is =
+      let g = is.given in
+      let c = call (Err Fail.Cut) g in
+      let on = on_mid (Err Fail.Cut) g in
+      let bound = cut-bound setup mid mid new (Do.Drain port) None port 0 [] 0 writing drained whole small g.write g.later g.waits g.engine g.after g.taken c g.written in
+      let dirty = cut-dirty setup mid mid new (Do.Drain port) None port 0 [] 0 writing drained whole small g.write g.later g.waits g.engine g.after g.taken c g.written in
+      let below : MatchBool (is_spent_in_flight setup mid.state (view_in setup mid) port 0) (0 + steps_in g.taken < dirty_bound setup.shape mid.state) ⊤ =
+      subst (λ (m : ℕ). MatchBool (is_spent_in_flight setup mid.state (view_in setup mid) port 0) (m < dirty_bound setup.shape mid.state) ⊤) (sym (none_more (steps_in g.taken))) dirty in
+      let part : IsPartOf (marks_of_write setup.formulas (moment_of mid.state (view_in setup mid)) g.write) g.written.made =
+      elim (g.written.marks on.trusted.not_down on.trusted mid.state.memory whole.memory.each) [
+        | inl asked ↦
+            absurd (true≢false (sym
+            (kept-sealed setup mid mid new (Do.Drain port) None port 0 [] 0 writing drained whole small g.write g.later g.waits g.engine g.after g.taken c g.written asked)
+            ∙ is.sealed))
+        | inr part ↦ part
+      ] in
+      subst (λ (k : ℕ). HasStepped setup old (Do.Drain port) (record { marks = g.written.made; answer = Say.CutLost None k }) new) (all_steps n (steps_in g.taken) is.counted)
+      (one_step (Err Fail.Cut) g (Say.CutLost None (0 + steps_in g.taken))
+      (lost-good setup mid mid new (Do.Drain port) None port 0 [] 0 writing drained whole small g.write g.later g.waits g.engine g.after g.taken c g.written part (bound, below))
+      (tt, few g.taken g.follows.few) tt is.engine (λ quiet. none_more (steps_in g.taken)) is.unshown
+      (λ quiet. state_form (given_state mid.state port g.write g.later (steps_in g.taken) false false) g.written.made is.state
+      ∙ after_lost setup mid mid (Do.Drain port) None port 0 [] g.written.made 0 (steps_in g.taken) writing drained g.write g.later g.waits)
+      (λ quiet. is.holds) tt)
+
+  -- ---- shown
+
+  pub drain-shown : (exhibit : Exhibit) (is : IsGivenShown setup mid port exhibit new)
+      → HasStepped setup old (Do.Drain port) (record { marks = is.given.written.made; answer = Say.Shown exhibit }) new
+  drain-shown exhibit is =
+      let g = is.given in
+      let c = call (Err Fail.Shown) g in
+      let on = on_mid (Err Fail.Shown) g in
+      let inside = within (Err Fail.Shown) g in
+      let done = g.written.done on.trusted.not_down in
+      let places = done.gone.places on.trusted in
+      let pages = whole_pages setup mid.board.regs mid.ledger on.trusted.anchored in
+      let sight : IsExhibitValue exhibit × IsExhibitSeen setup new exhibit =
+      elim (g.written.answered on.trusted.not_down on.trusted mid.state.memory whole.memory.each) [
+        | inl clash ↦
+            clash_sight setup mid new g.engine g.after g.taken (layout.page_of g.write.at) exhibit whole.whole_shape (omega (arith, inside))
+            g.each_line on.trusted.anchored.of_shape.truth_lines clash.1 is.its
+        | inr found ↦
+            let on_line = refused_within setup.shape setup.formulas (moment_of mid.state (view_in setup mid)) g.write g.written.made found.at pages inside found.refusable in
+            let none : new.board.regs.group.items ≡ [] = ap (λ group. group.items) (done.gone.group shown_uncut) ∙ on.trusted.no_group in
+            let unstored = forged_unstored setup new g.after g.taken found.at none found.forged in
+            let unsealed : is_sealed_by g.written.made found.at ≡ false =
+            false_from_ne_true (is_sealed_by g.written.made found.at) (λ sealed. unstored (places.seals found.at on_line (inr sealed))) in
+            let its_seal : last_seal new.ledger.marks found.at ≡ last_seal mid.ledger.marks found.at =
+            ap (λ marks. last_seal marks found.at) done.gone.marks ∙ last_seal-unsealed mid.ledger.marks g.written.made found.at unsealed in
+            forged_sight_by setup new g.after g.taken found.at exhibit whole.whole_shape whole.whole_formulas on_line g.each_line
+            found.forged is.its
+            (seal_counter setup.shape mid.ledger.marks found.at found.forged.ctr on.trusted.anchored.of_shape.marks_in_range
+            (ap (option_map (λ seal. seal.ctr)) (sym its_seal) ∙ found.forged.unsealed.counter))
+      ] in
+      one_step (Err Fail.Shown) g (Say.Shown exhibit)
+      (shown-good setup mid mid new (Do.Drain port) None port 0 [] 0 writing drained whole small g.write g.later g.waits g.engine g.after g.taken c g.written exhibit is.its
+      (λ clash. clash.fetched.before) places)
+      sight.0 is.its is.engine
+      (λ quiet. absurd (true≢false quiet)) is.shown
+      (λ quiet. absurd (true≢false quiet))
+      (λ quiet. absurd (true≢false quiet))
+      sight.1
+
+-- the whole: room was made, the write was given, and the drain answers
+pub drained_as : (formulas_of : List ℕ → Formulas) (old mid new : WorldState) (port : ℕ) → port < 8 → old.shown ≡ false
+    → IsWorld (setup_of_world formulas_of old) old → HasMarkRoom (setup_of_world formulas_of old) old 66 mid → (gave : Gave) (answer : Answer)
+    → HasGiven (setup_of_world formulas_of mid) mid port gave new → IsDrainReply gave answer
+    → HasStepped (setup_of_world formulas_of old) old (Do.Drain port) (with_marks_since old new answer) new
+drained_as formulas_of old mid new port small unshown whole made gave answer given is =
+    by_gave gave (subst (λ (w : WorldState). HasGiven (setup_of_world formulas_of w) w port gave new) made.same given) is
+  where
+    going : IsGoingOn (setup_of_world formulas_of old) old
+    going = record { whole = whole; unshown = unshown }
+
+    its : IsWorld (setup_of_world formulas_of old) (record old { ledger = mid.ledger })
+    its = subst (λ (w : WorldState). IsWorld (setup_of_world formulas_of old) w) made.same made.holds
+
+    since_then : (marks : List Mark) (said : Answer) → HasStepped (setup_of_world formulas_of old) old (Do.Drain port) (record { marks = marks; answer = said }) new
+        → answer ≡ said → HasStepped (setup_of_world formulas_of old) old (Do.Drain port) (with_marks_since old new answer) new
+    since_then marks said step same =
+        subst (λ (a : Answer). HasStepped (setup_of_world formulas_of old) old (Do.Drain port) (with_marks_since old new a) new) (sym same)
+        (since (setup_of_world formulas_of old) old new (Do.Drain port) marks said step)
+
+    by_gave : (gave : Gave) → HasGiven (setup_of_world formulas_of old) (record old { ledger = mid.ledger }) port gave new → IsDrainReply gave answer
+        → HasStepped (setup_of_world formulas_of old) old (Do.Drain port) (with_marks_since old new answer) new
+    by_gave (Put steps) it same =
+        since_then it.1.given.written.made (Say.Drained steps) (drain-put (setup_of_world formulas_of old) old new mid.ledger made.room port small going its it.0 steps it.1) same
+    by_gave (Refused (Place.Meta x) steps) it same =
+        since_then it.given.written.made (Say.Refused None (Place.Meta x) steps) (drain-meta (setup_of_world formulas_of old) old new mid.ledger made.room port small going its x steps it) same
+    by_gave (Refused (Place.Line b) steps) it same =
+        since_then it.given.written.made (Say.Refused None (Place.Line b) steps) (drain-tag (setup_of_world formulas_of old) old new mid.ledger made.room port small going its b steps it) same
+    by_gave (Spent page steps) it same =
+        since_then it.given.written.made (Say.Spent None page steps) (drain-spent (setup_of_world formulas_of old) old new mid.ledger made.room port small going its page steps it) same
+    by_gave (Kept steps) it same =
+        since_then it.given.written.made (Say.CutKept None steps) (drain-kept (setup_of_world formulas_of old) old new mid.ledger made.room port small going its steps it) same
+    by_gave (Lost steps) it same =
+        since_then it.given.written.made (Say.CutLost None steps) (drain-lost (setup_of_world formulas_of old) old new mid.ledger made.room port small going its steps it) same
+    by_gave (Shown exhibit) it same =
+        since_then it.given.written.made (Say.Shown exhibit) (drain-shown (setup_of_world formulas_of old) old new mid.ledger made.room port small going its exhibit it) same

@@ -1,0 +1,12 @@
+-- How a step of the world is put together.
+pub mod GoodReplies
+pub mod WorldSteps
+pub mod PartsOfWorld
+pub mod DeviceEvidence
+pub mod WorldsAfterCalls
+pub mod MarklessCalls
+pub mod CallSurroundings
+pub mod EngineCalls
+pub mod ReservedRoom
+pub mod SameWorld
+pub mod FaultCauses

@@ -1,0 +1,117 @@
+-- What surrounds a call of the engine in the world's own parts.
+use Rattle.std.proofs.Common.{ℕ, ◌≡◌, ◌<◌, ◌-◌, ◌^◌, true, false, List, Option, Some, None, sym, ap, subst, ◌∙◌, arith, zero-add}
+use Rattle.std.specs.Prelude.{length, map, unwrap_or, All, option_map}
+use Rattle.std.specs.List.{range_with_len}
+use Rattle.std.proofs.lemmas.List.{ext_get_or}
+use Rattle.std.proofs.lemmas.List.FromFn.{length-map-range_with_len, get_or-map-range_with_len}
+use Rattle.pmem_base.specs.declared.lines.Line.{Line}
+use Rattle.pmem_base.specs.declared.commands.Posted.{Posted}
+use Rattle.pmem_base.specs.declared.answers.Mark.{Mark}
+use Rattle.pmem_base.specs.Layout as layout
+use Rattle.pmem_base.specs.Lines.{IsLine, zero_line}
+use Rattle.board.specs.Memory.{Memory}
+use Rattle.seal_ledger.specs.Ledger.{LedgerState}
+use Rattle.suite.specs.Setup.{Setup}
+use Rattle.plain_model.specs.State.{no_writes}
+use Rattle.plain_model.specs.View.{plain_line}
+use Rattle.plain_model.specs.After.{steps_with}
+use Rattle.pmem_engine.specs.Engine.{EngineState}
+use Rattle.pmem_replay.specs.World.{WorldState, WorldParts, IsMemoryOf, plain_memory, state_in, world_of}
+use Rattle.pmem_replay.specs.declared.taken.Taken.{Taken}
+use Rattle.pmem_replay.specs.During.{steps_in, FollowsOn, IsWatched}
+use Rattle.pmem_replay.proofs.Steps.WorldsAfterCalls.{IsCall}
+use Rattle.pmem_replay.proofs.Steps.MarklessCalls.{counted_state, cut_state}
+use Rattle.pmem_replay.proofs.Table.UnchangedSteps.{IsGoingOn, lit_in}
+
+-- ---- what the engine asks
+
+-- ---- after a call
+
+-- the parts after a call
+abbrev pub called : WorldParts → List ℕ → Memory → LedgerState → Option EngineState → ℕ → ℕ → ℕ → WorldParts
+called p keys board ledger engine tags digests steps =
+    record p { keys = keys; board = board; ledger = ledger; engine = engine; tags = tags; digests = digests; steps = steps }
+
+-- what surrounds a call: where room for marks was made before, `p` has it
+pub record IsServed (setup : Setup) (p : WorldParts) (keys : List ℕ) (board : Memory) (steps : ℕ) (engine : EngineState) (taken : Taken) :
+    Type 0 where
+  pub going : IsGoingOn setup (world_of setup p)
+  pub was_on : p.engine ≡ Some engine
+  pub watched : IsWatched p.board board taken
+  pub same_keys : keys ≡ p.keys
+  pub counted : steps ≡ steps_with p.steps (steps_in taken)
+
+-- the call as the laws see it
+pub call_of : (setup : Setup) (p : WorldParts) (keys : List ℕ) (board : Memory) (steps : ℕ) (engine after : EngineState) (taken : Taken)
+    → IsServed setup p keys board steps engine taken → (new : WorldState) → new.shape ≡ setup.shape → new.start ≡ p.start → new.board ≡ board
+    → IsCall setup (world_of setup p) new engine after taken
+call_of setup p keys board steps engine after taken served new shape start is =
+    record {
+      world = served.going.whole;
+      was_on = served.was_on;
+      shape = shape;
+      start = start;
+      follows = subst (λ b. FollowsOn p.board b taken) (sym is) served.watched.follows;
+      in_count = served.watched.in_count;
+      each_line = subst (λ (b : Memory). All IsLine b.lines) (sym is) served.watched.each_line;
+    }
+
+-- memory is the plain lines of the marks
+pub memory_is : (setup : Setup) (marks : List Mark) (memory : List Line) → IsMemoryOf setup marks memory → plain_memory setup marks ≡ memory
+unfolding plain_memory
+memory_is setup marks memory its =
+    let count : length (map plain (range_with_len 0 (layout.data_lines setup.shape))) ≡ layout.data_lines setup.shape =
+    length-map-range_with_len plain 0 (layout.data_lines setup.shape) in
+    ext_get_or zero_line (map plain (range_with_len 0 (layout.data_lines setup.shape))) memory (count ∙ sym its.count)
+    (λ i within.
+    let small : i < layout.data_lines setup.shape = omega (arith, within, count) in
+    get_or-map-range_with_len plain 0 (layout.data_lines setup.shape) i i zero_line small (zero-add i)
+    ∙ ap (λ (found : Option Line). unwrap_or found zero_line) (its.each i small))
+  where
+    plain : ℕ → Line
+    plain a = unwrap_or (plain_line setup.formulas marks a) zero_line
+
+-- the state after a call that goes on
+pub state_called : (setup : Setup) (p : WorldParts) (keys : List ℕ) (board : Memory) (ledger : LedgerState) (engine : Option EngineState)
+    (tags digests steps : ℕ) (before : EngineState) (taken : Taken) (memory : List Line) (loss : ℕ) → IsServed setup p keys board steps before taken
+    → plain_memory setup ledger.marks ≡ memory → board.powered ≡ true → board.regs.loss ≡ loss
+    → state_in setup (called p keys board ledger engine tags digests steps)
+    ≡ record (counted_state (state_in setup p) (steps_in taken)) { memory = memory; loss = loss }
+state_called setup p keys board ledger engine tags digests steps before taken memory loss served its lit its_loss =
+    let power : board.powered ≡ p.board.powered =
+    lit ∙ sym (served.going.whole.board.power ∙ lit_in setup (world_of setup p) before served.going.whole served.was_on) in
+    let fuse : board.fuse ≡ option_map (λ n. n - steps_in taken) p.board.fuse = served.watched.follows.burnt lit in
+    cc (its, power, fuse, served.watched.follows.snapshot, served.counted, its_loss)
+
+-- where it makes no mark and the stop-loss number stays
+pub state_going : (setup : Setup) (p : WorldParts) (keys : List ℕ) (board : Memory) (ledger : LedgerState) (engine : Option EngineState)
+    (tags digests steps : ℕ) (before : EngineState) (taken : Taken) → IsServed setup p keys board steps before taken
+    → ledger.marks ≡ p.ledger.marks → board.powered ≡ true → board.regs.loss ≡ p.board.regs.loss
+    → state_in setup (called p keys board ledger engine tags digests steps) ≡ counted_state (state_in setup p) (steps_in taken)
+state_going setup p keys board ledger engine tags digests steps before taken served marks lit loss =
+    state_called setup p keys board ledger engine tags digests steps before taken (plain_memory setup p.ledger.marks) p.board.regs.loss served
+    (ap (plain_memory setup) marks) lit loss
+
+-- the state after a call that is cut, where memory stays
+pub state_cut_with : (setup : Setup) (p : WorldParts) (keys : List ℕ) (board : Memory) (ledger : LedgerState) (engine : Option EngineState)
+    (tags digests steps : ℕ) (queues : List (List Posted)) (before : EngineState) (taken : Taken) (memory : List Line) → IsServed setup p keys board steps before taken
+    → plain_memory setup ledger.marks ≡ memory → board.powered ≡ false → board.regs.loss ≡ p.board.regs.loss → queues ≡ no_writes
+    → state_in setup (record (called p keys board ledger engine tags digests steps) { queues = queues })
+    ≡ record (cut_state (state_in setup p) (steps_in taken)) { memory = memory }
+state_cut_with setup p keys board ledger engine tags digests steps queues before taken memory served its dark loss empty =
+    let fuse : board.fuse ≡ None = served.watched.follows.cleared dark in
+    cc (its, dark, fuse, served.watched.follows.snapshot, empty, served.counted, loss)
+
+-- where it makes no mark
+pub state_cut : (setup : Setup) (p : WorldParts) (keys : List ℕ) (board : Memory) (ledger : LedgerState) (engine : Option EngineState)
+    (tags digests steps : ℕ) (queues : List (List Posted)) (before : EngineState) (taken : Taken) → IsServed setup p keys board steps before taken
+    → ledger.marks ≡ p.ledger.marks → board.powered ≡ false → board.regs.loss ≡ p.board.regs.loss → queues ≡ no_writes
+    → state_in setup (record (called p keys board ledger engine tags digests steps) { queues = queues })
+    ≡ cut_state (state_in setup p) (steps_in taken)
+state_cut setup p keys board ledger engine tags digests steps queues before taken served marks dark loss empty =
+    state_cut_with setup p keys board ledger engine tags digests steps queues before taken (plain_memory setup p.ledger.marks) served
+    (ap (plain_memory setup) marks) dark loss empty
+
+-- a call's steps are in range
+pub few_steps : (old new : Memory) (taken : Taken) → IsWatched old new taken → steps_in taken < 2 ^ 64
+few_steps old new taken watched = omega (arith, watched.follows.few)
