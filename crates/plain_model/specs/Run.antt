@@ -206,17 +206,30 @@ takes_memory Do.Snap = true
 takes_memory Do.On = true
 takes_memory command = false
 
--- memory was wanted for the reply to the first command of these lines
-abbrev pub IsMemoryWanted : List Command → Type 0
-IsMemoryWanted [] = ⊥
-IsMemoryWanted (command ∷ commands) = IsTrue (takes_memory command)
+-- the reply to a line that reads so may want memory
+abbrev pub WantsMemory : Reading → Type 0
+WantsMemory (Ok (Some command)) = IsTrue (takes_memory command)
+WantsMemory (Ok None) = ⊥
+WantsMemory (Err kind) = ⊥
 
--- a front of the lines is run, and memory was wanted before the first line, or for the next command
+-- memory was wanted for the reply to the first of these lines, which isn't past the limit
+abbrev pub IsMemoryWanted : ℕ → List (List ℕ) → Type 0
+IsMemoryWanted served [] = ⊥
+IsMemoryWanted served (line ∷ lines) = WantsMemory (reading_of line) × (served < line_limit)
+
+-- A front of the lines is run, and memory was wanted before the first line, or for the reply to the next
+-- line's command.
 pub record IsStarvedFrom (setup : Setup) (machine : Machine) (served : ℕ) (lines : List (List ℕ))
     (steps : List Step) : Type 0 where
   pub front : IsFrontFrom setup machine lines steps
   pub wanting :
-      (served + length front.before ≡ 0) ⊎ IsMemoryWanted (commands_of front.behind)
+      (served + length front.before ≡ 0) ⊎ IsMemoryWanted (served + length front.before) front.behind
+
+-- a front of the lines is run, of no more of them than a trace may have
+pub record IsLimitedFrontFrom (setup : Setup) (machine : Machine) (served : ℕ) (lines : List (List ℕ))
+    (steps : List Step) : Type 0 where
+  pub front : IsFrontFrom setup machine lines steps
+  pub counted : served + length front.before ≤ line_limit
 
 -- What a stop says of the rest of a trace, of what is left of it, and of the steps, from a machine on
 -- and after so many lines.
@@ -227,7 +240,8 @@ EndsFrom setup machine served Memory trace left steps = IsStarvedFrom setup mach
 EndsFrom setup machine served Words trace left steps = ⊥
 EndsFrom setup machine served ReadFault trace left steps = IsCutShortFrom setup machine served trace left steps
 EndsFrom setup machine served WriteFault trace left steps =
-    IsFrontFrom setup machine (lines_of trace) steps ⊎ IsShownFrom setup machine served (lines_of trace) steps
+    IsLimitedFrontFrom setup machine served (lines_of trace) steps
+    ⊎ IsShownFrom setup machine served (lines_of trace) steps
 EndsFrom setup machine served (Refused number kind) trace left steps =
     IsRefusedFrom setup machine served (lines_of trace) steps number kind
 EndsFrom setup machine served Shown trace left steps = IsShownFrom setup machine served (lines_of trace) steps

@@ -13,18 +13,15 @@ use Rattle.plain_model.specs.declared.Stop.{Stop}
 use Rattle.plain_model.specs.declared.Stop.TheVariants.{Finished, Words, Memory, ReadFault, WriteFault, Refused, Shown, TooManyLines}
 use Rattle.plain_model.specs.Lines.{lines_of, ended, IsWithin}
 use Rattle.plain_model.specs.Run.{line_limit}
-use Rattle.pmem_cli.specs.Checked.{is_skipped, found_with, found_on, found_after, IsRefusedIn, IsBrokenOff, LooksTo, HasLooked, ChecksLine, ChecksNext}
-use Rattle.pmem_cli.proofs.LineLemmas.{lines_of-ended, lines_of-last, lines_of-begins, lines_of-some}
-use Rattle.pmem_cli.proofs.ServedLemmas.{IfSome-ahead, all_unread}
+use Rattle.pmem_cli.specs.Checked.{is_skipped, found_with, found_on, found_in_lines, IsRefusedIn, IsBrokenOff, LooksTo, HasLooked, ChecksLine, ChecksNext}
+use Rattle.pmem_cli.proofs.LineLemmas.{lines_ahead, lines_of-last, lines_of-begins, lines_of-some}
+use Rattle.pmem_cli.proofs.TurnLemmas.{IfSome-ahead, all_unread}
 
 -- ---- one line in front
 
-lines_ahead : (line rest : List ℕ) → IsWithin line → lines_of (ended line ++ rest) ≡ line ∷ lines_of rest
-lines_ahead line rest within = ap lines_of (append_assoc line (10 ∷ []) rest) ∙ lines_of-ended line rest within
-
-found_after-line : (f g : Option Exhibit) (line : List ℕ) (lines : List (List ℕ)) (after : Option Exhibit)
-    → found_with f line ≡ Ok g → found_after g lines ≡ Ok after → found_after f (line ∷ lines) ≡ Ok after
-found_after-line f g line lines after first rest = ap (λ r. found_on r lines) first ∙ rest
+found_in_lines-cons : (f g : Option Exhibit) (line : List ℕ) (lines : List (List ℕ)) (after : Option Exhibit)
+    → found_with f line ≡ Ok g → found_in_lines g lines ≡ Ok after → found_in_lines f (line ∷ lines) ≡ Ok after
+found_in_lines-cons f g line lines after first rest = ap (λ r. found_on r lines) first ∙ rest
 
 broken_after : (f g : Option Exhibit) (served : ℕ) (bytes rest line : List ℕ) (left : Option (List ℕ)) (after : Option Exhibit)
     → bytes ≡ ended line ++ rest → IsWithin line → found_with f line ≡ Ok g → IsBrokenOff g (served + 1) rest left after → IsBrokenOff f served bytes left after
@@ -38,7 +35,7 @@ broken_after f g served bytes rest line left after split within first broken =
       whole = All-cons IsWithin line broken.before within broken.whole;
       unfinished = broken.unfinished;
       short = broken.short;
-      read = found_after-line f g line broken.before after first broken.read;
+      read = found_in_lines-cons f g line broken.before after first broken.read;
       counted = omega (arith, broken.counted);
       at_limit = λ full. broken.at_limit (omega (arith, full));
     }
@@ -48,12 +45,9 @@ looks_after : (stop : Stop) (f g : Option Exhibit) (served : ℕ) (bytes rest li
     → bytes ≡ ended line ++ rest → IsWithin line → found_with f line ≡ Ok g → LooksTo g (served + 1) stop rest left after → LooksTo f served stop bytes left after
 looks_after Finished f g served bytes rest line left after split within first looks =
     let cut : lines_of bytes ≡ line ∷ lines_of rest = ap lines_of split ∙ lines_ahead line rest within in record {
-      read = ap (found_after f) cut ∙ found_after-line f g line (lines_of rest) after first looks.read;
+      read = ap (found_in_lines f) cut ∙ found_in_lines-cons f g line (lines_of rest) after first looks.read;
       counted = rw cut (omega (arith, looks.counted));
     }
-looks_after Memory f g served bytes rest line left after split within first looks = looks
-looks_after Words f g served bytes rest line left after split within first looks = looks
-looks_after WriteFault f g served bytes rest line left after split within first looks = looks
 looks_after ReadFault f g served bytes rest line left after split within first looks = broken_after f g served bytes rest line left after split within first looks
 looks_after (Refused number kind) f g served bytes rest line left after split within first looks = record {
   before = line ∷ looks.before;
@@ -61,20 +55,20 @@ looks_after (Refused number kind) f g served bytes rest line left after split wi
   behind = looks.behind;
   cut = ap lines_of split ∙ lines_ahead line rest within ∙ ap (λ ls. line ∷ ls) looks.cut;
   between = looks.between;
-  read = found_after-line f g line looks.before looks.between first looks.read;
+  read = found_in_lines-cons f g line looks.before looks.between first looks.read;
   refused = looks.refused;
   numbered = omega (arith, looks.numbered);
   counted = looks.counted;
 }
-looks_after Shown f g served bytes rest line left after split within first looks = looks
 looks_after TooManyLines f g served bytes rest line left after split within first looks = record {
   before = line ∷ looks.before;
   behind = looks.behind;
   cut = ap lines_of split ∙ lines_ahead line rest within ∙ ap (λ ls. line ∷ ls) looks.cut;
-  read = found_after-line f g line looks.before after first looks.read;
+  read = found_in_lines-cons f g line looks.before after first looks.read;
   counted = omega (arith, looks.counted);
   more = looks.more;
 }
+looks_after stop f g served bytes rest line left after split within first looks = absurd looks
 
 if_looks : (stop : Stop) (f g : Option Exhibit) (served : ℕ) (ahead behind left : Option (List ℕ)) (line : List ℕ) (after : Option Exhibit)
     → Consumes ahead behind (ended line) → IsWithin line → found_with f line ≡ Ok g → IfSome behind (λ bytes. LooksTo g (served + 1) stop bytes left after)
@@ -115,13 +109,7 @@ ChecksNext-line (Some (Refused n kind)) ahead behind left before after line serv
   IfSome-ahead ahead behind (ended line) (λ bytes. LooksTo before served (Refused n kind) bytes left after) taken
       (λ rest. refused_here before served n kind (ended line ++ rest) line (lines_of rest) (lines_ahead line rest within) checked.1 (checked.0 ∙ numbered) limit),
 )
-ChecksNext-line (Some Finished) ahead behind left before after line served number taken within numbered limit checked = absurd checked
-ChecksNext-line (Some Words) ahead behind left before after line served number taken within numbered limit checked = absurd checked
-ChecksNext-line (Some Memory) ahead behind left before after line served number taken within numbered limit checked = absurd checked
-ChecksNext-line (Some ReadFault) ahead behind left before after line served number taken within numbered limit checked = absurd checked
-ChecksNext-line (Some WriteFault) ahead behind left before after line served number taken within numbered limit checked = absurd checked
-ChecksNext-line (Some Shown) ahead behind left before after line served number taken within numbered limit checked = absurd checked
-ChecksNext-line (Some TooManyLines) ahead behind left before after line served number taken within numbered limit checked = absurd checked
+ChecksNext-line (Some stop) ahead behind left before after line served number taken within numbered limit checked = absurd checked
 
 -- the last line
 pub HasLooked-last : (ahead behind left : Option (List ℕ)) (before after : Option Exhibit) (line : List ℕ) (served : ℕ)
@@ -132,7 +120,7 @@ HasLooked-last ahead behind left before after line served taken within some end 
       λ same. cc,
       λ same. cc,
       Consumes-whole ahead behind line (λ bytes. LooksTo before served Finished bytes left after) taken end
-          (record { read = ap (found_after before) cut ∙ found_after-line before after line [] after checked refl; counted = rw cut (omega (arith, limit)) }),
+          (record { read = ap (found_in_lines before) cut ∙ found_in_lines-cons before after line [] after checked refl; counted = rw cut (omega (arith, limit)) }),
     )
 
 -- the last line, at which the check stops
@@ -145,13 +133,7 @@ HasLooked-at_last (Refused n kind) ahead behind left before after line served nu
   Consumes-whole ahead behind line (λ bytes. LooksTo before served (Refused n kind) bytes left after) taken end
       (refused_here before served n kind line line [] (lines_of-last line within some) checked.1 (checked.0 ∙ numbered) limit),
 )
-HasLooked-at_last Finished ahead behind left before after line served number taken within some end numbered limit checked = absurd checked
-HasLooked-at_last Words ahead behind left before after line served number taken within some end numbered limit checked = absurd checked
-HasLooked-at_last Memory ahead behind left before after line served number taken within some end numbered limit checked = absurd checked
-HasLooked-at_last ReadFault ahead behind left before after line served number taken within some end numbered limit checked = absurd checked
-HasLooked-at_last WriteFault ahead behind left before after line served number taken within some end numbered limit checked = absurd checked
-HasLooked-at_last Shown ahead behind left before after line served number taken within some end numbered limit checked = absurd checked
-HasLooked-at_last TooManyLines ahead behind left before after line served number taken within some end numbered limit checked = absurd checked
+HasLooked-at_last stop ahead behind left before after line served number taken within some end numbered limit checked = absurd checked
 
 -- a line that is too long is refused whatever it holds
 long_refused : (found : Option Exhibit) (line : List ℕ) → 1024 < length line → found_with found line ≡ Err Kind.Long

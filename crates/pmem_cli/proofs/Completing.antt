@@ -10,7 +10,7 @@ use Rattle.plain_model.specs.Lines.{lines_of}
 use Rattle.plain_model.specs.Grammar.{reading_of}
 use Rattle.plain_model.specs.Run.{Step, Ends, status_of}
 use Rattle.pmem_cli.specs.declared.options.Task.{Task}
-use Rattle.pmem_cli.specs.HasRun.{HasRun, HasDone, IsInGrammar, IsRunThrough, IsComplete}
+use Rattle.pmem_cli.specs.HasRun.{HasRun, TaskOutcome, IsInGrammar, IsRunThrough, IsComplete}
 
 -- a fact of each element is one of those in the middle
 all_middle : {X : Type 0} (P : X → Type 0) (before : List X) (x : X) (behind : List X) → All P (before ++ x ∷ behind) → P x
@@ -40,7 +40,7 @@ run_complete setup status (Some bytes) left before after reads writes run read w
     through_by run.stop setup status bytes left run.steps run.ends (run.its_status (λ four. no_fault (inr (write four))))
     (λ three. no_fault (inl (read three))) (λ four. no_fault (inr (write four))) grammar
 
-pub complete : (task : Task) (status : ℕ) (trace left before after : Option (List ℕ)) (reads writes : Type 0) → HasDone task status trace left before after
+pub complete : (task : Task) (status : ℕ) (trace left before after : Option (List ℕ)) (reads writes : Type 0) → TaskOutcome task status trace left before after
     → (status ≡ 3 → reads) → (status ≡ 4 → writes) → IsComplete task status trace (reads ⊎ writes)
 complete (Task.Run c) status trace left before after reads writes done read write = run_complete _ status trace left before after reads writes done read write
 complete task status trace left before after reads writes done read write = tt

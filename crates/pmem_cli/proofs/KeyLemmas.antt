@@ -10,17 +10,17 @@ use Rattle.suite.specs.Formulas.{Formulas}
 use Rattle.suite.specs.Setup.{Setup}
 use Rattle.plain_model.specs.Defaults.{default_shape, default_keys, default_setup}
 use Rattle.pmem_cli.specs.Words.{no_choices}
-use Rattle.pmem_cli.specs.Keys.{key_of, tag_key_of, formulas_of, shape_chosen, setup_chosen}
+use Rattle.pmem_cli.specs.Keys.{chosen_key, chosen_tag_key, formulas_of, shape_chosen, setup_chosen}
 
-pub formulas_aes : (c : Choices) (keys : List ℕ) → unwrap_or c.suite Aes ≡ Aes → keys ≡ key_of c ++ tag_key_of c → aes_formulas keys ≡ formulas_of c
+pub formulas_aes : (c : Choices) (keys : List ℕ) → unwrap_or c.suite Aes ≡ Aes → keys ≡ chosen_key c ++ chosen_tag_key c → aes_formulas keys ≡ formulas_of c
 unfolding formulas_of
 formulas_aes c keys name same = rw (name, same) refl
 
-pub formulas_weak : (c : Choices) (keys : List ℕ) → unwrap_or c.suite Aes ≡ Weak → keys ≡ (key_of c ++ tag_key_of c) ++ blur_flag false ∷ [] → weak_formulas keys ≡ formulas_of c
+pub formulas_weak : (c : Choices) (keys : List ℕ) → unwrap_or c.suite Aes ≡ Weak → keys ≡ (chosen_key c ++ chosen_tag_key c) ++ blur_flag false ∷ [] → weak_formulas keys ≡ formulas_of c
 unfolding formulas_of
 formulas_weak c keys name same = rw (name, same) refl
 
-pub formulas_blur : (c : Choices) (keys : List ℕ) → unwrap_or c.suite Aes ≡ Blur → keys ≡ (key_of c ++ tag_key_of c) ++ blur_flag true ∷ [] → weak_formulas keys ≡ formulas_of c
+pub formulas_blur : (c : Choices) (keys : List ℕ) → unwrap_or c.suite Aes ≡ Blur → keys ≡ (chosen_key c ++ chosen_tag_key c) ++ blur_flag true ∷ [] → weak_formulas keys ≡ formulas_of c
 unfolding formulas_of
 formulas_blur c keys name same = rw (name, same) refl
 
@@ -35,7 +35,7 @@ pub setup_default : setup_chosen no_choices ≡ default_setup
 unfolding setup_chosen shape_chosen formulas_of no_choices default_setup default_shape default_keys
 setup_default = refl
 
-pub setup_defaults : (c : Choices) (shape : Shape) (keys : List ℕ) → c ≡ no_choices → shape ≡ shape_chosen c → keys ≡ key_of c ++ tag_key_of c
+pub setup_defaults : (c : Choices) (shape : Shape) (keys : List ℕ) → c ≡ no_choices → shape ≡ shape_chosen c → keys ≡ chosen_key c ++ chosen_tag_key c
     → ◌≡◌ {A = Setup} (record { shape = shape; formulas = aes_formulas keys }) default_setup
 unfolding no_choices
 setup_defaults c shape keys none its_shape its_keys =

@@ -6,7 +6,7 @@ pub mod RunLemmas
 pub mod PrintLemmas
 pub mod MarkLines
 pub mod MakeLemmas
-pub mod ServedLemmas
+pub mod TurnLemmas
 pub mod CheckLemmas
 pub mod KeyLemmas
 pub mod WordLemmas

@@ -14,6 +14,9 @@ lines_of-ended (b ∷ line) rest within =
     let tail : IsWithin line = All-tail (λ b. is_line_end b ≡ false) b line within in
     rw (other, lines_of-ended line rest tail) refl
 
+pub lines_ahead : (line rest : List ℕ) → IsWithin line → lines_of (ended line ++ rest) ≡ line ∷ lines_of rest
+lines_ahead line rest within = ap lines_of (append_assoc line (10 ∷ []) rest) ∙ lines_of-ended line rest within
+
 -- the last line
 pub lines_of-last : (line : List ℕ) → IsWithin line → 0 < length line → lines_of line ≡ line ∷ []
 unfolding lines_of

@@ -47,20 +47,10 @@ PrintsFront-more a b s t front = record {
 pub Prints-whole : (p q : Option (List ℕ)) (s : List ℕ) → Prints (with_waiting p []) (with_waiting q []) s → Appends p q s
 Prints-whole p q s printed = rw (printed.in_order ∙ append-nil printed.done) printed.appended
 
--- what holds at a failure, by a fact that holds there
-pub OnErr-map : {T E : Type 0} (result : Result T E) (P Q : Type 0) → (P → Q) → OnErr result P → OnErr result Q
-OnErr-map (Ok value) P Q follows holds = tt
-OnErr-map (Err error) P Q follows holds = follows holds
-
 -- a fact holds at a failure, if it holds
 pub OnErr-fact : {T E : Type 0} (result : Result T E) (P : Type 0) → P → OnErr result P
 OnErr-fact (Ok value) P holds = tt
 OnErr-fact (Err error) P holds = holds
-
--- what holds at a success, by a fact that holds there
-pub OnOk-map : {T E : Type 0} (result : Result T E) (P Q : Type 0) → (P → Q) → OnOk result P → OnOk result Q
-OnOk-map (Ok value) P Q follows holds = follows holds
-OnOk-map (Err error) P Q follows holds = tt
 
 -- a count that rose from a later one rose from an earlier one
 pub Rose-before : (a b c : ℕ) → a ≤ b → Rose b c → Rose a c

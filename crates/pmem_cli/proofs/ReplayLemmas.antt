@@ -12,11 +12,11 @@ use Rattle.pmem_replay.specs.World.{WorldState}
 use Rattle.pmem_replay.specs.Stepped.{IsNewWorld}
 use Rattle.pmem_cli.specs.Printed.{Output}
 use Rattle.pmem_cli.specs.Standing.{standing_of, AreStepped}
-use Rattle.pmem_cli.specs.Served.{HasStopped}
+use Rattle.pmem_cli.specs.Turns.{HasStopped}
 use Rattle.pmem_cli.specs.HasRun.{HasReplayed}
 use Rattle.pmem_cli.proofs.PrintLemmas.{Prints-nil, Prints-front}
 use Rattle.pmem_cli.proofs.RunLemmas.{IsFrontFrom-nil}
-use Rattle.pmem_cli.proofs.ServedLemmas.{IfSome-any}
+use Rattle.pmem_cli.proofs.TurnLemmas.{IfSome-any}
 use Rattle.pmem_cli.proofs.StandingLemmas.{new_setup, new_machine}
 
 -- memory was wanted before the first line

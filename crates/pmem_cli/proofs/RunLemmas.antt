@@ -1,5 +1,5 @@
 -- Runs grow at their end.
-use Rattle.std.proofs.Common.{◌≡◌, ◌∙◌, ◌+◌, ◌<◌, ℕ, List, [], ◌∷◌, ◌++◌, length, refl, sym, ap, arith, append_assoc, length-append, Bool, true, false, subst, lt-ltb, inl, inr}
+use Rattle.std.proofs.Common.{◌≡◌, ◌∙◌, ◌+◌, ◌<◌, ◌≤◌, ℕ, List, [], ◌∷◌, ◌++◌, length, refl, sym, ap, arith, append_assoc, length-append, Bool, true, false, subst, lt-ltb, inl, inr}
 use Rattle.std.specs.Prelude.{All, Option, map, IsOk, IsTrue, Ok, Err, Some, None, nat_lt}
 use Rattle.std.specs.List.{flat_map}
 use Rattle.std.proofs.KnownBytes.{Consumes-trans}
@@ -15,7 +15,7 @@ use Rattle.plain_model.specs.declared.Stop.TheVariants.{Finished, Words, Memory,
 use Rattle.plain_model.specs.Lines.{lines_of, ended, IsWithin}
 use Rattle.plain_model.specs.Answers.{is_shown}
 use Rattle.plain_model.specs.Grammar.{reading_of, reading_among}
-use Rattle.plain_model.specs.Run.{Machine, Step, machine_after, machine_after_all, IsAnswered, AreAnswered, commands_asked, commands_of, IsRunFrom, IsFrontFrom, IsCutShortFrom, IsShownFrom, IsMemoryWanted, takes_memory, EndsFrom, Ends, start, line_limit}
+use Rattle.plain_model.specs.Run.{Machine, Step, machine_after, machine_after_all, IsAnswered, AreAnswered, commands_asked, commands_of, IsRunFrom, IsFrontFrom, IsLimitedFrontFrom, IsCutShortFrom, IsShownFrom, IsMemoryWanted, takes_memory, EndsFrom, Ends, start, line_limit}
 use Rattle.pmem_cli.proofs.ShownLemmas.{exhibit_of, legal_exhibit}
 use Rattle.pmem_cli.proofs.StandingLemmas.{machine_after_all-append}
 use Rattle.pmem_cli.proofs.LineLemmas.{lines_of-begins, lines_of-all_ended}
@@ -80,6 +80,13 @@ IsFrontFrom-after setup machine all before rest xs ys split run front = record {
   run = IsRunFrom-append setup machine before front.before xs ys run front.run;
 }
 
+served_more : (served : ℕ) (ls ms : List (List ℕ)) → (served + length ls) + length ms ≡ served + length (ls ++ ms)
+served_more served ls ms = rw length-append (omega arith)
+
+-- no reply, within the limit
+pub IsLimitedFrontFrom-nil : (setup : Setup) (machine : Machine) (served : ℕ) (ls : List (List ℕ)) → served ≤ line_limit → IsLimitedFrontFrom setup machine served ls []
+IsLimitedFrontFrom-nil setup machine served ls limit = record { front = IsFrontFrom-nil setup machine ls; counted = omega (arith, limit) }
+
 -- the exhibit comes after some lines
 IsShownFrom-after : (setup : Setup) (machine : Machine) (served : ℕ) (all before rest : List (List ℕ)) (xs ys : List Step) → all ≡ before ++ rest
     → IsRunFrom setup machine before xs → IsShownFrom setup (machine_after_all setup machine xs) (served + length before) rest ys → IsShownFrom setup machine served all (xs ++ ys)
@@ -130,14 +137,20 @@ EndsFrom-after Finished setup machine served trace rest left before xs ys split 
 EndsFrom-after Words setup machine served trace rest left before xs ys split within run ends = ends
 EndsFrom-after Memory setup machine served trace rest left before xs ys split within run ends = record {
   front = IsFrontFrom-after setup machine (lines_of trace) before (lines_of rest) xs ys (ap lines_of split ∙ lines_of-all_ended before rest within) run ends.front;
-  wanting = elim ends.wanting [ inl none ↦ inl (rw length-append (omega (arith, none))) | inr wanted ↦ inr wanted ];
+  wanting = elim ends.wanting [
+    | inl none ↦ inl (rw length-append (omega (arith, none)))
+    | inr wanted ↦ inr (subst (λ n. IsMemoryWanted n ends.front.behind) (served_more served before ends.front.before) wanted)
+  ];
 }
 EndsFrom-after ReadFault setup machine served trace rest left before xs ys split within run ends =
     IsCutShortFrom-after setup machine served trace rest left before xs ys split within run ends
 EndsFrom-after WriteFault setup machine served trace rest left before xs ys split within run ends =
     let cut = ap lines_of split ∙ lines_of-all_ended before rest within in
     elim ends [
-      | inl front ↦ inl (IsFrontFrom-after setup machine (lines_of trace) before (lines_of rest) xs ys cut run front)
+      | inl limited ↦ inl (record {
+        front = IsFrontFrom-after setup machine (lines_of trace) before (lines_of rest) xs ys cut run limited.front;
+        counted = rw length-append (omega (arith, limited.counted));
+      })
       | inr shown ↦ inr (IsShownFrom-after setup machine served (lines_of trace) before (lines_of rest) xs ys cut run shown)
     ]
 EndsFrom-after Shown setup machine served trace rest left before xs ys split within run ends =
@@ -219,7 +232,10 @@ untold_by : (b : Bool) (setup : Setup) (machine : Machine) (served : ℕ) (left 
 untold_by true setup machine served left trace line behind step shown cut asked answered limit =
     inr (IsShownFrom-first setup machine served (lines_of trace) line behind step cut asked answered shown limit)
 untold_by false setup machine served left trace line behind step hidden cut asked answered limit =
-    inl (record { before = line ∷ []; behind = behind; cut = cut; run = IsRunFrom-step setup machine line step asked answered hidden })
+    inl (record {
+      front = record { before = line ∷ []; behind = behind; cut = cut; run = IsRunFrom-step setup machine line step asked answered hidden };
+      counted = omega (arith, limit);
+    })
 
 pub EndsFrom-untold : (setup : Setup) (machine : Machine) (served : ℕ) (left : Option (List ℕ)) (trace line : List ℕ) (behind : List (List ℕ)) (step : Step)
     → lines_of trace ≡ line ∷ behind → reading_of line ≡ Ok (Some step.command) → IsAnswered setup machine step → served < line_limit
@@ -229,10 +245,10 @@ EndsFrom-untold setup machine served left trace line behind step cut asked answe
 
 -- memory was wanted for the reply to the first line
 pub EndsFrom-wanting : (setup : Setup) (machine : Machine) (served : ℕ) (left : Option (List ℕ)) (trace line : List ℕ) (behind : List (List ℕ)) (command : Command)
-    → lines_of trace ≡ line ∷ behind → reading_of line ≡ Ok (Some command) → IsTrue (takes_memory command)
+    → lines_of trace ≡ line ∷ behind → reading_of line ≡ Ok (Some command) → IsTrue (takes_memory command) → served < line_limit
     → EndsFrom setup machine served Memory trace left []
-EndsFrom-wanting setup machine served left trace line behind command cut asked wants =
-    let wanted : IsMemoryWanted (commands_of (line ∷ behind)) = rw asked wants in record {
+EndsFrom-wanting setup machine served left trace line behind command cut asked wants limit =
+    let wanted : IsMemoryWanted (served + 0) (line ∷ behind) = rw asked (wants, omega (arith, limit)) in record {
       front = IsFrontFrom-nil setup machine (lines_of trace);
       wanting = inr (rw cut wanted);
     }
@@ -250,7 +266,7 @@ ends_answered Finished setup trace left steps ends = ends.run.answered
 ends_answered Memory setup trace left steps ends = ends.front.run.answered
 ends_answered Words setup trace left steps ends = absurd ends
 ends_answered ReadFault setup trace left steps ends = ends.run.answered
-ends_answered WriteFault setup trace left steps ends = elim ends [ inl front ↦ front.run.answered | inr shown ↦ shown_answered setup (lines_of trace) steps shown ]
+ends_answered WriteFault setup trace left steps ends = elim ends [ inl limited ↦ limited.front.run.answered | inr shown ↦ shown_answered setup (lines_of trace) steps shown ]
 ends_answered (Refused number kind) setup trace left steps ends = ends.run.answered
 ends_answered Shown setup trace left steps ends = shown_answered setup (lines_of trace) steps ends
 ends_answered TooManyLines setup trace left steps ends = ends.front.run.answered

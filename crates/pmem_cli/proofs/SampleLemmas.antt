@@ -18,14 +18,14 @@ use Rattle.trace_text.specs.Samples.{sample_command, sample_trace, state_of_seed
 use Rattle.pmem_replay.specs.World.{WorldState}
 use Rattle.pmem_replay.specs.Stepped.{IsNewWorld}
 use Rattle.pmem_cli.specs.Printed.{Output, Prints, PrintsFront}
-use Rattle.pmem_cli.specs.Standing.{Standing, standing_of, AreStepped, GoesOn}
-use Rattle.pmem_cli.specs.Served.{HasReplied}
+use Rattle.pmem_cli.specs.Standing.{Standing, standing_of, AreStepped, StandingAfter}
+use Rattle.pmem_cli.specs.Turns.{HasReplied}
 use Rattle.pmem_cli.specs.Sampled.{IsLastAnswer, SampleEnds, HasCome, HasReached, HasToldSample}
 use Rattle.pmem_cli.specs.HasRun.{HasRunSample}
 use Rattle.pmem_cli.proofs.PrintLemmas.{Prints-nil, Prints-front}
 use Rattle.pmem_cli.proofs.RunLemmas.{AreAnswered-append}
 use Rattle.pmem_cli.proofs.ShownLemmas.{exhibit_of, legal_exhibit}
-use Rattle.pmem_cli.proofs.StandingLemmas.{GoesOn-nil, GoesOn-trans, AreStepped-after, new_setup, new_machine}
+use Rattle.pmem_cli.proofs.StandingLemmas.{StandingAfter-nil, StandingAfter-trans, AreStepped-after, new_setup, new_machine}
 
 -- ---- the commands
 
@@ -46,7 +46,7 @@ HasCome-nil s commands running = record {
   in_order = refl;
   answered = tt;
   none_shown = All-nil (λ step. is_shown step.reply.answer ≡ false);
-  on = GoesOn-nil s running;
+  on = StandingAfter-nil s running;
 }
 
 -- the next command is the first of those left
@@ -74,21 +74,21 @@ one_more_in_order commands behind command steps step in_order asked =
     ∙ in_order
 
 -- and legal after those before it
-one_more_answered : (s t : Standing) (steps : List Step) (step : Step) → AreAnswered s.setup s.machine steps → GoesOn s t steps → IsAnswered t.setup t.machine step
+one_more_answered : (s t : Standing) (steps : List Step) (step : Step) → AreAnswered s.setup s.machine steps → StandingAfter s t steps → IsAnswered t.setup t.machine step
     → AreAnswered s.setup s.machine (steps ++ step ∷ [])
 one_more_answered s t steps step answered on last =
     AreAnswered-append s.setup s.machine steps (step ∷ []) answered
     (subst (λ machine. IsAnswered s.setup machine step) on.machine (subst (λ setup. IsAnswered setup t.machine step) on.setup last), tt)
 
 pub HasCome-next : (s t u : Standing) (commands behind : List Command) (command : Command) (steps : List Step) (step : Step) → HasCome s t commands (command ∷ behind) steps
-    → HasReplied t command step → is_shown step.reply.answer ≡ false → GoesOn t u (step ∷ []) → HasCome s u commands behind (steps ++ step ∷ [])
+    → HasReplied t command step → is_shown step.reply.answer ≡ false → StandingAfter t u (step ∷ []) → HasCome s u commands behind (steps ++ step ∷ [])
 HasCome-next s t u commands behind command steps step come replied hidden on = record {
   in_order = one_more_in_order commands behind command steps step come.in_order replied.asked;
   answered = one_more_answered s t steps step come.answered come.on replied.answered;
   none_shown =
       All-append (λ step. is_shown step.reply.answer ≡ false) steps (step ∷ []) come.none_shown
       (All-cons (λ step. is_shown step.reply.answer ≡ false) step [] hidden (All-nil (λ step. is_shown step.reply.answer ≡ false)));
-  on = GoesOn-trans s t u steps (step ∷ []) come.on on;
+  on = StandingAfter-trans s t u steps (step ∷ []) come.on on;
 }
 
 -- the last answer
@@ -111,35 +111,6 @@ HasReached-of s t commands behind command steps step come replied ends = (
 )
 
 -- ---- the stop
-
-pub told-memory : (s : Standing) (commands : List Command) (p : Output) → HasToldSample Memory s commands p p
-told-memory s commands p = record {
-  steps = [];
-  text = [];
-  ends = (refl, refl);
-  leads = (s.world, refl);
-  said = record { whole = λ told. Prints-nil p; front = Prints-front p p [] (Prints-nil p) };
-}
-
-pub told-fault : (s : Standing) (commands : List Command) (answer : Answer) (p q : Output) → HasReached s commands answer → PrintsFront p q (as_line (answer_text answer))
-    → HasToldSample WriteFault s commands p q
-told-fault s commands answer p q reached front = record {
-  steps = reached.0;
-  text = as_line (answer_text answer);
-  ends = (answer, reached.1, refl);
-  leads = reached.2;
-  said = record { whole = λ told. absurd (told refl); front = front };
-}
-
-pub told-finished : (s : Standing) (commands : List Command) (answer : Answer) (p q : Output) → HasReached s commands answer → is_shown answer ≡ false
-    → Prints p q (as_line (answer_text answer)) → HasToldSample Finished s commands p q
-told-finished s commands answer p q reached hidden printed = record {
-  steps = reached.0;
-  text = as_line (answer_text answer);
-  ends = (answer, reached.1, refl, hidden);
-  leads = reached.2;
-  said = record { whole = λ told. printed; front = Prints-front p q (as_line (answer_text answer)) printed };
-}
 
 -- the last of some steps is answered
 last_answered : (setup : Setup) (machine : Machine) (steps : List Step) (step : Step) → AreAnswered setup machine (steps ++ step ∷ []) → IsAnswered setup (machine_after_all setup machine steps) step

@@ -90,12 +90,3 @@ legal_exhibit setup state view command reply exhibit legal shown =
 pub exhibit_of : (answer : Answer) → is_shown answer ≡ true → (exhibit : Exhibit) × (answer ≡ Say.Shown exhibit)
 exhibit_of (Say.Shown exhibit) shown = (exhibit, refl)
 exhibit_of answer shown = absurd cc
-
--- an answer in its ranges has minors in theirs
-small_exhibit : (exhibit : Exhibit) → IsAnswer (Say.Shown exhibit) → HasSmallMinors (Say.Shown exhibit)
-small_exhibit (Twin at major low high cipher tag) range = (range.2, range.3)
-small_exhibit exhibit range = tt
-
-pub small_minors : (answer : Answer) → IsAnswer answer → HasSmallMinors answer
-small_minors (Say.Shown exhibit) range = small_exhibit exhibit range
-small_minors answer range = tt

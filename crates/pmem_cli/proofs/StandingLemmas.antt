@@ -12,8 +12,8 @@ use Rattle.plain_model.specs.Run.{Machine, Step, start, machine_after, machine_a
 use Rattle.plain_model.proofs.Views.{view_after_marks-append}
 use Rattle.pmem_replay.specs.World.{WorldState, setup_of, view_in}
 use Rattle.pmem_replay.specs.Stepped.{IsNewWorld, HasStepped}
-use Rattle.pmem_cli.specs.Standing.{Standing, standing_of, AreStepped, GoesOn}
-use Rattle.pmem_cli.specs.Served.{HasReplied}
+use Rattle.pmem_cli.specs.Standing.{Standing, standing_of, AreStepped, StandingAfter}
+use Rattle.pmem_cli.specs.Turns.{HasReplied}
 
 pub machine_after_all-append : (setup : Setup) (machine : Machine) (xs ys : List Step)
     → machine_after_all setup machine (xs ++ ys) ≡ machine_after_all setup (machine_after_all setup machine xs) ys
@@ -24,11 +24,11 @@ pub AreStepped-append : (setup : Setup) (a b c : WorldState) (xs ys : List Step)
 AreStepped-append setup a b c [] ys first second = subst (λ w. AreStepped setup w ys c) first second
 AreStepped-append setup a b c (x ∷ xs) ys first second = (first.0, first.1, AreStepped-append setup first.0 b c xs ys first.2 second)
 
-pub GoesOn-nil : (s : Standing) → s.world.shown ≡ false → GoesOn s s []
-GoesOn-nil s running = record { setup = refl; machine = refl; running = running; chain = refl }
+pub StandingAfter-nil : (s : Standing) → s.world.shown ≡ false → StandingAfter s s []
+StandingAfter-nil s running = record { setup = refl; machine = refl; running = running; chain = refl }
 
-pub GoesOn-trans : (s t u : Standing) (xs ys : List Step) → GoesOn s t xs → GoesOn t u ys → GoesOn s u (xs ++ ys)
-GoesOn-trans s t u xs ys first second = record {
+pub StandingAfter-trans : (s t u : Standing) (xs ys : List Step) → StandingAfter s t xs → StandingAfter t u ys → StandingAfter s u (xs ++ ys)
+StandingAfter-trans s t u xs ys first second = record {
   setup = second.setup ∙ first.setup;
   machine =
       second.machine ∙ ap (λ setup. machine_after_all setup t.machine ys) first.setup
@@ -40,7 +40,7 @@ GoesOn-trans s t u xs ys first second = record {
 }
 
 -- a chain that follows a run
-pub AreStepped-after : (s t : Standing) (last : WorldState) (xs ys : List Step) → GoesOn s t xs → AreStepped t.setup t.world ys last → AreStepped s.setup s.world (xs ++ ys) last
+pub AreStepped-after : (s t : Standing) (last : WorldState) (xs ys : List Step) → StandingAfter s t xs → AreStepped t.setup t.world ys last → AreStepped s.setup s.world (xs ++ ys) last
 AreStepped-after s t last xs ys first second =
     AreStepped-append s.setup s.world t.world last xs ys first.chain (subst (λ setup. AreStepped setup t.world ys last) first.setup second)
 
@@ -53,10 +53,10 @@ same_machine s t v w states views = rw (states, views) refl
 view_more : (g h : Shape) (old new more : List Mark) → h ≡ g → new ≡ old ++ more → view_of h new ≡ view_after_marks (view_of g old) more
 view_more g h old new more shape marks = rw (shape, marks) (view_after_marks-append (start_view g) old more)
 
-pub GoesOn-step : (f : List ℕ → Formulas) (old new : WorldState) (step : Step) → HasStepped (setup_of f old) old step.command step.reply new → is_shown step.reply.answer ≡ false
-    → GoesOn (standing_of f old) (standing_of f new) (step ∷ [])
+pub StandingAfter-step : (f : List ℕ → Formulas) (old new : WorldState) (step : Step) → HasStepped (setup_of f old) old step.command step.reply new → is_shown step.reply.answer ≡ false
+    → StandingAfter (standing_of f old) (standing_of f new) (step ∷ [])
 unfolding machine_after
-GoesOn-step f old new step stepped hidden = record {
+StandingAfter-step f old new step stepped hidden = record {
   setup = rw (stepped.same_shape, stepped.same_keys) refl;
   machine =
       same_machine new.state _ (view_in (setup_of f new) new) _ (stepped.state hidden)
@@ -74,10 +74,6 @@ HasReplied-step f old new command reply stepped = record {
   next = new;
   stepped = stepped;
 }
-
--- a reply's marks are the last of all
-pub marks_within : (old new more : List Mark) (from to : ℕ) → new ≡ old ++ more → from ≡ length old → to ≡ length new → from ≤ to
-marks_within old new more from to marks at end = rw (at, end, marks, length-append) (omega arith)
 
 -- ---- a new world
 

@@ -17,7 +17,7 @@ use Rattle.pmem_cli.specs.declared.options.Task.{Task}
 use Rattle.pmem_cli.specs.declared.ending.Ending.{Ending}
 use Rattle.pmem_cli.specs.declared.ending.Ending.TheVariants.{Stopped}
 use Rattle.pmem_cli.specs.Endings.{ending_text, ending_status}
-use Rattle.pmem_cli.specs.HasRun.{HasRun, HasPut, HasSampled, HasTold, HasDone, HasMade, HasReplayed, HasRunSample, CheckEnds, HasEnded}
+use Rattle.pmem_cli.specs.HasRun.{HasRun, HasPut, HasSampled, HasTold, TaskOutcome, TextOutcome, HasReplayed, HasRunSample, CheckEnds, HasEnded}
 use Rattle.pmem_cli.specs.Untampered.{IsUntampered}
 use Rattle.pmem_cli.proofs.PrintLemmas.{Prints-trans, Prints-whole, PrintsFront-trans, PrintsFront-more}
 use Rattle.pmem_cli.proofs.RunLemmas.{ends_answered}
@@ -34,14 +34,8 @@ none_of_some None x is none = cc
 none_of_some (Some y) x is none = cc
 
 is_write_fault : (stop : Stop) → (stop ≡ WriteFault) ⊎ (stop ≢ WriteFault)
-is_write_fault Finished = inr (λ same. cc)
-is_write_fault Memory = inr (λ same. cc)
-is_write_fault Words = inr (λ same. cc)
-is_write_fault ReadFault = inr (λ same. cc)
 is_write_fault WriteFault = inl refl
-is_write_fault (Refused number kind) = inr (λ same. cc)
-is_write_fault Shown = inr (λ same. cc)
-is_write_fault TooManyLines = inr (λ same. cc)
+is_write_fault stop = inr (λ same. cc)
 
 -- ---- what was asked for, finished by the last line
 
@@ -105,7 +99,7 @@ sample_done setup commands stop status before after between run finished = recor
 }
 
 put_done : (text : List ℕ) (stop : Stop) (status : ℕ) (before after : Option (List ℕ)) (between : Output)
-    → HasMade stop (with_waiting before []) between text → IsFinished (Stopped stop) status between after → HasPut text status before after
+    → TextOutcome stop (with_waiting before []) between text → IsFinished (Stopped stop) status between after → HasPut text status before after
 unfolding stop_text
 put_done text Finished status before after between made finished =
     let first = with_waiting before [] in
@@ -121,12 +115,7 @@ put_done text WriteFault status before after between made finished = record {
   whole = λ sent. absurd (sent (finished.fault refl));
   front = subst (λ (put : Option (List ℕ)). PrintsFront (with_waiting before []) (with_waiting put []) text) (sym (finished.kept refl)) made.said.front;
 }
-put_done text Memory status before after between made finished = absurd (elim made.its_stop [ inl same ↦ cc same | inr same ↦ cc same ])
-put_done text Words status before after between made finished = absurd (elim made.its_stop [ inl same ↦ cc same | inr same ↦ cc same ])
-put_done text ReadFault status before after between made finished = absurd (elim made.its_stop [ inl same ↦ cc same | inr same ↦ cc same ])
-put_done text (Refused number kind) status before after between made finished = absurd (elim made.its_stop [ inl same ↦ cc same | inr same ↦ cc same ])
-put_done text Shown status before after between made finished = absurd (elim made.its_stop [ inl same ↦ cc same | inr same ↦ cc same ])
-put_done text TooManyLines status before after between made finished = absurd (elim made.its_stop [ inl same ↦ cc same | inr same ↦ cc same ])
+put_done text stop status before after between made finished = absurd (elim made.its_stop [ inl same ↦ cc same | inr same ↦ cc same ])
 
 told_done : (choices : Choices) (ending : Ending) (status : ℕ) (trace left before after : Option (List ℕ)) (between : Output)
     → CheckEnds choices ending trace left (with_waiting before []) between → IsFinished ending status between after → HasTold choices status trace left before after
@@ -140,16 +129,16 @@ told_done choices ending status trace left before after between ended finished =
     }
 
 -- what was asked for is done
-pub HasDone-finished : (task : Task) (ending : Ending) (status : ℕ) (trace left before after : Option (List ℕ)) (between : Output)
-    → HasEnded task ending trace left (with_waiting before []) between → IsFinished ending status between after → HasDone task status trace left before after
-HasDone-finished (Task.Run c) ending status trace left before after between ended finished =
+pub TaskOutcome-finished : (task : Task) (ending : Ending) (status : ℕ) (trace left before after : Option (List ℕ)) (between : Output)
+    → HasEnded task ending trace left (with_waiting before []) between → IsFinished ending status between after → TaskOutcome task status trace left before after
+TaskOutcome-finished (Task.Run c) ending status trace left before after between ended finished =
     run_done (setup_chosen c) ended.stop status trace left before after between ended.run
     (subst (λ (e : Ending). IsFinished e status between after) ended.its_stop finished)
-HasDone-finished (Task.Make seed count) ending status trace left before after between ended finished =
+TaskOutcome-finished (Task.Make seed count) ending status trace left before after between ended finished =
     put_done (commands_text (sample_trace seed count)) ended.stop status before after between ended.made
     (subst (λ (e : Ending). IsFinished e status between after) ended.its_stop finished)
-HasDone-finished (Task.Sample seed count) ending status trace left before after between ended finished =
+TaskOutcome-finished (Task.Sample seed count) ending status trace left before after between ended finished =
     sample_done default_setup (sample_trace seed count) ended.stop status before after between ended.run
     (subst (λ (e : Ending). IsFinished e status between after) ended.its_stop finished)
-HasDone-finished (Task.Check c) ending status trace left before after between ended finished =
+TaskOutcome-finished (Task.Check c) ending status trace left before after between ended finished =
     told_done c ending status trace left before after between ended finished

@@ -28,7 +28,7 @@ use Rattle.plain_model.specs.Legal.{state_at_turn, line_at_turn, IsRefusalCaused
 use Rattle.plain_model.specs.Shown.{IsEngineReply, IsShownAnswer, IsShownInRun, IsLegal}
 use Rattle.plain_model.specs.Run.{Machine, Step, start, machine_after, machine_after_all, IsAnswered, AreAnswered}
 use Rattle.pmem_cli.proofs.ShownLemmas.{IsTabled, tabled-decided}
-use Rattle.pmem_cli.specs.Untampered.{IsTwinShown, IsUnrefused, IsUntampered}
+use Rattle.pmem_cli.specs.Untampered.{IsTwinShown, IsUnrefusedAnswer, IsUntampered}
 
 -- ---- flags
 
@@ -271,7 +271,7 @@ moves-after setup s view command reply long legal =
 
 -- ---- answers over a clean state
 
-tabled-unrefused : (answer : Answer) → IsTabled answer → IsUnrefused answer
+tabled-unrefused : (answer : Answer) → IsTabled answer → IsUnrefusedAnswer answer
 tabled-unrefused (Say.Refused drained place steps) is = is
 tabled-unrefused (Say.NoCounter at steps) is = is
 tabled-unrefused (Say.WrongRoot kept found steps) is = is
@@ -303,7 +303,7 @@ shown-twin setup s view command marks (Forged at ctr cipher tag) clean shown =
 shown-twin setup s view command marks (Twin at major low high cipher tag) clean shown = tt
 
 engine-unrefused : (setup : Setup) (s : PlainState) (view : DeviceView) (command : Command) (marks : List Mark) (answer : Answer) → IsClean s
-    → IsEngineLegal setup s view command answer → IsShownAnswer setup s view command marks answer → IsUnrefused answer
+    → IsEngineLegal setup s view command answer → IsShownAnswer setup s view command marks answer → IsUnrefusedAnswer answer
 engine-unrefused setup s view command marks (Say.Refused drained place steps) clean legal shown = refused-never setup s view command drained place steps clean legal
 engine-unrefused setup s view command marks (Say.NoCounter at steps) clean legal shown =
     let block = layout.meta_line setup.shape (counter_position setup.shape (page_of at)) in
@@ -315,11 +315,11 @@ engine-unrefused setup s view command marks (Say.Shown exhibit) clean legal show
 engine-unrefused setup s view command marks answer clean legal shown = tt
 
 legal-by : (setup : Setup) (s : PlainState) (view : DeviceView) (command : Command) (reply : Reply) (decided : Option Answer) → IsClean s → IfSome decided IsTabled
-    → MatchOption decided (IsEngineReply setup s view command reply) (λ a. reply.answer ≡ a) → IsUnrefused reply.answer
+    → MatchOption decided (IsEngineReply setup s view command reply) (λ a. reply.answer ≡ a) → IsUnrefusedAnswer reply.answer
 legal-by setup s view command reply None clean tabled legal = engine-unrefused setup s view command reply.marks reply.answer clean legal.legal legal.shown
-legal-by setup s view command reply (Some answer) clean tabled legal = subst IsUnrefused (sym legal) (tabled-unrefused answer tabled)
+legal-by setup s view command reply (Some answer) clean tabled legal = subst IsUnrefusedAnswer (sym legal) (tabled-unrefused answer tabled)
 
-legal-unrefused : (setup : Setup) (s : PlainState) (view : DeviceView) (command : Command) (reply : Reply) → IsClean s → IsLegal setup s view command reply → IsUnrefused reply.answer
+legal-unrefused : (setup : Setup) (s : PlainState) (view : DeviceView) (command : Command) (reply : Reply) → IsClean s → IsLegal setup s view command reply → IsUnrefusedAnswer reply.answer
 legal-unrefused setup s view command reply clean legal =
     legal-by setup s view command reply (decided_answer setup.shape s command) clean (tabled-decided setup.shape s command) legal
 
@@ -364,14 +364,14 @@ none-first setup machine (step ∷ steps) tracked answered none =
     none-before machine.state next.state moved (none-first setup next steps (tracked-moved setup.shape machine.state next.state moved tracked) answered.1 none)
 
 untampered-from : (setup : Setup) (machine : Machine) (steps : List Step) → IsTracked setup.shape machine.state → AreAnswered setup machine steps
-    → has_flags (machine_after_all setup machine steps).state.named ≡ false → All (λ step. IsUnrefused step.reply.answer) steps
-untampered-from setup machine [] tracked answered none = All-nil (λ step. IsUnrefused step.reply.answer)
+    → has_flags (machine_after_all setup machine steps).state.named ≡ false → All (λ step. IsUnrefusedAnswer step.reply.answer) steps
+untampered-from setup machine [] tracked answered none = All-nil (λ step. IsUnrefusedAnswer step.reply.answer)
 untampered-from setup machine (step ∷ steps) tracked answered none =
     let next = machine_after setup machine step in
     let moved = machine-moved setup machine step tracked.long answered.0 in
     let later = tracked-moved setup.shape machine.state next.state moved tracked in
     let here = none-before machine.state next.state moved (none-first setup next steps later answered.1 none) in
-    All-cons (λ step. IsUnrefused step.reply.answer) step steps
+    All-cons (λ step. IsUnrefusedAnswer step.reply.answer) step steps
     (legal-unrefused setup machine.state machine.view step.command step.reply (tracked.whole here) answered.0.legal)
     (untampered-from setup next steps later answered.1 none)
 

@@ -43,14 +43,14 @@ found_on (Err kind) lines = Err kind
 found_on (Ok found) [] = Ok found
 found_on (Ok found) (line ∷ lines) = found_on (found_with found line) lines
 
-abbrev pub found_after : Option Exhibit → List (List ℕ) → Result (Option Exhibit) Kind
-found_after found lines = found_on (Ok found) lines
+abbrev pub found_in_lines : Option Exhibit → List (List ℕ) → Result (Option Exhibit) Kind
+found_in_lines found lines = found_on (Ok found) lines
 
 -- ---- stops, from what was found before and after so many lines
 
 -- all lines were read, and there are no more than a trace may have
 pub record IsFoundIn (found : Option Exhibit) (served : ℕ) (lines : List (List ℕ)) (after : Option Exhibit) : Type 0 where
-  pub read : found_after found lines ≡ Ok after
+  pub read : found_in_lines found lines ≡ Ok after
   pub counted : served + length lines ≤ line_limit
 
 -- the first line that is refused has this number and this kind
@@ -60,7 +60,7 @@ pub record IsRefusedIn (found : Option Exhibit) (served : ℕ) (lines : List (Li
   pub behind : List (List ℕ)
   pub cut : lines ≡ before ++ line ∷ behind
   pub between : Option Exhibit
-  pub read : found_after found before ≡ Ok between
+  pub read : found_in_lines found before ≡ Ok between
   pub refused : found_with between line ≡ Err kind
   pub numbered : number ≡ served + length before + 1
   pub counted : number ≤ line_limit
@@ -70,7 +70,7 @@ pub record IsPastLimit (found : Option Exhibit) (served : ℕ) (lines : List (Li
   pub before : List (List ℕ)
   pub behind : List (List ℕ)
   pub cut : lines ≡ before ++ behind
-  pub read : found_after found before ≡ Ok after
+  pub read : found_in_lines found before ≡ Ok after
   pub counted : served + length before ≡ line_limit
   pub more : 0 < length behind
 
@@ -82,7 +82,7 @@ pub record IsBrokenOff (found : Option Exhibit) (served : ℕ) (bytes : List ℕ
   pub whole : All IsWithin before
   pub unfinished : IsWithin part
   pub short : length part ≤ 1024
-  pub read : found_after found before ≡ Ok after
+  pub read : found_in_lines found before ≡ Ok after
   pub counted : served + length before ≤ line_limit
   pub at_limit : served + length before ≡ line_limit → part ≡ []
 

@@ -65,11 +65,11 @@ pub record HasTold (choices : Choices) (status : ℕ) (trace left put_before put
   pub front : AppendsFront put_before put_after (ending_text ending)
 
 -- what the status says, by what was asked for
-abbrev pub HasDone : Task → ℕ → Option (List ℕ) → Option (List ℕ) → Option (List ℕ) → Option (List ℕ) → Type 0
-HasDone (Task.Run c) status trace left before after = HasRun (setup_chosen c) status trace left before after
-HasDone (Task.Make seed count) status trace left before after = HasPut (commands_text (sample_trace seed count)) status before after
-HasDone (Task.Sample seed count) status trace left before after = HasSampled default_setup (sample_trace seed count) status before after
-HasDone (Task.Check c) status trace left before after = HasTold c status trace left before after
+abbrev pub TaskOutcome : Task → ℕ → Option (List ℕ) → Option (List ℕ) → Option (List ℕ) → Option (List ℕ) → Type 0
+TaskOutcome (Task.Run c) status trace left before after = HasRun (setup_chosen c) status trace left before after
+TaskOutcome (Task.Make seed count) status trace left before after = HasPut (commands_text (sample_trace seed count)) status before after
+TaskOutcome (Task.Sample seed count) status trace left before after = HasSampled default_setup (sample_trace seed count) status before after
+TaskOutcome (Task.Check c) status trace left before after = HasTold c status trace left before after
 
 -- all lines of these bytes are in the grammar, and there are no more of them than a trace may have
 abbrev pub IsInGrammar : List ℕ → Type 0
@@ -93,7 +93,7 @@ AreRefusedWords put_before put_after faults_before faults_after =
 -- ---- before the last line
 
 -- a text was printed, or the sink failed at it
-pub record HasMade (stop : Stop) (from to : Output) (text : List ℕ) : Type 0 where
+pub record TextOutcome (stop : Stop) (from to : Output) (text : List ℕ) : Type 0 where
   pub its_stop : (stop ≡ Finished) ⊎ (stop ≡ WriteFault)
   pub said : HasSaid stop from to text
 
@@ -122,7 +122,7 @@ pub record RunEnds (setup : Setup) (ending : Ending) (trace left : Option (List 
 pub record MakeEnds (text : List ℕ) (ending : Ending) (from to : Output) : Type 0 where
   pub stop : Stop
   pub its_stop : ending ≡ Stopped stop
-  pub made : HasMade stop from to text
+  pub made : TextOutcome stop from to text
 
 -- a sample trace came to its stop
 pub record SampleStops (setup : Setup) (commands : List Command) (ending : Ending) (from to : Output) : Type 0 where

@@ -12,8 +12,8 @@ use Rattle.pmem_cli.specs.declared.options.SuiteName.TheVariants.{Aes, Weak, Blu
 use Rattle.pmem_cli.specs.declared.options.Choices.{Choices}
 
 -- the key: the bytes 00 to 0f where none is chosen
-abbrev pub key_of : Choices → List ℕ
-key_of c = unwrap_or c.key (range_with_len 0 16)
+abbrev pub chosen_key : Choices → List ℕ
+chosen_key c = unwrap_or c.key (range_with_len 0 16)
 
 -- the bytes of a chosen tag key
 abbrev pub tag_key_bytes : Option (ℕ × Line) → List ℕ
@@ -21,8 +21,8 @@ tag_key_bytes None = range_with_len 16 32
 tag_key_bytes (Some key) = take key.0 key.1.0
 
 -- the tag key: the bytes 10 to 2f where none is chosen
-abbrev pub tag_key_of : Choices → List ℕ
-tag_key_of c = tag_key_bytes c.tag_key
+abbrev pub chosen_tag_key : Choices → List ℕ
+chosen_tag_key c = tag_key_bytes c.tag_key
 
 abbrev pub formulas_named : SuiteName → List ℕ → Formulas
 formulas_named Aes keys = aes_formulas keys
@@ -31,7 +31,7 @@ formulas_named Blur keys = weak_formulas (keys ++ blur_flag true ∷ [])
 
 -- aes where no suite is chosen
 unfoldable pub formulas_of : Choices → Formulas
-formulas_of c = formulas_named (unwrap_or c.suite Aes) (key_of c ++ tag_key_of c)
+formulas_of c = formulas_named (unwrap_or c.suite Aes) (chosen_key c ++ chosen_tag_key c)
 
 -- the geometry: two levels of nodes, four sets of two ways, windows of four minors and major 0 at first,
 -- where nothing is chosen

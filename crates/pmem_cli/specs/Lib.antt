@@ -7,7 +7,7 @@ pub mod Words
 pub mod Keys
 pub mod Endings
 pub mod Standing
-pub mod Served
+pub mod Turns
 pub mod Checked
 pub mod Untampered
 pub mod Sampled

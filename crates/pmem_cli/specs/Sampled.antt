@@ -13,7 +13,7 @@ use Rattle.plain_model.specs.Run.{Machine, Step, AreAnswered}
 use Rattle.plain_model.specs.Texts.{as_line, answer_text}
 use Rattle.pmem_replay.specs.World.{WorldState}
 use Rattle.pmem_cli.specs.Printed.{Output, Prints, PrintsFront}
-use Rattle.pmem_cli.specs.Standing.{Standing, AreStepped, GoesOn}
+use Rattle.pmem_cli.specs.Standing.{Standing, AreStepped, StandingAfter}
 
 -- ---- the answers
 
@@ -60,7 +60,7 @@ pub record HasCome (before after : Standing) (commands behind : List Command) (s
   pub in_order : map (λ step. step.command) steps ++ behind ≡ commands
   pub answered : AreAnswered before.setup before.machine steps
   pub none_shown : All (λ step. is_shown step.reply.answer ≡ false) steps
-  pub on : GoesOn before after steps
+  pub on : StandingAfter before after steps
 
 -- the world answered these
 abbrev pub LeadsOn : Standing → List Step → Type 0

@@ -33,7 +33,7 @@ IsReplayed setup steps =
     (steps ≡ []) ⊎ ((first last : WorldState) × IsNewWorld setup first × AreStepped setup first steps last)
 
 -- the run went on by these steps
-pub record GoesOn (before after : Standing) (steps : List Step) : Type 0 where
+pub record StandingAfter (before after : Standing) (steps : List Step) : Type 0 where
   pub setup : after.setup ≡ before.setup
   pub machine : after.machine ≡ machine_after_all before.setup before.machine steps
   pub running : after.world.shown ≡ false

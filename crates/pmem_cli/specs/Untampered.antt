@@ -12,15 +12,15 @@ abbrev pub IsTwinShown : Exhibit → Type 0
 IsTwinShown (Twin at major low high cipher tag) = ⊤
 IsTwinShown exhibit = ⊥
 
-abbrev pub IsUnrefused : Answer → Type 0
-IsUnrefused (Say.Refused drained place steps) = ⊥
-IsUnrefused (Say.NoCounter at steps) = ⊥
-IsUnrefused (Say.WrongRoot kept found steps) = ⊥
-IsUnrefused (Say.Shown exhibit) = IsTwinShown exhibit
-IsUnrefused answer = ⊤
+abbrev pub IsUnrefusedAnswer : Answer → Type 0
+IsUnrefusedAnswer (Say.Refused drained place steps) = ⊥
+IsUnrefusedAnswer (Say.NoCounter at steps) = ⊥
+IsUnrefusedAnswer (Say.WrongRoot kept found steps) = ⊥
+IsUnrefusedAnswer (Say.Shown exhibit) = IsTwinShown exhibit
+IsUnrefusedAnswer answer = ⊤
 
 -- where no device line is named after these steps, each of them is so
 abbrev pub IsUntampered : Setup → List Step → Type 0
 IsUntampered setup steps =
     has_flags (machine_after_all setup (start setup) steps).state.named ≡ false
-    → All (λ step. IsUnrefused step.reply.answer) steps
+    → All (λ step. IsUnrefusedAnswer step.reply.answer) steps

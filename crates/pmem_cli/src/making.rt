@@ -3,7 +3,7 @@ ghost use Rattle.std.specs.Prelude.{◌≡◌, ◌≢◌, ◌≤◌, OnOk, OnErr
 ghost use Rattle.plain_model.specs.declared.Stop.TheVariants as Stop;
 ghost use Rattle.trace_text.specs.Samples.{sample_trace, commands_text};
 ghost use Rattle.pmem_cli.specs.Causes.{HasCause, Rose};
-ghost use Rattle.pmem_cli.specs.HasRun.{HasMade};
+ghost use Rattle.pmem_cli.specs.HasRun.{TextOutcome};
 ghost use Rattle.pmem_cli.specs.Printed.{Prints, PrintsFront, with_waiting};
 
 use crate::printer::Printer;
@@ -37,7 +37,7 @@ fn print_sample<K: Sink>(
 
 /// Prints the sample trace of a seed and a count, and says why that stops.
 pub(crate) fn make<K: Sink>(seed: u64, count: u32, printer: &mut Printer, out: &mut K) -> Stop
-    ensures made { HasMade result (with_waiting (K.put out.old) printer.old) (with_waiting (K.put out.new) printer.new)
+    ensures made { TextOutcome result (with_waiting (K.put out.old) printer.old) (with_waiting (K.put out.new) printer.new)
         (commands_text (sample_trace seed count)) }
     ensures write { result ≡ Stop.WriteFault → Rose (K.faults out.old) (K.faults out.new) }
     ensures later { K.faults out.old ≤ K.faults out.new }

@@ -5,7 +5,7 @@ ghost use Rattle.pmem_base.specs.Shape.{is_loss};
 ghost use Rattle.pmem_base.specs.Geo.{shape_of};
 ghost use Rattle.suite.specs.Suites.{aes_keys, weak_keys};
 ghost use Rattle.suite.specs.Weak.{blur_flag};
-ghost use Rattle.pmem_cli.specs.Keys.{key_of, tag_key_of, shape_chosen};
+ghost use Rattle.pmem_cli.specs.Keys.{chosen_key, chosen_tag_key, shape_chosen};
 ghost use Rattle.pmem_cli.specs.Words.{suite_named, number_where, value_of, is_up_to, choose_suite, choose_any, choose, no_choices, is_equals, option_parts, next_value, take_options, seed_and_count, task_of, AreChosen, HasChosen, map_some};
 
 use collision_witness::{read_number, read_number_up_to, read_tag};
@@ -128,7 +128,7 @@ impl Choices {
 
     /// The key: the bytes 00 to 0f where none is chosen.
     pub fn suite_key(&self) -> [u8; 16]
-        ensures { result ≡ key_of self.now }
+        ensures { result ≡ chosen_key self.now }
     {
         match self.key {
             Some(key) => key,
@@ -139,7 +139,7 @@ impl Choices {
     /// The tag key, as so many bytes at the front of a line: the bytes 10 to 2f where none is chosen.
     pub fn suite_tag_key(&self) -> (u8, Line)
         requires { AreChosen self.now }
-        ensures bytes { take result.0 result.1.0 ≡ tag_key_of self.now }
+        ensures bytes { take result.0 result.1.0 ≡ chosen_tag_key self.now }
         ensures some { 1 ≤ result.0 }
         ensures most { result.0 ≤ 64 }
     {
@@ -152,7 +152,7 @@ impl Choices {
     /// The aes suite under the chosen keys.
     pub fn aes_suite(&self) -> AesSuite
         requires { AreChosen self.now }
-        ensures { aes_keys result ≡ key_of self.now ++ tag_key_of self.now }
+        ensures { aes_keys result ≡ chosen_key self.now ++ chosen_tag_key self.now }
     {
         let key = self.suite_key();
         let (count, line) = self.suite_tag_key();
@@ -162,7 +162,7 @@ impl Choices {
     /// The weak suite under the chosen keys, in its blur form or not.
     pub fn weak_suite(&self, blur: bool) -> WeakSuite
         requires { AreChosen self.now }
-        ensures { weak_keys result ≡ (key_of self.now ++ tag_key_of self.now) ++ blur_flag blur ∷ [] }
+        ensures { weak_keys result ≡ (chosen_key self.now ++ chosen_tag_key self.now) ++ blur_flag blur ∷ [] }
     {
         let key = self.suite_key();
         let (count, line) = self.suite_tag_key();

@@ -7,8 +7,8 @@ ghost use Rattle.pmem_cli.specs.declared.ending.Ending.TheVariants.{Stopped};
 ghost use Rattle.pmem_cli.specs.Keys.{setup_chosen};
 ghost use Rattle.pmem_cli.specs.Words.{task_of, AreChosen, HasChosen};
 ghost use Rattle.pmem_cli.specs.Printed.{with_waiting};
-ghost use Rattle.pmem_cli.specs.Served.{StopsByCause};
-ghost use Rattle.pmem_cli.specs.HasRun.{HasDone, HasEnded, HasReplayed, IsComplete, AreRefusedWords};
+ghost use Rattle.pmem_cli.specs.Turns.{StopsByCause};
+ghost use Rattle.pmem_cli.specs.HasRun.{TaskOutcome, HasEnded, HasReplayed, IsComplete, AreRefusedWords};
 
 use crate::checking::check;
 use crate::ending::{Ending, finish};
@@ -127,7 +127,7 @@ pub fn run<S: Source, K: Sink>(alloc: Global, words: &[String], trace: &mut S, o
     // What was put is what the task asks for, as the status says: the replies to the trace's commands
     // and the last line, a sample trace, or whether the exhibit holds.
     ensures told { IfSome (task_of (map string_bytes words.now)) (λ task.
-        HasDone task result (S.left trace.old) (S.left trace.new) (K.put out.old) (K.put out.new)) }
+        TaskOutcome task result (S.left trace.old) (S.left trace.new) (K.put out.old) (K.put out.new)) }
 
     // A run of a trace in the grammar and within the limits goes through, unless source or sink fails.
     ensures complete { IfSome (task_of (map string_bytes words.now)) (λ task.

@@ -7,7 +7,7 @@ ghost use Rattle.trace_text.specs.Samples.{sample_trace};
 ghost use Rattle.pmem_cli.specs.HasRun.{HasRunSample};
 ghost use Rattle.pmem_cli.specs.Printed.{with_waiting};
 ghost use Rattle.pmem_cli.specs.Sampled.{HasReached, HasToldSample};
-ghost use Rattle.pmem_cli.specs.Served.{StopsByCause};
+ghost use Rattle.pmem_cli.specs.Turns.{StopsByCause};
 ghost use Rattle.pmem_cli.specs.Standing.{standing_of};
 
 use crate::options::Choices;

@@ -9,7 +9,7 @@ ghost use Rattle.trace_text.specs.Answers.{HasSmallMinors};
 ghost use Rattle.pmem_cli.specs.Causes.{HasCause};
 ghost use Rattle.pmem_cli.specs.Printed.{Prints, PrintsFront, with_waiting};
 ghost use Rattle.pmem_cli.specs.Standing.{standing_of};
-ghost use Rattle.pmem_cli.specs.Served.{AnswersCommand, AnswersLine, Turns, HasStopped, StopsByCause};
+ghost use Rattle.pmem_cli.specs.Turns.{AnswersCommand, AnswersLine, Turns, HasStopped, StopsByCause};
 
 use crate::lines::{Found, LINE_BYTES, LineReader};
 use crate::printer::{Printer, print_marks};

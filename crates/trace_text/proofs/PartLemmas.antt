@@ -12,7 +12,7 @@ use Rattle.pmem_base.specs.Lines.{line_of, IsLine}
 use Rattle.pmem_base.specs.Ranges.{IsPartLine}
 use Rattle.collision_witness.specs.Words.{Word, bytes_decoded, hex_bytes, some_hex_bytes, ◌>>=◌}
 use Rattle.plain_model.specs.Grammar.{padded_line, part_of}
-use Rattle.trace_text.specs.Commands.{front_of}
+use Rattle.trace_text.specs.Commands.{line_at_front}
 
 -- n pairs of digits are n bytes
 decoded-long : (word : Word) (n : ℕ) (bytes : List ℕ) → decode_sized word n ≡ Ok bytes → length bytes ≡ n
@@ -33,7 +33,7 @@ decoded word front n r told ok = elim (decode_sized word n) as (λ d. MatchResul
 -- the bytes at the front, and zeros after them
 pub front_line : (word front back : List ℕ) (n : ℕ) (r : Result Unit FromHexError)
     → MatchResult (decode_sized word n) (λ bytes. (r ≡ Ok tt) × (front ≡ bytes)) (λ e. r ≡ Err e)
-    → r ≡ Ok tt → back ≡ drop n (replicate 64 0) → Ok (line_of (front ++ back)) ≡ front_of n word
+    → r ≡ Ok tt → back ≡ drop n (replicate 64 0) → Ok (line_of (front ++ back)) ≡ line_at_front n word
 unfolding hex_bytes
 front_line word front back n r told ok rest =
     let read = decoded word front n r told ok in
@@ -62,7 +62,7 @@ part_of_decoded word n line (Err e) read same = cc
 
 -- two to 128 digits are read by pairs
 pub part_read : (word : Word) (line : Line) → 2 ≤ length word → length word ≤ 128
-    → Ok line ≡ front_of (length word / 2) word → part_at (length word / 2) line ≡ part_of word
+    → Ok line ≡ line_at_front (length word / 2) word → part_at (length word / 2) line ≡ part_of word
 unfolding hex_bytes some_hex_bytes
 part_read word line some most read =
     rw (le-leb 2 (length word) some, le-leb (length word) 128 most)

@@ -29,7 +29,7 @@ pub record IsWritable (command : Command) : Type 0 where
   pub part : HasPartAtFront command
 
 -- the line that has the bytes of n pairs of hex digits at its front
-abbrev pub front_of : ℕ → Word → Result Line Kind
-front_of n word = do
+abbrev pub line_at_front : ℕ → Word → Result Line Kind
+line_at_front n word = do
   bytes ← hex_bytes n word
   Ok (padded_line bytes)

@@ -47,8 +47,8 @@ three_numbers words = do
 
 -- ---- the answers that begin with these words
 
-abbrev pub alone : Answer → List Word → Result Answer Kind
-alone answer words = do
+abbrev pub lone_answer : Answer → List Word → Result Answer Kind
+lone_answer answer words = do
   none ← no_word words
   Ok answer
 
@@ -59,7 +59,7 @@ ok_of (Do.Fence port) words = count_and_steps 255 words >>= λ found. Ok (Say.Fe
 ok_of Do.Turn words = count_and_steps 255 words >>= λ found. Ok (Say.Turned found.0 found.1)
 ok_of Do.Flush words = count_and_steps (2 ^ 32 - 1) words >>= λ found. Ok (Say.Flushed found.0 found.1)
 ok_of (Do.Loss n) words = one_number words >>= λ steps. Ok (Say.LossSet steps)
-ok_of command words = alone Say.Ok words
+ok_of command words = lone_answer Say.Ok words
 
 -- `cut`
 abbrev pub cut_of : List Word → Result Answer Kind
@@ -172,7 +172,7 @@ answer_of_words command line (name ∷ words) =
     then (three_numbers words >>= λ found. Ok (Say.Recovered found.0 found.1 found.2))
     else if bytes_eq name (codes "raw") then raw_of words
     else if bytes_eq name (codes "stat") then stat_of words
-    else or_else (plain_of name) (λ answer. alone answer words) (shown_of line)
+    else or_else (plain_of name) (λ answer. lone_answer answer words) (shown_of line)
 
 -- the answer of a line
 abbrev pub loose_answer_of : Command → List ℕ → Result Answer Kind

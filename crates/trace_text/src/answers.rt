@@ -6,7 +6,7 @@ ghost use Rattle.collision_witness.specs.Words.{words_of};
 ghost use Rattle.collision_witness.specs.Reading.{short_number_of};
 ghost use Rattle.plain_model.specs.Texts.{IsAnswerText};
 ghost use Rattle.trace_text.specs.Answers.{HasExhibitValue};
-ghost use Rattle.trace_text.specs.Loose.{count_and_steps, drained_and_steps, three_numbers, ok_of, cut_of, refused_at, wrong_root_of, long_refusal, refused_of, spent_after, spent_of, got_of, raw_of, stat_of, plain_of, shown_of, alone, answer_of_words, loose_answer_of};
+ghost use Rattle.trace_text.specs.Loose.{count_and_steps, drained_and_steps, three_numbers, ok_of, cut_of, refused_at, wrong_root_of, long_refusal, refused_of, spent_after, spent_of, got_of, raw_of, stat_of, plain_of, shown_of, lone_answer, answer_of_words, loose_answer_of};
 
 use crate::listing::is_listed;
 use crate::ranges::{is_drained, is_place, is_stat};
@@ -102,7 +102,7 @@ fn read_ok(command: &Command, text: &[u8]) -> Result<Answer, Kind>
 /// An answer behind which no word stands.
 fn read_alone(answer: Answer, text: &[u8]) -> Result<Answer, Kind>
     requires { HasExhibitValue answer }
-    ensures answer { result ≡ alone answer (words_of text.now) }
+    ensures answer { result ≡ lone_answer answer (words_of text.now) }
     ensures shown { IfOk result HasExhibitValue }
 {
     has_no_word(text)?;

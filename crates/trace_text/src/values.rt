@@ -4,7 +4,7 @@ ghost use Rattle.pmem_base.specs.Ranges.{IsPartLine};
 ghost use Rattle.collision_witness.specs.Words.{words_of};
 ghost use Rattle.plain_model.specs.Words.{port_of};
 ghost use Rattle.plain_model.specs.Grammar.{one_number, two_numbers, one_port, part_of};
-ghost use Rattle.trace_text.specs.Commands.{front_of};
+ghost use Rattle.trace_text.specs.Commands.{line_at_front};
 
 use collision_witness::{one_word, read_number, two_words};
 use pmem_base::{Kind, Line};
@@ -53,7 +53,7 @@ pub fn read_two_numbers(text: &[u8]) -> Result<(u64, u64), Kind>
 #[tactic(auto, unfolding(collision_witness::specs::Words::hex_bytes))]
 fn read_front(word: &[u8], count: usize) -> Result<Line, Kind>
     requires { count ≤ 64 }
-    ensures line { result ≡ front_of count word.now }
+    ensures line { result ≡ line_at_front count word.now }
     ensures part { 1 ≤ count → IfOk result (IsPartLine count) }
 {
     let mut bytes = [0; 64];

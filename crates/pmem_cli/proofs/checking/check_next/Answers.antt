@@ -6,40 +6,32 @@ use Rattle.pmem_cli.proofs.checking.check_next.Goals as goal
 pub returns-in-Err-clause-turn : goal.returns-in-Err-clause-turn
 returns-in-Err-clause-turn g c =
     let (taken, within, short) = c.in-Err.ensures.fault in
-    HasLooked-fault (prepend_known c.args.reader.now (g.S.Source.left c.args.trace.now)) (g.S.Source.left c.next_line.new.source)
-    c.args.found.now c.next_line.new.line.items c.args.served taken within short (omega (arith, c.requires)) (λ full. absurd (omega (arith, full, c.requires)))
+    HasLooked-fault _ _ _ _ _ taken within short (omega (arith, c.requires)) (λ full. absurd (omega (arith, full, c.requires)))
 
 pub returns-in-Ok-End-clause-turn : goal.returns-in-Ok-End-clause-turn
 returns-in-Ok-End-clause-turn g c =
     let found = rw c.in-Ok-End.field-0-is at c.in-Ok-End.ensures.found in
-    HasLooked-end (prepend_known c.args.reader.now (g.S.Source.left c.args.trace.now)) (prepend_known c.next_line.new.self (g.S.Source.left c.next_line.new.source))
-    (g.S.Source.left c.next_line.new.source) c.args.found.now c.args.served found.0 found.1 (omega (arith, c.requires))
+    HasLooked-end _ _ (g.S.Source.left c.next_line.new.source) _ _ found.0 found.1 (omega (arith, c.requires))
 
 pub returns-in-Ok-Long-clause-turn : goal.returns-in-Ok-Long-clause-turn
 returns-in-Ok-Long-clause-turn g c =
     let found = rw c.in-Ok-Long.field-0-is at c.in-Ok-Long.ensures.found in
-    HasLooked-long (prepend_known c.args.reader.now (g.S.Source.left c.args.trace.now)) (prepend_known c.next_line.new.self (g.S.Source.left c.next_line.new.source))
-    (g.S.Source.left c.next_line.new.source) c.args.found.now found.0 c.args.served (c.args.served + 1) found.1 found.2 found.3 refl c.requires
+    HasLooked-long _ _ (g.S.Source.left c.next_line.new.source) _ _ _ _ found.1 found.2 found.3 refl c.requires
 
 pub returns-in-Ok-Line-clause-turn : goal.returns-in-Ok-Line-clause-turn
 returns-in-Ok-Line-clause-turn g c =
     let found = rw c.in-Ok-Line.field-0-is at c.in-Ok-Line.ensures.found in
-    ChecksNext-line c.check_line.result (prepend_known c.args.reader.now (g.S.Source.left c.args.trace.now)) (prepend_known c.next_line.new.self (g.S.Source.left c.next_line.new.source))
-    (g.S.Source.left c.next_line.new.source) c.args.found.now c.check_line.new.found c.as_slice.result.now c.args.served (c.args.served + 1)
-    (rw c.as_slice.ensures.value found.0) (rw c.as_slice.ensures.value found.1) refl c.requires c.check_line.ensures
+    ChecksNext-line c.check_line.result _ _ _ _ _ _ _ _ (rw c.as_slice.ensures.value found.0) (rw c.as_slice.ensures.value found.1) refl c.requires
+    c.check_line.ensures
 
 pub returns-in-None-clause-turn : goal.returns-in-None-clause-turn
 returns-in-None-clause-turn g c =
     let found = rw c.in-Ok-Last.field-0-is at c.in-Ok-Last.ensures.found in
-    HasLooked-last (prepend_known c.args.reader.now (g.S.Source.left c.args.trace.now)) (prepend_known c.next_line.new.self (g.S.Source.left c.next_line.new.source))
-    (g.S.Source.left c.next_line.new.source) c.args.found.now c.check_line-in-Ok-Last.new.found c.as_slice-in-Ok-Last.result.now c.args.served
-    (rw c.as_slice-in-Ok-Last.ensures.value found.0) (rw c.as_slice-in-Ok-Last.ensures.value found.1) (rw c.as_slice-in-Ok-Last.ensures.value found.2)
-    found.3 c.requires c.in-None.ensures
+    HasLooked-last _ _ (g.S.Source.left c.next_line.new.source) _ _ _ _ (rw c.as_slice-in-Ok-Last.ensures.value found.0) (rw c.as_slice-in-Ok-Last.ensures.value found.1)
+    (rw c.as_slice-in-Ok-Last.ensures.value found.2) found.3 c.requires c.in-None.ensures
 
 pub returns-in-Some-clause-turn : goal.returns-in-Some-clause-turn
 returns-in-Some-clause-turn g c =
     let found = rw c.in-Ok-Last.field-0-is at c.in-Ok-Last.ensures.found in
-    HasLooked-at_last c.in-Some.stop (prepend_known c.args.reader.now (g.S.Source.left c.args.trace.now)) (prepend_known c.next_line.new.self (g.S.Source.left c.next_line.new.source))
-    (g.S.Source.left c.next_line.new.source) c.args.found.now c.check_line-in-Ok-Last.new.found c.as_slice-in-Ok-Last.result.now c.args.served (c.args.served + 1)
-    (rw c.as_slice-in-Ok-Last.ensures.value found.0) (rw c.as_slice-in-Ok-Last.ensures.value found.1) (rw c.as_slice-in-Ok-Last.ensures.value found.2)
-    found.3 refl c.requires c.in-Some.ensures
+    HasLooked-at_last _ _ _ _ _ _ _ _ _ (rw c.as_slice-in-Ok-Last.ensures.value found.0) (rw c.as_slice-in-Ok-Last.ensures.value found.1)
+    (rw c.as_slice-in-Ok-Last.ensures.value found.2) found.3 refl c.requires c.in-Some.ensures

@@ -1,7 +1,8 @@
 use Rattle.std.proofs.Common.{◌∙◌, [], subst, append-nil}
 use Rattle.pmem_cli.specs.Endings.{ending_text}
 use Rattle.pmem_cli.specs.Printed.{PrintsFront, Prints, with_waiting}
-use Rattle.pmem_cli.proofs.PrintLemmas.{OnOk-map, OnErr-map, Prints-trans, PrintsFront-trans}
+use Rattle.std.proofs.lemmas.Result.{on_err_weaker, on_ok_weaker}
+use Rattle.pmem_cli.proofs.PrintLemmas.{Prints-trans, PrintsFront-trans}
 use Rattle.pmem_cli.proofs.ending.tell.Goals as goal
 
 pub returns-clause-err : goal.returns-clause-err
@@ -11,7 +12,7 @@ returns-clause-err g c =
     let to = with_waiting (g.K.Sink.put c.flush.new.out) c.flush.new.self in
     let text = ending_text c.args.ending in
     let printed : Prints from between text = subst (Prints from between) (c.as_slice.ensures.value ∙ c.write_ending.ensures) c.in_ok-print.ensures.ok in
-    OnErr-map c.flush.result (PrintsFront between to []) (PrintsFront from to text)
+    on_err_weaker c.flush.result
     (λ (front : PrintsFront between to []). rw append-nil at (PrintsFront-trans from between to text [] printed front)) c.flush.ensures.err
 
 pub returns-clause-ok : goal.returns-clause-ok
@@ -21,5 +22,5 @@ returns-clause-ok g c =
     let to = with_waiting (g.K.Sink.put c.flush.new.out) [] in
     let text = ending_text c.args.ending in
     let printed : Prints from between text = subst (Prints from between) (c.as_slice.ensures.value ∙ c.write_ending.ensures) c.in_ok-print.ensures.ok in
-    OnOk-map c.flush.result (Prints between to []) (Prints from to text)
+    on_ok_weaker c.flush.result
     (λ (more : Prints between to []). rw append-nil at (Prints-trans from between to text [] printed more)) (rw c.flush.ensures.emptied at c.flush.ensures.ok)

@@ -4,8 +4,9 @@ use Rattle.pmem_base.specs.declared.commands.Command.TheVariants as Do
 use Rattle.plain_model.specs.Texts.{as_line, command_text}
 use Rattle.trace_text.specs.Samples.{sample_trace, sample_command, word_at, commands_text}
 use Rattle.pmem_cli.specs.Causes.{Rose}
-use Rattle.pmem_cli.specs.Printed.{Prints, PrintsFront, with_waiting}
-use Rattle.pmem_cli.proofs.PrintLemmas.{Prints-nil, Prints-trans, OnOk-map, OnErr-map, OnErr-fact, Rose-before}
+use Rattle.pmem_cli.specs.Printed.{with_waiting}
+use Rattle.std.proofs.lemmas.Result.{on_err_weaker, on_ok_weaker}
+use Rattle.pmem_cli.proofs.PrintLemmas.{Prints-nil, Prints-trans, OnErr-fact, Rose-before}
 use Rattle.pmem_cli.proofs.MakeLemmas.{one_more, sample-step, sample-whole, sample-front, sample-end_front}
 use Rattle.pmem_cli.proofs.making.print_sample.Goals as goal
 
@@ -13,70 +14,56 @@ pub commands-init : goal.commands-init
 commands-init g c = record {
   so_far = [];
   left = c.args.count;
-  printed = Prints-nil (with_waiting (g.K.Sink.put c.args.out.now) c.args.printer.now);
+  printed = Prints-nil _;
   counted = omega arith;
   number = rw c.new-maker.ensures refl;
   rest = rw c.new-maker.ensures refl;
   writes = omega arith;
 }
 
-pub returns-in_err-print_command-clause-err : goal.returns-in_err-print_command-clause-err
-returns-in_err-print_command-clause-err g c =
-    let before = c.commands.invariant in
-    let more = one_more before.left (omega (arith, before.counted, c.commands-test.true)) in
-    let from = with_waiting (g.K.Sink.put c.args.out.now) c.args.printer.now in
-    let between = with_waiting (g.K.Sink.put c.commands.out) c.commands.printer in
-    let to = with_waiting (g.K.Sink.put c.print_command.new.out) c.print_command.new.self in
-    OnErr-fact c.from_residual.result (PrintsFront from to (commands_text (sample_trace c.args.seed c.args.count)))
-    (sample-front from between to before.so_far c.args.seed c.args.count c.commands.maker.state c.commands.maker.number before.left more.0 more.1 before.rest before.printed
-    (rw c.next-command.ensures.command at c.in_err-print_command.ensures.err))
-
-pub returns-in_err-print_command-clause-cause : goal.returns-in_err-print_command-clause-cause
-returns-in_err-print_command-clause-cause g c =
-    let cause = c.in_err-print_command.ensures.cause in
-    let writes = c.commands.invariant.writes in record {
-      later = omega (arith, cause.later, writes);
-      failed =
-          OnErr-fact c.from_residual.result (Rose (g.K.Sink.faults c.args.out.now) (g.K.Sink.faults c.print_command.new.out))
-          (Rose-before (g.K.Sink.faults c.args.out.now) (g.K.Sink.faults c.commands.out) (g.K.Sink.faults c.print_command.new.out) writes cause.failed);
-    }
-
 pub commands-preserved : goal.commands-preserved
 commands-preserved g c =
     let before = c.commands.invariant in
     let more = one_more before.left (omega (arith, before.counted, c.commands-test.true)) in
     let small : (c.commands.maker.number + 1) % 2 ^ 64 ≡ c.commands.maker.number + 1 = mod-eq_of_lt (omega (arith, before.number, c.commands-test.true, c.ranges.count.fits)) in
-    let from = with_waiting (g.K.Sink.put c.args.out.now) c.args.printer.now in
-    let between = with_waiting (g.K.Sink.put c.commands.out) c.commands.printer in
-    let to = with_waiting (g.K.Sink.put c.print_command.new.out) c.print_command.new.self in
-    let line = as_line (command_text (sample_command c.commands.maker.number (word_at c.commands.maker.state))) in
-    let printed : Prints between to line = rw c.next-command.ensures.command at c.in_ok-print_command.ensures.ok in
-    let next = sample-step before.so_far _ c.commands.maker.state c.commands.maker.number before.left more.0 more.1 before.rest in record {
+    let line = as_line (command_text (sample_command c.commands.maker.number (word_at c.commands.maker.state))) in record {
       so_far = before.so_far ++ line;
       left = more.0;
-      printed = Prints-trans from between to before.so_far line before.printed printed;
+      printed = Prints-trans _ _ _ before.so_far line before.printed (rw c.next-command.ensures.command at c.in_ok-print_command.ensures.ok);
       counted = omega (arith, before.counted, more.1);
       number = c.next-command.ensures.number ∙ small ∙ omega (arith, before.number);
-      rest = rw (c.next-command.ensures.state, c.next-command.ensures.number, small) next;
+      rest =
+          rw (c.next-command.ensures.state, c.next-command.ensures.number, small)
+          (sample-step before.so_far _ c.commands.maker.state c.commands.maker.number before.left more.0 more.1 before.rest);
       writes = omega (arith, before.writes, c.in_ok-print_command.ensures.cause.later);
     }
+
+pub returns-in_err-print_command-clause-err : goal.returns-in_err-print_command-clause-err
+returns-in_err-print_command-clause-err g c =
+    let before = c.commands.invariant in
+    let more = one_more before.left (omega (arith, before.counted, c.commands-test.true)) in
+    let to = with_waiting (g.K.Sink.put c.print_command.new.out) c.print_command.new.self in
+    OnErr-fact c.from_residual.result _
+    (sample-front _ _ to before.so_far c.args.seed c.args.count c.commands.maker.state c.commands.maker.number before.left more.0 more.1 before.rest before.printed
+    (rw c.next-command.ensures.command at c.in_err-print_command.ensures.err))
+
+pub returns-in_err-print_command-clause-cause : goal.returns-in_err-print_command-clause-cause
+returns-in_err-print_command-clause-cause g c =
+    let cause = c.in_err-print_command.ensures.cause in
+    let writes = c.commands.invariant.writes in
+    record { later = omega (arith, cause.later, writes); failed = OnErr-fact c.from_residual.result _ (Rose-before _ _ _ writes cause.failed) }
 
 pub returns-clause-ok : goal.returns-clause-ok
 returns-clause-ok g c =
     let before = c.commands.invariant in
-    let from = with_waiting (g.K.Sink.put c.args.out.now) c.args.printer.now in
-    let between = with_waiting (g.K.Sink.put c.commands.out) c.commands.printer in
-    let to = with_waiting (g.K.Sink.put c.print_command-2.new.out) c.print_command-2.new.self in
-    OnOk-map c.print_command-2.result (Prints between to (as_line (command_text Do.Stat))) (Prints from to (commands_text (sample_trace c.args.seed c.args.count)))
-    (sample-whole from between to before.so_far c.args.seed c.args.count c.commands.maker.state c.commands.maker.number before.left
+    on_ok_weaker c.print_command-2.result
+    (sample-whole _ _ _ before.so_far c.args.seed c.args.count c.commands.maker.state c.commands.maker.number before.left
     (omega (arith, before.counted, c.commands-test.false)) before.rest before.printed) c.print_command-2.ensures.ok
 
 pub returns-clause-err : goal.returns-clause-err
 returns-clause-err g c =
     let before = c.commands.invariant in
-    let from = with_waiting (g.K.Sink.put c.args.out.now) c.args.printer.now in
-    let between = with_waiting (g.K.Sink.put c.commands.out) c.commands.printer in
     let to = with_waiting (g.K.Sink.put c.print_command-2.new.out) c.print_command-2.new.self in
-    OnErr-map c.print_command-2.result (PrintsFront between to (as_line (command_text Do.Stat))) (PrintsFront from to (commands_text (sample_trace c.args.seed c.args.count)))
-    (sample-end_front from between to before.so_far c.args.seed c.args.count c.commands.maker.state c.commands.maker.number before.left
+    on_err_weaker c.print_command-2.result
+    (sample-end_front _ _ to before.so_far c.args.seed c.args.count c.commands.maker.state c.commands.maker.number before.left
     (omega (arith, before.counted, c.commands-test.false)) before.rest before.printed) c.print_command-2.ensures.err

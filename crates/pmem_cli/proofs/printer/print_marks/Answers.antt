@@ -3,55 +3,38 @@ use Rattle.pmem_base.specs.declared.answers.Mark.{Mark}
 use Rattle.pmem_base.specs.declared.answers.Mark.TheVariants.{Begin}
 use Rattle.plain_model.specs.Texts.{as_line, mark_text, marks_text}
 use Rattle.pmem_cli.specs.Causes.{Rose}
-use Rattle.pmem_cli.specs.Printed.{PrintsFront, with_waiting}
+use Rattle.pmem_cli.specs.Printed.{with_waiting}
 use Rattle.pmem_cli.proofs.PrintLemmas.{Prints-nil, Prints-trans, OnErr-fact, Rose-before}
 use Rattle.pmem_cli.proofs.MarkLines.{marks-step, marks-front, marks-whole}
 use Rattle.pmem_cli.proofs.printer.print_marks.Goals as goal
 
 pub each-init : goal.each-init
-each-init g c = record {
-  so_far = [];
-  printed = Prints-nil (with_waiting (g.K.Sink.put c.args.out.now) c.args.printer.now);
-  rest = refl;
-  writes = omega arith;
-}
-
-pub returns-in_err-print_mark-clause-err : goal.returns-in_err-print_mark-clause-err
-returns-in_err-print_mark-clause-err g c =
-    let before = c.each.invariant in
-    let marks : List Mark = c.args.marks.now in
-    let from = with_waiting (g.K.Sink.put c.args.out.now) c.args.printer.now in
-    let between = with_waiting (g.K.Sink.put c.each.out) c.each.printer in
-    let to = with_waiting (g.K.Sink.put c.print_mark.new.out) c.print_mark.new.self in
-    OnErr-fact c.from_residual.result (PrintsFront from to (marks_text marks))
-    (marks-front from between to before.so_far marks c.each.mark-index (Begin 0) c.each-test.true before.rest before.printed c.in_err-print_mark.ensures.err)
-
-pub returns-in_err-print_mark-clause-cause : goal.returns-in_err-print_mark-clause-cause
-returns-in_err-print_mark-clause-cause g c =
-    let cause = c.in_err-print_mark.ensures.cause in
-    let writes = c.each.invariant.writes in record {
-      later = omega (arith, cause.later, writes);
-      failed =
-          OnErr-fact c.from_residual.result (Rose (g.K.Sink.faults c.args.out.now) (g.K.Sink.faults c.print_mark.new.out))
-          (Rose-before (g.K.Sink.faults c.args.out.now) (g.K.Sink.faults c.each.out) (g.K.Sink.faults c.print_mark.new.out) writes cause.failed);
-    }
+each-init g c = record { so_far = []; printed = Prints-nil _; rest = refl; writes = omega arith }
 
 pub each-preserved : goal.each-preserved
 each-preserved g c =
     let before = c.each.invariant in
-    let marks : List Mark = c.args.marks.now in
-    let line = as_line (mark_text (get_or marks c.each.mark-index (Begin 0))) in
-    let from = with_waiting (g.K.Sink.put c.args.out.now) c.args.printer.now in
-    let between = with_waiting (g.K.Sink.put c.each.out) c.each.printer in
-    let to = with_waiting (g.K.Sink.put c.print_mark.new.out) c.print_mark.new.self in record {
+    let line = as_line (mark_text (get_or c.args.marks.now c.each.mark-index (Begin 0))) in record {
       so_far = before.so_far ++ line;
-      printed = Prints-trans from between to before.so_far line before.printed c.in_ok-print_mark.ensures.ok;
-      rest = marks-step before.so_far marks c.each.mark-index (Begin 0) c.each-test.true before.rest;
+      printed = Prints-trans _ _ _ before.so_far line before.printed c.in_ok-print_mark.ensures.ok;
+      rest = marks-step before.so_far c.args.marks.now c.each.mark-index (Begin 0) c.each-test.true before.rest;
       writes = omega (arith, before.writes, c.in_ok-print_mark.ensures.cause.later);
     }
+
+pub returns-in_err-print_mark-clause-err : goal.returns-in_err-print_mark-clause-err
+returns-in_err-print_mark-clause-err g c =
+    let before = c.each.invariant in
+    let to = with_waiting (g.K.Sink.put c.print_mark.new.out) c.print_mark.new.self in
+    OnErr-fact c.from_residual.result _
+    (marks-front _ _ to before.so_far c.args.marks.now c.each.mark-index (Begin 0) c.each-test.true before.rest before.printed c.in_err-print_mark.ensures.err)
+
+pub returns-in_err-print_mark-clause-cause : goal.returns-in_err-print_mark-clause-cause
+returns-in_err-print_mark-clause-cause g c =
+    let cause = c.in_err-print_mark.ensures.cause in
+    let writes = c.each.invariant.writes in
+    record { later = omega (arith, cause.later, writes); failed = OnErr-fact c.from_residual.result _ (Rose-before _ _ _ writes cause.failed) }
 
 pub returns-clause-ok : goal.returns-clause-ok
 returns-clause-ok g c =
     let before = c.each.invariant in
-    marks-whole (with_waiting (g.K.Sink.put c.args.out.now) c.args.printer.now) (with_waiting (g.K.Sink.put c.each.out) c.each.printer)
-    before.so_far c.args.marks.now c.each.mark-index (omega (arith, c.each-test.false)) before.rest before.printed
+    marks-whole _ _ before.so_far c.args.marks.now c.each.mark-index (omega (arith, c.each-test.false)) before.rest before.printed

@@ -4,9 +4,9 @@ use Rattle.pmem_cli.specs.declared.options.Task.{Task}
 use Rattle.pmem_cli.specs.Words.{task_of}
 use Rattle.pmem_cli.specs.Printed.{with_waiting}
 use Rattle.pmem_cli.specs.Causes.{Rose}
-use Rattle.pmem_cli.specs.HasRun.{HasDone, HasEnded, IsComplete}
+use Rattle.pmem_cli.specs.HasRun.{TaskOutcome, HasEnded, IsComplete}
 use Rattle.pmem_cli.proofs.Completing.{complete}
-use Rattle.pmem_cli.proofs.StatusLemmas.{IfSome-map, none_of_some, HasDone-finished}
+use Rattle.pmem_cli.proofs.StatusLemmas.{IfSome-map, none_of_some, TaskOutcome-finished}
 use Rattle.pmem_cli.proofs.program.run.Goals as goal
 
 pub returns-clause-told : goal.returns-clause-told
@@ -20,9 +20,9 @@ returns-clause-told g c =
     let status = c.finish.result in
     let between = with_waiting (g.K.Sink.put c.do_words-ending.new.out) c.do_words-ending.new.printer in
     IfSome-map (task_of words) (λ (task : Task). HasEnded task ending trace left (with_waiting before []) between)
-    (λ (task : Task). HasDone task status trace left before after)
+    (λ (task : Task). TaskOutcome task status trace left before after)
     (λ (task : Task) (some : task_of words ≡ Some task) (ended : HasEnded task ending trace left (with_waiting before []) between).
-    HasDone-finished task ending status trace left before after between ended
+    TaskOutcome-finished task ending status trace left before after between ended
     (record {
       good = λ faulty. none_of_some (task_of words) task some (c.do_words-ending.ensures.words.0 (c.finish.ensures.words.0 faulty));
       its_status = c.finish.ensures.status;
@@ -49,7 +49,7 @@ returns-clause-complete g c =
     let status = c.finish.result in
     let reads = Rose (g.S.Source.faults c.args.trace.now) (g.S.Source.faults c.do_words-ending.new.trace) in
     let writes = Rose (g.K.Sink.faults c.args.out.now) (g.K.Sink.faults c.finish.new.out) in
-    IfSome-map (task_of words) (λ (task : Task). HasDone task status trace left before after) (λ (task : Task). IsComplete task status trace (reads ⊎ writes))
-    (λ (task : Task) (some : task_of words ≡ Some task) (done : HasDone task status trace left before after).
+    IfSome-map (task_of words) (λ (task : Task). TaskOutcome task status trace left before after) (λ (task : Task). IsComplete task status trace (reads ⊎ writes))
+    (λ (task : Task) (some : task_of words ≡ Some task) (done : TaskOutcome task status trace left before after).
     complete task status trace left before after reads writes done (returns-clause-read g c) (returns-clause-write g c))
     (returns-clause-told g c)

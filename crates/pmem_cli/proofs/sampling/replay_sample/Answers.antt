@@ -9,54 +9,38 @@ use Rattle.pmem_cli.specs.Standing.{standing_of}
 use Rattle.pmem_cli.specs.Sampled.{HasCome}
 use Rattle.pmem_cli.proofs.MakeLemmas.{one_more}
 use Rattle.pmem_cli.proofs.SampleLemmas.{sample_is, come_first, come_last, HasCome-nil, HasCome-next, HasReached-of}
-use Rattle.pmem_cli.proofs.StandingLemmas.{HasReplied-step, GoesOn-step}
+use Rattle.pmem_cli.proofs.StandingLemmas.{HasReplied-step, StandingAfter-step}
 use Rattle.pmem_cli.proofs.sampling.replay_sample.Goals as goal
 
 pub commands-init : goal.commands-init
 commands-init g c =
     let s = standing_of g.U.Suite.formulas_of c.args.world.now in
-    let commands = sample_trace c.args.seed c.args.count in
-    let all : commands ≡ commands_from c.new-maker.result.state c.new-maker.result.number c.args.count ++ Do.Stat ∷ [] =
+    let all : sample_trace c.args.seed c.args.count ≡ commands_from c.new-maker.result.state c.new-maker.result.number c.args.count ++ Do.Stat ∷ [] =
     rw c.new-maker.ensures (sample_is c.args.seed c.args.count) in record {
       steps = [];
       left = c.args.count;
       counted = omega arith;
       number = rw c.new-maker.ensures refl;
       running = c.requires.running;
-      come = subst (λ (behind : List Command). HasCome s s commands behind []) all (HasCome-nil s commands c.requires.running);
+      come = subst (λ (behind : List Command). HasCome s s (sample_trace c.args.seed c.args.count) behind []) all (HasCome-nil s _ c.requires.running);
     }
 
 pub returns-then-is_shown-clause-reached : goal.returns-then-is_shown-clause-reached
 returns-then-is_shown-clause-reached g c =
     let before = c.commands.invariant in
     let more = one_more before.left (omega (arith, before.counted, c.commands-test.true)) in
-    let f = g.U.Suite.formulas_of in
-    let s = standing_of f c.args.world.now in
-    let t = standing_of f c.commands.world in
-    let commands = sample_trace c.args.seed c.args.count in
-    let maker = c.commands.maker in
-    let behind = commands_from (state_after_word maker.state) (maker.number + 1) more.0 ++ Do.Stat ∷ [] in
-    let come = come_first s t commands before.steps maker.state maker.number before.left more.0 c.next-command.result more.1 c.next-command.ensures.command before.come in
-    let reply = reply_in c.step.new.self c.in_ok-reply.reply in
-    HasReached-of s t commands behind c.next-command.result before.steps (record { command = c.next-command.result; reply = reply }) come
-    (HasReplied-step f c.commands.world c.step.new.self c.next-command.result reply c.in_ok-reply.ensures.stepped) (inl (sym c.is_shown.ensures ∙ c.if-is_shown.true))
+    HasReached-of _ _ _ _ _ before.steps _ (come_first _ _ _ before.steps _ _ before.left more.0 _ more.1 c.next-command.ensures.command before.come)
+    (HasReplied-step g.U.Suite.formulas_of _ _ c.next-command.result _ c.in_ok-reply.ensures.stepped) (inl (sym c.is_shown.ensures ∙ c.if-is_shown.true))
 
 pub commands-preserved : goal.commands-preserved
 commands-preserved g c =
     let before = c.commands.invariant in
     let more = one_more before.left (omega (arith, before.counted, c.commands-test.true)) in
-    let f = g.U.Suite.formulas_of in
-    let s = standing_of f c.args.world.now in
-    let t = standing_of f c.commands.world in
-    let u = standing_of f c.step.new.self in
-    let commands = sample_trace c.args.seed c.args.count in
     let maker = c.commands.maker in
-    let behind = commands_from (state_after_word maker.state) (maker.number + 1) more.0 ++ Do.Stat ∷ [] in
-    let come = come_first s t commands before.steps maker.state maker.number before.left more.0 c.next-command.result more.1 c.next-command.ensures.command before.come in
-    let reply = reply_in c.step.new.self c.in_ok-reply.reply in
-    let step : Step = record { command = c.next-command.result; reply = reply } in
+    let come = come_first _ _ _ before.steps maker.state maker.number before.left more.0 c.next-command.result more.1 c.next-command.ensures.command before.come in
+    let step : Step = record { command = c.next-command.result; reply = reply_in c.step.new.self c.in_ok-reply.reply } in
     let hidden = sym c.is_shown.ensures ∙ c.if-is_shown.false in
-    let on = GoesOn-step f c.commands.world c.step.new.self step c.in_ok-reply.ensures.stepped hidden in
+    let on = StandingAfter-step g.U.Suite.formulas_of c.commands.world c.step.new.self step c.in_ok-reply.ensures.stepped hidden in
     let small : (maker.number + 1) % 2 ^ 64 ≡ maker.number + 1 = mod-eq_of_lt (omega (arith, before.number, c.commands-test.true, c.ranges.count.fits)) in record {
       steps = before.steps ++ step ∷ [];
       left = more.0;
@@ -65,18 +49,12 @@ commands-preserved g c =
       running = on.running;
       come =
           rw (c.next-command.ensures.state, c.next-command.ensures.number, small)
-          (HasCome-next s t u commands behind c.next-command.result before.steps step come
-          (HasReplied-step f c.commands.world c.step.new.self c.next-command.result reply c.in_ok-reply.ensures.stepped) hidden on);
+          (HasCome-next _ _ _ _ _ _ before.steps step come (HasReplied-step g.U.Suite.formulas_of _ _ _ _ c.in_ok-reply.ensures.stepped) hidden on);
     }
 
 pub returns-clause-reached : goal.returns-clause-reached
 returns-clause-reached g c =
     let before = c.commands.invariant in
-    let f = g.U.Suite.formulas_of in
-    let s = standing_of f c.args.world.now in
-    let t = standing_of f c.commands.world in
-    let commands = sample_trace c.args.seed c.args.count in
-    let come = come_last s t commands before.steps c.commands.maker.state c.commands.maker.number before.left (omega (arith, before.counted, c.commands-test.false)) before.come in
-    let reply = reply_in c.step-2.new.self c.in_ok-reply-2.reply in
-    HasReached-of s t commands [] Do.Stat before.steps (record { command = Do.Stat; reply = reply }) come
-    (HasReplied-step f c.commands.world c.step-2.new.self Do.Stat reply c.in_ok-reply-2.ensures.stepped) (inr refl)
+    HasReached-of _ _ _ [] Do.Stat before.steps _
+    (come_last _ _ _ before.steps _ _ before.left (omega (arith, before.counted, c.commands-test.false)) before.come)
+    (HasReplied-step g.U.Suite.formulas_of _ _ Do.Stat _ c.in_ok-reply-2.ensures.stepped) (inr refl)

@@ -2,7 +2,8 @@ use Rattle.std.specs.Prelude.{slice_range}
 use Rattle.plain_model.specs.Texts.{as_line, answer_text, marks_text, reply_text}
 use Rattle.pmem_replay.specs.Stepped.{reply_in}
 use Rattle.pmem_cli.specs.Printed.{Prints, PrintsFront, with_waiting}
-use Rattle.pmem_cli.proofs.PrintLemmas.{Prints-trans, PrintsFront-trans, PrintsFront-more, OnOk-map, OnErr-map, OnErr-fact}
+use Rattle.std.proofs.lemmas.Result.{on_err_weaker, on_ok_weaker}
+use Rattle.pmem_cli.proofs.PrintLemmas.{Prints-trans, PrintsFront-trans, PrintsFront-more, OnErr-fact}
 use Rattle.pmem_cli.proofs.session.print_reply.Goals as goal
 
 pub returns-in_err-print_marks-clause-err : goal.returns-in_err-print_marks-clause-err
@@ -10,30 +11,14 @@ returns-in_err-print_marks-clause-err g c =
     let reply = c.args.reply.now in
     let from = with_waiting (g.K.Sink.put c.args.out.now) c.args.printer.now in
     let to = with_waiting (g.K.Sink.put c.print_marks.new.out) c.print_marks.new.printer in
-    let marks = marks_text (slice_range c.args.world.now.ledger.marks reply.from reply.to) in
     OnErr-fact c.from_residual.result (PrintsFront from to (reply_text (reply_in c.args.world.now reply)))
-    (PrintsFront-more from to marks (as_line (answer_text reply.answer)) (rw c.marks.ensures at c.in_err-print_marks.ensures.err))
+    (PrintsFront-more from to (marks_text (slice_range c.args.world.now.ledger.marks reply.from reply.to)) (as_line (answer_text reply.answer))
+    (rw c.marks.ensures at c.in_err-print_marks.ensures.err))
 
 pub returns-clause-ok : goal.returns-clause-ok
-returns-clause-ok g c =
-    let reply = c.args.reply.now in
-    let from = with_waiting (g.K.Sink.put c.args.out.now) c.args.printer.now in
-    let between = with_waiting (g.K.Sink.put c.print_marks.new.out) c.print_marks.new.printer in
-    let to = with_waiting (g.K.Sink.put c.print_answer.new.out) c.print_answer.new.self in
-    let marks = marks_text (slice_range c.args.world.now.ledger.marks reply.from reply.to) in
-    let line = as_line (answer_text reply.answer) in
-    let first : Prints from between marks = rw c.marks.ensures at c.in_ok-print_marks.ensures.ok in
-    OnOk-map c.print_answer.result (Prints between to line) (Prints from to (reply_text (reply_in c.args.world.now reply)))
-    (λ (second : Prints between to line). Prints-trans from between to marks line first second) c.print_answer.ensures.ok
+returns-clause-ok g c = on_ok_weaker c.print_answer.result (Prints-trans _ _ _ _ _ (rw c.marks.ensures at c.in_ok-print_marks.ensures.ok)) c.print_answer.ensures.ok
 
 pub returns-clause-err : goal.returns-clause-err
 returns-clause-err g c =
-    let reply = c.args.reply.now in
-    let from = with_waiting (g.K.Sink.put c.args.out.now) c.args.printer.now in
-    let between = with_waiting (g.K.Sink.put c.print_marks.new.out) c.print_marks.new.printer in
     let to = with_waiting (g.K.Sink.put c.print_answer.new.out) c.print_answer.new.self in
-    let marks = marks_text (slice_range c.args.world.now.ledger.marks reply.from reply.to) in
-    let line = as_line (answer_text reply.answer) in
-    let first : Prints from between marks = rw c.marks.ensures at c.in_ok-print_marks.ensures.ok in
-    OnErr-map c.print_answer.result (PrintsFront between to line) (PrintsFront from to (reply_text (reply_in c.args.world.now reply)))
-    (λ (second : PrintsFront between to line). PrintsFront-trans from between to marks line first second) c.print_answer.ensures.err
+    on_err_weaker c.print_answer.result (PrintsFront-trans _ _ to _ _ (rw c.marks.ensures at c.in_ok-print_marks.ensures.ok)) c.print_answer.ensures.err

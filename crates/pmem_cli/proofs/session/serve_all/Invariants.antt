@@ -3,7 +3,7 @@ use Rattle.std.specs.Io.KnownBytes.{prepend_known}
 use Rattle.plain_model.specs.Run.{Step}
 use Rattle.pmem_cli.specs.Printed.{with_waiting}
 use Rattle.pmem_cli.specs.Standing.{standing_of}
-use Rattle.pmem_cli.specs.Served.{HasServed}
+use Rattle.pmem_cli.specs.Turns.{HasServed}
 use Rattle.pmem_cli.proofs.session.serve_all.Given as goal
 
 abbrev pub invariant-lines : goal.invariant-lines

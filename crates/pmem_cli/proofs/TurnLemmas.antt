@@ -15,11 +15,11 @@ use Rattle.plain_model.specs.Grammar.{reading_of}
 use Rattle.plain_model.specs.Run.{Machine, Step, step_text, steps_text, machine_after_all, IsRunFrom, IsCutShortFrom, EndsFrom, line_limit}
 use Rattle.pmem_cli.specs.Printed.{Output, Prints, PrintsFront}
 use Rattle.pmem_cli.specs.Standing.{Standing}
-use Rattle.pmem_cli.specs.Served.{HasAnswered, HasServed, HasStopped, AnswersCommand, AnswersAsked, AnswersLine, Turns}
-use Rattle.pmem_cli.proofs.LineLemmas.{lines_of-ended, lines_of-last, lines_of-some}
+use Rattle.pmem_cli.specs.Turns.{HasAnswered, HasServed, HasStopped, AnswersCommand, AnswersAsked, AnswersLine, Turns}
+use Rattle.pmem_cli.proofs.LineLemmas.{lines_ahead, lines_of-last, lines_of-some}
 use Rattle.pmem_cli.proofs.PrintLemmas.{Prints-nil, Prints-trans, Prints-front, PrintsFront-trans}
-use Rattle.pmem_cli.proofs.RunLemmas.{IsRunFrom-append, IsRunFrom-nil, IsRunFrom-skipped, IsRunFrom-step, IsFrontFrom-nil, EndsFrom-after, EndsFrom-refused, EndsFrom-long, EndsFrom-shown, EndsFrom-untold, EndsFrom-wanting}
-use Rattle.pmem_cli.proofs.StandingLemmas.{GoesOn-nil, GoesOn-trans, AreStepped-after}
+use Rattle.pmem_cli.proofs.RunLemmas.{IsRunFrom-append, IsRunFrom-nil, IsRunFrom-skipped, IsRunFrom-step, IsFrontFrom-nil, IsLimitedFrontFrom-nil, EndsFrom-after, EndsFrom-refused, EndsFrom-long, EndsFrom-shown, EndsFrom-untold, EndsFrom-wanting}
+use Rattle.pmem_cli.proofs.StandingLemmas.{StandingAfter-nil, StandingAfter-trans, AreStepped-after}
 
 -- what holds of all bytes that begin so holds of those that were ahead
 pub IfSome-ahead : (a b : Option (List ℕ)) (front : List ℕ) (P : List ℕ → Type 0) → Consumes a b front → ((rest : List ℕ) → P (front ++ rest)) → IfSome a P
@@ -37,19 +37,19 @@ same_run : (s t : Standing) (machine : Machine) (ls : List (List ℕ)) (ys : Lis
 same_run s t machine ls ys setup is run = subst (λ m. IsRunFrom s.setup m ls ys) is (subst (λ u. IsRunFrom u t.machine ls ys) setup run)
 
 pub HasAnswered-nil : (s : Standing) (a : Output) → s.world.shown ≡ false → HasAnswered s s a a [] []
-HasAnswered-nil s a running = record { run = IsRunFrom-nil s.setup s.machine; on = GoesOn-nil s running; printed = Prints-nil a }
+HasAnswered-nil s a running = record { run = IsRunFrom-nil s.setup s.machine; on = StandingAfter-nil s running; printed = Prints-nil a }
 
 pub HasAnswered-trans : (s t u : Standing) (a b c : Output) (ls ms : List (List ℕ)) (xs ys : List Step)
     → HasAnswered s t a b ls xs → HasAnswered t u b c ms ys → HasAnswered s u a c (ls ++ ms) (xs ++ ys)
 HasAnswered-trans s t u a b c ls ms xs ys first second = record {
   run = IsRunFrom-append s.setup s.machine ls ms xs ys first.run (same_run s t (machine_after_all s.setup s.machine xs) ms ys first.on.setup first.on.machine second.run);
-  on = GoesOn-trans s t u xs ys first.on second.on;
+  on = StandingAfter-trans s t u xs ys first.on second.on;
   printed = rw flat_map-append (Prints-trans a b c (steps_text xs) (steps_text ys) first.printed second.printed);
 }
 
 -- a line without a command
 pub HasAnswered-skipped : (s : Standing) (a : Output) (line : List ℕ) → s.world.shown ≡ false → reading_of line ≡ Ok None → HasAnswered s s a a (line ∷ []) []
-HasAnswered-skipped s a line running is = record { run = IsRunFrom-skipped s.setup s.machine line is; on = GoesOn-nil s running; printed = Prints-nil a }
+HasAnswered-skipped s a line running is = record { run = IsRunFrom-skipped s.setup s.machine line is; on = StandingAfter-nil s running; printed = Prints-nil a }
 
 -- a line's command was answered, or the run stops at it
 pub AnswersLine-asked : (stop : Option Stop) (line : List ℕ) (number : ℕ) (command : Command) (s t : Standing) (a b : Output)
@@ -66,11 +66,7 @@ AnswersLine-asked None line number command s t a b is answered =
 AnswersLine-asked (Some Memory) line number command s t a b is answered = (command, is, answered)
 AnswersLine-asked (Some WriteFault) line number command s t a b is answered = (command, is, answered)
 AnswersLine-asked (Some Shown) line number command s t a b is answered = (command, is, answered)
-AnswersLine-asked (Some (Refused n kind)) line number command s t a b is answered = absurd answered
-AnswersLine-asked (Some Finished) line number command s t a b is answered = answered
-AnswersLine-asked (Some Words) line number command s t a b is answered = answered
-AnswersLine-asked (Some ReadFault) line number command s t a b is answered = answered
-AnswersLine-asked (Some TooManyLines) line number command s t a b is answered = answered
+AnswersLine-asked (Some stop) line number command s t a b is answered = absurd answered
 
 pub HasServed-nil : (a : Option (List ℕ)) (s : Standing) (p : Output) → s.world.shown ≡ false → HasServed a a s s p p [] []
 HasServed-nil a s p running = record { taken = Consumes-nil a; within = All-nil IsWithin; answered = HasAnswered-nil s p running }
@@ -140,10 +136,10 @@ HasStopped-quiet stop a left s p k ends = record {
 }
 
 -- the sink failed at bytes that waited
-pub HasStopped-unput : (a left : Option (List ℕ)) (s : Standing) (p q : Output) (k : ℕ) → PrintsFront p q [] → HasStopped WriteFault a left s p q k
-HasStopped-unput a left s p q k front = record {
+pub HasStopped-unput : (a left : Option (List ℕ)) (s : Standing) (p q : Output) (k : ℕ) → k ≤ line_limit → PrintsFront p q [] → HasStopped WriteFault a left s p q k
+HasStopped-unput a left s p q k limit front = record {
   steps = [];
-  ends = IfSome-any a (λ bytes. EndsFrom s.setup s.machine k WriteFault bytes left []) (λ bytes. inl (IsFrontFrom-nil s.setup s.machine (lines_of bytes)));
+  ends = IfSome-any a (λ bytes. EndsFrom s.setup s.machine k WriteFault bytes left []) (λ bytes. inl (IsLimitedFrontFrom-nil s.setup s.machine k (lines_of bytes) limit));
   front = front;
   whole = λ told. absurd (told refl);
   last = s.world;
@@ -157,13 +153,13 @@ StopsAt stop a left s served line steps =
     → IfSome a (λ bytes. EndsFrom s.setup s.machine served stop bytes left steps)
 
 -- the command of a line stops the run
-stopped_wanting : (a left : Option (List ℕ)) (s t : Standing) (p q : Output) (line : List ℕ) (served : ℕ) → StopsAt Memory a left s served line []
+stopped_wanting : (a left : Option (List ℕ)) (s t : Standing) (p q : Output) (line : List ℕ) (served : ℕ) → served < line_limit → StopsAt Memory a left s served line []
     → AnswersAsked Memory line s t p q → HasStopped Memory a left s p q served
-stopped_wanting a left s t p q line served ends answered =
+stopped_wanting a left s t p q line served limit ends answered =
     let (command, is, (wants, kept)) = answered in
     subst (λ out. HasStopped Memory a left s p out served) (sym kept)
     (HasStopped-quiet Memory a left s p served
-    (ends (λ trace behind cut. EndsFrom-wanting s.setup s.machine served left trace line behind command cut is wants)))
+    (ends (λ trace behind cut. EndsFrom-wanting s.setup s.machine served left trace line behind command cut is wants limit)))
 
 stopped_untold : (a left : Option (List ℕ)) (s t : Standing) (p q : Output) (line : List ℕ) (served : ℕ) → served < line_limit
     → ((steps : List Step) → StopsAt WriteFault a left s served line steps) → AnswersAsked WriteFault line s t p q → HasStopped WriteFault a left s p q served
@@ -193,10 +189,6 @@ stopped_shown a left s t p q line served limit ends answered =
       chain = (replied.next, replied.stepped, refl);
     }
 
--- the trace's lines begin with one that has its LF
-lines_ahead : (line rest : List ℕ) → IsWithin line → lines_of (ended line ++ rest) ≡ line ∷ lines_of rest
-lines_ahead line rest within = ap lines_of (append_assoc line (10 ∷ []) rest) ∙ lines_of-ended line rest within
-
 stops_ahead : (stop : Stop) (a b left : Option (List ℕ)) (s : Standing) (line : List ℕ) (served : ℕ) (steps : List Step)
     → Consumes a b (ended line) → IsWithin line → StopsAt stop a left s served line steps
 stops_ahead stop a b left s line served steps taken within ends =
@@ -222,15 +214,12 @@ Turns-line (Some (Refused n kind)) a b left s t p q line served number taken wit
     (IfSome-ahead a b (ended line) (λ bytes. EndsFrom s.setup s.machine served (Refused n kind) bytes left []) taken
     (λ rest. EndsFrom-refused s.setup s.machine served n kind left (ended line ++ rest) line (lines_of rest) (lines_ahead line rest within) refused (same ∙ numbered) limit)))
 Turns-line (Some Memory) a b left s t p q line served number taken within numbered limit answered =
-    stopped_wanting a left s t p q line served (stops_ahead Memory a b left s line served [] taken within) answered
+    stopped_wanting a left s t p q line served limit (stops_ahead Memory a b left s line served [] taken within) answered
 Turns-line (Some WriteFault) a b left s t p q line served number taken within numbered limit answered =
     stopped_untold a left s t p q line served limit (λ steps. stops_ahead WriteFault a b left s line served steps taken within) answered
 Turns-line (Some Shown) a b left s t p q line served number taken within numbered limit answered =
     stopped_shown a left s t p q line served limit (λ steps. stops_ahead Shown a b left s line served steps taken within) answered
-Turns-line (Some Finished) a b left s t p q line served number taken within numbered limit answered = absurd answered
-Turns-line (Some Words) a b left s t p q line served number taken within numbered limit answered = absurd answered
-Turns-line (Some ReadFault) a b left s t p q line served number taken within numbered limit answered = absurd answered
-Turns-line (Some TooManyLines) a b left s t p q line served number taken within numbered limit answered = absurd answered
+Turns-line (Some stop) a b left s t p q line served number taken within numbered limit answered = absurd answered
 
 -- the last line, answered
 pub HasStopped-last : (a b left : Option (List ℕ)) (s t : Standing) (p q : Output) (line : List ℕ) (served number : ℕ)
@@ -259,15 +248,12 @@ HasStopped-at_last (Refused n kind) a b left s t p q line served number taken wi
     (Consumes-whole a b line (λ bytes. EndsFrom s.setup s.machine served (Refused n kind) bytes left []) taken end
     (EndsFrom-refused s.setup s.machine served n kind left line line [] (lines_of-last line within some) refused (same ∙ numbered) limit)))
 HasStopped-at_last Memory a b left s t p q line served number taken within some end numbered limit answered =
-    stopped_wanting a left s t p q line served (stops_last Memory a b left s line served [] taken within some end) answered
+    stopped_wanting a left s t p q line served limit (stops_last Memory a b left s line served [] taken within some end) answered
 HasStopped-at_last WriteFault a b left s t p q line served number taken within some end numbered limit answered =
     stopped_untold a left s t p q line served limit (λ steps. stops_last WriteFault a b left s line served steps taken within some end) answered
 HasStopped-at_last Shown a b left s t p q line served number taken within some end numbered limit answered =
     stopped_shown a left s t p q line served limit (λ steps. stops_last Shown a b left s line served steps taken within some end) answered
-HasStopped-at_last Finished a b left s t p q line served number taken within some end numbered limit answered = absurd answered
-HasStopped-at_last Words a b left s t p q line served number taken within some end numbered limit answered = absurd answered
-HasStopped-at_last ReadFault a b left s t p q line served number taken within some end numbered limit answered = absurd answered
-HasStopped-at_last TooManyLines a b left s t p q line served number taken within some end numbered limit answered = absurd answered
+HasStopped-at_last stop a b left s t p q line served number taken within some end numbered limit answered = absurd answered
 
 -- a line that is too long
 pub HasStopped-long : (a b left : Option (List ℕ)) (s : Standing) (p : Output) (part : List ℕ) (served number : ℕ)

@@ -13,12 +13,12 @@ use Rattle.pmem_replay.specs.World.{WorldState}
 use Rattle.pmem_replay.specs.Stepped.{HasStepped}
 use Rattle.pmem_cli.specs.Causes.{Rose}
 use Rattle.pmem_cli.specs.Printed.{Output, Prints, PrintsFront}
-use Rattle.pmem_cli.specs.Standing.{Standing, AreStepped, GoesOn}
+use Rattle.pmem_cli.specs.Standing.{Standing, AreStepped, StandingAfter}
 
 -- These lines were answered by these replies, which were printed.
 pub record HasAnswered (before after : Standing) (from to : Output) (lines : List (List ℕ)) (steps : List Step) : Type 0 where
   pub run : IsRunFrom before.setup before.machine lines steps
-  pub on : GoesOn before after steps
+  pub on : StandingAfter before after steps
   pub printed : Prints from to (steps_text steps)
 
 -- These lines were taken from what was ahead, and answered.
@@ -49,7 +49,7 @@ pub record HasReplied (before : Standing) (command : Command) (step : Step) : Ty
 abbrev pub AnswersCommand : Option Stop → Command → Standing → Standing → Output → Output → Type 0
 AnswersCommand None command before after from to =
     (step : Step) × HasReplied before command step × (is_shown step.reply.answer ≡ false)
-    × GoesOn before after (step ∷ []) × Prints from to (step_text step)
+    × StandingAfter before after (step ∷ []) × Prints from to (step_text step)
 AnswersCommand (Some Memory) command before after from to = IsTrue (takes_memory command) × (to ≡ from)
 AnswersCommand (Some WriteFault) command before after from to =
     (step : Step) × HasReplied before command step × PrintsFront from to (step_text step)
