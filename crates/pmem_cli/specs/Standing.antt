@@ -3,7 +3,7 @@ use Rattle.std.specs.Prelude.{◌≡◌, ◌⊎◌, ℕ, false, List, [], ◌∷
 use Rattle.suite.specs.Formulas.{Formulas}
 use Rattle.suite.specs.Setup.{Setup}
 use Rattle.plain_model.specs.Run.{Machine, Step, machine_after_all}
-use Rattle.pmem_replay.specs.World.{WorldState, setup_of, view_in}
+use Rattle.pmem_replay.specs.World.{WorldState, setup_of_world, view_in}
 use Rattle.pmem_replay.specs.Stepped.{IsNewWorld, HasStepped}
 
 -- what stays the same through the run, the plain machine, and the world that stands for it
@@ -16,8 +16,8 @@ pub record Standing : Type 0 where
 abbrev pub standing_of : (List ℕ → Formulas) → WorldState → Standing
 standing_of formulas_of world =
     record {
-      setup = setup_of formulas_of world;
-      machine = record { state = world.state; view = view_in (setup_of formulas_of world) world };
+      setup = setup_of_world formulas_of world;
+      machine = record { state = world.state; view = view_in (setup_of_world formulas_of world) world };
       world = world;
     }
 

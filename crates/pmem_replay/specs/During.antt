@@ -4,7 +4,7 @@ use Rattle.std.specs.Prelude.{ℕ, ◌≡◌, ◌≤◌, ◌<◌, ◌+◌, ◌-�
 use Rattle.pmem_base.specs.Counts.{last_count}
 use Rattle.pmem_base.specs.Lines.{IsLine}
 use Rattle.board.specs.Device.{Device}
-use Rattle.board.specs.Memory.{Memory}
+use Rattle.board.specs.Memory.{BoardMemory}
 use Rattle.pmem_replay.specs.declared.taken.Taken.{Taken}
 use Rattle.pmem_engine.specs.Engine.{EngineState}
 use Rattle.pmem_engine.specs.Parts.{Parts, parts_of}
@@ -29,7 +29,7 @@ steps_in taken = taken.writes + taken.latches
 
 -- The board as a call sees it: line writes, latches and cuts are counted from the call on. It may
 -- always be cut.
-abbrev pub device_during : Memory → Taken → Device
+abbrev pub device_during : BoardMemory → Taken → Device
 device_during board taken =
     record {
       size = length board.lines;
@@ -52,13 +52,13 @@ abbrev pub counted : ℕ → ℕ → ℕ
 counted before more = min (before + more) last_count
 
 -- the board in memory keeps its counts in range
-pub record AreInCount (board : Memory) : Type 0 where
+pub record AreInCount (board : BoardMemory) : Type 0 where
   pub writes : board.writes ≤ last_count
   pub latches : board.latches ≤ last_count
 
 -- What becomes of the board in a call that takes these steps: the snapshot stays, and the fuse burns
 -- by a step each. Power goes off where a step was due with no fuse left, or at the limit.
-pub record FollowsOn (old new : Memory) (taken : Taken) : Type 0 where
+pub record FollowsOn (old new : BoardMemory) (taken : Taken) : Type 0 where
   pub snapshot : new.snapshot ≡ old.snapshot
   pub writes : new.writes ≡ counted old.writes taken.writes
   pub latches : new.latches ≡ counted old.latches taken.latches
@@ -71,7 +71,7 @@ pub record FollowsOn (old new : Memory) (taken : Taken) : Type 0 where
   pub spent : new.powered ≡ false → steps_in taken < step_limit → old.fuse ≡ Some (steps_in taken)
 
 -- a call on a watched board, whose counts were in range before, and which has whole lines afterwards
-pub record IsWatched (old new : Memory) (taken : Taken) : Type 0 where
+pub record IsWatched (old new : BoardMemory) (taken : Taken) : Type 0 where
   pub follows : FollowsOn old new taken
   pub in_count : AreInCount old
   pub each_line : All IsLine new.lines

@@ -7,9 +7,10 @@ use Rattle.pmem_base.specs.declared.answers.Place.{Place}
 use Rattle.pmem_base.specs.declared.answers.Answer.{Answer}
 use Rattle.pmem_base.specs.declared.answers.Answer.TheVariants as Say
 use Rattle.pmem_base.specs.Lines.{IsLine}
+use Rattle.pmem_base.specs.WaitingWrites.{queue_of, no_writes}
 use Rattle.seal_ledger.specs.Notes.{HasRoom}
 use Rattle.suite.specs.Setup.{Setup}
-use Rattle.plain_model.specs.State.{PlainState, queue_of, memory_with, no_writes, without_flag}
+use Rattle.plain_model.specs.State.{PlainState, memory_with, without_flag}
 use Rattle.plain_model.specs.After.{after_marks, steps_with}
 use Rattle.pmem_engine.specs.declared.fault.Fault.{Fault}
 use Rattle.pmem_engine.specs.declared.fault.Fault.TheVariants as Fail

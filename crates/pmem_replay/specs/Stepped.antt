@@ -15,11 +15,12 @@ use Rattle.pmem_base.specs.Layout as layout
 use Rattle.pmem_base.specs.Lines.{line_at, tag_slot}
 use Rattle.pmem_base.specs.Marks.{last_seal}
 use Rattle.pmem_base.specs.Ranges.{IsAnswer}
-use Rattle.board.specs.Memory.{Memory, with_line_at, with_lines, flipped_line, restored_lines}
+use Rattle.pmem_base.specs.WaitingWrites.{queue_of}
+use Rattle.board.specs.Memory.{BoardMemory, with_line_at, with_lines, flipped_line, restored_lines}
 use Rattle.seal_ledger.specs.Ledger.{LedgerState}
 use Rattle.seal_ledger.specs.Notes.{HasRoom}
 use Rattle.suite.specs.Setup.{Setup}
-use Rattle.plain_model.specs.State.{Reply, queue_of, start_state}
+use Rattle.plain_model.specs.State.{Reply, start_state}
 use Rattle.plain_model.specs.View.{start_view}
 use Rattle.plain_model.specs.After.{state_after, steps_of, is_cut}
 use Rattle.plain_model.specs.Answers.{decided_answer, is_answer_to, is_shown}
@@ -47,7 +48,7 @@ use Rattle.pmem_replay.specs.During.{none_taken, steps_in, device_during, counte
 -- ---- what the table's answers do to the board and to the engine
 
 -- the board after a command that the table answers
-abbrev pub board_after : Memory → Command → Answer → Memory
+abbrev pub board_after : BoardMemory → Command → Answer → BoardMemory
 board_after board (Do.Cut n) Say.Ok = record board { fuse = Some n }
 board_after board Do.Off Say.Ok = record board { powered = false; fuse = None }
 board_after board (Do.Poke d line) Say.Ok = with_line_at board d line
@@ -182,7 +183,7 @@ engine_given (Err fault) = None
 
 -- recovery, over the board with power on; where it is refused, power goes off again
 pub record HasPoweredOn (setup : Setup) (old new : WorldState) (answer : Answer) : Type 0 where
-  pub left : Memory
+  pub left : BoardMemory
   pub taken : Taken
   pub steps : is_shown answer ≡ false → steps_of answer ≡ steps_in taken
   pub outcome : Result (EngineState × Work) RecFault

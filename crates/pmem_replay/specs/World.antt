@@ -12,7 +12,7 @@ use Rattle.pmem_base.specs.Lines.{line_at, zero_line}
 use Rattle.pmem_base.specs.Marks.{last_seal}
 use Rattle.bonsai_tree.specs.Positions.{counter_position}
 use Rattle.board.specs.Device.{AreLinesOf}
-use Rattle.board.specs.Memory.{Memory}
+use Rattle.board.specs.Memory.{BoardMemory}
 use Rattle.seal_ledger.specs.Ledger.{LedgerState}
 use Rattle.commit_regs.specs.Groups.{redone}
 use Rattle.write_ports.specs.Queues.{ArePorts}
@@ -34,7 +34,7 @@ pub record WorldState : Type 0 where
   pub shape : Shape
   pub keys : List ℕ
   pub state : PlainState
-  pub board : Memory
+  pub board : BoardMemory
   pub ledger : LedgerState
   pub engine : Option EngineState
   pub tags : ℕ
@@ -65,7 +65,7 @@ plain_memory setup marks =
 -- what the program keeps of a world beside the geometry
 pub record WorldParts : Type 0 where
   pub keys : List ℕ
-  pub board : Memory
+  pub board : BoardMemory
   pub ledger : LedgerState
   pub engine : Option EngineState
   pub tags : ℕ
@@ -184,7 +184,7 @@ pub record HasQueues (g : Shape) (state : PlainState) : Type 0 where
   pub on_memory : All (λ queue. All (λ write. write.at < layout.data_lines g) queue) state.queues
 
 -- the board's power, fuse, snapshot and stop-loss number are the state's
-pub record HasBoard (state : PlainState) (board : Memory) : Type 0 where
+pub record HasBoard (state : PlainState) (board : BoardMemory) : Type 0 where
   pub power : board.powered ≡ state.power
   pub fuse : board.fuse ≡ state.fuse
   pub snapped : is_some board.snapshot ≡ state.snapped
@@ -192,12 +192,12 @@ pub record HasBoard (state : PlainState) (board : Memory) : Type 0 where
   pub few_armed : length board.regs.group.items ≤ 3
 
 -- the counts of line writes and latches stand below their end
-pub record AreExact (board : Memory) : Type 0 where
+pub record AreExact (board : BoardMemory) : Type 0 where
   pub writes : board.writes < last_count
   pub latches : board.latches < last_count
 
 -- the steps are the line writes and latches since formatting ended
-pub record HasSteps (state : PlainState) (board : Memory) (start : Stat) : Type 0 where
+pub record HasSteps (state : PlainState) (board : BoardMemory) (start : Stat) : Type 0 where
   pub in_range : state.steps ≤ last_count
   pub reads : start.reads ≤ board.reads
   pub writes : start.writes ≤ board.writes

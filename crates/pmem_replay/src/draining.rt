@@ -1,14 +1,13 @@
 //! Waiting writes, given to the engine one by one.
 ghost use Rattle.std.specs.Prelude.{◌≡◌, ◌<◌, ◌≤◌, ◌*◌, false, length, slice_set, drop, None, IsSome, is_some, IfOk, OnOk, OnErr, if◌then◌else◌};
 ghost use Rattle.pmem_base.specs.declared.commands.Command.TheVariants as Do;
-ghost use Rattle.plain_model.specs.State.{queue_of};
+ghost use Rattle.pmem_base.specs.WaitingWrites.{queue_of, no_writes};
 ghost use Rattle.pmem_replay.specs.Replies.{with_marks_since};
 ghost use Rattle.pmem_replay.specs.Stepped.{HasStepped};
 ghost use Rattle.pmem_engine.specs.Outcomes.{is_sealed_by};
 ghost use Rattle.pmem_replay.specs.World.{IsWorld, setup_of_world};
 ghost use Rattle.pmem_replay.specs.Given.{HasGiven, HasMarkRoom, IsGave, IsDrainReply, IsEnded, IsNotPut, gave_steps, is_fault_shown, is_fault_cut, is_fault_down};
 ghost use Rattle.seal_ledger.specs.View.{ledger_of};
-ghost use Rattle.write_ports.specs.Queues.{no_writes};
 
 use crate::serving::exhibit_of;
 use crate::{World, calls};

@@ -1,7 +1,7 @@
 //! A board in memory, watched through calls that know it only as a board.
 ghost use Rattle.std.specs.Prelude.{◌≡◌, ◌<◌, ◌≤◌, ◌+◌, ℕ, true, Some, length, IfOk, OnOk, OnErr};
 ghost use Rattle.std.proofs.Props.{props};
-ghost use Rattle.board.specs.Memory.{Memory, new_memory};
+ghost use Rattle.board.specs.Memory.{BoardMemory, new_memory};
 ghost use Rattle.board.specs.MemBoard.{memory_of};
 ghost use Rattle.pmem_replay.specs.During.{AreInCount, FollowsOn, IsWatched, device_during, none_taken};
 
@@ -16,7 +16,7 @@ const STEP_LIMIT: u32 = 65_536;
 
 /// The board as a call finds it, and the reference to it.
 pub(crate) trait Start {
-    ghost start: { Memory };
+    ghost start: { BoardMemory };
 
     ghost name: { ℕ };
 }

@@ -6,11 +6,11 @@ use Rattle.std.proofs.lemmas.Option.{same_Some, none-some}
 use Rattle.std.proofs.lemmas.Bool.{true≢false, false≢true, cases_eq, cases_Bool}
 use Rattle.pmem_base.specs.declared.lines.Line.{Line}
 use Rattle.pmem_base.specs.declared.registers.Regs.{Regs}
-use Rattle.board.specs.Memory.{Memory, IsSpent, burnt_fuse, after_read, after_write, after_latch, after_cut}
+use Rattle.board.specs.Memory.{BoardMemory, IsSpent, burnt_fuse, after_read, after_write, after_latch, after_cut}
 use Rattle.pmem_replay.specs.During.{taken_of, step_limit, FollowsOn}
 
 -- a read
-follows-read : (start board : Memory) (writes latches cuts : ℕ) → board.reads ≤ (after_read board).reads
+follows-read : (start board : BoardMemory) (writes latches cuts : ℕ) → board.reads ≤ (after_read board).reads
     → FollowsOn start board (taken_of writes latches cuts) → FollowsOn start (after_read board) (taken_of writes latches cuts)
 follows-read start board writes latches cuts rises f = search (rules, arith)
 
@@ -28,7 +28,7 @@ one_less fuse (Some n) steps is lasts unspent more next =
     ]
 
 -- power lasts of a board that isn't spent
-lit : (board : Memory) → (IsSpent board → ⊥) → board.powered ≡ true
+lit : (board : BoardMemory) → (IsSpent board → ⊥) → board.powered ≡ true
 lit board lasts =
     elim (cases_Bool board.powered) [
       | inl on ↦ on
@@ -36,12 +36,12 @@ lit board lasts =
     ]
 
 -- a line write
-follows-written : (start board : Memory) (at : ℕ) (line : Line) (writes latches cuts : ℕ) → (IsSpent board → ⊥) → writes + latches < step_limit
+follows-written : (start board : BoardMemory) (at : ℕ) (line : Line) (writes latches cuts : ℕ) → (IsSpent board → ⊥) → writes + latches < step_limit
     → FollowsOn start board (taken_of writes latches cuts) → FollowsOn start (after_write board at line) (taken_of (writes + 1) latches cuts)
 follows-written start board at line writes latches cuts lasts few f = search (rules, arith, lit, one_less)
 
 -- a latch
-follows-latched : (start board : Memory) (regs : Regs) (writes latches cuts : ℕ) → (IsSpent board → ⊥) → writes + latches < step_limit
+follows-latched : (start board : BoardMemory) (regs : Regs) (writes latches cuts : ℕ) → (IsSpent board → ⊥) → writes + latches < step_limit
     → FollowsOn start board (taken_of writes latches cuts) → FollowsOn start (after_latch board regs) (taken_of writes (latches + 1) cuts)
 follows-latched start board regs writes latches cuts lasts few f = search (rules, arith, lit, one_less)
 
@@ -52,7 +52,7 @@ stood (Some n) steps is lasts =
     ap (λ (k : ℕ). Some k) (omega (arith, lasts, same_Some 0 (n - steps) is))
 
 -- a cut
-follows-cut : (start board : Memory) (writes latches cuts now : ℕ) → IsSpent board
+follows-cut : (start board : BoardMemory) (writes latches cuts now : ℕ) → IsSpent board
     → FollowsOn start board (taken_of writes latches cuts) → FollowsOn start (after_cut board) (taken_of writes latches now)
 follows-cut start board writes latches cuts now spent f =
     record {
@@ -78,7 +78,7 @@ follows-cut start board writes latches cuts now spent f =
     }
 
 -- the limit
-pub follows-limit : (start board new : Memory) (writes latches cuts now : ℕ) → step_limit ≤ writes + latches
+pub follows-limit : (start board new : BoardMemory) (writes latches cuts now : ℕ) → step_limit ≤ writes + latches
     → new ≡ record board { powered = false; fuse = None }
     → FollowsOn start board (taken_of writes latches cuts) → FollowsOn start new (taken_of writes latches now)
 follows-limit start board new writes latches cuts now many is f =
@@ -98,24 +98,24 @@ follows-limit start board new writes latches cuts now many is f =
 
 -- ---- by what the board answered
 
-pub read-ok : (start board new : Memory) (writes latches cuts : ℕ) → new ≡ after_read board → board.reads ≤ new.reads
+pub read-ok : (start board new : BoardMemory) (writes latches cuts : ℕ) → new ≡ after_read board → board.reads ≤ new.reads
     → FollowsOn start board (taken_of writes latches cuts) → FollowsOn start new (taken_of writes latches cuts)
 read-ok start board new writes latches cuts is rises f =
     subst (λ m. FollowsOn start m (taken_of writes latches cuts)) (sym is)
-    (follows-read start board writes latches cuts (subst (λ (m : Memory). board.reads ≤ m.reads) is rises) f)
+    (follows-read start board writes latches cuts (subst (λ (m : BoardMemory). board.reads ≤ m.reads) is rises) f)
 
-pub cut-over : (start board new : Memory) (writes latches cuts now : ℕ) → new ≡ after_cut board → IsSpent board
+pub cut-over : (start board new : BoardMemory) (writes latches cuts now : ℕ) → new ≡ after_cut board → IsSpent board
     → FollowsOn start board (taken_of writes latches cuts) → FollowsOn start new (taken_of writes latches now)
 cut-over start board new writes latches cuts now is spent f =
     subst (λ m. FollowsOn start m (taken_of writes latches now)) (sym is) (follows-cut start board writes latches cuts now spent f)
 
-pub write-ok : (start board new : Memory) (at : ℕ) (line : Line) (writes latches cuts : ℕ) → new ≡ after_write board at line → (IsSpent board → ⊥)
+pub write-ok : (start board new : BoardMemory) (at : ℕ) (line : Line) (writes latches cuts : ℕ) → new ≡ after_write board at line → (IsSpent board → ⊥)
     → writes + latches < step_limit
     → FollowsOn start board (taken_of writes latches cuts) → FollowsOn start new (taken_of (writes + 1) latches cuts)
 write-ok start board new at line writes latches cuts is lasts few f =
     subst (λ m. FollowsOn start m (taken_of (writes + 1) latches cuts)) (sym is) (follows-written start board at line writes latches cuts lasts few f)
 
-pub latch-ok : (start board new : Memory) (regs : Regs) (writes latches cuts : ℕ) → new ≡ after_latch board regs → (IsSpent board → ⊥)
+pub latch-ok : (start board new : BoardMemory) (regs : Regs) (writes latches cuts : ℕ) → new ≡ after_latch board regs → (IsSpent board → ⊥)
     → writes + latches < step_limit
     → FollowsOn start board (taken_of writes latches cuts) → FollowsOn start new (taken_of writes (latches + 1) cuts)
 latch-ok start board new regs writes latches cuts is lasts few f =

@@ -8,13 +8,14 @@ use Rattle.pmem_base.specs.declared.answers.Answer.{Answer}
 use Rattle.pmem_base.specs.declared.answers.Answer.TheVariants as Say
 use Rattle.pmem_base.specs.Shape.{Shape}
 use Rattle.pmem_base.specs.Layout as layout
+use Rattle.pmem_base.specs.WaitingWrites.{no_writes}
 use Rattle.suite.specs.Setup.{Setup}
-use Rattle.plain_model.specs.State.{PlainState, no_writes, with_flag}
+use Rattle.plain_model.specs.State.{PlainState, with_flag}
 use Rattle.plain_model.specs.After.{after_clean, state_after}
 use Rattle.plain_model.specs.Answers.{decided_answer}
 use Rattle.pmem_engine.specs.declared.fault.Fault.{Fault}
 use Rattle.pmem_engine.specs.declared.fault.Fault.TheVariants as Fail
-use Rattle.pmem_engine.specs.Outcomes.{going, HasDone}
+use Rattle.pmem_engine.specs.Outcomes.{going, OneLossEffect}
 use Rattle.pmem_engine.specs.Calls.{HasFlushed}
 use Rattle.pmem_replay.specs.Flagged.{Dirtying, HasDirtyingOf, with_dirtying}
 use Rattle.pmem_replay.specs.World.{WorldState, WorldParts, IsOn, state_in, world_of}
@@ -55,7 +56,7 @@ module _ (s : EngineCall) where
   few : steps_in s.taken < 2 ^ 64
   few = few_steps s.parts.board s.board s.taken s.served.watched
 
-  state : (dirtying : Dirtying) → HasDone setup going [] (parts_in old s.engine none_taken) (parts_in (world_of setup (flagged s.parts.dirtying)) s.after s.taken)
+  state : (dirtying : Dirtying) → OneLossEffect setup going [] (parts_in old s.engine none_taken) (parts_in (world_of setup (flagged s.parts.dirtying)) s.after s.taken)
       → (world_of setup (flagged dirtying)).state ≡ with_dirtying (counted_state (state_in setup s.parts) (steps_in s.taken)) dirtying
   state dirtying done =
       ap (λ (st : PlainState). with_dirtying st dirtying)

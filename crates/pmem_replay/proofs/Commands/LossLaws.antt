@@ -9,7 +9,7 @@ use Rattle.pmem_base.specs.declared.commands.Command.TheVariants as Do
 use Rattle.pmem_base.specs.declared.answers.Answer.TheVariants as Say
 use Rattle.bonsai_tree.specs.Positions.{counter_position}
 use Rattle.meta_cache.specs.Banks.{IsBanksOf}
-use Rattle.meta_path.specs.Blocks.{dirty_in_bank}
+use Rattle.meta_path.specs.Blocks.{bank_dirty_count}
 use Rattle.suite.specs.Setup.{Setup}
 use Rattle.plain_model.specs.State.{PlainState}
 use Rattle.plain_model.specs.After.{steps_with}
@@ -48,7 +48,7 @@ module _ (setup : Setup) (old new : WorldState) (engine after : EngineState) (ta
   on_now = on_in setup old engine call.world call.was_on
 
   abbrev dirty_now : ℕ
-  dirty_now = dirty_in_bank setup.shape engine.cache setup.shape.levels
+  dirty_now = bank_dirty_count setup.shape engine.cache setup.shape.levels
 
   not_same : (n == old.board.regs.loss) ≡ false
   not_same = ne_eqb n old.board.regs.loss (λ same. other (same ∙ call.world.board.loss))

@@ -15,20 +15,20 @@ use Rattle.pmem_base.specs.Marks.{last_seal}
 use Rattle.pmem_base.specs.Layout as layout
 use Rattle.pmem_base.specs.Layout.{page_of}
 use Rattle.pmem_base.specs.Lines.{line_at}
+use Rattle.pmem_base.specs.WaitingWrites.{queue_of, writes_to, put_writes}
 use Rattle.meta_path.specs.Blocks.{dirty_count}
 use Rattle.suite.specs.Setup.{Setup}
-use Rattle.plain_model.specs.State.{is_flagged, queue_of}
-use Rattle.plain_model.specs.Answers.{writes_to, put_writes}
+use Rattle.plain_model.specs.State.{is_flagged}
 use Rattle.plain_model.specs.Legal.{IsRefusalCaused}
 use Rattle.plain_model.specs.Shown.{IsShown, CanBeRefused}
 use Rattle.plain_model.proofs.Views.{counter_at-last}
-use Rattle.pmem_engine.proofs.TrueLines.{true_line-is}
+use Rattle.pmem_engine.proofs.Laws.TrueLines.{true_line-is}
 use Rattle.plain_model.specs.Bounds.{path_length, dirty_bound}
 use Rattle.pmem_engine.specs.declared.fault.Fault.{Fault}
 use Rattle.pmem_engine.specs.declared.fault.Fault.TheVariants as Fail
 use Rattle.pmem_engine.specs.Engine.{EngineState}
 use Rattle.pmem_engine.specs.Invariants.{IsSealStored}
-use Rattle.pmem_engine.specs.Outcomes.{going, outcome_of, HasDone, KeepsPlaces}
+use Rattle.pmem_engine.specs.Outcomes.{going, outcome_of, OneLossEffect, KeepsPlaces}
 use Rattle.pmem_engine.specs.Faults.{IsClashShown, IsForgedShown}
 use Rattle.pmem_engine.specs.Calls.{HasReadLine}
 use Rattle.pmem_replay.specs.World.{WorldState, IsOn, view_in, lines_in}
@@ -68,7 +68,7 @@ module _ (setup : Setup) (old new : WorldState) (engine after : EngineState) (ta
   read_powered : (answer : Result Line Fault) → outcome_of answer ≡ going
       → HasReadLine setup at (parts_in old engine none_taken) (parts_in new after taken) answer → new.board.powered ≡ true
   read_powered answer goes read =
-      let done = subst (λ o. HasDone setup o [] (parts_in old engine none_taken) (parts_in new after taken)) goes (read.done on_now.trusted.not_down) in
+      let done = subst (λ o. OneLossEffect setup o [] (parts_in old engine none_taken) (parts_in new after taken)) goes (read.done on_now.trusted.not_down) in
       done.gone.power.1 (call.world.board.power ∙ on_now.powered)
 
   -- ---- a line

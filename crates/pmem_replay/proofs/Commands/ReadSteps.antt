@@ -14,15 +14,15 @@ use Rattle.pmem_base.specs.Layout as layout
 use Rattle.pmem_base.specs.Layout.{page_of}
 use Rattle.pmem_base.specs.Lines.{IsLine}
 use Rattle.pmem_base.specs.Ranges.{IsAnswer, IsExhibitValue}
+use Rattle.pmem_base.specs.WaitingWrites.{queue_of, no_writes, writes_to, put_writes}
 use Rattle.commit_regs.specs.Groups.{redone}
 use Rattle.seal_ledger.specs.Ledger.{IsMark}
 use Rattle.suite.specs.Setup.{Setup}
-use Rattle.plain_model.specs.State.{queue_of, no_writes}
 use Rattle.plain_model.specs.After.{state_after, steps_of, is_cut}
-use Rattle.plain_model.specs.Answers.{decided_answer, is_shown, writes_to, put_writes, is_covered}
+use Rattle.plain_model.specs.Answers.{decided_answer, is_shown, is_covered}
 use Rattle.pmem_engine.specs.declared.fault.Fault.{Fault}
 use Rattle.pmem_engine.specs.declared.fault.Fault.TheVariants as Fail
-use Rattle.pmem_engine.specs.Outcomes.{going, outcome_of, HasDone}
+use Rattle.pmem_engine.specs.Outcomes.{going, outcome_of, OneLossEffect}
 use Rattle.pmem_engine.specs.Invariants.{IsTrusted, IsSealStored}
 use Rattle.pmem_engine.specs.Calls.{HasReadLine}
 use Rattle.pmem_replay.specs.World.{WorldState, WorldParts, IsOn, state_in, world_of}
@@ -71,8 +71,8 @@ module _ (s : EngineCall) (port at : ℕ) (within : at < layout.data_lines s.geo
   -- ---- a call that goes on
 
   module _ (answer : Result Line Fault) (read : Has answer) (goes : outcome_of answer ≡ going) where
-    done : HasDone setup going [] (parts_in old s.engine none_taken) (parts_in on_new s.after s.taken)
-    done = subst (λ o. HasDone setup o [] (parts_in old s.engine none_taken) (parts_in on_new s.after s.taken)) goes (read.done on_now.trusted.not_down)
+    done : OneLossEffect setup going [] (parts_in old s.engine none_taken) (parts_in on_new s.after s.taken)
+    done = subst (λ o. OneLossEffect setup o [] (parts_in old s.engine none_taken) (parts_in on_new s.after s.taken)) goes (read.done on_now.trusted.not_down)
 
     same_marks : s.ledger.marks ≡ s.parts.ledger.marks
     same_marks = done.gone.marks ∙ append-nil s.parts.ledger.marks

@@ -25,7 +25,7 @@ use Rattle.plain_model.specs.Bounds.{can_be_dirty}
 use Rattle.pmem_engine.specs.declared.fault.Fault.{Fault}
 use Rattle.pmem_engine.specs.declared.fault.Fault.TheVariants as Fail
 use Rattle.pmem_engine.specs.Engine.{EngineState}
-use Rattle.pmem_engine.specs.Outcomes.{going, shown, is_sealed_by, HasDone, KeepsPlaces}
+use Rattle.pmem_engine.specs.Outcomes.{going, shown, is_sealed_by, OneLossEffect, KeepsPlaces}
 use Rattle.pmem_engine.specs.Calls.{HasTurned}
 use Rattle.pmem_replay.specs.World.{WorldState, IsMemoryOf, HasFlags, HasQueues, IsOn, IsWorld, view_in, lines_in}
 use Rattle.pmem_replay.specs.declared.taken.Taken.{Taken}
@@ -81,7 +81,7 @@ module _ (setup : Setup) (old new : WorldState) (engine after : EngineState) (ta
     idle-world state there whole_cache =
         let zero = left_alone-steps setup old new engine after taken (turn.counts on_now.trusted.not_down) in
         quiet-going setup old new engine after taken call
-        (subst (λ made. HasDone setup going made (parts_in old engine none_taken) (parts_in new after taken)) idle-made
+        (subst (λ made. OneLossEffect setup going made (parts_in old engine none_taken) (parts_in new after taken)) idle-made
         (turn.done on_now.trusted.not_down))
         there whole_cache
         (subst (λ n. new.state ≡ counted_state old.state n) (sym zero) state)
@@ -158,9 +158,9 @@ module _ (setup : Setup) (old new : WorldState) (engine after : EngineState) (ta
     refused_made : turn.made ≡ []
     refused_made = (turn.marks on_now.trusted.not_down on_now.trusted old.state.memory call.world.memory.each).0
 
-    refused_done : HasDone setup going [] (parts_in old engine none_taken) (parts_in new after taken)
+    refused_done : OneLossEffect setup going [] (parts_in old engine none_taken) (parts_in new after taken)
     refused_done =
-        subst (λ made. HasDone setup going made (parts_in old engine none_taken) (parts_in new after taken)) refused_made
+        subst (λ made. OneLossEffect setup going made (parts_in old engine none_taken) (parts_in new after taken)) refused_made
         (turn.done on_now.trusted.not_down)
 
     pub refused-good : IsGood setup old Do.Turn (without_marks (Say.Refused None (Place.Line b) (steps_in taken)))
@@ -269,7 +269,7 @@ module _ (setup : Setup) (old new : WorldState) (engine after : EngineState) (ta
         → IsGood setup old Do.Turn (without_marks (Say.Shown exhibit))
     shown-good places =
         let marks_of = turn.marks on_now.trusted.not_down on_now.trusted old.state.memory call.world.memory.each in
-        let done = subst (λ made. HasDone setup shown made (parts_in old engine none_taken) (parts_in new after taken)) shown-made
+        let done = subst (λ made. OneLossEffect setup shown made (parts_in old engine none_taken) (parts_in new after taken)) shown-made
         (turn.done on_now.trusted.not_down) in
         let found = turn.answered on_now.trusted.not_down on_now.trusted in
         let forged = found.forged in

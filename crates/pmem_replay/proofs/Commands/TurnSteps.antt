@@ -11,14 +11,14 @@ use Rattle.pmem_base.specs.declared.answers.Mark.{Mark}
 use Rattle.pmem_base.specs.declared.answers.Place.{Place}
 use Rattle.pmem_base.specs.Ranges.{IsExhibitValue}
 use Rattle.pmem_base.specs.declared.answers.Answer.{Answer}
+use Rattle.pmem_base.specs.WaitingWrites.{no_writes}
 use Rattle.seal_ledger.specs.Ledger.{IsMark}
 use Rattle.suite.specs.Setup.{Setup}
-use Rattle.plain_model.specs.State.{no_writes}
 use Rattle.plain_model.specs.After.{after_marks}
 use Rattle.plain_model.specs.Answers.{decided_answer}
 use Rattle.pmem_engine.specs.declared.fault.Fault.{Fault}
 use Rattle.pmem_engine.specs.declared.fault.Fault.TheVariants as Fail
-use Rattle.pmem_engine.specs.Outcomes.{going, HasDone, KeepsPlaces}
+use Rattle.pmem_engine.specs.Outcomes.{going, OneLossEffect, KeepsPlaces}
 use Rattle.pmem_engine.specs.Calls.{HasTurned}
 use Rattle.pmem_replay.specs.World.{WorldState, WorldParts, IsOn, plain_memory, world_of, view_in}
 use Rattle.pmem_replay.specs.During.{none_taken, steps_in, parts_in}
@@ -72,7 +72,7 @@ module _ (s : EngineCall) where
         each = turn.memory_kept on_now.trusted (plain_memory setup s.parts.ledger.marks) s.served.going.whole.memory.each;
       })
 
-  state : (answer : Result (Option (ℕ × ℕ)) Fault) (turn : Has answer) → HasDone setup going turn.made (parts_in old s.engine none_taken) (parts_in on_new s.after s.taken)
+  state : (answer : Result (Option (ℕ × ℕ)) Fault) (turn : Has answer) → OneLossEffect setup going turn.made (parts_in old s.engine none_taken) (parts_in on_new s.after s.taken)
       → on_new.state ≡ counted_state old.state (steps_in s.taken)
   state answer turn done =
       state_called setup s.parts s.keys s.board s.ledger (Some s.after) s.tags s.digests s.steps s.engine s.taken

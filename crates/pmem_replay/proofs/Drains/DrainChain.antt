@@ -12,9 +12,10 @@ use Rattle.pmem_base.specs.declared.answers.Mark.{Mark}
 use Rattle.pmem_base.specs.Shape.{Shape}
 use Rattle.pmem_base.specs.declared.lines.Line.{Line}
 use Rattle.pmem_base.specs.Ranges.{IsPosted}
+use Rattle.pmem_base.specs.WaitingWrites.{queue_of}
 use Rattle.meta_cache.specs.Banks.{IsBanksOf}
 use Rattle.suite.specs.Setup.{Setup}
-use Rattle.plain_model.specs.State.{PlainState, queue_of, is_flagged}
+use Rattle.plain_model.specs.State.{PlainState, is_flagged}
 use Rattle.plain_model.specs.View.{DeviceView, start_view, view_of}
 use Rattle.plain_model.proofs.Views.{view_after_marks-append}
 use Rattle.plain_model.specs.After.{after_front, after_drain, after_drains, steps_with}

@@ -8,8 +8,9 @@ use Rattle.std.proofs.lemmas.List.Sums.{sum_by-append, count_by-le-length}
 use Rattle.pmem_base.specs.declared.commands.Posted.{Posted}
 use Rattle.pmem_base.specs.declared.answers.Mark.{Mark}
 use Rattle.pmem_base.specs.Shape.{Shape}
+use Rattle.pmem_base.specs.WaitingWrites.{queue_of}
 use Rattle.suite.specs.Formulas.{Formulas}
-use Rattle.plain_model.specs.State.{PlainState, queue_of, memory_with}
+use Rattle.plain_model.specs.State.{PlainState, memory_with}
 use Rattle.plain_model.specs.After.{after_front, after_drain, after_drains}
 use Rattle.plain_model.specs.View.{view_after_marks}
 use Rattle.plain_model.proofs.Views.{view_after_marks-append}

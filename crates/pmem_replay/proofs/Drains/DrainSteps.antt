@@ -44,7 +44,7 @@ use Rattle.pmem_replay.proofs.Steps.WorldsAfterCalls.{on_in, IsCall}
 use Rattle.pmem_replay.proofs.Steps.FaultCauses.{on_path-within, forged_unstored, shown_uncut}
 use Rattle.pmem_replay.proofs.Marks.AskedMarks.{refused_within}
 use Rattle.pmem_replay.proofs.Marks.OpenPages.{whole_pages}
-use Rattle.pmem_engine.proofs.WriteParts.{last_seal-unsealed}
+use Rattle.pmem_engine.proofs.PostedWrites.WriteParts.{last_seal-unsealed}
 use Rattle.pmem_replay.proofs.Drains.DrainChain.{IsDrainedTo, drained_none, drained-more}
 use Rattle.pmem_replay.proofs.Drains.DrainedLaws.{drained-good, drained-after}
 use Rattle.pmem_replay.proofs.Steps.GoodReplies.{IsGood}

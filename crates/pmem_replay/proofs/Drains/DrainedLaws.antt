@@ -4,8 +4,8 @@ use Rattle.std.proofs.Common.{ℕ, ◌≡◌, List, length, sym, ap₂, ◌∙�
 use Rattle.pmem_base.specs.declared.commands.Command.TheVariants as Do
 use Rattle.pmem_base.specs.declared.answers.Answer.TheVariants as Say
 use Rattle.pmem_base.specs.declared.answers.Mark.{Mark}
+use Rattle.pmem_base.specs.WaitingWrites.{queue_of}
 use Rattle.suite.specs.Setup.{Setup}
-use Rattle.plain_model.specs.State.{queue_of}
 use Rattle.plain_model.specs.After.{state_after, after_drains, after_marks}
 use Rattle.pmem_replay.specs.World.{WorldState}
 use Rattle.pmem_replay.proofs.Marks.AfterMarks.{with_flags, touched_after, flushed_after, after_marks-is}

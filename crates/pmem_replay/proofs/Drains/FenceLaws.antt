@@ -11,10 +11,11 @@ use Rattle.pmem_base.specs.declared.answers.Answer.{Answer}
 use Rattle.pmem_base.specs.declared.answers.Answer.TheVariants as Say
 use Rattle.pmem_base.specs.declared.answers.Mark.{Mark}
 use Rattle.pmem_base.specs.declared.answers.Place.{Place}
+use Rattle.pmem_base.specs.WaitingWrites.{queue_of}
 use Rattle.seal_ledger.specs.Ledger.{LedgerState}
 use Rattle.suite.specs.Formulas.{Formulas}
 use Rattle.suite.specs.Setup.{Setup}
-use Rattle.plain_model.specs.State.{PlainState, queue_of}
+use Rattle.plain_model.specs.State.{PlainState}
 use Rattle.plain_model.specs.Asked.{moment_of, marks_of_write}
 use Rattle.plain_model.specs.Answers.{decided_answer}
 use Rattle.pmem_engine.specs.Engine.{EngineState}

@@ -14,9 +14,10 @@ use Rattle.pmem_base.specs.Layout as layout
 use Rattle.pmem_base.specs.declared.answers.Exhibit.{Exhibit}
 use Rattle.pmem_base.specs.Marks.{last_seal}
 use Rattle.pmem_base.specs.Ranges.{IsAnswer, IsExhibitValue}
+use Rattle.pmem_base.specs.WaitingWrites.{queue_of}
 use Rattle.meta_cache.specs.Banks.{IsBanksOf}
 use Rattle.suite.specs.Setup.{Setup}
-use Rattle.plain_model.specs.State.{PlainState, queue_of}
+use Rattle.plain_model.specs.State.{PlainState}
 use Rattle.plain_model.specs.Asked.{moment_of, marks_of_write}
 use Rattle.plain_model.specs.After.{state_after, after_marks, steps_of, is_cut}
 use Rattle.plain_model.specs.Answers.{decided_answer, is_shown}
@@ -34,7 +35,7 @@ use Rattle.pmem_replay.proofs.Steps.WorldsAfterCalls.{on_in, IsCall}
 use Rattle.pmem_replay.proofs.Steps.FaultCauses.{on_path-within, forged_unstored, shown_uncut}
 use Rattle.pmem_replay.proofs.Marks.AskedMarks.{refused_within}
 use Rattle.pmem_replay.proofs.Marks.OpenPages.{whole_pages}
-use Rattle.pmem_engine.proofs.WriteParts.{last_seal-unsealed}
+use Rattle.pmem_engine.proofs.PostedWrites.WriteParts.{last_seal-unsealed}
 use Rattle.pmem_replay.proofs.Drains.DrainChain.{IsDrainedTo, drained-more}
 use Rattle.pmem_replay.proofs.Drains.DrainSteps.{given_drained}
 use Rattle.pmem_replay.proofs.Steps.ReservedRoom.{same_room}

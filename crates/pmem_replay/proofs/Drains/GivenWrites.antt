@@ -11,16 +11,17 @@ use Rattle.pmem_base.specs.declared.commands.Command.TheVariants as Do
 use Rattle.pmem_base.specs.declared.answers.Mark.{Mark}
 use Rattle.pmem_base.specs.declared.answers.Exhibit.{Exhibit}
 use Rattle.pmem_base.specs.Layout as layout
+use Rattle.pmem_base.specs.WaitingWrites.{queue_of, no_writes}
 use Rattle.meta_cache.specs.Banks.{IsBanksOf}
 use Rattle.seal_ledger.specs.Ledger.{IsMark}
 use Rattle.write_ports.specs.Queues as ports
 use Rattle.suite.specs.Setup.{Setup}
-use Rattle.plain_model.specs.State.{PlainState, queue_of, memory_with, no_writes, without_flag}
+use Rattle.plain_model.specs.State.{PlainState, memory_with, without_flag}
 use Rattle.plain_model.specs.After.{after_marks}
 use Rattle.pmem_engine.specs.declared.fault.Fault.{Fault}
 use Rattle.pmem_engine.specs.declared.fault.Fault.TheVariants as Fail
 use Rattle.pmem_engine.specs.Engine.{EngineState}
-use Rattle.pmem_engine.specs.Outcomes.{going, cut, outcome_of, is_sealed_by, HasDone, LeavesTrusted}
+use Rattle.pmem_engine.specs.Outcomes.{going, cut_short, outcome_of, is_sealed_by, OneLossEffect, LeavesTrusted}
 use Rattle.pmem_engine.specs.Calls.{HasWrittenLine}
 use Rattle.pmem_replay.specs.Flagged.{Tampering, Dirtying, with_tampering, with_dirtying}
 use Rattle.pmem_replay.specs.World.{WorldState, WorldParts, IsOn, IsWorld, plain_memory, state_in, world_of}
@@ -86,8 +87,8 @@ module _ (s : EngineCall) (port : ℕ) (small : port < 8) (write : Posted) (late
         ∙ ap (λ u. after_marks setup.shape u written.made) before
 
     module _ (goes : outcome_of answer ≡ going) where
-      done : HasDone setup going written.made (parts_in old s.engine none_taken) (parts_in new s.after s.taken)
-      done = subst (λ o. HasDone setup o written.made (parts_in old s.engine none_taken) (parts_in new s.after s.taken)) goes (written.done on_now.trusted.not_down)
+      done : OneLossEffect setup going written.made (parts_in old s.engine none_taken) (parts_in new s.after s.taken)
+      done = subst (λ o. OneLossEffect setup o written.made (parts_in old s.engine none_taken) (parts_in new s.after s.taken)) goes (written.done on_now.trusted.not_down)
 
       lit : s.board.powered ≡ true
       lit = done.gone.power.1 (s.served.going.whole.board.power ∙ on_now.powered)
@@ -129,9 +130,9 @@ module _ (s : EngineCall) (port : ℕ) (small : port < 8) (write : Posted) (late
           (ap (λ (t : Tampering). with_tampering (record (counted_state (state_in setup s.parts) (steps_in s.taken)) { queues = queues }) t) same
           ∙ ap (λ (q : List (List Posted)). record (counted_state (state_in setup s.parts) (steps_in s.taken)) { queues = q }) moves)
 
-    module _ (ends : outcome_of answer ≡ cut) where
-      ended : HasDone setup cut written.made (parts_in old s.engine none_taken) (parts_in new s.after s.taken)
-      ended = subst (λ o. HasDone setup o written.made (parts_in old s.engine none_taken) (parts_in new s.after s.taken)) ends (written.done on_now.trusted.not_down)
+    module _ (ends : outcome_of answer ≡ cut_short) where
+      ended : OneLossEffect setup cut_short written.made (parts_in old s.engine none_taken) (parts_in new s.after s.taken)
+      ended = subst (λ o. OneLossEffect setup o written.made (parts_in old s.engine none_taken) (parts_in new s.after s.taken)) ends (written.done on_now.trusted.not_down)
 
       pub state_kept : is_sealed_by written.made write.at ≡ true → Noted → tampering ≡ healed → queues ≡ no_writes
           → new.state ≡ after_marks setup.shape (given_state old.state port write later (steps_in s.taken) true false) written.made
@@ -172,7 +173,7 @@ module _ (s : EngineCall) (port : ℕ) (small : port < 8) (write : Posted) (late
         dropped-world setup old new s.engine s.after s.taken call port write later small waits answer written goes sealed
         (as_flags (given_state old.state port write later (steps_in s.taken) false true) state) there whole_cache
 
-    pub world_off : (put : Bool) → outcome_of answer ≡ cut → is_sealed_by written.made write.at ≡ put
+    pub world_off : (put : Bool) → outcome_of answer ≡ cut_short → is_sealed_by written.made write.at ≡ put
         → new.state ≡ after_marks setup.shape (given_state old.state port write later (steps_in s.taken) put false) written.made
         → e ≡ None → IsWorld setup new
     world_off true ends sealed state gone =
@@ -213,7 +214,7 @@ module _ (s : EngineCall) (port : ℕ) (small : port < 8) (write : Posted) (late
     on_state true goes sealed noted tampered moved = state_put goes sealed noted tampered moved
     on_state false goes sealed noted tampered moved = state_dropped goes sealed noted tampered moved
 
-    off_state : (put : Bool) → outcome_of answer ≡ cut → is_sealed_by written.made write.at ≡ put → Noted
+    off_state : (put : Bool) → outcome_of answer ≡ cut_short → is_sealed_by written.made write.at ≡ put → Noted
         → tampering ≡ (if put then healed else s.parts.tampering) → queues ≡ no_writes
         → new.state ≡ after_marks setup.shape (given_state old.state port write later (steps_in s.taken) put false) written.made
     off_state true ends sealed noted tampered moved = state_kept ends sealed noted tampered moved
@@ -234,7 +235,7 @@ module _ (s : EngineCall) (port : ℕ) (small : port < 8) (write : Posted) (late
           holds = world_on put goes sealed state there whole_cache;
         }
 
-    pub given_off : (put : Bool) (n : ℕ) → outcome_of answer ≡ cut → is_sealed_by written.made write.at ≡ put → n ≡ steps_in s.taken → Noted
+    pub given_off : (put : Bool) (n : ℕ) → outcome_of answer ≡ cut_short → is_sealed_by written.made write.at ≡ put → n ≡ steps_in s.taken → Noted
         → tampering ≡ (if put then healed else s.parts.tampering) → queues ≡ no_writes
         → e ≡ None → IsGiven setup old port n answer put false new
     given_off put n ends sealed counted noted tampered moved gone =
@@ -265,7 +266,7 @@ moved_as queues before port false is = none_wait queues is
 
 -- the answer goes on where it is no cut and no exhibit
 goes_on : (answer : Result Ctr Fault) → is_fault_shown answer ≡ false → is_fault_down answer ≡ false
-    → (outcome_of answer ≡ going) ⊎ (outcome_of answer ≡ cut)
+    → (outcome_of answer ≡ going) ⊎ (outcome_of answer ≡ cut_short)
 goes_on (Ok ctr) quiet up = inl refl
 goes_on (Err Fail.Cut) quiet up = inr refl
 goes_on (Err Fail.Down) quiet up = absurd (true≢false up)

@@ -16,7 +16,7 @@ use Rattle.pmem_engine.specs.Outcomes.{going, TakesAtMost}
 use Rattle.pmem_engine.specs.Calls.{TakesOfWrite, TakesSpent, write_bound}
 use Rattle.pmem_replay.specs.World.{WorldState, view_in}
 use Rattle.pmem_base.specs.declared.commands.Posted.{Posted}
-use Rattle.plain_model.specs.State.{queue_of}
+use Rattle.pmem_base.specs.WaitingWrites.{queue_of}
 use Rattle.plain_model.specs.Asked.{moment_of, marks_of_write, marks_of_writes}
 use Rattle.pmem_replay.proofs.Drains.DrainLists.{marks_of_writes-more, take-next}
 use Rattle.pmem_replay.proofs.Drains.DrainChain.{IsDrainedTo, IsNext}

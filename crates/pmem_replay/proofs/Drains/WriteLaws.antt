@@ -15,11 +15,12 @@ use Rattle.pmem_base.specs.Layout as layout
 use Rattle.pmem_base.specs.Layout.{page_of}
 use Rattle.pmem_base.specs.Lines.{line_at}
 use Rattle.pmem_base.specs.Marks.{last_seal}
+use Rattle.pmem_base.specs.WaitingWrites.{queue_of}
 use Rattle.bonsai_tree.specs.Positions.{is_on_path}
 use Rattle.meta_path.specs.Blocks.{dirty_count}
 use Rattle.suite.specs.Formulas.{cipher_of}
 use Rattle.suite.specs.Setup.{Setup}
-use Rattle.plain_model.specs.State.{PlainState, queue_of, is_flagged}
+use Rattle.plain_model.specs.State.{PlainState, is_flagged}
 use Rattle.plain_model.specs.View.{start_view, view_of, view_after_marks, counter_at, true_line}
 use Rattle.plain_model.proofs.Views.{view_after_marks-append}
 use Rattle.plain_model.specs.After.{after_drains}
@@ -30,14 +31,14 @@ use Rattle.plain_model.specs.Bounds.{writing_bound, path_length, spent_bound, di
 use Rattle.plain_model.specs.Fits.{IsStopped, IsSpentNext, IsPlaceInFlight}
 use Rattle.pmem_engine.specs.declared.fault.Fault.TheVariants as Fail
 use Rattle.pmem_engine.specs.Engine.{EngineState}
-use Rattle.pmem_engine.specs.Outcomes.{going, is_sealed_by, HasDone, KeepsPlaces}
+use Rattle.pmem_engine.specs.Outcomes.{going, is_sealed_by, OneLossEffect, KeepsPlaces}
 use Rattle.pmem_engine.specs.Faults.{IsClashShown}
 use Rattle.pmem_engine.specs.Calls.{HasWrittenLine, IsPartOf, IsRefusedLine, TakesOfWrite, write_bound, IsForgedInWrite}
-use Rattle.pmem_engine.proofs.TrueLines.{true_line-is}
+use Rattle.pmem_engine.proofs.Laws.TrueLines.{true_line-is}
 use Rattle.pmem_replay.specs.World.{WorldState, IsOn, IsWorld, view_in, lines_in}
 use Rattle.pmem_replay.specs.declared.taken.Taken.{Taken}
 use Rattle.pmem_replay.specs.During.{none_taken, parts_in, steps_in, step_limit}
-use Rattle.pmem_engine.proofs.WriteParts.{last_seal-unsealed}
+use Rattle.pmem_engine.proofs.PostedWrites.WriteParts.{last_seal-unsealed}
 use Rattle.pmem_replay.proofs.Marks.SealedLines.{counter_now}
 use Rattle.pmem_replay.proofs.Steps.WorldsAfterCalls.{on_in, IsCall, cut_at_fuse, within_fuse}
 use Rattle.pmem_replay.proofs.Steps.FaultCauses.{on_path-within, may_differ, fetched_before, stored_unspoiled, hurt_before, tag_unstored, forged_unstored, forged_other, zero_within, shown_uncut}
@@ -164,7 +165,7 @@ module _ (setup : Setup) (old mid new : WorldState) (command : Command) (d : Opt
     pub meta-good : IsGood setup old command (record { marks = made ++ written.made; answer = Say.Refused d (Place.Meta x) (spent + steps_in taken) })
     meta-good =
         let refused = written.answered on_mid.trusted.not_down on_mid.trusted mid.state.memory call.world.memory.each in
-        let done = subst (λ m. HasDone setup going m (parts_in mid engine none_taken) (parts_in new after taken)) meta-made (written.done on_mid.trusted.not_down) in
+        let done = subst (λ m. OneLossEffect setup going m (parts_in mid engine none_taken) (parts_in new after taken)) meta-made (written.done on_mid.trusted.not_down) in
         let powered = done.gone.power.1 (call.world.board.power ∙ on_mid.powered) in
         let in_tree = on_path-within setup.shape (page_of write.at) x (omega (arith, within)) refused.fetched.on_path in
         let other : refused.line ≢ line_at mid.ledger.truth x = λ same. refused.other_digest (ap (setup.formulas.digest_of x) same) in

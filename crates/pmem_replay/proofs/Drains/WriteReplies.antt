@@ -15,10 +15,11 @@ use Rattle.pmem_base.specs.declared.answers.Answer.{Answer}
 use Rattle.pmem_base.specs.declared.answers.Answer.TheVariants as Say
 use Rattle.suite.specs.Formulas.{Formulas}
 use Rattle.suite.specs.Setup.{Setup}
-use Rattle.plain_model.specs.State.{PlainState, queue_of}
+use Rattle.plain_model.specs.State.{PlainState}
 use Rattle.plain_model.specs.After.{after_front, after_drain, after_drains, after_drop, without_front, after_writes, after_command, after_steps, after_marks, after_power_loss, state_after}
 use Rattle.plain_model.specs.Asked.{Moment, moment_of}
 use Rattle.pmem_base.specs.declared.answers.Exhibit.{Exhibit}
+use Rattle.pmem_base.specs.WaitingWrites.{queue_of}
 use Rattle.plain_model.specs.Answers.{is_engine_answer}
 use Rattle.plain_model.specs.Legal.{front_of, state_at_turn, line_at_turn, port_of, IsLineOfRead}
 use Rattle.plain_model.specs.Bounds.{IsWriteWithin, IsWithinBounds}

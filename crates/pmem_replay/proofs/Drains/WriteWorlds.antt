@@ -9,17 +9,18 @@ use Rattle.pmem_base.specs.declared.commands.Posted.{Posted}
 use Rattle.pmem_base.specs.Layout as layout
 use Rattle.pmem_base.specs.Lines.{line_at}
 use Rattle.pmem_base.specs.Ranges.{IsPosted}
+use Rattle.pmem_base.specs.WaitingWrites.{put_write, queue_of, no_writes}
 use Rattle.pmem_base.proofs.ListLaws.{All-append_right}
 use Rattle.meta_cache.specs.Banks.{is_cached_dirty, IsBanksOf}
 use Rattle.seal_ledger.specs.Ledger.{IsMark}
 use Rattle.write_ports.specs.Queues.{IsQueue}
 use Rattle.suite.specs.Setup.{Setup}
-use Rattle.plain_model.specs.State.{PlainState, is_flagged, without_flag, memory_with, put_write, queue_of, no_writes}
+use Rattle.plain_model.specs.State.{PlainState, is_flagged, without_flag, memory_with}
 use Rattle.plain_model.specs.After.{steps_with}
 use Rattle.plain_model.specs.Bounds.{can_be_dirty}
 use Rattle.pmem_engine.specs.declared.fault.Fault.{Fault}
 use Rattle.pmem_engine.specs.Engine.{EngineState}
-use Rattle.pmem_engine.specs.Outcomes.{going, cut, outcome_of, is_sealed_by, HasDone}
+use Rattle.pmem_engine.specs.Outcomes.{going, cut_short, outcome_of, is_sealed_by, OneLossEffect}
 use Rattle.pmem_engine.specs.Calls.{HasWrittenLine, IsMemory}
 use Rattle.pmem_replay.specs.World.{WorldState, IsMemoryOf, HasFlags, HasQueues, IsOn, IsWorld, lines_in}
 use Rattle.pmem_replay.specs.declared.taken.Taken.{Taken}
@@ -224,9 +225,9 @@ module _ (setup : Setup) (old new : WorldState) (engine after : EngineState) (ta
         }
 
     module _ (goes : outcome_of answer ≡ going) where
-      going_done : HasDone setup going written.made (parts_in old engine none_taken) (parts_in new after taken)
+      going_done : OneLossEffect setup going written.made (parts_in old engine none_taken) (parts_in new after taken)
       going_done =
-          subst (λ o. HasDone setup o written.made (parts_in old engine none_taken) (parts_in new after taken)) goes
+          subst (λ o. OneLossEffect setup o written.made (parts_in old engine none_taken) (parts_in new after taken)) goes
           (written.done on_now.trusted.not_down)
 
       may_be_dirty : new.state.touched ≡ touched_now → new.state.flushed ≡ flushed_now
@@ -293,10 +294,10 @@ module _ (setup : Setup) (old new : WorldState) (engine after : EngineState) (ta
           whole_cache
           (may_be_dirty (ap (λ s. s.touched) state) (ap (λ s. s.flushed) state))
 
-    module _ (ends : outcome_of answer ≡ cut) where
-      cut_done : HasDone setup cut written.made (parts_in old engine none_taken) (parts_in new after taken)
+    module _ (ends : outcome_of answer ≡ cut_short) where
+      cut_done : OneLossEffect setup cut_short written.made (parts_in old engine none_taken) (parts_in new after taken)
       cut_done =
-          subst (λ o. HasDone setup o written.made (parts_in old engine none_taken) (parts_in new after taken)) ends
+          subst (λ o. OneLossEffect setup o written.made (parts_in old engine none_taken) (parts_in new after taken)) ends
           (written.done on_now.trusted.not_down)
 
       -- the write was kept in a cut

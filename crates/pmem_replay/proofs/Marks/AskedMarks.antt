@@ -15,9 +15,9 @@ use Rattle.pmem_base.specs.declared.answers.Mark.TheVariants.{Begin, Seal}
 use Rattle.pmem_base.specs.Shape.{Shape}
 use Rattle.pmem_base.specs.Layout.{pages, data_lines, page_of, index_in_page}
 use Rattle.pmem_base.specs.Lines.{line_at}
+use Rattle.pmem_base.specs.WaitingWrites.{put_write}
 use Rattle.pmem_base.proofs.ListLaws.{find_found, All-append_right}
 use Rattle.suite.specs.Formulas.{Formulas}
-use Rattle.plain_model.specs.State.{put_write}
 use Rattle.plain_model.specs.View.{DeviceView, OpenPage, counter_at, open_page, is_left, is_left_in}
 use Rattle.plain_model.specs.Asked.{Moment, seal_mark, next_major, reseal_mark, finishing_marks_of, page_to_finish, first_of, marks_of_write}
 use Rattle.pmem_engine.specs.Outcomes.{is_seal_of, is_sealed_by}

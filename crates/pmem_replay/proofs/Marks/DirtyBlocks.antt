@@ -12,7 +12,7 @@ use Rattle.bonsai_tree.specs.Positions.{level_of}
 use Rattle.meta_cache.specs.declared.slot.Slot.{Slot}
 use Rattle.meta_cache.specs.Banks.{Banks, set_of, set_index, is_cached_dirty, IsBanksOf}
 use Rattle.meta_cache.proofs.SlotLemmas.{stands_at, is_cached_dirty_from}
-use Rattle.meta_path.specs.Blocks.{dirty_in, dirty_in_bank, dirty_count}
+use Rattle.meta_path.specs.Blocks.{dirty_in, bank_dirty_count, dirty_count}
 use Rattle.plain_model.specs.State.{PlainState}
 use Rattle.plain_model.specs.Bounds.{can_be_dirty, dirty_bound}
 use Rattle.pmem_engine.specs.Invariants.{IsTrueSlot}
@@ -50,7 +50,7 @@ module _ (g : Shape) (cache : Banks) (state : PlainState) (accounted : AreAccoun
       ))
 
   -- the dirty blocks of a bank
-  pub bank_bound : (bank : ℕ) → dirty_in_bank g cache bank ≤ count_by (of_bank g state bank) (range_with_len 0 (meta_lines g))
+  pub bank_bound : (bank : ℕ) → bank_dirty_count g cache bank ≤ count_by (of_bank g state bank) (range_with_len 0 (meta_lines g))
   bank_bound bank =
       let sets =
       sum_below-le (λ set. dirty_in (set_of cache bank set))
@@ -63,12 +63,12 @@ module _ (g : Shape) (cache : Banks) (state : PlainState) (accounted : AreAccoun
   unfolding dirty_count
   dirty_count-le =
       let banks =
-      sum_below-le (dirty_in_bank g cache) (λ bank. count_by (of_bank g state bank) (range_with_len 0 (meta_lines g))) (g.levels + 1)
+      sum_below-le (bank_dirty_count g cache) (λ bank. count_by (of_bank g state bank) (range_with_len 0 (meta_lines g))) (g.levels + 1)
       (λ bank small. bank_bound bank) in
       omega (arith, banks, classes_bound (can_be_dirty g state) level_of (range_with_len 0 (meta_lines g)) (g.levels + 1))
 
   -- so the dirty counter blocks are no more than may be dirty, and no more than the bank has slots
-  pub dirty_blocks-le : (bank : ℕ) → dirty_in_bank g cache bank ≤ dirty_bound g state
+  pub dirty_blocks-le : (bank : ℕ) → bank_dirty_count g cache bank ≤ dirty_bound g state
   dirty_blocks-le bank =
       omega (
         arith,
@@ -85,7 +85,7 @@ module _ (g : Shape) (cache : Banks) (state : PlainState) (accounted : AreAccoun
       (λ k d within dirty. (refl, (accounted.whole_cache.in_place bank set k d within).its_way)) in
       omega (arith, ways, count_by-le-length (λ (way : ℕ). true) (range_with_len 0 g.ways), length-range_with_len 0 g.ways)
 
-  pub dirty_slots-le : (bank : ℕ) → dirty_in_bank g cache bank ≤ slots g
+  pub dirty_slots-le : (bank : ℕ) → bank_dirty_count g cache bank ≤ slots g
   dirty_slots-le bank =
       let sets = sum_below-le (λ set. dirty_in (set_of cache bank set)) (λ set. g.ways) g.sets (λ set small. set_slots bank set) in
       omega (arith, sets, sum_below-same g.ways g.sets)

@@ -19,7 +19,7 @@ use Rattle.suite.specs.Setup.{Setup}
 use Rattle.plain_model.specs.View.{start_view, view_of, view_after_marks, counter_at, true_lines, plain_of_seal}
 use Rattle.plain_model.proofs.Views.{view_after_marks-append, counter_at-last}
 use Rattle.pmem_engine.specs.Invariants.{IsAnchored}
-use Rattle.pmem_engine.proofs.TrueLines.{true_lines-are}
+use Rattle.pmem_engine.proofs.Laws.TrueLines.{true_lines-are}
 use Rattle.pmem_replay.specs.World.{IsMemoryOf}
 
 -- the cipher of a line's last seal is memory's line under the seal's counter

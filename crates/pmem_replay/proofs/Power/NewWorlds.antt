@@ -11,6 +11,7 @@ use Rattle.pmem_base.specs.declared.answers.Stat.{Stat}
 use Rattle.pmem_base.specs.Shape.{IsShape}
 use Rattle.pmem_base.specs.Layout as layout
 use Rattle.pmem_base.specs.Lines.{IsLine, line_at, zero_line}
+use Rattle.pmem_base.specs.WaitingWrites.{no_writes}
 use Rattle.bonsai_tree.specs.Positions.{level_of}
 use Rattle.board.specs.Device.{Device}
 use Rattle.board.specs.Memory.{device_of, new_memory}
@@ -18,7 +19,7 @@ use Rattle.commit_regs.specs.Groups.{redone}
 use Rattle.meta_cache.specs.Banks.{IsBanksOf, is_cached_dirty}
 use Rattle.suite.specs.Formulas.{AreInRange}
 use Rattle.suite.specs.Setup.{Setup}
-use Rattle.plain_model.specs.State.{no_flags, no_writes, is_flagged, start_state}
+use Rattle.plain_model.specs.State.{no_flags, is_flagged, start_state}
 use Rattle.plain_model.specs.View.{OpenPage, start_view, view_of}
 use Rattle.plain_model.proofs.Views.{length-view_of, counter_at-last}
 use Rattle.pmem_engine.specs.Engine.{EngineState}

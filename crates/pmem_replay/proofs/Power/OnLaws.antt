@@ -14,18 +14,19 @@ use Rattle.pmem_base.specs.Shape.{Shape, IsShape}
 use Rattle.pmem_base.specs.Layout as layout
 use Rattle.pmem_base.specs.Lines.{IsLine, line_at}
 use Rattle.pmem_base.specs.Registers.{without_group}
+use Rattle.pmem_base.specs.WaitingWrites.{no_writes}
 use Rattle.board.specs.Device.{AreLinesOf}
-use Rattle.board.specs.Memory.{Memory}
+use Rattle.board.specs.Memory.{BoardMemory}
 use Rattle.commit_regs.specs.Groups.{redone, finishing_latches}
 use Rattle.meta_cache.specs.Banks.{set_index, IsBanksOf, is_cached_dirty}
 use Rattle.meta_cache.specs.State.{empty_banks}
 use Rattle.suite.specs.Setup.{Setup}
-use Rattle.plain_model.specs.State.{PlainState, is_flagged, has_flags, no_flags, no_writes}
+use Rattle.plain_model.specs.State.{PlainState, is_flagged, has_flags, no_flags}
 use Rattle.plain_model.specs.After.{steps_with}
 use Rattle.plain_model.specs.Bounds.{recovery_bound, path_length}
 use Rattle.pmem_engine.specs.Engine.{EngineState}
 use Rattle.pmem_engine.specs.Invariants.{IsTrusted, IsSound, IsDurable, IsSealStored}
-use Rattle.pmem_recovery.proofs.EmptyBanks.{set_of-empty_banks}
+use Rattle.meta_path.proofs.PathFacts.{set_of-empty_banks}
 use Rattle.pmem_recovery.specs.declared.faults.Work.{Work}
 use Rattle.pmem_recovery.specs.declared.faults.RecFault.{RecFault}
 use Rattle.pmem_recovery.specs.declared.faults.RecFault.TheVariants as Fail
@@ -62,11 +63,11 @@ small_recovery g shape =
 -- ---- the call
 
 -- the board with power on
-abbrev pub lit : Memory → Memory
+abbrev pub lit : BoardMemory → BoardMemory
 lit board = record board { powered = true }
 
 -- what surrounds recovery in this world, which leaves the board so
-pub record IsOnCall (setup : Setup) (old new : WorldState) (left : Memory) (taken : Taken)
+pub record IsOnCall (setup : Setup) (old new : WorldState) (left : BoardMemory) (taken : Taken)
     (answer : Result (EngineState × Work) RecFault) : Type 0 where
   pub world : IsWorld setup old
   pub was_off : old.engine ≡ None
@@ -84,7 +85,7 @@ pub record IsOnCall (setup : Setup) (old new : WorldState) (left : Memory) (take
 pub off_in : (setup : Setup) (world : WorldState) → IsWorld setup world → world.engine ≡ None → IsOff setup world
 off_in setup world whole none = subst (λ e. IsPowered setup world e) none whole.chip
 
-module _ (setup : Setup) (old new : WorldState) (left : Memory) (taken : Taken) (answer : Result (EngineState × Work) RecFault)
+module _ (setup : Setup) (old new : WorldState) (left : BoardMemory) (taken : Taken) (answer : Result (EngineState × Work) RecFault)
     (call : IsOnCall setup old new left taken answer) where
   pub off : IsOff setup old
   off = off_in setup old call.world call.was_off
@@ -148,7 +149,7 @@ recovered_state g state taken =
       fuse = option_map (λ n. n - taken) state.fuse;
     }
 
-module _ (setup : Setup) (old new : WorldState) (left : Memory) (taken : Taken) (engine : EngineState) (work : Work)
+module _ (setup : Setup) (old new : WorldState) (left : BoardMemory) (taken : Taken) (engine : EngineState) (work : Work)
     (call : IsOnCall setup old new left taken (Ok (engine, work))) where
   abbrev its_off : IsOff setup old
   its_off = off setup old new left taken (Ok (engine, work)) call
@@ -269,7 +270,7 @@ cut_on_state state taken =
       steps = steps_with state.steps taken;
     }
 
-module _ (setup : Setup) (old new : WorldState) (left : Memory) (taken : Taken) (call : IsOnCall setup old new left taken (Err Fail.Cut)) where
+module _ (setup : Setup) (old new : WorldState) (left : BoardMemory) (taken : Taken) (call : IsOnCall setup old new left taken (Err Fail.Cut)) where
   abbrev off_cut : IsOff setup old
   off_cut = off setup old new left taken (Err Fail.Cut) call
 

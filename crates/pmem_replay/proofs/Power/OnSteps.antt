@@ -17,11 +17,12 @@ use Rattle.pmem_base.specs.Layout as layout
 use Rattle.pmem_base.specs.Lines.{IsLine, IsTag, line_at, tag_slot}
 use Rattle.pmem_base.specs.Ranges.{IsAnswer}
 use Rattle.pmem_base.specs.Registers.{without_group}
-use Rattle.board.specs.Memory.{Memory}
+use Rattle.pmem_base.specs.WaitingWrites.{no_writes}
+use Rattle.board.specs.Memory.{BoardMemory}
 use Rattle.commit_regs.specs.Groups.{finishing_latches}
 use Rattle.meta_cache.specs.Banks.{IsBanksOf}
 use Rattle.suite.specs.Setup.{Setup}
-use Rattle.plain_model.specs.State.{PlainState, no_writes}
+use Rattle.plain_model.specs.State.{PlainState}
 use Rattle.plain_model.specs.After.{after_clean, after_loosening, state_after, steps_of}
 use Rattle.plain_model.specs.Bounds.{recovery_bound}
 use Rattle.plain_model.specs.Answers.{decided_answer, is_shown}
@@ -54,7 +55,7 @@ module _ (s : RecoveryCall) where
   setup = setup_in s.formulas_of s.geometry s.parts
 
   -- the parts with this engine and board
-  abbrev pub left_with : Option EngineState → Memory → WorldParts
+  abbrev pub left_with : Option EngineState → BoardMemory → WorldParts
   left_with engine board = called s.parts s.keys board s.parts.ledger engine s.tags s.digests s.steps
 
   abbrev old : WorldState
@@ -151,7 +152,7 @@ module _ (s : RecoveryCall) where
   abbrev Ended : Answer → WorldParts → Type 0
   Ended answer q = Ends s.formulas_of s.geometry s.now Do.On (without_marks answer) q
 
-  ended : (say : ℕ → Answer) (to : Option EngineState → Memory → WorldParts) (engine : Option EngineState) (left board : Memory)
+  ended : (say : ℕ → Answer) (to : Option EngineState → BoardMemory → WorldParts) (engine : Option EngineState) (left board : BoardMemory)
       → (to s.engine left).keys ≡ s.keys → s.engine ≡ engine → left ≡ board
       → HasStepped setup old Do.On (without_marks (say (steps_in s.taken))) (world_of setup (to engine board))
       → Ended (say s.said) (to s.engine left)
@@ -159,7 +160,7 @@ module _ (s : RecoveryCall) where
       ends s.formulas_of s.geometry s.parts (to s.engine left) s.now Do.On (without_marks (say s.said)) s.is (keys ∙ s.was.recovered.keys)
       (numbered setup old (world_of setup (to s.engine left)) Do.On [] say s.said (steps_in s.taken) s.counted
       (subst (λ (e : Option EngineState). HasStepped setup old Do.On (without_marks (say (steps_in s.taken))) (world_of setup (to e left))) (sym same)
-      (subst (λ (b : Memory). HasStepped setup old Do.On (without_marks (say (steps_in s.taken))) (world_of setup (to engine b))) (sym same_board) step)))
+      (subst (λ (b : BoardMemory). HasStepped setup old Do.On (without_marks (say (steps_in s.taken))) (world_of setup (to engine b))) (sym same_board) step)))
 
   refused_as : (fault : RecFault) → s.outcome ≡ Err fault → (s.engine ≡ None) × (s.was.answer ≡ Err fault)
   refused_as fault is = apart_err s.was.answer s.engine fault (subst (IsTakenApart s.was.answer s.engine) is s.was.apart)
@@ -251,11 +252,11 @@ module _ (s : RecoveryCall) where
 
   -- ---- refused, and power goes off
 
-  abbrev rest_new : Option EngineState → Memory → Bool → WorldState
+  abbrev rest_new : Option EngineState → BoardMemory → Bool → WorldState
   rest_new engine rested shown =
       world_of setup (record (left_with engine rested) { shown = shown })
 
-  abbrev dim : Memory
+  abbrev dim : BoardMemory
   dim = record (s.board) { powered = false }
 
   -- the line or the root as recovery saw it
@@ -285,7 +286,7 @@ module _ (s : RecoveryCall) where
       (λ quiet. counter-world setup old new s.board s.taken at call its_state refl refl)
       there
 
-  pub on-counter : (rested : Memory) (at : ℕ) → s.outcome ≡ Err (Fail.NoCounter at) → rested ≡ dim
+  pub on-counter : (rested : BoardMemory) (at : ℕ) → s.outcome ≡ Err (Fail.NoCounter at) → rested ≡ dim
       → Ended (Say.NoCounter at s.said) (record (left_with s.engine rested) { shown = s.parts.shown })
   on-counter rested at is rest =
       let apart = refused_as (Fail.NoCounter at) is in
@@ -314,7 +315,7 @@ module _ (s : RecoveryCall) where
       (λ quiet. root-world setup old new s.board s.taken kept found call its_state refl refl)
       there
 
-  pub on-root : (rested : Memory) (kept found : List ℕ) → s.outcome ≡ Err (Fail.Root kept found) → rested ≡ dim → IsTag kept → IsTag found
+  pub on-root : (rested : BoardMemory) (kept found : List ℕ) → s.outcome ≡ Err (Fail.Root kept found) → rested ≡ dim → IsTag kept → IsTag found
       → Ended (Say.WrongRoot kept found s.said) (record (left_with s.engine rested) { shown = s.parts.shown })
   on-root rested kept found is rest kept_tag found_tag =
       let apart = refused_as (Fail.Root kept found) is in
@@ -359,7 +360,7 @@ module _ (s : RecoveryCall) where
         ),
       )
 
-  pub on-twin : (rested : Memory) (at major low high : ℕ) (cipher : Line) (tag : List ℕ)
+  pub on-twin : (rested : BoardMemory) (at major low high : ℕ) (cipher : Line) (tag : List ℕ)
       → s.outcome ≡ Err (Fail.Twin at major low high cipher tag) → rested ≡ dim → major < 2 ^ 64 → IsLine cipher → IsTag tag
       → Ended (Say.Shown (Show.Twin at major low high cipher tag)) (record (left_with s.engine rested) { shown = true })
   on-twin rested at major low high cipher tag is rest small_major whole_cipher whole_tag =
@@ -396,7 +397,7 @@ module _ (s : RecoveryCall) where
       ∙ ap (λ (x : ℕ). record (s.parts.board) { cuts = x }) (s.served.watched.follows.uncut lasting)
 
   -- nothing has changed
-  pub on-memory : (rested : Memory) → s.outcome ≡ Err Fail.Memory → rested ≡ dim → left_with s.engine rested ≡ s.parts
+  pub on-memory : (rested : BoardMemory) → s.outcome ≡ Err Fail.Memory → rested ≡ dim → left_with s.engine rested ≡ s.parts
   on-memory rested is rest =
       let apart = refused_as Fail.Memory is in
       let has : Has (Err Fail.Memory) = subst Has apart.1 s.was.recovered in
@@ -405,7 +406,7 @@ module _ (s : RecoveryCall) where
       let latches : s.taken.latches ≡ 0 = ap (λ d. d.latches) same in
       let its_steps : s.steps ≡ s.parts.steps = omega (arith, s.served.counted, writes, latches, s.served.going.whole.steps.in_range) in
       ap (λ (x : List ℕ). called s.parts x rested s.parts.ledger s.engine s.tags s.digests s.steps) (ap (λ (st : SuiteState). st.keys) has.uncounted)
-      ∙ ap (λ (x : Memory). called s.parts s.parts.keys x s.parts.ledger s.engine s.tags s.digests s.steps) (rest ∙ unmoved has)
+      ∙ ap (λ (x : BoardMemory). called s.parts s.parts.keys x s.parts.ledger s.engine s.tags s.digests s.steps) (rest ∙ unmoved has)
       ∙ ap (λ (x : Option EngineState). called s.parts s.parts.keys s.parts.board s.parts.ledger x s.tags s.digests s.steps) (apart.0 ∙ sym s.served.was_off)
       ∙ ap (λ (x : ℕ). record (s.parts) { tags = x; digests = s.digests; steps = s.steps }) (ap (λ (st : SuiteState). st.tags) has.uncounted)
       ∙ ap (λ (x : ℕ). record (s.parts) { digests = x; steps = s.steps }) (ap (λ (st : SuiteState). st.digests) has.uncounted)

@@ -4,7 +4,7 @@ use Rattle.std.specs.Prelude.{Result, is_some, All}
 use Rattle.std.proofs.lemmas.Bool.{true≢false}
 use Rattle.std.specs.List.{AllPairs}
 use Rattle.pmem_base.specs.Shape.{Shape}
-use Rattle.board.specs.Memory.{Memory}
+use Rattle.board.specs.Memory.{BoardMemory}
 use Rattle.meta_cache.specs.Banks.{IsBanksOf, IsInPlace}
 use Rattle.meta_cache.specs.State.{empty_banks}
 use Rattle.suite.specs.Setup.{Setup}
@@ -13,7 +13,7 @@ use Rattle.pmem_engine.specs.Engine.{EngineState}
 use Rattle.pmem_recovery.specs.declared.faults.Work.{Work}
 use Rattle.pmem_recovery.specs.declared.faults.RecFault.{RecFault}
 use Rattle.pmem_recovery.specs.Parts.{suite_state}
-use Rattle.pmem_recovery.proofs.EmptyBanks.{set_of-empty_banks}
+use Rattle.meta_path.proofs.PathFacts.{set_of-empty_banks}
 use Rattle.pmem_replay.specs.World.{WorldState, WorldParts, world_of}
 use Rattle.pmem_replay.specs.declared.taken.Taken.{Taken}
 use Rattle.pmem_replay.specs.During.{none_taken, steps_in, device_during, IsWatched, IsTakenApart, WasRecovered}
@@ -45,7 +45,7 @@ apart_err (Err its) engine fault apart = (apart.0, ap Err (sym apart.1))
 
 -- ---- what surrounds recovery
 
-pub record IsOnServed (setup : Setup) (p : WorldParts) (board : Memory) (steps : ℕ) (taken : Taken) : Type 0 where
+pub record IsOnServed (setup : Setup) (p : WorldParts) (board : BoardMemory) (steps : ℕ) (taken : Taken) : Type 0 where
   pub going : IsGoingOn setup (world_of setup p)
   pub was_off : p.engine ≡ None
   pub watched : IsWatched (lit p.board) board taken
@@ -59,7 +59,7 @@ pub record RecoveryCall : Type 0 where
   pub parts : WorldParts
   pub is : world_of (setup_in formulas_of geometry parts) parts ≡ now
   pub keys : List ℕ
-  pub board : Memory
+  pub board : BoardMemory
   pub pads : ℕ
   pub pads_new : ℕ
   pub tags : ℕ

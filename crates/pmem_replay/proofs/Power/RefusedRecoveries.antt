@@ -19,7 +19,7 @@ use Rattle.pmem_base.specs.Marks.{SealOf, last_seal}
 use Rattle.pmem_base.specs.Registers.{without_group}
 use Rattle.pmem_base.proofs.ListLaws.{find_found, All-into_flat_map, All-into_filter, All-into_range}
 use Rattle.bonsai_tree.specs.Positions.{counter_position}
-use Rattle.board.specs.Memory.{Memory}
+use Rattle.board.specs.Memory.{BoardMemory}
 use Rattle.commit_regs.specs.Groups.{redone, finishing_latches}
 use Rattle.seal_ledger.proofs.MarkLemmas.{last_seal_has}
 use Rattle.suite.specs.Formulas.{cipher_of}
@@ -29,7 +29,7 @@ use Rattle.plain_model.specs.View.{counter_at}
 use Rattle.plain_model.proofs.Views.{counter_at-last}
 use Rattle.plain_model.specs.Shown.{IsTwinOfSeal}
 use Rattle.pmem_engine.specs.Invariants.{IsAnchored, IsSealTagged, is_named}
-use Rattle.pmem_engine.proofs.TrueLines.{true_line-is}
+use Rattle.pmem_engine.proofs.Laws.TrueLines.{true_line-is}
 use Rattle.pmem_recovery.specs.declared.faults.RecFault.{RecFault}
 use Rattle.pmem_recovery.specs.declared.faults.RecFault.TheVariants as Fail
 use Rattle.pmem_recovery.specs.Trials.{first_undecided, named_pages, lines_tried, tried_minors, IsTwinOfLastSeal}
@@ -65,7 +65,7 @@ tried_within setup lines regs a found =
 
 -- ---- a refusal that has done nothing but the redo
 
-module _ (setup : Setup) (old new : WorldState) (left : Memory) (taken : Taken) (fault : RecFault)
+module _ (setup : Setup) (old new : WorldState) (left : BoardMemory) (taken : Taken) (fault : RecFault)
     (call : IsOnCall setup old new left taken (Err fault)) (regs : left.regs ≡ without_group old.board.regs)
     (redo : HasOnlyRedone (device_during (lit old.board) none_taken) (device_during left taken)) where
   abbrev its_off : IsOff setup old
@@ -143,7 +143,7 @@ module _ (setup : Setup) (old new : WorldState) (left : Memory) (taken : Taken) 
 
 -- ---- no counter fits
 
-module _ (setup : Setup) (old new : WorldState) (left : Memory) (taken : Taken) (at : ℕ)
+module _ (setup : Setup) (old new : WorldState) (left : BoardMemory) (taken : Taken) (at : ℕ)
     (call : IsOnCall setup old new left taken (Err (Fail.NoCounter at))) where
   abbrev counter_off : IsOff setup old
   counter_off = off setup old new left taken (Err (Fail.NoCounter at)) call
@@ -200,7 +200,7 @@ some_meta g =
 
 -- ---- another root is found
 
-module _ (setup : Setup) (old new : WorldState) (left : Memory) (taken : Taken) (kept found : List ℕ)
+module _ (setup : Setup) (old new : WorldState) (left : BoardMemory) (taken : Taken) (kept found : List ℕ)
     (call : IsOnCall setup old new left taken (Err (Fail.Root kept found))) where
   abbrev root_off : IsOff setup old
   root_off = off setup old new left taken (Err (Fail.Root kept found)) call
@@ -288,7 +288,7 @@ twin_of_seal setup old regs loss a major low high cipher tag world anchored with
               ∙ ap₂ (λ (c : Ctr) (n : ℕ). c.minor / n) (sym ctr) same;
         }
 
-module _ (setup : Setup) (old new : WorldState) (left : Memory) (taken : Taken) (at major low high : ℕ) (cipher : Line) (tag : List ℕ)
+module _ (setup : Setup) (old new : WorldState) (left : BoardMemory) (taken : Taken) (at major low high : ℕ) (cipher : Line) (tag : List ℕ)
     (call : IsOnCall setup old new left taken (Err (Fail.Twin at major low high cipher tag))) where
   abbrev twin_off : IsOff setup old
   twin_off = off setup old new left taken (Err (Fail.Twin at major low high cipher tag)) call

@@ -9,10 +9,10 @@ use Rattle.pmem_base.specs.declared.commands.Posted.{Posted}
 use Rattle.pmem_base.specs.declared.answers.Mark.{Mark}
 use Rattle.pmem_base.specs.Layout as layout
 use Rattle.pmem_base.specs.Lines.{IsLine, zero_line}
-use Rattle.board.specs.Memory.{Memory}
+use Rattle.pmem_base.specs.WaitingWrites.{no_writes}
+use Rattle.board.specs.Memory.{BoardMemory}
 use Rattle.seal_ledger.specs.Ledger.{LedgerState}
 use Rattle.suite.specs.Setup.{Setup}
-use Rattle.plain_model.specs.State.{no_writes}
 use Rattle.plain_model.specs.View.{plain_line}
 use Rattle.plain_model.specs.After.{steps_with}
 use Rattle.pmem_engine.specs.Engine.{EngineState}
@@ -28,12 +28,12 @@ use Rattle.pmem_replay.proofs.Table.UnchangedSteps.{IsGoingOn, lit_in}
 -- ---- after a call
 
 -- the parts after a call
-abbrev pub called : WorldParts → List ℕ → Memory → LedgerState → Option EngineState → ℕ → ℕ → ℕ → WorldParts
+abbrev pub called : WorldParts → List ℕ → BoardMemory → LedgerState → Option EngineState → ℕ → ℕ → ℕ → WorldParts
 called p keys board ledger engine tags digests steps =
     record p { keys = keys; board = board; ledger = ledger; engine = engine; tags = tags; digests = digests; steps = steps }
 
 -- what surrounds a call: where room for marks was made before, `p` has it
-pub record IsServed (setup : Setup) (p : WorldParts) (keys : List ℕ) (board : Memory) (steps : ℕ) (engine : EngineState) (taken : Taken) :
+pub record IsServed (setup : Setup) (p : WorldParts) (keys : List ℕ) (board : BoardMemory) (steps : ℕ) (engine : EngineState) (taken : Taken) :
     Type 0 where
   pub going : IsGoingOn setup (world_of setup p)
   pub was_on : p.engine ≡ Some engine
@@ -42,7 +42,7 @@ pub record IsServed (setup : Setup) (p : WorldParts) (keys : List ℕ) (board : 
   pub counted : steps ≡ steps_with p.steps (steps_in taken)
 
 -- the call as the laws see it
-pub call_of : (setup : Setup) (p : WorldParts) (keys : List ℕ) (board : Memory) (steps : ℕ) (engine after : EngineState) (taken : Taken)
+pub call_of : (setup : Setup) (p : WorldParts) (keys : List ℕ) (board : BoardMemory) (steps : ℕ) (engine after : EngineState) (taken : Taken)
     → IsServed setup p keys board steps engine taken → (new : WorldState) → new.shape ≡ setup.shape → new.start ≡ p.start → new.board ≡ board
     → IsCall setup (world_of setup p) new engine after taken
 call_of setup p keys board steps engine after taken served new shape start is =
@@ -53,7 +53,7 @@ call_of setup p keys board steps engine after taken served new shape start is =
       start = start;
       follows = subst (λ b. FollowsOn p.board b taken) (sym is) served.watched.follows;
       in_count = served.watched.in_count;
-      each_line = subst (λ (b : Memory). All IsLine b.lines) (sym is) served.watched.each_line;
+      each_line = subst (λ (b : BoardMemory). All IsLine b.lines) (sym is) served.watched.each_line;
     }
 
 -- memory is the plain lines of the marks
@@ -72,7 +72,7 @@ memory_is setup marks memory its =
     plain a = unwrap_or (plain_line setup.formulas marks a) zero_line
 
 -- the state after a call that goes on
-pub state_called : (setup : Setup) (p : WorldParts) (keys : List ℕ) (board : Memory) (ledger : LedgerState) (engine : Option EngineState)
+pub state_called : (setup : Setup) (p : WorldParts) (keys : List ℕ) (board : BoardMemory) (ledger : LedgerState) (engine : Option EngineState)
     (tags digests steps : ℕ) (before : EngineState) (taken : Taken) (memory : List Line) (loss : ℕ) → IsServed setup p keys board steps before taken
     → plain_memory setup ledger.marks ≡ memory → board.powered ≡ true → board.regs.loss ≡ loss
     → state_in setup (called p keys board ledger engine tags digests steps)
@@ -84,7 +84,7 @@ state_called setup p keys board ledger engine tags digests steps before taken me
     cc (its, power, fuse, served.watched.follows.snapshot, served.counted, its_loss)
 
 -- where it makes no mark and the stop-loss number stays
-pub state_going : (setup : Setup) (p : WorldParts) (keys : List ℕ) (board : Memory) (ledger : LedgerState) (engine : Option EngineState)
+pub state_going : (setup : Setup) (p : WorldParts) (keys : List ℕ) (board : BoardMemory) (ledger : LedgerState) (engine : Option EngineState)
     (tags digests steps : ℕ) (before : EngineState) (taken : Taken) → IsServed setup p keys board steps before taken
     → ledger.marks ≡ p.ledger.marks → board.powered ≡ true → board.regs.loss ≡ p.board.regs.loss
     → state_in setup (called p keys board ledger engine tags digests steps) ≡ counted_state (state_in setup p) (steps_in taken)
@@ -93,7 +93,7 @@ state_going setup p keys board ledger engine tags digests steps before taken ser
     (ap (plain_memory setup) marks) lit loss
 
 -- the state after a call that is cut, where memory stays
-pub state_cut_with : (setup : Setup) (p : WorldParts) (keys : List ℕ) (board : Memory) (ledger : LedgerState) (engine : Option EngineState)
+pub state_cut_with : (setup : Setup) (p : WorldParts) (keys : List ℕ) (board : BoardMemory) (ledger : LedgerState) (engine : Option EngineState)
     (tags digests steps : ℕ) (queues : List (List Posted)) (before : EngineState) (taken : Taken) (memory : List Line) → IsServed setup p keys board steps before taken
     → plain_memory setup ledger.marks ≡ memory → board.powered ≡ false → board.regs.loss ≡ p.board.regs.loss → queues ≡ no_writes
     → state_in setup (record (called p keys board ledger engine tags digests steps) { queues = queues })
@@ -103,7 +103,7 @@ state_cut_with setup p keys board ledger engine tags digests steps queues before
     cc (its, dark, fuse, served.watched.follows.snapshot, empty, served.counted, loss)
 
 -- where it makes no mark
-pub state_cut : (setup : Setup) (p : WorldParts) (keys : List ℕ) (board : Memory) (ledger : LedgerState) (engine : Option EngineState)
+pub state_cut : (setup : Setup) (p : WorldParts) (keys : List ℕ) (board : BoardMemory) (ledger : LedgerState) (engine : Option EngineState)
     (tags digests steps : ℕ) (queues : List (List Posted)) (before : EngineState) (taken : Taken) → IsServed setup p keys board steps before taken
     → ledger.marks ≡ p.ledger.marks → board.powered ≡ false → board.regs.loss ≡ p.board.regs.loss → queues ≡ no_writes
     → state_in setup (record (called p keys board ledger engine tags digests steps) { queues = queues })
@@ -113,5 +113,5 @@ state_cut setup p keys board ledger engine tags digests steps queues before take
     (ap (plain_memory setup) marks) dark loss empty
 
 -- a call's steps are in range
-pub few_steps : (old new : Memory) (taken : Taken) → IsWatched old new taken → steps_in taken < 2 ^ 64
+pub few_steps : (old new : BoardMemory) (taken : Taken) → IsWatched old new taken → steps_in taken < 2 ^ 64
 few_steps old new taken watched = omega (arith, watched.follows.few)

@@ -7,7 +7,7 @@ use Rattle.pmem_base.specs.declared.answers.Answer.{Answer}
 use Rattle.pmem_base.specs.declared.commands.Command.{Command}
 use Rattle.pmem_base.specs.Ranges.{IsAnswer}
 use Rattle.pmem_base.specs.Shape.{Shape}
-use Rattle.board.specs.Memory.{Memory}
+use Rattle.board.specs.Memory.{BoardMemory}
 use Rattle.meta_cache.specs.Banks.{IsBanksOf}
 use Rattle.seal_ledger.specs.Ledger.{LedgerState}
 use Rattle.seal_ledger.specs.Notes.{HasRoom}
@@ -40,7 +40,7 @@ pub record EngineCall : Type 0 where
   pub is : world_of (setup_in formulas_of geometry parts) (record parts { ledger = before }) ≡ now
   pub room : HasRoom before parts.ledger 0
   pub keys : List ℕ
-  pub board : Memory
+  pub board : BoardMemory
   pub ledger : LedgerState
   pub tags : ℕ
   pub digests : ℕ

@@ -27,13 +27,13 @@ use Rattle.plain_model.specs.State.{PlainState, is_flagged}
 use Rattle.plain_model.specs.Legal.{MayDiffer}
 use Rattle.pmem_engine.specs.Engine.{EngineState}
 use Rattle.pmem_engine.specs.Invariants.{IsAnchored, IsTrusted, IsSealStored, IsSealTagged, stored_meta}
-use Rattle.pmem_engine.specs.Outcomes.{Outcome, going, cut, shown, is_sealed_by, KeepsPlaces, HasGone}
+use Rattle.pmem_engine.specs.Outcomes.{Outcome, going, cut_short, shown, is_sealed_by, KeepsPlaces, CallEffect}
 use Rattle.pmem_engine.specs.Faults.{IsFetchedLine, IsTagRefused, IsForgedShown}
 use Rattle.pmem_replay.specs.World.{WorldState, AreKept, IsMemoryOf, IsOn, lines_in}
 use Rattle.pmem_replay.specs.declared.taken.Taken.{Taken}
 use Rattle.pmem_replay.specs.During.{none_taken, parts_in}
 use Rattle.meta_path.proofs.WriteLemmas.{dirty_is_cached}
-use Rattle.pmem_engine.proofs.WriteParts.{last_seal-unsealed}
+use Rattle.pmem_engine.proofs.PostedWrites.WriteParts.{last_seal-unsealed}
 use Rattle.pmem_replay.proofs.Marks.SealedLines.{same_truth, last_cipher}
 
 -- a position of a page's path is one of the tree
@@ -172,7 +172,7 @@ tag_unstored setup world engine taken a trusted refused stored =
 -- a line that was fetched and isn't the true one stood there before the call, where the engine goes on
 pub fetched_before : (setup : Setup) (old new : WorldState) (engine after : EngineState) (taken : Taken) (page x : ℕ) (line : Line)
     → IsShape setup.shape → IsOn setup old engine
-    → HasGone setup going [] (parts_in old engine none_taken) (parts_in new after taken)
+    → CallEffect setup going [] (parts_in old engine none_taken) (parts_in new after taken)
     → x < layout.meta_lines setup.shape
     → IsFetchedLine setup page x line (parts_in old engine none_taken) (parts_in new after taken)
     → line ≢ line_at old.ledger.truth x
@@ -234,8 +234,8 @@ zero_within (Some n) = omega arith
 
 abbrev is_shown_end : Outcome → Bool
 is_shown_end going = false
-is_shown_end cut = false
+is_shown_end cut_short = false
 is_shown_end shown = true
 
-pub shown_uncut : shown ≢ cut
+pub shown_uncut : shown ≢ cut_short
 shown_uncut e = absurd (true≢false (ap is_shown_end e))

@@ -9,11 +9,12 @@ use Rattle.pmem_base.specs.declared.commands.Command.{Command}
 use Rattle.pmem_base.specs.Counts.{last_count}
 use Rattle.pmem_base.specs.Shape.{Shape}
 use Rattle.pmem_base.specs.Layout as layout
-use Rattle.board.specs.Memory.{Memory}
+use Rattle.pmem_base.specs.WaitingWrites.{no_writes}
+use Rattle.board.specs.Memory.{BoardMemory}
 use Rattle.meta_cache.specs.Banks.{IsBanksOf, is_cached_dirty}
 use Rattle.write_ports.specs.Queues.{IsQueue}
 use Rattle.suite.specs.Setup.{Setup}
-use Rattle.plain_model.specs.State.{PlainState, no_writes}
+use Rattle.plain_model.specs.State.{PlainState}
 use Rattle.plain_model.specs.After.{steps_with}
 use Rattle.plain_model.specs.Bounds.{can_be_dirty}
 use Rattle.plain_model.specs.Shown.{IsLegal, IsEngineReply}
@@ -21,7 +22,7 @@ use Rattle.plain_model.specs.Answers.{decided_answer}
 use Rattle.plain_model.specs.State.{Reply}
 use Rattle.plain_model.specs.View.{DeviceView}
 use Rattle.pmem_engine.specs.Engine.{EngineState}
-use Rattle.pmem_engine.specs.Outcomes.{going, cut, HasDone, TakesAtMost, TakesFewer, TakesSteps}
+use Rattle.pmem_engine.specs.Outcomes.{going, cut_short, OneLossEffect, TakesAtMost, TakesFewer, TakesSteps}
 use Rattle.pmem_replay.specs.World.{WorldState, IsMemoryOf, HasFlags, HasQueues, IsOn, IsWorld}
 use Rattle.pmem_replay.specs.declared.taken.Taken.{Taken}
 use Rattle.pmem_replay.specs.During.{none_taken, parts_in, device_during, steps_in, step_limit}
@@ -40,21 +41,21 @@ legal_undecided setup state view command reply none it =
 few_exact : (taken : Taken) → steps_in taken ≤ step_limit → (taken.writes < last_count) × (taken.latches < last_count)
 few_exact taken few = (omega (arith, few), omega (arith, few))
 
-pub at_most : (old new : Memory) (taken : Taken) (n : ℕ) → steps_in taken ≤ step_limit
+pub at_most : (old new : BoardMemory) (taken : Taken) (n : ℕ) → steps_in taken ≤ step_limit
     → TakesAtMost n (device_during old none_taken) (device_during new taken) → steps_in taken ≤ n
 at_most old new taken n few takes =
     let exact = few_exact taken few in
     let sum : taken.writes + taken.latches ≤ 0 + 0 + n = takes.sum exact.0 exact.1 in
     omega (arith, sum)
 
-pub fewer : (old new : Memory) (taken : Taken) (n : ℕ) → steps_in taken ≤ step_limit
+pub fewer : (old new : BoardMemory) (taken : Taken) (n : ℕ) → steps_in taken ≤ step_limit
     → TakesFewer n (device_during old none_taken) (device_during new taken) → steps_in taken < n
 fewer old new taken n few takes =
     let exact = few_exact taken few in
     let sum : taken.writes + taken.latches < 0 + 0 + n = takes.sum exact.0 exact.1 in
     omega (arith, sum)
 
-pub exactly : (old new : Memory) (taken : Taken) (n : ℕ) → steps_in taken ≤ step_limit
+pub exactly : (old new : BoardMemory) (taken : Taken) (n : ℕ) → steps_in taken ≤ step_limit
     → TakesSteps n (device_during old none_taken) (device_during new taken) → steps_in taken ≡ n
 exactly old new taken n few takes =
     let exact = few_exact taken few in
@@ -127,7 +128,7 @@ accounted_in setup world engine whole on =
 
 module _ (setup : Setup) (old new : WorldState) (engine after : EngineState) (taken : Taken) (call : IsCall setup old new engine after taken) where
   -- a call that goes on without a mark, under one stop-loss number
-  pub flags-going : HasDone setup going [] (parts_in old engine none_taken) (parts_in new after taken)
+  pub flags-going : OneLossEffect setup going [] (parts_in old engine none_taken) (parts_in new after taken)
       → new.engine ≡ Some after → IsBanksOf setup.shape after.cache
       → (touched flushed : List Bool) → new.state ≡ flagged_state old.state (steps_in taken) touched flushed
       → length touched ≡ layout.pages setup.shape → length flushed ≡ layout.meta_lines setup.shape
@@ -157,7 +158,7 @@ module _ (setup : Setup) (old new : WorldState) (engine after : EngineState) (ta
       whole_cache dirty
 
   -- the same with the flags as they were
-  pub quiet-going : HasDone setup going [] (parts_in old engine none_taken) (parts_in new after taken)
+  pub quiet-going : OneLossEffect setup going [] (parts_in old engine none_taken) (parts_in new after taken)
       → new.engine ≡ Some after → IsBanksOf setup.shape after.cache
       → new.state ≡ counted_state old.state (steps_in taken)
       → IsWorld setup new
@@ -171,7 +172,7 @@ module _ (setup : Setup) (old new : WorldState) (engine after : EngineState) (ta
       ])
 
   -- a call that is cut without a mark
-  pub quiet-cut : HasDone setup cut [] (parts_in old engine none_taken) (parts_in new after taken)
+  pub quiet-cut : OneLossEffect setup cut_short [] (parts_in old engine none_taken) (parts_in new after taken)
       → new.engine ≡ None
       → new.state ≡ cut_state old.state (steps_in taken)
       → IsWorld setup new

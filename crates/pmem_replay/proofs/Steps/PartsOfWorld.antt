@@ -7,14 +7,15 @@ use Rattle.pmem_base.specs.declared.commands.Posted.{Posted}
 use Rattle.pmem_base.specs.declared.commands.Command.{Command}
 use Rattle.pmem_base.specs.declared.answers.Stat.{Stat}
 use Rattle.pmem_base.specs.Shape.{Shape}
-use Rattle.board.specs.Memory.{Memory}
+use Rattle.board.specs.Memory.{BoardMemory}
 use Rattle.seal_ledger.specs.Ledger.{LedgerState}
 use Rattle.suite.specs.Formulas.{Formulas}
 use Rattle.suite.specs.Setup.{Setup}
 use Rattle.pmem_base.specs.declared.answers.Mark.{Mark}
 use Rattle.pmem_base.specs.declared.answers.Answer.{Answer}
+use Rattle.pmem_base.specs.WaitingWrites.{no_writes}
 use Rattle.pmem_replay.specs.Replies.{without_marks, with_marks_since}
-use Rattle.plain_model.specs.State.{Reply, no_writes}
+use Rattle.plain_model.specs.State.{Reply}
 use Rattle.write_ports.specs.Queues as ports
 use Rattle.pmem_engine.specs.Engine.{EngineState}
 use Rattle.pmem_replay.specs.Flagged.{Tampering, Dirtying}
@@ -24,7 +25,7 @@ use Rattle.pmem_replay.proofs.Steps.WorldsAfterCalls.{on_in}
 use Rattle.pmem_replay.proofs.Steps.WorldSteps.{holds_after}
 use Rattle.pmem_replay.proofs.Table.UnchangedSteps.{IsGoingOn, dark_in, lit_in}
 
-abbrev pub held : List ℕ → Memory → LedgerState → Option EngineState → ℕ → ℕ → List (List Posted) → Tampering → Dirtying → ℕ → Stat → Bool → WorldParts
+abbrev pub held : List ℕ → BoardMemory → LedgerState → Option EngineState → ℕ → ℕ → List (List Posted) → Tampering → Dirtying → ℕ → Stat → Bool → WorldParts
 held keys board ledger engine tags digests queues tampering dirtying steps start shown =
     record {
       keys = keys;

@@ -3,7 +3,7 @@ use Rattle.std.proofs.Common.{◌≡◌, sym, subst}
 use Rattle.pmem_base.specs.Shape.{Shape}
 use Rattle.pmem_base.specs.declared.answers.Stat.{Stat}
 use Rattle.std.specs.Prelude.{Option, Some, None}
-use Rattle.board.specs.Memory.{Memory}
+use Rattle.board.specs.Memory.{BoardMemory}
 use Rattle.seal_ledger.specs.Ledger.{LedgerState}
 use Rattle.suite.specs.Setup.{Setup}
 use Rattle.plain_model.specs.State.{PlainState}
@@ -38,7 +38,7 @@ same_world setup one other same whole =
     let second = subst (λ (s : PlainState). IsWorld setup (record other { shape = one.shape; start = one.start; board = one.board; ledger = one.ledger; engine = one.engine; state = s })) (sym same.state) first in
     let third = subst (λ (e : Option EngineState). IsWorld setup (record other { shape = one.shape; start = one.start; board = one.board; ledger = one.ledger; engine = e })) (sym same.engine) second in
     let fourth = subst (λ (l : LedgerState). IsWorld setup (record other { shape = one.shape; start = one.start; board = one.board; ledger = l })) (sym same.ledger) third in
-    let fifth = subst (λ (b : Memory). IsWorld setup (record other { shape = one.shape; start = one.start; board = b })) (sym same.board) fourth in
+    let fifth = subst (λ (b : BoardMemory). IsWorld setup (record other { shape = one.shape; start = one.start; board = b })) (sym same.board) fourth in
     let sixth = subst (λ (c : Stat). IsWorld setup (record other { shape = one.shape; start = c })) (sym same.start) fifth in
     subst (λ (g : Shape). IsWorld setup (record other { shape = g })) (sym same.shape) sixth
   where

@@ -8,7 +8,7 @@ use Rattle.pmem_base.specs.declared.answers.Mark.{Mark}
 use Rattle.pmem_base.specs.Counts.{last_count}
 use Rattle.pmem_base.specs.Layout as layout
 use Rattle.pmem_base.specs.declared.answers.Stat.{Stat}
-use Rattle.board.specs.Memory.{Memory}
+use Rattle.board.specs.Memory.{BoardMemory}
 use Rattle.pmem_base.specs.Lines.{line_at, IsLine}
 use Rattle.pmem_base.specs.Marks.{last_seal}
 use Rattle.bonsai_tree.specs.Positions.{counter_position}
@@ -20,17 +20,17 @@ use Rattle.plain_model.specs.Bounds.{can_be_dirty}
 use Rattle.pmem_engine.specs.Engine.{EngineState}
 use Rattle.pmem_engine.specs.Invariants.{IsCounterStored}
 use Rattle.pmem_engine.specs.Parts.{Parts}
-use Rattle.pmem_engine.specs.Outcomes.{going, cut, is_going, is_sealed_by, KeepsPlaces, HasGone}
+use Rattle.pmem_engine.specs.Outcomes.{going, cut_short, is_going, is_sealed_by, KeepsPlaces, CallEffect}
 use Rattle.pmem_replay.specs.World.{WorldState, AreKept, IsMemoryOf, HasFlags, HasQueues, HasBoard, HasSteps, IsOn, IsOff, IsWorld, IsPowered, IsOtherCipher, lines_in}
 use Rattle.pmem_replay.specs.declared.taken.Taken.{Taken}
 use Rattle.pmem_replay.specs.During.{none_taken, parts_in, steps_in, step_limit, counted, AreInCount, FollowsOn}
-use Rattle.pmem_engine.proofs.WriteParts.{last_seal-unsealed}
+use Rattle.pmem_engine.proofs.PostedWrites.WriteParts.{last_seal-unsealed}
 
 -- a world with power on
 pub on_in : (setup : Setup) (world : WorldState) (engine : EngineState) → IsWorld setup world → world.engine ≡ Some engine → IsOn setup world engine
 on_in setup world engine whole there = subst (λ e. IsPowered setup world e) there whole.chip
 
-going_uncut : going ≢ cut
+going_uncut : going ≢ cut_short
 going_uncut e = absurd (true≢false (ap is_going e))
 
 -- the flags of tampering that a call leaves, by the seals that it made
@@ -109,7 +109,7 @@ module _ (setup : Setup) (old new : WorldState) (engine after : EngineState) (ta
       }
 
   -- the chip after a call that goes on
-  pub on-called : IsOn setup old engine → HasGone setup going made before then_
+  pub on-called : IsOn setup old engine → CallEffect setup going made before then_
       → IsHealed setup made old.state new.state → new.state.power ≡ true → IsBanksOf setup.shape after.cache
       → ((bank x : ℕ) → is_cached_dirty setup.shape after.cache bank x ≡ true → IsTrue (can_be_dirty setup.shape new.state x))
       → IsOn setup new after
@@ -130,7 +130,7 @@ module _ (setup : Setup) (old new : WorldState) (engine after : EngineState) (ta
       }
 
   -- the chip after a cut
-  pub off-cut : IsOn setup old engine → HasGone setup cut made before then_
+  pub off-cut : IsOn setup old engine → CallEffect setup cut_short made before then_
       → IsHealed setup made old.state new.state → new.state.power ≡ false → IsOff setup new
   off-cut on gone healed power =
       record {
@@ -151,13 +151,13 @@ counted-rises : (start before more after : ℕ) → after ≡ counted before mor
 counted-rises start before more after it low high = omega (arith, it, low, high)
 
 -- the steps since formatting once these were taken
-pub steps-taken : (old_state new_state : PlainState) (old new : Memory) (start : Stat) (taken : Taken)
+pub steps-taken : (old_state new_state : PlainState) (old new : BoardMemory) (start : Stat) (taken : Taken)
     → HasSteps old_state old start → AreInCount old → FollowsOn old new taken
     → new_state.steps ≡ steps_with old_state.steps (steps_in taken) → HasSteps new_state new start
 steps-taken old_state new_state old new start taken steps in_count follows after = search (rules, arith, counted-exact, counted-rises)
 
 -- the board after a call that goes on
-pub board-going : (old_state new_state : PlainState) (old new : Memory) (taken : Taken)
+pub board-going : (old_state new_state : PlainState) (old new : BoardMemory) (taken : Taken)
     → HasBoard old_state old → FollowsOn old new taken
     → new.powered ≡ true → new_state.power ≡ true → new_state.snapped ≡ old_state.snapped
     → new_state.fuse ≡ option_map (λ n. n - steps_in taken) old_state.fuse
@@ -166,7 +166,7 @@ pub board-going : (old_state new_state : PlainState) (old new : Memory) (taken :
 board-going old_state new_state old new taken board follows powered power snapped fuse loss few = search rules
 
 -- the board after a cut
-pub board-cut : (old_state new_state : PlainState) (old new : Memory) (taken : Taken)
+pub board-cut : (old_state new_state : PlainState) (old new : BoardMemory) (taken : Taken)
     → HasBoard old_state old → FollowsOn old new taken
     → new.powered ≡ false → new_state.power ≡ false → new_state.snapped ≡ old_state.snapped
     → new_state.fuse ≡ None
@@ -175,13 +175,13 @@ pub board-cut : (old_state new_state : PlainState) (old new : Memory) (taken : T
 board-cut old_state new_state old new taken board follows powered power snapped fuse loss few = search rules
 
 -- a cut below the limit comes where the fuse stood at the steps taken
-pub cut_at_fuse : (state : PlainState) (old new : Memory) (taken : Taken) → HasBoard state old → FollowsOn old new taken
+pub cut_at_fuse : (state : PlainState) (old new : BoardMemory) (taken : Taken) → HasBoard state old → FollowsOn old new taken
     → new.powered ≡ false → steps_in taken < step_limit → state.fuse ≡ Some (steps_in taken)
 cut_at_fuse state old new taken board follows off few =
     sym board.fuse ∙ follows.spent off few
 
 -- steps are within the fuse while power lasts
-pub within_fuse : (state : PlainState) (old new : Memory) (taken : Taken) → HasBoard state old → FollowsOn old new taken
+pub within_fuse : (state : PlainState) (old new : BoardMemory) (taken : Taken) → HasBoard state old → FollowsOn old new taken
     → new.powered ≡ true → IfSome state.fuse (λ n. steps_in taken ≤ n)
 within_fuse state old new taken board follows on =
     subst (λ fuse. IfSome fuse (λ n. steps_in taken ≤ n)) board.fuse (follows.lasting on)
@@ -206,7 +206,7 @@ pub record IsCountedOn (old new : PlainState) (taken : ℕ) : Type 0 where
 -- the world after a call that goes on
 pub world-going : (setup : Setup) (old new : WorldState) (engine after : EngineState) (taken : Taken) (made : List Mark)
     → IsCall setup old new engine after taken
-    → HasGone setup going made (parts_in old engine none_taken) (parts_in new after taken)
+    → CallEffect setup going made (parts_in old engine none_taken) (parts_in new after taken)
     → AreCountersKept setup old new
     → IsHealed setup made old.state new.state
     → IsCountedOn old.state new.state (steps_in taken)
@@ -245,7 +245,7 @@ world-going setup old new engine after taken made call gone counters healed coun
 -- the world after a cut
 pub world-cut : (setup : Setup) (old new : WorldState) (engine after : EngineState) (taken : Taken) (made : List Mark)
     → IsCall setup old new engine after taken
-    → HasGone setup cut made (parts_in old engine none_taken) (parts_in new after taken)
+    → CallEffect setup cut_short made (parts_in old engine none_taken) (parts_in new after taken)
     → AreCountersKept setup old new
     → IsHealed setup made old.state new.state
     → IsCountedOn old.state new.state (steps_in taken)

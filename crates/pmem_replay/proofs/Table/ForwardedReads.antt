@@ -17,16 +17,17 @@ use Rattle.pmem_base.specs.Layout as layout
 use Rattle.pmem_base.specs.Lines.{IsLine, line_at, line_of, zero_line}
 use Rattle.pmem_base.specs.Marks.{SealOf, last_seal}
 use Rattle.pmem_base.specs.Ranges.{IsPosted}
+use Rattle.pmem_base.specs.WaitingWrites.{queue_of, put_write, put_writes}
 use Rattle.seal_ledger.specs.Ledger.{IsMark}
 use Rattle.seal_ledger.proofs.MarkLemmas.{last_seal_has}
 use Rattle.write_ports.specs.Queues as ports
 use Rattle.write_ports.proofs.WriteLemmas.{length-put_writes, get_or-put_writes_some}
 use Rattle.suite.proofs.CipherLemmas.{xor_lines-IsLine}
 use Rattle.suite.specs.Setup.{Setup}
-use Rattle.plain_model.specs.State.{PlainState, queue_of, put_write}
+use Rattle.plain_model.specs.State.{PlainState}
 use Rattle.plain_model.specs.View.{plain_of_seal}
 use Rattle.plain_model.specs.Bounds.{path_length, dirty_bound}
-use Rattle.plain_model.specs.Answers.{decided_answer, put_writes, seen_line, is_covered}
+use Rattle.plain_model.specs.Answers.{decided_answer, seen_line, is_covered}
 use Rattle.pmem_engine.specs.Engine.{EngineState}
 use Rattle.pmem_replay.specs.World.{WorldState, IsWorld}
 use Rattle.pmem_replay.specs.Replies.{without_marks}

@@ -13,13 +13,13 @@ use Rattle.pmem_base.specs.declared.answers.Answer.TheVariants as Say
 use Rattle.pmem_base.specs.declared.answers.Stat.{Stat}
 use Rattle.pmem_base.specs.Counts.{last_count}
 use Rattle.pmem_base.specs.Shape.{Shape}
-use Rattle.pmem_base.specs.Layout.{Content, data_line, tags_from, metadata, shadow, nothing, content_of, data_lines, tag_line, meta_line, shadow_line, device_lines, pages, meta_lines}
+use Rattle.pmem_base.specs.Layout.{Content, data_line, tags_from, metadata, shadow, nothing, content_of, data_lines, tag_line, meta_line, shadow_line, device_lines, pages, meta_lines, level_start}
 use Rattle.pmem_base.specs.Lines.{IsLine, line_at, line_of, tag_slot}
 use Rattle.pmem_base.specs.Marks.{SealOf, last_seal}
 use Rattle.pmem_base.proofs.OneToOne.{content_of-data, content_of-tags, content_of-meta, content_of-shadow}
 use Rattle.pmem_base.proofs.LineLemmas.{IsLine-line_at}
-use Rattle.board.specs.Memory.{Memory}
-use Rattle.bonsai_tree.specs.Positions.{counter_position, level_start, level_of, is_on_path}
+use Rattle.board.specs.Memory.{BoardMemory}
+use Rattle.bonsai_tree.specs.Positions.{counter_position, level_of, is_on_path}
 use Rattle.bonsai_tree.proofs.Levels.{level_start-suc, level_start-pow}
 use Rattle.split_counters.specs.Blocks.{packed, unpacked, IsStoredBlock}
 use Rattle.split_counters.proofs.Packing.{packed-unpacked}
@@ -34,7 +34,7 @@ use Rattle.plain_model.specs.Bounds.{can_be_dirty}
 use Rattle.pmem_engine.specs.Truth.{true_block}
 use Rattle.pmem_engine.specs.Engine.{EngineState}
 use Rattle.pmem_engine.specs.Invariants.{IsSealStored, IsSealTagged}
-use Rattle.pmem_engine.proofs.TrueLines.{view-block}
+use Rattle.pmem_engine.proofs.Laws.TrueLines.{view-block}
 use Rattle.pmem_replay.specs.World.{WorldState, AreExact, IsOn, IsWorld, IsPowered, view_in, lines_in}
 use Rattle.pmem_replay.proofs.Marks.SealedLines.{last_cipher}
 use Rattle.pmem_replay.proofs.Steps.FaultCauses.{lines_unarmed, zero_within, counter_position-within}
@@ -304,7 +304,7 @@ stat-good setup world counts whole told =
     by_counts (inl writes) (inr ended) low = all_steps (λ exact. absurd (lt_irrefl world.board.latches (omega (arith, ended, exact.latches))))
 
 -- where a count stands at its end, what is answered for such a count is answered
-pub all_told : (board : Memory) (now : Stat) (steps : ℕ) (told : ℕ × ℕ) → now.writes ≡ board.writes → now.latches ≡ board.latches
+pub all_told : (board : BoardMemory) (now : Stat) (steps : ℕ) (told : ℕ × ℕ) → now.writes ≡ board.writes → now.latches ≡ board.latches
     → (last_count ≤ now.writes → told ≡ (steps, 0)) → (last_count ≤ now.latches → told ≡ (steps, 0))
     → (AreExact board → ⊥) → (told.0 ≡ steps) × (told.1 ≡ 0)
 all_told board now steps told writes latches of_writes of_latches ended =

@@ -13,9 +13,10 @@ use Rattle.pmem_base.specs.Layout as layout
 use Rattle.pmem_base.specs.Lines.{IsLine, line_at, zero_line}
 use Rattle.pmem_base.proofs.LineLemmas.{IsLine-line_at}
 use Rattle.pmem_base.specs.Ranges.{IsPosted, IsStat}
-use Rattle.board.specs.Memory.{Memory, with_line_at, with_lines, flipped_line, restored_lines}
+use Rattle.pmem_base.specs.WaitingWrites.{queue_of, no_writes}
+use Rattle.board.specs.Memory.{BoardMemory, with_line_at, with_lines, flipped_line, restored_lines}
 use Rattle.suite.specs.Setup.{Setup}
-use Rattle.plain_model.specs.State.{PlainState, queue_of, no_writes}
+use Rattle.plain_model.specs.State.{PlainState}
 use Rattle.plain_model.specs.After.{posted_line, posted_part, after_post, after_power_loss, after_tampering, steps_with}
 use Rattle.pmem_engine.specs.Engine.{EngineState}
 use Rattle.pmem_replay.specs.Flagged.{Tampering, with_tampering}
@@ -101,7 +102,7 @@ module _ (setup : Setup) (p : WorldParts) (going : IsGoingOn setup (world_of set
 
   -- ---- the fuse, a copy, and power off
 
-  pub cut-ok : (n : ℕ) (board : Memory) → board ≡ record (p.board) { fuse = Some n }
+  pub cut-ok : (n : ℕ) (board : BoardMemory) → board ≡ record (p.board) { fuse = Some n }
       → HasStepped setup old (Do.Cut n) (without_marks Say.Ok) (world_of setup (record p { board = board }))
   cut-ok n board is =
       subst (λ b. HasStepped setup old (Do.Cut n) (without_marks Say.Ok) (world_of setup (record p { board = b }))) (sym is)
@@ -113,7 +114,7 @@ module _ (setup : Setup) (p : WorldParts) (going : IsGoingOn setup (world_of set
       (world-armed setup old (world_of setup (record p { board = record (p.board) { fuse = Some n } })) n going.whole
       (record { shape = refl; start = refl; board = refl; ledger = refl; engine = refl; state = refl })) tt)
 
-  pub snap-ok : (board : Memory) → board ≡ record (p.board) { snapshot = Some p.board.lines }
+  pub snap-ok : (board : BoardMemory) → board ≡ record (p.board) { snapshot = Some p.board.lines }
       → HasStepped setup old Do.Snap (without_marks Say.Ok) (world_of setup (record p { board = board }))
   snap-ok board is =
       subst (λ b. HasStepped setup old Do.Snap (without_marks Say.Ok) (world_of setup (record p { board = b }))) (sym is)
@@ -125,7 +126,7 @@ module _ (setup : Setup) (p : WorldParts) (going : IsGoingOn setup (world_of set
       (world-snapped setup old (world_of setup (record p { board = record (p.board) { snapshot = Some p.board.lines } })) going.whole
       (record { shape = refl; start = refl; board = refl; ledger = refl; engine = refl; state = refl })) tt)
 
-  pub off-ok : (there : Bool) → is_some p.engine ≡ not there → there ≡ false → (board : Memory) (queues : List (List Posted))
+  pub off-ok : (there : Bool) → is_some p.engine ≡ not there → there ≡ false → (board : BoardMemory) (queues : List (List Posted))
       → board ≡ record (p.board) { powered = false; fuse = None } → queues ≡ no_writes
       → HasStepped setup old Do.Off (without_marks Say.Ok) (world_of setup (record p { board = board; queues = queues; engine = None }))
   off-ok there its some board queues is empty = by_engine p.engine refl
@@ -148,7 +149,7 @@ module _ (setup : Setup) (p : WorldParts) (going : IsGoingOn setup (world_of set
 
   -- ---- tampering
 
-  tampered : (d : ℕ) (line : Line) (flipped : Bool) (board : Memory) (flags : Tampering) → d < layout.device_lines setup.shape → IsLine line
+  tampered : (d : ℕ) (line : Line) (flipped : Bool) (board : BoardMemory) (flags : Tampering) → d < layout.device_lines setup.shape → IsLine line
       → (flipped ≡ true → line ≢ line_at p.board.lines d)
       → board ≡ with_line_at p.board d line
       → with_tampering (state_in setup p) flags ≡ after_tampering setup.shape (state_in setup p) flipped d
@@ -181,15 +182,15 @@ module _ (setup : Setup) (p : WorldParts) (going : IsGoingOn setup (world_of set
       (subst (λ n. n ≤ last_count) (sym (hurts setup.shape (state_in setup p) d flipped going.whole.flags on_device).steps) range)
 
   -- the line that was put there is whole
-  put_line : (d : ℕ) (line : Line) (board : Memory) → d < layout.device_lines setup.shape → board ≡ with_line_at p.board d line
+  put_line : (d : ℕ) (line : Line) (board : BoardMemory) → d < layout.device_lines setup.shape → board ≡ with_line_at p.board d line
       → All IsLine board.lines → IsLine line
   put_line d line board on_device is each =
       let within : d < length p.board.lines = omega (arith, on_device, going.whole.whole_lines.count) in
       subst IsLine
-      (ap (λ (b : Memory). line_at b.lines d) is ∙ get_or-set_same p.board.lines d line zero_line within)
+      (ap (λ (b : BoardMemory). line_at b.lines d) is ∙ get_or-set_same p.board.lines d line zero_line within)
       (IsLine-line_at board.lines d each)
 
-  pub poke-ok : (d : ℕ) (line : Line) (board : Memory) (flags : Tampering) → d < layout.device_lines setup.shape
+  pub poke-ok : (d : ℕ) (line : Line) (board : BoardMemory) (flags : Tampering) → d < layout.device_lines setup.shape
       → board ≡ with_line_at p.board d line → All IsLine board.lines
       → with_tampering (state_in setup p) flags ≡ after_tampering setup.shape (state_in setup p) false d
       → HasStepped setup old (Do.Poke d line) (without_marks Say.Ok) (world_of setup (record p { board = board; tampering = flags }))
@@ -202,7 +203,7 @@ module _ (setup : Setup) (p : WorldParts) (going : IsGoingOn setup (world_of set
       (record { board = is; engine = refl; ledger = refl; tags = refl; digests = refl })
       (now.0 ∙ sym (tampered_still false d on_device)) now.1 tt
 
-  pub flip-ok : (d bit : ℕ) (board : Memory) (flags : Tampering) → d < layout.device_lines setup.shape → bit ≤ 511
+  pub flip-ok : (d bit : ℕ) (board : BoardMemory) (flags : Tampering) → d < layout.device_lines setup.shape → bit ≤ 511
       → board ≡ with_line_at p.board d (flipped_line (line_at p.board.lines d) bit) → All IsLine board.lines
       → with_tampering (state_in setup p) flags ≡ after_tampering setup.shape (state_in setup p) true d
       → HasStepped setup old (Do.Flip d bit) (without_marks Say.Ok) (world_of setup (record p { board = board; tampering = flags }))
@@ -217,7 +218,7 @@ module _ (setup : Setup) (p : WorldParts) (going : IsGoingOn setup (world_of set
       (record { board = is; engine = refl; ledger = refl; tags = refl; digests = refl })
       (now.0 ∙ sym (tampered_still true d on_device)) now.1 tt
 
-  pub move-ok : (from to : ℕ) (board : Memory) (flags : Tampering) → from < layout.device_lines setup.shape → to < layout.device_lines setup.shape
+  pub move-ok : (from to : ℕ) (board : BoardMemory) (flags : Tampering) → from < layout.device_lines setup.shape → to < layout.device_lines setup.shape
       → board ≡ with_line_at p.board to (line_at p.board.lines from)
       → with_tampering (state_in setup p) flags ≡ after_tampering setup.shape (state_in setup p) false to
       → HasStepped setup old (Do.Move from to) (without_marks Say.Ok) (world_of setup (record p { board = board; tampering = flags }))
@@ -232,7 +233,7 @@ module _ (setup : Setup) (p : WorldParts) (going : IsGoingOn setup (world_of set
       (now.0 ∙ sym (tampered_still false to to_device)) now.1 tt
 
   -- a line of the copy
-  pub back-ok : (d : ℕ) (board : Memory) (flags : Tampering) → d < layout.device_lines setup.shape → (p.board.snapshot ≡ None → ⊥)
+  pub back-ok : (d : ℕ) (board : BoardMemory) (flags : Tampering) → d < layout.device_lines setup.shape → (p.board.snapshot ≡ None → ⊥)
       → board ≡ with_lines p.board (restored_lines p.board.lines p.board.snapshot d) → All IsLine board.lines
       → with_tampering (state_in setup p) flags ≡ after_tampering setup.shape (state_in setup p) false d
       → HasStepped setup old (Do.Back d) (without_marks Say.Ok) (world_of setup (record p { board = board; tampering = flags }))

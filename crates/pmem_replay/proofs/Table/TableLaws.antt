@@ -8,10 +8,11 @@ use Rattle.pmem_base.specs.declared.commands.Posted.{Posted}
 use Rattle.pmem_base.specs.declared.commands.Command.{Command}
 use Rattle.pmem_base.specs.Layout as layout
 use Rattle.pmem_base.specs.Ranges.{IsPosted}
-use Rattle.board.specs.Memory.{Memory}
+use Rattle.pmem_base.specs.WaitingWrites.{queue_of}
+use Rattle.board.specs.Memory.{BoardMemory}
 use Rattle.write_ports.specs.Queues.{IsQueue}
 use Rattle.suite.specs.Setup.{Setup}
-use Rattle.plain_model.specs.State.{PlainState, Reply, queue_of}
+use Rattle.plain_model.specs.State.{PlainState, Reply}
 use Rattle.plain_model.specs.After.{after_post, after_power_loss, steps_with}
 use Rattle.plain_model.specs.View.{DeviceView}
 use Rattle.plain_model.specs.Answers.{decided_answer}
@@ -35,7 +36,7 @@ counted_none setup world whole =
     {x = world.state.steps} {y = steps_with world.state.steps 0} (omega (arith, whole.steps.in_range)) (fuse_none world.state.fuse))
 
 -- the chip under another state with the same power and flags
-chip_same : (setup : Setup) (old : WorldState) (queues : List (List Posted)) (snapped : Bool) (fuse : Option ℕ) (board : Memory)
+chip_same : (setup : Setup) (old : WorldState) (queues : List (List Posted)) (snapped : Bool) (fuse : Option ℕ) (board : BoardMemory)
     → board.lines ≡ old.board.lines → board.regs ≡ old.board.regs → (engine : Option EngineState) → IsPowered setup old engine
     → IsPowered setup (record old { state = record (old.state) { queues = queues; snapped = snapped; fuse = fuse }; board = record board { lines = old.board.lines; regs = old.board.regs } }) engine
 chip_same setup old queues snapped fuse board lines regs None off = search rules

@@ -4,11 +4,12 @@ use Rattle.std.specs.Prelude.{List, drop, length, not, true, false}
 use Rattle.pmem_base.specs.declared.commands.Posted.{Posted}
 use Rattle.pmem_base.specs.Geo.{shape_of}
 use Rattle.pmem_base.specs.Shape.{Shape}
+use Rattle.pmem_base.specs.WaitingWrites.{queue_of}
 use Rattle.suite.specs.Formulas.{Formulas}
 use Rattle.suite.specs.Setup.{Setup}
 use Rattle.board.specs.MemBoard.{memory_of}
 use Rattle.seal_ledger.specs.View.{ledger_of}
-use Rattle.plain_model.specs.State.{PlainState, queue_of}
+use Rattle.plain_model.specs.State.{PlainState}
 use Rattle.plain_model.specs.After.{after_marks}
 use Rattle.pmem_engine.specs.Outcomes.{is_sealed_by}
 use Rattle.pmem_engine.specs.Calls.{HasWrittenLine}

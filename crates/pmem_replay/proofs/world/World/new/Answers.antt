@@ -3,7 +3,7 @@ use Rattle.std.proofs.Common.{false, length, ap, refl, sym, subst, ◌∙◌}
 use Rattle.pmem_base.specs.Geo.{shape_of}
 use Rattle.pmem_base.specs.Layout.{device_lines}
 use Rattle.board.specs.MemBoard.{memory_of}
-use Rattle.board.specs.Memory.{Memory, device_of}
+use Rattle.board.specs.Memory.{BoardMemory, device_of}
 use Rattle.seal_ledger.specs.View.{ledger_of}
 use Rattle.suite.specs.Setup.{Setup}
 use Rattle.pmem_replay.specs.World.{WorldParts, IsWorld, world_of}
@@ -31,7 +31,7 @@ module _ (g : Over) (c : After-new-5 g) where
         formulas = g.met.S.Suite.in_range c.args.suite;
         formatted = c.in_ok-format.ensures.formatted;
         count = device_count setup q (device_of (memory_of c.in_ok-board.board)) c.in_ok-format.ensures.formatted
-            ∙ (ap (λ (m : Memory). length m.lines) c.in_ok-board.ensures ∙ length-new (device_lines (shape_of c.args.geo)) c.size.result c.size.ensures.value);
+            ∙ (ap (λ (m : BoardMemory). length m.lines) c.in_ok-board.ensures ∙ length-new (device_lines (shape_of c.args.geo)) c.size.result c.size.ensures.value);
         each_line = c.format.ensures.each_line;
         no_snapshot = c.format.ensures.none;
         queues = none_wait c.new-5.result c.new-5.ensures;

@@ -3,7 +3,7 @@ use Rattle.std.proofs.Common.{arith, rules, ◌≡◌, ap, subst, sym, ◌∙◌
 use Rattle.std.specs.Prelude.{false}
 use Rattle.pmem_base.specs.Geo.{shape_of}
 use Rattle.board.specs.MemBoard.{memory_of}
-use Rattle.board.specs.Memory.{Memory}
+use Rattle.board.specs.Memory.{BoardMemory}
 use Rattle.seal_ledger.specs.View.{ledger_of}
 use Rattle.pmem_recovery.specs.Parts.{suite_state}
 use Rattle.pmem_replay.specs.World.{WorldParts, IsWorld, world_of}
@@ -48,14 +48,14 @@ module _ (g : Over) (c : After-saturating_add-self-inside g) where
             record {
               going = going_in g.S.Suite.formulas_of (shape_of c.self.inside.geo) p c.args.self.now c.self.view_is c.requires c.self.invariant;
               was_off = none_there p.engine c.is_some.result c.is_some.ensures c.if-is_some.false;
-              watched = subst (λ (b : Memory). IsWatched b (memory_of c.recover-done.new.board) c.recover-done.result.taken) lights c.recover-done.ensures.watched;
+              watched = subst (λ (b : BoardMemory). IsWatched b (memory_of c.recover-done.new.board) c.recover-done.result.taken) lights c.recover-done.ensures.watched;
               counted = omega (arith, c.saturating_add-self-inside.ensures, c.steps-steps.ensures);
             };
         counted = c.steps-steps.ensures;
         engine = c.recover-done.new.engine;
         outcome = c.recover-done.result.answer;
         was =
-            subst (λ (b : Memory). WasRecovered (setup_in g.S.Suite.formulas_of (shape_of c.self.inside.geo) p) p.ledger (device_during b none_taken)
+            subst (λ (b : BoardMemory). WasRecovered (setup_in g.S.Suite.formulas_of (shape_of c.self.inside.geo) p) p.ledger (device_during b none_taken)
             (device_during (memory_of c.recover-done.new.board) c.recover-done.result.taken)
             (suite_state p.keys (g.S.Suite.pads c.self.inside.suite) p.tags p.digests)
             (suite_state (g.S.Suite.keys c.recover-done.new.suite) (g.S.Suite.pads c.recover-done.new.suite)

@@ -3,13 +3,13 @@ use Rattle.std.proofs.Common.{arith, ap, subst, ◌∙◌, ◌++◌, [], ◌∷�
 use Rattle.std.specs.Prelude.{slice_set, IsErr}
 use Rattle.pmem_base.specs.declared.commands.Posted.{Posted}
 use Rattle.pmem_base.specs.Ranges.{IsPosted}
-use Rattle.plain_model.specs.State.{queue_of}
 use Rattle.pmem_replay.proofs.Table.TableChanges.{post-ok}
 use Rattle.pmem_replay.proofs.Steps.PartsOfWorld.{engine_some, from_no_error}
 use Rattle.pmem_base.specs.Geo.{shape_of}
 use Rattle.board.specs.MemBoard.{memory_of}
 use Rattle.seal_ledger.specs.View.{ledger_of}
 use Rattle.pmem_base.specs.declared.commands.Command.TheVariants as Do
+use Rattle.pmem_base.specs.WaitingWrites.{queue_of}
 use Rattle.pmem_replay.specs.World.{WorldParts}
 use Rattle.pmem_replay.proofs.Steps.PartsOfWorld.{held, setup_in, going_in, seen_from, held_after}
 use Rattle.pmem_replay.proofs.world.World.post.Goals as goal
