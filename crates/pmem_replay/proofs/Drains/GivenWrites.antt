@@ -14,7 +14,6 @@ use Rattle.pmem_base.specs.Layout as layout
 use Rattle.pmem_base.specs.WaitingWrites.{queue_of, no_writes}
 use Rattle.meta_cache.specs.Banks.{IsBanksOf}
 use Rattle.seal_ledger.specs.Ledger.{IsMark}
-use Rattle.write_ports.specs.Queues as ports
 use Rattle.suite.specs.Setup.{Setup}
 use Rattle.plain_model.specs.State.{PlainState, memory_with, without_flag}
 use Rattle.plain_model.specs.After.{after_marks}
@@ -259,7 +258,7 @@ front_is (first ∷ later) write is = ap (λ (w : Posted). w ∷ later) (same_So
 
 -- what waits afterwards, as the ports have it
 pub moved_as : (queues before : List (List Posted)) (port : ℕ) (goes : Bool)
-    → queues ≡ (if goes then slice_set before port (drop 1 (queue_of before port)) else ports.no_writes)
+    → queues ≡ (if goes then slice_set before port (drop 1 (queue_of before port)) else no_writes)
     → queues ≡ (if goes then slice_set before port (drop 1 (queue_of before port)) else no_writes)
 moved_as queues before port true is = is
 moved_as queues before port false is = none_wait queues is

@@ -16,7 +16,6 @@ use Rattle.pmem_base.specs.declared.answers.Answer.{Answer}
 use Rattle.pmem_base.specs.WaitingWrites.{no_writes}
 use Rattle.pmem_replay.specs.Replies.{without_marks, with_marks_since}
 use Rattle.plain_model.specs.State.{Reply}
-use Rattle.write_ports.specs.Queues as ports
 use Rattle.pmem_engine.specs.Engine.{EngineState}
 use Rattle.pmem_replay.specs.Flagged.{Tampering, Dirtying}
 use Rattle.pmem_replay.specs.World.{WorldState, WorldParts, IsWorld, setup_of_world, state_in, world_of}
@@ -88,7 +87,7 @@ power_is setup p there going is = by_engine p.engine refl
     by_engine (Some engine) some = lit_in setup (world_of setup p) engine going.whole some ∙ sym (is ∙ ap is_some some)
 
 -- nothing waits
-pub none_wait : (queues : List (List Posted)) → queues ≡ ports.no_writes → queues ≡ no_writes
+pub none_wait : (queues : List (List Posted)) → queues ≡ no_writes → queues ≡ no_writes
 unfolding no_writes
 none_wait queues none = none
 

@@ -17,10 +17,10 @@ use Rattle.pmem_base.specs.Layout as layout
 use Rattle.pmem_base.specs.Lines.{IsLine, line_at, line_of, zero_line}
 use Rattle.pmem_base.specs.Marks.{SealOf, last_seal}
 use Rattle.pmem_base.specs.Ranges.{IsPosted}
-use Rattle.pmem_base.specs.WaitingWrites.{queue_of, put_write, put_writes}
+use Rattle.pmem_base.specs.WaitingWrites.{queue_of, put_write, put_writes, writes_to}
 use Rattle.seal_ledger.specs.Ledger.{IsMark}
 use Rattle.seal_ledger.proofs.MarkLemmas.{last_seal_has}
-use Rattle.write_ports.specs.Queues as ports
+use Rattle.write_ports.specs.Queues.{have_byte, cover_line}
 use Rattle.write_ports.proofs.WriteLemmas.{length-put_writes, get_or-put_writes_some}
 use Rattle.suite.proofs.CipherLemmas.{xor_lines-IsLine}
 use Rattle.suite.specs.Setup.{Setup}
@@ -35,22 +35,17 @@ use Rattle.pmem_replay.specs.Stepped.{HasStepped}
 use Rattle.pmem_replay.proofs.Steps.WorldsAfterCalls.{on_in}
 use Rattle.pmem_replay.proofs.Table.UnchangedSteps.{IsGoingOn, lit_in, stepped_unchanged}
 
--- both definitions put writes alike
-pub same_puts : (line : Line) (writes : List Posted) → ports.put_writes line writes ≡ put_writes line writes
-same_puts line [] = refl
-same_puts line (write ∷ writes) = same_puts (put_write line write) writes
-
 -- the bytes that were seen are all of them, or not
 pub covered_by : (state : PlainState) (port at mask : ℕ)
-    → (mask ≡ 2 ^ 64 - 1) ↔ IsTrue (ports.cover_line (ports.writes_to (ports.queue_of state.queues port) at))
+    → (mask ≡ 2 ^ 64 - 1) ↔ IsTrue (cover_line (writes_to (queue_of state.queues port) at))
     → mask ≡ 2 ^ 64 - 1 → is_covered state port at ≡ true
-unfolding ports.cover_line
+unfolding cover_line
 covered_by state port at mask full all = full.0 all
 
 pub uncovered_by : (state : PlainState) (port at mask : ℕ)
-    → (mask ≡ 2 ^ 64 - 1) ↔ IsTrue (ports.cover_line (ports.writes_to (ports.queue_of state.queues port) at))
+    → (mask ≡ 2 ^ 64 - 1) ↔ IsTrue (cover_line (writes_to (queue_of state.queues port) at))
     → mask ≢ 2 ^ 64 - 1 → is_covered state port at ≡ false
-unfolding ports.cover_line
+unfolding cover_line
 uncovered_by state port at mask full some =
     elim (cases_Bool (is_covered state port at)) [
       | inl all ↦ absurd (some (full.1 all))
@@ -74,25 +69,25 @@ memory_line setup world engine at whole there within = by_seal (last_seal world.
 
 -- writes that have all bytes of a line leave nothing of it
 puts_alike : (a b : Line) (writes : List Posted) → length a.0 ≡ 64 → length b.0 ≡ 64 → All IsPosted writes
-    → ((i : ℕ) → i < 64 → ports.have_byte writes i ≡ true) → ports.put_writes a writes ≡ ports.put_writes b writes
+    → ((i : ℕ) → i < 64 → have_byte writes i ≡ true) → put_writes a writes ≡ put_writes b writes
 puts_alike a b writes long_a long_b posted all =
     let one = length-put_writes a writes long_a posted in
     let two = length-put_writes b writes long_b posted in
     ap line_of
-    (ext_get_or 0 (ports.put_writes a writes).0 (ports.put_writes b writes).0 (one ∙ sym two)
+    (ext_get_or 0 (put_writes a writes).0 (put_writes b writes).0 (one ∙ sym two)
     (λ i within. get_or-put_writes_some a b writes i long_a long_b posted (all i (omega (arith, within, one)))))
 
 -- each byte is covered where all are
-each_byte : (writes : List Posted) → list_all (λ i. ports.have_byte writes i) (range_with_len 0 64) ≡ true
-    → (i : ℕ) → i < 64 → ports.have_byte writes i ≡ true
+each_byte : (writes : List Posted) → list_all (λ i. have_byte writes i) (range_with_len 0 64) ≡ true
+    → (i : ℕ) → i < 64 → have_byte writes i ≡ true
 each_byte writes all i small =
-    ap (ports.have_byte writes) (omega (arith, get_or-range_with_len 0 64 i 0 small))
-    ∙ AllPass-from_list_all (λ k. ports.have_byte writes k) (range_with_len 0 64) all i 0 (omega (arith, small, length-range_with_len 0 64))
+    ap (have_byte writes) (omega (arith, get_or-range_with_len 0 64 i 0 small))
+    ∙ AllPass-from_list_all (λ k. have_byte writes k) (range_with_len 0 64) all i 0 (omega (arith, small, length-range_with_len 0 64))
 
 module _ (setup : Setup) (world : WorldState) (going : IsGoingOn setup world) (engine : EngineState) (there : world.engine ≡ Some engine)
     (port at : ℕ) (small : port < 8) (within : at < layout.data_lines setup.shape) (covered : is_covered world.state port at ≡ true) where
   abbrev pub waiting : List Posted
-  waiting = ports.writes_to (ports.queue_of world.state.queues port) at
+  waiting = writes_to (queue_of world.state.queues port) at
 
   posted : All IsPosted waiting
   posted =
@@ -100,15 +95,14 @@ module _ (setup : Setup) (world : WorldState) (going : IsGoingOn setup world) (e
       (going.whole.queues.ports.each port [] (omega (arith, small, going.whole.queues.ports.eight))).posted
 
   -- what the writes show over zeros is what they show over memory's line
-  pub read-forwarded : (line : Line) → line ≡ ports.put_writes zero_line waiting → IsLine line
+  pub read-forwarded : (line : Line) → line ≡ put_writes zero_line waiting → IsLine line
       → HasStepped setup world (Do.Read port at) (without_marks (Say.Got line 0)) world
   unfolding zero_line
   read-forwarded line is its =
       let memory = memory_line setup world engine at going.whole there within in
       let same : line ≡ seen_line world.state port at =
       is
-      ∙ puts_alike zero_line (line_at world.state.memory at) waiting refl memory.long posted (each_byte waiting covered)
-      ∙ same_puts (line_at world.state.memory at) waiting in
+      ∙ puts_alike zero_line (line_at world.state.memory at) waiting refl memory.long posted (each_byte waiting covered) in
       let decided : decided_answer setup.shape world.state (Do.Read port at) ≡ Some (Say.Got line 0) =
       rw (lit_in setup world engine going.whole there)
       (rw (lt-ltb at (layout.data_lines setup.shape) within)

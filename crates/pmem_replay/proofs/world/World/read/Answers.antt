@@ -16,7 +16,7 @@ use Rattle.pmem_replay.specs.During.{parts_in, none_taken}
 use Rattle.pmem_replay.specs.World.{WorldParts, state_in, world_of}
 use Rattle.pmem_replay.proofs.Steps.EngineCalls.{EngineCall, setup_at, old_world, parts_left}
 use Rattle.pmem_replay.proofs.Steps.PartsOfWorld.{held, setup_in, going_in, shape_in, none_wait, seen_from, same_engine}
-use Rattle.pmem_replay.proofs.Table.ForwardedReads.{same_puts, covered_by, uncovered_by, read-forwarded}
+use Rattle.pmem_replay.proofs.Table.ForwardedReads.{covered_by, uncovered_by, read-forwarded}
 use Rattle.pmem_replay.proofs.Commands.ReadSteps.{Has, read-got, read-meta, read-tag, read-cut, read-shown}
 use Rattle.pmem_replay.proofs.Steps.ReservedRoom.{same_room}
 use Rattle.pmem_replay.proofs.world.World.read.Given.{Over}
@@ -99,15 +99,13 @@ pub invariant_of-self-in-Ok : goal.invariant_of-self-in-Ok
 invariant_of-self-in-Ok g c =
     let place = (goal.at.invariant_of-self-in-Ok g c).After-saturating_add-self-inside in
     (read-got (call g place) c.args.port c.args.at (within g place) (uncovered g place) c.in-Ok.line c.overlay.result (found g place (Ok c.in-Ok.line) c.in-Ok.is)
-    (c.overlay.ensures.value ∙ c.look-seen.ensures.over c.in-Ok.line c.is_whole-in-Ok.ensures.long
-    ∙ same_puts c.in-Ok.line (writes_to (queue_of c.self.inside.ports c.args.port) c.args.at)) c.overlay.ensures.whole).holds
+    (c.overlay.ensures.value ∙ c.look-seen.ensures.over c.in-Ok.line c.is_whole-in-Ok.ensures.long) c.overlay.ensures.whole).holds
 
 pub returns-in-Ok : goal.returns-in-Ok
 returns-in-Ok g c =
     let place = (goal.at.returns-in-Ok g c).After-saturating_add-self-inside in
     (read-got (call g place) c.args.port c.args.at (within g place) (uncovered g place) c.in-Ok.line c.overlay.result (found g place (Ok c.in-Ok.line) c.in-Ok.is)
-    (c.overlay.ensures.value ∙ c.look-seen.ensures.over c.in-Ok.line c.is_whole-in-Ok.ensures.long
-    ∙ same_puts c.in-Ok.line (writes_to (queue_of c.self.inside.ports c.args.port) c.args.at)) c.overlay.ensures.whole).stepped
+    (c.overlay.ensures.value ∙ c.look-seen.ensures.over c.in-Ok.line c.is_whole-in-Ok.ensures.long) c.overlay.ensures.whole).stepped
 
 pub invariant_of-self-in-Err-Cut : goal.invariant_of-self-in-Err-Cut
 invariant_of-self-in-Err-Cut g c =
