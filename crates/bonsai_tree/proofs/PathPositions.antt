@@ -1,4 +1,5 @@
 -- Paths: one position a level from the top down to a page's counter block, and what two paths share.
+use Rattle.std.proofs.Common.{rules}
 use Rattle.std.proofs.Common.{ℕ, zero, suc, ◌≡◌, ◌≢◌, ◌<◌, ◌≤◌, ◌+◌, ◌-◌, ◌*◌, ◌/◌, ◌%◌, ◌^◌, true, false, List, [], ◌∷◌, ◌++◌, length, inl, inr, refl, sym, ap, subst, ◌∙◌, arith, length-append, add-one, lit<}
 use Rattle.std.specs.Prelude.{◌==◌, All, slice_index}
 use Rattle.std.specs.List.{list_any}
@@ -19,15 +20,10 @@ abbrev pub path_position : Shape → ℕ → ℕ → ℕ
 path_position g page j = level_start j + page / 4 ^ (g.levels - j)
 
 pub path_position-top : (g : Shape) (page : ℕ) → page < pages g → path_position g page 0 ≡ 0
-path_position-top g page inside =
-    let all : g.levels - 0 ≡ g.levels = omega arith in
-    let none : page / 4 ^ g.levels ≡ 0 = div-eq_of_lt inside in
-    omega (arith, ap (λ n. page / 4 ^ n) all ∙ none)
+path_position-top g page inside = search rules
 
 pub path_position-block : (g : Shape) (page : ℕ) → path_position g page g.levels ≡ counter_position g page
-path_position-block g page =
-    let none : g.levels - g.levels ≡ 0 = omega arith in
-    ap (λ n. level_start g.levels + page / 4 ^ n) none ∙ ap (λ n. level_start g.levels + n) (div-one page)
+path_position-block g page = search rules
 
 -- the position one level down
 pub path_position-suc : (g : Shape) (page j : ℕ) → j < g.levels → path_position g page (suc j) ≡ child_position (path_position g page j) (page / 4 ^ (g.levels - suc j) % 4)
@@ -158,10 +154,7 @@ path-is g page j x below path new above last is before added =
 
 -- at the last level
 pub path-done : (g : Shape) (page j : ℕ) (path : List ℕ) → j ≡ g.levels → path ≡ path_down_to j (path_position g page j) → path ≡ path_of g page
-path-done g page j path end built =
-    built
-    ∙ (ap (λ n. path_down_to n (path_position g page n)) end
-    ∙ ap (path_down_to g.levels) (path_position-block g page))
+path-done g page j path end built = search rules
 
 -- ---- which positions are on a page's path
 

@@ -1,4 +1,5 @@
 -- A tree with a path's new lines is a tree again.
+use Rattle.std.proofs.Common.{rules}
 use Rattle.std.proofs.Common.{ℕ, zero, suc, ◌≡◌, ◌≢◌, ◌<◌, ◌≤◌, ◌*◌, List, [], ◌∷◌, ◌++◌, length, refl, sym, ap, subst, inl, inr, ◌∙◌, arith, true, false, map, get_or}
 use Rattle.std.specs.List.{All}
 use Rattle.std.proofs.lemmas.List.{length-set, map-append}
@@ -236,12 +237,4 @@ path_with-entries g f lines page block size inside =
 
 -- a tree is the same with the block that it has
 pub IsTreeWith-itself : (g : Shape) (f : Formulas) (page : ℕ) (lines : List Line) (root : List ℕ) → IsHashTree g f lines → All IsLine lines → root ≡ f.digest_of 0 (line_at lines 0) → IsTreeWith g f page (line_at lines (counter_position g page)) root lines lines
-IsTreeWith-itself g f page lines root tree whole top =
-    record {
-      tree = tree;
-      whole = whole;
-      its_block = refl;
-      other_blocks = λ other apart. refl;
-      off_path = λ x off. refl;
-      top = top;
-    }
+IsTreeWith-itself g f page lines root tree whole top = search rules

@@ -1,4 +1,5 @@
 -- What is found dirty is cached dirty, and where nothing is found nothing is dirty.
+use Rattle.std.proofs.Common.{rules}
 use Rattle.std.proofs.Common.{◌≡◌, ℕ, suc, ◌-◌, ◌<◌, ◌≤◌, Bool, true, false, cond, List, [], ◌∷◌, length, get_or, reverse, refl, sym, ap, subst, ◌∙◌, inl, inr, arith, Option, Some, None}
 use Rattle.std.specs.Prelude.{◌==◌, ◌&&◌, find, slice_get, option_map, All, IfSome, IsNone}
 use Rattle.std.specs.List.{list_any, filter_map, cons_option, range_with_len}
@@ -62,8 +63,7 @@ answer_found {X = X} {Y = Y} f (x ∷ xs) y e = by_answer (f x) refl e (λ rest.
 
 position_found : (answer : Option Slot) (x : ℕ) → option_map (λ (slot : Slot). slot.position) answer ≡ Some x
     → (slot : Slot) × (answer ≡ Some slot) × (slot.position ≡ x)
-position_found None x e = absurd cc
-position_found (Some slot) x e = let same : slot.position ≡ x = cc in (slot, refl, same)
+position_found v0 x e = search rules
 
 -- the oldest dirty position of a set is dirty there
 record IsDirtyAt (slots : List Slot) (x : ℕ) : Type 0 where
@@ -109,9 +109,7 @@ oldest_of_bank_cached g banks bank x form e =
 
 pair_found : (answer : Option ℕ) (bank : ℕ) (found : ℕ × ℕ) → option_map (λ x. (bank, x)) answer ≡ Some found
     → (answer ≡ Some found.1) × (bank ≡ found.0)
-pair_found None bank found e = absurd cc
-pair_found (Some x) bank found e =
-    let same : (bank, x) ≡ found = cc in (ap (λ (p : ℕ × ℕ). Some p.1) same, ap (λ (p : ℕ × ℕ). p.0) same)
+pair_found v0 bank found e = search rules
 
 -- the oldest dirty position is cached dirty in its bank
 pub oldest_cached : (g : Shape) (banks : Banks) (found : ℕ × ℕ) → IsCacheOf g banks
@@ -155,8 +153,7 @@ no_answers {X = X} {Y = Y} f (x ∷ xs) none = by_answer (f x) refl none (λ res
     by_answer (Some y) answers rest again = absurd cc
 
 mapped_none : {X Y : Type 0} (f : X → Y) (answer : Option X) → option_map f answer ≡ None → answer ≡ None
-mapped_none f None e = refl
-mapped_none f (Some x) e = absurd cc
+mapped_none f v1 e = search rules
 
 -- no slot of the set is dirty
 all_clean : (slots : List Slot) → oldest_dirty_in slots ≡ None → All (λ (slot : Slot). slot.dirty ≡ false) slots

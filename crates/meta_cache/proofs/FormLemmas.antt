@@ -1,4 +1,5 @@
 -- A set keeps its form through each call.
+use Rattle.std.proofs.Common.{rules}
 use Rattle.std.proofs.Common.{◌≡◌, ◌≢◌, ℕ, zero, suc, ◌+◌, ◌-◌, ◌<◌, ◌≤◌, Bool, true, false, cond, List, [], ◌∷◌, length, get_or, take, drop, map, refl, sym, ap, subst, ◌∙◌, ◌⊎◌, inl, inr, arith, Some}
 use Rattle.std.specs.Prelude.{◌==◌, nat_lt, not, remove, option_map, All, AllPairs, Any}
 use Rattle.std.specs.List.{list_any, position_or_len, range_with_len}
@@ -88,16 +89,13 @@ IsSetOf-map g n f slots ways positions lines form =
     }
 
 pub same_way_if : (test : Bool) (a b : Slot) → a.way ≡ b.way → (cond test a b).way ≡ b.way
-same_way_if true a b e = e
-same_way_if false a b e = refl
+same_way_if v0 a b e = search rules
 
 pub same_position_if : (test : Bool) (a b : Slot) → a.position ≡ b.position → (cond test a b).position ≡ b.position
-same_position_if true a b e = e
-same_position_if false a b e = refl
+same_position_if v0 a b e = search rules
 
 whole_if : (test : Bool) (a b : Slot) → IsLine a.line → IsLine b.line → IsLine (cond test a b).line
-whole_if true a b ha hb = ha
-whole_if false a b ha hb = hb
+whole_if v0 a b ha hb = search rules
 
 pub IsSetOf-with_slot_line : (g : Shape) (n : ℕ) (slots : List Slot) (x : ℕ) (line : Line) → IsLine line
     → IsSetOf g n slots → IsSetOf g n (with_slot_line slots x line)
@@ -124,15 +122,7 @@ pub IsSetOf-cons : (g : Shape) (n : ℕ) (slot : Slot) (slots : List Slot) → l
     → slot.way < g.ways → set_index g slot.position ≡ n → IsLine slot.line
     → All (λ b. slot.way ≢ b.way) slots → All (λ b. slot.position ≢ b.position) slots → IsSetOf g n slots
     → IsSetOf g n (slot ∷ slots)
-IsSetOf-cons g n slot slots room way position line ways positions form =
-    record {
-      room = omega arith;
-      its_ways = All-cons (λ (s : Slot). s.way < g.ways) slot slots way form.its_ways;
-      its_positions = All-cons (λ (s : Slot). set_index g s.position ≡ n) slot slots position form.its_positions;
-      whole_lines = All-cons (λ (s : Slot). IsLine s.line) slot slots line form.whole_lines;
-      distinct_ways = AllPairs-cons (λ (a b : Slot). a.way ≢ b.way) slot slots ways form.distinct_ways;
-      distinct_positions = AllPairs-cons (λ (a b : Slot). a.position ≢ b.position) slot slots positions form.distinct_positions;
-    }
+IsSetOf-cons g n slot slots room way position line ways positions form = search rules
 
 pub IsSetOf-remove : (g : Shape) (n : ℕ) (slots : List Slot) (i : ℕ) → i < length slots → IsSetOf g n slots
     → IsSetOf g n (remove slots i)

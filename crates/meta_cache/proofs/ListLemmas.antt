@@ -1,4 +1,5 @@
 -- Lists with one element apart from the others.
+use Rattle.std.proofs.Common.{rules}
 use Rattle.std.proofs.Common.{◌≡◌, ℕ, suc, ◌+◌, ◌<◌, Bool, true, false, cond, List, [], ◌∷◌, ◌++◌, length, get_or, set, take, drop, map, refl, sym, ap, ap₂, ◌∙◌, arith, Option, Some, None}
 use Rattle.std.specs.Prelude.{not, slice_get, filter, remove, IsSome, is_some}
 use Rattle.std.specs.List.{cons_option, refill, All, filter_map}
@@ -79,8 +80,7 @@ refill_same xs ys h = take_at ys (drop (length ys) xs) (length xs) h
 
 first_of : {Y : Type 0} (answer : Option Y) (rest : List Y) → IsSome answer
     → answer ≡ slice_get (cons_option answer rest) 0
-first_of None rest some = absurd (false≢true some)
-first_of (Some y) rest some = refl
+first_of v0 rest some = search rules
 
 pub first_answer : {X Y : Type 0} (f : X → Option Y) (xs : List X) (i : ℕ) (d : X) → i < length xs
     → filter_map f (take i xs) ≡ [] → IsSome (f (get_or xs i d)) → f (get_or xs i d) ≡ slice_get (filter_map f xs) 0
@@ -93,8 +93,7 @@ first_answer f xs i d h none some =
     ∙ ap (λ before. before ++ filter_map f (get_or xs i d ∷ drop (i + 1) xs)) none))
 
 none_of : {Y : Type 0} (answer : Option Y) → is_some answer ≡ false → cons_option answer [] ≡ []
-none_of None none = refl
-none_of (Some y) none = absurd (false≢true (sym none))
+none_of v0 none = search rules
 
 pub no_answer_more : {X Y : Type 0} (f : X → Option Y) (xs : List X) (i : ℕ) (d : X) → i < length xs
     → filter_map f (take i xs) ≡ [] → is_some (f (get_or xs i d)) ≡ false → filter_map f (take (i + 1) xs) ≡ []

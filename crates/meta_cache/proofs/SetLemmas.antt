@@ -1,4 +1,5 @@
 -- Slots of one set: where a position is, and what a call makes of the set.
+use Rattle.std.proofs.Common.{rules}
 use Rattle.std.proofs.Common.{◌≡◌, ℕ, ◌+◌, ◌-◌, ◌<◌, ◌≤◌, Bool, true, false, cond, List, [], ◌∷◌, ◌++◌, length, get_or, set, take, drop, refl, sym, ap, ap₂, ◌∙◌, inl, inr, arith, Some, None}
 use Rattle.std.specs.Prelude.{◌==◌, ◌||◌, nat_lt, not, is_some, slice_get, remove, All, Any}
 use Rattle.std.specs.List.{list_any, position_or_len, range_with_len}
@@ -131,8 +132,7 @@ free_way_is ways w slots h used free =
 
 pub next_way-room : (ways : ℕ) (slots : List Slot) → length slots < ways → next_way ways slots ≡ free_way ways slots
 unfolding next_way
-next_way-room ways slots h =
-    ap (way_over ways slots) (cond-true (nat_lt (length slots) ways) None (slice_get slots (ways - 1)) (lt-ltb (length slots) ways h))
+next_way-room ways slots h = search rules
 
 pub next_way-full : (ways : ℕ) (slots : List Slot) (d : Slot) → 1 ≤ ways → ways ≤ length slots
     → next_way ways slots ≡ (get_or slots (ways - 1) d).way

@@ -1,4 +1,5 @@
 -- Slots that stand in a cache: cached and dirty positions, ways and numbers.
+use Rattle.std.proofs.Common.{rules}
 use Rattle.std.proofs.Common.{◌≡◌, ◌≢◌, ℕ, zero, suc, ◌+◌, ◌*◌, ◌<◌, ◌≤◌, Bool, true, false, cond, Some, List, [], ◌∷◌, map, length, get_or, mul-le-mul_right, refl, sym, ap, ap₂, subst, ◌∙◌, inl, inr, arith}
 use Rattle.std.specs.Prelude.{◌==◌, ◌&&◌}
 use Rattle.std.specs.List.{All, AllPairs, Any, Contains}
@@ -76,14 +77,12 @@ same_way set a b distinct sa sb way =
 
 pub in_place_of : (g : Shape) (cache : Banks) (bank set : ℕ) (slot : Slot) → IsBanksOf g cache
     → Contains (set_of cache bank set) slot → IsInPlace g bank set slot
-in_place_of g cache bank set slot form stands =
-    All-stands (IsInPlace g bank set) (set_of cache bank set) slot (form.in_place bank set) stands
+in_place_of g cache bank set slot form stands = search rules
 
 -- a slot's number is one of its bank's
 pub slot_number_within : (g : Shape) (set : ℕ) (slot : Slot) → set < g.sets → slot.way < g.ways
     → slot_number g set slot < slots g
-slot_number_within g set slot low h =
-    let more : (set + 1) * g.ways ≤ g.sets * g.ways = mul-le-mul_right g.ways (omega arith) in omega arith
+slot_number_within g set slot low h = search rules
 
 -- a number belongs to one set and way
 pub slot_number_parts : (g : Shape) (set set' : ℕ) (a b : Slot) → a.way < g.ways → b.way < g.ways
@@ -154,8 +153,7 @@ slot_with-is slots slot apart stands = slot_with-at slots stands.0 slot slot apa
 -- ---- what the calls on a set make of its slots
 
 pub IsFromBefore-same : (set : List Slot) (slot : Slot) → Contains set slot → IsFromBefore set slot
-IsFromBefore-same set slot stands =
-    record { before = slot; stands = stands; way = refl; position = refl; same_line = refl; dirty = λ e. e }
+IsFromBefore-same set slot stands = search rules
 
 -- an element of a changed list is a changed element
 contained-map : (f : Slot → Slot) (slots : List Slot) (slot : Slot) → Contains (map f slots) slot

@@ -1,4 +1,5 @@
 -- A call changes one set through the bank that it stands in.
+use Rattle.std.proofs.Common.{rules}
 use Rattle.std.proofs.Common.{◌≡◌, ℕ, ◌<◌, ◌≤◌, true, false, List, [], length, get_or, set, sym, ap, subst, ◌∙◌, arith}
 use Rattle.std.proofs.lemmas.List.{get_or_default}
 use Rattle.pmem_base.specs.Shape.{Shape}
@@ -22,20 +23,13 @@ pub record IsStep (change : List Slot → List Slot) (g : Shape) (banks : Banks)
 -- the arguments of a step, for each lemma below
 pub inside : (change : List Slot → List Slot) (g : Shape) (banks : Banks) (now : CacheState) (bank x n from : ℕ)
     (here new : List (List Slot)) → IsStep change g banks now bank x n from here new → IsInside g banks bank n
-inside change g banks now bank x n from here new step =
-    record {
-      form = step.form;
-      its_bank = omega (arith, step.low, ap (λ (state : CacheState). state.shape.levels) step.view);
-      its_set = omega (arith, step.within, ap (λ (state : CacheState). state.shape.sets) step.view);
-    }
+inside change g banks now bank x n from here new step = search rules
 
 -- the set that is changed is that of the position
 pub its_slots : (change : List Slot → List Slot) (g : Shape) (banks : Banks) (now : CacheState) (bank x n from : ℕ)
     (here new : List (List Slot)) → IsStep change g banks now bank x n from here new
     → set_of banks bank n ≡ slots_of now bank x
-its_slots change g banks now bank x n from here new step =
-    ap (λ (state : CacheState). set_of state.banks bank n) step.view
-    ∙ ap (λ m. set_of now.banks bank m) step.index
+its_slots change g banks now bank x n from here new step = search rules
 
 new_banks : (change : List Slot → List Slot) (g : Shape) (banks : Banks) (now : CacheState) (bank x n from : ℕ)
     (here new : List (List Slot)) → IsStep change g banks now bank x n from here new
@@ -87,11 +81,9 @@ changes_set change g banks now bank x n from here new step ways =
 pub is_there : (change : List Slot → List Slot) (g : Shape) (banks : Banks) (now : CacheState) (bank x n from : ℕ)
     (here new : List (List Slot)) → IsStep change g banks now bank x n from here new
     → is_cached now.shape now.banks bank x ≡ true → holds (set_of banks bank n) x ≡ true
-is_there change g banks now bank x n from here new step cached =
-    ap (λ slots. holds slots x) (its_slots change g banks now bank x n from here new step) ∙ cached
+is_there change g banks now bank x n from here new step cached = search rules
 
 pub is_absent : (change : List Slot → List Slot) (g : Shape) (banks : Banks) (now : CacheState) (bank x n from : ℕ)
     (here new : List (List Slot)) → IsStep change g banks now bank x n from here new
     → is_cached now.shape now.banks bank x ≡ false → holds (set_of banks bank n) x ≡ false
-is_absent change g banks now bank x n from here new step cached =
-    ap (λ slots. holds slots x) (its_slots change g banks now bank x n from here new step) ∙ cached
+is_absent change g banks now bank x n from here new step cached = search rules

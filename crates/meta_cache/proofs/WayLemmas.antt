@@ -1,4 +1,5 @@
 -- A position keeps its way while its slot is there.
+use Rattle.std.proofs.Common.{rules}
 use Rattle.std.proofs.Common.{◌≡◌, ℕ, zero, suc, ◌-◌, Bool, true, false, cond, List, [], ◌∷◌, length, take, map, refl, sym, ap, ◌∙◌, Option, Some, None}
 use Rattle.std.specs.Prelude.{◌==◌, ◌||◌, nat_lt, not, filter, find, is_some, option_map}
 use Rattle.std.specs.Option.{option_or}
@@ -33,8 +34,7 @@ find-filter_none p q (x ∷ xs) none = by_test (q x) refl (find-filter_none p q 
     by_test false e rest = rest
 
 option_or-some : {X : Type 0} (found other : Option X) → is_some found ≡ true → option_or found other ≡ found
-option_or-some (Some x) other e = refl
-option_or-some None other e = absurd (both_ways false refl e)
+option_or-some v0 other e = search rules
 
 -- ---- each change keeps the ways
 
@@ -69,12 +69,10 @@ KeepsWays-with_mark slots x dirty y before after =
 
 -- one number is not another
 apart : (position x y : ℕ) → (x == y) ≡ false → (position == x) ≡ true → (position == y) ≡ false
-apart position x y e same =
-    ap (λ n. n == y) (eqb-true position x same) ∙ e
+apart position x y e same = search rules
 
 from_not : (test : Bool) → not test ≡ false → test ≡ true
-from_not true e = refl
-from_not false e = sym e
+from_not v0 e = search rules
 
 pub KeepsWays-touched : (slots : List Slot) (x : ℕ) → KeepsWays slots (touched slots x)
 unfolding touched
