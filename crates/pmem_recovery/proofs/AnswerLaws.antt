@@ -15,7 +15,7 @@ use Rattle.suite.specs.Setup.{Setup}
 use Rattle.seal_ledger.specs.Ledger.{LedgerState}
 use Rattle.meta_cache.specs.Banks.{set_of}
 use Rattle.meta_cache.specs.State.{empty_banks}
-use Rattle.pmem_recovery.proofs.EmptyBanks.{set_of-empty_banks}
+use Rattle.meta_path.proofs.PathFacts.{set_of-empty_banks}
 use Rattle.pmem_engine.specs.Invariants.{IsAnchored, IsTrusted, IsTrueSlot, IsMendable}
 use Rattle.pmem_engine.specs.Mendable.{IsLineMendable, IsShadowZero, new_engine}
 use Rattle.pmem_engine.specs.Steps.{IsEmptied}
@@ -141,12 +141,3 @@ is_some-redone group (Some lines) = refl
 
 pub RisesAtMost-then : (n m k before mid after : ℕ) → m ≤ k → RisesBy n before mid → RisesBy m mid after → RisesAtMost (n + k) before after
 RisesAtMost-then n m k before mid after few a b = search rules
-
-pub RisesAtMost-of : (n k before after : ℕ) → n ≤ k → RisesBy n before after → RisesAtMost k before after
-RisesAtMost-of n k before after few a = search rules
-
-pub RisesAtMost-weaker : (n k before after : ℕ) → n ≤ k → RisesAtMost n before after → RisesAtMost k before after
-RisesAtMost-weaker n k before after few a = search rules
-
-pub RisesAtMost-none : (k before after : ℕ) → after ≡ before → RisesAtMost k before after
-RisesAtMost-none k before after e = search rules

@@ -1,4 +1,3 @@
-pub mod EmptyBanks
 pub mod TrialLaws
 pub mod UndecidedLaws
 pub mod FixedEquations

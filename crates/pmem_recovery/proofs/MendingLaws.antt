@@ -2,12 +2,10 @@
 use Rattle.std.proofs.Common.{rules, ℕ, ◌≡◌, ◌<◌, ◌≤◌, ◌+◌, ◌*◌, Bool, true, false, cond, List, [], ◌∷◌, length, get_or, take, All, Some, refl, ap, sym, subst, ◌∙◌, inl, inr, arith}
 use Rattle.std.specs.Prelude.{filter, is_some}
 use Rattle.std.proofs.lemmas.Option.{same_Some}
-use Rattle.std.proofs.Math.Nat.{one-le-mul}
 use Rattle.std.proofs.lemmas.List.{length-take, take_all, get_or_default}
 use Rattle.std.proofs.lemmas.List.Elements.{All-take, All-head, All-tail}
 use Rattle.pmem_base.specs.declared.lines.Line.{Line}
 use Rattle.pmem_base.specs.declared.registers.Regs.{Regs}
-use Rattle.pmem_base.specs.Shape.{Shape, IsShape}
 use Rattle.pmem_base.specs.Layout as layout
 use Rattle.pmem_base.specs.Lines.{line_at, zero_line}
 use Rattle.board.specs.Counts.{RisesBy}
@@ -191,10 +189,6 @@ made_writes-zeroed setup regs old mid late new shadow made r m w k within z =
     }
 
 -- ---- a stop
-
--- there is a shadow line
-pub most_writes-some : (g : Shape) → IsShape g → 0 < most_writes g
-most_writes-some g shape = omega (arith, one-le-mul shape.at_least_one_set shape.at_least_one_way)
 
 WritesFewer-of : (k most : ℕ) (old new : Device) → k < most → RisesBy k old.writes new.writes → WritesFewer most old new
 WritesFewer-of k most old new less w = record { fewer = λ below. omega (arith, less, w.exact below) }

@@ -1,7 +1,6 @@
 -- Laws of the stages: what they do to the device and to the suite's counts, one after another.
-use Rattle.std.proofs.Common.{rules, ℕ, zero, suc, ◌≡◌, ◌≤◌, ◌<◌, ◌+◌, ◌*◌, ◌∷◌, [], All, length, Bool, true, false, List, Some, Result, Err, refl, sym, ap, subst, ◌∙◌, arith}
+use Rattle.std.proofs.Common.{rules, ℕ, zero, suc, ◌≡◌, ◌≤◌, ◌<◌, ◌+◌, ◌*◌, ◌∷◌, [], All, length, List, Some, Result, Err, refl, sym, ap, subst, ◌∙◌, arith}
 use Rattle.std.specs.Result.{IfErr}
-use Rattle.std.proofs.lemmas.Bool.{true≢false}
 use Rattle.std.proofs.lemmas.Nat.{mul-le}
 use Rattle.std.proofs.lemmas.List.{length-append}
 use Rattle.std.proofs.lemmas.List.Elements.{All-append, All-cons, All-nil}
@@ -33,10 +32,6 @@ IsUncut-none old = record { cuts = refl; steady = λ s. s; live = λ s. s }
 
 pub IsUncut-then : (old mid new : Device) → IsUncut old mid → IsUncut mid new → IsUncut old new
 IsUncut-then old mid new a b = search rules
-
-unsteady_before : (old mid : Bool) → (old ≡ true → mid ≡ true) → mid ≡ false → old ≡ false
-unsteady_before true mid keeps off = absurd (true≢false (sym (keeps refl) ∙ off))
-unsteady_before false mid keeps off = refl
 
 -- a cut after a stage that went on
 pub IsCutOff-after : (old mid new : Device) → IsUncut old mid → IsCutOff mid new → IsCutOff old new

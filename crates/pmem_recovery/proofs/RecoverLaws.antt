@@ -32,9 +32,6 @@ use Rattle.pmem_recovery.proofs.AnswerLaws.{partly-data, partly-mendable, no_cou
 
 -- ---- no memory, and a cut while the group is redone
 
-pub counts-none : (most count : ℕ) → CountsAtMost most count count
-counts-none most count = record { calls = 0; few = omega arith; counted = refl }
-
 pub recovered_memory : (setup : Setup) (ledger : LedgerState) (old : Device) (suite : SuiteState) → IsValidRegs setup.shape old.regs → HasRecovered setup ledger old old suite suite (Err Memory)
 recovered_memory setup ledger old suite valid = search rules
 

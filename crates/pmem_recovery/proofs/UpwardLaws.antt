@@ -93,15 +93,6 @@ AreMade-push setup lines regs done made entry new h q e o m =
       every = λ x h d q. or_left (eqb entry.at x) false (eq-eqb entry.at x (sym d));
     })
 
--- a position that isn't named needs none
-pub AreMade-skip : (setup : Setup) (lines : List Line) (regs : Regs) (done : ℕ → Type 0) (made : List Made) (y : ℕ) → is_named setup.shape lines y ≡ false → AreMade setup lines regs done made → AreMade setup lines regs (λ x. done x ⊎ (x ≡ y)) made
-AreMade-skip setup lines regs done made y unnamed m =
-    record { each = m.each; only_done = All-weaker (λ e. done e.at) (λ e. done e.at ⊎ (e.at ≡ y)) (λ e d. inl d) made m.only_done; distinct = m.distinct; every = λ x h d q. at x h q d }
-  where
-    at : (x : ℕ) → x < layout.meta_lines setup.shape → is_named setup.shape lines x ≡ true → done x ⊎ (x ≡ y) → is_made made x ≡ true
-    at x h q (inl d) = m.every x h d q
-    at x h q (inr e) = absurd (false≢true (sym unnamed ∙ ap (is_named setup.shape lines) (sym e) ∙ q))
-
 -- ---- blocks and nodes
 
 pub block_made_fixed : (setup : Setup) (lines : List Line) (regs : Regs) (page : ℕ) → IsShape setup.shape → page < layout.pages setup.shape → is_named setup.shape lines (counter_position setup.shape page) ≡ true → (block_made setup lines regs page).line ≡ fixed_line setup lines regs (counter_position setup.shape page)

@@ -1,5 +1,5 @@
 -- The steps of making lines upwards, as the loops over levels and positions take them.
-use Rattle.std.proofs.Common.{rules, ℕ, zero, suc, ◌≡◌, ◌<◌, ◌≤◌, ◌+◌, ◌-◌, true, false, List, [], ◌∷◌, ◌++◌, refl, subst, inl, inr, ◌⊎◌, arith}
+use Rattle.std.proofs.Common.{rules, ℕ, suc, ◌≡◌, ◌<◌, ◌≤◌, ◌+◌, ◌-◌, true, false, List, [], ◌∷◌, ◌++◌, refl, inl, inr, ◌⊎◌, arith}
 use Rattle.std.proofs.lemmas.Bool.{cases_eq, cases_lt}
 use Rattle.pmem_base.specs.declared.lines.Line.{Line}
 use Rattle.pmem_base.specs.declared.registers.Regs.{Regs}
@@ -32,10 +32,6 @@ one_more setup lines regs i m made low =
 not_yet : (i m : ℕ) → IsAtLevel i m → IsDoneTo i m m → ⊥
 not_yet i m l (inl d) = omega (arith, l.below)
 not_yet i m l (inr d) = omega (arith, d.1)
-
--- a position that isn't named
-pub AreMadeTo-skip : (setup : Setup) (lines : List Line) (regs : Regs) (i m : ℕ) (made : List Made) → level_start i ≤ m → is_named setup.shape lines m ≡ false → AreMadeTo setup lines regs i m made → AreMadeTo setup lines regs i (m + 1) made
-AreMadeTo-skip setup lines regs i m made low q d = search rules
 
 -- a named counter block
 pub AreMadeTo-block : (setup : Setup) (lines : List Line) (regs : Regs) (page : ℕ) (made : List Made) → IsShape setup.shape → page < layout.pages setup.shape → is_named setup.shape lines (counter_position setup.shape page) ≡ true → AreMadeTo setup lines regs setup.shape.levels (counter_position setup.shape page) made → AreMadeTo setup lines regs setup.shape.levels (counter_position setup.shape page + 1) (made ++ block_made setup lines regs page ∷ [])
@@ -81,17 +77,6 @@ AreMade-end setup lines regs made =
     at : (x : ℕ) → (x < 1) ⊎ (1 ≤ x) → IsDoneTo 0 1 x
     at x (inl b) = inr (omega arith, b)
     at x (inr b) = inl b
-
--- none of the positions from one on and below another is named
-pub AreMadeTo-gap : (setup : Setup) (lines : List Line) (regs : Regs) (i m : ℕ) (made : List Made) → (n : ℕ) → level_start i ≤ m → ((x : ℕ) → m ≤ x → x < m + n → is_named setup.shape lines x ≡ false) → AreMadeTo setup lines regs i m made → AreMadeTo setup lines regs i (m + n) made
-AreMadeTo-gap setup lines regs i m made zero low none d =
-    let same : m ≡ m + 0 = omega arith in
-    subst (λ k. AreMadeTo setup lines regs i k made) same d
-AreMadeTo-gap setup lines regs i m made (suc n) low none d =
-    let same : m + 1 + n ≡ m + suc n = omega arith in
-    subst (λ k. AreMadeTo setup lines regs i k made) same
-    (AreMadeTo-gap setup lines regs i (m + 1) made n (omega arith) (λ x from to. none x (omega arith) (omega arith))
-    (AreMadeTo-skip setup lines regs i m made low (none m (omega arith) (omega arith)) d))
 
 pub AreMadeTo-upto : (setup : Setup) (lines : List Line) (regs : Regs) (i m n : ℕ) (made : List Made) → level_start i ≤ m → m ≤ n → ((x : ℕ) → m ≤ x → x < n → is_named setup.shape lines x ≡ false) → AreMadeTo setup lines regs i m made → AreMadeTo setup lines regs i n made
 AreMadeTo-upto setup lines regs i m n made low le none d = search rules

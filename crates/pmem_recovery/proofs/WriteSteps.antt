@@ -9,7 +9,6 @@ use Rattle.pmem_base.specs.declared.lines.Line.{Line}
 use Rattle.pmem_base.specs.Shape.{Shape}
 use Rattle.pmem_base.specs.Layout as layout
 use Rattle.pmem_base.specs.Lines.{line_at, zero_line}
-use Rattle.board.specs.Counts.{RisesBy}
 use Rattle.board.specs.Device.{Device}
 use Rattle.board.specs.Steps.{HasWritten, WasCut}
 use Rattle.board.proofs.StepLemmas.{is_some-with_line}
@@ -25,9 +24,6 @@ use Rattle.pmem_recovery.proofs.PartLaws.{IsUncut-none}
 use Rattle.pmem_recovery.proofs.WrittenLaws.{AreWritten-none, AreWritten-more, AreWritten-skip, distinct_front, wrote_one, AreZeroed-more, AreZeroed-skip, shadow_as_read, zeroed_one, off_tree_same, differing-none, same_from_is_other}
 
 -- ---- the device
-
-RisesBy-none : (n : ℕ) → RisesBy 0 n n
-RisesBy-none n = record { never_falls = omega arith; exact = λ h. omega arith }
 
 pub HasOnlyWritten-none : (old : Device) → HasOnlyWritten 0 old old
 HasOnlyWritten-none old = search rules

@@ -19,7 +19,7 @@ use Rattle.pmem_base.proofs.LineSets.{line_at-set_same, line_at-set_other}
 use Rattle.seal_ledger.specs.Ledger.{LedgerState}
 use Rattle.suite.specs.Setup.{Setup}
 use Rattle.pmem_engine.specs.Invariants.{stored_meta, is_named, IsMendable}
-use Rattle.pmem_engine.specs.Mendable.{IsAllTrue, IsShadowZero}
+use Rattle.pmem_engine.specs.Mendable.{IsAllTrue}
 use Rattle.pmem_recovery.specs.declared.entries.Made.{Made}
 use Rattle.pmem_recovery.specs.Trials.{first_undecided}
 use Rattle.pmem_recovery.specs.Fixed.{fixed_line, found_root}
@@ -153,9 +153,6 @@ AreZeroed-skip g old n new zero_read z =
 -- a shadow line not reached is as it was read
 pub shadow_as_read : (g : Shape) (old : List Line) (n : ℕ) (new : List Line) → AreZeroed g old n new → line_at new (layout.shadow_line g n) ≡ line_at old (layout.shadow_line g n)
 shadow_as_read g old n new z = z.others (layout.shadow_line g n) (inr (omega arith))
-
-pub IsShadowZero-zeroed : (setup : Setup) (old : List Line) (n : ℕ) (new : List Line) → layout.shadow_lines setup.shape ≤ n → AreZeroed setup.shape old n new → IsShadowZero setup new
-IsShadowZero-zeroed setup old n new h z = record { zero_lines = λ m less. z.each m (omega arith) }
 
 -- ---- lines that differ
 
