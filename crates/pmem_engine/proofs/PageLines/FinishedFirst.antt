@@ -21,7 +21,6 @@ module _ (setup : Setup) (n page : ℕ) (old new : Parts) (answer : Result Unit 
     (inside : n < length (regs_of old).progress.items)
     (found : register_to_finish (regs_of old).progress.items page ≡ Some n)
     (it : HasFinishedPage setup n old new answer) where
-
   -- the page's own register, or that of another page
   closed_at : (place : Option ℕ) → position (λ register. register.page == page) (regs_of old).progress.items ≡ place
       → register_found place (length (regs_of old).progress.items) ≡ Some n → IsOk answer
@@ -29,7 +28,6 @@ module _ (setup : Setup) (n page : ℕ) (old new : Parts) (answer : Result Unit 
   closed_at (Some m) place its ok =
       ap (register_of (regs_of new).progress.items) (sym own) ∙ it.closed ok
     where
-
       here : register_of (regs_of old).progress.items page ≡ Some (register_in old n)
       here =
           sym (register_at (regs_of old).progress.items page)

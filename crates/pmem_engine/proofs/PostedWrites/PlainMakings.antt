@@ -105,7 +105,6 @@ made_of write (Err fault) = Err fault
 
 module _ (setup : Setup) (write : Posted) (ctr : Ctr) (old new : Parts) (shorter : write.len < 64)
     (last : AreTrusted setup old → IsPathCached setup.shape old.engine.cache (page_of write.at) → IsLastCounter old write.at ctr) where
-
   pub plain_unsealed : (answer : Result Unsealed Fault) → HasUnsealed setup write.at ctr old new answer
       → HasMadePlain setup write old new (made_of write answer)
   plain_unsealed answer it = search rules
