@@ -1,4 +1,5 @@
 -- Registers by their place in the list: the one of a line's page, found, marked and removed.
+use Rattle.std.proofs.Common.{rules}
 use Rattle.std.proofs.Common.{ℕ, zero, suc, ◌≡◌, ◌≢◌, ◌<◌, ◌+◌, ◌-◌, inl, inr, ◌==◌, Bool, true, false, not, List, [], ◌∷◌, length, get_or, Some, None, cond, refl, sym, ap, ◌∙◌, arith, nat_lt}
 use Rattle.std.specs.Prelude.{All, AllPairs, slice_get}
 use Rattle.std.specs.List.{remove}
@@ -81,9 +82,7 @@ registers_with_done-closed registers a left closed =
     (free_from_none registers a (none_from_All registers (page_of a) closed)))
 
 holding-page : (register : Progress) (a : ℕ) → is_holding register a ≡ true → register.page ≡ page_of a
-holding-page register a it =
-    eqb-true register.page (page_of a)
-    (and_parts (register.page == page_of a) (not (is_done register (index_in_page a))) it).0
+holding-page register a it = search rules
 
 pairs-tail : (first : Progress) (registers : List Progress) → AllPairs (λ x y. x.page ≢ y.page) (first ∷ registers)
     → AllPairs (λ x y. x.page ≢ y.page) registers

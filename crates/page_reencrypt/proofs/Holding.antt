@@ -1,4 +1,5 @@
 -- The registers with a line done, and the counters under them.
+use Rattle.std.proofs.Common.{rules}
 use Rattle.std.proofs.Common.{ℕ, zero, suc, ◌≡◌, ◌≢◌, ◌<◌, ◌+◌, ◌-◌, ◌^◌, Bool, true, false, cond, List, [], ◌∷◌, ◌++◌, length, take, get_or, set, map, Option, Some, None, inl, inr, refl, sym, ap, subst, ◌∙◌, arith}
 use Rattle.std.specs.Prelude.{not, ◌&&◌, ◌||◌, ◌==◌, nat_lt}
 use Rattle.std.specs.List.{remove, All, AllPairs, filter, list_any}
@@ -27,18 +28,10 @@ use Rattle.page_reencrypt.specs.Registers.{is_holding, register_held, counter_un
 -- ---- one register
 
 pub with_done-page : (a : ℕ) (register : Progress) → (register_with_done a register).page ≡ register.page
-with_done-page a register =
-    elim (cases_Bool (register.page == page_of a)) [
-      | inl its ↦ ap (λ t. (cond t (with_done register (index_in_page a)) register).page) its
-      | inr other ↦ ap (λ t. (cond t (with_done register (index_in_page a)) register).page) other
-    ]
+with_done-page a register = search rules
 
 with_done-old : (a : ℕ) (register : Progress) → (register_with_done a register).old ≡ register.old
-with_done-old a register =
-    elim (cases_Bool (register.page == page_of a)) [
-      | inl its ↦ ap (λ t. (cond t (with_done register (index_in_page a)) register).old) its
-      | inr other ↦ ap (λ t. (cond t (with_done register (index_in_page a)) register).old) other
-    ]
+with_done-old a register = search rules
 
 -- another line is held as before
 holding-other : (a b : ℕ) (register : Progress) → b ≢ a → is_holding (register_with_done a register) b ≡ is_holding register b
@@ -208,8 +201,7 @@ registers_with_done-distinct registers a apart =
 -- ---- a page begins
 
 option_or_none : (o : Option Progress) → option_or o None ≡ o
-option_or_none None = refl
-option_or_none (Some register) = refl
+option_or_none v0 = search rules
 
 -- no register is of the page
 pub none_of_page : (registers : List Progress) (page : ℕ) → register_of registers page ≡ None → All (λ register. register.page ≢ page) registers
@@ -371,8 +363,7 @@ others_stay : (registers : List Progress) (a : ℕ) → All (λ register. 0 < le
 others_stay registers a left others = registers_with_done-free registers a left (free_from_none registers a (none_from_All registers (page_of a) others))
 
 cons_cond : (t : Bool) (first : Progress) (xs ys : List Progress) → cond t (first ∷ xs) (first ∷ ys) ≡ first ∷ cond t xs ys
-cons_cond true first xs ys = refl
-cons_cond false first xs ys = refl
+cons_cond v0 first xs ys = search rules
 
 -- the registers with line a done are those with the page's register, at place n, replaced; or without it after its last line
 pub registers_with_done-at : (registers : List Progress) (a n : ℕ) (d : Progress) → All (λ register. 0 < length (not_done register)) registers → AllPairs (λ x y. x.page ≢ y.page) registers → n < length registers → (get_or registers n d).page ≡ page_of a → registers_with_done registers a ≡ cond (nat_lt 0 (length (not_done (with_done (get_or registers n d) (index_in_page a))))) (set registers n (with_done (get_or registers n d) (index_in_page a))) (remove registers n)

@@ -1,4 +1,5 @@
 -- The lines that are left of a page: the least of them, and how many.
+use Rattle.std.proofs.Common.{rules}
 use Rattle.std.proofs.Common.{ℕ, zero, suc, ◌≡◌, ◌≢◌, ◌<◌, ◌≤◌, ◌+◌, ◌-◌, ◌*◌, ◌%◌, ◌^◌, Bool, true, false, cond, List, [], ◌∷◌, length, Some, None, inl, inr, refl, sym, ap, ◌∙◌, arith}
 use Rattle.std.specs.Prelude.{not, ◌==◌, bit_or, nat_lt, filter, slice_get}
 use Rattle.std.specs.Int.{w64, bit_at, bit_not, trailing_ones}
@@ -44,9 +45,7 @@ least_left register some =
 
 one_bit : (b i : ℕ) → b < 2 → length (cond (b == 1) (i ∷ []) []) ≡ ones b
 unfolding ones
-one_bit zero i small = refl
-one_bit (suc zero) i small = refl
-one_bit (suc (suc b)) i small = absurd (omega (arith, small))
+one_bit v0 i small = search rules
 
 no_bits : (value : ℕ) → ones (value % 2 ^ 0) ≡ 0
 unfolding ones
@@ -73,9 +72,7 @@ bits_counted p value (suc n) tests =
     omega (arith, high, parts, rest, one_bit (bit_at value n) n (bit_at-lt value n))
 
 turned : (b c : ℕ) → b < 2 → c ≡ 1 - b → not (b == 1) ≡ (c == 1)
-turned zero c small same = ap (λ n. n == 1) (sym same)
-turned (suc zero) c small same = ap (λ n. n == 1) (sym same)
-turned (suc (suc b)) c small same = absurd (omega (arith, small))
+turned v0 c small same = search rules
 
 pub number_left : (register : Progress) → register.done < 2 ^ 64 → length (not_done register) ≡ ones (bit_not w64 register.done)
 unfolding not_done places_of_page
@@ -117,8 +114,7 @@ marked-none register i full =
     ap (λ n. cond (nat_lt 0 n) (Some (with_done register i)) None) empty
 
 pub marked-some : (register : Progress) (i : ℕ) → 0 < length (not_done (with_done register i)) → marked register i ≡ Some (with_done register i)
-marked-some register i some =
-    ap (λ b. cond b (Some (with_done register i)) None) (lt-ltb 0 (length (not_done (with_done register i))) some)
+marked-some register i some = search rules
 
 -- the word that the code makes
 pub word_done : (register : Progress) (i : ℕ) → i < 64 → bit_or register.done (1 * 2 ^ i % 2 ^ 64) ≡ (with_done register i).done

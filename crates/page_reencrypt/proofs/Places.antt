@@ -1,4 +1,5 @@
 -- The place of a page's register.
+use Rattle.std.proofs.Common.{rules}
 use Rattle.std.proofs.Common.{ℕ, ◌≡◌, ◌≢◌, ◌<◌, ◌≤◌, true≢false, cond, List, length, get_or, Option, Some, None, IsNone, ◌↔◌, inl, inr, refl, sym, ap, ◌∙◌, arith}
 use Rattle.std.specs.Prelude.{◌==◌, position, slice_get, All}
 use Rattle.std.specs.Option.{option_and_then}
@@ -17,14 +18,10 @@ place_in registers page = position (λ register. register.page == page) register
 
 -- whether the page has a place
 place_some : (registers : List Progress) (page : ℕ) → position_or_len (λ register. register.page == page) registers < length registers → place_in registers page ≡ Some (position_or_len (λ register. register.page == page) registers)
-place_some registers page inside =
-    let n = position_or_len (λ (register : Progress). register.page == page) registers in
-    ap (λ b. cond b (Some n) None) (lt-ltb n (length registers) inside)
+place_some registers page inside = search rules
 
 place_none : (registers : List Progress) (page : ℕ) → length registers ≤ position_or_len (λ register. register.page == page) registers → place_in registers page ≡ None
-place_none registers page past =
-    let n = position_or_len (λ (register : Progress). register.page == page) registers in
-    ap (λ b. cond b (Some n) None) (le-ltb n (length registers) past)
+place_none registers page past = search rules
 
 pub register_at : (registers : List Progress) (page : ℕ) → option_and_then (λ n. slice_get registers n) (place_in registers page) ≡ register_of registers page
 register_at registers page =
