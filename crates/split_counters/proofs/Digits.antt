@@ -1,5 +1,5 @@
 -- Numbers as digits of one base, the highest first: bytes by 256 and minors by 128.
-use Rattle.std.proofs.Common.{ℕ, zero, suc, ◌≡◌, ◌<◌, ◌≤◌, ◌+◌, ◌*◌, ◌/◌, ◌%◌, ◌^◌, List, [], ◌∷◌, ◌++◌, length, zero-add, refl, sym, ap, subst, ◌∙◌, arith}
+use Rattle.std.proofs.Common.{ℕ, zero, suc, ◌≡◌, ◌<◌, ◌≤◌, ◌+◌, ◌*◌, ◌/◌, ◌%◌, ◌^◌, List, [], ◌∷◌, ◌++◌, length, get_or, zero-add, refl, sym, ap, subst, ◌∙◌, arith}
 use Rattle.std.specs.List.{All}
 use Rattle.std.proofs.lemmas.List.Elements.{All-nil, All-cons, All-head, All-tail, All-weaker}
 use Rattle.std.proofs.lemmas.Nat.{pow-add, div_below, mod_below, mul-add-lt, div-mul-add, div-add-mod'}
@@ -91,6 +91,12 @@ number-append base (x ∷ xs) ys =
     let power : base ^ length (xs ++ ys) ≡ base ^ length xs * base ^ length ys = ap (λ k. base ^ k) (length-append xs ys) ∙ pow-add base (length xs) (length ys) in
     ap (λ k. x * k + number base (xs ++ ys)) power ∙ omega (arith, rest)
 
+-- digit i, which k digits follow
+get_or-digits : (base n value i k : ℕ) → i + 1 + k ≡ n → get_or (digits base n value) i 0 ≡ value / base ^ k % base
+get_or-digits base zero value i k e = absurd (omega (arith, e))
+get_or-digits base (suc n) value zero k e = let same : n ≡ k = omega (arith, e) in ap (λ z. value / base ^ z % base) same
+get_or-digits base (suc n) value (suc i) k e = get_or-digits base n value i k (omega (arith, e))
+
 -- ---- bytes
 
 big_endian-digits : (n value : ℕ) → big_endian n value ≡ digits 256 n value
@@ -100,6 +106,12 @@ big_endian-digits (suc n) value = ap (λ z. (value / 256 ^ n) % 256 ∷ z) (big_
 from_big_endian-number : (bytes : List ℕ) → from_big_endian bytes ≡ number 256 bytes
 from_big_endian-number [] = refl
 from_big_endian-number (b ∷ bytes) = ap (λ z. b * 256 ^ length bytes + z) (from_big_endian-number bytes)
+
+pub length-big_endian : (n value : ℕ) → length (big_endian n value) ≡ n
+length-big_endian n value = ap length (big_endian-digits n value) ∙ length-digits 256 n value
+
+pub big_endian-AreBytes : (n value : ℕ) → AreBytes (big_endian n value)
+big_endian-AreBytes n value = subst AreBytes (sym (big_endian-digits n value)) (digits-small 256 n value (omega arith))
 
 pub from_big_endian-below : (bytes : List ℕ) → AreBytes bytes → from_big_endian bytes < 256 ^ length bytes
 from_big_endian-below bytes small = subst (λ z. z < 256 ^ length bytes) (sym (from_big_endian-number bytes)) (number-below 256 bytes small)
@@ -122,6 +134,10 @@ from_big_endian-append xs ys =
     ∙ (number-append 256 xs ys
     ∙ (ap (λ z. z * 256 ^ length ys + number 256 ys) (sym (from_big_endian-number xs))
     ∙ ap (λ z. from_big_endian xs * 256 ^ length ys + z) (sym (from_big_endian-number ys))))
+
+-- byte i, which k bytes follow
+pub get_or-big_endian : (n value i k : ℕ) → i + 1 + k ≡ n → get_or (big_endian n value) i 0 ≡ value / 256 ^ k % 256
+get_or-big_endian n value i k e = ap (λ ds. get_or ds i 0) (big_endian-digits n value) ∙ get_or-digits 256 n value i k e
 
 -- ---- minors
 
@@ -165,3 +181,7 @@ number_of_minors-append xs ys =
     ∙ (number-append 128 xs ys
     ∙ (ap (λ z. z * 128 ^ length ys + number 128 ys) (sym (number_of_minors-number xs))
     ∙ ap (λ z. number_of_minors xs * 128 ^ length ys + z) (sym (number_of_minors-number ys))))
+
+-- minor i, which k minors follow
+pub get_or-minors_of_number : (n value i k : ℕ) → i + 1 + k ≡ n → get_or (minors_of_number n value) i 0 ≡ value / 128 ^ k % 128
+get_or-minors_of_number n value i k e = ap (λ ds. get_or ds i 0) (minors_of_number-digits n value) ∙ get_or-digits 128 n value i k e

@@ -1,5 +1,6 @@
 pub mod Digits
 pub mod Packing
 pub mod Groups
+pub mod MinorBits
 pub mod StoredBlocks
 pub mod StoredLaws

@@ -2,6 +2,7 @@
 ghost use Rattle.std.specs.Prelude.{◌≡◌, ◌≤◌, All, length};
 ghost use Rattle.pmem_base.specs.Lines.{big_endian, from_big_endian};
 ghost use Rattle.split_counters.specs.Blocks.{IsBlock, packed, unpacked, number_of_minors, minors_of_number};
+ghost use Rattle.split_counters.specs.Bits.{HasMinorBits};
 
 use crate::Block;
 use pmem_base::Line;
@@ -81,4 +82,19 @@ pub fn block_is_kept(block: &Block)
     ensures kept { unpacked (packed block.now) ≡ block.now }
 {
     let _major = block.major;
+}
+
+/// A law: every line comes back from its block.
+pub fn line_is_kept(line: &Line)
+    ensures { packed (unpacked line.now) ≡ line.now }
+{
+    line.is_whole();
+}
+
+/// A law: minor `i` stands in bits 7i to 7i + 6 after the major, where bit 0 is the top bit of byte 8.
+pub fn minors_have_seven_bits(block: &Block)
+    requires { All (λ m. m ≤ 127) block.now.minors }
+    ensures { HasMinorBits block.now (packed block.now) }
+{
+    block_is_kept(block);
 }

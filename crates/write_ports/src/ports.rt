@@ -49,6 +49,13 @@ impl Ports {
         }
     }
 
+    /// A law: there are eight queues, of at most 16 writes that lie in their lines.
+    pub fn are_ports(&self)
+        ensures { ArePorts self.now }
+    {
+        let _ = &self.queues;
+    }
+
     /// The write waits behind the others of its port. Full exactly where 16 wait there; nothing has
     /// then changed.
     pub fn post(&mut self, port: u8, write: &Posted) -> Result<(), Full>
