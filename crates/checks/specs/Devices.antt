@@ -18,8 +18,8 @@ abbrev pub small_blur : Setup
 small_blur = record { shape = small_shape; formulas = blur }
 
 -- the device of zero lines whose seals and metadata are those of the view, with these shadow lines
-abbrev pub device_of : Setup → DeviceView → List Line → List Line → List Line
-device_of setup view metadata shadow =
+abbrev pub device_with : Setup → DeviceView → List Line → List Line → List Line
+device_with setup view metadata shadow =
     map (sealed_line setup.formulas (start_state setup.shape) view) (range_with_len 0 256)
     ++ map (λ n. sealed_tags setup.formulas (start_state setup.shape) view (4 * n)) (range_with_len 0 64)
     ++ metadata ++ shadow
@@ -29,14 +29,14 @@ view_sealed setup =
     view_after_marks (start_view setup.shape) (seal_mark setup.formulas 0 (ctr 0 1) zero_line ∷ [])
 
 -- a shadow line whose entry 0 names this position
-abbrev pub naming_line : ℕ → Line
-naming_line x = line_of (0 ∷ 0 ∷ 0 ∷ (x + 1) ∷ replicate 60 0)
+abbrev pub line_naming : ℕ → Line
+line_naming x = line_of (0 ∷ 0 ∷ 0 ∷ (x + 1) ∷ replicate 60 0)
 
 -- after one seal of line 0: its block and the top node are stale and named
 abbrev pub device_sealed : Setup → List Line
 device_sealed setup =
-    device_of setup (view_sealed setup) (true_lines setup (start_view setup.shape))
-    (naming_line 1 ∷ naming_line 0 ∷ [])
+    device_with setup (view_sealed setup) (true_lines setup (start_view setup.shape))
+    (line_naming 1 ∷ line_naming 0 ∷ [])
 
 -- the registers then
 abbrev pub regs_sealed : Setup → Regs

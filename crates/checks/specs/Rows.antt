@@ -25,8 +25,8 @@ abbrev pub plain : Answer → Reply
 plain answer = record { marks = []; answer = answer }
 
 -- the first seal of line 0 with 64 zero bytes, and of line 0 with 64 bytes 11
-abbrev pub first_seal : Mark
-first_seal = Seal 0 (ctr 0 1) (counting_line 1) (short_tag 0x51)
+abbrev pub zero_seal : Mark
+zero_seal = Seal 0 (ctr 0 1) (counting_line 1) (short_tag 0x51)
 
 abbrev pub zero_post : Command
 zero_post = Do.Post 0 0 zero_line
@@ -43,10 +43,7 @@ one_waiting = state_after default_shape formatted zero_post (plain Say.Ok)
 
 -- and with that write drained
 abbrev pub drained_reply : Reply
-drained_reply = record { marks = first_seal ∷ []; answer = Say.Drained 7 }
-
-abbrev pub one_drained : PlainState
-one_drained = state_after default_shape one_waiting (Do.Drain 0) drained_reply
+drained_reply = record { marks = zero_seal ∷ []; answer = Say.Drained 7 }
 
 abbrev pub one_drained_view : DeviceView
 one_drained_view = view_after_marks formatted_view drained_reply.marks

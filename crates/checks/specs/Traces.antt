@@ -20,7 +20,7 @@ use Rattle.plain_model.specs.Asked.{seal_mark}
 use Rattle.plain_model.specs.After.{state_after}
 use Rattle.checks.specs.Chains.{IsChain}
 use Rattle.checks.specs.Samples.{weak, ctr, counting_line, short_tag, one_byte_line}
-use Rattle.checks.specs.Rows.{weak_setup, plain, first_seal, zero_post}
+use Rattle.checks.specs.Rows.{weak_setup, plain, zero_seal, zero_post}
 
 abbrev pub Trace : Type 0
 Trace = List (Command × Reply)
@@ -52,8 +52,8 @@ IsTraceAfter setup before trace =
 abbrev pub answered : Command → Answer → Command × Reply
 answered command answer = (command, plain answer)
 
-abbrev pub marked : Command → List Mark → Answer → Command × Reply
-marked command marks answer = (command, record { marks = marks; answer = answer })
+abbrev pub answered_with : Command → List Mark → Answer → Command × Reply
+answered_with command marks answer = (command, record { marks = marks; answer = answer })
 
 -- a seal whose cipher and tag the weak suite gives
 abbrev pub weak_seal : ℕ → Ctr → Line → Mark
@@ -64,7 +64,7 @@ abbrev pub peeks : Trace
 peeks =
     answered (Do.Peek 0) (Say.Raw (counting_line 0))
     ∷ answered zero_post Say.Ok
-    ∷ marked (Do.Drain 0) (first_seal ∷ []) (Say.Drained 7)
+    ∷ answered_with (Do.Drain 0) (zero_seal ∷ []) (Say.Drained 7)
     ∷ answered (Do.Peek 0) (Say.Raw (counting_line 1))
     ∷ answered (Do.Peek 1024)
     (Say.Raw (line_of (short_tag 0x51 ++ short_tag 0x51 ++ short_tag 0x12 ++ short_tag 0x53)))
@@ -89,13 +89,13 @@ abbrev pub cut_kept : Trace
 cut_kept =
     answered post_11 Say.Ok
     ∷ answered (Do.Cut 4) Say.Ok
-    ∷ marked (Do.Drain 0) (weak_seal 0 (ctr 0 1) (filled_line 0x11) ∷ []) (Say.CutKept None 4)
+    ∷ answered_with (Do.Drain 0) (weak_seal 0 (ctr 0 1) (filled_line 0x11) ∷ []) (Say.CutKept None 4)
     ∷ answered (Do.Cut 3) Say.Ok
     ∷ answered Do.On (Say.Cut 3)
     ∷ answered Do.On (Say.Recovered 256 9 5)
     ∷ answered (Do.Read 0 0) (Say.Got (filled_line 0x11) 0)
     ∷ answered post_11 Say.Ok
-    ∷ marked (Do.Drain 0) (weak_seal 0 (ctr 0 2) (filled_line 0x11) ∷ []) (Say.Drained 7)
+    ∷ answered_with (Do.Drain 0) (weak_seal 0 (ctr 0 2) (filled_line 0x11) ∷ []) (Say.Drained 7)
     ∷ []
 
 -- a flipped line is refused until it is written again
@@ -104,7 +104,7 @@ flipped =
     answered (Do.Flip 5 0) Say.Ok
     ∷ answered (Do.Read 0 5) (Say.Refused None (Place.Line 5) 0)
     ∷ answered (Do.Post 0 5 (filled_line 0x77)) Say.Ok
-    ∷ marked (Do.Drain 0) (weak_seal 5 (ctr 0 1) (filled_line 0x77) ∷ []) (Say.Drained 7)
+    ∷ answered_with (Do.Drain 0) (weak_seal 5 (ctr 0 1) (filled_line 0x77) ∷ []) (Say.Drained 7)
     ∷ answered (Do.Read 0 5) (Say.Got (filled_line 0x77) 0)
     ∷ []
 
@@ -121,7 +121,7 @@ abbrev pub replayed : Trace
 replayed =
     answered Do.Snap Say.Ok
     ∷ answered zero_post Say.Ok
-    ∷ marked (Do.Drain 0) (first_seal ∷ []) (Say.Drained 7)
+    ∷ answered_with (Do.Drain 0) (zero_seal ∷ []) (Say.Drained 7)
     ∷ answered Do.Flush (Say.Flushed 0 1)
     ∷ answered Do.Flush (Say.Flushed 1 1)
     ∷ answered Do.Flush (Say.Flushed 5 1)
@@ -147,8 +147,8 @@ fenced =
     answered (Do.Post 3 0 zero_line) Say.Ok
     ∷ answered (Do.Post 3 64 zero_line) Say.Ok
     ∷ answered (Do.Post 3 0 (filled_line 0x22)) Say.Ok
-    ∷ marked (Do.Fence 3)
-    (first_seal ∷ weak_seal 64 (ctr 0 1) zero_line ∷ weak_seal 0 (ctr 0 2) (filled_line 0x22) ∷ [])
+    ∷ answered_with (Do.Fence 3)
+    (zero_seal ∷ weak_seal 64 (ctr 0 1) zero_line ∷ weak_seal 0 (ctr 0 2) (filled_line 0x22) ∷ [])
     (Say.Fenced 3 16)
     ∷ answered (Do.Fence 3) (Say.Fenced 0 0)
     ∷ []
@@ -160,10 +160,10 @@ mixed_line = line_of (0x11 ∷ 0x11 ∷ 0xaa ∷ 0xbb ∷ replicate 60 0x11)
 abbrev pub parted : Trace
 parted =
     answered post_11 Say.Ok
-    ∷ marked (Do.Drain 0) (weak_seal 0 (ctr 0 1) (filled_line 0x11) ∷ []) (Say.Drained 7)
+    ∷ answered_with (Do.Drain 0) (weak_seal 0 (ctr 0 1) (filled_line 0x11) ∷ []) (Say.Drained 7)
     ∷ answered (Do.Part 0 0 2 2 (line_of (0xaa ∷ 0xbb ∷ replicate 62 0))) Say.Ok
     ∷ answered (Do.Read 0 0) (Say.Got mixed_line 0)
-    ∷ marked (Do.Drain 0) (weak_seal 0 (ctr 0 2) mixed_line ∷ []) (Say.Drained 4)
+    ∷ answered_with (Do.Drain 0) (weak_seal 0 (ctr 0 2) mixed_line ∷ []) (Say.Drained 4)
     ∷ answered (Do.Read 0 0) (Say.Got mixed_line 0)
     ∷ []
 
@@ -171,7 +171,7 @@ parted =
 abbrev pub loss_lowered : Trace
 loss_lowered =
     answered zero_post Say.Ok
-    ∷ marked (Do.Drain 0) (first_seal ∷ []) (Say.Drained 7)
+    ∷ answered_with (Do.Drain 0) (zero_seal ∷ []) (Say.Drained 7)
     ∷ answered (Do.Loss 2) (Say.LossSet 2)
     ∷ answered Do.Off Say.Ok
     ∷ answered Do.On (Say.Recovered 127 9 4)
@@ -201,7 +201,7 @@ clashed =
 abbrev pub twinned : Trace
 twinned =
     answered zero_post Say.Ok
-    ∷ marked (Do.Drain 0) (Seal 0 (ctr 0 1) (counting_line 1) (short_tag 0x50) ∷ []) (Say.Drained 7)
+    ∷ answered_with (Do.Drain 0) (Seal 0 (ctr 0 1) (counting_line 1) (short_tag 0x50) ∷ []) (Say.Drained 7)
     ∷ answered Do.Off Say.Ok
     ∷ answered Do.On (Say.Shown (Twin 0 0 0 1 (counting_line 1) (short_tag 0x50)))
     ∷ []
@@ -224,12 +224,12 @@ IsTraceFrom view trace =
 abbrev pub overflowed : Trace
 overflowed =
     answered zero_post Say.Ok
-    ∷ marked (Do.Drain 0) (Begin 0 ∷ weak_seal 0 (ctr 1 1) zero_line ∷ []) (Say.Drained 7)
+    ∷ answered_with (Do.Drain 0) (Begin 0 ∷ weak_seal 0 (ctr 1 1) zero_line ∷ []) (Say.Drained 7)
     ∷ []
 
 -- the turns of page 0 after that, and then none is left
 abbrev pub turn_of : ℕ → Command × Reply
-turn_of i = marked Do.Turn (weak_seal i (ctr 1 0) zero_line ∷ []) (Say.Turned (63 - i) 4)
+turn_of i = answered_with Do.Turn (weak_seal i (ctr 1 0) zero_line ∷ []) (Say.Turned (63 - i) 4)
 
 abbrev pub all_turned : Trace
 all_turned = overflowed ++ map turn_of (range_with_len 1 63) ++ answered Do.Turn Say.Idle ∷ []
@@ -240,31 +240,31 @@ turn_cut =
     overflowed
     ++ turn_of 1
     ∷ answered (Do.Post 0 5 (filled_line 0x55)) Say.Ok
-    ∷ marked (Do.Drain 0) (weak_seal 5 (ctr 1 1) (filled_line 0x55) ∷ []) (Say.Drained 4)
+    ∷ answered_with (Do.Drain 0) (weak_seal 5 (ctr 1 1) (filled_line 0x55) ∷ []) (Say.Drained 4)
     ∷ answered (Do.Cut 0) Say.Ok
     ∷ answered Do.Turn (Say.Cut 0)
     ∷ answered Do.On (Say.Recovered 12 9 5)
     ∷ answered (Do.Read 0 1) (Say.Got zero_line 0)
     ∷ answered (Do.Read 0 5) (Say.Got (filled_line 0x55) 0)
-    ∷ marked Do.Turn (weak_seal 2 (ctr 1 0) zero_line ∷ []) (Say.Turned 60 4)
+    ∷ answered_with Do.Turn (weak_seal 2 (ctr 1 0) zero_line ∷ []) (Say.Turned 60 4)
     ∷ []
 
 -- four pages open, and a fifth: the oldest is finished first
 abbrev pub opened : ℕ → Trace
 opened page =
     answered (Do.Post 0 (64 * page) zero_line) Say.Ok
-    ∷ marked (Do.Drain 0) (Begin page ∷ weak_seal (64 * page) (ctr 1 1) zero_line ∷ []) (Say.Drained 7)
+    ∷ answered_with (Do.Drain 0) (Begin page ∷ weak_seal (64 * page) (ctr 1 1) zero_line ∷ []) (Say.Drained 7)
     ∷ []
 
 abbrev pub five_opened : Trace
 five_opened =
     opened 0 ++ opened 1 ++ opened 2 ++ opened 3
     ++ answered (Do.Post 0 256 zero_line) Say.Ok
-    ∷ marked (Do.Drain 0)
+    ∷ answered_with (Do.Drain 0)
     (map (λ i. weak_seal i (ctr 1 0) zero_line) (range_with_len 1 63)
     ++ Begin 4 ∷ weak_seal 256 (ctr 1 1) zero_line ∷ [])
     (Say.Drained 259)
-    ∷ marked Do.Turn (weak_seal 65 (ctr 1 0) zero_line ∷ []) (Say.Turned 62 4)
+    ∷ answered_with Do.Turn (weak_seal 65 (ctr 1 0) zero_line ∷ []) (Say.Turned 62 4)
     ∷ []
 
 -- a flipped line refuses a read of its waiting part, and the part's drain
@@ -300,12 +300,6 @@ IsSpentTrace trace =
 
 -- ---- replies alone
 
-abbrev pub replies_in : Trace → List Reply
-replies_in trace = map (λ step. step.1) trace
-
-abbrev pub one_turn : Trace
-one_turn = answered Do.Turn Say.Idle ∷ []
-
 -- ---- a refusal while a page is being finished
 
 -- page 0 open with the lines 5 and 6 not done, and line 0 at the end of its minors
@@ -322,16 +316,16 @@ abbrev pub finish_refused : Trace
 finish_refused =
     answered (Do.Flip 6 0) Say.Ok
     ∷ answered zero_post Say.Ok
-    ∷ marked (Do.Drain 0) (weak_seal 5 (ctr 1 0) zero_line ∷ []) (Say.Refused None (Place.Line 6) 4)
+    ∷ answered_with (Do.Drain 0) (weak_seal 5 (ctr 1 0) zero_line ∷ []) (Say.Refused None (Place.Line 6) 4)
     ∷ answered Do.Turn (Say.Refused None (Place.Line 6) 0)
     ∷ []
 
 abbrev pub finished : Trace
 finished =
     answered zero_post Say.Ok
-    ∷ marked (Do.Drain 0)
+    ∷ answered_with (Do.Drain 0)
     (weak_seal 5 (ctr 1 0) zero_line ∷ weak_seal 6 (ctr 1 0) zero_line ∷ Begin 0
     ∷ weak_seal 0 (ctr 2 1) zero_line ∷ [])
     (Say.Drained 15)
-    ∷ marked Do.Turn (weak_seal 1 (ctr 2 0) zero_line ∷ []) (Say.Turned 62 4)
+    ∷ answered_with Do.Turn (weak_seal 1 (ctr 2 0) zero_line ∷ []) (Say.Turned 62 4)
     ∷ []

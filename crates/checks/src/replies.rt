@@ -7,11 +7,11 @@ ghost use Rattle.plain_model.specs.View.{true_line};
 ghost use Rattle.plain_model.specs.Fits.{Fits};
 ghost use Rattle.plain_model.specs.Shown.{IsLegal};
 ghost use Rattle.checks.specs.Samples.{weak, short_tag};
-ghost use Rattle.checks.specs.Rows.{weak_setup, formatted, formatted_view, one_waiting, one_drained, one_drained_view, zero_post, first_seal, drained_reply, plain};
+ghost use Rattle.checks.specs.Rows.{weak_setup, formatted, formatted_view, one_waiting, one_drained_view, zero_post, zero_seal, drained_reply, plain};
 
 /// The first drain of line 0 asks for its seal under 0.1.
 pub fn first_drain_asked()
-    ensures { marks_asked weak one_waiting formatted_view (Do.Drain 0) ≡ Some (first_seal ∷ []) }
+    ensures { marks_asked weak one_waiting formatted_view (Do.Drain 0) ≡ Some (zero_seal ∷ []) }
 {}
 
 /// The root of a formatted device, and after one seal of line 0.

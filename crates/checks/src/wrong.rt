@@ -10,7 +10,7 @@ ghost use Rattle.pmem_base.specs.declared.commands.Command.TheVariants as Do;
 ghost use Rattle.plain_model.specs.Fits.{Fits};
 ghost use Rattle.plain_model.specs.Shown.{IsLegal};
 ghost use Rattle.checks.specs.Samples.{weak, short_tag, ctr, counting_line};
-ghost use Rattle.checks.specs.Rows.{weak_setup, formatted, formatted_view, one_waiting, zero_post, first_seal, plain, flipped_state, blur_setup, blur_off, off_state, node_flipped_state, page_open_view};
+ghost use Rattle.checks.specs.Rows.{weak_setup, formatted, formatted_view, one_waiting, zero_post, zero_seal, plain, flipped_state, blur_setup, blur_off, off_state, node_flipped_state, page_open_view};
 ghost use Rattle.checks.specs.Traces.{weak_seal, view_at_end};
 
 /// A read that prints another line is not legal.
@@ -55,7 +55,7 @@ pub fn no_seal()
 
 /// Nor one with too many steps.
 pub fn too_many_steps()
-    ensures { ¬ Fits weak_setup one_waiting formatted_view (Do.Drain 0) (record { marks = first_seal ∷ []; answer = Say.Drained 12 }) }
+    ensures { ¬ Fits weak_setup one_waiting formatted_view (Do.Drain 0) (record { marks = zero_seal ∷ []; answer = Say.Drained 12 }) }
 {}
 
 /// A peek that shows a line in the clear doesn't fit.
