@@ -33,14 +33,14 @@ through_by TooManyLines setup status trace left steps ends is read write grammar
     let all : length (lines_of trace) ≡ length (ends.front.before ++ ends.front.behind) = ap length ends.front.cut in
     absurd (omega (arith, all, length-append ends.front.before ends.front.behind, ends.counted, ends.more, grammar.1))
 
-run_complete : (setup : Setup) (status : ℕ) (trace left before after : Option (List ℕ)) (reads writes : Type 0) → HasRun setup status trace left before after
+run_complete : (setup : Setup) (status : ℕ) (trace left before after : Option (List ℕ)) (reads writes : Type 0) → HasRun setup status reads trace left before after
     → (status ≡ 3 → reads) → (status ≡ 4 → writes) → IfSome trace (λ bytes. IsInGrammar bytes → ¬ (reads ⊎ writes) → IsRunThrough status)
 run_complete setup status None left before after reads writes run read write = tt
 run_complete setup status (Some bytes) left before after reads writes run read write = λ grammar no_fault.
     through_by run.stop setup status bytes left run.steps run.ends (run.its_status (λ four. no_fault (inr (write four))))
     (λ three. no_fault (inl (read three))) (λ four. no_fault (inr (write four))) grammar
 
-pub complete : (task : Task) (status : ℕ) (trace left before after : Option (List ℕ)) (reads writes : Type 0) → TaskOutcome task status trace left before after
+pub complete : (task : Task) (status : ℕ) (trace left before after : Option (List ℕ)) (reads writes : Type 0) → TaskOutcome task status reads trace left before after
     → (status ≡ 3 → reads) → (status ≡ 4 → writes) → IsComplete task status trace (reads ⊎ writes)
 complete (Task.Run c) status trace left before after reads writes done read write = run_complete _ status trace left before after reads writes done read write
 complete task status trace left before after reads writes done read write = tt

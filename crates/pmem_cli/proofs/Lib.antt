@@ -4,6 +4,7 @@ pub mod ShownLemmas
 pub mod StandingLemmas
 pub mod RunLemmas
 pub mod PrintLemmas
+pub mod FaultLemmas
 pub mod MarkLines
 pub mod MakeLemmas
 pub mod TurnLemmas

@@ -1,5 +1,6 @@
 -- What a run's status says, by its stop and its last line.
-use Rattle.std.proofs.Common.{◌≡◌, ◌≢◌, ℕ, List, [], ◌++◌, refl, sym, ap, subst, inl, inr, append-nil}
+use Rattle.std.proofs.Common.{◌≡◌, ◌≢◌, ◌∙◌, ◌+◌, ◌≤◌, ℕ, List, [], ◌++◌, refl, sym, ap, subst, inl, inr, append-nil, arith}
+use Rattle.std.proofs.lemmas.Bool.{cases_eq}
 use Rattle.std.specs.Prelude.{◌⊎◌, Option, None, Some, IfSome, IsNone}
 use Rattle.suite.specs.Setup.{Setup}
 use Rattle.plain_model.specs.declared.Stop.{Stop}
@@ -7,6 +8,7 @@ use Rattle.plain_model.specs.declared.Stop.TheVariants.{Finished, Words, Memory,
 use Rattle.plain_model.specs.Run.{Ends, steps_text, stop_text}
 use Rattle.pmem_base.specs.declared.commands.Command.{Command}
 use Rattle.std.specs.Io.KnownBytes.{Appends}
+use Rattle.pmem_cli.specs.Causes.{CountsFault}
 use Rattle.pmem_cli.specs.Printed.{Output, AppendsFront, Prints, PrintsFront, with_waiting}
 use Rattle.pmem_cli.specs.Keys.{setup_chosen}
 use Rattle.pmem_cli.specs.Sampled.{HasSaid}
@@ -70,9 +72,10 @@ said_front stop status before after between text said finished =
       | inr other ↦ PrintsFront-trans first between last text (stop_text stop) (said.whole other) (finished.front (λ same. other (cc same)))
     ]
 
-run_done : (setup : Setup) (stop : Stop) (status : ℕ) (trace left before after : Option (List ℕ)) (between : Output)
-    → HasReplayed setup stop trace left (with_waiting before []) between → IsFinished (Stopped stop) status between after → HasRun setup status trace left before after
-run_done setup stop status trace left before after between run finished = record {
+run_done : (setup : Setup) (stop : Stop) (status : ℕ) (pull_failed : Type 0) (trace left before after : Option (List ℕ)) (between : Output)
+    → HasReplayed setup stop trace left (with_waiting before []) between → (Stopped stop ≡ Stopped ReadFault → pull_failed) → IsFinished (Stopped stop) status between after
+    → HasRun setup status pull_failed trace left before after
+run_done setup stop status pull_failed trace left before after between run read finished = record {
   stop = stop;
   steps = run.steps;
   ends = run.ends;
@@ -80,6 +83,7 @@ run_done setup stop status trace left before after between run finished = record
   untampered =
       IfSome-map trace (λ bytes. Ends setup stop bytes left run.steps) (λ bytes. IsUntampered setup run.steps)
       (λ bytes is ends. untampered setup run.steps (ends_answered stop setup bytes left run.steps ends)) run.ends;
+  read = λ same. read (ap Stopped same);
   its_status = finished.its_status;
   whole = said_whole stop status before after between (steps_text run.steps) run.said finished;
   front = said_front stop status before after between (steps_text run.steps) run.said finished;
@@ -117,28 +121,68 @@ put_done text WriteFault status before after between made finished = record {
 }
 put_done text stop status before after between made finished = absurd (elim made.its_stop [ inl same ↦ cc same | inr same ↦ cc same ])
 
-told_done : (choices : Choices) (ending : Ending) (status : ℕ) (trace left before after : Option (List ℕ)) (between : Output)
-    → CheckEnds choices ending trace left (with_waiting before []) between → IsFinished ending status between after → HasTold choices status trace left before after
-told_done choices ending status trace left before after between ended finished =
+told_done : (choices : Choices) (ending : Ending) (status : ℕ) (pull_failed : Type 0) (trace left before after : Option (List ℕ)) (between : Output)
+    → CheckEnds choices ending trace left (with_waiting before []) between → (ending ≡ Stopped ReadFault → pull_failed) → IsFinished ending status between after
+    → HasTold choices status pull_failed trace left before after
+told_done choices ending status pull_failed trace left before after between ended read finished =
     let at_start = subst (λ (from : Output). IsFinished ending status from after) ended.kept finished in record {
       ending = ending;
       checked = ended.checked;
+      read = read;
       its_status = finished.its_status;
       whole = λ sent. Prints-whole before after (ending_text ending) (at_start.whole sent at_start.good);
       front = at_start.front ended.write;
     }
 
 -- what was asked for is done
-pub TaskOutcome-finished : (task : Task) (ending : Ending) (status : ℕ) (trace left before after : Option (List ℕ)) (between : Output)
-    → HasEnded task ending trace left (with_waiting before []) between → IsFinished ending status between after → TaskOutcome task status trace left before after
-TaskOutcome-finished (Task.Run c) ending status trace left before after between ended finished =
-    run_done (setup_chosen c) ended.stop status trace left before after between ended.run
+pub TaskOutcome-finished : (task : Task) (ending : Ending) (status : ℕ) (pull_failed : Type 0) (trace left before after : Option (List ℕ)) (between : Output)
+    → HasEnded task ending trace left (with_waiting before []) between → (ending ≡ Stopped ReadFault → pull_failed) → IsFinished ending status between after
+    → TaskOutcome task status pull_failed trace left before after
+TaskOutcome-finished (Task.Run c) ending status pull_failed trace left before after between ended read finished =
+    run_done (setup_chosen c) ended.stop status pull_failed trace left before after between ended.run (λ same. read (ended.its_stop ∙ same))
     (subst (λ (e : Ending). IsFinished e status between after) ended.its_stop finished)
-TaskOutcome-finished (Task.Make seed count) ending status trace left before after between ended finished =
+TaskOutcome-finished (Task.Make seed count) ending status pull_failed trace left before after between ended read finished =
     put_done (commands_text (sample_trace seed count)) ended.stop status before after between ended.made
     (subst (λ (e : Ending). IsFinished e status between after) ended.its_stop finished)
-TaskOutcome-finished (Task.Sample seed count) ending status trace left before after between ended finished =
+TaskOutcome-finished (Task.Sample seed count) ending status pull_failed trace left before after between ended read finished =
     sample_done default_setup (sample_trace seed count) ended.stop status before after between ended.run
     (subst (λ (e : Ending). IsFinished e status between after) ended.its_stop finished)
-TaskOutcome-finished (Task.Check c) ending status trace left before after between ended finished =
-    told_done c ending status trace left before after between ended finished
+TaskOutcome-finished (Task.Check c) ending status pull_failed trace left before after between ended read finished =
+    told_done c ending status pull_failed trace left before after between ended read finished
+
+-- ---- faults, by the status
+
+is_read_ending : (ending : Ending) → (ending ≡ Stopped ReadFault) ⊎ (ending ≢ Stopped ReadFault)
+is_read_ending (Stopped ReadFault) = inl refl
+is_read_ending ending = inr (λ same. cc)
+
+is_write_ending : (ending : Ending) → (ending ≡ Stopped WriteFault) ⊎ (ending ≢ Stopped WriteFault)
+is_write_ending (Stopped stop) = elim (is_write_fault stop) [ inl same ↦ inl (ap Stopped same) | inr other ↦ inr (λ same. other (cc same)) ]
+is_write_ending ending = inr (λ same. cc)
+
+-- a failed pull
+pub pull_told : (ending : Ending) (status before now : ℕ) → CountsFault (ending ≡ Stopped ReadFault) before now → (status ≢ 4 → status ≡ ending_status ending) → now ≢ before
+    → (status ≡ 3) ⊎ (status ≡ 4)
+pull_told ending status before now counts told changed =
+    elim (is_read_ending ending) [
+      | inl same ↦ elim (cases_eq status 4) [ inl four ↦ inr four | inr other ↦ inl (told other ∙ ap ending_status same) ]
+      | inr other ↦ absurd (changed (counts.kept other))
+    ]
+
+-- a failed push, before the last line or at it
+pub push_told : (ending : Ending) (status before between now : ℕ) → CountsFault (ending ≡ Stopped WriteFault) before between
+    → (ending ≡ Stopped WriteFault → status ≡ 4) → (now ≢ between → (status ≡ 4) ⊎ (status ≡ 2)) → now ≢ before → (status ≡ 4) ⊎ (status ≡ 2)
+push_told ending status before between now counts told failed changed =
+    elim (is_write_ending ending) [
+      | inl same ↦ inl (told same)
+      | inr other ↦ failed (λ same. changed (same ∙ counts.kept other))
+    ]
+
+-- and no other after it
+pub push_once : (ending : Ending) (before between now : ℕ) → CountsFault (ending ≡ Stopped WriteFault) before between → (ending ≡ Stopped WriteFault → now ≡ between)
+    → now ≤ between + 1 → now ≤ before + 1
+push_once ending before between now counts kept once =
+    elim (is_write_ending ending) [
+      | inl same ↦ (let still : now ≡ between = kept same in omega (arith, still, counts.once))
+      | inr other ↦ (let still : between ≡ before = counts.kept other in omega (arith, still, once))
+    ]

@@ -5,7 +5,7 @@ use Rattle.pmem_base.specs.declared.commands.Command.{Command}
 use Rattle.suite.specs.Setup.{Setup}
 use Rattle.plain_model.specs.Defaults.{default_setup}
 use Rattle.plain_model.specs.declared.Stop.{Stop}
-use Rattle.plain_model.specs.declared.Stop.TheVariants.{Finished, WriteFault, Words}
+use Rattle.plain_model.specs.declared.Stop.TheVariants.{Finished, ReadFault, WriteFault, Words}
 use Rattle.plain_model.specs.Lines.{lines_of}
 use Rattle.plain_model.specs.Grammar.{reading_of}
 use Rattle.plain_model.specs.Run.{line_limit, Step, start, Ends, steps_text, output_of, stop_text, status_of}
@@ -26,13 +26,15 @@ use Rattle.pmem_cli.specs.Untampered.{IsUntampered}
 -- ---- at the end of the program
 
 -- The trace ends by a stop, and its steps and the stop's line were put: the whole of them, with the
--- stop's own status, or a front of them, with status 4.
-pub record HasRun (setup : Setup) (status : ℕ) (trace left put_before put_after : Option (List ℕ)) : Type 0 where
+-- stop's own status, or a front of them, with status 4. Whatever the status, the stop is a failed pull only
+-- where one failed.
+pub record HasRun (setup : Setup) (status : ℕ) (pull_failed : Type 0) (trace left put_before put_after : Option (List ℕ)) : Type 0 where
   pub stop : Stop
   pub steps : List Step
   pub ends : IfSome trace (λ bytes. Ends setup stop bytes left steps)
   pub replayed : IsReplayed setup steps
   pub untampered : IfSome trace (λ bytes. IsUntampered setup steps)
+  pub read : stop ≡ ReadFault → pull_failed
   pub its_status : status ≢ 4 → status ≡ status_of stop
   pub whole : status ≢ 4 → Appends put_before put_after (output_of steps stop)
   pub front : AppendsFront put_before put_after (output_of steps stop)
@@ -56,20 +58,22 @@ pub record HasSampled (setup : Setup) (commands : List Command) (status : ℕ) (
   pub front : AppendsFront put_before put_after (text ++ stop_text stop)
 
 -- The source was checked to an ending, and its line was put: the whole of it, with the ending's own
--- status, or a front of it, with status 4.
-pub record HasTold (choices : Choices) (status : ℕ) (trace left put_before put_after : Option (List ℕ)) : Type 0 where
+-- status, or a front of it, with status 4. Whatever the status, the ending is a failed pull only where one failed.
+pub record HasTold (choices : Choices) (status : ℕ) (pull_failed : Type 0) (trace left put_before put_after : Option (List ℕ)) : Type 0 where
   pub ending : Ending
   pub checked : IfSome trace (λ bytes. IsChecked (formulas_of choices) ending bytes left)
+  pub read : ending ≡ Stopped ReadFault → pull_failed
   pub its_status : status ≢ 4 → status ≡ ending_status ending
   pub whole : status ≢ 4 → Appends put_before put_after (ending_text ending)
   pub front : AppendsFront put_before put_after (ending_text ending)
 
 -- what the status says, by what was asked for
-abbrev pub TaskOutcome : Task → ℕ → Option (List ℕ) → Option (List ℕ) → Option (List ℕ) → Option (List ℕ) → Type 0
-TaskOutcome (Task.Run c) status trace left before after = HasRun (setup_chosen c) status trace left before after
-TaskOutcome (Task.Make seed count) status trace left before after = HasPut (commands_text (sample_trace seed count)) status before after
-TaskOutcome (Task.Sample seed count) status trace left before after = HasSampled default_setup (sample_trace seed count) status before after
-TaskOutcome (Task.Check c) status trace left before after = HasTold c status trace left before after
+abbrev pub TaskOutcome : Task → ℕ → Type 0 → Option (List ℕ) → Option (List ℕ) → Option (List ℕ) → Option (List ℕ) → Type 0
+TaskOutcome (Task.Run c) status pull_failed trace left before after = HasRun (setup_chosen c) status pull_failed trace left before after
+TaskOutcome (Task.Make seed count) status pull_failed trace left before after = HasPut (commands_text (sample_trace seed count)) status before after
+TaskOutcome (Task.Sample seed count) status pull_failed trace left before after =
+    HasSampled default_setup (sample_trace seed count) status before after
+TaskOutcome (Task.Check c) status pull_failed trace left before after = HasTold c status pull_failed trace left before after
 
 -- all lines of these bytes are in the grammar, and there are no more of them than a trace may have
 abbrev pub IsInGrammar : List ℕ → Type 0

@@ -1,4 +1,5 @@
 pub mod Causes
+pub mod Pulling
 pub mod Memory
 pub mod StdParts
 pub mod Printed

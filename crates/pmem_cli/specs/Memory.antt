@@ -1,5 +1,6 @@
 -- What a source and a sink over memory are seen as.
 use Rattle.std.specs.Prelude.{List, ℕ}
+use Rattle.pmem_cli.specs.declared.pulls.Pulls.{Pulls}
 
 pub record MemoryInput : Type 0 where
   -- the bytes that are still to be given
@@ -10,6 +11,8 @@ pub record MemoryInput : Type 0 where
   pub calls : ℕ
   -- how many of them failed, up to 2^64 - 1
   pub faults : ℕ
+  -- how far the pulls have come
+  pub pulls : Pulls
 
 pub record MemoryOutput : Type 0 where
   -- the bytes that were put

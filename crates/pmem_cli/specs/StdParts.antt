@@ -1,5 +1,6 @@
 -- What a clause reads of a source over a reader, and of a sink over a writer.
 use Rattle.std.specs.Prelude.{ℕ}
+use Rattle.pmem_cli.specs.declared.pulls.Pulls.{Pulls}
 use Rattle.pmem_cli.specs.declared.source.StdSource.{StdSource}
 use Rattle.pmem_cli.specs.declared.sink.StdSink.{StdSink}
 
@@ -9,6 +10,10 @@ reader_of source = source.inner
 -- how often a pull failed
 abbrev pub pull_faults : {R : Type 0} → StdSource R → ℕ
 pull_faults source = source.faults
+
+-- how far the pulls have come
+abbrev pub pulls_made : {R : Type 0} → StdSource R → Pulls
+pulls_made source = source.pulls
 
 abbrev pub writer_of : {W : Type 0} → StdSink W → W
 writer_of sink = sink.inner

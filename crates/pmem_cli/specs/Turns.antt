@@ -11,7 +11,7 @@ use Rattle.plain_model.specs.Answers.{is_shown}
 use Rattle.plain_model.specs.Run.{Step, step_text, steps_text, takes_memory, IsAnswered, IsRunFrom, EndsFrom}
 use Rattle.pmem_replay.specs.World.{WorldState}
 use Rattle.pmem_replay.specs.Stepped.{HasStepped}
-use Rattle.pmem_cli.specs.Causes.{Rose}
+use Rattle.pmem_cli.specs.Causes.{CountsFault}
 use Rattle.pmem_cli.specs.Printed.{Output, Prints, PrintsFront}
 use Rattle.pmem_cli.specs.Standing.{Standing, AreStepped, StandingAfter}
 
@@ -84,10 +84,8 @@ Turns None ahead behind left before after from to served =
     (line : List ℕ) × (steps : List Step) × HasServed ahead behind before after from to (line ∷ []) steps
 Turns (Some stop) ahead behind left before after from to served = HasStopped stop ahead left before from to served
 
--- The stops that a fault causes come only where its count rose, and words aren't at fault.
+-- A fault counts itself and causes a stop, no other stop counts one, and words aren't at fault.
 pub record StopsByCause (stop : Option Stop) (reads_before reads_now writes_before writes_now : ℕ) : Type 0 where
-  pub reads : reads_before ≤ reads_now
-  pub writes : writes_before ≤ writes_now
-  pub read : stop ≡ Some ReadFault → Rose reads_before reads_now
-  pub write : stop ≡ Some WriteFault → Rose writes_before writes_now
+  pub reads : CountsFault (stop ≡ Some ReadFault) reads_before reads_now
+  pub writes : CountsFault (stop ≡ Some WriteFault) writes_before writes_now
   pub words : stop ≡ Some Words → ⊥

@@ -156,6 +156,13 @@ HasChosen (Task.Run c) = AreChosen c
 HasChosen (Task.Check c) = AreChosen c
 HasChosen task = ⊤
 
+-- it reads no trace
+abbrev pub PullsNothing : Task → Type 0
+PullsNothing (Task.Make seed count) = ⊤
+PullsNothing (Task.Sample seed count) = ⊤
+PullsNothing (Task.Run c) = ⊥
+PullsNothing (Task.Check c) = ⊥
+
 -- the value as a function sees it
 abbrev pub map_some : {A B : Type 0} → (A → B) → Option A → Option B
 map_some f None = None

@@ -3,7 +3,8 @@ ghost use Rattle.std.specs.Prelude.{◌≡◌, ◌<◌, ◌≤◌, ◌≢◌, �
 ghost use Rattle.std.specs.Io.KnownBytes.{prepend_known};
 ghost use Rattle.plain_model.specs.declared.Stop.TheVariants as Stop;
 ghost use Rattle.collision_witness.specs.Exhibits.{IsExhibit};
-ghost use Rattle.pmem_cli.specs.Causes.{Rose};
+ghost use Rattle.pmem_cli.specs.Causes.{CountsFault};
+ghost use Rattle.pmem_cli.specs.Pulling.{IsInTime, PullsInTime};
 ghost use Rattle.pmem_cli.specs.declared.ending.Ending.TheVariants.{Stopped};
 ghost use Rattle.pmem_cli.specs.Words.{AreChosen};
 ghost use Rattle.pmem_cli.specs.Keys.{formulas_of};
@@ -72,8 +73,8 @@ fn check_next<S: Source>(
     requires { served < 1000000 }
     ensures turn { ChecksNext result (prepend_known reader.old (S.left trace.old)) (prepend_known reader.new (S.left trace.new))
         (S.left trace.new) found.old found.new served }
-    ensures later { S.faults trace.old ≤ S.faults trace.new }
-    ensures read { result ≡ Some Stop.ReadFault → Rose (S.faults trace.old) (S.faults trace.new) }
+    ensures reads { CountsFault (result ≡ Some Stop.ReadFault) (S.faults trace.old) (S.faults trace.new) }
+    ensures pulls { PullsInTime result (S.pulls trace.old) (S.pulls trace.new) }
 {
     let number = served + 1;
     match reader.next_line(trace, line) {
@@ -94,7 +95,8 @@ fn check_next<S: Source>(
 /// Looks at all lines for the one exhibit, and says why that stops.
 fn look<S: Source>(found: &mut Option<Exhibit>, trace: &mut S) -> Stop
     ensures looked { HasLooked result (S.left trace.old) (S.left trace.new) found.old found.new 0 }
-    ensures read { result ≡ Stop.ReadFault → Rose (S.faults trace.old) (S.faults trace.new) }
+    ensures reads { CountsFault (result ≡ Stop.ReadFault) (S.faults trace.old) (S.faults trace.new) }
+    ensures in_time { IsInTime (S.pulls trace.old) (S.pulls trace.new) }
 {
     let mut reader = LineReader::new();
     let mut line = ArrayVec::new();
@@ -128,7 +130,8 @@ pub(crate) fn check<S: Source>(choices: &Choices, trace: &mut S) -> Ending
     ensures checked { IfSome (S.left trace.old) (λ bytes. IsChecked (formulas_of choices.now) result bytes (S.left trace.new)) }
     ensures words { result ≢ Stopped Stop.Words }
     ensures write { result ≢ Stopped Stop.WriteFault }
-    ensures read { result ≡ Stopped Stop.ReadFault → Rose (S.faults trace.old) (S.faults trace.new) }
+    ensures reads { CountsFault (result ≡ Stopped Stop.ReadFault) (S.faults trace.old) (S.faults trace.new) }
+    ensures in_time { IsInTime (S.pulls trace.old) (S.pulls trace.new) }
 {
     let mut found = None;
     match look(&mut found, trace) {

@@ -1,5 +1,5 @@
 //! How the program ends: its last line and its status.
-ghost use Rattle.std.specs.Prelude.{◌≡◌, ◌≢◌, ◌≤◌, ◌⊎◌, ◌↔◌, [], OnOk, OnErr};
+ghost use Rattle.std.specs.Prelude.{◌≡◌, ◌≢◌, ◌≤◌, ◌+◌, ◌⊎◌, ◌↔◌, [], OnOk, OnErr};
 ghost use Rattle.plain_model.specs.declared.Stop.TheVariants as Stop;
 ghost use Rattle.plain_model.specs.Run.{stop_text, status_of, kind_number};
 ghost use Rattle.pmem_cli.specs.Causes.{HasCause, Rose};
@@ -129,7 +129,9 @@ pub(crate) fn finish<K: Sink>(ending: Ending, printer: &mut Printer, out: &mut K
     ensures front { ending ≢ Stopped Stop.WriteFault
         → PrintsFront (with_waiting (K.put out.old) printer.old) (with_waiting (K.put out.new) []) (ending_text ending) }
     ensures fault { result ≡ 4 → (ending ≡ Stopped Stop.WriteFault) ⊎ Rose (K.faults out.old) (K.faults out.new) }
+    ensures failed { K.faults out.new ≢ K.faults out.old → (result ≡ 4) ⊎ (result ≡ 2) }
     ensures later { K.faults out.old ≤ K.faults out.new }
+    ensures once { K.faults out.new ≤ K.faults out.old + 1 }
 {
     match ending {
         Ending::Stopped(Stop::WriteFault) => 4,

@@ -8,6 +8,7 @@ mod making;
 mod options;
 mod printer;
 mod program;
+mod pulls;
 mod sampling;
 mod session;
 mod sink;
@@ -16,5 +17,6 @@ mod source;
 mod tests;
 
 pub use program::run;
+pub use pulls::Pulls;
 pub use sink::{MemSink, Sink, StdSink};
 pub use source::{Failed, MemSource, Source, StdSource};

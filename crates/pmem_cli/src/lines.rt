@@ -4,6 +4,7 @@ ghost use Rattle.std.specs.List.{position_or_len};
 ghost use Rattle.std.specs.Io.KnownBytes.{Keeps, IsAtEnd, prepend_known};
 ghost use Rattle.plain_model.specs.Lines.{is_line_end};
 ghost use Rattle.pmem_cli.specs.Causes.{HasCause};
+ghost use Rattle.pmem_cli.specs.Pulling.{is_last, pulls_after, StaysOpen, IsInTime};
 
 use crate::source::{Failed, Source};
 use arrayvec::ArrayVec;
@@ -81,6 +82,7 @@ fn append(line: &mut ArrayVec<u8, LINE_BYTES>, bytes: &[u8])
 
 impl LineReader {
     ghost use Rattle.pmem_cli.specs.Pieces.{Takes, Finds, IsUnfinished};
+    ghost use Rattle.pmem_cli.specs.declared.lines.Found.TheVariants.{Line};
 
     /// Nothing was pulled yet.
     pub fn new() -> Self
@@ -115,6 +117,7 @@ impl LineReader {
         ensures end { IfOk result (λ count. count ≡ 0 → IsAtEnd (S.left source.new)) }
         ensures err { OnErr result (self.new ≡ []) }
         ensures cause { HasCause (S.faults source.old) (S.faults source.new) result }
+        ensures pulls { S.pulls source.new ≡ pulls_after (S.pulls source.old) (is_last result 16384) }
     {
         self.at = 0;
         self.end = 0;
@@ -132,6 +135,8 @@ impl LineReader {
         ensures more { IfOk result (λ ended. ended ≡ false → 0 < length self.new) }
         ensures fault { OnErr result (Keeps (prepend_known self.old (S.left source.old)) (S.left source.new)) }
         ensures cause { HasCause (S.faults source.old) (S.faults source.new) result }
+        ensures may_pull { IfOk result (λ ended. ended ≡ false → StaysOpen (S.pulls source.old) (S.pulls source.new)) }
+        ensures in_time { IsInTime (S.pulls source.old) (S.pulls source.new) }
     {
         if !self.is_empty() {
             return Ok(false);
@@ -170,6 +175,8 @@ impl LineReader {
         ensures fault { OnErr result (IsUnfinished (prepend_known self.old (S.left source.old)) (S.left source.new) line.new.items) }
         ensures unpulled { Contains self.old 10 → source.new ≡ source.old }
         ensures cause { HasCause (S.faults source.old) (S.faults source.new) result }
+        ensures may_pull { IfOk result (λ found. found ≡ Line → StaysOpen (S.pulls source.old) (S.pulls source.new)) }
+        ensures in_time { IsInTime (S.pulls source.old) (S.pulls source.new) }
     {
         line.clear();
         'pieces: loop {

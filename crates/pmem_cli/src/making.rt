@@ -2,7 +2,7 @@
 ghost use Rattle.std.specs.Prelude.{◌≡◌, ◌≢◌, ◌≤◌, OnOk, OnErr};
 ghost use Rattle.plain_model.specs.declared.Stop.TheVariants as Stop;
 ghost use Rattle.trace_text.specs.Samples.{sample_trace, commands_text};
-ghost use Rattle.pmem_cli.specs.Causes.{HasCause, Rose};
+ghost use Rattle.pmem_cli.specs.Causes.{CountsFault, HasCause};
 ghost use Rattle.pmem_cli.specs.HasRun.{TextOutcome};
 ghost use Rattle.pmem_cli.specs.Printed.{Prints, PrintsFront, with_waiting};
 
@@ -39,8 +39,7 @@ fn print_sample<K: Sink>(
 pub(crate) fn make<K: Sink>(seed: u64, count: u32, printer: &mut Printer, out: &mut K) -> Stop
     ensures made { TextOutcome result (with_waiting (K.put out.old) printer.old) (with_waiting (K.put out.new) printer.new)
         (commands_text (sample_trace seed count)) }
-    ensures write { result ≡ Stop.WriteFault → Rose (K.faults out.old) (K.faults out.new) }
-    ensures later { K.faults out.old ≤ K.faults out.new }
+    ensures writes { CountsFault (result ≡ Stop.WriteFault) (K.faults out.old) (K.faults out.new) }
 {
     match print_sample(seed, count, printer, out) {
         Ok(()) => Stop::Finished,

@@ -1,11 +1,12 @@
 //! The whole program: words and bytes in, bytes and a status out.
-ghost use Rattle.std.specs.Prelude.{◌≡◌, ◌≢◌, ◌≤◌, ◌⊎◌, ◌↔◌, IfSome, IsNone, Some, map, string_bytes};
+ghost use Rattle.std.specs.Prelude.{◌≡◌, ◌≢◌, ◌≤◌, ◌+◌, ◌⊎◌, ◌↔◌, IfSome, IsNone, Some, map, string_bytes};
 ghost use Rattle.pmem_base.specs.Geo.{shape_of};
 ghost use Rattle.plain_model.specs.declared.Stop.TheVariants as Stop;
-ghost use Rattle.pmem_cli.specs.Causes.{Rose};
+ghost use Rattle.pmem_cli.specs.Causes.{CountsFault, Rose};
+ghost use Rattle.pmem_cli.specs.Pulling.{IsInTime};
 ghost use Rattle.pmem_cli.specs.declared.ending.Ending.TheVariants.{Stopped};
 ghost use Rattle.pmem_cli.specs.Keys.{setup_chosen};
-ghost use Rattle.pmem_cli.specs.Words.{task_of, AreChosen, HasChosen};
+ghost use Rattle.pmem_cli.specs.Words.{task_of, AreChosen, HasChosen, PullsNothing};
 ghost use Rattle.pmem_cli.specs.Printed.{with_waiting};
 ghost use Rattle.pmem_cli.specs.Turns.{StopsByCause};
 ghost use Rattle.pmem_cli.specs.HasRun.{TaskOutcome, HasEnded, HasReplayed, IsComplete, AreRefusedWords};
@@ -37,6 +38,7 @@ fn run_with<U: Counted + Drop, S: Source, K: Sink>(
     ensures run { HasReplayed (record { shape = shape_of geo; formulas = U.formulas_of (U.keys suite) }) result (S.left trace.old) (S.left trace.new)
         (with_waiting (K.put out.old) printer.old) (with_waiting (K.put out.new) printer.new) }
     ensures cause { StopsByCause (Some result) (S.faults trace.old) (S.faults trace.new) (K.faults out.old) (K.faults out.new) }
+    ensures in_time { IsInTime (S.pulls trace.old) (S.pulls trace.new) }
 {
     match World::new(alloc, geo, suite) {
         Ok(mut world) => serve_all(alloc, &mut world, trace, printer, out),
@@ -56,6 +58,7 @@ fn run_trace<S: Source, K: Sink>(
     ensures run { HasReplayed (setup_chosen choices.now) result (S.left trace.old) (S.left trace.new)
         (with_waiting (K.put out.old) printer.old) (with_waiting (K.put out.new) printer.new) }
     ensures cause { StopsByCause (Some result) (S.faults trace.old) (S.faults trace.new) (K.faults out.old) (K.faults out.new) }
+    ensures in_time { IsInTime (S.pulls trace.old) (S.pulls trace.new) }
 {
     let geo = choices.geometry();
     match choices.suite_name() {
@@ -77,9 +80,10 @@ fn do_task<S: Source, K: Sink>(
     ensures ended { HasEnded task result (S.left trace.old) (S.left trace.new)
         (with_waiting (K.put out.old) printer.old) (with_waiting (K.put out.new) printer.new) }
     ensures words { result ≢ Stopped Stop.Words }
-    ensures read { result ≡ Stopped Stop.ReadFault → Rose (S.faults trace.old) (S.faults trace.new) }
-    ensures write { result ≡ Stopped Stop.WriteFault → Rose (K.faults out.old) (K.faults out.new) }
-    ensures later { K.faults out.old ≤ K.faults out.new }
+    ensures reads { CountsFault (result ≡ Stopped Stop.ReadFault) (S.faults trace.old) (S.faults trace.new) }
+    ensures writes { CountsFault (result ≡ Stopped Stop.WriteFault) (K.faults out.old) (K.faults out.new) }
+    ensures in_time { IsInTime (S.pulls trace.old) (S.pulls trace.new) }
+    ensures unread { PullsNothing task → trace.new ≡ trace.old }
 {
     match task {
         Task::Run(choices) => Ending::Stopped(run_trace(alloc, &choices, trace, printer, out)),
@@ -106,9 +110,10 @@ fn do_words<S: Source, K: Sink>(
     ensures untouched { result ≡ Stopped Stop.Words → trace.new ≡ trace.old }
     ensures kept { result ≡ Stopped Stop.Words → out.new ≡ out.old }
     ensures empty { result ≡ Stopped Stop.Words → printer.new ≡ printer.old }
-    ensures read { result ≡ Stopped Stop.ReadFault → Rose (S.faults trace.old) (S.faults trace.new) }
-    ensures write { result ≡ Stopped Stop.WriteFault → Rose (K.faults out.old) (K.faults out.new) }
-    ensures later { K.faults out.old ≤ K.faults out.new }
+    ensures reads { CountsFault (result ≡ Stopped Stop.ReadFault) (S.faults trace.old) (S.faults trace.new) }
+    ensures writes { CountsFault (result ≡ Stopped Stop.WriteFault) (K.faults out.old) (K.faults out.new) }
+    ensures in_time { IsInTime (S.pulls trace.old) (S.pulls trace.new) }
+    ensures unread { IfSome (task_of (map string_bytes words.now)) (λ task. PullsNothing task → trace.new ≡ trace.old) }
 {
     match read_task(words) {
         None => Ending::Stopped(Stop::Words),
@@ -127,16 +132,25 @@ pub fn run<S: Source, K: Sink>(alloc: Global, words: &[String], trace: &mut S, o
     // What was put is what the task asks for, as the status says: the replies to the trace's commands
     // and the last line, a sample trace, or whether the exhibit holds.
     ensures told { IfSome (task_of (map string_bytes words.now)) (λ task.
-        TaskOutcome task result (S.left trace.old) (S.left trace.new) (K.put out.old) (K.put out.new)) }
+        TaskOutcome task result (Rose (S.faults trace.old) (S.faults trace.new)) (S.left trace.old) (S.left trace.new) (K.put out.old) (K.put out.new)) }
 
     // A run of a trace in the grammar and within the limits goes through, unless source or sink fails.
     ensures complete { IfSome (task_of (map string_bytes words.now)) (λ task.
         IsComplete task result (S.left trace.old)
         (Rose (S.faults trace.old) (S.faults trace.new) ⊎ Rose (K.faults out.old) (K.faults out.new))) }
 
-    // The statuses for faults come only where source or sink failed.
+    // The statuses for faults come only where source or sink failed. A push that fails gives 4 in place of
+    // every status but 2, a pull that fails gives 3 or 4, and neither is made again.
     ensures read { result ≡ 3 → Rose (S.faults trace.old) (S.faults trace.new) }
     ensures write { result ≡ 4 → Rose (K.faults out.old) (K.faults out.new) }
+    ensures failed_pull { S.faults trace.new ≢ S.faults trace.old → (result ≡ 3) ⊎ (result ≡ 4) }
+    ensures failed_push { K.faults out.new ≢ K.faults out.old → (result ≡ 4) ⊎ (result ≡ 2) }
+    ensures one_failed_pull { S.faults trace.new ≤ S.faults trace.old + 1 }
+    ensures one_failed_push { K.faults out.new ≤ K.faults out.old + 1 }
+
+    // No pull follows one that failed or gave the end, and where no trace is asked for, nothing is pulled.
+    ensures in_time { IsInTime (S.pulls trace.old) (S.pulls trace.new) }
+    ensures unread { IfSome (task_of (map string_bytes words.now)) (λ task. PullsNothing task → trace.new ≡ trace.old) }
 {
     let mut printer = Printer::new();
     let ending = do_words(alloc, words, trace, &mut printer, out);

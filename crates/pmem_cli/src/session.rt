@@ -7,6 +7,7 @@ ghost use Rattle.plain_model.specs.Texts.{marks_text, reply_text};
 ghost use Rattle.pmem_replay.specs.Stepped.{reply_in};
 ghost use Rattle.trace_text.specs.Answers.{HasSmallMinors};
 ghost use Rattle.pmem_cli.specs.Causes.{HasCause};
+ghost use Rattle.pmem_cli.specs.Pulling.{IsInTime, PullsInTime};
 ghost use Rattle.pmem_cli.specs.Printed.{Prints, PrintsFront, with_waiting};
 ghost use Rattle.pmem_cli.specs.Standing.{standing_of};
 ghost use Rattle.pmem_cli.specs.Turns.{AnswersCommand, AnswersLine, Turns, HasStopped, StopsByCause};
@@ -103,7 +104,8 @@ fn answer_line<U: Counted + Drop, K: Sink>(
     }
 }
 
-/// Takes and answers the next line, and says why the run stops, where it does.
+/// Takes and answers the next line, and says why the run stops, where it does. No reply waits where that may
+/// pull.
 fn answer_next<U: Counted + Drop, S: Source, K: Sink>(
     alloc: Global,
     served: u32,
@@ -114,12 +116,14 @@ fn answer_next<U: Counted + Drop, S: Source, K: Sink>(
     printer: &mut Printer,
     out: &mut K,
 ) -> Option<Stop>
+    requires pushed { Contains reader.old 10 ⊎ (printer.old ≡ []) }
     requires within { served < 1000000 }
     requires running { world.old.shown ≡ false }
     ensures turn { Turns result (prepend_known reader.old (S.left trace.old)) (prepend_known reader.new (S.left trace.new))
         (S.left trace.new) (standing_of U.formulas_of world.old) (standing_of U.formulas_of world.new)
         (with_waiting (K.put out.old) printer.old) (with_waiting (K.put out.new) printer.new) served }
     ensures cause { StopsByCause result (S.faults trace.old) (S.faults trace.new) (K.faults out.old) (K.faults out.new) }
+    ensures pulls { PullsInTime result (S.pulls trace.old) (S.pulls trace.new) }
 {
     let number = served + 1;
     match reader.next_line(trace, line) {
@@ -171,6 +175,7 @@ fn serve_next<U: Counted + Drop, S: Source, K: Sink>(
         (S.left trace.new) (standing_of U.formulas_of world.old) (standing_of U.formulas_of world.new)
         (with_waiting (K.put out.old) printer.old) (with_waiting (K.put out.new) printer.new) served }
     ensures cause { StopsByCause result (S.faults trace.old) (S.faults trace.new) (K.faults out.old) (K.faults out.new) }
+    ensures pulls { PullsInTime result (S.pulls trace.old) (S.pulls trace.new) }
 {
     match flush_before_pull(reader, printer, out) {
         Err(Failed) => Some(Stop::WriteFault),
@@ -190,6 +195,7 @@ pub(crate) fn serve_all<U: Counted + Drop, S: Source, K: Sink>(
     ensures stopped { HasStopped result (S.left trace.old) (S.left trace.new) (standing_of U.formulas_of world.old)
         (with_waiting (K.put out.old) printer.old) (with_waiting (K.put out.new) printer.new) 0 }
     ensures cause { StopsByCause (Some result) (S.faults trace.old) (S.faults trace.new) (K.faults out.old) (K.faults out.new) }
+    ensures in_time { IsInTime (S.pulls trace.old) (S.pulls trace.new) }
 {
     let mut reader = LineReader::new();
     let mut line = ArrayVec::new();

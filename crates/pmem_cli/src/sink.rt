@@ -10,7 +10,8 @@ use crate::source::{Failed, copy_front, is_listed};
 use std::io::Write;
 use std::marker::Model;
 
-/// Takes bytes in order. A push fails only where the count of faults rises or stands at 2^64 - 1.
+/// Takes bytes in order. The count of faults rises by one at each push that fails, up to 2^64 - 1, and stays
+/// at each other.
 pub trait Sink {
     /// The bytes that were put, where they are told.
     ghost put: { Self → Option (List ℕ) };

@@ -4,7 +4,11 @@ ghost use Rattle.std.specs.Io.{ReadsAtMost};
 ghost use Rattle.std.specs.Io.KnownBytes.{ReadConsumes};
 ghost use Rattle.pmem_base.specs.Counts.{risen};
 ghost use Rattle.pmem_cli.specs.Causes.{HasCause};
+ghost use Rattle.pmem_cli.specs.declared.pulls.Pulls.{Pulls};
+ghost use Rattle.pmem_cli.specs.declared.pulls.Pulls.TheVariants.{Open};
+ghost use Rattle.pmem_cli.specs.Pulling.{is_last, pulls_after};
 
+use crate::pulls::{Pulls, next_pulls};
 use std::io::Read;
 use std::marker::Model;
 
@@ -13,7 +17,7 @@ use std::marker::Model;
 pub struct Failed;
 
 /// Gives bytes in order, at most as many as a buffer has room for. Where it has room, 0 bytes are
-/// the end. A pull fails only where the count of faults rises or stands at 2^64 - 1.
+/// the end. The count of faults rises by one at each pull that fails, up to 2^64 - 1, and stays at each other.
 pub trait Source {
     /// The bytes that are left, where they are told.
     ghost left: { Self → Option (List ℕ) };
@@ -21,11 +25,15 @@ pub trait Source {
     /// How often a pull failed.
     ghost faults: { Self → ℕ };
 
+    /// Whether a pull failed or gave the end, and whether another was made after it.
+    ghost pulls: { Self → Pulls };
+
     /// Puts the next bytes at the front of a buffer, and answers how many.
     fn pull(&mut self, buf: &mut [u8]) -> Result<usize, Failed>
         ensures bound { ReadsAtMost result buf.new }
         ensures bytes { ReadConsumes (left self.old) (left self.new) result buf.new }
-        ensures cause { HasCause (faults self.old) (faults self.new) result };
+        ensures cause { HasCause (faults self.old) (faults self.new) result }
+        ensures pulls { pulls self.new ≡ pulls_after (pulls self.old) (is_last result (length buf.old)) };
 }
 
 /// Copies as many bytes as fit, and answers how many.
@@ -55,6 +63,7 @@ pub struct MemSource {
     failing: Vec<u64>,
     calls: u64,
     faults: u64,
+    pulls: Pulls,
 }
 
 impl Model for MemSource {
@@ -68,6 +77,7 @@ impl Model for MemSource {
       failing = source.failing.items;
       calls = source.calls;
       faults = source.faults;
+      pulls = source.pulls;
     } };
 
     ghost invariant = { λ source. source.at ≤ vec_len source.bytes };
@@ -76,7 +86,7 @@ impl Model for MemSource {
 impl MemSource {
     /// A source of all these bytes, of whose calls those listed fail.
     pub fn new(bytes: Vec<u8>, failing: Vec<u64>) -> Self
-        ensures { result ≡ record { left = bytes.items; failing = failing.items; calls = 0; faults = 0 } }
+        ensures { result ≡ record { left = bytes.items; failing = failing.items; calls = 0; faults = 0; pulls = Open } }
     {
         MemSource {
             bytes,
@@ -84,6 +94,7 @@ impl MemSource {
             failing,
             calls: 0,
             faults: 0,
+            pulls: Pulls::Open,
         }
     }
 }
@@ -93,11 +104,14 @@ impl Source for MemSource {
 
     ghost faults = { λ source. source.faults };
 
+    ghost pulls = { λ source. source.pulls };
+
     /// Gives as many bytes as there are and as the buffer has room for.
     fn pull(&mut self, buf: &mut [u8]) -> Result<usize, Failed>
         ensures bound { ReadsAtMost result buf.new }
         ensures bytes { ReadConsumes (Some self.old.left) (Some self.new.left) result buf.new }
         ensures cause { HasCause self.old.faults self.new.faults result }
+        ensures pulls { self.new.pulls ≡ pulls_after self.old.pulls (is_last result (length buf.old)) }
 
         ensures failed { IsErr result ↔ Contains self.old.failing self.old.calls }
         ensures count { IfOk result (λ count. count ≡ min (length self.old.left) (length buf.old)) }
@@ -109,10 +123,12 @@ impl Source for MemSource {
         self.calls = call.saturating_add(1);
         if is_listed(self.failing.as_slice(), call) {
             self.faults = self.faults.saturating_add(1);
+            self.pulls = next_pulls(self.pulls, true);
             return Err(Failed);
         }
         let count = copy_front(self.bytes.as_slice().split_at(self.at).1, buf);
         self.at += count;
+        self.pulls = next_pulls(self.pulls, count == 0 && !buf.is_empty());
         Ok(count)
     }
 }
@@ -122,32 +138,44 @@ impl Source for MemSource {
 pub struct StdSource<R> {
     inner: R,
     faults: u64,
+    pulls: Pulls,
 }
 
 impl<R: Read> StdSource<R> {
-    ghost use Rattle.pmem_cli.specs.StdParts.{reader_of, pull_faults};
+    ghost use Rattle.pmem_cli.specs.StdParts.{reader_of, pull_faults, pulls_made};
 
     /// A source of what the reader gives. No pull has failed yet.
     pub fn new(inner: R) -> Self
         ensures reader { reader_of result ≡ inner }
         ensures faults { pull_faults result ≡ 0 }
+        ensures pulls { pulls_made result ≡ Open }
     {
-        StdSource { inner, faults: 0 }
+        StdSource {
+            inner,
+            faults: 0,
+            pulls: Pulls::Open,
+        }
     }
 }
 
 impl<R: Read> Source for StdSource<R> {
-    ghost use Rattle.pmem_cli.specs.StdParts.{reader_of, pull_faults};
+    ghost use Rattle.pmem_cli.specs.StdParts.{reader_of, pull_faults, pulls_made};
 
     ghost left = { λ source. R.remaining (reader_of source) };
 
     ghost faults = { pull_faults };
 
+    ghost pulls = { pulls_made };
+
     fn pull(&mut self, buf: &mut [u8]) -> Result<usize, Failed> {
         match self.inner.read(buf) {
-            Ok(count) => Ok(count),
+            Ok(count) => {
+                self.pulls = next_pulls(self.pulls, count == 0 && !buf.is_empty());
+                Ok(count)
+            }
             Err(_) => {
                 self.faults = self.faults.saturating_add(1);
+                self.pulls = next_pulls(self.pulls, true);
                 Err(Failed)
             }
         }

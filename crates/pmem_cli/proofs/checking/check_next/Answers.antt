@@ -1,6 +1,8 @@
-use Rattle.std.proofs.Common.{arith, ◌+◌, refl}
+use Rattle.std.proofs.Common.{◌≡◌, ◌+◌, refl, arith}
 use Rattle.std.specs.Io.KnownBytes.{prepend_known}
+use Rattle.plain_model.specs.declared.Stop.TheVariants.{ReadFault}
 use Rattle.pmem_cli.proofs.CheckLemmas.{ChecksNext-line, HasLooked-last, HasLooked-at_last, HasLooked-long, HasLooked-end, HasLooked-fault}
+use Rattle.pmem_cli.proofs.FaultLemmas.{CountsFault-none, CountsFault-err}
 use Rattle.pmem_cli.proofs.checking.check_next.Goals as goal
 
 pub returns-in-Err-clause-turn : goal.returns-in-Err-clause-turn
@@ -35,3 +37,30 @@ returns-in-Some-clause-turn g c =
     let found = rw c.in-Ok-Last.field-0-is at c.in-Ok-Last.ensures.found in
     HasLooked-at_last _ _ _ _ _ _ _ _ _ (rw c.as_slice-in-Ok-Last.ensures.value found.0) (rw c.as_slice-in-Ok-Last.ensures.value found.1)
     (rw c.as_slice-in-Ok-Last.ensures.value found.2) found.3 refl c.requires c.in-Some.ensures
+
+-- ---- faults and pulls
+
+pub returns-in-Err-clause-reads : goal.returns-in-Err-clause-reads
+returns-in-Err-clause-reads g c = CountsFault-err _ _ _ _ refl c.in-Err.ensures.cause
+
+pub returns-in-Ok-End-clause-reads : goal.returns-in-Ok-End-clause-reads
+returns-in-Ok-End-clause-reads g c = CountsFault-none _ _ _ (λ same. cc) c.in-Ok-End.ensures.cause.kept
+
+pub returns-in-Ok-Long-clause-reads : goal.returns-in-Ok-Long-clause-reads
+returns-in-Ok-Long-clause-reads g c = CountsFault-none _ _ _ (λ same. cc) c.in-Ok-Long.ensures.cause.kept
+
+pub returns-in-Ok-Line-clause-reads : goal.returns-in-Ok-Line-clause-reads
+returns-in-Ok-Line-clause-reads g c = CountsFault-none _ _ _ (λ same. rw same at c.check_line.ensures) c.in-Ok-Line.ensures.cause.kept
+
+pub returns-in-None-clause-reads : goal.returns-in-None-clause-reads
+returns-in-None-clause-reads g c = CountsFault-none _ _ _ (λ same. cc) c.in-Ok-Last.ensures.cause.kept
+
+pub returns-in-Some-clause-reads : goal.returns-in-Some-clause-reads
+returns-in-Some-clause-reads g c =
+    CountsFault-none _ _ _ (λ same. let is : c.in-Some.stop ≡ ReadFault = cc in rw is at c.in-Some.ensures) c.in-Ok-Last.ensures.cause.kept
+
+pub returns-in-Ok-Line-clause-pulls : goal.returns-in-Ok-Line-clause-pulls
+returns-in-Ok-Line-clause-pulls g c = record {
+  may_pull = λ none. (rw c.in-Ok-Line.field-0-is at c.in-Ok-Line.ensures.may_pull) refl;
+  in_time = c.in-Ok-Line.ensures.in_time;
+}

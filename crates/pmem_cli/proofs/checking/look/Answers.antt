@@ -1,28 +1,36 @@
-use Rattle.std.proofs.Common.{◌≡◌, [], refl, ap, arith}
+use Rattle.std.proofs.Common.{◌≡◌, ◌∙◌, [], refl, ap, arith}
 use Rattle.std.specs.Prelude.{Some, false}
 use Rattle.std.specs.Io.KnownBytes.{prepend_known}
 use Rattle.std.proofs.KnownBytes.{prepend_known-nil, Consumes-nil, Consumes-kept}
 use Rattle.std.proofs.lemmas.List.Elements.{All-nil}
 use Rattle.plain_model.specs.declared.Stop.TheVariants.{Finished, ReadFault, TooManyLines}
 use Rattle.plain_model.specs.Lines.{is_line_end}
-use Rattle.pmem_cli.proofs.PrintLemmas.{Rose-before}
+use Rattle.pmem_cli.proofs.FaultLemmas.{CountsFault-none, CountsFault-err, CountsFault-map}
 use Rattle.pmem_cli.proofs.CheckLemmas.{HasLooked-after, HasLooked-fault, HasLooked-end, HasLooked-limit, HasLooked-kept}
 use Rattle.pmem_cli.proofs.checking.look.Goals as goal
 
 pub lines-init : goal.lines-init
 lines-init g c = record {
   looks = rw (c.new-reader.ensures, prepend_known-nil (g.S.Source.left c.args.trace.now)) (λ stop left after looked. looked);
-  reads = omega arith;
+  kept = refl;
+  may_pull = λ held. held;
 }
 
 pub returns-in-Some-clause-looked : goal.returns-in-Some-clause-looked
 returns-in-Some-clause-looked g c =
     c.lines.invariant.looks c.in-Some.stop (g.S.Source.left c.check_next.new.trace) c.check_next.new.found c.in-Some.ensures.turn
 
-pub returns-in-Some-clause-read : goal.returns-in-Some-clause-read
-returns-in-Some-clause-read g c same =
-    Rose-before (g.S.Source.faults c.args.trace.now) (g.S.Source.faults c.lines.trace) (g.S.Source.faults c.check_next.new.trace)
-    c.lines.invariant.reads (c.in-Some.ensures.read (ap Some same))
+pub returns-in-Some-clause-reads : goal.returns-in-Some-clause-reads
+returns-in-Some-clause-reads g c = CountsFault-map _ _ _ _ _ (λ same. cc) (ap Some) c.lines.invariant.kept c.in-Some.ensures.reads
+
+pub returns-in-Err-clause-reads : goal.returns-in-Err-clause-reads
+returns-in-Err-clause-reads g c = CountsFault-err _ _ _ _ refl (rw c.lines.invariant.kept at c.in-Err.ensures.cause)
+
+pub returns-in-Ok-true-clause-reads : goal.returns-in-Ok-true-clause-reads
+returns-in-Ok-true-clause-reads g c = CountsFault-none _ _ _ (λ same. cc) (c.in-Ok-true.ensures.cause.kept ∙ c.lines.invariant.kept)
+
+pub returns-in-Ok-false-clause-reads : goal.returns-in-Ok-false-clause-reads
+returns-in-Ok-false-clause-reads g c = CountsFault-none _ _ _ (λ same. cc) (c.in-Ok-false.ensures.cause.kept ∙ c.lines.invariant.kept)
 
 pub lines-preserved : goal.lines-preserved
 lines-preserved g c =
@@ -31,7 +39,8 @@ lines-preserved g c =
           c.lines.invariant.looks stop left after
           (HasLooked-after stop c.lines.found c.check_next.new.found c.lines.served (prepend_known c.lines.reader (g.S.Source.left c.lines.trace))
           (prepend_known c.check_next.new.reader (g.S.Source.left c.check_next.new.trace)) left line after taken within checked looked);
-      reads = omega (arith, c.lines.invariant.reads, c.check_next.ensures.later);
+      kept = c.check_next.ensures.reads.kept (λ same. cc (c.in_default.is, same)) ∙ c.lines.invariant.kept;
+      may_pull = λ held. c.check_next.ensures.pulls.may_pull c.in_default.is (c.lines.invariant.may_pull held);
     }
 
 pub returns-in-Err-clause-looked : goal.returns-in-Err-clause-looked

@@ -1,9 +1,10 @@
-use Rattle.std.proofs.Common.{◌≤◌, ℕ, List}
+use Rattle.std.proofs.Common.{◌≡◌, ℕ, List}
 use Rattle.std.specs.Prelude.{Option}
 use Rattle.std.specs.Io.KnownBytes.{prepend_known}
 use Rattle.pmem_base.specs.declared.answers.Exhibit.{Exhibit}
 use Rattle.plain_model.specs.declared.Stop.{Stop}
 use Rattle.pmem_cli.specs.Checked.{HasLooked}
+use Rattle.pmem_cli.specs.Pulling.{StaysOpen}
 use Rattle.pmem_cli.proofs.checking.look.Given as goal
 
 abbrev pub invariant-lines : goal.invariant-lines
@@ -13,5 +14,6 @@ invariant-lines g l =
           (stop : Stop) (left : Option (List ℕ)) (after : Option Exhibit)
           → HasLooked stop (prepend_known l.reader (g.S.Source.left l.trace)) left l.found after l.served
           → HasLooked stop (g.S.Source.left l.initial.trace) left l.initial.found after 0;
-      reads : g.S.Source.faults l.initial.trace ≤ g.S.Source.faults l.trace;
+      kept : g.S.Source.faults l.trace ≡ g.S.Source.faults l.initial.trace;
+      may_pull : StaysOpen (g.S.Source.pulls l.initial.trace) (g.S.Source.pulls l.trace);
     }

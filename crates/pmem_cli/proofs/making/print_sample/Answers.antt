@@ -3,10 +3,9 @@ use Rattle.std.proofs.Math.Nat.{mod-eq_of_lt}
 use Rattle.pmem_base.specs.declared.commands.Command.TheVariants as Do
 use Rattle.plain_model.specs.Texts.{as_line, command_text}
 use Rattle.trace_text.specs.Samples.{sample_trace, sample_command, word_at, commands_text}
-use Rattle.pmem_cli.specs.Causes.{Rose}
 use Rattle.pmem_cli.specs.Printed.{with_waiting}
-use Rattle.std.proofs.lemmas.Result.{on_err_weaker, on_ok_weaker}
-use Rattle.pmem_cli.proofs.PrintLemmas.{Prints-nil, Prints-trans, OnErr-fact, Rose-before}
+use Rattle.std.proofs.lemmas.Result.{err_from_is_err_and, on_err_weaker, on_ok_weaker}
+use Rattle.pmem_cli.proofs.PrintLemmas.{Prints-nil, Prints-trans, OnErr-fact}
 use Rattle.pmem_cli.proofs.MakeLemmas.{one_more, sample-step, sample-whole, sample-front, sample-end_front}
 use Rattle.pmem_cli.proofs.making.print_sample.Goals as goal
 
@@ -18,7 +17,7 @@ commands-init g c = record {
   counted = omega arith;
   number = rw c.new-maker.ensures refl;
   rest = rw c.new-maker.ensures refl;
-  writes = omega arith;
+  writes = refl;
 }
 
 pub commands-preserved : goal.commands-preserved
@@ -35,7 +34,7 @@ commands-preserved g c =
       rest =
           rw (c.next-command.ensures.state, c.next-command.ensures.number, small)
           (sample-step before.so_far _ c.commands.maker.state c.commands.maker.number before.left more.0 more.1 before.rest);
-      writes = omega (arith, before.writes, c.in_ok-print_command.ensures.cause.later);
+      writes = c.in_ok-print_command.ensures.cause.kept ∙ before.writes;
     }
 
 pub returns-in_err-print_command-clause-err : goal.returns-in_err-print_command-clause-err
@@ -49,9 +48,7 @@ returns-in_err-print_command-clause-err g c =
 
 pub returns-in_err-print_command-clause-cause : goal.returns-in_err-print_command-clause-cause
 returns-in_err-print_command-clause-cause g c =
-    let cause = c.in_err-print_command.ensures.cause in
-    let writes = c.commands.invariant.writes in
-    record { later = omega (arith, cause.later, writes); failed = OnErr-fact c.from_residual.result _ (Rose-before _ _ _ writes cause.failed) }
+    rw (err_from_is_err_and c.from_residual.result c.from_residual.ensures.1).1 (rw c.commands.invariant.writes at c.in_err-print_command.ensures.cause)
 
 pub returns-clause-ok : goal.returns-clause-ok
 returns-clause-ok g c =

@@ -12,5 +12,5 @@ invariant-commands g l =
       counted : l.made + left ≡ l.count;
       number : l.maker.number ≡ l.made + 1;
       rest : so_far ++ commands_text (commands_from l.maker.state l.maker.number left) ≡ commands_text (commands_from (state_of_seed l.seed) 1 l.count);
-      writes : g.K.Sink.faults l.initial.out ≤ g.K.Sink.faults l.out;
+      writes : g.K.Sink.faults l.out ≡ g.K.Sink.faults l.initial.out;
     }

@@ -9,5 +9,5 @@ invariant-each g l =
       so_far : List ℕ;
       printed : Prints (with_waiting (g.K.Sink.put l.initial.out) l.initial.printer) (with_waiting (g.K.Sink.put l.out) l.printer) so_far;
       rest : so_far ++ marks_text (drop l.mark-index l.marks) ≡ marks_text l.marks;
-      writes : g.K.Sink.faults l.initial.out ≤ g.K.Sink.faults l.out;
+      writes : g.K.Sink.faults l.out ≡ g.K.Sink.faults l.initial.out;
     }

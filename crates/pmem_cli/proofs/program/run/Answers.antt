@@ -6,7 +6,7 @@ use Rattle.pmem_cli.specs.Printed.{with_waiting}
 use Rattle.pmem_cli.specs.Causes.{Rose}
 use Rattle.pmem_cli.specs.HasRun.{TaskOutcome, HasEnded, IsComplete}
 use Rattle.pmem_cli.proofs.Completing.{complete}
-use Rattle.pmem_cli.proofs.StatusLemmas.{IfSome-map, none_of_some, TaskOutcome-finished}
+use Rattle.pmem_cli.proofs.StatusLemmas.{IfSome-map, none_of_some, TaskOutcome-finished, pull_told, push_told, push_once}
 use Rattle.pmem_cli.proofs.program.run.Goals as goal
 
 pub returns-clause-told : goal.returns-clause-told
@@ -19,10 +19,11 @@ returns-clause-told g c =
     let ending = c.do_words-ending.result in
     let status = c.finish.result in
     let between = with_waiting (g.K.Sink.put c.do_words-ending.new.out) c.do_words-ending.new.printer in
+    let reads = Rose (g.S.Source.faults c.args.trace.now) (g.S.Source.faults c.do_words-ending.new.trace) in
     IfSome-map (task_of words) (λ (task : Task). HasEnded task ending trace left (with_waiting before []) between)
-    (λ (task : Task). TaskOutcome task status trace left before after)
+    (λ (task : Task). TaskOutcome task status reads trace left before after)
     (λ (task : Task) (some : task_of words ≡ Some task) (ended : HasEnded task ending trace left (with_waiting before []) between).
-    TaskOutcome-finished task ending status trace left before after between ended
+    TaskOutcome-finished task ending status reads trace left before after between ended c.do_words-ending.ensures.reads.failed
     (record {
       good = λ faulty. none_of_some (task_of words) task some (c.do_words-ending.ensures.words.0 (c.finish.ensures.words.0 faulty));
       its_status = c.finish.ensures.status;
@@ -39,6 +40,16 @@ returns-clause-read g c = search rules
 pub returns-clause-write : goal.returns-clause-write
 returns-clause-write g c = search rules
 
+pub returns-clause-failed_pull : goal.returns-clause-failed_pull
+returns-clause-failed_pull g c = pull_told _ _ _ _ c.do_words-ending.ensures.reads c.finish.ensures.status
+
+pub returns-clause-failed_push : goal.returns-clause-failed_push
+returns-clause-failed_push g c = push_told _ _ _ _ _ c.do_words-ending.ensures.writes c.finish.ensures.write c.finish.ensures.failed
+
+pub returns-clause-one_failed_push : goal.returns-clause-one_failed_push
+returns-clause-one_failed_push g c =
+    push_once _ _ _ _ c.do_words-ending.ensures.writes (λ same. ap g.K.Sink.faults (c.finish.ensures.kept same)) c.finish.ensures.once
+
 pub returns-clause-complete : goal.returns-clause-complete
 returns-clause-complete g c =
     let words = map string_bytes c.args.words.now in
@@ -49,7 +60,7 @@ returns-clause-complete g c =
     let status = c.finish.result in
     let reads = Rose (g.S.Source.faults c.args.trace.now) (g.S.Source.faults c.do_words-ending.new.trace) in
     let writes = Rose (g.K.Sink.faults c.args.out.now) (g.K.Sink.faults c.finish.new.out) in
-    IfSome-map (task_of words) (λ (task : Task). TaskOutcome task status trace left before after) (λ (task : Task). IsComplete task status trace (reads ⊎ writes))
-    (λ (task : Task) (some : task_of words ≡ Some task) (done : TaskOutcome task status trace left before after).
+    IfSome-map (task_of words) (λ (task : Task). TaskOutcome task status reads trace left before after) (λ (task : Task). IsComplete task status trace (reads ⊎ writes))
+    (λ (task : Task) (some : task_of words ≡ Some task) (done : TaskOutcome task status reads trace left before after).
     complete task status trace left before after reads writes done (returns-clause-read g c) (returns-clause-write g c))
     (returns-clause-told g c)

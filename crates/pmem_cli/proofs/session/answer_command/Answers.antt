@@ -1,7 +1,8 @@
-use Rattle.std.proofs.Common.{◌∙◌, sym}
+use Rattle.std.proofs.Common.{◌∙◌, refl, sym}
 use Rattle.plain_model.specs.Run.{Step}
 use Rattle.pmem_replay.specs.Stepped.{reply_in}
 use Rattle.pmem_cli.proofs.StandingLemmas.{HasReplied-step, StandingAfter-step}
+use Rattle.pmem_cli.proofs.FaultLemmas.{stops_unfailed, stops_unwritten}
 use Rattle.pmem_cli.proofs.session.answer_command.Goals as goal
 
 pub returns-in-Err-clause-answered : goal.returns-in-Err-clause-answered
@@ -21,3 +22,12 @@ returns-else-is_shown-clause-answered g c =
       StandingAfter-step g.U.Suite.formulas_of c.args.world.now c.step.new.self step c.in-Ok.ensures.stepped hidden,
       c.in-Ok-print_reply.ensures.ok,
     )
+
+pub returns-in-Err-clause-cause : goal.returns-in-Err-clause-cause
+returns-in-Err-clause-cause g c = stops_unwritten _ _ _ _ _ refl c.in-Err.ensures.cause
+
+pub returns-then-is_shown-clause-cause : goal.returns-then-is_shown-clause-cause
+returns-then-is_shown-clause-cause g c = stops_unfailed _ _ _ _ _ (λ same. cc) (λ same. cc) (λ same. cc) refl c.in-Ok-print_reply.ensures.cause.kept
+
+pub returns-else-is_shown-clause-cause : goal.returns-else-is_shown-clause-cause
+returns-else-is_shown-clause-cause g c = stops_unfailed _ _ _ _ _ (λ same. cc) (λ same. cc) (λ same. cc) refl c.in-Ok-print_reply.ensures.cause.kept

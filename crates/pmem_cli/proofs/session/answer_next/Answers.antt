@@ -3,6 +3,7 @@ use Rattle.std.specs.Io.KnownBytes.{prepend_known}
 use Rattle.pmem_cli.specs.Printed.{with_waiting}
 use Rattle.pmem_cli.specs.Standing.{standing_of}
 use Rattle.pmem_cli.proofs.TurnLemmas.{HasStopped-fault, Turns-line, HasStopped-last, HasStopped-at_last, HasStopped-long, HasStopped-end}
+use Rattle.pmem_cli.proofs.FaultLemmas.{stops_unfailed, stops_unread, stops_after}
 use Rattle.pmem_cli.proofs.session.answer_next.Goals as goal
 
 pub returns-in-Ok-End-clause-turn : goal.returns-in-Ok-End-clause-turn
@@ -37,3 +38,32 @@ pub returns-in-Err-clause-turn : goal.returns-in-Err-clause-turn
 returns-in-Err-clause-turn g c =
     let (taken, within, short) = c.in-Err.ensures.fault in
     HasStopped-fault _ _ _ _ _ _ taken within short (omega (arith, c.requires.within)) (λ full. absurd (omega (arith, full, c.requires.within)))
+
+-- ---- faults
+
+pub returns-in-Err-clause-cause : goal.returns-in-Err-clause-cause
+returns-in-Err-clause-cause g c = stops_unread _ _ _ _ _ c.in-Err.ensures.cause refl
+
+pub returns-in-Ok-End-clause-cause : goal.returns-in-Ok-End-clause-cause
+returns-in-Ok-End-clause-cause g c = stops_unfailed _ _ _ _ _ (λ same. cc) (λ same. cc) (λ same. cc) c.in-Ok-End.ensures.cause.kept refl
+
+pub returns-in-Ok-Long-clause-cause : goal.returns-in-Ok-Long-clause-cause
+returns-in-Ok-Long-clause-cause g c = stops_unfailed _ _ _ _ _ (λ same. cc) (λ same. cc) (λ same. cc) c.in-Ok-Long.ensures.cause.kept refl
+
+pub returns-in-Ok-Line-clause-cause : goal.returns-in-Ok-Line-clause-cause
+returns-in-Ok-Line-clause-cause g c = stops_after _ _ _ _ _ c.answer_line.ensures.cause c.in-Ok-Line.ensures.cause.kept
+
+pub returns-in-None-clause-cause : goal.returns-in-None-clause-cause
+returns-in-None-clause-cause g c =
+    stops_unfailed _ _ _ _ _ (λ same. cc) (λ same. cc) (λ same. cc) c.in-Ok-Last.ensures.cause.kept (c.in-None.ensures.cause.writes.kept (λ same. cc))
+
+pub returns-in-Some-clause-cause : goal.returns-in-Some-clause-cause
+returns-in-Some-clause-cause g c = stops_after _ _ _ _ _ c.in-Some.ensures.cause c.in-Ok-Last.ensures.cause.kept
+
+-- ---- pulls
+
+pub returns-in-Ok-Line-clause-pulls : goal.returns-in-Ok-Line-clause-pulls
+returns-in-Ok-Line-clause-pulls g c = record {
+  may_pull = λ none. (rw c.in-Ok-Line.field-0-is at c.in-Ok-Line.ensures.may_pull) refl;
+  in_time = c.in-Ok-Line.ensures.in_time;
+}

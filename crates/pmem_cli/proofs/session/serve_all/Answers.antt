@@ -1,4 +1,4 @@
-use Rattle.std.proofs.Common.{false, ◌≡◌, ◌+◌, ◌++◌, ◌∷◌, [], length, refl, subst, arith, length-append}
+use Rattle.std.proofs.Common.{false, ◌≡◌, ◌+◌, ◌++◌, ◌∷◌, ◌∙◌, [], length, refl, subst, arith, length-append}
 use Rattle.std.specs.Io.KnownBytes.{prepend_known}
 use Rattle.std.proofs.KnownBytes.{prepend_known-nil, Consumes-nil, Consumes-kept}
 use Rattle.std.proofs.lemmas.List.Elements.{All-nil}
@@ -7,6 +7,7 @@ use Rattle.plain_model.specs.Lines.{is_line_end}
 use Rattle.pmem_cli.specs.Printed.{with_waiting}
 use Rattle.pmem_cli.specs.Standing.{standing_of}
 use Rattle.pmem_cli.specs.Turns.{HasStopped}
+use Rattle.pmem_cli.proofs.FaultLemmas.{stops_unfailed, stops_unread, stops_unwritten}
 use Rattle.pmem_cli.proofs.TurnLemmas.{HasServed-nil, HasServed-trans, HasServed-kept, HasServed-put, HasStopped-after, HasStopped-fault, HasStopped-end, HasStopped-limit, HasStopped-unput}
 use Rattle.pmem_cli.proofs.session.serve_all.Goals as goal
 
@@ -17,8 +18,9 @@ lines-init g c = record {
   so_far = rw (c.new-reader.ensures, prepend_known-nil (g.S.Source.left c.args.trace.now)) (HasServed-nil _ _ _ c.requires.running);
   counted = refl;
   running = c.requires.running;
-  reads = omega arith;
-  writes = omega arith;
+  reads = refl;
+  writes = refl;
+  may_pull = λ held. held;
 }
 
 pub lines-preserved : goal.lines-preserved
@@ -30,8 +32,9 @@ lines-preserved g c =
       so_far = HasServed-trans _ _ _ _ _ _ _ _ _ _ _ _ _ before.so_far turn;
       counted = rw length-append (omega (arith, before.counted));
       running = turn.answered.on.running;
-      reads = omega (arith, before.reads, c.serve_next.ensures.cause.reads);
-      writes = omega (arith, before.writes, c.serve_next.ensures.cause.writes);
+      reads = c.serve_next.ensures.cause.reads.kept (λ same. cc (c.in_default.is, same)) ∙ before.reads;
+      writes = c.serve_next.ensures.cause.writes.kept (λ same. cc (c.in_default.is, same)) ∙ before.writes;
+      may_pull = λ held. c.serve_next.ensures.pulls.may_pull c.in_default.is (before.may_pull held);
     }
 
 pub returns-in-Some-clause-stopped : goal.returns-in-Some-clause-stopped
@@ -63,3 +66,23 @@ returns-in-Ok-false-clause-stopped g c =
     let put = HasServed-put _ _ _ _ _ _ _ _ _ before.so_far c.in-Ok.ensures.ok in
     HasStopped-after _ _ _ _ _ _ _ _ _ _ _ _ (HasServed-kept _ _ _ _ _ _ _ _ _ put c.is_ended.ensures.ahead)
     (HasStopped-limit _ _ _ _ _ _ (c.in-Ok-false.ensures.more c.in-Ok-false.field-0-test) (omega (arith, before.counted)))
+
+-- ---- faults
+
+pub returns-in-Some-clause-cause : goal.returns-in-Some-clause-cause
+returns-in-Some-clause-cause g c = rw (c.lines.invariant.reads, c.lines.invariant.writes) at c.in-Some.ensures.cause
+
+pub returns-in-Err-clause-cause : goal.returns-in-Err-clause-cause
+returns-in-Err-clause-cause g c = stops_unwritten _ _ _ _ _ c.lines.invariant.reads (rw c.lines.invariant.writes at c.in-Err.ensures.cause)
+
+pub returns-in-Err-is_ended-clause-cause : goal.returns-in-Err-is_ended-clause-cause
+returns-in-Err-is_ended-clause-cause g c =
+    stops_unread _ _ _ _ _ (rw c.lines.invariant.reads at c.in-Err-is_ended.ensures.cause) (c.in-Ok.ensures.cause.kept ∙ c.lines.invariant.writes)
+
+pub returns-in-Ok-true-clause-cause : goal.returns-in-Ok-true-clause-cause
+returns-in-Ok-true-clause-cause g c =
+    stops_unfailed _ _ _ _ _ (λ same. cc) (λ same. cc) (λ same. cc) (c.in-Ok-true.ensures.cause.kept ∙ c.lines.invariant.reads) (c.in-Ok.ensures.cause.kept ∙ c.lines.invariant.writes)
+
+pub returns-in-Ok-false-clause-cause : goal.returns-in-Ok-false-clause-cause
+returns-in-Ok-false-clause-cause g c =
+    stops_unfailed _ _ _ _ _ (λ same. cc) (λ same. cc) (λ same. cc) (c.in-Ok-false.ensures.cause.kept ∙ c.lines.invariant.reads) (c.in-Ok.ensures.cause.kept ∙ c.lines.invariant.writes)

@@ -4,6 +4,7 @@ use Rattle.plain_model.specs.Run.{Step}
 use Rattle.pmem_cli.specs.Printed.{with_waiting}
 use Rattle.pmem_cli.specs.Standing.{standing_of}
 use Rattle.pmem_cli.specs.Turns.{HasServed}
+use Rattle.pmem_cli.specs.Pulling.{StaysOpen}
 use Rattle.pmem_cli.proofs.session.serve_all.Given as goal
 
 abbrev pub invariant-lines : goal.invariant-lines
@@ -17,6 +18,7 @@ invariant-lines g l =
           (with_waiting (g.K.Sink.put l.initial.out) l.initial.printer) (with_waiting (g.K.Sink.put l.out) l.printer) lines steps;
       counted : length lines ≡ l.served;
       running : l.world.shown ≡ false;
-      reads : g.S.Source.faults l.initial.trace ≤ g.S.Source.faults l.trace;
-      writes : g.K.Sink.faults l.initial.out ≤ g.K.Sink.faults l.out;
+      reads : g.S.Source.faults l.trace ≡ g.S.Source.faults l.initial.trace;
+      writes : g.K.Sink.faults l.out ≡ g.K.Sink.faults l.initial.out;
+      may_pull : StaysOpen (g.S.Source.pulls l.initial.trace) (g.S.Source.pulls l.trace);
     }

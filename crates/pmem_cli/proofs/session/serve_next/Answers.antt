@@ -1,8 +1,9 @@
-use Rattle.std.proofs.Common.{arith}
+use Rattle.std.proofs.Common.{refl, arith}
 use Rattle.std.specs.Io.KnownBytes.{prepend_known}
 use Rattle.pmem_cli.specs.Printed.{with_waiting}
 use Rattle.pmem_cli.specs.Standing.{standing_of}
 use Rattle.pmem_cli.proofs.TurnLemmas.{HasStopped-unput, Turns-put}
+use Rattle.pmem_cli.proofs.FaultLemmas.{stops_unwritten}
 use Rattle.pmem_cli.proofs.session.serve_next.Goals as goal
 
 pub returns-in-Err-clause-turn : goal.returns-in-Err-clause-turn
@@ -10,3 +11,9 @@ returns-in-Err-clause-turn g c = HasStopped-unput _ _ _ _ _ _ (omega (arith, c.r
 
 pub returns-in-Ok-clause-turn : goal.returns-in-Ok-clause-turn
 returns-in-Ok-clause-turn g c = Turns-put c.answer_next.result _ _ _ _ _ _ _ _ _ c.in-Ok.ensures.ok c.answer_next.ensures.turn
+
+pub returns-in-Err-clause-cause : goal.returns-in-Err-clause-cause
+returns-in-Err-clause-cause g c = stops_unwritten _ _ _ _ _ refl c.in-Err.ensures.cause
+
+pub returns-in-Ok-clause-cause : goal.returns-in-Ok-clause-cause
+returns-in-Ok-clause-cause g c = rw c.in-Ok.ensures.cause.kept at c.answer_next.ensures.cause

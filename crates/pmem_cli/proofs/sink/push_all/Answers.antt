@@ -7,7 +7,7 @@ moved all done rest n e = e ∙ ap (λ l. done ++ l) (sym (take-append-drop n re
 
 pub pushes-preserved : goal.pushes-preserved
 pushes-preserved g c =
-    let (done, split, appended, later) = c.pushes.invariant in
+    let (done, split, appended, kept) = c.pushes.invariant in
     let rest = c.pushes.rest.now in
     let n = c.in_ok-count.count in
-    (done ++ take n rest, rw c.split_at.ensures.back (moved _ done rest n split), Appends-trans _ _ _ _ _ appended c.in_ok-count.ensures.bytes, omega (arith, later, c.in_ok-count.ensures.cause.later))
+    (done ++ take n rest, rw c.split_at.ensures.back (moved _ done rest n split), Appends-trans _ _ _ _ _ appended c.in_ok-count.ensures.bytes, c.in_ok-count.ensures.cause.kept ∙ kept)

@@ -2,6 +2,7 @@ use Rattle.std.proofs.Common.{◌≡◌, ◌≤◌, ◌-◌, length}
 use Rattle.std.specs.Prelude.{Contains}
 use Rattle.std.specs.Io.KnownBytes.{Consumes, prepend_known}
 use Rattle.plain_model.specs.Lines.{IsWithin}
+use Rattle.pmem_cli.specs.Pulling.{StaysOpen}
 use Rattle.pmem_cli.proofs.lines.LineReader.next_line.Given as goal
 
 abbrev pub invariant-pieces : goal.invariant-pieces
@@ -11,7 +12,8 @@ invariant-pieces g l =
           Consumes (prepend_known l.initial.self (g.S.Source.left l.initial.source)) (prepend_known l.self (g.S.Source.left l.source)) l.line.items;
       within : IsWithin l.line.items;
       short : length l.line.items ≤ 1024;
-      later : g.S.Source.faults l.initial.source ≤ g.S.Source.faults l.source;
+      kept : g.S.Source.faults l.source ≡ g.S.Source.faults l.initial.source;
+      may_pull : StaysOpen (g.S.Source.pulls l.initial.source) (g.S.Source.pulls l.source);
       at_hand : Contains l.initial.self 10 → l.self ≡ l.initial.self;
       unpulled : Contains l.initial.self 10 → l.source ≡ l.initial.source;
     }

@@ -1,0 +1,25 @@
+use Rattle.std.proofs.Common.{refl, inl, inr}
+use Rattle.pmem_cli.proofs.FaultLemmas.{CountsFault-none, CountsFault-map, stops_after}
+use Rattle.pmem_cli.proofs.program.do_task.Goals as goal
+
+pub returns-in-Run-clause-reads : goal.returns-in-Run-clause-reads
+returns-in-Run-clause-reads g c = CountsFault-map _ _ _ _ _ (λ same. cc) (λ same. cc) refl c.run_trace.ensures.cause.reads
+
+pub returns-in-Run-clause-writes : goal.returns-in-Run-clause-writes
+returns-in-Run-clause-writes g c = CountsFault-map _ _ _ _ _ (λ same. cc) (λ same. cc) refl c.run_trace.ensures.cause.writes
+
+pub returns-in-Make-clause-reads : goal.returns-in-Make-clause-reads
+returns-in-Make-clause-reads g c = CountsFault-none _ _ _ (λ same. elim c.make.ensures.made.its_stop [ inl is ↦ cc | inr is ↦ cc ]) refl
+
+pub returns-in-Make-clause-writes : goal.returns-in-Make-clause-writes
+returns-in-Make-clause-writes g c = CountsFault-map _ _ _ _ _ (λ same. cc) (λ same. cc) refl c.make.ensures.writes
+
+pub returns-in-Sample-clause-reads : goal.returns-in-Sample-clause-reads
+returns-in-Sample-clause-reads g c =
+    CountsFault-map _ _ _ _ _ (λ same. cc) (λ same. cc) refl (stops_after _ _ _ _ _ c.sample.ensures.cause refl).reads
+
+pub returns-in-Sample-clause-writes : goal.returns-in-Sample-clause-writes
+returns-in-Sample-clause-writes g c = CountsFault-map _ _ _ _ _ (λ same. cc) (λ same. cc) refl c.sample.ensures.cause.writes
+
+pub returns-in-Check-clause-writes : goal.returns-in-Check-clause-writes
+returns-in-Check-clause-writes g c = CountsFault-none _ _ _ c.check.ensures.write refl
