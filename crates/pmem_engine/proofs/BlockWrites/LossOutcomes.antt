@@ -1,8 +1,8 @@
 -- The stop-loss number is changed: what the call keeps, and what its answers say.
 use Rattle.std.proofs.lemmas.Grind.{common_steps}
-use Rattle.std.proofs.Common.{rules, ℕ, ◌≡◌, ◌≢◌, ◌<◌, ◌≤◌, ◌+◌, ◌*◌, ◌⊎◌, inl, inr, Bool, true, false, List, [], Option, Some, None, Result, Ok, Err, refl, sym, ap, ap₂, subst, subst₂, ◌∙◌, arith}
-use Rattle.std.specs.Prelude.{IfSome, MatchBool, is_some, nat_lt, ◌==◌, IsTrue}
-use Rattle.std.proofs.lemmas.Bool.{true≢false, cases_Bool, cases_lt, ltb-true, ne_eqb}
+use Rattle.std.proofs.Common.{rules, ℕ, ◌≡◌, ◌≢◌, ◌<◌, ◌≤◌, ◌*◌, ◌⊎◌, inl, inr, true, false, List, [], Option, Some, None, Result, Ok, Err, refl, sym, ap, ap₂, subst, subst₂, ◌∙◌, arith}
+use Rattle.std.specs.Prelude.{IfSome, is_some, IsTrue}
+use Rattle.std.proofs.lemmas.Bool.{true≢false, cases_lt}
 use Rattle.std.proofs.lemmas.List.{append-nil}
 use Rattle.std.proofs.lemmas.Option.{same_Some}
 use Rattle.pmem_base.specs.declared.lines.Line.{Line}
@@ -13,7 +13,7 @@ use Rattle.bonsai_tree.specs.Positions.{level_of, counter_position}
 use Rattle.bonsai_tree.proofs.Levels.{counter_position-lt}
 use Rattle.bonsai_tree.proofs.PathPositions.{path_of-block, path_of-level}
 use Rattle.board.specs.Device.{Device}
-use Rattle.board.specs.Steps.{WasCut, HasLatched}
+use Rattle.board.specs.Steps.{HasLatched}
 use Rattle.commit_regs.specs.Groups.{redone_told}
 use Rattle.seal_ledger.specs.Ledger.{LedgerState}
 use Rattle.meta_cache.specs.Banks.{is_cached, is_cached_dirty}
@@ -27,9 +27,9 @@ use Rattle.pmem_engine.specs.Invariants.{IsSound, IsCounterStored, stored_meta}
 use Rattle.pmem_engine.specs.Steps.{HasLossSet}
 use Rattle.pmem_engine.specs.Recached.{IsTrueOrDirty}
 use Rattle.pmem_engine.specs.Parts.{Parts, parts_of, AreTrusted, AreSound, HoldsCounters, HoldsMeta, lines_redone}
-use Rattle.pmem_engine.specs.Outcomes.{going, cut_short, outcome_of, KeepsPlaces, KeepsMeta, CallEffect, TakesSteps, TakesFewer}
-use Rattle.pmem_engine.specs.Calls.{IsDownAnswer, AreStepsOfLoss, IsCutInLoss, AnswersLoss, HasSetLoss}
-use Rattle.pmem_engine.specs.Flushed.{HasWrittenBlocks, HasMadeWay, IsCutInBlocks, IsLossLatched, HasChangedLoss, with_loss, IsBankClean}
+use Rattle.pmem_engine.specs.Outcomes.{going, cut_short, outcome_of, KeepsPlaces, KeepsMeta, CallEffect}
+use Rattle.pmem_engine.specs.Calls.{IsDownAnswer, AnswersLoss, HasSetLoss}
+use Rattle.pmem_engine.specs.Flushed.{HasWrittenBlocks, HasMadeWay, HasChangedLoss, with_loss, IsBankClean}
 use Rattle.pmem_engine.proofs.CallEnds.ToldLines.{told_surely}
 use Rattle.pmem_engine.proofs.Laws.CounterBlocks.{IsCounterStored-true}
 use Rattle.pmem_engine.proofs.Laws.GroupLaws.{IsMendable-unarmed}
@@ -71,21 +71,6 @@ times_of a b known_a known_b less = go (is_loss_cases a known_a) (is_loss_cases 
     go (inr (inr (inr (inr a16)))) (inr (inr (inl b4))) = absurd (omega (arith, less, a16, b4))
     go (inr (inr (inr (inr a16)))) (inr (inr (inr (inl b8)))) = absurd (omega (arith, less, a16, b8))
     go (inr (inr (inr (inr a16)))) (inr (inr (inr (inr b16)))) = absurd (omega (arith, less, a16, b16))
-
-match_true : (b : Bool) (P Q : Type 0) → b ≡ true → P → MatchBool b P Q
-match_true true P Q is it = it
-match_true false P Q is it = absurd (true≢false (sym is))
-
-match_false : (b : Bool) (P Q : Type 0) → b ≡ false → Q → MatchBool b P Q
-match_false true P Q is it = absurd (true≢false is)
-match_false false P Q is it = it
-
-not_lt : (a b : ℕ) → (a < b → ⊥) → nat_lt a b ≡ false
-not_lt a b never = go (cases_Bool (nat_lt a b))
-  where
-    go : (nat_lt a b ≡ true) ⊎ (nat_lt a b ≡ false) → nat_lt a b ≡ false
-    go (inl less) = absurd (never (ltb-true a b less))
-    go (inr it) = it
 
 -- ---- the latch
 
@@ -277,50 +262,6 @@ module _ (setup : Setup) (n : ℕ) (old new : EngineState) (before after : Devic
   abbrev dirty : ℕ
   dirty = bank_dirty_count setup.shape old.cache setup.shape.levels
 
-  dirty_as : bank_dirty_count old.shape old.cache old.shape.levels ≡ dirty
-  dirty_as = ap (λ g. bank_dirty_count g old.cache g.levels) its_shape
-
-  count_few : (count : ℕ) (mid : Device) → HasWrittenBlocks count old new before mid → count ≤ dirty
-  count_few count mid written = omega (arith, written.dirty, dirty_as)
-
-  takes : (count : ℕ) (mid : Device) → HasWrittenBlocks count old new before mid → HasLatched mid (with_loss mid.regs n) after
-      → TakesSteps (count + 1) before after
-  takes count mid written latched =
-      record {
-        writes = omega (arith, written.writes.never_falls, latched.writes);
-        latches = omega (arith, written.latches, latched.latches.never_falls);
-        sum =
-            search rules;
-      }
-
-  takes_fewer : (count more : ℕ) (mid : Device) → HasWrittenBlocks count old new before mid → WasCut mid after → count < more
-      → TakesFewer more before after
-  takes_fewer count more mid written was_cut less =
-      record {
-        writes = omega (arith, written.writes.never_falls, was_cut.writes);
-        latches = omega (arith, written.latches, was_cut.latches);
-        sum =
-            search rules;
-      }
-
-  latched_steps : (steps : ℕ) → n ≢ before.regs.loss → IsLossLatched n steps old new before after
-      → AreStepsOfLoss dirty before.regs.loss n steps
-  latched_steps steps other it =
-      match_false (n == before.regs.loss) (steps ≡ 0) _ (ne_eqb n before.regs.loss other) (go (cases_lt before.regs.loss n))
-    where
-      go : (before.regs.loss < n) ⊎ (n ≤ before.regs.loss)
-          → MatchBool (nat_lt before.regs.loss n) (steps ≡ 1) (steps ≡ dirty + 1)
-      go v0 = search rules
-
-  cut_steps : n ≢ before.regs.loss → IsCutInBlocks n old new before after
-      → IsCutInLoss dirty before.regs.loss n call_start call_finish
-  cut_steps other it =
-      match_false (n == before.regs.loss) ⊥ _ (ne_eqb n before.regs.loss other) (go (cases_lt before.regs.loss n))
-    where
-      go : (before.regs.loss < n) ⊎ (n ≤ before.regs.loss)
-          → MatchBool (nat_lt before.regs.loss n) (TakesFewer 1 before after) (TakesFewer (dirty + 1) before after)
-      go v0 = search rules
-
   loss_answer : (answer : Result ℕ Fault) → HasChangedLoss n old new before after answer
       → AnswersLoss setup.shape n call_start (ended_parts call_finish (outcome_of answer)) answer
   loss_answer v0 v1 = grind (arith, common_steps)
@@ -339,11 +280,6 @@ module _ (setup : Setup) (n : ℕ) (old new : EngineState) (before after : Devic
 
   loss_reads : (answer : Result ℕ Fault) → HasChangedLoss n old new before after answer → after.reads ≡ before.reads
   loss_reads v0 v1 = grind (arith, common_steps)
-
-  blocks_cached : (count : ℕ) (mid : Device) → HasWrittenBlocks count old new before mid → (bank x : ℕ)
-      → is_cached setup.shape new.cache bank x ≡ is_cached setup.shape old.cache bank x
-  blocks_cached count mid written bank x =
-      subst (λ g. is_cached g new.cache bank x ≡ is_cached g old.cache bank x) its_shape (written.cached bank x)
 
   loss_cached : (answer : Result ℕ Fault) → HasChangedLoss n old new before after answer → (bank x : ℕ)
       → is_cached setup.shape new.cache bank x ≡ is_cached setup.shape old.cache bank x

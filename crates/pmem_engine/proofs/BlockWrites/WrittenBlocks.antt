@@ -42,10 +42,6 @@ marked_clean [] x = refl
 marked_clean (slot ∷ slots) x =
     ap₂ (λ a b. a || b) (by (slot.position == x) refl) (marked_clean slots x)
   where
-    same_slot : (b : Bool) → (slot.position == x) ≡ b → (now : Slot) → cond b (slot_marked slot false) slot ≡ now
-        → (now.position == x && now.dirty) ≡ false
-    same_slot v0 e now is = search rules
-
     by : (b : Bool) → (slot.position == x) ≡ b
         → ((cond (slot.position == x) (slot_marked slot false) slot).position == x
         && (cond (slot.position == x) (slot_marked slot false) slot).dirty) ≡ false

@@ -7,10 +7,6 @@ use Rattle.pmem_engine.specs.Engine.{EngineState}
 use Rattle.pmem_engine.specs.Parts.{Parts, HoldsMeta}
 use Rattle.pmem_engine.specs.Outcomes.{Outcome, going, cut_short, shown, KeepsMeta, OneLossEffect}
 
--- engines are equal part by part
-pub engine_is : (a b : EngineState) → a.shape ≡ b.shape → a.cache ≡ b.cache → a.mirror ≡ b.mirror → a.down ≡ b.down → a ≡ b
-engine_is a b shape cache mirror down = search rules
-
 -- the parts with another engine
 abbrev pub with_engine : Parts → EngineState → Parts
 with_engine parts engine = record parts { engine = engine }

@@ -2,16 +2,12 @@
 use Rattle.std.proofs.Common.{rules, []}
 use Rattle.suite.specs.Setup.{Setup}
 use Rattle.pmem_engine.specs.Parts.{Parts, AreTrusted, AreSound}
-use Rattle.pmem_engine.specs.Outcomes.{going, cut_short, OneLossEffect}
-use Rattle.pmem_engine.specs.Still.{HasOnlyRead, HasOnlyCut}
+use Rattle.pmem_engine.specs.Outcomes.{going, OneLossEffect}
+use Rattle.pmem_engine.specs.Still.{HasOnlyRead}
 
 -- a part that only read
 pub done_reading : (setup : Setup) (old new : Parts) → HasOnlyRead old new → OneLossEffect setup going [] old new
 done_reading setup old new it = search rules
-
--- a part that was cut before anything was changed
-pub done_cut : (setup : Setup) (old new : Parts) → HasOnlyCut old new → OneLossEffect setup cut_short [] old new
-done_cut setup old new it = search rules
 
 -- what is sound is trusted
 pub sound_trusted : (setup : Setup) (parts : Parts) → AreSound setup parts → AreTrusted setup parts

@@ -1,5 +1,5 @@
 -- After a call the parts are usable again, whatever it answered.
-use Rattle.std.proofs.Common.{rules, ℕ, ◌≡◌, ◌≢◌, ◌++◌, ◌||◌, Bool, true, false, not, List, [], ◌∷◌, Option, Some, None, Result, refl, sym, subst, ◌∙◌}
+use Rattle.std.proofs.Common.{rules, ℕ, ◌≡◌, ◌≢◌, ◌++◌, ◌||◌, Bool, true, false, not, List, [], ◌∷◌, Option, None, Result, refl, sym, subst, ◌∙◌}
 use Rattle.std.specs.Prelude.{is_some, IsSome}
 use Rattle.std.proofs.lemmas.Bool.{true≢false}
 use Rattle.pmem_base.specs.declared.answers.Mark.{Mark}
@@ -20,12 +20,6 @@ pub still_sealed : (marks more : List Mark) (a : ℕ) → IsSome (last_seal mark
 still_sealed [] more a it = absurd (true≢false (sym it))
 still_sealed (mark ∷ marks) more a it = go (seal_of mark a) (last_seal marks a) refl it (still_sealed marks more a)
   where
-    some_later : (earlier later : Option SealOf) → is_some later ≡ true → is_some (later_of earlier later) ≡ true
-    some_later earlier v1 it = search rules
-
-    some_earlier : (earlier : SealOf) (later : Option SealOf) → is_some (later_of (Some earlier) later) ≡ true
-    some_earlier earlier v1 = search rules
-
     go : (earlier later : Option SealOf) → last_seal marks a ≡ later → is_some (later_of earlier later) ≡ true
         → (IsSome (last_seal marks a) → IsSome (last_seal (marks ++ more) a))
         → is_some (later_of earlier (last_seal (marks ++ more) a)) ≡ true

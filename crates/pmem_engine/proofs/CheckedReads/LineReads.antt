@@ -1,7 +1,6 @@
 -- A read: its path was fetched, and its line unsealed or refused.
 use Rattle.std.proofs.lemmas.Grind.{common_steps}
 use Rattle.std.proofs.Common.{rules, ℕ, ◌≡◌, true, false, [], Result, Ok, Err, refl, sym, ap, subst, subst₂, ◌∙◌, arith}
-use Rattle.std.specs.Prelude.{IsOk}
 use Rattle.std.proofs.lemmas.Bool.{true≢false}
 use Rattle.pmem_base.specs.declared.lines.Line.{Line}
 use Rattle.pmem_base.specs.declared.lines.Ctr.{Ctr}
@@ -68,10 +67,6 @@ same_outcome : (answer : Result Unsealed Fault) → outcome_of (plain_answer ans
 same_outcome (Ok unsealed) = refl
 same_outcome (Err fault) = refl
 
-was_ok : (answer : Result Unsealed Fault) → IsOk (plain_answer answer) → IsOk answer
-was_ok (Ok unsealed) ok = refl
-was_ok (Err fault) ok = ok
-
 still_unrefused : (answer : Result Unsealed Fault) → IsUnrefused answer → IsUnrefused (plain_answer answer)
 still_unrefused (Ok unsealed) it = tt
 still_unrefused (Err Fail.Cut) it = tt
@@ -90,9 +85,6 @@ down_before (Err fault) it = go fault it
 
 module _ (setup : Setup) (a : ℕ) (ctr : Ctr) (old mid new : Parts) (its_shape : old.engine.shape ≡ setup.shape)
     (fetched : HasFetched setup (page_of a) old mid (Ok tt)) where
-  same_ledger : mid.ledger ≡ old.ledger
-  same_ledger = fetched.same_ledger (λ it. true≢false (ap is_going it))
-
   answers_read : (answer : Result Unsealed Fault) → AnswersUnseal setup a mid new answer
       → AnswersRead setup a old new (plain_answer answer)
   answers_read v0 it = grind (arith, common_steps)

@@ -1,14 +1,12 @@
 -- A call that ended: its engine is down where it was cut or shown.
 use Rattle.std.proofs.Common.{rules, ℕ, ◌≡◌, Bool, false, ◌||◌, List, [], Result, sym, ap, subst}
 use Rattle.pmem_base.specs.declared.lines.Line.{Line}
-use Rattle.pmem_base.specs.declared.lines.Ctr.{Ctr}
 use Rattle.pmem_base.specs.declared.answers.Mark.{Mark}
 use Rattle.suite.specs.Setup.{Setup}
 use Rattle.pmem_engine.specs.declared.fault.Fault.{Fault}
 use Rattle.pmem_engine.specs.Engine.{EngineState}
 use Rattle.pmem_engine.specs.Parts.{Parts, parts_of}
 use Rattle.pmem_engine.specs.Outcomes.{Outcome, going, cut_short, shown, outcome_of, CallEffect, OneLossEffect}
-use Rattle.pmem_engine.specs.Faults.{IsFetchedLine, IsMetaRefused, IsClashShown, IsUnsealedLine, IsTagRefused, IsForgedShown}
 use Rattle.pmem_engine.specs.Calls.{IsDownAnswer, AnswersDown, TakesWithin, TakesWithinOfLive, AnswersRead, HasReadLine}
 use Rattle.pmem_engine.specs.Inner.{ended_by, UpReadOutcome}
 
@@ -104,30 +102,6 @@ pub answers_down : {T : Type 0} (answer : Result T Fault) (old new : Parts) → 
 answers_down answer old new was same never = search rules
 
 -- ---- what was seen doesn't depend on the engine afterwards
-
-fetched_line_ended : (setup : Setup) (page x : ℕ) (line : Line) (old new : Parts) (outcome : Outcome)
-    → IsFetchedLine setup page x line old new → IsFetchedLine setup page x line old (ended_parts new outcome)
-fetched_line_ended setup page x line old new outcome it = search rules
-
-pub meta_refused_ended : (setup : Setup) (page x : ℕ) (old new : Parts) (outcome : Outcome)
-    → IsMetaRefused setup page x old new → IsMetaRefused setup page x old (ended_parts new outcome)
-meta_refused_ended setup page x old new outcome it = search rules
-
-pub clash_shown_ended : (setup : Setup) (page : ℕ) (old new : Parts) (outcome : Outcome)
-    → IsClashShown setup page old new → IsClashShown setup page old (ended_parts new outcome)
-clash_shown_ended setup page old new outcome it = search rules
-
-unsealed_line_ended : (setup : Setup) (a : ℕ) (ctr : Ctr) (cipher : Line) (tag : List ℕ) (new : Parts) (outcome : Outcome)
-    → IsUnsealedLine setup a ctr cipher tag new → IsUnsealedLine setup a ctr cipher tag (ended_parts new outcome)
-unsealed_line_ended setup a ctr cipher tag new outcome it = search rules
-
-pub tag_refused_ended : (setup : Setup) (a : ℕ) (new : Parts) (outcome : Outcome)
-    → IsTagRefused setup a new → IsTagRefused setup a (ended_parts new outcome)
-tag_refused_ended setup a new outcome it = search rules
-
-pub forged_shown_ended : (setup : Setup) (a : ℕ) (new : Parts) (outcome : Outcome)
-    → IsForgedShown setup a new → IsForgedShown setup a (ended_parts new outcome)
-forged_shown_ended setup a new outcome it = search rules
 
 pub within_ended : (outcome end : Outcome) (n : ℕ) (old new : Parts) → TakesWithin outcome n old new
     → TakesWithin outcome n old (ended_parts new end)

@@ -27,7 +27,6 @@ use Rattle.pmem_engine.specs.Engine.{EngineState}
 use Rattle.pmem_engine.specs.Invariants.{IsSound, IsSealStored, IsSealTagged}
 use Rattle.pmem_engine.specs.Parts.{Parts, parts_of, AreTrusted, AreSound, HoldsSeal}
 use Rattle.pmem_engine.specs.Outcomes.{NeverFalls, TakesSteps}
-use Rattle.pmem_engine.specs.Faults.{IsUnsealedLine}
 use Rattle.pmem_engine.specs.Still.{HasOnlyRead}
 use Rattle.pmem_engine.specs.Inner.{HasUnsealed, IsLastCounter}
 use Rattle.pmem_engine.proofs.CallEnds.StillParts.{done_reading}
@@ -66,9 +65,6 @@ record IsReadSeal (marks : List Mark) (a : ℕ) (cipher : Line) (tag : List ℕ)
   its_cipher : cipher ≡ seal.cipher
   its_tag : tag ≡ seal.tag
 
-of_option : {A B : Type 0} (f : A → B) (o : Option A) (b : B) → option_map f o ≡ Some b → (x : A) × (o ≡ Some x) × (f x ≡ b)
-of_option f v1 b e = search rules
-
 -- what a sound device gives, where no group is armed
 sound_seal : (setup : Setup) (parts : Parts) (told : Option (List Line)) (a : ℕ) (cipher tag_line : Line) → AreSound setup parts
     → told ≡ parts.device.lines → Tells told a cipher → Tells told (layout.tag_line setup.shape a) tag_line
@@ -84,11 +80,6 @@ tag_of_read setup parts a ctr cipher tag tagged counter it =
     ap₂ (λ c line. setup.formulas.tag_of a c line) (sym (same_Some it.seal.ctr ctr same)) it.its_cipher
     ∙ last_seal_has (IsSealTagged setup.formulas) parts.ledger.marks a it.seal tagged it.last
     ∙ sym it.its_tag
-
--- an unsealed line is the cipher xor its pad, under the right tag
-unsealed_some : (f : Formulas) (a : ℕ) (ctr : Ctr) (cipher : Line) (tag : List ℕ) (plain : Line)
-    → unsealed f a ctr cipher tag ≡ Some plain → xor_lines cipher (f.pad_of a ctr) ≡ plain
-unsealed_some f a ctr cipher tag plain it = search rules
 
 -- a line that was unsealed has its right tag
 pub right_tag : (f : Formulas) (a : ℕ) (ctr : Ctr) (cipher : Line) (tag slot : List ℕ) (plain : Line) → tag ≡ slot
@@ -116,10 +107,6 @@ module _ (setup : Setup) (engine : EngineState) (ledger : LedgerState) (a : ℕ)
 
   no_steps : TakesSteps 0 old new
   no_steps = search rules
-
-  read_line : (noted : LedgerState) → last_seal noted.marks a ≡ last_seal ledger.marks a → IsLastCounter before a ctr
-      → IsUnsealedLine setup a ctr cipher (tag_slot tag_line a) (after noted)
-  read_line noted marks counter = search rules
 
   -- an error is no answer
   no_answer : {T : Type 0} → false ≡ true → T

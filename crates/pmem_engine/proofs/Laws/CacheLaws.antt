@@ -99,10 +99,6 @@ IsSound-written_back setup engine lines regs ledger x sound h =
 
 -- ---- the cache changes
 
-IsTrueSlot-from_before : (g : Shape) (truth : List Line) (bank set : ℕ) (slots : List Slot) (slot : Slot)
-    → IsFromBefore slots slot → All (IsTrueSlot g truth bank set) slots → IsTrueSlot g truth bank set slot
-IsTrueSlot-from_before g truth bank set slots slot from all = search rules
-
 -- The engine stays trusted, whatever the device holds.
 pub IsTrusted-recached : (setup : Setup) (old new : EngineState) (regs : Regs) (ledger : LedgerState)
     → IsTrusted setup old regs ledger → IsRecached setup old new ledger → IsTrusted setup new regs ledger

@@ -12,13 +12,6 @@ use Rattle.pmem_engine.proofs.Laws.DeviceRegions.{stored_meta-sealed_lines}
 
 -- ---- what each kind of step does to the line
 
--- a true line is written: it is true, and every other one as before
-pub same_or_held-true_line : (g : Shape) (cache : Banks) (lines truth : List Line) (x y : ℕ)
-    → length lines ≡ device_lines g → x < meta_lines g
-    → (stored_meta g (with_true_line g lines truth x) y ≡ stored_meta g lines y)
-    ⊎ IsTrueOrDirty g cache (with_true_line g lines truth x) truth y
-same_or_held-true_line g cache lines truth x y size h = search rules
-
 -- a seal's group without the counter block is written
 pub same_or_held-sealed : (g : Shape) (cache : Banks) (lines truth : List Line) (a : ℕ) (seal : SealOf) (x : ℕ)
     → a < data_lines g

@@ -214,12 +214,6 @@ IsTrueOrDirty-with_block g old new lines between old_truth new_truth page x size
     at : is_on_path g page x ≡ true → (x ≡ block) ⊎ (x ≡ block → ⊥) → IsTrueOrDirty g new.cache after new_truth x
     at on v1 = search rules
 
--- after a turn
-pub IsTrueOrDirty-turned : (g : Shape) (engine : EngineState) (lines old_truth new_truth : List Line) (a x : ℕ)
-    (seal : SealOf) → a < data_lines g → new_truth ≡ old_truth → IsTrueOrDirty g engine.cache lines old_truth x
-    → IsTrueOrDirty g engine.cache (sealed_lines g lines a seal) new_truth x
-IsTrueOrDirty-turned g engine lines old_truth new_truth a x seal ha same v10 = search rules
-
 -- what is cached dirty after a path was stored is on the path, or was so before
 pub dirty_before-stored : (g : Shape) (old new : EngineState) (truth : List Line) (page bank x : ℕ)
     → IsPathStored g old new truth page → is_on_path g page x ≡ false

@@ -95,13 +95,6 @@ IsCounterStored-sealed setup lines loss old_truth new_truth a i page other seal 
         (stored_meta-sealed_lines setup.shape lines a seal (counter_position setup.shape other) ha)
         (other_block_kept setup old_truth new_truth page other hpage hother apart changes) before
 
--- a seal's group where the true lines stay
-pub IsCounterStored-resealed : (setup : Setup) (lines : List Line) (loss : ℕ) (old_truth new_truth : List Line)
-    (a page : ℕ) (seal : SealOf) → a < data_lines setup.shape → new_truth ≡ old_truth
-    → IsCounterStored setup lines loss old_truth page
-    → IsCounterStored setup (sealed_lines setup.shape lines a seal) loss new_truth page
-IsCounterStored-resealed setup lines loss old_truth new_truth a page seal ha same before = search rules
-
 -- a group that writes the page's new counter block, over lines whose metadata is as it was
 pub IsCounterStored-with_block : (setup : Setup) (old lines : List Line) (loss : ℕ) (old_truth new_truth : List Line)
     (page other : ℕ) → length lines ≡ device_lines setup.shape → page < pages setup.shape

@@ -29,14 +29,6 @@ page_within g a h = omega arith
 
 -- ---- metadata lines
 
-pub stored_meta-set_data : (g : Shape) (lines : List Line) (a : ℕ) (line : Line) (x : ℕ) → a < data_lines g
-    → stored_meta g (slice_set lines a line) x ≡ stored_meta g lines x
-stored_meta-set_data g lines a line x h = search rules
-
-pub stored_meta-set_tag : (g : Shape) (lines : List Line) (a : ℕ) (line : Line) (x : ℕ) → a < data_lines g
-    → stored_meta g (slice_set lines (tag_line g a) line) x ≡ stored_meta g lines x
-stored_meta-set_tag g lines a line x h = search rules
-
 pub stored_meta-set_same : (g : Shape) (lines : List Line) (x : ℕ) (line : Line)
     → meta_line g x < length lines → stored_meta g (slice_set lines (meta_line g x) line) x ≡ line
 stored_meta-set_same g lines x line h = line_at-set_same lines (meta_line g x) line h
@@ -95,10 +87,6 @@ IsSealStored-set_meta g lines x line marks a h = search rules
 pub length-sealed_lines : (g : Shape) (lines : List Line) (a : ℕ) (seal : SealOf)
     → length (sealed_lines g lines a seal) ≡ length lines
 length-sealed_lines g lines a seal = search rules
-
-line_at-sealed_lines_data : (g : Shape) (lines : List Line) (a : ℕ) (seal : SealOf) → a < data_lines g
-    → a < length lines → line_at (sealed_lines g lines a seal) a ≡ seal.cipher
-line_at-sealed_lines_data g lines a seal h within = search rules
 
 line_at-sealed_lines_tag : (g : Shape) (lines : List Line) (a : ℕ) (seal : SealOf)
     → tag_line g a < length lines

@@ -6,13 +6,9 @@ use Rattle.pmem_base.specs.Layout.{pages}
 use Rattle.seal_ledger.specs.Ledger.{LedgerState}
 use Rattle.suite.specs.Setup.{Setup}
 use Rattle.pmem_engine.specs.Engine.{EngineState}
-use Rattle.pmem_engine.specs.Invariants.{IsAnchored, IsTrusted, IsCounterStored, IsSound}
+use Rattle.pmem_engine.specs.Invariants.{IsTrusted, IsCounterStored, IsSound}
 use Rattle.pmem_engine.specs.Steps.{HasLossSet}
 use Rattle.pmem_engine.proofs.Laws.CounterBlocks.{IsCounterStored-coarser}
-
-pub anchored-loss_set : (setup : Setup) (old new : Regs) (ledger : LedgerState) → IsAnchored setup old ledger
-    → HasLossSet old new → IsAnchored setup new ledger
-anchored-loss_set setup old new ledger anchored set = search rules
 
 -- the engine stays trusted, whatever the device holds
 pub IsTrusted-loss_set : (setup : Setup) (engine : EngineState) (old new : Regs) (ledger : LedgerState)

@@ -97,12 +97,6 @@ IsSlotNamed-kept g cache old new bank set slot bank' set' other form stands stan
 
 -- ---- the law: a shadow line is written
 
--- an engine of the same cache, shape and state is trusted as well
-pub IsTrusted-same_cache : (setup : Setup) (old new : EngineState) (regs : Regs) (ledger : LedgerState)
-    → new.shape ≡ old.shape → new.cache ≡ old.cache → new.down ≡ old.down
-    → IsTrusted setup old regs ledger → IsTrusted setup new regs ledger
-IsTrusted-same_cache setup old new regs ledger shape cache down trusted = search rules
-
 -- the engine stays trusted while its mirror is written, whatever the device holds
 pub IsTrusted-named : (setup : Setup) (old new : EngineState) (regs : Regs) (ledger : LedgerState) (n : ℕ)
     (line : Line) → IsMirrorWritten old new n line → IsTrusted setup old regs ledger

@@ -175,16 +175,6 @@ module _ (setup : Setup) (lines : List Line) (a : ℕ) (cipher : Line) (tag : Li
       IsPlaceKept-sealed setup.shape lines a turn_seal b
       (IsSealable-resealed setup lines a cipher tag old_regs new_regs old new whole it) h other
 
-  pub counter_kept-turn : (loss page : ℕ) → IsCounterStored setup lines loss old.truth page
-      → IsCounterStored setup (sealed_lines setup.shape lines a (made_seal setup.shape old.truth a 0 cipher tag)) loss
-      new.truth page
-  counter_kept-turn loss page = search rules
-
-  pub held_kept-turn : (engine : EngineState) (x : ℕ) → IsTrueOrDirty setup.shape engine.cache lines old.truth x
-      → IsTrueOrDirty setup.shape engine.cache
-      (sealed_lines setup.shape lines a (made_seal setup.shape old.truth a 0 cipher tag)) new.truth x
-  held_kept-turn engine x = search rules
-
 -- ---- a begin: the page's next block
 
 module _ (setup : Setup) (lines : List Line) (page : ℕ) (old_regs new_regs : Regs) (old new : LedgerState) (whole : AreLinesOf (device_lines setup.shape) lines) (it : IsBegun setup page old_regs new_regs old new) where

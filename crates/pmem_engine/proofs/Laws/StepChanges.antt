@@ -5,13 +5,10 @@ use Rattle.pmem_base.specs.declared.lines.Ctr.{Ctr}
 use Rattle.pmem_base.specs.declared.registers.Regs.{Regs}
 use Rattle.pmem_base.specs.declared.answers.Mark.{Mark}
 use Rattle.pmem_base.specs.declared.answers.Mark.TheVariants.{Begin, Seal}
-use Rattle.pmem_base.specs.Shape.{Shape}
 use Rattle.pmem_base.specs.Layout.{data_lines, page_of, index_in_page}
 use Rattle.split_counters.specs.Blocks.{IsBlock, IsBumpedBlock, minor_of}
 use Rattle.split_counters.proofs.Packing.{with_minor-IsBlock, with_minor-same}
 use Rattle.split_counters.proofs.StoredBlocks.{IsBumpedBlock-with_minor}
-use Rattle.suite.specs.Formulas.{Formulas}
-use Rattle.bonsai_tree.specs.Paths.{IsTreeWith}
 use Rattle.seal_ledger.specs.Ledger.{LedgerState}
 use Rattle.seal_ledger.proofs.MarkLemmas.{last_seal-sealed, last_seal-other, last_seal-begun}
 use Rattle.suite.specs.Setup.{Setup}
@@ -38,11 +35,6 @@ pub SealsNone-push : (size : ℕ) (marks : List Mark) (page : ℕ) → SealsNone
 SealsNone-push size marks page = record { elsewhere = λ b h. last_seal-begun marks page b }
 
 -- ---- the true lines
-
--- a tree with a page's new block
-pub ChangesPath-tree : (g : Shape) (f : Formulas) (page : ℕ) (block : Line) (root : List ℕ) (old new : List Line)
-    → IsTreeWith g f page block root old new → ChangesPath g old new page
-ChangesPath-tree g f page block root old new tree = record { elsewhere = λ x h off. tree.off_path x off }
 
 -- ---- a seal
 

@@ -404,10 +404,3 @@ module _ (setup : Setup) (n : ℕ) (engine : EngineState) (old : Device) (before
             metadata =
                 search rules;
           }
-        where
-          four : new.writes < last_count → new.latches < last_count
-              → new.writes + new.latches ≡ old.writes + old.latches + 4
-          four one two = search rules
-
-          read_twice : new.reads < last_count → new.reads ≡ old.reads + 2
-          read_twice below = search rules

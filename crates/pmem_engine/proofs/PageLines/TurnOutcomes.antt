@@ -1,25 +1,24 @@
 -- The exits of a turn: the engine is down, no page is open, or the oldest page's lowest line was to be sealed anew.
 use Rattle.std.proofs.lemmas.Grind.{common_steps}
-use Rattle.std.proofs.Common.{rules, ℕ, ◌≡◌, ◌<◌, ◌+◌, ◌*◌, Bool, true, false, List, [], ◌∷◌, length, map, get_or, Option, Some, None, Ok, Err, refl, sym, ap, subst, ◌∙◌, arith}
-use Rattle.std.specs.Prelude.{Result, MatchOption, IfOk, option_map, option_and_then, not, ◌||◌, IsSome, is_some}
+use Rattle.std.proofs.Common.{rules, ℕ, ◌≡◌, ◌<◌, ◌+◌, ◌*◌, true, false, List, [], ◌∷◌, length, map, get_or, Option, Some, None, Ok, Err, refl, sym, ap, subst, ◌∙◌, arith}
+use Rattle.std.specs.Prelude.{Result, MatchOption, IfOk, not, ◌||◌}
 use Rattle.std.proofs.lemmas.Bool.{true≢false}
 use Rattle.pmem_base.specs.declared.lines.Line.{Line}
-use Rattle.pmem_base.specs.declared.lines.Ctr.{Ctr}
 use Rattle.pmem_base.specs.declared.registers.Progress.{Progress}
 use Rattle.pmem_base.specs.declared.answers.Place.{Place}
 use Rattle.pmem_base.specs.Registers.{not_done, empty_progress}
 use Rattle.suite.specs.Setup.{Setup}
 use Rattle.plain_model.specs.State.{Memory}
-use Rattle.plain_model.specs.Asked.{first_of, mark_of_page_turn, mark_of_turn, reseal_mark}
-use Rattle.plain_model.specs.Fits.{IsTurnMark, IsLowestLeft, IsLeftAfterTurn, oldest_page}
+use Rattle.plain_model.specs.Asked.{first_of}
+use Rattle.plain_model.specs.Fits.{IsLowestLeft, oldest_page}
 use Rattle.pmem_engine.specs.declared.fault.Fault.{Fault}
 use Rattle.pmem_engine.specs.declared.fault.Fault.TheVariants as Fail
 use Rattle.pmem_engine.specs.Engine.{EngineState}
 use Rattle.pmem_engine.specs.Invariants.{register_page}
 use Rattle.pmem_engine.specs.Parts.{Parts, regs_of, AreTrusted}
 use Rattle.pmem_engine.specs.Outcomes.{going, outcome_of, is_going, OneLossEffect}
-use Rattle.pmem_engine.specs.Faults.{IsUnsealedLine, IsTagRefused, IsForgedShown}
-use Rattle.pmem_engine.specs.Calls.{IsDownAnswer, IsUnrefused, IsLeftAlone, moment_in, AreMarksOfTurn, AnswersTurn, CountsTurn, HasTurned}
+use Rattle.pmem_engine.specs.Faults.{IsTagRefused, IsForgedShown}
+use Rattle.pmem_engine.specs.Calls.{IsUnrefused, IsLeftAlone, moment_in, AreMarksOfTurn, AnswersTurn, CountsTurn, HasTurned}
 use Rattle.pmem_engine.specs.Resealing.{HasResealMarks, HasSealedHeld, CountsReseal, AnswersReseal, HasResealed, register_in, line_of_page}
 use Rattle.pmem_engine.proofs.CallEnds.EndedEngines.{with_engine, done_ended}
 
@@ -98,9 +97,6 @@ module _ (setup : Setup) (old mid : Parts) (answer : Result (ℕ × ℕ) Fault) 
   abbrev register : Progress
   register = register_in old 0
 
-  mid_up : mid.engine.down ≡ false
-  mid_up = ap (λ e. e.down) it.engine ∙ up
-
   same_engine : outcome_of answer ≡ going → engine ≡ mid.engine
   same_engine goes = search rules
 
@@ -108,32 +104,11 @@ module _ (setup : Setup) (old mid : Parts) (answer : Result (ℕ × ℕ) Fault) 
   oldest : AreTrusted setup old → (memory : Memory) → oldest_page (moment_in setup memory old) ≡ Some (register_page register)
   oldest trusted memory = ap first_of trusted.anchored.open_pages ∙ first_is (regs_of old).progress.items some
 
-  asked : AreTrusted setup old → (memory : Memory)
-      → mark_of_turn setup.formulas (moment_in setup memory old)
-      ≡ Some (reseal_mark setup.formulas (moment_in setup memory old) register.page it.place)
-  asked trusted memory =
-      ap (option_and_then (mark_of_page_turn setup.formulas (moment_in setup memory old))) (oldest trusted memory)
-      ∙ ap (option_map (reseal_mark setup.formulas (moment_in setup memory old) register.page)) it.lowest
-
-  is_mark : AreTrusted setup old → (memory : Memory)
-      → it.made ≡ reseal_mark setup.formulas (moment_in setup memory old) register.page it.place ∷ []
-      → IsTurnMark setup.formulas (moment_in setup memory old) it.made
-  is_mark trusted memory made =
-      subst (λ o. MatchOption o ⊥ (λ mark. it.made ≡ mark ∷ [])) (sym (asked trusted memory)) made
-
   is_lowest : AreTrusted setup old → (memory : Memory) (b : ℕ) → b ≡ line_of_page register it.place
       → IsLowestLeft (oldest_page (moment_in setup memory old)) (Place.Line b)
   is_lowest trusted memory b same =
       subst (λ o. IsLowestLeft o (Place.Line b)) (sym (oldest trusted memory))
       (subst (λ o. MatchOption o ⊥ (λ i. b ≡ 64 * register.page + i)) (sym it.lowest) same)
-
-  is_left : AreTrusted setup old → (memory : Memory) (left : ℕ) → left + 1 ≡ length (not_done register)
-      → IsLeftAfterTurn (oldest_page (moment_in setup memory old)) left
-  is_left trusted memory left number =
-      subst (λ o. IsLeftAfterTurn o left) (sym (oldest trusted memory)) (sym number)
-
-  is_open : AreTrusted setup old → (memory : Memory) → IsSome (oldest_page (moment_in setup memory old))
-  is_open trusted memory = ap is_some (oldest trusted memory)
 
   turn_marks : (reply : Result (ℕ × ℕ) Fault) → AreTrusted setup old → (memory : Memory)
       → HasResealMarks setup.formulas (moment_in setup memory old) register.page it.place it.made reply
@@ -141,11 +116,6 @@ module _ (setup : Setup) (old mid : Parts) (answer : Result (ℕ × ℕ) Fault) 
       → AnswersReseal setup (line_of_page register it.place) old mid reply
       → AreMarksOfTurn setup.formulas (moment_in setup memory old) it.made (turned_of reply)
   turn_marks v0 trusted memory made line says = grind (arith, common_steps)
-
-  -- what is shown doesn't speak of the engine
-  read_line : (a : ℕ) (ctr : Ctr) (cipher : Line) (tag : List ℕ) → IsUnsealedLine setup a ctr cipher tag mid
-      → IsUnsealedLine setup a ctr cipher tag new
-  read_line a ctr cipher tag said = search rules
 
   refused_line : (a : ℕ) → IsTagRefused setup a mid → IsTagRefused setup a new
   refused_line a said = search rules
@@ -173,20 +143,6 @@ module _ (setup : Setup) (old mid : Parts) (answer : Result (ℕ × ℕ) Fault) 
 
   turn_counts : (reply : Result (ℕ × ℕ) Fault) → CountsReseal old mid reply → CountsTurn old new (turned_of reply)
   turn_counts v0 it = search rules
-
-  turn_not_down : (reply : Result (ℕ × ℕ) Fault) → (IsDownAnswer reply → ⊥) → IsDownAnswer (turned_of reply) → ⊥
-  turn_not_down v0 never it = search rules
-
-  turn_busy : (reply : Result (ℕ × ℕ) Fault) → turned_of reply ≡ Ok None → ⊥
-  turn_busy reply idle = cc_busy reply idle
-    where
-      is_idle : Result (Option (ℕ × ℕ)) Fault → Bool
-      is_idle (Ok None) = true
-      is_idle (Ok (Some sealed)) = false
-      is_idle (Err fault) = false
-
-      cc_busy : (reply : Result (ℕ × ℕ) Fault) → turned_of reply ≡ Ok None → ⊥
-      cc_busy v0 idle = search rules
 
   pub turned : HasTurned setup old new (turned_of answer)
   turned =

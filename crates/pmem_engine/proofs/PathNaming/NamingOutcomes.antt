@@ -1,6 +1,6 @@
 -- A path was named, or a cut came before one of its entries was written: what the call keeps.
-use Rattle.std.proofs.Common.{rules, ℕ, ◌≡◌, ◌<◌, ◌≤◌, ◌+◌, ◌⊎◌, inl, inr, true, false, List, [], length, Some, Ok, Err, refl, sym, ap, ap₂, subst, ◌∙◌, arith}
-use Rattle.std.specs.Prelude.{MatchOption, IfSome, option_map, is_some, is_ok, Result}
+use Rattle.std.proofs.Common.{rules, ℕ, ◌≡◌, ◌<◌, ◌≤◌, ◌+◌, ◌⊎◌, inl, inr, true, false, List, [], length, Ok, Err, refl, sym, ap, ap₂, subst, ◌∙◌, arith}
+use Rattle.std.specs.Prelude.{MatchOption, IfSome, option_map, is_ok, Result}
 use Rattle.std.proofs.lemmas.Bool.{true≢false}
 use Rattle.pmem_base.specs.declared.lines.Line.{Line}
 use Rattle.pmem_base.specs.Counts.{HasRisen}
@@ -26,7 +26,7 @@ use Rattle.pmem_engine.specs.Recached.{IsTrueOrDirty}
 use Rattle.pmem_engine.specs.Parts.{Parts, parts_of, AreTrusted, AreSound, HoldsCounters, lines_redone, meta_line_in}
 use Rattle.pmem_engine.specs.Outcomes.{Outcome, going, cut_short, is_going, outcome_of, KeepsPlaces, KeepsMeta, CallEffect, OneLossEffect, HasPower, HasSmallGroup, LeavesTrusted, LeavesSound, KeepsMetaWhere}
 use Rattle.pmem_engine.specs.Inner.{HasNamedPath}
-use Rattle.pmem_engine.proofs.CallEnds.ToldLines.{told_redone, unarmed}
+use Rattle.pmem_engine.proofs.CallEnds.ToldLines.{unarmed}
 use Rattle.pmem_engine.proofs.Laws.CounterBlocks.{IsCounterStored-same}
 use Rattle.pmem_engine.proofs.Laws.DeviceRegions.{IsSealStored-kept}
 use Rattle.pmem_engine.proofs.PathNaming.PathNames.{IsMirror, meta_kept, place_kept, none_written, sound_at}
@@ -44,12 +44,6 @@ module _ (setup : Setup) (page n : ℕ) (old new : EngineState) (before after : 
 
   abbrev now_of : List Line → List Line
   now_of lines = put_lines (naming_writes setup.shape old.cache page old.mirror n) lines
-
-  told : is_some after.lines ≡ is_some before.lines
-  told = ap is_some lines ∙ told_redone (naming_writes setup.shape old.cache page old.mirror n) before.lines
-
-  lines_now : (were are : List Line) → before.lines ≡ Some were → after.lines ≡ Some are → are ≡ now_of were
-  lines_now were are was is = search rules
 
   holds_now : AreTrusted setup start → (P Q : List Line → Type 0) → ((were : List Line) → P were → Q (now_of were))
       → IfSome (lines_redone start) P → IfSome (lines_redone finish) Q

@@ -80,18 +80,6 @@ marks_of_finish setup memory parts (Some n) =
 abbrev over_by : Bool → Bool → ℕ → Result Bool Fault
 over_by low used page = cond low (Ok false) (cond used (Err (Fail.Spent page)) (Ok true))
 
-abbrev value_of : Result Bool Fault → Bool
-value_of (Ok value) = value
-value_of (Err fault) = false
-
-abbrev is_done : Result Bool Fault → Bool
-is_done (Ok value) = true
-is_done (Err fault) = false
-
-abbrev fault_in : Result Bool Fault → Fault
-fault_in (Ok value) = Fail.Cut
-fault_in (Err fault) = fault
-
 over_by-false : (low used : Bool) (page : ℕ) → over_by low used page ≡ Ok false → low ≡ true
 over_by-false v0 used page e = search rules
 

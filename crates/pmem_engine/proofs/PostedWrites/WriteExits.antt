@@ -55,9 +55,6 @@ some_asked f now write =
     of_cases false false true held first front mark rest = refl
     of_cases false false false held first front mark rest = some_after front mark rest
 
-pub part_of_nothing : (asked : Option (List Mark)) → IsSomeAsked asked → IsPartOf asked []
-part_of_nothing asked some = record { left = unwrap_or asked []; front = refl; not_all = some }
-
 -- a front of the front, with something after it
 pub part_of_front : (front rest made : List Mark) → 0 < length rest → IsFrontOf front made → IsPartOf (Some (front ++ rest)) made
 part_of_front front rest made some it =

@@ -2,10 +2,10 @@
 use Rattle.std.proofs.Common.{rules, ℕ, zero, suc, ◌≡◌, ◌≢◌, ◌<◌, ◌+◌, ◌*◌, Bool, true, false, cond, List, [], ◌∷◌, length, map, get_or, Option, Some, None, Result, refl, sym, ap, ap₂, subst, ◌∙◌, arith}
 use Rattle.std.specs.Prelude.{◌||◌, All}
 use Rattle.std.proofs.lemmas.Bool.{or_parts, ne_eqb}
-use Rattle.std.proofs.lemmas.List.{length-append, length-map}
+use Rattle.std.proofs.lemmas.List.{length-map}
 use Rattle.std.proofs.lemmas.List.Folds.{list_any-append}
 use Rattle.std.proofs.lemmas.List.Elements.{All-head, All-tail}
-use Rattle.std.proofs.lemmas.List.Sums.{sum_by-cons, sum_by-append, count_by-le-length}
+use Rattle.std.proofs.lemmas.List.Sums.{sum_by-cons}
 use Rattle.pmem_base.specs.declared.registers.Progress.{Progress}
 use Rattle.pmem_base.specs.declared.answers.Mark.{Mark}
 use Rattle.pmem_base.specs.Layout as layout
@@ -72,15 +72,6 @@ seals_counted f now page (i ∷ places) =
       seals_counted f now page places,
       sum_by-cons (λ m. cond (is_seal m) 1 0) (reseal_mark f now page i) (map (reseal_mark f now page) places),
     )
-
--- so are those of a front
-pub front_seals : (asked made : List Mark) → seal_count asked ≡ length asked → IsFrontOf asked made
-    → seal_count made ≡ length made
-front_seals asked made all it =
-    let whole : seal_count made + seal_count it.left ≡ length made + length it.left =
-    sym (sum_by-append (λ m. cond (is_seal m) 1 0) made it.left) ∙ ap seal_count (sym it.front) ∙ all
-    ∙ ap length it.front ∙ length-append made it.left in
-    omega (arith, whole, count_by-le-length is_seal made, count_by-le-length is_seal it.left)
 
 -- ---- the marks made are a front
 

@@ -338,9 +338,6 @@ module _ (setup : Setup) (write : Posted) (within : write.at < layout.data_lines
               part5 : IsWritePart setup write.at going before old p5
               part5 = part_chained setup write.at going some3.made some5.made old p4 p5 part4 some5.part
 
-              trusted5 : AreTrusted setup old → AreTrusted setup p5
-              trusted5 trusted = part5.done.gone.trusted trusted
-
               steps5 : AreTrusted setup old → (memory : Memory) → IsMemory setup memory old
                   → TakesAtMost (path + 4 * length (front memory) + path + 3 * length (begin_asked overflows page)) old.device p5.device
               steps5 trusted memory was =

@@ -1,6 +1,6 @@
 -- What each part of a write keeps, up to the seal of its own line, and what two of them keep together.
 use Rattle.std.proofs.lemmas.Grind.{common_steps}
-use Rattle.std.proofs.Common.{rules, ℕ, ◌≡◌, ◌<◌, ◌++◌, ◌⊎◌, Bool, true, false, List, [], ◌∷◌, IsTrue, Result, refl, sym, ap, ap₂, ◌∙◌, arith}
+use Rattle.std.proofs.Common.{rules, ℕ, ◌≡◌, ◌<◌, ◌++◌, Bool, true, false, List, [], ◌∷◌, IsTrue, Result, refl, sym, ap, ap₂, ◌∙◌, arith}
 use Rattle.std.specs.Prelude.{◌||◌, option_map}
 use Rattle.std.specs.List.{list_any}
 use Rattle.std.proofs.lemmas.Bool.{true≢false, or_parts, eq-eqb}
@@ -25,7 +25,7 @@ use Rattle.pmem_engine.specs.Parts.{Parts, regs_of, lines_redone, AreTrusted, Ho
 use Rattle.pmem_engine.specs.Outcomes.{Outcome, going, outcome_of, is_seal_of, is_sealed_by, OneLossEffect}
 use Rattle.pmem_engine.specs.Calls.{IsMemory, IsLeftAlone, is_persisting}
 use Rattle.pmem_engine.specs.Inner.{HasFetched, HasNamedPath}
-use Rattle.pmem_engine.specs.Sealing.{HasBeginMarks, HasBegunPage}
+use Rattle.pmem_engine.specs.Sealing.{HasBegunPage}
 use Rattle.pmem_engine.specs.Writing.{HasMadePlain}
 use Rattle.pmem_engine.proofs.CallEnds.ToldLines.{told_cases, told_redone}
 use Rattle.pmem_engine.proofs.CallEnds.CallChains.{done_chained}
@@ -158,11 +158,6 @@ plain_part setup write old new answer it = search rules
 pub name_part : (setup : Setup) (at : ℕ) (old new : Parts) (answer : Result Unit Fault) → at < layout.data_lines setup.shape
     → HasNamedPath setup (page_of at) old new answer → IsWritePart setup at (outcome_of answer) [] old new
 name_part setup at old new answer inside it = grind (arith, common_steps)
-
--- a begin makes one mark or none
-pub begin_made : (page : ℕ) (made : List Mark) (answer : Result Unit Fault) → HasBeginMarks page made answer
-    → (made ≡ []) ⊎ (made ≡ Begin page ∷ [])
-begin_made page made v2 it = search rules
 
 pub begin_part : (setup : Setup) (at : ℕ) (old new : Parts) (answer : Result Unit Fault)
     → (it : HasBegunPage setup (page_of at) old new answer) → IsWritePart setup at (outcome_of answer) it.made old new

@@ -1,7 +1,7 @@
 -- Steps of a write's parts together, and its bound.
-use Rattle.std.proofs.Common.{rules, ℕ, ◌≡◌, ◌<◌, ◌≤◌, ◌+◌, ◌*◌, ◌++◌, Bool, true, false, cond, List, [], ◌∷◌, length, ap, ◌∙◌, arith}
+use Rattle.std.proofs.Common.{rules, ℕ, ◌≡◌, ◌≤◌, ◌+◌, ◌*◌, ◌++◌, Bool, true, false, cond, List, [], ◌∷◌, length, ap, arith}
 use Rattle.std.proofs.lemmas.List.{length-append}
-use Rattle.std.proofs.lemmas.List.Sums.{sum_by-cons, sum_by-append}
+use Rattle.std.proofs.lemmas.List.Sums.{sum_by-append}
 use Rattle.pmem_base.specs.declared.answers.Mark.{Mark}
 use Rattle.pmem_base.specs.declared.answers.Mark.TheVariants.{Begin}
 use Rattle.pmem_base.specs.Shape.{Shape}
@@ -26,19 +26,7 @@ more_most n m old new le it = search rules
 pub more_fewer : (n m : ℕ) (old new : Device) → n ≤ m → TakesFewer n old new → TakesFewer m old new
 more_fewer n m old new le it = search rules
 
-pub most_fewer : (n m : ℕ) (old new : Device) → n < m → TakesAtMost n old new → TakesFewer m old new
-most_fewer n m old new lt it = search rules
-
 -- ---- the bound
-
--- each write may take the steps of its path twice, and one more
-pub bound_path : (g : Shape) (marks : List Mark) → 2 * path_length g + 1 ≤ write_bound g marks
-bound_path g marks = omega arith
-
--- marks that are all seals
-pub bound_seals : (g : Shape) (made : List Mark) → seal_count made ≡ length made
-    → write_bound g made ≡ 2 * path_length g + 1 + 4 * length made
-bound_seals g made all = omega (arith, all)
 
 -- all marks of a write: seals, then a begin or none, then its own seal
 abbrev pub begin_asked : Bool → ℕ → List Mark
@@ -59,9 +47,6 @@ bound_whole g front overflows page own all its =
       rest overflows,
     )
   where
-    one : seal_count (own ∷ []) ≡ 1
-    one = sum_by-cons (λ m. cond (is_seal m) 1 0) own [] ∙ ap (λ b. cond b 1 0 + 0) its
-
     rest : (b : Bool) → seal_count (begin_asked b page ++ own ∷ []) ≡ 1
     rest v0 = search rules
 

@@ -1,11 +1,10 @@
 -- The exits of a page's begin: cut before its group was armed, or while it was, or done.
-use Rattle.std.proofs.Common.{rules, ℕ, ◌≡◌, ◌<◌, ◌≤◌, ◌+◌, ◌-◌, ◌^◌, inl, inr, true, false, List, [], ◌∷◌, length, None, Ok, Err, refl, sym, ap, ap₂, subst, ◌∙◌, arith}
+use Rattle.std.proofs.Common.{rules, ℕ, ◌≡◌, ◌<◌, ◌≤◌, ◌-◌, ◌^◌, inl, inr, true, false, List, [], ◌∷◌, length, None, Ok, Err, refl, sym, ap, ap₂, subst, ◌∙◌, arith}
 use Rattle.std.specs.Prelude.{option_map}
 use Rattle.std.proofs.lemmas.Bool.{true≢false}
 use Rattle.pmem_base.specs.declared.lines.Line.{Line}
 use Rattle.pmem_base.specs.declared.registers.Progress.{Progress}
 use Rattle.pmem_base.specs.declared.answers.Mark.TheVariants.{Begin}
-use Rattle.pmem_base.specs.Counts.{last_count}
 use Rattle.pmem_base.specs.Layout as layout
 use Rattle.pmem_base.specs.Lines.{line_at}
 use Rattle.suite.specs.Formulas.{AreInRange}
@@ -142,9 +141,6 @@ module _ (setup : Setup) (page : ℕ) (engine engine_now : EngineState) (old new
           reads = armed.reads;
           tags = same_tags;
         }
-      where
-        fewer : new.writes < last_count → new.latches < last_count → new.writes + new.latches < old.writes + old.latches + 3
-        fewer one two = search rules
 
     -- done
     pub begin_done : IsDevice old → HasCommitted (begin_group setup.shape page block) old new
@@ -200,9 +196,6 @@ module _ (setup : Setup) (page : ℕ) (engine engine_now : EngineState) (old new
 
         path_named : IsPathNamedInMirror setup.shape engine_now page
         path_named = kept_named setup.shape page true lines engine engine_now done.stored cached named
-
-        three : new.writes < last_count → new.latches < last_count → new.writes + new.latches ≡ old.writes + old.latches + 3
-        three one two = search rules
 
   -- a cut, whenever it came
   pub page_cut : IsDevice old → IsDevice new

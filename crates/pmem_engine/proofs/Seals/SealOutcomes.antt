@@ -1,5 +1,5 @@
 -- The exits of a seal under the next counter: its tag line isn't read, its group is cut, or the line is sealed.
-use Rattle.std.proofs.Common.{rules, ℕ, ◌≡◌, ◌<◌, ◌≤◌, ◌+◌, ◌%◌, ◌++◌, inl, inr, Bool, true, false, List, [], ◌∷◌, length, IsTrue, Some, Ok, Err, cond, refl, sym, ap, ap₂, subst, ◌∙◌, arith}
+use Rattle.std.proofs.Common.{rules, ℕ, ◌≡◌, ◌<◌, ◌≤◌, ◌+◌, ◌%◌, ◌++◌, inl, inr, Bool, true, false, List, [], ◌∷◌, IsTrue, Some, Ok, Err, cond, refl, sym, ap, ap₂, subst, ◌∙◌, arith}
 use Rattle.std.specs.Prelude.{option_map, ◌↔◌, ◌==◌, if◌then◌else◌}
 use Rattle.std.specs.List.{list_any}
 use Rattle.std.proofs.lemmas.Bool.{true≢false, cond-true, cond-false}
@@ -7,7 +7,7 @@ use Rattle.pmem_base.specs.declared.lines.Line.{Line}
 use Rattle.pmem_base.specs.declared.lines.Ctr.{Ctr}
 use Rattle.pmem_base.specs.declared.answers.Mark.{Mark}
 use Rattle.pmem_base.specs.declared.answers.Mark.TheVariants.{Seal}
-use Rattle.pmem_base.specs.Counts.{last_count, risen}
+use Rattle.pmem_base.specs.Counts.{risen}
 use Rattle.pmem_base.specs.Layout as layout
 use Rattle.pmem_base.specs.Layout.{page_of, index_in_page}
 use Rattle.pmem_base.specs.Lines.{IsLine, IsCtr, line_at}
@@ -137,9 +137,6 @@ module _ (setup : Setup) (at : ℕ) (plain tag_line : Line) (persisted : Bool) (
   is_due : (ctr.minor % old.regs.loss == 0) ≡ persisted
   is_due = search rules
 
-  steps_are : seal_steps old.regs.loss ctr ≡ length group + 2
-  steps_are = search rules
-
   -- the plain lines
   plain_after : after.marks ≡ before.marks ++ mark ∷ [] → (a : ℕ)
       → plain_line setup.formulas after.marks a
@@ -224,10 +221,6 @@ module _ (setup : Setup) (at : ℕ) (plain tag_line : Line) (persisted : Bool) (
               block_as_it_was (ap (λ items. redone_told items new.lines) armed.armed ∙ armed.again);
           block_written = λ trusted ok. absurd (true≢false (sym ok));
         }
-      where
-        fewer : new.writes < last_count → new.latches < last_count
-            → new.writes + new.latches < old.writes + old.latches + seal_steps old.regs.loss ctr
-        fewer one two = search rules
 
     -- sealed
     pub seal_done : HasCommitted group mid new → HasSealedNext setup at plain first final (Ok ctr)
@@ -266,10 +259,6 @@ module _ (setup : Setup) (at : ℕ) (plain tag_line : Line) (persisted : Bool) (
 
         path_named : IsPathNamedInMirror setup.shape engine_now (page_of at)
         path_named = kept_named setup.shape (page_of at) persisted lines engine engine_now done.stored cached named
-
-        exact : new.writes < last_count → new.latches < last_count
-            → new.writes + new.latches ≡ old.writes + old.latches + seal_steps old.regs.loss ctr
-        exact one two = search rules
 
   -- a cut before its group was armed
   pub seal_undone : IsNothingDone engine engine_now mid new before after → HasSealedNext setup at plain first final (Err Fail.Cut)
