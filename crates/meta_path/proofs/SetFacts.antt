@@ -113,12 +113,6 @@ module _ (R : ℕ → Slot → Slot → Type 0) (old new : ℕ → ℕ → List 
         here.2 before found,
       )
 
-pub pairs_tail : {X : Type 0} (R : X → X → Type 0) (x : X) (xs : List X) → AllPairs R (x ∷ xs) → AllPairs R xs
-pairs_tail R x xs pairs = λ i j d less h. pairs (suc i) (suc j) d (omega arith) (omega arith)
-
-pub pairs_head : {X : Type 0} (R : X → X → Type 0) (x : X) (xs : List X) → AllPairs R (x ∷ xs) → All (R x) xs
-pairs_head R x xs pairs = λ k d h. pairs 0 (suc k) d (omega arith) (omega arith)
-
 -- ---- positions of a set
 
 -- a slot of the set makes its position held

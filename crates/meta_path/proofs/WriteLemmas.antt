@@ -11,6 +11,7 @@ use Rattle.pmem_base.specs.declared.lines.Line.{Line}
 use Rattle.pmem_base.specs.Shape.{Shape}
 use Rattle.pmem_base.specs.Layout.{meta_lines}
 use Rattle.pmem_base.specs.Lines.{line_at}
+use Rattle.pmem_base.proofs.ListLaws.{AllPairs-tail, AllPairs-head}
 use Rattle.bonsai_tree.specs.Positions.{level_of}
 use Rattle.meta_cache.specs.declared.slot.Slot.{Slot}
 use Rattle.meta_cache.specs.Banks.{Banks, set_of, set_index, is_cached, is_cached_dirty}
@@ -18,7 +19,7 @@ use Rattle.meta_cache.specs.Sets.{holds, slot_marked, with_mark, ArePositionsApa
 use Rattle.meta_cache.specs.State.{CacheState, ChangesSet}
 use Rattle.meta_path.specs.Blocks.{slots_at, dirty_in, bank_dirty_count, dirty_count, IsOfItsBank, AreInTheirBanks, AreCachedTrue}
 use Rattle.meta_path.specs.Storing.{IsCleanedSlot, KeepsCleaned}
-use Rattle.meta_path.proofs.SetFacts.{holds_slot, map_contains, slots_from, slots_to, pairs_head, pairs_tail}
+use Rattle.meta_path.proofs.SetFacts.{holds_slot, map_contains, slots_from, slots_to}
 use Rattle.meta_path.proofs.PathFacts.{its_bank_of, AreSets}
 use Rattle.meta_path.proofs.KeepLemmas.{sum_below-one, sum_below-same}
 use Rattle.meta_path.proofs.KeepLaws.{all_of}
@@ -169,7 +170,7 @@ rest_marked slot slots x here apart =
     (λ k d h.
     cond-false ((get_or slots k d).position == x) (slot_marked (get_or slots k d) false) (get_or slots k d)
     (ne_eqb (get_or slots k d).position x
-    (λ e. pairs_head (λ (a b : Slot). a.position ≢ b.position) slot slots apart k d h (here ∙ sym e))))
+    (λ e. AllPairs-head (λ (a b : Slot). a.position ≢ b.position) slot slots apart k d h (here ∙ sym e))))
 
 rest_clean : (slot : Slot) (slots : List Slot) (x : ℕ) → slot.position ≡ x → ArePositionsApart (slot ∷ slots)
     → list_any (λ (s : Slot). s.position == x && s.dirty) slots ≡ true → ⊥
@@ -177,7 +178,7 @@ rest_clean slot slots x here apart dirty =
     let found = Any-from_list_any (λ (s : Slot). s.position == x && s.dirty) slots dirty in
     let parts : (found.1.position == x ≡ true) × (found.1.dirty ≡ true) =
     and_parts (found.1.position == x) found.1.dirty found.4 in
-    pairs_head (λ (a b : Slot). a.position ≢ b.position) slot slots apart found.0 found.1 found.2
+    AllPairs-head (λ (a b : Slot). a.position ≢ b.position) slot slots apart found.0 found.1 found.2
     (here ∙ sym (eqb-true found.1.position x parts.0) ∙ ap (λ (s : Slot). s.position) (sym found.3))
 
 pub dirty_in-cleaned : (slots : List Slot) (x : ℕ) → ArePositionsApart slots
@@ -187,7 +188,7 @@ unfolding with_mark
 dirty_in-cleaned [] x apart dirty = absurd (false≢true dirty)
 dirty_in-cleaned (slot ∷ slots) x apart dirty =
     by_test (cases_Bool (slot.position == x)) dirty
-    (λ rest. dirty_in-cleaned slots x (pairs_tail (λ (a b : Slot). a.position ≢ b.position) slot slots apart) rest)
+    (λ rest. dirty_in-cleaned slots x (AllPairs-tail (λ (a b : Slot). a.position ≢ b.position) slot slots apart) rest)
   where
     Rest : Type 0
     Rest = list_any (λ (s : Slot). s.position == x && s.dirty) slots ≡ true

@@ -3,6 +3,7 @@ use Rattle.std.proofs.Common.{◌≡◌, ◌≢◌, ◌∙◌, ℕ, List, [], �
 use Rattle.std.specs.Prelude.{◌⊎◌, All, IsOk, is_ok, Option, None, Some, IfSome}
 use Rattle.std.proofs.lemmas.Bool.{true≢false}
 use Rattle.std.proofs.lemmas.List.Elements.{All-head, All-tail}
+use Rattle.pmem_base.proofs.ListLaws.{All-middle}
 use Rattle.suite.specs.Setup.{Setup}
 use Rattle.plain_model.specs.declared.Stop.{Stop}
 use Rattle.plain_model.specs.declared.Stop.TheVariants.{Finished, Words, Memory, ReadFault, WriteFault, Refused, Shown, TooManyLines}
@@ -11,11 +12,6 @@ use Rattle.plain_model.specs.Grammar.{reading_of}
 use Rattle.plain_model.specs.Run.{Step, Ends, status_of}
 use Rattle.pmem_cli.specs.declared.options.Task.{Task}
 use Rattle.pmem_cli.specs.HasRun.{HasRun, TaskOutcome, IsInGrammar, IsRunThrough, IsComplete}
-
--- a fact of each element is one of those in the middle
-all_middle : {X : Type 0} (P : X → Type 0) (before : List X) (x : X) (behind : List X) → All P (before ++ x ∷ behind) → P x
-all_middle P [] x behind all = All-head P x behind all
-all_middle P (y ∷ before) x behind all = all_middle P before x behind (All-tail P y (before ++ x ∷ behind) all)
 
 through_by : (stop : Stop) (setup : Setup) (status : ℕ) (trace : List ℕ) (left : Option (List ℕ)) (steps : List Step) → Ends setup stop trace left steps
     → status ≡ status_of stop → status ≢ 3 → status ≢ 4 → IsInGrammar trace → IsRunThrough status
@@ -26,7 +22,7 @@ through_by ReadFault setup status trace left steps ends is read write grammar = 
 through_by WriteFault setup status trace left steps ends is read write grammar = absurd (write is)
 through_by (Refused number kind) setup status trace left steps ends is read write grammar =
     let ok : IsOk (reading_of ends.line) =
-    all_middle (λ line. IsOk (reading_of line)) ends.before ends.line ends.behind (subst (All (λ line. IsOk (reading_of line))) ends.cut grammar.0) in
+    All-middle (λ line. IsOk (reading_of line)) ends.before ends.line ends.behind (subst (All (λ line. IsOk (reading_of line))) ends.cut grammar.0) in
     absurd (true≢false (sym ok ∙ ap is_ok ends.refused))
 through_by Shown setup status trace left steps ends is read write grammar = inr (inl is)
 through_by TooManyLines setup status trace left steps ends is read write grammar =

@@ -18,6 +18,7 @@ use Rattle.pmem_base.specs.Shape.{Shape}
 use Rattle.pmem_base.specs.Layout as layout
 use Rattle.pmem_base.specs.Layout.{page_of}
 use Rattle.pmem_base.specs.WaitingWrites.{queue_of}
+use Rattle.pmem_replay.proofs.Marks.AfterMarks.{unflagged}
 use Rattle.bonsai_tree.specs.Positions.{is_on_path, counter_position}
 use Rattle.suite.specs.Setup.{Setup}
 use Rattle.plain_model.specs.State.{PlainState, Reply, no_flags, is_flagged, has_flags, with_flag, without_flag, start_state}
@@ -37,12 +38,6 @@ none_flagged [] n none = refl
 none_flagged (true ∷ flags) n none = absurd (true≢false none)
 none_flagged (false ∷ flags) zero none = refl
 none_flagged (false ∷ flags) (suc n) none = none_flagged flags n none
-
-no_flag : (n a : ℕ) → is_flagged (no_flags n) a ≡ false
-unfolding no_flags
-no_flag zero a = refl
-no_flag (suc n) zero = refl
-no_flag (suc n) (suc a) = no_flag n a
 
 cleared : (flags : List Bool) (n a : ℕ) → is_flagged flags a ≡ false → is_flagged (without_flag flags n) a ≡ false
 cleared [] n a is = is
@@ -379,7 +374,7 @@ tracked-start : (setup : Setup) → IsTracked setup.shape (start setup).state
 unfolding start start_state no_flags
 tracked-start setup = record {
   long = length-replicate (layout.device_lines setup.shape) false;
-  whole = λ none. record { named = none; hurt = λ a. no_flag (layout.data_lines setup.shape) a; loose = refl };
+  whole = λ none. record { named = none; hurt = λ a. unflagged (layout.data_lines setup.shape) a; loose = refl };
 }
 
 pub untampered : (setup : Setup) (steps : List Step) → AreAnswered setup (start setup) steps → IsUntampered setup steps

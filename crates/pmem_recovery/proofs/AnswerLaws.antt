@@ -127,15 +127,8 @@ IsNewEngine-fresh setup lines whole zero =
 
 -- ---- lines that are told
 
-pub told_lines : (size : ℕ) (told : Option (List Line)) (lines : List Line) → AreToldLines size told → told ≡ Some lines → AreLinesOf size lines
-told_lines size told lines all e = subst (AreToldLines size) e all
-
 pub redone_told-told : (group : List (ℕ × Line)) (told : Option (List Line)) (lines : List Line) → told ≡ Some lines → redone_told group told ≡ Some (redone group lines)
 redone_told-told group told lines e = ap (redone_told group) e
-
-pub is_some-redone : (group : List (ℕ × Line)) (told : Option (List Line)) → is_some (redone_told group told) ≡ is_some told
-is_some-redone group None = refl
-is_some-redone group (Some lines) = refl
 
 -- ---- counts
 

@@ -15,6 +15,7 @@ use Rattle.split_counters.specs.Blocks.{zero_minors, packed}
 use Rattle.bonsai_tree.specs.Positions.{child_position, counter_position}
 use Rattle.bonsai_tree.specs.Nodes.{node_over}
 use Rattle.pmem_base.proofs.LineSets.{line_at-set_same, line_at-set_other}
+use Rattle.pmem_engine.proofs.CallEnds.ToldLines.{whole_lines}
 use Rattle.bonsai_tree.proofs.Levels.{meta_lines-counters}
 use Rattle.bonsai_tree.proofs.NodeLaws.{node_over-same}
 use Rattle.suite.specs.Formulas.{Formulas}
@@ -24,13 +25,12 @@ use Rattle.pmem_engine.specs.Formatted.{first_seal, first_block}
 use Rattle.pmem_recovery.specs.Parts.{Told}
 use Rattle.pmem_recovery.specs.Writing.{BothTold}
 use Rattle.pmem_recovery.specs.Formatting.{first_cipher, first_tag, IsFirstSealed, HasSealedFrom, StaysSteady, HasSealedGroup, HasSealedAll}
-use Rattle.pmem_recovery.proofs.AnswerLaws.{told_lines}
 use Rattle.pmem_recovery.proofs.WriteSteps.{told_earlier}
 
 -- ---- the device
 
 pub told_long : (device : Device) (n : ℕ) → AreToldLines device.size device.lines → device.size ≡ n → (lines : List Line) → device.lines ≡ Some lines → length lines ≡ n
-told_long device n whole size lines told = (told_lines device.size device.lines lines whole told).count ∙ size
+told_long device n whole size lines told = (whole_lines device.size device.lines lines whole told).count ∙ size
 
 pub StaysSteady-then : (old mid new : Device) → StaysSteady old mid → StaysSteady mid new → StaysSteady old new
 StaysSteady-then old mid new a b = search rules

@@ -13,6 +13,7 @@ use Rattle.pmem_base.specs.Lines.{IsLine, line_at, tag_slot, zero_line}
 use Rattle.pmem_base.specs.Marks.{SealOf, last_seal}
 use Rattle.pmem_base.specs.Registers.{IsGroup}
 use Rattle.pmem_base.proofs.LineLemmas.{IsLine-zero_line}
+use Rattle.pmem_engine.proofs.CallEnds.ToldLines.{whole_lines}
 use Rattle.board.specs.Device.{Device, AreLinesOf, AreToldLines}
 use Rattle.board.specs.Steps.{HasLatched}
 use Rattle.suite.specs.Formulas.{AreInRange}
@@ -33,7 +34,7 @@ use Rattle.pmem_engine.specs.Invariants.{IsAnchored, IsTrusted, IsMendable, IsSo
 use Rattle.pmem_engine.proofs.Laws.AnchoredFormats.{anchored-formatted, last_first}
 use Rattle.pmem_engine.proofs.Laws.MendableLaws.{IsSound-new_engine}
 use Rattle.pmem_recovery.specs.Formatting.{first_counter, first_cipher, first_tag, first_regs, IsFirstSealed, HasSealedFrom, StaysSteady, HasSealedAll, HasToldMeta, HasWrittenMeta, HasClearedTables, HasFormatted}
-use Rattle.pmem_recovery.proofs.AnswerLaws.{told_lines, IsTrusted-fresh, IsNewEngine-fresh}
+use Rattle.pmem_recovery.proofs.AnswerLaws.{IsTrusted-fresh, IsNewEngine-fresh}
 use Rattle.pmem_recovery.proofs.FormatSteps.{StaysSteady-then}
 use Rattle.pmem_recovery.proofs.WriteSteps.{told_earlier}
 
@@ -133,9 +134,9 @@ put_lines setup truth d0 d1 d2 d3 d4 now d told =
     let size1 : d1.size ≡ layout.device_lines setup.shape = d.steady_sealed.size ∙ d.size in
     let size2 : d2.size ≡ layout.device_lines setup.shape = d.steady_filled.size ∙ size1 in
     let size4 : d4.size ≡ layout.device_lines setup.shape = d.latched.size ∙ d.steady_cleared.size ∙ size2 in
-    let ends = told_lines d4.size d4.lines now d.whole told in
-    let long2 : length filled.0 ≡ layout.device_lines setup.shape = (told_lines d2.size d2.lines filled.0 d.whole_filled filled.1).count ∙ size2 in
-    let long1 : length sealed.0 ≡ layout.device_lines setup.shape = (told_lines d1.size d1.lines sealed.0 d.whole_sealed sealed.1).count ∙ size1 in
+    let ends = whole_lines d4.size d4.lines now d.whole told in
+    let long2 : length filled.0 ≡ layout.device_lines setup.shape = (whole_lines d2.size d2.lines filled.0 d.whole_filled filled.1).count ∙ size2 in
+    let long1 : length sealed.0 ≡ layout.device_lines setup.shape = (whole_lines d1.size d1.lines sealed.0 d.whole_sealed sealed.1).count ∙ size1 in
     let long : length now ≡ layout.device_lines setup.shape = ends.count ∙ size4 in
     let same : (n : ℕ) → n < 80 * layout.pages setup.shape → line_at now n ≡ line_at sealed.0 n =
     λ n low. d.tables.others filled.0 filled.1 now at3 n (omega (arith, low)) ∙ d.meta.others sealed.0 sealed.1 filled.0 filled.1 n low in

@@ -8,6 +8,7 @@ use Rattle.pmem_base.specs.Lines.{line_at}
 use Rattle.pmem_base.specs.Registers.{IsValidRegs, without_group}
 use Rattle.board.specs.Device.{Device, AreLinesOf, AreToldLines}
 use Rattle.pmem_base.proofs.LineSets.{length-put_lines}
+use Rattle.pmem_engine.proofs.CallEnds.ToldLines.{whole_lines, told_redone}
 use Rattle.commit_regs.specs.Groups.{redone, finishing_latches, RisesAtMost, HasFinished, IsInterrupted}
 use Rattle.suite.specs.Setup.{Setup}
 use Rattle.seal_ledger.specs.Ledger.{LedgerState}
@@ -28,7 +29,7 @@ use Rattle.pmem_recovery.specs.Recovered.{RegsAfter, PowerAfter, HasOnlyRedone, 
 use Rattle.pmem_recovery.proofs.PartLaws.{IsUncut-then, IsCutOff-after}
 use Rattle.pmem_recovery.proofs.WrittenLaws.{top_recovered}
 use Rattle.pmem_recovery.proofs.EndLaws.{IsSound-recovered, IsShadowZero-recovered}
-use Rattle.pmem_recovery.proofs.AnswerLaws.{partly-data, partly-mendable, no_counter-caused, IsTrueRefusal, true_refusal, IsEmptied-without, HasRoot-without, IsRefusal-without, IsTrusted-fresh, IsNewEngine-fresh, told_lines, redone_told-told, is_some-redone, RisesAtMost-then}
+use Rattle.pmem_recovery.proofs.AnswerLaws.{partly-data, partly-mendable, no_counter-caused, IsTrueRefusal, true_refusal, IsEmptied-without, HasRoot-without, IsRefusal-without, IsTrusted-fresh, IsNewEngine-fresh, redone_told-told, RisesAtMost-then}
 
 -- ---- no memory, and a cut while the group is redone
 
@@ -65,7 +66,7 @@ module _ (setup : Setup) (ledger : LedgerState) (old mid new : Device) (run : Is
   goes_before = record { cuts = run.finished.cuts; steady = run.finished.steady; live = run.finished.live }
 
   pub its_told : is_some new.lines ≡ is_some old.lines
-  its_told = run.written.told ∙ ap is_some run.finished.lines ∙ is_some-redone old.regs.group.items old.lines
+  its_told = run.written.told ∙ ap is_some run.finished.lines ∙ told_redone old.regs.group.items old.lines
 
   pub its_reads : old.reads ≤ new.reads
   its_reads = omega (arith, run.finished.reads, run.written.reads)
@@ -97,13 +98,13 @@ module _ (setup : Setup) (ledger : LedgerState) (old mid new : Device) (run : Is
 
   pub its_lines : (lines now : List Line) → old.lines ≡ Some lines → new.lines ≡ Some now → AreItsLines lines now
   its_lines lines now told after =
-      let before : AreLinesOf (layout.device_lines setup.shape) lines = subst (λ s. AreLinesOf s lines) run.size (told_lines old.size old.lines lines run.whole_before told) in
+      let before : AreLinesOf (layout.device_lines setup.shape) lines = subst (λ s. AreLinesOf s lines) run.size (whole_lines old.size old.lines lines run.whole_before told) in
       let long : length (redone old.regs.group.items lines) ≡ layout.device_lines setup.shape = length-put_lines old.regs.group.items lines ∙ before.count in
       let mid_told : mid.lines ≡ Some (redone old.regs.group.items lines) = run.finished.lines ∙ redone_told-told old.regs.group.items old.lines lines told in
       let w = run.written.lines (redone old.regs.group.items lines) mid_told now after long in
       record {
         long = long;
-        whole = subst (λ s. AreLinesOf s now) (run.written.size ∙ run.finished.size ∙ run.size) (told_lines new.size new.lines now run.whole_after after);
+        whole = subst (λ s. AreLinesOf s now) (run.written.size ∙ run.finished.size ∙ run.size) (whole_lines new.size new.lines now run.whole_after after);
         mid_told = mid_told;
         partly = w.0;
         kept = ap (λ items. redone items now) emptied.no_group;

@@ -114,9 +114,6 @@ length-window_minors stored loss =
 
 -- ---- a page, line by line
 
-pub page_of-line : (page i : ℕ) → i < 64 → page_of (64 * page + i) ≡ page
-page_of-line page i small = omega (arith, small)
-
 -- one more line has one minor
 pub minors_more : (tried : ℕ → List ℕ) (minors : List ℕ) (i minor : ℕ) → i < length minors → ((k : ℕ) → k < i → tried k ≡ get_or minors k 0 ∷ []) → tried i ≡ minor ∷ [] → (k : ℕ) → k < i + 1 → tried k ≡ get_or (set minors i minor) k 0 ∷ []
 minors_more tried minors i minor inside before here k low = go (cases_eq k i)

@@ -107,12 +107,6 @@ from_big_endian-number : (bytes : List ℕ) → from_big_endian bytes ≡ number
 from_big_endian-number [] = refl
 from_big_endian-number (b ∷ bytes) = ap (λ z. b * 256 ^ length bytes + z) (from_big_endian-number bytes)
 
-pub length-big_endian : (n value : ℕ) → length (big_endian n value) ≡ n
-length-big_endian n value = ap length (big_endian-digits n value) ∙ length-digits 256 n value
-
-pub big_endian-AreBytes : (n value : ℕ) → AreBytes (big_endian n value)
-big_endian-AreBytes n value = subst AreBytes (sym (big_endian-digits n value)) (digits-small 256 n value (omega arith))
-
 pub from_big_endian-below : (bytes : List ℕ) → AreBytes bytes → from_big_endian bytes < 256 ^ length bytes
 from_big_endian-below bytes small = subst (λ z. z < 256 ^ length bytes) (sym (from_big_endian-number bytes)) (number-below 256 bytes small)
 

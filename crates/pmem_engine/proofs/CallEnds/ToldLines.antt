@@ -2,6 +2,7 @@
 use Rattle.std.proofs.Common.{rules, ℕ, ◌≡◌, List, [], Option, Some, ap, ◌∙◌}
 use Rattle.std.specs.Prelude.{MatchOption, IfSome, option_map, is_some}
 use Rattle.pmem_base.specs.declared.lines.Line.{Line}
+use Rattle.commit_regs.proofs.GroupLemmas.{redone-nil}
 use Rattle.board.specs.Device.{AreLinesOf, AreToldLines}
 use Rattle.commit_regs.specs.Groups.{redone_told}
 
@@ -30,10 +31,7 @@ told_same f v1 v2 same give = search rules
 
 -- with no group armed the lines are as they stand
 pub unarmed : (group : List (ℕ × Line)) (told : Option (List Line)) → group ≡ [] → redone_told group told ≡ told
-unarmed group told none = ap (λ g. redone_told g told) none ∙ go told
-  where
-    go : (told : Option (List Line)) → redone_told [] told ≡ told
-    go v0 = search rules
+unarmed group told none = ap (λ g. redone_told g told) none ∙ redone-nil told
 
 pub told_redone : (group : List (ℕ × Line)) (told : Option (List Line)) → is_some (redone_told group told) ≡ is_some told
 told_redone group v1 = search rules

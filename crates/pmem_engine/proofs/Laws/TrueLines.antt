@@ -41,7 +41,7 @@ open_page-registers (register ∷ registers) page =
     map_cond : (t : Bool) (first : Progress) (rest : Option Progress) → cond t (Some (register_page first)) (option_map register_page rest) ≡ option_map register_page (cond t (Some first) rest)
     map_cond v0 first rest = search rules
 
-page_of_place : (page i : ℕ) → i < 64 → page_of (64 * page + i) ≡ page
+pub page_of_place : (page i : ℕ) → i < 64 → page_of (64 * page + i) ≡ page
 page_of_place page i small = omega (arith, small)
 
 place_in_page : (page i : ℕ) → i < 64 → index_in_page (64 * page + i) ≡ i

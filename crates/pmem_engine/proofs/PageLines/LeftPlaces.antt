@@ -12,9 +12,10 @@ use Rattle.pmem_base.specs.declared.registers.Progress.{Progress}
 use Rattle.pmem_base.specs.Shape.{Shape}
 use Rattle.pmem_base.specs.Layout.{page_of, index_in_page}
 use Rattle.pmem_base.specs.Registers.{places_of_page, is_done, not_done, with_done, empty_progress, IsProgress}
+use Rattle.pmem_base.proofs.ListLaws.{All-middle}
 use Rattle.page_reencrypt.specs.Registers.{register_of, register_held, register_with_done, registers_with_done}
 use Rattle.page_reencrypt.proofs.DoneBits.{not_done-with_done, not_done-small, not_done-not_done}
-use Rattle.page_reencrypt.proofs.Holding.{registers_with_done-at, All-registers_with_done, none_of_page, none_from_All}
+use Rattle.page_reencrypt.proofs.Holding.{registers_with_done-at, All-registers_with_done, none_of_page, none_from_All, with_done-page}
 use Rattle.page_reencrypt.proofs.AtPlace.{register_held-at}
 use Rattle.pmem_engine.specs.Resealing.{line_of_page}
 
@@ -82,11 +83,6 @@ lowest_done register i left is =
     → filter (λ j. not (j == i)) (filter (λ j. not (is_done register j)) places) ≡ left)
     (sym places_are) (first_out (λ j. not (is_done register j)) 0 64 i left) is
 
--- one in the middle
-pub in_middle : {X : Type 0} (P : X → Type 0) (xs : List X) (x : X) (ys : List X) → All P (xs ++ x ∷ ys) → P x
-in_middle P [] x ys all = All-head P x ys all
-in_middle P (y ∷ xs) x ys all = in_middle P xs x ys (All-tail P y (xs ++ x ∷ ys) all)
-
 -- a list with a first element
 pub first_and_rest : (xs : List ℕ) (i : ℕ) → slice_get xs 0 ≡ Some i → (rest : List ℕ) × (xs ≡ i ∷ rest)
 first_and_rest [] i is = absurd (none-some i is)
@@ -100,11 +96,11 @@ module _ (items : List Progress) (n i : ℕ) (before after : List ℕ) (apart : 
   at_place = get_or items n empty_progress
 
   pub place_small : i < 64
-  place_small = in_middle (λ j. j < 64) before i after (subst (All (λ j. j < 64)) places (not_done-small at_place))
+  place_small = All-middle (λ j. j < 64) before i after (subst (All (λ j. j < 64)) places (not_done-small at_place))
 
   not_yet : is_done at_place i ≡ false
   not_yet =
-      in_middle (λ j. is_done at_place j ≡ false) before i after
+      All-middle (λ j. is_done at_place j ≡ false) before i after
       (subst (All (λ j. is_done at_place j ≡ false)) places (not_done-not_done at_place))
 
   pub page_of_line : page_of (line_of_page at_place i) ≡ at_place.page
@@ -122,16 +118,13 @@ module _ (items : List Progress) (n i : ℕ) (before after : List ℕ) (apart : 
 
 -- ---- the registers with the lowest line of one of them done
 
-same_page : (a : ℕ) (register : Progress) → (register_with_done a register).page ≡ register.page
-same_page a register = search rules
-
 -- a page that has no register gets none
 pub others_kept : (items : List Progress) (a page : ℕ) → register_of items page ≡ None
     → register_of (registers_with_done items a) page ≡ None
 others_kept items a page none =
     none_from_All (registers_with_done items a) page
     (All-registers_with_done (λ register. register.page ≢ page) (λ register. register.page ≢ page) a
-    (λ register other some same. other (sym (same_page a register) ∙ same)) items (none_of_page items page none))
+    (λ register other some same. other (sym (with_done-page a register) ∙ same)) items (none_of_page items page none))
 
 module _ (g : Shape) (items : List Progress) (n i : ℕ) (left : List ℕ) (all : All (IsProgress g) items)
     (apart : AllPairs (λ x y. x.page ≢ y.page) items) (inside : n < length items)

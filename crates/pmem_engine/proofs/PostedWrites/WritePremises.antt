@@ -68,7 +68,7 @@ minor_below old new page i false small over begun same =
 
 -- ---- the page that was finished
 
-few_left : (register : Progress) → length (not_done register) ≤ 64
+pub few_left : (register : Progress) → length (not_done register) ≤ 64
 unfolding not_done
 few_left register =
     let both =

@@ -5,8 +5,8 @@ use Rattle.std.specs.List.{range_with_len}
 use Rattle.std.proofs.lemmas.Bool.{cases_Bool, cases_eq, eq-eqb, ne_eqb, and_parts, and_from, and_right, true≢false, cases_order, lt-ltb, le-ltb}
 use Rattle.std.proofs.lemmas.List.Sums.{sum_by-cons}
 use Rattle.std.proofs.lemmas.List.Elements.{All-head, All-tail}
+use Rattle.pmem_base.proofs.ListLaws.{AllPairs-tail, AllPairs-head}
 use Rattle.meta_path.specs.Blocks.{sum_below}
-use Rattle.meta_path.proofs.SetFacts.{pairs_tail, pairs_head}
 
 -- 1 where the test passes
 abbrev one_if : Bool → ℕ
@@ -97,9 +97,9 @@ pub keys_bound : {X : Type 0} (p : X → Bool) (key : X → ℕ) (q : ℕ → Bo
     → count_by p xs ≤ count_by q (range_with_len 0 n)
 keys_bound p key q n [] distinct each = omega arith
 keys_bound {X} p key q n (x ∷ xs) distinct each =
-    let apart = pairs_head (λ a b. key a ≢ key b) x xs distinct in
+    let apart = AllPairs-head (λ a b. key a ≢ key b) x xs distinct in
     let later = All-tail (λ x. p x ≡ true → (q (key x) ≡ true) × (key x < n)) x xs each in
-    let rest = pairs_tail (λ a b. key a ≢ key b) x xs distinct in
+    let rest = AllPairs-tail (λ a b. key a ≢ key b) x xs distinct in
     elim (cases_Bool (p x)) [
       | inl passes ↦
           let its = All-head (λ x. p x ≡ true → (q (key x) ≡ true) × (key x < n)) x xs each passes in

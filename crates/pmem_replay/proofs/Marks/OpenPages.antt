@@ -12,6 +12,7 @@ use Rattle.pmem_base.specs.declared.registers.Regs.{Regs}
 use Rattle.pmem_base.specs.Shape.{Shape}
 use Rattle.pmem_base.specs.Layout as layout
 use Rattle.pmem_base.specs.Registers.{IsProgress, is_done, not_done, places_of_page}
+use Rattle.pmem_engine.proofs.PostedWrites.WritePremises.{few_left}
 use Rattle.page_reencrypt.proofs.DoneBits.{not_done-small, length-places}
 use Rattle.seal_ledger.specs.Ledger.{LedgerState}
 use Rattle.suite.specs.Formulas.{Formulas}
@@ -29,11 +30,6 @@ pub record IsWholePage (g : Shape) (opened : OpenPage) : Type 0 where
   pub its_page : opened.page < layout.pages g
   pub places : All (λ i. i < 64) opened.left
   pub count : length opened.left ≤ 64
-
-few_left : (register : Progress) → length (not_done register) ≤ 64
-unfolding not_done
-few_left register =
-    omega (arith, length-filter (λ i. not (is_done register i)) places_of_page, count_by-le-length (λ i. not (is_done register i)) places_of_page, length-places)
 
 whole_registers : (g : Shape) (registers : List Progress) → All (IsProgress g) registers → All (IsWholePage g) (map register_page registers)
 whole_registers g [] each = All-nil (IsWholePage g)

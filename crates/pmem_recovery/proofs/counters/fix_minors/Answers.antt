@@ -4,11 +4,12 @@ use Rattle.std.proofs.lemmas.List.{length-set}
 use Rattle.std.proofs.lemmas.List.Elements.{All-set}
 use Rattle.pmem_base.specs.Geo.{shape_of}
 use Rattle.pmem_base.proofs.LayoutLemmas.{pages-most}
+use Rattle.pmem_engine.proofs.Laws.TrueLines.{page_of_place}
 use Rattle.suite.specs.Setup.{Setup}
 use Rattle.pmem_recovery.specs.Trials.{stored_block, tried_minors}
 use Rattle.pmem_recovery.specs.Parts.{setup_of, IsLineRefusal}
 use Rattle.pmem_recovery.proofs.PartLaws.{KeepsDevice-none, KeepsDevice-then, IsUncut-none, IsUncut-then, SuiteWork-none, SuiteWork-then, SuiteWorkAtMost-after, IsStageStopped-after, IfErr-exit, told_before}
-use Rattle.pmem_recovery.proofs.TryLaws.{page_of-line, minors_more, fixed_block_is}
+use Rattle.pmem_recovery.proofs.TryLaws.{minors_more, fixed_block_is}
 use Rattle.pmem_recovery.proofs.counters.fix_minors.Goals as goal
 
 pub lines-init : goal.lines-init
@@ -50,7 +51,7 @@ returns-in_err-minor-clause-stopped g c =
     IfErr-exit c.from_residual.result fault _ (err_from_is_err_and c.from_residual.result c.from_residual.ensures.1)
     (IsStageStopped-after _ (formulas (g.S.Suite.keys c.args.suite.now)) fault _ _ _ _ _ (ap formulas inv.worked.keys) inv.read inv.goes
     (λ lines told w block.
-    let at_page = page_of-line c.args.page c.from.result (omega (arith, place, c.lines-test.true)) in
+    let at_page = page_of_place c.args.page c.from.result (omega (arith, place, c.lines-test.true)) in
     let here = w (block ∙ ap (stored_block (shape_of c.args.geo.now) lines) (sym at_page)) in
     record {
       place = c.lines.i;
@@ -79,7 +80,7 @@ lines-preserved g c =
       small = All-set (λ m. m ≤ 127) c.lines.fixed.minors c.from-in-lines.result c.in_ok-minor.minor ok.small inv.small;
       told = λ lines told block k low.
           let setup : Setup = setup_of c.args.geo.now (formulas (g.S.Suite.keys c.args.suite.now)) in
-          let at_page = page_of-line c.args.page c.from.result (omega (arith, place, c.lines-test.true)) in
+          let at_page = page_of_place c.args.page c.from.result (omega (arith, place, c.lines-test.true)) in
           let tried = ok.told lines (told_before _ _ inv.read lines told) (block ∙ ap (stored_block (shape_of c.args.geo.now) lines) (sym at_page)) in
           let tried_here : tried_minors setup lines c.args.regs.now (64 * c.args.page + c.lines.i) ≡ c.in_ok-minor.minor ∷ [] =
           subst (λ i. tried_minors setup lines c.args.regs.now (64 * c.args.page + i) ≡ c.in_ok-minor.minor ∷ []) place
