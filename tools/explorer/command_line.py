@@ -225,8 +225,8 @@ def add_import(commands: Any) -> None:
         each = add_command(kinds, kind, what, description, run_import)
         each.add_argument("file", metavar="FILE", help="what to import; - is standard input")
         add_output(each)
-        each.add_argument("--commands", type=count_from(1), default=1000, metavar="N",
-                          help="end after so many commands (default 1000)")
+        each.add_argument("--commands", type=count_from(2), default=1000, metavar="N",
+                          help="end after so many commands, a last fence among them (default 1000)")
         each.add_argument("--fence-every", type=count_from(0), default=importing.QUEUE, metavar="N",
                           help="a fence after every N stores; 0 for none (default 16)")
         each.add_argument("--fence-at", type=addresses, default=(), metavar="ADDRESS,..",
@@ -314,8 +314,9 @@ def run_cuts(words: argparse.Namespace) -> None:
     """`explore cuts`."""
     check_writable(words.output)
     together = together_of(words)
-    found = cuts.trace_cuts(recording_of(words, together), together, words.lines, words.twice, words.all_lines)
-    put(cuts.cuts_json(found) if words.json else cuts.cuts_text(found), words.output)
+    recording = recording_of(words, together)
+    found = cuts.trace_cuts(recording, together, words.lines, words.twice, words.all_lines)
+    put(cuts.cuts_json(found) if words.json else cuts.cuts_text(found, recording), words.output)
 
 
 def run_sweep(words: argparse.Namespace) -> None:

@@ -8,7 +8,7 @@ from .output import json_text, table_text
 from .program import Recording, Reply, first_word
 from .steps import StepFinder, mentioned_lines, stepping_indexes, tampered_lines
 from .together import Together
-from .trace import Command
+from .trace import Command, short_text
 
 NO_CUT = b"cut 18446744073709551615"
 PORTS = 8
@@ -235,7 +235,7 @@ def row_of(cut: Cut) -> List[str]:
         head = [str(cut.steps), str(cut.command.number), cut.command.short, cut.answer]
     numbers = cut.recovery.numbers
     if numbers is None:
-        return [*head, "", "", "", f"{cut.others_text}; on answers {cut.recovery.answer}"]
+        return [*head, "", "", "", f"{cut.others_text}; on answers {short_text(cut.recovery.answer)}"]
     return [*head, *map(str, numbers), cut.others_text]
 
 
@@ -252,12 +252,17 @@ def summary_lines(cuts: Sequence[Cut]) -> List[str]:
     return lines
 
 
-def cuts_text(cuts: Sequence[Cut]) -> str:
+def cuts_text(cuts: Sequence[Cut], recording: Recording) -> str:
     """The cuts for people."""
     heads = [["steps", "trace", "command", "answer", "recovery:", "", "", "lines that read"],
              ["before", "line", "", "", "trials", "digests", "steps", "otherwise"]]
     table = table_text(heads, [row_of(cut) for cut in all_cuts(cuts)], left=(2, 3, 7))
-    return table + "\n" + "\n".join(summary_lines(cuts)) + "\n"
+    notes = summary_lines(cuts)
+    last = recording.replies[-1] if recording.replies else None
+    if last is not None and last.is_exhibit:
+        command = recording.commands[len(recording.replies) - 1]
+        notes.append(f"the trace ends with an exhibit, in line {command.number}: {short_text(last.answer)}")
+    return table + "\n" + "\n".join(notes) + "\n"
 
 
 def cut_record(cut: Cut) -> Dict[str, Any]:

@@ -28,6 +28,7 @@ MOST_ROWS = 12
 MOST_LABELS = 110
 IDLE_WIDTH = 1.0
 GAP = 0.5
+LEFT, RIGHT, BOTTOM = 1.95, 0.15, 0.95
 KINDS = ("svg", "png")
 
 PANELS: Tuple[Tuple[str, str], ...] = (
@@ -189,13 +190,12 @@ def is_notable(entry: Traced) -> bool:
             or verdict(entry)[1] in (VERMILION, PURPLE))
 
 
-def draw_lanes(axes: Any, lanes: Lanes, end: float) -> None:
-    """The lanes with their names and their rows' labels."""
+def draw_lanes(axes: Any, lanes: Lanes, end: float, name_offset: float) -> None:
+    """The lanes with their names, so far to the left, and their rows' labels."""
     for number, (part, top, bottom) in enumerate(lanes.bounds):
         axes.axhspan(bottom, top, color=PALE if number % 2 == 0 else "white", zorder=0, linewidth=0)
-        axes.text(-0.115, (top + bottom) / 2, part.replace(" ", "\n"), transform=axes.get_yaxis_transform(),
-                  ha="center", va="center", fontsize=9, fontweight="bold", color=MARKS[part][1]
-                  if part not in (TAGS, COUNTERS) else BLACK)
+        axes.text(-name_offset, (top + bottom) / 2, part, transform=axes.get_yaxis_transform(),
+                  ha="left", va="center", fontsize=9, fontweight="bold")
     for height in lanes.rows.values():
         axes.plot([0, end], [height, height], color=GREY, linewidth=0.5, zorder=1)
     axes.set_yticks([height for height, _ in lanes.labels])
@@ -256,15 +256,22 @@ def draw_tampering(axes: Any, spans: Sequence[Span], lanes: Lanes, layout: Layou
     return bool(points)
 
 
+def labels_of(spans: Sequence[Span]) -> List[Tuple[Span, str, str]]:
+    """The commands that are named over the lanes, with their verdicts and colours."""
+    named = []
+    for span in spans:
+        if len(spans) <= MOST_LABELS or is_notable(span.traced):
+            word, colour = verdict(span.traced)
+            named.append((span, command_label(span.traced) + (f": {word}" if word else ""), colour))
+    return named
+
+
 def draw_commands(axes: Any, spans: Sequence[Span], top: float) -> None:
     """The commands and their verdicts over the lanes."""
-    every = len(spans) <= MOST_LABELS
+    for span, text, colour in labels_of(spans):
+        axes.text(span.middle, top + 0.25, text, rotation=90, ha="center", va="bottom", fontsize=7.5, color=colour,
+                  fontweight="bold" if colour in (VERMILION, PURPLE, BLUE) else "normal", clip_on=False)
     for span in spans:
-        if every or is_notable(span.traced):
-            word, colour = verdict(span.traced)
-            text = command_label(span.traced) + (f": {word}" if word else "")
-            axes.text(span.middle, top + 0.25, text, rotation=90, ha="center", va="bottom", fontsize=7.5, color=colour,
-                      fontweight="bold" if colour in (VERMILION, PURPLE, BLUE) else "normal", clip_on=False)
         if span.traced.steps:
             axes.plot([span.start + 0.1, span.end - 0.1], [top + 0.1, top + 0.1], color=BLACK, linewidth=1.2,
                       clip_on=False, zorder=3)
@@ -327,10 +334,11 @@ def timeline(traced: Sequence[Traced], layout: Layout, title: str, kind: str) ->
     end = spans[-1].end if spans else 1.0
     lanes = Lanes(changed_places(spans, layout))
     width = min(60.0, max(8.5, 2.0 + 0.15 * end))
-    height = 2.9 + 0.21 * -lanes.bottom
+    top = 0.5 + 0.071 * max((len(text) for _, text, _ in labels_of(spans)), default=0)
+    height = top + BOTTOM + 0.21 * -lanes.bottom
     figure, axes = pyplot.subplots(figsize=(width, height))
     size = min(42.0, max(6.0, 42.0 * (width - 2.0) / (0.15 * max(end, 1.0))))
-    draw_lanes(axes, lanes, end)
+    draw_lanes(axes, lanes, end, (LEFT - 0.15) / (width - LEFT - RIGHT))
     drawn = [*draw_power(axes, spans, 0.0, lanes.bottom), *draw_marks(axes, spans, lanes, size)]
     tampered = draw_tampering(axes, spans, lanes, layout, size)
     draw_commands(axes, spans, 0.0)
@@ -338,7 +346,7 @@ def timeline(traced: Sequence[Traced], layout: Layout, title: str, kind: str) ->
     axes.set_xlim(-GAP, end + GAP)
     axes.set_ylim(lanes.bottom, 0.0)
     axes.spines["left"].set_visible(False)
-    figure.subplots_adjust(left=1.35 / width, right=1 - 0.15 / width, top=1 - 1.55 / height, bottom=0.95 / height)
+    figure.subplots_adjust(left=LEFT / width, right=1 - RIGHT / width, top=1 - top / height, bottom=BOTTOM / height)
     figure.suptitle(title.replace("$", r"\$"), x=0.15 / width, y=1 - 0.1 / height, ha="left", va="top", fontsize=10.5,
                     fontweight="bold")
     handles = legend_handles(pyplot, drawn, tampered)
@@ -368,23 +376,29 @@ def groups_of(records: Sequence[Dict[str, Any]], along: str) -> List[Tuple[str, 
             for values, group in groups.items()]
 
 
+def curve_style(number: int, count: int) -> Dict[str, Any]:
+    """How a curve looks. Earlier ones are thicker, so that they show under later ones with the same points."""
+    colour, marker = CURVES[number % len(CURVES)]
+    thick = 1 - number / max(1, count - 1)
+    return {"color": colour, "marker": marker, "markersize": 4.5 + 5 * thick, "linewidth": 1.2 + 2.6 * thick,
+            "linestyle": LINE_STYLES[number // len(CURVES) % len(LINE_STYLES)]}
+
+
 def draw_panel(axes: Any, name: str, title: str, groups: Sequence[Tuple[str, List[Dict[str, Any]]]], along: str,
                values: Sequence[int]) -> None:
     """The curves of one measure."""
-    shown = False
+    highest = None
     for number, (_, group) in enumerate(groups):
-        colour, marker = CURVES[number % len(CURVES)]
         points = [(values.index(record[along]), record[name]) for record in group if record[name] is not None]
         if points:
-            shown = True
-            axes.plot(*zip(*points), color=colour, marker=marker, markersize=5, linewidth=1.4,
-                      linestyle=LINE_STYLES[number // len(CURVES) % len(LINE_STYLES)])
+            highest = max(highest or 0, *(value for _, value in points))
+            axes.plot(*zip(*points), **curve_style(number, len(groups)))
     axes.set_title(title, fontsize=9, loc="left")
     axes.set_xticks(range(len(values)))
     axes.set_xticklabels([str(value) for value in values], fontsize=8)
     axes.set_xlim(-0.25, len(values) - 0.75)
-    if shown:
-        axes.set_ylim(bottom=0)
+    if highest is not None:
+        axes.set_ylim(0, 1.1 * highest or 1)
         axes.grid(axis="y", color=GREY, linewidth=0.6)
     else:
         axes.set_yticks([])
@@ -410,8 +424,7 @@ def curves(records: Sequence[Dict[str, Any]], title: str, along: Optional[str], 
     figure.tight_layout(rect=(0, (0.25 * legend_rows + (0.1 if labelled else 0)) / height, 1, 0.97))
     if labelled:
         from matplotlib.lines import Line2D
-        handles = [Line2D([], [], color=CURVES[number % len(CURVES)][0], marker=CURVES[number % len(CURVES)][1],
-                          linestyle=LINE_STYLES[number // len(CURVES) % len(LINE_STYLES)], label=label)
+        handles = [Line2D([], [], label=label, **curve_style(number, len(groups)))
                    for number, (label, _) in enumerate(groups)]
         figure.legend(handles=handles, loc="lower center", ncol=min(4, len(groups)), frameon=False, fontsize=8)
     return picture(pyplot, figure, kind)

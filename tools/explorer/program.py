@@ -64,6 +64,12 @@ class Reply:
         return 0 if first_word(self.answer) in WITHOUT_STEPS else int(self.answer.rsplit(" ", 1)[-1])
 
     @property
+    def has_steps(self) -> bool:
+        """Whether the answer is one to a command that may take steps."""
+        last = self.answer.rsplit(" ", 1)[-1]
+        return self.is_exhibit or first_word(self.answer) in WITHOUT_STEPS or last.isascii() and last.isdigit()
+
+    @property
     def lines(self) -> List[str]:
         """Marks and answer."""
         return [*self.marks, self.answer]
@@ -218,6 +224,10 @@ class Recording:
         if not whole or shown != bool(self.replies and self.replies[-1].is_exhibit):
             raise ExploreError(f"{self.program.path} doesn't answer as pmem does: "
                                f"{len(self.replies)} answers to {len(self.commands)} commands")
+        for index, command in enumerate(self.commands[:len(self.replies)]):
+            if command.word in STEPPING_WORDS and not self.replies[index].has_steps:
+                raise ExploreError(f"{self.program.path} doesn't answer as pmem does: "
+                                   f"{short_text(self.replies[index].answer)[:100]!r} to {command.short!r}")
 
     def ask(self, index: int, script: Sequence[bytes]) -> List[Reply]:
         """The replies to further commands after the first `index` ones of the trace."""

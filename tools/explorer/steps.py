@@ -130,7 +130,8 @@ class StepFinder:
         size = self.layout.size
         replies = self.recording.ask(0, [b"peek %d" % (size - 1), b"peek %d" % size])
         if [reply.answer.split(" ")[0] for reply in replies] != ["raw", "range"]:
-            raise ExploreError(f"the device hasn't the {size} lines that docs/MACHINE.md gives it")
+            raise ExploreError(f"{self.recording.program.path} doesn't answer as pmem does: its device hasn't the "
+                               f"{size} lines that docs/MACHINE.md lists")
 
     def steps_before_exhibit(self, index: int) -> int:
         """The steps that a command took before it ended the run with an exhibit: the least cut that it isn't
