@@ -1,0 +1,441 @@
+"""Pictures of a trace's persist steps, and of a sweep's curves. Only this needs matplotlib."""
+import io
+from dataclasses import dataclass
+from typing import Any, Dict, List, Optional, Sequence, Tuple
+
+from .errors import WRONG_WORDS, ExploreError
+from .layout import CHIP, COUNTERS, DATA, NODES, PARTS, SHADOWS, TAGS, Layout, Place
+from .program import first_word
+from .steps import UNSEEN, Step, Traced
+from .sweep import NUMBERS
+from .trace import TAMPERING_WORDS, number_of
+
+# Colours that are told apart without red and green (Okabe and Ito).
+BLUE, SKY, GREEN, ORANGE, VERMILION, PURPLE, BLACK = (
+    "#0072B2", "#56B4E9", "#009E73", "#E69F00", "#D55E00", "#CC79A7", "#000000")
+GREY, DARK_GREY, PALE, YELLOW = "#DDDDDD", "#666666", "#F6F6F6", "#FFF3B0"
+
+MARKS: Dict[str, Tuple[str, str, str]] = {
+    CHIP: ("D", BLACK, "latch of the registers"),
+    DATA: ("o", BLUE, "data line written"),
+    TAGS: ("s", SKY, "tag line written"),
+    COUNTERS: ("^", ORANGE, "counter block written"),
+    NODES: ("v", GREEN, "tree node written"),
+    SHADOWS: ("P", PURPLE, "shadow line written"),
+}
+
+MOST_ROWS = 12
+MOST_LABELS = 110
+IDLE_WIDTH = 1.0
+GAP = 0.5
+LEFT, RIGHT, BOTTOM = 1.95, 0.15, 0.95
+KINDS = ("svg", "png")
+
+PANELS: Tuple[Tuple[str, str], ...] = (
+    ("steps_per_write", "persist steps a write"),
+    ("write_amplification", "device lines written a write"),
+    ("metadata_reads_per_write", "metadata reads a write"),
+    ("digests_per_write", "digests a write"),
+    ("metadata_reads_per_read", "metadata reads a read"),
+    ("digests_per_read", "digests a read"),
+    ("recovery_trials", "trials of a recovery"),
+    ("recovery_digests", "digests of a recovery"),
+    ("recovery_steps", "persist steps of a recovery"),
+)
+CURVES: Tuple[Tuple[str, str], ...] = (
+    (BLUE, "o"), (ORANGE, "s"), (GREEN, "^"), (VERMILION, "D"), (SKY, "v"), (PURPLE, "P"), (BLACK, "X"),
+    (DARK_GREY, "*"))
+LINE_STYLES = ("-", "--", ":", "-.")
+
+
+def picture_kind(name: str) -> str:
+    """The kind of picture that a name's ending says."""
+    kind = name.rsplit(".", 1)[-1].lower() if "." in name else ""
+    if kind not in KINDS:
+        raise ExploreError(f"a picture's name ends in .svg or .png, not as {name!r}", WRONG_WORDS)
+    return kind
+
+
+def load_matplotlib() -> Any:
+    """The part of matplotlib that draws into files."""
+    try:
+        import matplotlib
+        matplotlib.use("Agg")
+        from matplotlib import pyplot
+    except ImportError as error:
+        raise ExploreError("pictures need the package matplotlib (Debian: apt-get install python3-matplotlib; "
+                           f"else: pip install matplotlib): {error}") from error
+    matplotlib.rcParams.update({"svg.hashsalt": "pmem", "font.size": 9, "font.family": "DejaVu Sans",
+                                "axes.spines.top": False, "axes.spines.right": False})
+    return pyplot
+
+
+def picture(pyplot: Any, figure: Any, kind: str) -> bytes:
+    """The bytes of a figure. The same figure has the same bytes each time."""
+    out = io.BytesIO()
+    figure.savefig(out, format=kind, dpi=110, metadata={"Date": None} if kind == "svg" else {"Software": None})
+    pyplot.close(figure)
+    return out.getvalue()
+
+
+@dataclass(frozen=True)
+class Span:
+    """A command with its place along the picture."""
+
+    traced: Traced
+    start: float
+    width: float
+
+    @property
+    def end(self) -> float:
+        """Where it ends."""
+        return self.start + self.width
+
+    @property
+    def middle(self) -> float:
+        """Its middle."""
+        return self.start + self.width / 2
+
+    def step_at(self, number: int) -> float:
+        """Where its step number `number`, counted from 0, stands."""
+        return self.start + number + 0.5
+
+
+def spans_of(traced: Sequence[Traced]) -> List[Span]:
+    """The commands one after the other: one unit a step, some for a command without steps."""
+    spans, position = [], 0.0
+    for entry in traced:
+        width = max(float(len(entry.steps)), IDLE_WIDTH)
+        spans.append(Span(entry, position, width))
+        position += width + GAP
+    return spans
+
+
+def tampered_place(entry: Traced, layout: Layout) -> Optional[Place]:
+    """The device line that a tamper command changes."""
+    words = entry.command.words
+    if words[0] not in TAMPERING_WORDS or entry.reply.answer != "ok":
+        return None
+    number = number_of(words[2] if words[0] == "move" else words[1])
+    return None if number is None else layout.place(number)
+
+
+def short_place(place: Place) -> str:
+    """A device line's label within its lane."""
+    words = place.name.split(" ")
+    if place.part == TAGS:
+        return f"of {words[-3]}-{words[-1]}"
+    if place.part == COUNTERS:
+        return f"page {words[-1]}"
+    if place.part == SHADOWS:
+        return f"{'counters' if words[-2] == 'counter' else 'nodes'} {words[1]}"
+    return words[-1]
+
+
+class Lanes:
+    """The lanes from the top down, and in each of them a row for each device line that the trace changes."""
+
+    def __init__(self, places: Sequence[Place]) -> None:
+        self.rows: Dict[int, float] = {}
+        self.labels: List[Tuple[float, str]] = []
+        self.bounds: List[Tuple[str, float, float]] = []
+        self.bottom = 0.0
+        self.chip = self.add_lane(CHIP, [])
+        for part in PARTS:
+            self.add_lane(part, sorted({place.line: place for place in places if place.part == part}.values(),
+                                       key=lambda place: place.line))
+
+    def add_lane(self, part: str, places: Sequence[Place]) -> float:
+        """Adds a lane below the others, and answers the height of its first row."""
+        count = max(1, len(places))
+        pitch = min(1.0, MOST_ROWS / count)
+        top = self.bottom
+        every = -(-count // MOST_ROWS)
+        for number, place in enumerate(places):
+            height = top - 0.7 - number * pitch
+            self.rows[place.line] = height
+            if number % every == 0:
+                self.labels.append((height, short_place(place)))
+        self.bottom = top - 0.4 - count * pitch
+        self.bounds.append((part, top, self.bottom))
+        return top - 0.7
+
+    def height_of(self, step: Step) -> float:
+        """The row of a step."""
+        return self.chip if step.place is None else self.rows[step.place.line]
+
+
+def verdict(entry: Traced) -> Tuple[str, str]:
+    """A command's verdict in a word or two, and its colour. Nothing where all is well."""
+    answer = entry.reply.answer
+    words = answer.split(" ")
+    if entry.reply.is_exhibit:
+        return f"exhibit: {words[0]}", PURPLE
+    if words[0] == "cut":
+        word = words[1] if len(words) > 2 else "cut"
+        return ("kept", BLUE) if word == "kept" else (word, VERMILION)
+    if "refused" in words:
+        place = words[words.index("refused") + 1:]
+        return "refused " + (place[0] if place[0] == "root" else " ".join(place[:2])), VERMILION
+    if words[0] == "spent" or words[0] in ("full", "range", "none"):
+        return words[0], VERMILION
+    if words[0] in ("off", "empty", "idle", "clean", "already"):
+        return words[0] if words[0] != entry.command.word else "", DARK_GREY
+    return "", BLACK
+
+
+def is_notable(entry: Traced) -> bool:
+    """Whether a command is named also in a long picture."""
+    return (entry.command.word in (*TAMPERING_WORDS, "on", "off") or entry.reply.is_cut
+            or verdict(entry)[1] in (VERMILION, PURPLE))
+
+
+def draw_lanes(axes: Any, lanes: Lanes, end: float, name_offset: float) -> None:
+    """The lanes with their names, so far to the left, and their rows' labels."""
+    for number, (part, top, bottom) in enumerate(lanes.bounds):
+        axes.axhspan(bottom, top, color=PALE if number % 2 == 0 else "white", zorder=0, linewidth=0)
+        axes.text(-name_offset, (top + bottom) / 2, part, transform=axes.get_yaxis_transform(),
+                  ha="left", va="center", fontsize=9, fontweight="bold")
+    for height in lanes.rows.values():
+        axes.plot([0, end], [height, height], color=GREY, linewidth=0.5, zorder=1)
+    axes.set_yticks([height for height, _ in lanes.labels])
+    axes.set_yticklabels([label for _, label in lanes.labels], fontsize=7.5)
+    axes.tick_params(axis="y", length=0)
+
+
+def draw_power(axes: Any, spans: Sequence[Span], top: float, bottom: float) -> List[str]:
+    """The times without power, the recoveries, and the cuts; answers which of them there are."""
+    drawn = []
+    off_since: Optional[float] = None
+    for span in spans:
+        word, reply = span.traced.command.word, span.traced.reply
+        if word == "on" and reply.answer != "already":
+            if off_since is not None:
+                axes.axvspan(off_since, span.start, color=GREY, zorder=0.5, linewidth=0)
+                drawn.append("off")
+            axes.axvspan(span.start, span.end, color=YELLOW, zorder=0.6, linewidth=0)
+            drawn.append("recovery")
+            off_since = None if first_word(reply.answer) == "on" else span.end
+        elif word == "off" and reply.answer == "ok":
+            off_since = span.middle
+        if reply.is_cut:
+            axes.plot([span.end, span.end], [bottom, top], color=VERMILION, linestyle="--", linewidth=1.4, zorder=2)
+            drawn.append("cut")
+            off_since = span.end
+    if off_since is not None and spans:
+        axes.axvspan(off_since, spans[-1].end, color=GREY, zorder=0.5, linewidth=0)
+        drawn.append("off")
+    return drawn
+
+
+def draw_marks(axes: Any, spans: Sequence[Span], lanes: Lanes, size: float) -> List[str]:
+    """A mark for each persist step; answers the parts that have one, and `again` for bytes written again."""
+    drawn = []
+    for part, (marker, colour, _) in MARKS.items():
+        for again in (False, True):
+            points = [(span.step_at(number), lanes.height_of(step)) for span in spans
+                      for number, step in enumerate(span.traced.steps)
+                      if step.kind != UNSEEN and step.part == part and step.again == again
+                      and (step.place is not None or part == CHIP) and not (part == CHIP and step.again)]
+            if points:
+                axes.scatter(*zip(*points), marker=marker, s=size, facecolor="white" if again else colour,
+                             edgecolor=colour if again else "white", linewidth=1.2 if again else 0.4, zorder=3)
+                drawn.append("again" if again else part)
+    return drawn
+
+
+def draw_tampering(axes: Any, spans: Sequence[Span], lanes: Lanes, layout: Layout, size: float) -> bool:
+    """A cross where the attacker changes a device line."""
+    points = []
+    for span in spans:
+        place = tampered_place(span.traced, layout)
+        if place is not None:
+            points.append((span.middle, lanes.rows[place.line]))
+    if points:
+        axes.scatter(*zip(*points), marker="x", s=size * 1.6, color=VERMILION, linewidth=2, zorder=4)
+    return bool(points)
+
+
+def labels_of(spans: Sequence[Span]) -> List[Tuple[Span, str, str]]:
+    """The commands that are named over the lanes, with their verdicts and colours."""
+    named = []
+    for span in spans:
+        if len(spans) <= MOST_LABELS or is_notable(span.traced):
+            word, colour = verdict(span.traced)
+            named.append((span, command_label(span.traced) + (f": {word}" if word else ""), colour))
+    return named
+
+
+def draw_commands(axes: Any, spans: Sequence[Span], top: float) -> None:
+    """The commands and their verdicts over the lanes."""
+    for span, text, colour in labels_of(spans):
+        axes.text(span.middle, top + 0.25, text, rotation=90, ha="center", va="bottom", fontsize=7.5, color=colour,
+                  fontweight="bold" if colour in (VERMILION, PURPLE, BLUE) else "normal", clip_on=False)
+    for span in spans:
+        if span.traced.steps:
+            axes.plot([span.start + 0.1, span.end - 0.1], [top + 0.1, top + 0.1], color=BLACK, linewidth=1.2,
+                      clip_on=False, zorder=3)
+
+
+def command_label(entry: Traced) -> str:
+    """A command without its bytes."""
+    words = entry.command.words
+    if words[0] in ("post", "part"):
+        return " ".join(words[:3])
+    return " ".join(words[:2] if words[0] == "poke" else words)
+
+
+def draw_axis(axes: Any, spans: Sequence[Span], width: float) -> None:
+    """The numbers of the steps along the bottom."""
+    places = [(step.number, span.step_at(number)) for span in spans for number, step in enumerate(span.traced.steps)]
+    most = max(4, int(width * 2.5))
+    stride = next(stride for stride in (1, 2, 5, 10, 20, 50, 100, 200, 500, 1000, 10 ** 9)
+                  if len(places) / stride <= most)
+    ticks = [(number, place) for number, place in places if stride == 1 or number % stride == 0]
+    axes.set_xticks([place for _, place in ticks])
+    axes.set_xticklabels([str(number) for number, _ in ticks], fontsize=7.5)
+    axes.set_xlabel("persist steps")
+
+
+def legend_handles(pyplot: Any, drawn: Sequence[str], tampered: bool) -> List[Any]:
+    """The legend's entries for what was drawn."""
+    from matplotlib.lines import Line2D
+    from matplotlib.patches import Patch
+    handles: List[Any] = []
+    for part, (marker, colour, text) in MARKS.items():
+        if part in drawn:
+            handles.append(Line2D([], [], marker=marker, color=colour, linestyle="", label=text))
+    if "again" in drawn:
+        handles.append(Line2D([], [], marker="o", markerfacecolor="white", markeredgecolor=BLACK, linestyle="",
+                              label="the same bytes written again"))
+    if tampered:
+        handles.append(Line2D([], [], marker="x", color=VERMILION, linestyle="", markeredgewidth=2,
+                              label="the attacker changes the line"))
+    if "cut" in drawn:
+        handles.append(Line2D([], [], color=VERMILION, linestyle="--", label="power is cut"))
+    if "off" in drawn:
+        handles.append(Patch(color=GREY, label="power is off"))
+    if "recovery" in drawn:
+        handles.append(Patch(color=YELLOW, label="recovery"))
+    return handles
+
+
+def changed_places(spans: Sequence[Span], layout: Layout) -> List[Place]:
+    """The device lines that the steps or the attacker change."""
+    places = [step.place for span in spans for step in span.traced.steps if step.place is not None]
+    tampered = [tampered_place(span.traced, layout) for span in spans]
+    return [*places, *(place for place in tampered if place is not None)]
+
+
+def timeline(traced: Sequence[Traced], layout: Layout, title: str, kind: str) -> bytes:
+    """The picture of a trace."""
+    pyplot = load_matplotlib()
+    spans = spans_of(traced)
+    end = spans[-1].end if spans else 1.0
+    lanes = Lanes(changed_places(spans, layout))
+    width = min(60.0, max(8.5, 2.0 + 0.15 * end))
+    top = 0.5 + 0.071 * max((len(text) for _, text, _ in labels_of(spans)), default=0)
+    height = top + BOTTOM + 0.21 * -lanes.bottom
+    figure, axes = pyplot.subplots(figsize=(width, height))
+    size = min(42.0, max(6.0, 42.0 * (width - 2.0) / (0.15 * max(end, 1.0))))
+    draw_lanes(axes, lanes, end, (LEFT - 0.15) / (width - LEFT - RIGHT))
+    drawn = [*draw_power(axes, spans, 0.0, lanes.bottom), *draw_marks(axes, spans, lanes, size)]
+    tampered = draw_tampering(axes, spans, lanes, layout, size)
+    draw_commands(axes, spans, 0.0)
+    draw_axis(axes, spans, width)
+    axes.set_xlim(-GAP, end + GAP)
+    axes.set_ylim(lanes.bottom, 0.0)
+    axes.spines["left"].set_visible(False)
+    figure.subplots_adjust(left=LEFT / width, right=1 - RIGHT / width, top=1 - top / height, bottom=BOTTOM / height)
+    figure.suptitle(title.replace("$", r"\$"), x=0.15 / width, y=1 - 0.1 / height, ha="left", va="top", fontsize=10.5,
+                    fontweight="bold")
+    handles = legend_handles(pyplot, drawn, tampered)
+    if handles:
+        figure.legend(handles=handles, loc="lower center", ncol=min(len(handles), max(4, int(width / 2.1))),
+                      frameon=False, fontsize=8)
+    return picture(pyplot, figure, kind)
+
+
+def varied(records: Sequence[Dict[str, Any]]) -> List[str]:
+    """The numbers that have several values in a sweep."""
+    return [name for name in NUMBERS if len({record[name] for record in records}) > 1]
+
+
+def chosen_number(records: Sequence[Dict[str, Any]], along: Optional[str]) -> str:
+    """The number that goes along the curves: the one chosen, else that with most values."""
+    return along or max(NUMBERS, key=lambda name: len({record[name] for record in records}))
+
+
+def groups_of(records: Sequence[Dict[str, Any]], along: str) -> List[Tuple[str, List[Dict[str, Any]]]]:
+    """The records of each curve, with the curve's label."""
+    others = [name for name in varied(records) if name != along]
+    groups: Dict[Tuple[int, ...], List[Dict[str, Any]]] = {}
+    for record in records:
+        groups.setdefault(tuple(record[name] for name in others), []).append(record)
+    return [(", ".join(f"{name} {value}" for name, value in zip(others, values)), sorted(group, key=lambda r: r[along]))
+            for values, group in groups.items()]
+
+
+def curve_style(number: int, count: int) -> Dict[str, Any]:
+    """How a curve looks. Earlier ones are thicker, so that they show under later ones with the same points."""
+    colour, marker = CURVES[number % len(CURVES)]
+    thick = 1 - number / max(1, count - 1)
+    return {"color": colour, "marker": marker, "markersize": 4.5 + 5 * thick, "linewidth": 1.2 + 2.6 * thick,
+            "linestyle": LINE_STYLES[number // len(CURVES) % len(LINE_STYLES)]}
+
+
+def draw_panel(axes: Any, name: str, title: str, groups: Sequence[Tuple[str, List[Dict[str, Any]]]], along: str,
+               values: Sequence[int]) -> None:
+    """The curves of one measure."""
+    highest = None
+    for number, (_, group) in enumerate(groups):
+        points = [(values.index(record[along]), record[name]) for record in group if record[name] is not None]
+        if points:
+            highest = max(highest or 0, *(value for _, value in points))
+            axes.plot(*zip(*points), **curve_style(number, len(groups)))
+    axes.set_title(title, fontsize=9, loc="left")
+    axes.set_xticks(range(len(values)))
+    axes.set_xticklabels([str(value) for value in values], fontsize=8)
+    axes.set_xlim(-0.25, len(values) - 0.75)
+    if highest is not None:
+        axes.set_ylim(0, 1.1 * highest or 1)
+        axes.grid(axis="y", color=GREY, linewidth=0.6)
+    else:
+        axes.set_yticks([])
+        axes.text(0.5, 0.5, "none", transform=axes.transAxes, ha="center", va="center", color=DARK_GREY)
+
+
+def curves(records: Sequence[Dict[str, Any]], title: str, along: Optional[str], kind: str) -> bytes:
+    """The picture of a sweep."""
+    from_names = chosen_number(records, along)
+    pyplot = load_matplotlib()
+    groups = groups_of(records, from_names)
+    values = sorted({record[from_names] for record in records})
+    labelled = len(groups) > 1
+    legend_rows = -(-len(groups) // 4) if labelled else 0
+    height = 7.2 + 0.22 * legend_rows
+    figure, panels = pyplot.subplots(3, 3, figsize=(9.5, height))
+    for axes, (name, text) in zip(panels.flat, PANELS):
+        draw_panel(axes, name, text, groups, from_names, values)
+    for axes in panels[-1]:
+        axes.set_xlabel(label_of(from_names))
+    figure.suptitle(title_of(records, title).replace("$", r"\$"), x=0.02, y=0.985, ha="left", fontsize=10.5,
+                    fontweight="bold")
+    figure.tight_layout(rect=(0, (0.25 * legend_rows + (0.1 if labelled else 0)) / height, 1, 0.97))
+    if labelled:
+        from matplotlib.lines import Line2D
+        handles = [Line2D([], [], label=label, **curve_style(number, len(groups)))
+                   for number, (label, _) in enumerate(groups)]
+        figure.legend(handles=handles, loc="lower center", ncol=min(4, len(groups)), frameon=False, fontsize=8)
+    return picture(pyplot, figure, kind)
+
+
+def label_of(name: str) -> str:
+    """The name of a number along the axis."""
+    return "stop-loss number" if name == "loss" else name
+
+
+def title_of(records: Sequence[Dict[str, Any]], title: str) -> str:
+    """The title, with the numbers that don't vary."""
+    fixed = [f"{label_of(name)} {records[0][name]}" for name in NUMBERS if name not in varied(records)]
+    return title + (f" ({', '.join(fixed)})" if fixed else "")
