@@ -349,7 +349,7 @@ def timeline(traced: Sequence[Traced], layout: Layout, title: str, kind: str) ->
     width = min(WIDEST, max(NARROWEST, LEFT + RIGHT + UNIT * end))
     unit = (width - LEFT - RIGHT) / (end + 1)
     labels = labels_of(spans, unit)
-    top = 0.5 + 0.071 * max((len(text) for _, text, _ in labels), default=0)
+    top = 0.45 + 0.066 * max((len(text) for _, text, _ in labels), default=0)
     height = top + BOTTOM + 0.21 * -lanes.bottom
     figure, axes = pyplot.subplots(figsize=(width, height))
     size = min(42.0, max(9.0, 42.0 * unit / UNIT))
