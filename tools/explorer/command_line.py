@@ -4,7 +4,7 @@ import json
 import os
 import re
 import sys
-from typing import Any, Callable, Dict, List, NoReturn, Optional, Sequence, Tuple
+from typing import Any, Callable, Dict, List, NoReturn, Sequence, Tuple
 
 from . import cuts, draw, importing, settings, steps, sweep
 from .errors import DONE, FAILURE, INTERRUPTED, WRONG_WORDS, ExploreError, reason_of

@@ -3,7 +3,7 @@ from dataclasses import dataclass, field
 from typing import Any, Dict, List, Optional, Sequence, Tuple
 
 from .errors import ExploreError
-from .layout import DATA, LINES_OF_PAGE, TAGS, Layout
+from .layout import DATA, TAGS, Layout
 from .output import json_text, table_text
 from .program import Recording, Reply, first_word
 from .steps import StepFinder, mentioned_lines, stepping_indexes, tampered_lines
@@ -12,6 +12,7 @@ from .trace import Command, short_text
 
 NO_CUT = b"cut 18446744073709551615"
 PORTS = 8
+MOST_NAMED = 8
 
 Readings = Dict[int, str]
 
@@ -43,7 +44,7 @@ class Other:
     @property
     def text(self) -> str:
         """The line's number, with the refusal where there is one."""
-        return str(self.line) if self.after.startswith("line ") else f"{self.line} ({self.after})"
+        return str(self.line) if self.after.startswith("line ") else f"{self.line} ({short_text(self.after)})"
 
 
 @dataclass(frozen=True)
@@ -63,7 +64,9 @@ class Cut:
     @property
     def others_text(self) -> str:
         """The lines that read otherwise."""
-        texts = [other.text for other in self.others]
+        texts = [other.text for other in self.others[:MOST_NAMED]]
+        if len(self.others) > MOST_NAMED:
+            texts.append(f"and {len(self.others) - MOST_NAMED} more")
         if self.unread:
             texts.append(f"{len(self.unread)} can't be read")
         return ", ".join(texts) or "none"
@@ -104,8 +107,8 @@ class CutFinder:
         return [b"read %d %d" % (port, line) for line in self.lines]
 
     def readings(self, replies: Sequence[Reply]) -> Readings:
-        """What the lines read as; lines after an exhibit are missing."""
-        return {line: reading_of(reply) for line, reply in zip(self.lines, replies) if not reply.is_exhibit}
+        """What the lines read as; those after an exhibit, which ends the run, are missing."""
+        return {line: reading_of(reply) for line, reply in zip(self.lines, replies)}
 
     def readings_before(self, index: int) -> Readings:
         """What the lines read as before a command (before a recovery: after it, where it isn't cut)."""

@@ -1,7 +1,7 @@
 """Pictures of a trace's persist steps, and of a sweep's curves. Only this needs matplotlib."""
 import io
 from dataclasses import dataclass
-from typing import Any, Dict, List, Optional, Sequence, Tuple
+from typing import Any, Dict, List, Optional, Sequence, Set, Tuple
 
 from .errors import WRONG_WORDS, ExploreError
 from .layout import CHIP, COUNTERS, DATA, NODES, PARTS, SHADOWS, TAGS, Layout, Place
@@ -24,10 +24,11 @@ MARKS: Dict[str, Tuple[str, str, str]] = {
     SHADOWS: ("P", PURPLE, "shadow line written"),
 }
 
-MOST_ROWS = 12
-MOST_LABELS = 110
-IDLE_WIDTH = 1.0
-GAP = 0.5
+MOST_ROWS = 8
+WIDE, DENSE = (1.0, 0.5), (0.3, 0.25)
+UNIT = 0.15
+NARROWEST, WIDEST = 8.5, 16.0
+BETWEEN_LABELS = 0.12
 LEFT, RIGHT, BOTTOM = 1.95, 0.15, 0.95
 KINDS = ("svg", "png")
 
@@ -103,11 +104,19 @@ class Span:
 
 def spans_of(traced: Sequence[Traced]) -> List[Span]:
     """The commands one after the other: one unit a step, some for a command without steps."""
+    spans = placed_spans(traced, *WIDE)
+    if spans and LEFT + RIGHT + UNIT * spans[-1].end > WIDEST:
+        spans = placed_spans(traced, *DENSE)
+    return spans
+
+
+def placed_spans(traced: Sequence[Traced], idle: float, gap: float) -> List[Span]:
+    """The same with these widths of a command without steps and of the gaps between."""
     spans, position = [], 0.0
     for entry in traced:
-        width = max(float(len(entry.steps)), IDLE_WIDTH)
+        width = max(float(len(entry.steps)), idle)
         spans.append(Span(entry, position, width))
-        position += width + GAP
+        position += width + gap
     return spans
 
 
@@ -256,19 +265,23 @@ def draw_tampering(axes: Any, spans: Sequence[Span], lanes: Lanes, layout: Layou
     return bool(points)
 
 
-def labels_of(spans: Sequence[Span]) -> List[Tuple[Span, str, str]]:
-    """The commands that are named over the lanes, with their verdicts and colours."""
-    named = []
-    for span in spans:
-        if len(spans) <= MOST_LABELS or is_notable(span.traced):
+def labels_of(spans: Sequence[Span], unit: float) -> List[Tuple[Span, str, str]]:
+    """The commands that are named over the lanes, with their verdicts and colours: those that matter most first,
+    and of the others those for which there is room. `unit` is the width of a step."""
+    named: List[Tuple[Span, str, str]] = []
+    taken: Set[int] = set()
+    for span in sorted(spans, key=lambda span: (not is_notable(span.traced), not span.traced.steps)):
+        slot = int(span.middle * unit / BETWEEN_LABELS)
+        if not taken & {slot - 1, slot, slot + 1} or not taken & {slot} and unit >= UNIT:
+            taken.add(slot)
             word, colour = verdict(span.traced)
             named.append((span, command_label(span.traced) + (f": {word}" if word else ""), colour))
     return named
 
 
-def draw_commands(axes: Any, spans: Sequence[Span], top: float) -> None:
+def draw_commands(axes: Any, spans: Sequence[Span], labels: Sequence[Tuple[Span, str, str]], top: float) -> None:
     """The commands and their verdicts over the lanes."""
-    for span, text, colour in labels_of(spans):
+    for span, text, colour in labels:
         axes.text(span.middle, top + 0.25, text, rotation=90, ha="center", va="bottom", fontsize=7.5, color=colour,
                   fontweight="bold" if colour in (VERMILION, PURPLE, BLUE) else "normal", clip_on=False)
     for span in spans:
@@ -297,7 +310,7 @@ def draw_axis(axes: Any, spans: Sequence[Span], width: float) -> None:
     axes.set_xlabel("persist steps")
 
 
-def legend_handles(pyplot: Any, drawn: Sequence[str], tampered: bool) -> List[Any]:
+def legend_handles(drawn: Sequence[str], tampered: bool) -> List[Any]:
     """The legend's entries for what was drawn."""
     from matplotlib.lines import Line2D
     from matplotlib.patches import Patch
@@ -333,23 +346,25 @@ def timeline(traced: Sequence[Traced], layout: Layout, title: str, kind: str) ->
     spans = spans_of(traced)
     end = spans[-1].end if spans else 1.0
     lanes = Lanes(changed_places(spans, layout))
-    width = min(60.0, max(8.5, 2.0 + 0.15 * end))
-    top = 0.5 + 0.071 * max((len(text) for _, text, _ in labels_of(spans)), default=0)
+    width = min(WIDEST, max(NARROWEST, LEFT + RIGHT + UNIT * end))
+    unit = (width - LEFT - RIGHT) / (end + 1)
+    labels = labels_of(spans, unit)
+    top = 0.45 + 0.066 * max((len(text) for _, text, _ in labels), default=0)
     height = top + BOTTOM + 0.21 * -lanes.bottom
     figure, axes = pyplot.subplots(figsize=(width, height))
-    size = min(42.0, max(6.0, 42.0 * (width - 2.0) / (0.15 * max(end, 1.0))))
+    size = min(42.0, max(9.0, 42.0 * unit / UNIT))
     draw_lanes(axes, lanes, end, (LEFT - 0.15) / (width - LEFT - RIGHT))
     drawn = [*draw_power(axes, spans, 0.0, lanes.bottom), *draw_marks(axes, spans, lanes, size)]
     tampered = draw_tampering(axes, spans, lanes, layout, size)
-    draw_commands(axes, spans, 0.0)
+    draw_commands(axes, spans, labels, 0.0)
     draw_axis(axes, spans, width)
-    axes.set_xlim(-GAP, end + GAP)
+    axes.set_xlim(-0.5, end + 0.5)
     axes.set_ylim(lanes.bottom, 0.0)
     axes.spines["left"].set_visible(False)
     figure.subplots_adjust(left=LEFT / width, right=1 - RIGHT / width, top=1 - top / height, bottom=BOTTOM / height)
     figure.suptitle(title.replace("$", r"\$"), x=0.15 / width, y=1 - 0.1 / height, ha="left", va="top", fontsize=10.5,
                     fontweight="bold")
-    handles = legend_handles(pyplot, drawn, tampered)
+    handles = legend_handles(drawn, tampered)
     if handles:
         figure.legend(handles=handles, loc="lower center", ncol=min(len(handles), max(4, int(width / 2.1))),
                       frameon=False, fontsize=8)

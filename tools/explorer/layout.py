@@ -53,7 +53,8 @@ class Layout:
             page = line - self.first_meta - self.nodes
             return Place(line, COUNTERS, f"counter block of page {page}")
         if line < self.first_node_shadow:
-            return Place(line, SHADOWS, f"line {line - self.first_counter_shadow} of the shadow table of counter blocks")
+            number = line - self.first_counter_shadow
+            return Place(line, SHADOWS, f"line {number} of the shadow table of counter blocks")
         return Place(line, SHADOWS, f"line {line - self.first_node_shadow} of the shadow table of tree nodes")
 
     def tag_line(self, data_line: int) -> int:

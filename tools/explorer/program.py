@@ -1,12 +1,13 @@
 """Running the program and reading what it answers."""
 import os
+import signal
 import subprocess
 import threading
 from dataclasses import dataclass
 from pathlib import Path
 from typing import Dict, List, Optional, Sequence, Set, Tuple
 
-from .errors import WRONG_WORDS, ExploreError, reason_of
+from .errors import INTERRUPTED, WRONG_WORDS, ExploreError, reason_of
 from .settings import Settings
 from .trace import STEPPING_WORDS, Trace, short_text
 
@@ -171,6 +172,8 @@ class Program:
         """Tells what is wrong where a run didn't answer to its end."""
         if status in (0, STATUS_EXHIBIT):
             return
+        if status in (-signal.SIGINT, INTERRUPTED):
+            raise KeyboardInterrupt
         last = data.decode("ascii", "replace").rstrip("\n").rsplit("\n", 1)[-1]
         words = last.split(" ")
         if status == 1 and last == "stop memory":
@@ -180,7 +183,7 @@ class Program:
         if status == 5 and words[:2] == ["stop", "line"] and len(words) == 4:
             raise StopLine(int(words[2]), words[3])
         if status == 7:
-            raise ExploreError("a trace has more than 1,000,000 lines (with what is asked after it, where that is much)")
+            raise ExploreError("a trace has more than 1,000,000 lines, with what is asked after it")
         if status < 0:
             raise ExploreError(f"the program {self.path} was ended by signal {-status}")
         raise ExploreError(f"the program {self.path} ended with status {status}"

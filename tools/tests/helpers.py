@@ -19,6 +19,11 @@ FORGED = "flip 5 0\nflip 5 8\nread 0 5\n"
 TWIN = f"post 0 0 {ONES}\ncut 5\ndrain 0\non\n"
 
 
+def program_path() -> str:
+    """The program that the tests ask."""
+    return os.environ.get("PMEM_PROGRAM") or str(TOOLS.parent / "pmem")
+
+
 class ExploreTest(unittest.TestCase):
     """A test with a directory of its own."""
 

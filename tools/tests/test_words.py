@@ -2,20 +2,25 @@
 import os
 import pty
 import re
+import shutil
 import signal
 import subprocess
 import sys
 import time
 from pathlib import Path
+from typing import Callable
 
-from .helpers import EXPLORE, ONES, WRITE, ExploreTest
+from .helpers import EXPLORE, ONES, WRITE, ExploreTest, program_path
 
 COMMANDS = ("steps", "cuts", "sweep", "draw", "import lackey", "import csv")
 
 SLOW_PROGRAM = """
 import os, sys, time
-with open(os.path.join(os.path.dirname(os.path.abspath(__file__)), "started"), "w") as file:
-    file.write(str(os.getpid()))
+here = os.path.dirname(os.path.abspath(__file__))
+runs = len(os.listdir(os.path.join(here, "runs")))
+open(os.path.join(here, "runs", str(os.getpid())), "w").close()
+if runs < {quick}:
+    os.execv({program!r}, [{program!r}, *sys.argv[1:]])
 time.sleep(60)
 """
 
@@ -116,31 +121,39 @@ class ProgramsTest(ExploreTest):
 
 
 class InterruptsTest(ExploreTest):
-    def interrupted(self, *words: str) -> "subprocess.CompletedProcess[str]":
-        """A command that is interrupted once its first run is under way."""
-        program = self.script("slow", SLOW_PROGRAM)
-        started = self.directory / "started"
-        if started.exists():
-            started.unlink()
-        trace = self.file("a.trace", WRITE)
-        words = tuple(trace if word == "TRACE" else word for word in words)
+    def interrupted(self, quick: int, *words: str) -> "subprocess.CompletedProcess[str]":
+        """A command that is interrupted once a run is under way that doesn't end, after some quick ones."""
+        runs = self.directory / "runs"
+        runs.mkdir()
+        program = self.script("slow", SLOW_PROGRAM.format(quick=quick, program=program_path()))
         process = subprocess.Popen([sys.executable, str(EXPLORE), *words, "--program", program],
                                    stdout=subprocess.PIPE, stderr=subprocess.PIPE, universal_newlines=True)
-        for _ in range(200):
-            if started.exists() and started.read_text():
-                break
-            time.sleep(0.05)
+        self.wait_until(lambda: len(os.listdir(runs)) > quick)
         process.send_signal(signal.SIGINT)
         out, err = process.communicate(timeout=20)
-        self.assertFalse(is_running(int(started.read_text())))
+        self.assertFalse(any(is_running(int(name)) for name in os.listdir(runs)))
+        shutil.rmtree(runs)
         return subprocess.CompletedProcess(words, process.returncode, out, err)
 
+    def wait_until(self, condition: Callable[[], bool]) -> None:
+        """Waits for something that comes soon."""
+        end = time.monotonic() + 60
+        while not condition():
+            self.assertLess(time.monotonic(), end)
+            time.sleep(0.05)
+
     def test_no_half_file_is_left(self) -> None:
-        for command in ("steps", "cuts", "sweep"):
-            with self.subTest(command):
-                result = self.interrupted(command, "TRACE", "-o", self.path("out.txt"))
+        trace = self.file("a.trace", WRITE)
+        for command, quick in (("steps", 0), ("steps", 3), ("cuts", 2), ("sweep", 1)):
+            with self.subTest((command, quick)):
+                result = self.interrupted(quick, command, trace, "-o", self.path("out.txt"))
                 self.assertEqual((result.returncode, result.stdout, result.stderr), (130, "", "explore: interrupted\n"))
-                self.assertEqual(self.names(), ["a.trace", "slow", "started"])
+                self.assertEqual(self.names(), ["a.trace", "slow"])
+
+    def test_a_program_that_was_interrupted(self) -> None:
+        program = self.script("interrupted", "import os; os.kill(os.getpid(), 2)")
+        result = self.explore("steps", "-", "--program", program, text=WRITE)
+        self.assertEqual((result.returncode, result.stdout), (130, ""))
 
     def test_progress_on_a_terminal_alone(self) -> None:
         trace = self.file("a.trace", WRITE)
