@@ -48,8 +48,8 @@ SWEEP_HELP = """\
 Runs the trace under each combination of the numbers given (several with commas between) and
 prints a row of each. Writes are those that a drain or a fence has put.
   steps a write    persist steps of drains and fences
-  writes a write   device lines written by commands that were done, recoveries aside
-                   (write amplification)
+  lines a write    device lines written by commands that were done, recoveries aside:
+                   the write amplification
   meta reads       metadata lines read by drains and fences for a write, by reads for a read
   digests          digests made by them
   recovery         what `on` answers after power goes off at the trace's end
