@@ -48,8 +48,8 @@ SWEEP_HELP = """\
 Runs the trace under each combination of the numbers given (several with commas between) and
 prints a row of each. Writes are those that a drain or a fence has put.
   steps a write    persist steps of drains and fences
-  writes a write   device lines written by commands that were done, recoveries aside
-                   (write amplification)
+  lines a write    device lines written by commands that were done, recoveries aside:
+                   the write amplification
   meta reads       metadata lines read by drains and fences for a write, by reads for a read
   digests          digests made by them
   recovery         what `on` answers after power goes off at the trace's end
@@ -170,7 +170,7 @@ def add_trace(parser: argparse.ArgumentParser, what: str = "a trace (docs/FORMAT
 
 def add_output(parser: argparse.ArgumentParser) -> None:
     """The option that names the output."""
-    parser.add_argument("-o", "--output", metavar="FILE", help="write to this file (default: standard output)")
+    parser.add_argument("-o", "--output", metavar="FILE", help="write to this file, whole or not at all (default: standard output)")
 
 
 def add_lines(parser: argparse.ArgumentParser) -> None:
@@ -192,7 +192,7 @@ def add_settings(parser: argparse.ArgumentParser, several: bool) -> None:
     read: Callable[[Sequence[int]], Callable[[str], Any]] = numbers_in if several else number_in
     group = parser.add_argument_group("options of run" + (", several numbers with commas between" if several else ""))
     default = Settings()
-    for name, values, what in (("levels", settings.LEVELS, "levels of tree nodes: 4^LEVELS pages of 64 lines"),
+    for name, values, what in (("levels", settings.LEVELS, "levels of tree nodes, for 4^LEVELS pages of 64 lines"),
                                ("sets", settings.SETS, "sets of each bank of the metadata cache"),
                                ("ways", settings.WAYS, "ways of each set"),
                                ("loss", settings.LOSSES, "the stop-loss number")):

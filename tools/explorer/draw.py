@@ -179,7 +179,7 @@ def verdict(entry: Traced) -> Tuple[str, str]:
     answer = entry.reply.answer
     words = answer.split(" ")
     if entry.reply.is_exhibit:
-        return f"exhibit: {words[0]}", PURPLE
+        return f"exhibit: {words[0]}", VERMILION
     if words[0] == "cut":
         word = words[1] if len(words) > 2 else "cut"
         return ("kept", BLUE) if word == "kept" else (word, VERMILION)
@@ -196,7 +196,7 @@ def verdict(entry: Traced) -> Tuple[str, str]:
 def is_notable(entry: Traced) -> bool:
     """Whether a command is named also in a long picture."""
     return (entry.command.word in (*TAMPERING_WORDS, "on", "off") or entry.reply.is_cut
-            or verdict(entry)[1] in (VERMILION, PURPLE))
+            or verdict(entry)[1] == VERMILION)
 
 
 def draw_lanes(axes: Any, lanes: Lanes, end: float, name_offset: float) -> None:
@@ -250,6 +250,11 @@ def draw_marks(axes: Any, spans: Sequence[Span], lanes: Lanes, size: float) -> L
                 axes.scatter(*zip(*points), marker=marker, s=size, facecolor="white" if again else colour,
                              edgecolor=colour if again else "white", linewidth=1.2 if again else 0.4, zorder=3)
                 drawn.append("again" if again else part)
+    unseen = [span.step_at(number) for span in spans for number, step in enumerate(span.traced.steps)
+              if step.kind == UNSEEN]
+    if unseen:
+        axes.scatter(unseen, [lanes.chip] * len(unseen), marker="$?$", s=size, color=DARK_GREY, zorder=3)
+        drawn.append(UNSEEN)
     return drawn
 
 
@@ -283,7 +288,7 @@ def draw_commands(axes: Any, spans: Sequence[Span], labels: Sequence[Tuple[Span,
     """The commands and their verdicts over the lanes."""
     for span, text, colour in labels:
         axes.text(span.middle, top + 0.25, text, rotation=90, ha="center", va="bottom", fontsize=7.5, color=colour,
-                  fontweight="bold" if colour in (VERMILION, PURPLE, BLUE) else "normal", clip_on=False)
+                  fontweight="bold" if colour in (VERMILION, BLUE) else "normal", clip_on=False)
     for span in spans:
         if span.traced.steps:
             axes.plot([span.start + 0.1, span.end - 0.1], [top + 0.1, top + 0.1], color=BLACK, linewidth=1.2,
@@ -321,6 +326,8 @@ def legend_handles(drawn: Sequence[str], tampered: bool) -> List[Any]:
     if "again" in drawn:
         handles.append(Line2D([], [], marker="o", markerfacecolor="white", markeredgecolor=BLACK, linestyle="",
                               label="the same bytes written again"))
+    if UNSEEN in drawn:
+        handles.append(Line2D([], [], marker="$?$", color=DARK_GREY, linestyle="", label="can't be seen"))
     if tampered:
         handles.append(Line2D([], [], marker="x", color=VERMILION, linestyle="", markeredgewidth=2,
                               label="the attacker changes the line"))

@@ -11,17 +11,22 @@ from .errors import ExploreError, reason_of
 
 
 def write_file(name: str, data: bytes) -> None:
-    """Writes a file under a name beside it first, so that it is never there by half."""
-    folder = os.path.dirname(os.path.abspath(name))
-    if os.path.isdir(name):
-        raise ExploreError(f"cannot write {name}: it is a directory")
+    """Writes a file under a name beside it first, so that it is never there by half. What is no plain file, such as
+    a terminal, is written as it stands."""
+    check_writable(name)
     part = ""
     try:
-        handle, part = tempfile.mkstemp(prefix=f".{os.path.basename(name)}.", suffix=".part", dir=folder)
+        if os.path.exists(name) and not os.path.isfile(name):
+            with open(name, "wb") as file:
+                file.write(data)
+            return
+        target = os.path.realpath(name)
+        handle, part = tempfile.mkstemp(prefix=f".{os.path.basename(target)}.", suffix=".part",
+                                        dir=os.path.dirname(target))
         with os.fdopen(handle, "wb") as file:
             file.write(data)
         os.chmod(part, 0o666 & ~current_umask())
-        os.replace(part, name)
+        os.replace(part, target)
     except OSError as error:
         remove(part)
         raise ExploreError(f"cannot write {name}: {reason_of(error)}") from error
@@ -47,9 +52,11 @@ def check_writable(name: Optional[str]) -> None:
     """Tells before long work that a file can't be written."""
     if name is None:
         return
-    folder = os.path.dirname(os.path.abspath(name))
+    folder = os.path.dirname(os.path.realpath(name))
     if os.path.isdir(name):
         raise ExploreError(f"cannot write {name}: it is a directory")
+    if os.path.exists(name) and not os.path.isfile(name):
+        return
     if not os.path.isdir(folder):
         raise ExploreError(f"cannot write {name}: there is no directory {folder}")
     if not os.access(folder, os.W_OK):

@@ -233,19 +233,19 @@ class StepFinder:
         return self.hidden_step(number, index, after)
 
     def hidden_step(self, number: int, index: int, after: int) -> Step:
-        """A line write that the likely places don't show: looked for by turning bits, and on the whole device."""
-        if self.recording.commands[index].word == "on":
-            written = self.written_again(index, after)
-            if len(written) == 1:
-                return Step(number, WRITE, self.layout.place(written[0]), True)
+        """A line write that the likely places don't show: looked for on the whole device, and where no line differs,
+        by turning bits."""
         everything = range(self.layout.size)
         states = self.together.map(lambda n: self.state_at(index, n, everything), [after - 1, after], "whole device")
         changed = changed_lines(*states)
-        return Step(number, WRITE, self.layout.place(changed[0]) if changed else None, not changed)
+        if changed:
+            return Step(number, WRITE, self.layout.place(changed[0]))
+        written = self.written_again(index, after) if self.recording.commands[index].word == "on" else []
+        return Step(number, WRITE, self.layout.place(written[0]) if len(written) == 1 else None, True)
 
     def written_again(self, index: int, after: int) -> List[int]:
-        """The likely places that a recovery writes in this step, found on a device with a bit of each turned:
-        what the step writes is whole again."""
+        """The likely places that a recovery writes in this step, found on a device with a bit of each turned: what
+        the step writes is whole again. Only its redo writes a line that is so already, and it reads none before."""
         turn = [b"flip %d 0" % place for place in self.likely]
         text = self.recording.commands[index].text
         turned, old, new = (

@@ -144,7 +144,7 @@ def cell(value: Any) -> str:
 
 def sweep_text(costs: Sequence[Cost]) -> str:
     """The sweep for people."""
-    heads = [["", "", "", "", "", "steps", "writes", "a write:", "", "a read:", "", "recovery:", "", ""],
+    heads = [["", "", "", "", "", "steps", "lines", "a write:", "", "a read:", "", "recovery:", "", ""],
              ["levels", "sets", "ways", "loss", "writes", "a write", "a write", "meta reads", "digests", "meta reads",
               "digests", "trials", "digests", "steps"]]
     names = ("levels", "sets", "ways", "loss", "writes", "steps_per_write", "write_amplification",

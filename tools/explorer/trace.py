@@ -12,20 +12,16 @@ LONGEST_WORD = 16
 
 @dataclass(frozen=True)
 class Command:
-    """A line of the trace that holds a command."""
+    """A line of the trace that holds a command; `word` is its first word."""
 
     number: int
     text: bytes
+    word: str
 
     @property
     def words(self) -> List[str]:
-        """Its words."""
+        """All its words."""
         return [word.decode("ascii", "replace") for word in words_of(self.text)]
-
-    @property
-    def word(self) -> str:
-        """Its first word."""
-        return self.words[0]
 
     @property
     def short(self) -> str:
@@ -73,7 +69,7 @@ def commands_of(data: bytes) -> List[Command]:
             line = line[:-1]
         words = words_of(line)
         if words and not words[0].startswith(b"#"):
-            commands.append(Command(number, line))
+            commands.append(Command(number, line, words[0].decode("ascii", "replace")))
     return commands
 
 

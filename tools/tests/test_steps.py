@@ -82,3 +82,9 @@ class StepsTest(ExploreTest):
         self.assertEqual([lines_of(command) for command in commands[2:6]], [[], [], [], []])
         self.assertEqual(commands[3]["answer"], "refused data 0 0")
         self.assertEqual(lines_of(commands[6]), [None, 0, 1024, None])
+
+    def test_a_line_that_the_trace_does_not_lead_to(self) -> None:
+        table = "00000003" + "00" * 60
+        commands = self.json("steps", "-", text=f"off\nflip 1282 0\npoke 1302 {table}\non\n")
+        self.assertEqual(lines_of(commands[3]), [1282, 1302])
+        self.assertEqual(commands[3]["steps"][0]["name"], "node 2")

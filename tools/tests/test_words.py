@@ -85,6 +85,13 @@ class FilesTest(ExploreTest):
         self.assertEqual(self.names(), ["steps.txt"])
         self.assertIn("7 persist steps", Path(self.path("steps.txt")).read_text())
 
+    def test_what_is_no_plain_file_is_written_as_it_stands(self) -> None:
+        self.assertIn("0 commands", self.output("steps", "-", "-o", "/dev/stdout", text=""))
+        os.symlink(self.path("there.txt"), self.path("link.txt"))
+        self.output("steps", "-", "-o", self.path("link.txt"), text="")
+        self.assertTrue(os.path.islink(self.path("link.txt")))
+        self.assertEqual(self.names(), ["link.txt", "there.txt"])
+
     def test_output_file_stays_where_the_trace_is_wrong(self) -> None:
         self.file("steps.txt", "old")
         self.assert_fails(self.explore("steps", "-", "-o", self.path("steps.txt"), text="x\n"), 1, "standard input")
