@@ -46,6 +46,7 @@ PANELS: Tuple[Tuple[str, str], ...] = (
 CURVES: Tuple[Tuple[str, str], ...] = (
     (BLUE, "o"), (ORANGE, "s"), (GREEN, "^"), (VERMILION, "D"), (SKY, "v"), (PURPLE, "P"), (BLACK, "X"),
     (DARK_GREY, "*"))
+FEW_CURVES = 8
 LINE_STYLES = ("-", "--", ":", "-.")
 
 
@@ -389,37 +390,61 @@ def chosen_number(records: Sequence[Dict[str, Any]], along: Optional[str]) -> st
     return along or max(NUMBERS, key=lambda name: len({record[name] for record in records}))
 
 
-def groups_of(records: Sequence[Dict[str, Any]], along: str) -> List[Tuple[str, List[Dict[str, Any]]]]:
-    """The records of each curve, with the curve's label."""
-    others = [name for name in varied(records) if name != along]
+@dataclass(frozen=True)
+class Curves:
+    """The curves of a sweep: one for each choice of the numbers that vary but don't go along it. The first of those
+    numbers, the one with most values, is told by the colour, the next by the mark, the last by the dashes."""
+
+    along: str
+    values: Tuple[int, ...]
+    others: Tuple[str, ...]
+    choices: Dict[str, Tuple[int, ...]]
+    groups: Tuple[Tuple[Tuple[int, ...], Tuple[Dict[str, Any], ...]], ...]
+
+    def style(self, place: int, value: int) -> Dict[str, Any]:
+        """What tells the value of the number at this place."""
+        number = self.choices[self.others[place]].index(value)
+        if place == 0:
+            colour, marker = CURVES[number % len(CURVES)]
+            return {"color": colour, "marker": marker} if len(self.others) == 1 else {"color": colour}
+        if place == 1:
+            return {"marker": CURVES[number % len(CURVES)][1]}
+        return {"linestyle": LINE_STYLES[number % len(LINE_STYLES)]}
+
+    def curve_style(self, number: int) -> Dict[str, Any]:
+        """How a curve looks. Of a few, earlier ones are thicker, so that they show under later ones with the same
+        points."""
+        style: Dict[str, Any] = {"color": BLUE, "marker": "o"}
+        for place, value in enumerate(self.groups[number][0]):
+            style.update(self.style(place, value))
+        later = min(4, len(self.groups) - 1 - number) if len(self.groups) <= FEW_CURVES else 0
+        return {**style, "markersize": 4.5 + 1.1 * later, "linewidth": 1.2 + 0.7 * later}
+
+
+def curves_of(records: Sequence[Dict[str, Any]], along: str) -> Curves:
+    """The curves of a sweep along one of its numbers."""
+    choices = {name: tuple(sorted({record[name] for record in records})) for name in NUMBERS}
+    others = tuple(sorted((name for name in varied(records) if name != along), key=lambda name: -len(choices[name])))
     groups: Dict[Tuple[int, ...], List[Dict[str, Any]]] = {}
-    for record in records:
+    for record in sorted(records, key=lambda record: [record[name] for name in (*others, along)]):
         groups.setdefault(tuple(record[name] for name in others), []).append(record)
-    return [(", ".join(f"{name} {value}" for name, value in zip(others, values)), sorted(group, key=lambda r: r[along]))
-            for values, group in groups.items()]
+    return Curves(along, choices[along], others, choices,
+                  tuple((values, tuple(group)) for values, group in groups.items()))
 
 
-def curve_style(number: int, count: int) -> Dict[str, Any]:
-    """How a curve looks. Earlier ones are thicker, so that they show under later ones with the same points."""
-    colour, marker = CURVES[number % len(CURVES)]
-    thick = 1 - number / max(1, count - 1)
-    return {"color": colour, "marker": marker, "markersize": 4.5 + 5 * thick, "linewidth": 1.2 + 2.6 * thick,
-            "linestyle": LINE_STYLES[number // len(CURVES) % len(LINE_STYLES)]}
-
-
-def draw_panel(axes: Any, name: str, title: str, groups: Sequence[Tuple[str, List[Dict[str, Any]]]], along: str,
-               values: Sequence[int]) -> None:
+def draw_panel(axes: Any, name: str, title: str, drawn: Curves) -> None:
     """The curves of one measure."""
     highest = None
-    for number, (_, group) in enumerate(groups):
-        points = [(values.index(record[along]), record[name]) for record in group if record[name] is not None]
+    for number, (_, group) in enumerate(drawn.groups):
+        points = [(drawn.values.index(record[drawn.along]), record[name]) for record in group
+                  if record[name] is not None]
         if points:
             highest = max(highest or 0, *(value for _, value in points))
-            axes.plot(*zip(*points), **curve_style(number, len(groups)))
+            axes.plot(*zip(*points), clip_on=False, **drawn.curve_style(number))
     axes.set_title(title, fontsize=9, loc="left")
-    axes.set_xticks(range(len(values)))
-    axes.set_xticklabels([str(value) for value in values], fontsize=8)
-    axes.set_xlim(-0.25, len(values) - 0.75)
+    axes.set_xticks(range(len(drawn.values)))
+    axes.set_xticklabels([str(value) for value in drawn.values], fontsize=8)
+    axes.set_xlim(-0.25, len(drawn.values) - 0.75)
     if highest is not None:
         axes.set_ylim(0, 1.1 * highest or 1)
         axes.grid(axis="y", color=GREY, linewidth=0.6)
@@ -428,28 +453,32 @@ def draw_panel(axes: Any, name: str, title: str, groups: Sequence[Tuple[str, Lis
         axes.text(0.5, 0.5, "none", transform=axes.transAxes, ha="center", va="center", color=DARK_GREY)
 
 
+def legend_columns(drawn: Curves) -> List[List[Any]]:
+    """The legend's entries, a list for each number that the curves tell apart."""
+    from matplotlib.lines import Line2D
+    plain: Tuple[Dict[str, Any], ...] = ({}, {"color": DARK_GREY, "linestyle": ""}, {"color": DARK_GREY})
+    return [[Line2D([], [], label=f"{label_of(name)} {value}", **{**plain[place], **drawn.style(place, value)})
+             for value in drawn.choices[name]] for place, name in enumerate(drawn.others)]
+
+
 def curves(records: Sequence[Dict[str, Any]], title: str, along: Optional[str], kind: str) -> bytes:
     """The picture of a sweep."""
-    from_names = chosen_number(records, along)
+    drawn = curves_of(records, chosen_number(records, along))
     pyplot = load_matplotlib()
-    groups = groups_of(records, from_names)
-    values = sorted({record[from_names] for record in records})
-    labelled = len(groups) > 1
-    legend_rows = -(-len(groups) // 4) if labelled else 0
-    height = 7.2 + 0.22 * legend_rows
+    columns = legend_columns(drawn)
+    below = 0.15 + 0.3 * len(columns)
+    height = 7.0 + below
     figure, panels = pyplot.subplots(3, 3, figsize=(9.5, height))
     for axes, (name, text) in zip(panels.flat, PANELS):
-        draw_panel(axes, name, text, groups, from_names, values)
+        draw_panel(axes, name, text, drawn)
     for axes in panels[-1]:
-        axes.set_xlabel(label_of(from_names))
-    figure.suptitle(title_of(records, title).replace("$", r"\$"), x=0.02, y=0.985, ha="left", fontsize=10.5,
-                    fontweight="bold")
-    figure.tight_layout(rect=(0, (0.25 * legend_rows + (0.1 if labelled else 0)) / height, 1, 0.97))
-    if labelled:
-        from matplotlib.lines import Line2D
-        handles = [Line2D([], [], label=label, **curve_style(number, len(groups)))
-                   for number, (label, _) in enumerate(groups)]
-        figure.legend(handles=handles, loc="lower center", ncol=min(4, len(groups)), frameon=False, fontsize=8)
+        axes.set_xlabel(label_of(drawn.along))
+    figure.suptitle(title_of(records, title).replace("$", r"\$"), x=0.02, y=1 - 0.1 / height, ha="left", va="top",
+                    fontsize=10.5, fontweight="bold")
+    figure.tight_layout(rect=(0, below / height, 1, 1 - 0.35 / height))
+    for place, handles in enumerate(columns):
+        figure.legend(handles=handles, loc="lower center", ncol=min(8, len(handles)), frameon=False, fontsize=8,
+                      bbox_to_anchor=(0.5, (below - 0.3 * (place + 1)) / height))
     return picture(pyplot, figure, kind)
 
 
