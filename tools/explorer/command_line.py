@@ -35,14 +35,16 @@ interrupted. A file named by -o is written whole or not at all."""
 STEPS_HELP = """\
 Prints each command with its reply (behind >) and under it each persist step that it took:
 a latch of the registers, or the device line written and what it holds. The steps are found
-by cutting the trace at each one and comparing the device line by line."""
+by cutting the trace at each one and comparing the device line by line. Of a long trace
+take some --lines: the time goes with its length times its steps."""
 
 CUTS_HELP = """\
 For each persist step of the trace: the trace is cut before it, power comes on again, and
 lines are read. A row tells how many steps came before the cut, which command was cut and
 what it answered (kept or lost), the trials, digests and steps of the recovery, and which data
 lines then read otherwise than before that command. For a cut in an `on` they are compared
-with the recovery that isn't cut. The last row is power off after the whole trace."""
+with the recovery that isn't cut. The last row is power off after the whole trace. Of a
+long trace take some --lines: the time goes with its length times its steps."""
 
 SWEEP_HELP = """\
 Runs the trace under each combination of the numbers given (several with commas between) and
