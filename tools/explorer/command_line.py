@@ -83,7 +83,10 @@ are decimal, or hex after 0x. Otherwise as `import lackey`."""
 
 
 class Parser(argparse.ArgumentParser):
-    """A parser whose errors begin with the command's name and end with status 2."""
+    """A parser whose errors begin with the command's name and end with status 2. Options are written out."""
+
+    def __init__(self, **arguments: Any) -> None:
+        super().__init__(allow_abbrev=False, **arguments)
 
     def error(self, message: str) -> NoReturn:
         sys.stderr.write(f"explore: {message}\nexplore: see {self.prog} --help\n")
@@ -172,7 +175,8 @@ def add_trace(parser: argparse.ArgumentParser, what: str = "a trace (docs/FORMAT
 
 def add_output(parser: argparse.ArgumentParser) -> None:
     """The option that names the output."""
-    parser.add_argument("-o", "--output", metavar="FILE", help="write to this file, whole or not at all (default: standard output)")
+    parser.add_argument("-o", "--output", metavar="FILE",
+                        help="write to this file, whole or not at all (default: standard output)")
 
 
 def add_lines(parser: argparse.ArgumentParser) -> None:

@@ -42,7 +42,7 @@ class WrongWordsTest(ExploreTest):
     def test_options_out_of_range(self) -> None:
         for words in ("--levels 0", "--levels 7", "--sets 65", "--ways 9", "--loss 3", "--suite x", "--major -1",
                       "--major 18446744073709551616", "--key 00", "--tag-key 0", "--lines 5-3", "--jobs 0",
-                      "--unknown"):
+                      "--level 1", "--unknown"):
             with self.subTest(words):
                 self.assert_fails(self.explore("steps", "-", *words.split(" "), text=WRITE), 2)
 
