@@ -13,7 +13,7 @@ from .output import check_writable, put, write_file
 from .program import Program, Recording, default_program
 from .settings import Settings
 from .together import Together
-from .trace import read_bytes, read_trace, trace_of
+from .trace import read_bytes, read_trace, shown_name, trace_of
 
 DESCRIPTION = """\
 Asks the program pmem what a trace does, persist step by persist step. All that is told
@@ -350,6 +350,8 @@ def run_draw(words: argparse.Namespace) -> None:
         name, records = found
         write_file(words.output, draw.curves(records, words.title or os.path.basename(name), words.along, kind))
         return
+    if data.lstrip().startswith(b"{"):
+        raise ExploreError(f"{shown_name(words.trace)} is neither a trace nor what explore sweep --json wrote")
     if words.along:
         raise ExploreError("--along is for a sweep's JSON alone", WRONG_WORDS)
     together = together_of(words)

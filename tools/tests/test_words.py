@@ -79,6 +79,13 @@ class FilesTest(ExploreTest):
                 trace = self.file("bad.trace", f"# a comment\r\nstat\n{line}\nstat\n")
                 self.assert_fails(self.explore("steps", trace), 1, "bad.trace, line 3: ", told)
 
+    def test_bytes_that_are_no_text(self) -> None:
+        trace = self.path("bytes")
+        Path(trace).write_bytes(bytes(range(11, 256)))
+        result = self.explore("steps", trace)
+        self.assert_fails(result, 1, "line 1: no such command")
+        self.assertTrue(result.stderr.rstrip("\n").isprintable())
+
     def test_output_file_is_replaced_whole(self) -> None:
         self.file("steps.txt", "old")
         self.assertEqual(self.output("steps", "-", "-o", self.path("steps.txt"), text=WRITE), "")
