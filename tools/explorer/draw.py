@@ -1,7 +1,7 @@
 """Pictures of a trace's persist steps, and of a sweep's curves. Only this needs matplotlib."""
 import io
 from dataclasses import dataclass
-from typing import Any, Dict, List, Optional, Sequence, Set, Tuple
+from typing import Any, Dict, List, Optional, Sequence, Tuple
 
 from .errors import WRONG_WORDS, ExploreError
 from .layout import CHIP, COUNTERS, DATA, NODES, PARTS, SHADOWS, TAGS, Layout, Place
@@ -275,11 +275,12 @@ def labels_of(spans: Sequence[Span], unit: float) -> List[Tuple[Span, str, str]]
     """The commands that are named over the lanes, with their verdicts and colours: those that matter most first,
     and of the others those for which there is room. `unit` is the width of a step."""
     named: List[Tuple[Span, str, str]] = []
-    taken: Set[int] = set()
+    taken: Dict[int, float] = {}
     for span in sorted(spans, key=lambda span: (not is_notable(span.traced), not span.traced.steps)):
-        slot = int(span.middle * unit / BETWEEN_LABELS)
-        if not taken & {slot - 1, slot, slot + 1} or not taken & {slot} and unit >= UNIT:
-            taken.add(slot)
+        at = span.middle * unit
+        slot = int(at / BETWEEN_LABELS)
+        if all(abs(at - taken[near]) >= BETWEEN_LABELS for near in (slot - 1, slot, slot + 1) if near in taken):
+            taken[slot] = at
             word, colour = verdict(span.traced)
             named.append((span, command_label(span.traced) + (f": {word}" if word else ""), colour))
     return named
