@@ -13,7 +13,7 @@ from .output import check_writable, put, write_file
 from .program import Program, Recording, default_program
 from .settings import Settings
 from .together import Together
-from .trace import read_bytes, read_trace, trace_of
+from .trace import read_bytes, read_trace, shown_name, trace_of
 
 DESCRIPTION = """\
 Asks the program pmem what a trace does, persist step by persist step. All that is told
@@ -35,14 +35,16 @@ interrupted. A file named by -o is written whole or not at all."""
 STEPS_HELP = """\
 Prints each command with its reply (behind >) and under it each persist step that it took:
 a latch of the registers, or the device line written and what it holds. The steps are found
-by cutting the trace at each one and comparing the device line by line."""
+by cutting the trace at each one and comparing the device line by line. Of a long trace
+take some --lines: the time goes with its length times its steps."""
 
 CUTS_HELP = """\
 For each persist step of the trace: the trace is cut before it, power comes on again, and
 lines are read. A row tells how many steps came before the cut, which command was cut and
 what it answered (kept or lost), the trials, digests and steps of the recovery, and which data
 lines then read otherwise than before that command. For a cut in an `on` they are compared
-with the recovery that isn't cut. The last row is power off after the whole trace."""
+with the recovery that isn't cut. The last row is power off after the whole trace. Of a
+long trace take some --lines: the time goes with its length times its steps."""
 
 SWEEP_HELP = """\
 Runs the trace under each combination of the numbers given (several with commas between) and
@@ -81,7 +83,10 @@ are decimal, or hex after 0x. Otherwise as `import lackey`."""
 
 
 class Parser(argparse.ArgumentParser):
-    """A parser whose errors begin with the command's name and end with status 2."""
+    """A parser whose errors begin with the command's name and end with status 2. Options are written out."""
+
+    def __init__(self, **arguments: Any) -> None:
+        super().__init__(allow_abbrev=False, **arguments)
 
     def error(self, message: str) -> NoReturn:
         sys.stderr.write(f"explore: {message}\nexplore: see {self.prog} --help\n")
@@ -170,7 +175,8 @@ def add_trace(parser: argparse.ArgumentParser, what: str = "a trace (docs/FORMAT
 
 def add_output(parser: argparse.ArgumentParser) -> None:
     """The option that names the output."""
-    parser.add_argument("-o", "--output", metavar="FILE", help="write to this file, whole or not at all (default: standard output)")
+    parser.add_argument("-o", "--output", metavar="FILE",
+                        help="write to this file, whole or not at all (default: standard output)")
 
 
 def add_lines(parser: argparse.ArgumentParser) -> None:
@@ -344,6 +350,8 @@ def run_draw(words: argparse.Namespace) -> None:
         name, records = found
         write_file(words.output, draw.curves(records, words.title or os.path.basename(name), words.along, kind))
         return
+    if data.lstrip().startswith(b"{"):
+        raise ExploreError(f"{shown_name(words.trace)} is neither a trace nor what explore sweep --json wrote")
     if words.along:
         raise ExploreError("--along is for a sweep's JSON alone", WRONG_WORDS)
     together = together_of(words)

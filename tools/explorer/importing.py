@@ -8,7 +8,7 @@ from typing import BinaryIO, Dict, Iterable, Iterator, List, Optional, Sequence,
 
 from .errors import ExploreError, reason_of
 from .together import Progress
-from .trace import shown_name
+from .trace import shown_line, shown_name
 
 LINE_BYTES = 64
 LINES_BETWEEN_PROGRESS = 100_000
@@ -60,7 +60,7 @@ def lackey_accesses(lines: Iterable[bytes], name: str) -> Iterator[Access]:
                 if seen:
                     continue
                 raise ExploreError(f"{name}, line {number}: this is not what valgrind --tool=lackey "
-                                   f"--trace-mem=yes prints: {text[:60].decode('ascii', 'replace')}")
+                                   f"--trace-mem=yes prints: {shown_line(text)}")
             continue
         seen = True
         kind, address, size = match.group(1).strip(), int(match.group(2), 16), int(match.group(3))

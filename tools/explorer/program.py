@@ -9,7 +9,7 @@ from typing import Dict, List, Optional, Sequence, Set, Tuple
 
 from .errors import INTERRUPTED, WRONG_WORDS, ExploreError, reason_of
 from .settings import Settings
-from .trace import STEPPING_WORDS, Trace, short_text
+from .trace import STEPPING_WORDS, Trace, shown_line
 
 MARKS = ("seal", "begin")
 EXHIBITS = ("clash", "forged", "twin")
@@ -174,7 +174,7 @@ class Program:
             return
         if status in (-signal.SIGINT, INTERRUPTED):
             raise KeyboardInterrupt
-        last = data.decode("ascii", "replace").rstrip("\n").rsplit("\n", 1)[-1]
+        last = data.rstrip(b"\n").rsplit(b"\n", 1)[-1].decode("ascii", "replace")
         words = last.split(" ")
         if status == 1 and last == "stop memory":
             raise ExploreError("the program had too little memory")
@@ -187,7 +187,7 @@ class Program:
         if status < 0:
             raise ExploreError(f"the program {self.path} was ended by signal {-status}")
         raise ExploreError(f"the program {self.path} ended with status {status}"
-                           + (f", its last line: {short_text(last)[:100]}" if last else ""))
+                           + (f", its last line: {shown_line(last.encode())}" if last else ""))
 
 
 def default_program() -> str:
@@ -216,9 +216,9 @@ class Recording:
         try:
             return self.program.run(self.trace.data, self.settings)
         except StopLine as stop:
-            text = short_text(self.trace.line(stop.number).decode("ascii", "replace").strip())
+            text = shown_line(self.trace.line(stop.number))
             kind = KINDS.get(stop.kind, f"fault of kind {stop.kind}")
-            raise ExploreError(f"{self.trace.name}, line {stop.number}: {kind}: {text[:100]}") from stop
+            raise ExploreError(f"{self.trace.name}, line {stop.number}: {kind}: {text}") from stop
 
     def check_replies(self, output: Output) -> None:
         """That there is a reply to each command, up to the exhibit where there is one."""
@@ -230,7 +230,7 @@ class Recording:
         for index, command in enumerate(self.commands[:len(self.replies)]):
             if command.word in STEPPING_WORDS and not self.replies[index].has_steps:
                 raise ExploreError(f"{self.program.path} doesn't answer as pmem does: "
-                                   f"{short_text(self.replies[index].answer)[:100]!r} to {command.short!r}")
+                                   f"{shown_line(self.replies[index].answer.encode())!r} to {command.short!r}")
 
     def ask(self, index: int, script: Sequence[bytes]) -> List[Reply]:
         """The replies to further commands after the first `index` ones of the trace."""

@@ -12,6 +12,7 @@ from .trace import STEPPING_WORDS, TAMPERING_WORDS, Command, number_of, short_te
 MOST_LINES_ASKED = 100_000
 LINES_AT_ONCE = 500_000
 TRIED_AT_ONCE = 8
+MOST_TURNED = 500
 
 LATCH = "latch"
 WRITE = "write"
@@ -240,19 +241,39 @@ class StepFinder:
         changed = changed_lines(*states)
         if changed:
             return Step(number, WRITE, self.layout.place(changed[0]))
-        written = self.written_again(index, after) if self.recording.commands[index].word == "on" else []
+        written = self.written_again(index, after)
         return Step(number, WRITE, self.layout.place(written[0]) if len(written) == 1 else None, True)
 
     def written_again(self, index: int, after: int) -> List[int]:
-        """The likely places that a recovery writes in this step, found on a device with a bit of each turned: what
-        the step writes is whole again. Only its redo writes a line that is so already, and it reads none before."""
-        turn = [b"flip %d 0" % place for place in self.likely]
-        text = self.recording.commands[index].text
-        turned, old, new = (
-            state_of(self.recording.ask(index, [*turn, *script, *asks(self.likely)])[len(turn) + len(script):],
-                     self.likely)
-            for script in ([], [b"cut %d" % (after - 1), text], [b"cut %d" % after, text]))
-        return [place for place in changed_lines(old, new) if old.lines[place] == turned.lines[place]]
+        """The likely places that a step writes with the bytes that they had. A bit of each is turned before the
+        command: what the step writes is whole again. Nothing that is read may be turned with it, so this is done
+        with all places at once only where none is read before such a step: by a recovery's redo, and by a flush."""
+        if self.recording.commands[index].word in ("on", "flush"):
+            return self.made_whole(index, after, self.likely)
+        if len(self.likely) > MOST_TURNED:
+            return []
+        found = self.together.map(lambda place: self.made_whole(index, after, [place]), self.likely, "turned bits")
+        return [place for places in found for place in places]
+
+    def made_whole(self, index: int, after: int, turned: Sequence[int]) -> List[int]:
+        """Those of the turned lines that a step makes whole, where all else is as it is without turned bits."""
+        old, new = (self.turned_state(index, number, turned) for number in (after - 1, after))
+        if old is None or new is None:
+            return []
+        plain_old, plain_new = self.states[index, after - 1], self.states[index, after]
+        whole = [place for place in turned
+                 if old.lines[place] != plain_old.lines[place] and new.lines[place] == plain_new.lines[place]]
+        others = set(self.likely) - set(turned)
+        same = all(state.counts == plain.counts and all(state.lines[place] == plain.lines[place] for place in others)
+                   for state, plain in ((old, plain_old), (new, plain_new)))
+        return whole if same else []
+
+    def turned_state(self, index: int, number: int, turned: Sequence[int]) -> Optional[State]:
+        """The state after so many steps of a command before which a bit of some lines was turned; None where the run
+        ends before it."""
+        script = [*(b"flip %d 0" % place for place in turned), *self.script_to(index, number)]
+        replies = self.recording.ask(index, [*script, *asks(self.likely)])[len(script):]
+        return state_of(replies, self.likely) if len(replies) == len(self.likely) + 1 else None
 
     def traced(self, indexes: Sequence[int]) -> List[Traced]:
         """All commands up to the last of these, and the steps of these."""

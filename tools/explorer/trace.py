@@ -48,6 +48,12 @@ def words_of(line: bytes) -> List[bytes]:
     return [word for word in line.replace(b"\t", b" ").split(b" ") if word]
 
 
+def shown_line(line: bytes) -> str:
+    """A line of a file as messages show it: shortened, and without what a terminal would act on."""
+    text = short_text(line.decode("ascii", "replace").strip())[:100]
+    return "".join(letter if letter.isascii() and letter.isprintable() else "?" for letter in text)
+
+
 def short_text(text: str) -> str:
     """A text whose long words are shortened to both ends."""
     return " ".join(short_word(word) for word in text.split(" "))

@@ -39,6 +39,10 @@ class PictureTest(ExploreTest):
         self.draw("curves.svg", text=sweep)
         self.draw("other.png", "--along", "sets", text=sweep)
 
+    def test_json_that_is_no_sweep(self) -> None:
+        for text in ('{"settings": []}', '{"settings": [1]}', "{", '{"settings": [{"levels": 1}]}'):
+            self.assert_fails(self.explore("draw", "-", "-o", self.path("a.svg"), text=text), 1, "sweep --json")
+
     def test_along_is_for_sweeps(self) -> None:
         result = self.explore("draw", "-", "-o", self.path("a.svg"), "--along", "sets", text=WRITE)
         self.assert_fails(result, 2, "--along")

@@ -88,3 +88,14 @@ class StepsTest(ExploreTest):
         commands = self.json("steps", "-", text=f"off\nflip 1282 0\npoke 1302 {table}\non\n")
         self.assertEqual(lines_of(commands[3]), [1282, 1302])
         self.assertEqual(commands[3]["steps"][0]["name"], "node 2")
+
+    def test_a_line_that_is_written_with_the_bytes_that_it_had(self) -> None:
+        text = f"post 0 324 {'f0' * 64}\npost 1 372 {'eb' * 64}\ndrain 1\ndrain 0\nflush\n"
+        flush = self.json("steps", "-", "--suite", "weak", "--loss", "1", text=text)[4]
+        self.assertEqual((flush["answer"], lines_of(flush)), ("ok 0 1", [1280]))
+        self.assertTrue(flush["steps"][0]["same_bytes"])
+        text += "read 0 0\nread 0 256\nread 0 512\nread 0 768\n"
+        text = text.replace("flush\n", "")
+        commands = self.json("steps", "-", "--suite", "weak", "--loss", "1", "--sets", "1", "--ways", "1", text=text)
+        self.assertEqual(lines_of(commands[4]), [1282])
+        self.assertTrue(commands[4]["steps"][0]["same_bytes"])

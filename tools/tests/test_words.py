@@ -42,7 +42,7 @@ class WrongWordsTest(ExploreTest):
     def test_options_out_of_range(self) -> None:
         for words in ("--levels 0", "--levels 7", "--sets 65", "--ways 9", "--loss 3", "--suite x", "--major -1",
                       "--major 18446744073709551616", "--key 00", "--tag-key 0", "--lines 5-3", "--jobs 0",
-                      "--unknown"):
+                      "--level 1", "--unknown"):
             with self.subTest(words):
                 self.assert_fails(self.explore("steps", "-", *words.split(" "), text=WRITE), 2)
 
@@ -78,6 +78,13 @@ class FilesTest(ExploreTest):
             with self.subTest(told):
                 trace = self.file("bad.trace", f"# a comment\r\nstat\n{line}\nstat\n")
                 self.assert_fails(self.explore("steps", trace), 1, "bad.trace, line 3: ", told)
+
+    def test_bytes_that_are_no_text(self) -> None:
+        trace = self.path("bytes")
+        Path(trace).write_bytes(bytes(range(11, 256)))
+        result = self.explore("steps", trace)
+        self.assert_fails(result, 1, "line 1: no such command")
+        self.assertTrue(result.stderr.rstrip("\n").isprintable())
 
     def test_output_file_is_replaced_whole(self) -> None:
         self.file("steps.txt", "old")
