@@ -10,6 +10,7 @@ from typing import Any, List, Optional
 
 TOOLS = Path(__file__).resolve().parents[1]
 EXPLORE = TOOLS / "explore"
+sys.path.insert(0, str(TOOLS))
 EXAMPLES = TOOLS.parent / "examples"
 
 ONES = "11" * 64
