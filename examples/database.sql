@@ -1,0 +1,13 @@
+create table account (id integer primary key, owner text, balance integer);
+create index by_owner on account (owner);
+begin;
+insert into account values (1, 'ada', 100), (2, 'grace', 250), (3, 'edsger', 75), (4, 'barbara', 310);
+commit;
+begin;
+update account set balance = balance - 30 where owner = 'grace';
+update account set balance = balance + 30 where owner = 'ada';
+commit;
+begin;
+delete from account where id = 3;
+rollback;
+select owner, balance from account order by balance desc;

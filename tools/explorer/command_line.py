@@ -1,0 +1,402 @@
+"""The words of `explore`, and what each command does."""
+import argparse
+import json
+import os
+import re
+import sys
+from typing import Any, Callable, Dict, List, NoReturn, Sequence, Tuple
+
+from . import cuts, draw, importing, settings, steps, sweep
+from .errors import DONE, FAILURE, INTERRUPTED, WRONG_WORDS, ExploreError, reason_of
+from .layout import Layout
+from .output import check_writable, put, write_file
+from .program import Program, Recording, default_program
+from .settings import Settings
+from .together import Together
+from .trace import read_bytes, read_trace, shown_name, trace_of
+
+DESCRIPTION = """\
+Asks the program pmem what a trace does, persist step by persist step. All that is told
+is found by running the program again and reading its replies."""
+
+COMMANDS_HELP = """\
+Begin with
+  tools/explore steps examples/power_cut.trace
+  tools/explore cuts examples/first.trace
+docs/EXPLORE.md has an example of each command, docs/FORMATS.md what a trace may hold.
+
+The program is the repository's ./pmem, or what --program or PMEM_PROGRAM names. Its first
+run proves and builds it, which takes long.
+
+Exit statuses: 0 done, also where a trace ends in an exhibit; 1 failed, with the reason on
+standard error (a file, a line of a trace, the program); 2 the words are wrong; 130
+interrupted. A file named by -o is written whole or not at all."""
+
+STEPS_HELP = """\
+Prints each command with its reply (behind >) and under it each persist step that it took:
+a latch of the registers, or the device line written and what it holds. The steps are found
+by cutting the trace at each one and comparing the device line by line. Of a long trace
+take some --lines: the time goes with its length times its steps."""
+
+CUTS_HELP = """\
+For each persist step of the trace: the trace is cut before it, power comes on again, and
+lines are read. A row tells how many steps came before the cut, which command was cut and
+what it answered (kept or lost), the trials, digests and steps of the recovery, and which data
+lines then read otherwise than before that command. For a cut in an `on` they are compared
+with the recovery that isn't cut. The last row is power off after the whole trace. Of a
+long trace take some --lines: the time goes with its length times its steps."""
+
+SWEEP_HELP = """\
+Runs the trace under each combination of the numbers given (several with commas between) and
+prints a row of each. Writes are those that a drain or a fence has put.
+  steps a write    persist steps of drains and fences
+  lines a write    device lines written by commands that were done, recoveries aside:
+                   the write amplification
+  meta reads       metadata lines read by drains and fences for a write, by reads for a read
+  digests          digests made by them
+  recovery         what `on` answers after power goes off at the trace's end
+All but the recovery are means over the trace."""
+
+DRAW_HELP = """\
+Draws the persist steps of a trace: a lane for each part of the device with a mark for each
+step, cuts, recoveries, tampering and what was refused. Of a file that `explore sweep --json`
+wrote it draws the curves instead. The name's ending, .svg or .png, says which kind of
+picture. Needs matplotlib (Debian: python3-matplotlib; else: pip install matplotlib)."""
+
+LACKEY_HELP = """\
+Makes a trace of a real program's memory accesses:
+  valgrind --tool=lackey --trace-mem=yes --log-file=accesses.txt PROGRAM
+  tools/explore import lackey accesses.txt --commands 500 -o program.trace
+Stores become `part` (or `post`, where they fill a line) at their true offsets, loads become
+`read`. An access over several lines is cut at their edges. Line address / 64 is folded onto
+the device by its remainder modulo the number of data lines. The bytes stored are made up.
+Where 16 writes wait, the oldest is drained before the next."""
+
+CSV_HELP = """\
+Makes a trace of the rows of a CSV: op, address, size, data.
+  store,0x1000,4,0a0b0c0d     the op is store (write, s, w), load (read, l, r) or fence (f)
+  store,4100,8,               without data the bytes are made up
+  load,0x1000,4
+  fence
+A first row that begins with op, blank rows and rows that begin with # are skipped. Addresses
+are decimal, or hex after 0x. Otherwise as `import lackey`."""
+
+
+class Parser(argparse.ArgumentParser):
+    """A parser whose errors begin with the command's name and end with status 2. Options are written out."""
+
+    def __init__(self, **arguments: Any) -> None:
+        super().__init__(allow_abbrev=False, **arguments)
+
+    def error(self, message: str) -> NoReturn:
+        sys.stderr.write(f"explore: {message}\nexplore: see {self.prog} --help\n")
+        sys.exit(WRONG_WORDS)
+
+
+def number_in(values: Sequence[int]) -> Callable[[str], int]:
+    """Reads a number that is one of these."""
+    def read(text: str) -> int:
+        if not re.fullmatch("[0-9]{1,20}", text) or int(text) not in values:
+            raise argparse.ArgumentTypeError(f"{text!r} is not one of {words_for(values)}")
+        return int(text)
+    return read
+
+
+def numbers_in(values: Sequence[int]) -> Callable[[str], List[int]]:
+    """Reads numbers with commas between."""
+    read = number_in(values)
+    return lambda text: [read(word.strip()) for word in text.split(",")]
+
+
+def words_for(values: Sequence[int]) -> str:
+    """The numbers that are allowed, in words."""
+    return f"{values[0]} to {values[-1]}" if isinstance(values, range) else ", ".join(map(str, values))
+
+
+def count_from(low: int) -> Callable[[str], int]:
+    """Reads a number that isn't below another."""
+    def read(text: str) -> int:
+        if not re.fullmatch("[0-9]{1,18}", text) or int(text) < low:
+            raise argparse.ArgumentTypeError(f"{text!r} is not a number from {low} on")
+        return int(text)
+    return read
+
+
+def major(text: str) -> int:
+    """Reads a major counter."""
+    if not re.fullmatch("[0-9]{1,20}", text) or int(text) >= 1 << 64:
+        raise argparse.ArgumentTypeError(f"{text!r} is not a number below 2^64")
+    return int(text)
+
+
+def hex_digits(least: int, most: int) -> Callable[[str], str]:
+    """Reads a key of so many hex digits."""
+    def read(text: str) -> str:
+        if not re.fullmatch("[0-9a-fA-F]*", text) or len(text) % 2 or not least <= len(text) <= most:
+            count = str(least) if least == most else f"{least} to {most}, an even number of"
+            raise argparse.ArgumentTypeError(f"a key has {count} hex digits")
+        return text
+    return read
+
+
+def line_range(text: str) -> range:
+    """Reads lines of a trace, as `7` or `5-20`."""
+    match = re.fullmatch("([0-9]{1,9})(?:-([0-9]{1,9}))?", text)
+    if match is None or int(match.group(1)) > int(match.group(2) or match.group(1)):
+        raise argparse.ArgumentTypeError(f"{text!r} is not a line or a range of lines such as 5-20")
+    return range(int(match.group(1)), int(match.group(2) or match.group(1)) + 1)
+
+
+def address(text: str) -> int:
+    """Reads an address, decimal or hex after 0x."""
+    number = importing.whole_number(text)
+    if number is None:
+        raise argparse.ArgumentTypeError(f"{text!r} is not an address such as 0x1000 or 4096")
+    return number
+
+
+def addresses(text: str) -> Tuple[int, ...]:
+    """Reads addresses with commas between."""
+    return tuple(address(word.strip()) for word in text.split(","))
+
+
+def address_range(text: str) -> Tuple[int, int]:
+    """Reads addresses from one to another, both included."""
+    low, dash, high = text.partition("-")
+    if not dash or address(low) > address(high):
+        raise argparse.ArgumentTypeError(f"{text!r} is not a range of addresses such as 0x1000-0x1fff")
+    return address(low), address(high)
+
+
+def add_trace(parser: argparse.ArgumentParser, what: str = "a trace (docs/FORMATS.md); - is standard input") -> None:
+    """The word that names the input."""
+    parser.add_argument("trace", metavar="TRACE", help=what)
+
+
+def add_output(parser: argparse.ArgumentParser) -> None:
+    """The option that names the output."""
+    parser.add_argument("-o", "--output", metavar="FILE",
+                        help="write to this file, whole or not at all (default: standard output)")
+
+
+def add_lines(parser: argparse.ArgumentParser) -> None:
+    """The option that takes some lines of a long trace."""
+    parser.add_argument("--lines", type=line_range, metavar="5-20",
+                        help="only the commands on these lines of the trace (all others are run too)")
+
+
+def add_program(parser: argparse.ArgumentParser) -> None:
+    """The options about the runs."""
+    group = parser.add_argument_group("runs")
+    group.add_argument("--program", metavar="PATH",
+                       help="the program to ask (default: what PMEM_PROGRAM names, else the repository's ./pmem)")
+    group.add_argument("--jobs", type=count_from(1), metavar="N", help="runs at a time (default: one a processor)")
+
+
+def add_settings(parser: argparse.ArgumentParser, several: bool) -> None:
+    """The options of `pmem run`; several numbers each, for a sweep."""
+    read: Callable[[Sequence[int]], Callable[[str], Any]] = numbers_in if several else number_in
+    group = parser.add_argument_group("options of run" + (", several numbers with commas between" if several else ""))
+    default = Settings()
+    for name, values, what in (("levels", settings.LEVELS, "levels of tree nodes, for 4^LEVELS pages of 64 lines"),
+                               ("sets", settings.SETS, "sets of each bank of the metadata cache"),
+                               ("ways", settings.WAYS, "ways of each set"),
+                               ("loss", settings.LOSSES, "the stop-loss number")):
+        group.add_argument(f"--{name}", type=read(values), metavar="1,2,.." if several else name.upper(),
+                           default=None if several else getattr(default, name),
+                           help=f"{what}: {words_for(values)} (default {getattr(default, name)})")
+    group.add_argument("--major", type=major, default=default.major, metavar="MAJOR",
+                       help="the first major counter (default 0)")
+    group.add_argument("--suite", choices=settings.SUITES, default=default.suite, help="the ciphers (default aes)")
+    group.add_argument("--key", type=hex_digits(32, 32), metavar="HEX", help="32 hex digits")
+    group.add_argument("--tag-key", type=hex_digits(2, 128), metavar="HEX", help="2 to 128 hex digits")
+
+
+def add_command(commands: Any, name: str, what: str, description: str,
+                run: Callable[[argparse.Namespace], None]) -> argparse.ArgumentParser:
+    """A command of `explore`."""
+    parser: argparse.ArgumentParser = commands.add_parser(
+        name, help=what, description=description, formatter_class=argparse.RawDescriptionHelpFormatter)
+    parser.set_defaults(run=run)
+    return parser
+
+
+def add_import(commands: Any) -> None:
+    """`import` and its two kinds of files."""
+    parser = commands.add_parser("import", help="make a trace of a real program's stores and loads",
+                                 description="Makes a trace of a real program's stores and loads.")
+    kinds = parser.add_subparsers(dest="kind", metavar="KIND", required=True)
+    for kind, what, description in (("lackey", "of what valgrind's lackey prints", LACKEY_HELP),
+                                    ("csv", "of a CSV of (op, address, size, data)", CSV_HELP)):
+        each = add_command(kinds, kind, what, description, run_import)
+        each.add_argument("file", metavar="FILE", help="what to import; - is standard input")
+        add_output(each)
+        each.add_argument("--commands", type=count_from(2), default=1000, metavar="N",
+                          help="end after so many commands, a last fence among them (default 1000)")
+        each.add_argument("--fence-every", type=count_from(0), default=importing.QUEUE, metavar="N",
+                          help="a fence after every N stores; 0 for none (default 16)")
+        each.add_argument("--fence-at", type=addresses, default=(), metavar="ADDRESS,..",
+                          help="a fence also before an instruction at one of these addresses is run, and after a store "
+                               "or load that begins at one")
+        each.add_argument("--within", type=address_range, metavar="LOW-HIGH",
+                          help="only stores and loads that lie within these addresses")
+        each.add_argument("--skip", type=count_from(0), default=0, metavar="N",
+                          help="leave out the first N stores and loads")
+        each.add_argument("--levels", type=number_in(settings.LEVELS), default=Settings().levels, metavar="LEVELS",
+                          help="fold onto the 64 * 4^LEVELS data lines of this geometry (default 2)")
+        each.add_argument("--port", type=number_in(range(8)), default=0, metavar="PORT",
+                          help="the port of all commands: 0 to 7 (default 0)")
+
+
+def make_parser() -> Parser:
+    """The parser of all words."""
+    parser = Parser(prog="explore", description=DESCRIPTION, epilog=COMMANDS_HELP,
+                    formatter_class=argparse.RawDescriptionHelpFormatter)
+    commands = parser.add_subparsers(dest="command", metavar="COMMAND", required=True)
+    each = add_command(commands, "steps", "each command with its reply and its persist steps", STEPS_HELP, run_steps)
+    add_trace(each)
+    add_output(each)
+    add_lines(each)
+    each.add_argument("--whole", action="store_true", help="don't shorten long hex")
+    each.add_argument("--json", action="store_true", help="JSON in place of text")
+    add_settings(each, several=False)
+    add_program(each)
+    each = add_command(commands, "cuts", "what a cut at each persist step leaves", CUTS_HELP, run_cuts)
+    add_trace(each)
+    add_output(each)
+    add_lines(each)
+    each.add_argument("--twice", action="store_true", help="cut each recovery at each of its steps too")
+    each.add_argument("--all-lines", action="store_true",
+                      help="read all data lines (default: those that the trace names or tampers with)")
+    each.add_argument("--json", action="store_true", help="JSON in place of text")
+    add_settings(each, several=False)
+    add_program(each)
+    each = add_command(commands, "sweep", "compare what a trace costs under several settings", SWEEP_HELP, run_sweep)
+    add_trace(each)
+    add_output(each)
+    formats = each.add_mutually_exclusive_group()
+    formats.add_argument("--csv", action="store_true", help="CSV in place of text")
+    formats.add_argument("--json", action="store_true", help="JSON in place of text, which `explore draw` takes")
+    add_settings(each, several=True)
+    add_program(each)
+    each = add_command(commands, "draw", "a picture of a trace, or of a sweep", DRAW_HELP, run_draw)
+    add_trace(each, "a trace, or what `explore sweep --json` wrote; - is standard input")
+    each.add_argument("-o", "--output", metavar="FILE", required=True, help="the picture: a name in .svg or .png")
+    add_lines(each)
+    each.add_argument("--title", metavar="TEXT", help="the picture's title (default: the trace's name)")
+    each.add_argument("--along", choices=sweep.NUMBERS,
+                      help="of a sweep: the number that goes along the curves (default: the one with most values)")
+    add_settings(each, several=False)
+    add_program(each)
+    add_import(commands)
+    return parser
+
+
+def settings_of(words: argparse.Namespace) -> Settings:
+    """The settings that the words choose."""
+    return Settings(words.levels, words.sets, words.ways, words.loss, words.major, words.suite, words.key or "",
+                    words.tag_key or "")
+
+
+def together_of(words: argparse.Namespace) -> Together:
+    """The program that the words name, and how many runs of it go side by side."""
+    return Together(Program(words.program or default_program()), words.jobs)
+
+
+def recording_of(words: argparse.Namespace, together: Together) -> Recording:
+    """The trace that the words name with its replies."""
+    return Recording(together.program, settings_of(words), read_trace(words.trace))
+
+
+def run_steps(words: argparse.Namespace) -> None:
+    """`explore steps`."""
+    check_writable(words.output)
+    together = together_of(words)
+    traced = steps.trace_steps(recording_of(words, together), together, words.lines)
+    put(steps.steps_json(traced) if words.json else steps.steps_text(traced, words.whole), words.output)
+
+
+def run_cuts(words: argparse.Namespace) -> None:
+    """`explore cuts`."""
+    check_writable(words.output)
+    together = together_of(words)
+    recording = recording_of(words, together)
+    found = cuts.trace_cuts(recording, together, words.lines, words.twice, words.all_lines)
+    put(cuts.cuts_json(found) if words.json else cuts.cuts_text(found, recording), words.output)
+
+
+def run_sweep(words: argparse.Namespace) -> None:
+    """`explore sweep`."""
+    check_writable(words.output)
+    together = together_of(words)
+    base = Settings(major=words.major, suite=words.suite, key=words.key or "", tag_key=words.tag_key or "")
+    values: Dict[str, Sequence[int]] = {name: getattr(words, name) for name in sweep.NUMBERS if getattr(words, name)}
+    trace = read_trace(words.trace)
+    costs = sweep.trace_sweep(together.program, trace, sweep.settings_of(base, values), together)
+    if words.csv:
+        put(sweep.sweep_csv(costs), words.output)
+    else:
+        put(sweep.sweep_json(costs, trace) if words.json else sweep.sweep_text(costs), words.output)
+
+
+def run_draw(words: argparse.Namespace) -> None:
+    """`explore draw`."""
+    kind = draw.picture_kind(words.output)
+    check_writable(words.output)
+    draw.load_matplotlib()
+    data = read_bytes(words.trace)
+    found = sweep.points_of(json_value(data))
+    if found is not None:
+        name, records = found
+        write_file(words.output, draw.curves(records, words.title or os.path.basename(name), words.along, kind))
+        return
+    if data.lstrip().startswith(b"{"):
+        raise ExploreError(f"{shown_name(words.trace)} is neither a trace nor what explore sweep --json wrote")
+    if words.along:
+        raise ExploreError("--along is for a sweep's JSON alone", WRONG_WORDS)
+    together = together_of(words)
+    recording = Recording(together.program, settings_of(words), trace_of(words.trace, data))
+    traced = steps.trace_steps(recording, together, words.lines)
+    title = words.title or f"{os.path.basename(recording.trace.name)} ({recording.settings.text()})"
+    write_file(words.output, draw.timeline(traced, Layout(recording.settings), title, kind))
+
+
+def json_value(data: bytes) -> Any:
+    """The value of a JSON text, or None."""
+    if not data.lstrip().startswith(b"{"):
+        return None
+    try:
+        return json.loads(data)
+    except ValueError:
+        return None
+
+
+def run_import(words: argparse.Namespace) -> None:
+    """`explore import`."""
+    check_writable(words.output)
+    rules = importing.Rules(64 * 4 ** words.levels, words.port, words.fence_every, words.fence_at, words.within,
+                            words.skip, words.commands)
+    put(importing.import_trace(words.file, words.kind, rules), words.output)
+
+
+def main(arguments: List[str]) -> int:
+    """Does what the words say, and answers the exit status."""
+    words = make_parser().parse_args(arguments)
+    try:
+        words.run(words)
+    except ExploreError as error:
+        sys.stderr.write(f"explore: {error}\n")
+        return error.status
+    except KeyboardInterrupt:
+        sys.stderr.write("explore: interrupted\n")
+        return INTERRUPTED
+    except BrokenPipeError:
+        os.dup2(os.open(os.devnull, os.O_WRONLY), sys.stdout.fileno())
+        return FAILURE
+    except OSError as error:
+        sys.stderr.write(f"explore: {reason_of(error)}\n")
+        return FAILURE
+    except MemoryError:
+        sys.stderr.write("explore: out of memory\n")
+        return FAILURE
+    return DONE

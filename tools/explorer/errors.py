@@ -1,0 +1,19 @@
+"""How a command of `explore` ends."""
+
+DONE = 0
+FAILURE = 1
+WRONG_WORDS = 2
+INTERRUPTED = 130
+
+
+class ExploreError(Exception):
+    """What is wrong, told in one line, and the exit status that goes with it."""
+
+    def __init__(self, text: str, status: int = FAILURE) -> None:
+        super().__init__(text)
+        self.status = status
+
+
+def reason_of(error: OSError) -> str:
+    """The plain words of an error of the operating system."""
+    return error.strerror or str(error)

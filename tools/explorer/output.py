@@ -1,0 +1,99 @@
+"""Writing what was found: tables, JSON, CSV, and files that are whole or absent."""
+import csv
+import io
+import json
+import os
+import sys
+import tempfile
+from typing import Any, Iterable, List, Optional, Sequence
+
+from .errors import ExploreError, reason_of
+
+
+def write_file(name: str, data: bytes) -> None:
+    """Writes a file under a name beside it first, so that it is never there by half. What is no plain file, such as
+    a terminal, is written as it stands."""
+    check_writable(name)
+    part = ""
+    try:
+        if os.path.exists(name) and not os.path.isfile(name):
+            with open(name, "wb") as file:
+                file.write(data)
+            return
+        target = os.path.realpath(name)
+        handle, part = tempfile.mkstemp(prefix=f".{os.path.basename(target)}.", suffix=".part",
+                                        dir=os.path.dirname(target))
+        with os.fdopen(handle, "wb") as file:
+            file.write(data)
+        os.chmod(part, 0o666 & ~current_umask())
+        os.replace(part, target)
+    except OSError as error:
+        remove(part)
+        raise ExploreError(f"cannot write {name}: {reason_of(error)}") from error
+    except BaseException:
+        remove(part)
+        raise
+
+
+def remove(name: str) -> None:
+    """Removes a file where it is there."""
+    if name and os.path.exists(name):
+        os.unlink(name)
+
+
+def current_umask() -> int:
+    """The rights that new files don't get."""
+    mask = os.umask(0)
+    os.umask(mask)
+    return mask
+
+
+def check_writable(name: Optional[str]) -> None:
+    """Tells before long work that a file can't be written."""
+    if name is None:
+        return
+    folder = os.path.dirname(os.path.realpath(name))
+    if os.path.isdir(name):
+        raise ExploreError(f"cannot write {name}: it is a directory")
+    if os.path.exists(name) and not os.path.isfile(name):
+        return
+    if not os.path.isdir(folder):
+        raise ExploreError(f"cannot write {name}: there is no directory {folder}")
+    if not os.access(folder, os.W_OK):
+        raise ExploreError(f"cannot write {name}: its directory can't be written")
+
+
+def put(text: str, name: Optional[str]) -> None:
+    """Writes text to a file, or to standard output where none is named."""
+    if name is None:
+        sys.stdout.write(text)
+        sys.stdout.flush()
+    else:
+        write_file(name, text.encode())
+
+
+def json_text(value: Any) -> str:
+    """A value as JSON."""
+    return json.dumps(value, indent=2) + "\n"
+
+
+def csv_text(names: Sequence[str], rows: Iterable[Sequence[Any]]) -> str:
+    """A table as CSV; what isn't there is an empty field."""
+    out = io.StringIO()
+    writer = csv.writer(out, lineterminator="\n")
+    writer.writerow(names)
+    for row in rows:
+        writer.writerow(["" if value is None else value for value in row])
+    return out.getvalue()
+
+
+def table_text(heads: Sequence[Sequence[str]], rows: Sequence[Sequence[str]], left: Sequence[int]) -> str:
+    """A table in columns, under one or more lines of heads; the columns in `left` begin at the left."""
+    widths = [max(len(row[column]) for row in [*heads, *rows]) for column in range(len(heads[0]))]
+
+    def line(row: Sequence[str]) -> str:
+        cells: List[str] = [cell.ljust(width) if column in left else cell.rjust(width)
+                            for column, (cell, width) in enumerate(zip(row, widths))]
+        return "  ".join(cells).rstrip()
+
+    return "".join(line(row) + "\n" for row in [*heads, *rows])

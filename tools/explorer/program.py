@@ -1,0 +1,259 @@
+"""Running the program and reading what it answers."""
+import os
+import signal
+import subprocess
+import threading
+from dataclasses import dataclass
+from pathlib import Path
+from typing import Dict, List, Optional, Sequence, Set, Tuple
+
+from .errors import INTERRUPTED, WRONG_WORDS, ExploreError, reason_of
+from .settings import Settings
+from .trace import STEPPING_WORDS, Trace, shown_line
+
+MARKS = ("seal", "begin")
+EXHIBITS = ("clash", "forged", "twin")
+WITHOUT_STEPS = ("off", "range", "empty", "idle", "clean", "already")
+
+KINDS: Dict[str, str] = {
+    "1": "no such command",
+    "2": "too few or too many words",
+    "3": "a word that should be a number isn't one",
+    "4": "a port above 7",
+    "5": "a word with the wrong hex digits",
+    "6": "more than 1,024 bytes",
+}
+
+STATUS_EXHIBIT = 6
+
+
+@dataclass(frozen=True)
+class Output:
+    """What a run printed, and its status: 0, or 6 where it ended in an exhibit."""
+
+    data: bytes
+    status: int
+
+    @property
+    def lines(self) -> List[str]:
+        """The lines printed."""
+        return self.data.decode("ascii", "replace").split("\n")[:-1]
+
+
+@dataclass(frozen=True)
+class Reply:
+    """A command's marks and its answer."""
+
+    marks: Tuple[str, ...]
+    answer: str
+
+    @property
+    def is_exhibit(self) -> bool:
+        """Whether evidence of a break stands in the answer's place."""
+        return first_word(self.answer) in EXHIBITS
+
+    @property
+    def is_cut(self) -> bool:
+        """Whether power was cut in this command."""
+        return first_word(self.answer) == "cut"
+
+    @property
+    def steps(self) -> Optional[int]:
+        """The persist steps of the answer to a command that may take some; None with an exhibit."""
+        if self.is_exhibit:
+            return None
+        return 0 if first_word(self.answer) in WITHOUT_STEPS else int(self.answer.rsplit(" ", 1)[-1])
+
+    @property
+    def has_steps(self) -> bool:
+        """Whether the answer is one to a command that may take steps."""
+        last = self.answer.rsplit(" ", 1)[-1]
+        return self.is_exhibit or first_word(self.answer) in WITHOUT_STEPS or last.isascii() and last.isdigit()
+
+    @property
+    def lines(self) -> List[str]:
+        """Marks and answer."""
+        return [*self.marks, self.answer]
+
+
+@dataclass(frozen=True)
+class Counts:
+    """The five counts that `stat` prints."""
+
+    reads: int = 0
+    writes: int = 0
+    latches: int = 0
+    tags: int = 0
+    digests: int = 0
+
+    def since(self, earlier: "Counts") -> "Counts":
+        """How far each count rose."""
+        return Counts(self.reads - earlier.reads, self.writes - earlier.writes,
+                      self.latches - earlier.latches, self.tags - earlier.tags,
+                      self.digests - earlier.digests)
+
+
+class StopLine(Exception):
+    """The program stopped at a line that is not in the grammar."""
+
+    def __init__(self, number: int, kind: str) -> None:
+        super().__init__(f"stop line {number} {kind}")
+        self.number = number
+        self.kind = kind
+
+
+def first_word(text: str) -> str:
+    """The first word of a line."""
+    return text.split(" ", 1)[0]
+
+
+def counts_of(answer: str) -> Counts:
+    """The counts that the answer to `stat` tells."""
+    return Counts(*(int(word) for word in answer.split(" ")[1:]))
+
+
+def replies_of(lines: Sequence[str]) -> List[Reply]:
+    """The replies that these lines are: an answer ends each."""
+    replies: List[Reply] = []
+    marks: List[str] = []
+    for line in lines:
+        if first_word(line) in MARKS:
+            marks.append(line)
+        else:
+            replies.append(Reply(tuple(marks), line))
+            marks = []
+    return replies
+
+
+class Program:
+    """The program's file, and the runs of it that are under way."""
+
+    def __init__(self, path: str) -> None:
+        self.path = path
+        self.lock = threading.Lock()
+        self.running: Set["subprocess.Popen[bytes]"] = set()
+        self.stopped = False
+
+    def stop(self) -> None:
+        """Ends all runs, and lets no more begin."""
+        with self.lock:
+            self.stopped = True
+            for process in self.running:
+                process.kill()
+
+    def start(self, settings: Settings) -> "subprocess.Popen[bytes]":
+        """Begins a run."""
+        with self.lock:
+            if self.stopped:
+                raise ExploreError("stopped")
+            try:
+                process = subprocess.Popen([self.path, "run", *settings.words()],
+                                           stdin=subprocess.PIPE, stdout=subprocess.PIPE)
+            except OSError as error:
+                raise ExploreError(f"cannot run the program {self.path}: {reason_of(error)}") from error
+            self.running.add(process)
+            return process
+
+    def run(self, script: bytes, settings: Settings) -> Output:
+        """What the program prints on this trace."""
+        process = self.start(settings)
+        try:
+            data, _ = process.communicate(script)
+        finally:
+            if process.poll() is None:
+                process.kill()
+                process.wait()
+            with self.lock:
+                self.running.discard(process)
+        self.check_status(process.returncode, data, settings)
+        return Output(data, process.returncode)
+
+    def check_status(self, status: int, data: bytes, settings: Settings) -> None:
+        """Tells what is wrong where a run didn't answer to its end."""
+        if status in (0, STATUS_EXHIBIT):
+            return
+        if status in (-signal.SIGINT, INTERRUPTED):
+            raise KeyboardInterrupt
+        last = data.rstrip(b"\n").rsplit(b"\n", 1)[-1].decode("ascii", "replace")
+        words = last.split(" ")
+        if status == 1 and last == "stop memory":
+            raise ExploreError("the program had too little memory")
+        if status == 2 and last == "stop words":
+            raise ExploreError(f"the program refuses its options: {' '.join(settings.words())}", WRONG_WORDS)
+        if status == 5 and words[:2] == ["stop", "line"] and len(words) == 4:
+            raise StopLine(int(words[2]), words[3])
+        if status == 7:
+            raise ExploreError("a trace has more than 1,000,000 lines, with what is asked after it")
+        if status < 0:
+            raise ExploreError(f"the program {self.path} was ended by signal {-status}")
+        raise ExploreError(f"the program {self.path} ended with status {status}"
+                           + (f", its last line: {shown_line(last.encode())}" if last else ""))
+
+
+def default_program() -> str:
+    """The program that is asked where no option names one."""
+    return os.environ.get("PMEM_PROGRAM") or str(Path(__file__).resolve().parents[2] / "pmem")
+
+
+class Recording:
+    """A trace with the program's replies to it, which can be run again up to any command and then asked."""
+
+    def __init__(self, program: Program, settings: Settings, trace: Trace) -> None:
+        self.program = program
+        self.settings = settings
+        self.trace = trace
+        self.commands = trace.commands
+        output = self.first_run()
+        self.replies = replies_of(output.lines)
+        self.check_replies(output)
+        self.script = b"".join(command.text + b"\n" for command in self.commands)
+        self.script_ends = ends_of([len(command.text) + 1 for command in self.commands])
+        self.output = output.data
+        self.output_ends = ends_of([sum(len(line) + 1 for line in reply.lines) for reply in self.replies])
+
+    def first_run(self) -> Output:
+        """The run of the trace as it stands."""
+        try:
+            return self.program.run(self.trace.data, self.settings)
+        except StopLine as stop:
+            text = shown_line(self.trace.line(stop.number))
+            kind = KINDS.get(stop.kind, f"fault of kind {stop.kind}")
+            raise ExploreError(f"{self.trace.name}, line {stop.number}: {kind}: {text}") from stop
+
+    def check_replies(self, output: Output) -> None:
+        """That there is a reply to each command, up to the exhibit where there is one."""
+        shown = output.status == STATUS_EXHIBIT
+        whole = len(self.replies) == len(self.commands) or shown and len(self.replies) <= len(self.commands)
+        if not whole or shown != bool(self.replies and self.replies[-1].is_exhibit):
+            raise ExploreError(f"{self.program.path} doesn't answer as pmem does: "
+                               f"{len(self.replies)} answers to {len(self.commands)} commands")
+        for index, command in enumerate(self.commands[:len(self.replies)]):
+            if command.word in STEPPING_WORDS and not self.replies[index].has_steps:
+                raise ExploreError(f"{self.program.path} doesn't answer as pmem does: "
+                                   f"{shown_line(self.replies[index].answer.encode())!r} to {command.short!r}")
+
+    def ask(self, index: int, script: Sequence[bytes]) -> List[Reply]:
+        """The replies to further commands after the first `index` ones of the trace."""
+        end = self.script_ends[index]
+        before = self.output[:self.output_ends[index]]
+        try:
+            output = self.program.run(self.script[:end] + b"".join(line + b"\n" for line in script), self.settings)
+        except StopLine as stop:
+            raise ExploreError(f"{self.program.path} doesn't take a command that it should: {stop}") from stop
+        if not output.data.startswith(before):
+            raise ExploreError(f"{self.program.path} doesn't answer the same in two runs of {self.trace.name}")
+        return replies_of(Output(output.data[len(before):], output.status).lines)
+
+    def steps(self, index: int) -> Optional[int]:
+        """The persist steps of a command, as its answer tells them; None with an exhibit."""
+        if self.commands[index].word not in STEPPING_WORDS:
+            return 0
+        return self.replies[index].steps
+
+
+def ends_of(lengths: Sequence[int]) -> List[int]:
+    """Where each of several pieces in a row ends, the start first."""
+    ends = [0]
+    for length in lengths:
+        ends.append(ends[-1] + length)
+    return ends

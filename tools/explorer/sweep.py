@@ -1,0 +1,189 @@
+"""What a trace costs under different settings."""
+import itertools
+from dataclasses import dataclass
+from typing import Any, Dict, List, Optional, Sequence, Tuple
+
+from .cuts import Recovery
+from .output import csv_text, json_text, table_text
+from .program import Counts, Program, Recording, Reply, counts_of, first_word
+from .settings import Settings
+from .together import Together
+from .trace import Command, Trace
+
+NUMBERS = ("levels", "sets", "ways", "loss")
+FIELDS = ("levels", "sets", "ways", "loss", "writes", "reads", "out_of_range", "steps_per_write",
+          "write_amplification", "metadata_reads_per_write", "digests_per_write", "metadata_reads_per_read",
+          "digests_per_read", "recovery", "recovery_trials", "recovery_digests", "recovery_steps", "end")
+
+
+@dataclass
+class Tally:
+    """What some commands of one kind cost together."""
+
+    done: int = 0
+    steps: int = 0
+    metadata_reads: int = 0
+    digests: int = 0
+
+    def mean(self, total: int) -> Optional[float]:
+        """A total for each one done."""
+        return total / self.done if self.done else None
+
+
+@dataclass(frozen=True)
+class Cost:
+    """What the trace costs under one setting."""
+
+    settings: Settings
+    writes: Tally
+    reads: Tally
+    line_writes: int
+    out_of_range: int
+    recovery: Optional[Recovery]
+    end: str
+
+    def record(self) -> Dict[str, Any]:
+        """The numbers by name, in the order of `FIELDS`."""
+        numbers = (self.recovery.numbers if self.recovery else None) or (None, None, None)
+        writes, reads = self.writes, self.reads
+        values: List[Any] = [
+            *self.settings.geometry().values(), writes.done, reads.done, self.out_of_range,
+            rounded(writes.mean(writes.steps)), rounded(writes.mean(self.line_writes)),
+            rounded(writes.mean(writes.metadata_reads)), rounded(writes.mean(writes.digests)),
+            rounded(reads.mean(reads.metadata_reads)), rounded(reads.mean(reads.digests)),
+            self.recovery.answer if self.recovery else None, *numbers, self.end]
+        return dict(zip(FIELDS, values))
+
+
+def rounded(value: Optional[float]) -> Optional[float]:
+    """A mean, to three places."""
+    return None if value is None else round(value, 3)
+
+
+def writes_put(word: str, reply: Reply) -> Optional[int]:
+    """How many writes a drain or a fence that was done has put; None for every other reply."""
+    words = reply.answer.split(" ")
+    if words[0] != "ok":
+        return None
+    if word == "drain":
+        return 1
+    return int(words[1]) if word == "fence" else None
+
+
+def add_write(tally: Tally, put: int, reply: Reply, cost: Counts) -> None:
+    """Adds a drain or fence. Each tag that no seal made was made to open a line, for two reads, its own and its
+    tag line's; and each write reads the tag line that it changes. The other reads are of metadata."""
+    seals = sum(mark.startswith("seal ") for mark in reply.marks)
+    tally.done += put
+    tally.steps += reply.steps or 0
+    tally.digests += cost.digests
+    tally.metadata_reads += cost.reads - 2 * (cost.tags - seals) - put
+
+
+def add_read(tally: Tally, reply: Reply, cost: Counts) -> None:
+    """Adds a read: its tag is made of two reads, of the line and its tag line; the other reads are of metadata."""
+    tally.done += 1
+    tally.steps += reply.steps or 0
+    tally.digests += cost.digests
+    tally.metadata_reads += cost.reads - 2 * cost.tags
+
+
+def cost_of(settings: Settings, commands: Sequence[Command], replies: Sequence[Reply],
+            counts: Sequence[Counts]) -> Cost:
+    """The costs of a run; `counts` are those before each command, and at the end."""
+    writes, reads, line_writes, out_of_range = Tally(), Tally(), 0, 0
+    for number, (command, reply) in enumerate(zip(commands, replies)):
+        if reply.answer == "range":
+            out_of_range += 1
+        if number + 1 >= len(counts):
+            break
+        cost = counts[number + 1].since(counts[number])
+        put = writes_put(command.word, reply)
+        if put is not None:
+            add_write(writes, put, reply, cost)
+        elif command.word == "read" and first_word(reply.answer) == "line":
+            add_read(reads, reply, cost)
+        if command.word != "on" and not reply.is_cut:
+            line_writes += cost.writes
+    return Cost(settings, writes, reads, line_writes, out_of_range, None, "")
+
+
+def run_cost(program: Program, trace: Trace, settings: Settings) -> Cost:
+    """What a trace costs under one setting, with a cut at its end."""
+    recording = Recording(program, settings, trace)
+    script = [b"stat"]
+    for command in recording.commands:
+        script += [command.text, b"stat"]
+    replies = recording.ask(0, [*script, b"off", b"on"])
+    answered, counts = replies[1:len(script):2], [counts_of(reply.answer) for reply in replies[:len(script):2]]
+    cost = cost_of(settings, recording.commands, answered, counts)
+    ended = len(replies) < len(script) + 2
+    recovery = None if ended else Recovery(replies[-1].answer)
+    end = first_word(replies[-1].answer) if replies and replies[-1].is_exhibit else "end"
+    return Cost(settings, cost.writes, cost.reads, cost.line_writes, cost.out_of_range, recovery, end)
+
+
+def settings_of(base: Settings, values: Dict[str, Sequence[int]]) -> List[Settings]:
+    """All settings with these numbers, the last one turning fastest."""
+    lists = [list(dict.fromkeys(values.get(name) or [getattr(base, name)])) for name in NUMBERS]
+    return [base.changed(**dict(zip(NUMBERS, numbers))) for numbers in itertools.product(*lists)]
+
+
+def trace_sweep(program: Program, trace: Trace, settings: Sequence[Settings], together: Together) -> List[Cost]:
+    """What a trace costs under each setting. The first run stands alone, in case the program is built by it."""
+    Recording(program, settings[0], trace)
+    return together.map(lambda each: run_cost(program, trace, each), settings, "settings")
+
+
+def cell(value: Any) -> str:
+    """A number of the table."""
+    if value is None:
+        return "-"
+    return f"{value:.2f}" if isinstance(value, float) else str(value)
+
+
+def sweep_text(costs: Sequence[Cost]) -> str:
+    """The sweep for people."""
+    heads = [["", "", "", "", "", "steps", "lines", "a write:", "", "a read:", "", "recovery:", "", ""],
+             ["levels", "sets", "ways", "loss", "writes", "a write", "a write", "meta reads", "digests", "meta reads",
+              "digests", "trials", "digests", "steps"]]
+    names = ("levels", "sets", "ways", "loss", "writes", "steps_per_write", "write_amplification",
+             "metadata_reads_per_write", "digests_per_write", "metadata_reads_per_read", "digests_per_read",
+             "recovery_trials", "recovery_digests", "recovery_steps")
+    records = [cost.record() for cost in costs]
+    table = table_text(heads, [[cell(record[name]) for name in names] for record in records], left=())
+    return table + "".join(f"{note}\n" for note in notes_of(costs))
+
+
+def notes_of(costs: Sequence[Cost]) -> List[str]:
+    """What a reader of the table should know of single settings."""
+    notes: List[str] = []
+    for cost in costs:
+        numbers = ", ".join(f"{name} {value}" for name, value in cost.settings.geometry().items())
+        if cost.out_of_range:
+            notes.append(f"{numbers}: {cost.out_of_range} commands name a place that isn't there (range)")
+        if cost.end != "end":
+            notes.append(f"{numbers}: the run ends with an exhibit ({cost.end})")
+        elif cost.recovery is not None and cost.recovery.numbers is None:
+            notes.append(f"{numbers}: recovery at the end answers {cost.recovery.answer}")
+    return notes
+
+
+def sweep_csv(costs: Sequence[Cost]) -> str:
+    """The sweep as CSV."""
+    return csv_text(FIELDS, [list(cost.record().values()) for cost in costs])
+
+
+def sweep_json(costs: Sequence[Cost], trace: Trace) -> str:
+    """The sweep as JSON, which `explore draw` takes."""
+    return json_text({"sweep": trace.name, "settings": [cost.record() for cost in costs]})
+
+
+def points_of(value: Any) -> Optional[Tuple[str, List[Dict[str, Any]]]]:
+    """The name and the records of a sweep that was written as JSON; None for any other value."""
+    if not isinstance(value, dict) or not isinstance(value.get("settings"), list):
+        return None
+    records = value["settings"]
+    if not records or not all(isinstance(record, dict) and set(FIELDS) <= set(record) for record in records):
+        return None
+    return str(value.get("sweep", "")), records

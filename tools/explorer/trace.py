@@ -1,0 +1,110 @@
+"""Reading a trace: which of its lines are commands. The program alone judges what they say."""
+import sys
+from dataclasses import dataclass
+from typing import List, Optional, Tuple
+
+from .errors import ExploreError, reason_of
+
+STEPPING_WORDS = frozenset(("drain", "fence", "read", "turn", "flush", "on", "loss"))
+TAMPERING_WORDS = frozenset(("poke", "flip", "move", "back"))
+LONGEST_WORD = 16
+
+
+@dataclass(frozen=True)
+class Command:
+    """A line of the trace that holds a command; `word` is its first word."""
+
+    number: int
+    text: bytes
+    word: str
+
+    @property
+    def words(self) -> List[str]:
+        """All its words."""
+        return [word.decode("ascii", "replace") for word in words_of(self.text)]
+
+    @property
+    def short(self) -> str:
+        """The command with long hex shortened, as in `post 0 0 11..11`."""
+        return short_text(" ".join(self.words))
+
+
+@dataclass(frozen=True)
+class Trace:
+    """A trace: its name, its bytes, and the commands among its lines."""
+
+    name: str
+    data: bytes
+    commands: Tuple[Command, ...]
+
+    def line(self, number: int) -> bytes:
+        """The text of a line, counted from 1."""
+        lines = self.data.split(b"\n")
+        return lines[number - 1] if number <= len(lines) else b""
+
+
+def words_of(line: bytes) -> List[bytes]:
+    """The words of a line: spaces and tabs alone stand between them."""
+    return [word for word in line.replace(b"\t", b" ").split(b" ") if word]
+
+
+def shown_line(line: bytes) -> str:
+    """A line of a file as messages show it: shortened, and without what a terminal would act on."""
+    text = short_text(line.decode("ascii", "replace").strip())[:100]
+    return "".join(letter if letter.isascii() and letter.isprintable() else "?" for letter in text)
+
+
+def short_text(text: str) -> str:
+    """A text whose long words are shortened to both ends."""
+    return " ".join(short_word(word) for word in text.split(" "))
+
+
+def short_word(word: str) -> str:
+    """A word of more than sixteen characters as its first and last ones."""
+    if len(word) <= LONGEST_WORD or word.isdigit() and len(word) <= 20:
+        return word
+    ends = 2 if len(word) == 128 and word == word[:2] * 64 else 4
+    return f"{word[:ends]}..{word[-ends:]}"
+
+
+def commands_of(data: bytes) -> List[Command]:
+    """The commands of a trace: its lines but for blank ones and comments."""
+    commands = []
+    for number, line in enumerate(data.split(b"\n"), 1):
+        if line.endswith(b"\r"):
+            line = line[:-1]
+        words = words_of(line)
+        if words and not words[0].startswith(b"#"):
+            commands.append(Command(number, line, words[0].decode("ascii", "replace")))
+    return commands
+
+
+def read_bytes(name: str) -> bytes:
+    """The bytes of a file, or of standard input where the name is `-`."""
+    try:
+        if name == "-":
+            return sys.stdin.buffer.read()
+        with open(name, "rb") as file:
+            return file.read()
+    except OSError as error:
+        raise ExploreError(f"cannot read {name}: {reason_of(error)}") from error
+
+
+def shown_name(name: str) -> str:
+    """A file's name in messages."""
+    return "standard input" if name == "-" else name
+
+
+def trace_of(name: str, data: bytes) -> Trace:
+    """The trace that these bytes spell."""
+    return Trace(shown_name(name), data, tuple(commands_of(data)))
+
+
+def read_trace(name: str) -> Trace:
+    """The trace in a file, or on standard input where the name is `-`."""
+    return trace_of(name, read_bytes(name))
+
+
+def number_of(text: str) -> Optional[int]:
+    """The number that a word of a trace spells, or None."""
+    return int(text) if text.isascii() and text.isdigit() and len(text) <= 20 else None

@@ -1,0 +1,78 @@
+"""What the tests share: running `explore` as a command, and traces to run it on."""
+import json
+import os
+import subprocess
+import sys
+import tempfile
+import unittest
+from pathlib import Path
+from typing import Any, List, Optional
+
+TOOLS = Path(__file__).resolve().parents[1]
+EXPLORE = TOOLS / "explore"
+sys.path.insert(0, str(TOOLS))
+EXAMPLES = TOOLS.parent / "examples"
+
+ONES = "11" * 64
+WRITE = f"post 0 0 {ONES}\ndrain 0\n"
+TWO_WRITES = WRITE + f"post 1 70 {'22' * 64}\npart 1 70 3 aabb\nfence 1\n"
+FORGED = "flip 5 0\nflip 5 8\nread 0 5\n"
+TWIN = f"post 0 0 {ONES}\ncut 5\ndrain 0\non\n"
+
+
+def program_path() -> str:
+    """The program that the tests ask."""
+    return os.environ.get("PMEM_PROGRAM") or str(TOOLS.parent / "pmem")
+
+
+class ExploreTest(unittest.TestCase):
+    """A test with a directory of its own."""
+
+    def setUp(self) -> None:
+        directory = tempfile.TemporaryDirectory()
+        self.addCleanup(directory.cleanup)
+        self.directory = Path(directory.name)
+
+    def file(self, name: str, text: str) -> str:
+        """Writes a file, and answers its path."""
+        path = self.directory / name
+        path.write_bytes(text.encode())
+        return str(path)
+
+    def path(self, name: str) -> str:
+        """The path of a file that needn't be there."""
+        return str(self.directory / name)
+
+    def names(self) -> List[str]:
+        """The files in the directory."""
+        return sorted(os.listdir(self.directory))
+
+    def script(self, name: str, text: str) -> str:
+        """Writes a program in Python."""
+        path = self.file(name, f"#!{sys.executable}\n{text}")
+        os.chmod(path, 0o755)
+        return path
+
+    def explore(self, *words: str, text: Optional[str] = None, **variables: str) -> "subprocess.CompletedProcess[str]":
+        """Runs `explore` on these words, with text on its standard input."""
+        return subprocess.run([sys.executable, str(EXPLORE), *words], input=text or "", stdout=subprocess.PIPE,
+                              stderr=subprocess.PIPE, universal_newlines=True, env={**os.environ, **variables},
+                              check=False)
+
+    def output(self, *words: str, text: Optional[str] = None) -> str:
+        """What `explore` prints where all goes well."""
+        result = self.explore(*words, text=text)
+        self.assertEqual((result.returncode, result.stderr), (0, ""))
+        return result.stdout
+
+    def json(self, *words: str, text: Optional[str] = None) -> Any:
+        """The JSON that it prints."""
+        return json.loads(self.output(*words, "--json", text=text))
+
+    def assert_fails(self, result: "subprocess.CompletedProcess[str]", status: int, *texts: str) -> None:
+        """It failed with this status, printed nothing, and told why in a line that has these texts."""
+        self.assertEqual((result.returncode, result.stdout), (status, ""), result.stderr)
+        self.assertTrue(result.stderr.startswith("explore: "), result.stderr)
+        self.assertNotIn("Traceback", result.stderr)
+        for text in texts:
+            self.assertIn(text, result.stderr)

@@ -1,0 +1,62 @@
+"""`explore draw`: pictures of traces and sweeps."""
+import importlib.util
+import unittest
+import xml.etree.ElementTree
+
+from .helpers import EXAMPLES, FORGED, TWO_WRITES, WRITE, ExploreTest
+
+HAS_MATPLOTLIB = importlib.util.find_spec("matplotlib") is not None
+PNG = b"\x89PNG\r\n\x1a\n"
+
+
+@unittest.skipUnless(HAS_MATPLOTLIB, "matplotlib is not installed")
+class PictureTest(ExploreTest):
+    def draw(self, name: str, *words: str, text: str) -> bytes:
+        """The picture of a trace."""
+        self.assertEqual(self.output("draw", "-", "-o", self.path(name), *words, text=text), "")
+        self.assertIn(name, self.names())
+        return (self.directory / name).read_bytes()
+
+    def test_png_and_svg_by_the_name(self) -> None:
+        self.assertTrue(self.draw("picture.PNG", text=WRITE).startswith(PNG))
+        root = xml.etree.ElementTree.fromstring(self.draw("picture.svg", text=WRITE))
+        self.assertTrue(root.tag.endswith("svg"))
+
+    def test_the_same_picture_each_time(self) -> None:
+        self.assertEqual(self.draw("first.svg", text=WRITE), self.draw("second.svg", text=WRITE))
+
+    def test_the_examples(self) -> None:
+        for name in ("power_cut", "attack"):
+            self.draw(f"{name}.svg", "--title", "$ a title $", text=(EXAMPLES / f"{name}.trace").read_text())
+
+    def test_empty_trace_exhibit_and_some_lines(self) -> None:
+        self.draw("empty.svg", text="")
+        self.draw("exhibit.svg", "--suite", "weak", text=FORGED)
+        self.draw("lines.svg", "--lines", "2", text=TWO_WRITES)
+
+    def test_curves_of_a_sweep(self) -> None:
+        sweep = self.output("sweep", "-", "--json", "--loss", "1,4", "--sets", "1,2", text=WRITE)
+        self.draw("curves.svg", text=sweep)
+        self.draw("other.png", "--along", "sets", text=sweep)
+
+    def test_json_that_is_no_sweep(self) -> None:
+        for text in ('{"settings": []}', '{"settings": [1]}', "{", '{"settings": [{"levels": 1}]}'):
+            self.assert_fails(self.explore("draw", "-", "-o", self.path("a.svg"), text=text), 1, "sweep --json")
+
+    def test_along_is_for_sweeps(self) -> None:
+        result = self.explore("draw", "-", "-o", self.path("a.svg"), "--along", "sets", text=WRITE)
+        self.assert_fails(result, 2, "--along")
+        self.assertEqual(self.names(), [])
+
+
+class WithoutPicturesTest(ExploreTest):
+    def test_a_missing_package_is_named(self) -> None:
+        (self.directory / "matplotlib").mkdir()
+        (self.directory / "matplotlib" / "__init__.py").write_text("raise ImportError('not here')\n")
+        result = self.explore("draw", "-", "-o", self.path("a.svg"), text=WRITE, PYTHONPATH=str(self.directory))
+        self.assert_fails(result, 1, "matplotlib", "python3-matplotlib")
+        self.assertNotIn("a.svg", self.names())
+
+    def test_a_name_that_says_no_kind(self) -> None:
+        for name in ("picture", "picture.pdf"):
+            self.assert_fails(self.explore("draw", "-", "-o", self.path(name), text=WRITE), 2, ".svg or .png")

@@ -1,0 +1,201 @@
+"""Wrong words, files that aren't there, programs that fail, and interrupts."""
+import os
+import pty
+import re
+import shutil
+import signal
+import subprocess
+import sys
+import time
+from pathlib import Path
+from typing import Callable
+
+from .helpers import EXPLORE, ONES, WRITE, ExploreTest, program_path
+
+COMMANDS = ("steps", "cuts", "sweep", "draw", "import lackey", "import csv")
+
+SLOW_PROGRAM = """
+import os, sys, time
+here = os.path.dirname(os.path.abspath(__file__))
+runs = len(os.listdir(os.path.join(here, "runs")))
+open(os.path.join(here, "runs", str(os.getpid())), "w").close()
+if runs < {quick}:
+    os.execv({program!r}, [{program!r}, *sys.argv[1:]])
+time.sleep(60)
+"""
+
+
+class HelpTest(ExploreTest):
+    def test_each_command_has_help(self) -> None:
+        self.assertIn("Exit statuses", self.output("--help"))
+        for command in COMMANDS:
+            self.assertIn(f"usage: explore {command}", self.output(*command.split(" "), "--help"))
+
+    def test_no_command_and_a_wrong_one(self) -> None:
+        self.assert_fails(self.explore(), 2, "COMMAND")
+        self.assert_fails(self.explore("stepz"), 2, "stepz")
+        self.assert_fails(self.explore("import"), 2, "KIND")
+        self.assert_fails(self.explore("steps"), 2, "TRACE", "explore steps --help")
+
+
+class WrongWordsTest(ExploreTest):
+    def test_options_out_of_range(self) -> None:
+        for words in ("--levels 0", "--levels 7", "--sets 65", "--ways 9", "--loss 3", "--suite x", "--major -1",
+                      "--major 18446744073709551616", "--key 00", "--tag-key 0", "--lines 5-3", "--jobs 0",
+                      "--level 1", "--unknown"):
+            with self.subTest(words):
+                self.assert_fails(self.explore("steps", "-", *words.split(" "), text=WRITE), 2)
+
+    def test_lists_of_a_sweep(self) -> None:
+        for words in ("--loss 1,3", "--sets 1,,2", "--levels ,", "--csv --json"):
+            with self.subTest(words):
+                self.assert_fails(self.explore("sweep", "-", *words.split(" "), text=WRITE), 2)
+
+    def test_options_of_run_are_passed_on(self) -> None:
+        text = self.output("steps", "-", "--major", "9", "--suite", "weak", "--key", "00" * 16, "--tag-key", "aB",
+                           text=WRITE)
+        self.assertIn("seal 0 9.1 0000..00", text)
+
+
+class FilesTest(ExploreTest):
+    def test_a_trace_that_is_not_there(self) -> None:
+        for command in ("steps", "cuts", "sweep"):
+            self.assert_fails(self.explore(command, self.path("none")), 1, "cannot read", "No such file")
+        self.assert_fails(self.explore("import", "csv", self.path("none")), 1, "cannot read", "No such file")
+
+    def test_a_directory_in_place_of_a_file(self) -> None:
+        self.assert_fails(self.explore("steps", str(self.directory)), 1, "Is a directory")
+        self.assert_fails(self.explore("import", "lackey", str(self.directory)), 1, "Is a directory")
+        self.assert_fails(self.explore("steps", "-", "-o", str(self.directory), text=WRITE), 1, "is a directory")
+
+    def test_a_place_that_cannot_be_written(self) -> None:
+        self.assert_fails(self.explore("cuts", "-", "-o", self.path("none/a"), text=WRITE), 1, "no directory")
+
+    def test_a_malformed_line_is_named(self) -> None:
+        for line, told in (("READ 0 0", "no such command"), ("read 0", "too few or too many words"),
+                           ("read x 0", "a number"), ("read 9 0", "a port above 7"), (f"post 0 0 {ONES[1:]}", "hex"),
+                           ("#" * 1025, "1,024 bytes")):
+            with self.subTest(told):
+                trace = self.file("bad.trace", f"# a comment\r\nstat\n{line}\nstat\n")
+                self.assert_fails(self.explore("steps", trace), 1, "bad.trace, line 3: ", told)
+
+    def test_bytes_that_are_no_text(self) -> None:
+        trace = self.path("bytes")
+        Path(trace).write_bytes(bytes(range(11, 256)))
+        result = self.explore("steps", trace)
+        self.assert_fails(result, 1, "line 1: no such command")
+        self.assertTrue(result.stderr.rstrip("\n").isprintable())
+
+    def test_output_file_is_replaced_whole(self) -> None:
+        self.file("steps.txt", "old")
+        self.assertEqual(self.output("steps", "-", "-o", self.path("steps.txt"), text=WRITE), "")
+        self.assertEqual(self.names(), ["steps.txt"])
+        self.assertIn("7 persist steps", Path(self.path("steps.txt")).read_text())
+
+    def test_what_is_no_plain_file_is_written_as_it_stands(self) -> None:
+        self.assertIn("0 commands", self.output("steps", "-", "-o", "/dev/stdout", text=""))
+        os.symlink(self.path("there.txt"), self.path("link.txt"))
+        self.output("steps", "-", "-o", self.path("link.txt"), text="")
+        self.assertTrue(os.path.islink(self.path("link.txt")))
+        self.assertEqual(self.names(), ["link.txt", "there.txt"])
+
+    def test_output_file_stays_where_the_trace_is_wrong(self) -> None:
+        self.file("steps.txt", "old")
+        self.assert_fails(self.explore("steps", "-", "-o", self.path("steps.txt"), text="x\n"), 1, "standard input")
+        self.assertEqual(Path(self.path("steps.txt")).read_text(), "old")
+
+
+class ProgramsTest(ExploreTest):
+    def test_a_program_that_is_not_there(self) -> None:
+        for command in ("steps", "cuts", "sweep"):
+            self.assert_fails(self.explore(command, "-", "--program", self.path("none"), text=WRITE), 1,
+                              "cannot run the program", "none", "No such file")
+        self.assert_fails(self.explore("steps", "-", text=WRITE, PMEM_PROGRAM=str(self.directory)), 1,
+                          "cannot run the program", "Permission denied")
+
+    def test_a_program_that_is_another_one(self) -> None:
+        for text in ("", "import sys; print('hello')", "import sys; print('forged 1')",
+                     "print('ok'); print('what is this')", "print('ok'); print('ok 7')"):
+            with self.subTest(text):
+                program = self.script("other", text)
+                self.assert_fails(self.explore("steps", "-", "--program", program, text=WRITE), 1, "other")
+
+    def test_a_program_that_fails(self) -> None:
+        for text, told in (("import sys; sys.exit(9)", "ended with status 9"),
+                           ("import sys; print('stop memory'); sys.exit(1)", "too little memory"),
+                           ("import sys; print('stop lines'); sys.exit(7)", "1,000,000 lines"),
+                           ("import os; os.kill(os.getpid(), 9)", "signal 9")):
+            with self.subTest(told):
+                program = self.script("failing", text)
+                self.assert_fails(self.explore("steps", "-", "--program", program, text=WRITE), 1, told)
+
+    def test_words_that_the_program_refuses(self) -> None:
+        program = self.script("refusing", "import sys; print('stop words'); sys.exit(2)")
+        self.assert_fails(self.explore("steps", "-", "--program", program, text=WRITE), 2, "refuses its options")
+
+
+class InterruptsTest(ExploreTest):
+    def interrupted(self, quick: int, *words: str) -> "subprocess.CompletedProcess[str]":
+        """A command that is interrupted once a run is under way that doesn't end, after some quick ones."""
+        runs = self.directory / "runs"
+        runs.mkdir()
+        program = self.script("slow", SLOW_PROGRAM.format(quick=quick, program=program_path()))
+        process = subprocess.Popen([sys.executable, str(EXPLORE), *words, "--program", program],
+                                   stdout=subprocess.PIPE, stderr=subprocess.PIPE, universal_newlines=True)
+        self.wait_until(lambda: len(os.listdir(runs)) > quick)
+        process.send_signal(signal.SIGINT)
+        out, err = process.communicate(timeout=20)
+        self.assertFalse(any(is_running(int(name)) for name in os.listdir(runs)))
+        shutil.rmtree(runs)
+        return subprocess.CompletedProcess(words, process.returncode, out, err)
+
+    def wait_until(self, condition: Callable[[], bool]) -> None:
+        """Waits for something that comes soon."""
+        end = time.monotonic() + 60
+        while not condition():
+            self.assertLess(time.monotonic(), end)
+            time.sleep(0.05)
+
+    def test_no_half_file_is_left(self) -> None:
+        trace = self.file("a.trace", WRITE)
+        for command, quick in (("steps", 0), ("steps", 3), ("cuts", 2), ("sweep", 1)):
+            with self.subTest((command, quick)):
+                result = self.interrupted(quick, command, trace, "-o", self.path("out.txt"))
+                self.assertEqual((result.returncode, result.stdout, result.stderr), (130, "", "explore: interrupted\n"))
+                self.assertEqual(self.names(), ["a.trace", "slow"])
+
+    def test_a_program_that_was_interrupted(self) -> None:
+        program = self.script("interrupted", "import os; os.kill(os.getpid(), 2)")
+        result = self.explore("steps", "-", "--program", program, text=WRITE)
+        self.assertEqual((result.returncode, result.stdout), (130, ""))
+
+    def test_progress_on_a_terminal_alone(self) -> None:
+        trace = self.file("a.trace", WRITE)
+        main, side = pty.openpty()
+        self.addCleanup(os.close, main)
+        process = subprocess.Popen([sys.executable, str(EXPLORE), "steps", trace], stdout=subprocess.DEVNULL,
+                                   stderr=side)
+        os.close(side)
+        text = b""
+        while not re.search(rb"steps: 6 of 6", text):
+            text += os.read(main, 4096)
+        self.assertEqual(process.wait(timeout=60), 0)
+
+    def test_a_reader_that_goes_away(self) -> None:
+        trace = self.file("a.trace", WRITE * 50)
+        process = subprocess.Popen([sys.executable, str(EXPLORE), "steps", trace, "--lines", "1-2", "--whole"],
+                                   stdout=subprocess.PIPE, stderr=subprocess.PIPE)
+        assert process.stdout is not None and process.stderr is not None
+        process.stdout.close()
+        self.assertEqual(process.stderr.read(), b"")
+        self.assertEqual(process.wait(timeout=60), 1)
+        process.stderr.close()
+
+
+def is_running(number: int) -> bool:
+    """Whether a process is there."""
+    try:
+        os.kill(number, 0)
+    except ProcessLookupError:
+        return False
+    return True
