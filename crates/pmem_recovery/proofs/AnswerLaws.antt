@@ -1,6 +1,5 @@
 -- Laws of recovery's answers: what each says of the device, of the registers and of the lines.
-use Rattle.std.proofs.Common.{rules, ℕ, ◌≡◌, ◌<◌, ◌≤◌, ◌+◌, ◌*◌, List, [], length, Option, Some, None, refl, ap, sym, subst, ◌∙◌, inl, inr, arith}
-use Rattle.std.specs.Prelude.{is_some}
+use Rattle.std.proofs.Common.{rules, ℕ, ◌≡◌, ◌<◌, ◌≤◌, ◌+◌, ◌*◌, List, [], length, Option, Some, refl, ap, sym, subst, ◌∙◌, inl, inr, arith}
 use Rattle.std.proofs.lemmas.List.Elements.{All-nil, All-same}
 use Rattle.pmem_base.specs.declared.lines.Line.{Line}
 use Rattle.pmem_base.specs.declared.registers.Regs.{Regs}
@@ -9,7 +8,7 @@ use Rattle.pmem_base.specs.Layout as layout
 use Rattle.pmem_base.specs.Lines.{line_at}
 use Rattle.pmem_base.specs.Registers.{without_group}
 use Rattle.board.specs.Counts.{RisesBy}
-use Rattle.board.specs.Device.{AreLinesOf, AreToldLines}
+use Rattle.board.specs.Device.{AreLinesOf}
 use Rattle.commit_regs.specs.Groups.{redone, redone_told, RisesAtMost}
 use Rattle.suite.specs.Setup.{Setup}
 use Rattle.seal_ledger.specs.Ledger.{LedgerState}

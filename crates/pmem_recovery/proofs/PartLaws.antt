@@ -9,7 +9,7 @@ use Rattle.pmem_base.specs.Geo.{shape_of}
 use Rattle.pmem_base.specs.Shape.{Shape, IsShape}
 use Rattle.pmem_base.specs.Layout.{slots, meta_lines}
 use Rattle.pmem_base.specs.declared.lines.Line.{Line}
-use Rattle.pmem_base.specs.Counts.{risen}
+use Rattle.pmem_base.specs.Counts.{risen, risen_times}
 use Rattle.board.specs.Device.{Device}
 use Rattle.board.specs.Steps.{Tells, HasRead, WasCut}
 use Rattle.pmem_base.specs.Lines.{line_at}

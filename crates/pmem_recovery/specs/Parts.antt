@@ -13,7 +13,6 @@ use Rattle.board.specs.Device.{Device}
 use Rattle.suite.specs.Formulas.{Formulas}
 use Rattle.suite.specs.Setup.{Setup}
 use Rattle.stop_loss.specs.declared.Found.{Found}
-use Rattle.stop_loss.specs.declared.Found.TheVariants as Found
 use Rattle.collision_witness.specs.Exhibits.{IsExhibit}
 use Rattle.pmem_recovery.specs.declared.entries.Made.{Made}
 use Rattle.pmem_recovery.specs.declared.faults.RecFault.{RecFault}

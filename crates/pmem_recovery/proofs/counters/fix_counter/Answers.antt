@@ -1,8 +1,7 @@
-use Rattle.std.proofs.Common.{ℕ, ◌≡◌, ◌<◌, ◌+◌, ◌-◌, ◌*◌, ◌/◌, ◌^◌, ◌++◌, ◌∷◌, [], Bool, List, sym, ap, subst, refl, ◌∙◌, lit<, arith}
+use Rattle.std.proofs.Common.{ℕ, ◌≡◌, ◌+◌, ◌-◌, ◌*◌, ◌/◌, ◌^◌, ◌++◌, ◌∷◌, [], Bool, List, sym, ap, subst, refl, ◌∙◌, lit<, arith}
 use Rattle.std.proofs.lemmas.Result.{err_from_is_err_and}
 use Rattle.pmem_base.specs.declared.lines.Line.{Line}
 use Rattle.pmem_base.specs.Geo.{shape_of}
-use Rattle.pmem_base.specs.Layout.{pages, meta_line}
 use Rattle.pmem_base.specs.Lines.{line_at}
 use Rattle.bonsai_tree.specs.Positions.{counter_position}
 use Rattle.split_counters.specs.Blocks.{packed, unpacked}

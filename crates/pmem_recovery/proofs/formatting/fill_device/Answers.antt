@@ -1,8 +1,8 @@
-use Rattle.std.proofs.Common.{ℕ, ◌≡◌, ◌<◌, ◌≤◌, ◌-◌, List, [], refl, subst, ◌∙◌, arith}
+use Rattle.std.proofs.Common.{ℕ, ◌≡◌, ◌<◌, ◌≤◌, List, [], refl, subst, ◌∙◌, arith}
 use Rattle.std.proofs.lemmas.List.{get_or_default}
 use Rattle.pmem_base.specs.Shape.{Shape}
 use Rattle.pmem_base.specs.Geo.{shape_of}
-use Rattle.pmem_base.specs.Layout.{meta_lines, data_lines}
+use Rattle.pmem_base.specs.Layout.{meta_lines}
 use Rattle.pmem_base.proofs.LayoutLemmas.{pages-least}
 use Rattle.bonsai_tree.specs.Positions.{counter_position}
 use Rattle.bonsai_tree.proofs.Levels.{meta_lines-counters}
