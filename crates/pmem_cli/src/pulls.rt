@@ -18,13 +18,7 @@ pub(crate) fn next_pulls(pulls: Pulls, is_last: bool) -> Pulls
     ensures { result ≡ pulls_after pulls is_last }
 {
     match pulls {
-        Pulls::Open => {
-            if is_last {
-                Pulls::Ended
-            } else {
-                Pulls::Open
-            }
-        }
+        Pulls::Open => { if is_last { Pulls::Ended } else { Pulls::Open } }
         Pulls::Ended | Pulls::Late => Pulls::Late,
     }
 }
