@@ -10,7 +10,7 @@ use Rattle.pmem_base.specs.declared.commands.Kind.{Kind}
 use Rattle.pmem_base.specs.declared.answers.Exhibit.{Exhibit}
 use Rattle.collision_witness.specs.Reading.{exhibit_of_line}
 use Rattle.plain_model.specs.declared.Stop.{Stop}
-use Rattle.plain_model.specs.declared.Stop.TheVariants.{Finished, Words, Memory, ReadFault, WriteFault, Refused, Shown, TooManyLines}
+use Rattle.plain_model.specs.declared.Stop.TheVariants.{Finished, ReadFault, Refused, TooManyLines}
 use Rattle.plain_model.specs.Lines.{lines_of, ended, IsWithin}
 use Rattle.plain_model.specs.Run.{line_limit}
 use Rattle.pmem_cli.specs.Checked.{is_skipped, found_with, found_on, found_in_lines, IsRefusedIn, IsBrokenOff, LooksTo, HasLooked, ChecksLine, ChecksNext}

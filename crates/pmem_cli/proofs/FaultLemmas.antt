@@ -1,8 +1,8 @@
 -- Counts of faults, and the stops that faults cause.
-use Rattle.std.proofs.Common.{◌≡◌, ◌≢◌, ◌∙◌, ◌≤◌, ◌+◌, ℕ, refl, sym, ap, arith, inl, inr}
-use Rattle.std.specs.Prelude.{◌⊎◌, Option, Some, None, Result, Ok, Err}
+use Rattle.std.proofs.Common.{◌≡◌, ◌≢◌, ◌∙◌, ℕ, refl, arith}
+use Rattle.std.specs.Prelude.{Option, Some, Err}
 use Rattle.plain_model.specs.declared.Stop.{Stop}
-use Rattle.plain_model.specs.declared.Stop.TheVariants.{Finished, Memory, Words, ReadFault, WriteFault, Refused, Shown, TooManyLines}
+use Rattle.plain_model.specs.declared.Stop.TheVariants.{Words, ReadFault, WriteFault}
 use Rattle.pmem_cli.specs.Causes.{Rose, HasCause, CountsFault}
 use Rattle.pmem_cli.specs.Turns.{StopsByCause}
 

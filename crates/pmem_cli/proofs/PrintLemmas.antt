@@ -1,6 +1,6 @@
 -- Texts that were printed one after the other.
 use Rattle.std.proofs.Common.{◌∙◌, ◌≤◌, arith, List, ℕ, [], ◌++◌, sym, ap, append_assoc, append-nil}
-use Rattle.std.specs.Prelude.{Option, Result, Ok, Err, OnOk, OnErr}
+use Rattle.std.specs.Prelude.{Option, Result, Ok, Err, OnErr}
 use Rattle.std.specs.Io.KnownBytes.{Appends}
 use Rattle.std.proofs.KnownBytes.{Appends-nil, Appends-trans}
 use Rattle.std.proofs.lemmas.Bool.Decides.{nat_tests}

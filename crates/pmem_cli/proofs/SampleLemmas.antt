@@ -12,12 +12,12 @@ use Rattle.suite.specs.Setup.{Setup}
 use Rattle.plain_model.specs.Answers.{is_shown}
 use Rattle.plain_model.specs.Texts.{as_line, answer_text}
 use Rattle.plain_model.specs.declared.Stop.{Stop}
-use Rattle.plain_model.specs.declared.Stop.TheVariants.{Finished, Memory, WriteFault, Shown}
+use Rattle.plain_model.specs.declared.Stop.TheVariants.{Memory, Shown}
 use Rattle.plain_model.specs.Run.{Machine, Step, machine_after, machine_after_all, IsAnswered, AreAnswered}
 use Rattle.trace_text.specs.Samples.{sample_command, sample_trace, state_of_seed, word_at, state_after_word, commands_from}
 use Rattle.pmem_replay.specs.World.{WorldState}
 use Rattle.pmem_replay.specs.Stepped.{IsNewWorld}
-use Rattle.pmem_cli.specs.Printed.{Output, Prints, PrintsFront}
+use Rattle.pmem_cli.specs.Printed.{Output, Prints}
 use Rattle.pmem_cli.specs.Standing.{Standing, standing_of, AreStepped, StandingAfter}
 use Rattle.pmem_cli.specs.Turns.{HasReplied}
 use Rattle.pmem_cli.specs.Sampled.{IsLastAnswer, SampleEnds, HasCome, HasReached, HasToldSample}

@@ -7,8 +7,6 @@ use Rattle.pmem_base.specs.declared.commands.Command.TheVariants as Do
 use Rattle.pmem_base.specs.declared.answers.Answer.{Answer}
 use Rattle.pmem_base.specs.declared.answers.Answer.TheVariants as Say
 use Rattle.pmem_base.specs.declared.answers.Exhibit.{Exhibit}
-use Rattle.pmem_base.specs.declared.answers.Exhibit.TheVariants.{Twin}
-use Rattle.pmem_base.specs.Ranges.{IsAnswer}
 use Rattle.pmem_base.specs.Shape.{Shape, is_loss}
 use Rattle.pmem_base.specs.Layout as layout
 use Rattle.pmem_base.specs.WaitingWrites.{queue_of}
@@ -18,7 +16,6 @@ use Rattle.plain_model.specs.State.{PlainState, Reply}
 use Rattle.plain_model.specs.View.{DeviceView}
 use Rattle.plain_model.specs.Answers.{is_shown, is_covered, is_on_device, posting_answer, decided_answer}
 use Rattle.plain_model.specs.Shown.{IsEngineReply, IsShownAnswer, IsLegal}
-use Rattle.trace_text.specs.Answers.{HasSmallMinors}
 
 -- ---- the table
 

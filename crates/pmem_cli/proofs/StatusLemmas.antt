@@ -4,7 +4,7 @@ use Rattle.std.proofs.lemmas.Bool.{cases_eq}
 use Rattle.std.specs.Prelude.{◌⊎◌, Option, None, Some, IfSome, IsNone}
 use Rattle.suite.specs.Setup.{Setup}
 use Rattle.plain_model.specs.declared.Stop.{Stop}
-use Rattle.plain_model.specs.declared.Stop.TheVariants.{Finished, Words, Memory, ReadFault, WriteFault, Refused, Shown, TooManyLines}
+use Rattle.plain_model.specs.declared.Stop.TheVariants.{Finished, ReadFault, WriteFault}
 use Rattle.plain_model.specs.Run.{Ends, steps_text, stop_text}
 use Rattle.pmem_base.specs.declared.commands.Command.{Command}
 use Rattle.std.specs.Io.KnownBytes.{Appends}

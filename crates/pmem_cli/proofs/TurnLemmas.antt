@@ -1,5 +1,5 @@
 -- Turns of a run, one after the other.
-use Rattle.std.proofs.Common.{◌≤◌, ◌≡◌, ◌∙◌, ◌+◌, ◌<◌, ℕ, List, [], ◌∷◌, ◌++◌, length, false, refl, sym, ap, subst, arith, append-nil, append_assoc, length-append, inl}
+use Rattle.std.proofs.Common.{◌≤◌, ◌≡◌, ◌∙◌, ◌+◌, ◌<◌, ℕ, List, [], ◌∷◌, ◌++◌, length, false, refl, sym, ap, subst, arith, append-nil, length-append, inl}
 use Rattle.std.specs.Prelude.{Option, None, Some, IfSome, Ok}
 use Rattle.std.specs.List.{flat_map}
 use Rattle.std.specs.Io.KnownBytes.{Consumes, Keeps, IsAtEnd, prepend_known}
@@ -9,7 +9,7 @@ use Rattle.std.proofs.lemmas.List.Elements.{All-append, All-cons, All-nil}
 use Rattle.pmem_base.specs.declared.commands.Command.{Command}
 use Rattle.pmem_base.specs.declared.commands.Kind.TheVariants.{Long}
 use Rattle.plain_model.specs.declared.Stop.{Stop}
-use Rattle.plain_model.specs.declared.Stop.TheVariants.{Finished, Words, Memory, ReadFault, WriteFault, Refused, Shown, TooManyLines}
+use Rattle.plain_model.specs.declared.Stop.TheVariants.{Finished, Memory, ReadFault, WriteFault, Refused, Shown, TooManyLines}
 use Rattle.plain_model.specs.Lines.{lines_of, IsWithin, ended}
 use Rattle.plain_model.specs.Grammar.{reading_of}
 use Rattle.plain_model.specs.Run.{Machine, Step, step_text, steps_text, machine_after_all, IsRunFrom, IsCutShortFrom, EndsFrom, line_limit}

@@ -1,5 +1,5 @@
 -- What one call leaves of a run: the lines that it took, the replies that it printed, and how it stopped.
-use Rattle.std.specs.Prelude.{◌≡◌, ◌≢◌, ◌≤◌, ℕ, true, false, List, [], ◌∷◌, All, IfSome, IsTrue, Option, Some, None, Ok, Err}
+use Rattle.std.specs.Prelude.{◌≡◌, ◌≢◌, ℕ, true, false, List, [], ◌∷◌, All, IfSome, IsTrue, Option, Some, None, Ok, Err}
 use Rattle.std.specs.List.{flat_map}
 use Rattle.std.specs.Io.KnownBytes.{Consumes}
 use Rattle.pmem_base.specs.declared.commands.Command.{Command}

@@ -1,5 +1,4 @@
-use Rattle.std.proofs.Common.{◌≡◌, ◌+◌, refl, arith}
-use Rattle.std.specs.Io.KnownBytes.{prepend_known}
+use Rattle.std.proofs.Common.{◌≡◌, refl, arith}
 use Rattle.plain_model.specs.declared.Stop.TheVariants.{ReadFault}
 use Rattle.pmem_cli.proofs.CheckLemmas.{ChecksNext-line, HasLooked-last, HasLooked-at_last, HasLooked-long, HasLooked-end, HasLooked-fault}
 use Rattle.pmem_cli.proofs.FaultLemmas.{CountsFault-none, CountsFault-err}

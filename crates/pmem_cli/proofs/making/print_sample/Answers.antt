@@ -1,8 +1,7 @@
 use Rattle.std.proofs.Common.{◌≡◌, ◌∙◌, ◌+◌, ◌%◌, ◌^◌, [], ◌++◌, refl, arith}
 use Rattle.std.proofs.Math.Nat.{mod-eq_of_lt}
-use Rattle.pmem_base.specs.declared.commands.Command.TheVariants as Do
 use Rattle.plain_model.specs.Texts.{as_line, command_text}
-use Rattle.trace_text.specs.Samples.{sample_trace, sample_command, word_at, commands_text}
+use Rattle.trace_text.specs.Samples.{sample_command, word_at}
 use Rattle.pmem_cli.specs.Printed.{with_waiting}
 use Rattle.std.proofs.lemmas.Result.{err_from_is_err_and, on_err_weaker, on_ok_weaker}
 use Rattle.pmem_cli.proofs.PrintLemmas.{Prints-nil, Prints-trans, OnErr-fact}

@@ -1,4 +1,4 @@
-use Rattle.std.proofs.Common.{◌≡◌, ◌≤◌, ◌+◌, ◌++◌, ℕ, List}
+use Rattle.std.proofs.Common.{◌≡◌, ◌+◌, ◌++◌, ℕ, List}
 use Rattle.trace_text.specs.Samples.{state_of_seed, commands_from, commands_text}
 use Rattle.pmem_cli.specs.Printed.{Prints, with_waiting}
 use Rattle.pmem_cli.proofs.making.print_sample.Given as goal

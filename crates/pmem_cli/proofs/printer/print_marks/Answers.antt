@@ -1,7 +1,6 @@
-use Rattle.std.proofs.Common.{◌∙◌, [], ◌++◌, get_or, List, refl, arith}
-use Rattle.pmem_base.specs.declared.answers.Mark.{Mark}
+use Rattle.std.proofs.Common.{◌∙◌, [], ◌++◌, get_or, refl, arith}
 use Rattle.pmem_base.specs.declared.answers.Mark.TheVariants.{Begin}
-use Rattle.plain_model.specs.Texts.{as_line, mark_text, marks_text}
+use Rattle.plain_model.specs.Texts.{as_line, mark_text}
 use Rattle.pmem_cli.specs.Printed.{with_waiting}
 use Rattle.std.proofs.lemmas.Result.{err_from_is_err_and}
 use Rattle.pmem_cli.proofs.PrintLemmas.{Prints-nil, Prints-trans, OnErr-fact}

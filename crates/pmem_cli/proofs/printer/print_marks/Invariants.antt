@@ -1,4 +1,4 @@
-use Rattle.std.proofs.Common.{◌≡◌, ◌≤◌, ◌++◌, ℕ, List, drop}
+use Rattle.std.proofs.Common.{◌≡◌, ◌++◌, ℕ, List, drop}
 use Rattle.plain_model.specs.Texts.{marks_text}
 use Rattle.pmem_cli.specs.Printed.{Prints, with_waiting}
 use Rattle.pmem_cli.proofs.printer.print_marks.Given as goal

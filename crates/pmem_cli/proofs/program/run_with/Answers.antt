@@ -1,5 +1,3 @@
-use Rattle.pmem_base.specs.Geo.{shape_of}
-use Rattle.pmem_cli.specs.Printed.{with_waiting}
 use Rattle.pmem_cli.proofs.ReplayLemmas.{HasReplayed-memory, HasReplayed-served}
 use Rattle.pmem_cli.proofs.program.run_with.Goals as goal
 

@@ -3,7 +3,7 @@ use Rattle.std.proofs.Math.Nat.{mod-eq_of_lt}
 use Rattle.pmem_base.specs.declared.commands.Command.{Command}
 use Rattle.pmem_base.specs.declared.commands.Command.TheVariants as Do
 use Rattle.plain_model.specs.Run.{Step}
-use Rattle.trace_text.specs.Samples.{sample_trace, commands_from, state_after_word}
+use Rattle.trace_text.specs.Samples.{sample_trace, commands_from}
 use Rattle.pmem_replay.specs.Stepped.{reply_in}
 use Rattle.pmem_cli.specs.Standing.{standing_of}
 use Rattle.pmem_cli.specs.Sampled.{HasCome}

@@ -1,6 +1,3 @@
-use Rattle.pmem_base.specs.Geo.{shape_of}
-use Rattle.trace_text.specs.Samples.{sample_trace}
-use Rattle.pmem_cli.specs.Printed.{with_waiting}
 use Rattle.pmem_cli.proofs.SampleLemmas.{HasRunSample-memory, HasRunSample-told}
 use Rattle.pmem_cli.proofs.sampling.sample_with.Goals as goal
 

@@ -1,7 +1,4 @@
 use Rattle.std.proofs.Common.{◌∙◌, sym}
-use Rattle.trace_text.specs.Samples.{sample_trace}
-use Rattle.pmem_cli.specs.Printed.{with_waiting}
-use Rattle.pmem_cli.specs.Standing.{standing_of}
 use Rattle.pmem_cli.proofs.SampleLemmas.{told-shown}
 use Rattle.pmem_cli.proofs.sampling.tell_sample.Goals as goal
 

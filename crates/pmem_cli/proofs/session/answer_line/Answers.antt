@@ -1,6 +1,4 @@
 use Rattle.std.proofs.Common.{[], sym}
-use Rattle.pmem_cli.specs.Printed.{with_waiting}
-use Rattle.pmem_cli.specs.Standing.{standing_of}
 use Rattle.pmem_cli.proofs.TurnLemmas.{HasAnswered-skipped, AnswersLine-asked}
 use Rattle.pmem_cli.proofs.session.answer_line.Goals as goal
 

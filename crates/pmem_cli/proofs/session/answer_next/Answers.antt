@@ -1,7 +1,4 @@
-use Rattle.std.proofs.Common.{arith, ◌+◌, refl}
-use Rattle.std.specs.Io.KnownBytes.{prepend_known}
-use Rattle.pmem_cli.specs.Printed.{with_waiting}
-use Rattle.pmem_cli.specs.Standing.{standing_of}
+use Rattle.std.proofs.Common.{arith, refl}
 use Rattle.pmem_cli.proofs.TurnLemmas.{HasStopped-fault, Turns-line, HasStopped-last, HasStopped-at_last, HasStopped-long, HasStopped-end}
 use Rattle.pmem_cli.proofs.FaultLemmas.{stops_unfailed, stops_unread, stops_after}
 use Rattle.pmem_cli.proofs.session.answer_next.Goals as goal

@@ -1,7 +1,7 @@
 use Rattle.std.specs.Prelude.{slice_range}
 use Rattle.plain_model.specs.Texts.{as_line, answer_text, marks_text, reply_text}
 use Rattle.pmem_replay.specs.Stepped.{reply_in}
-use Rattle.pmem_cli.specs.Printed.{Prints, PrintsFront, with_waiting}
+use Rattle.pmem_cli.specs.Printed.{PrintsFront, with_waiting}
 use Rattle.std.proofs.lemmas.Result.{on_err_weaker, on_ok_weaker}
 use Rattle.pmem_cli.proofs.PrintLemmas.{Prints-trans, PrintsFront-trans, PrintsFront-more, OnErr-fact}
 use Rattle.pmem_cli.proofs.session.print_reply.Goals as goal

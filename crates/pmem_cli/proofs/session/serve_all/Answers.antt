@@ -1,12 +1,6 @@
-use Rattle.std.proofs.Common.{false, ◌≡◌, ◌+◌, ◌++◌, ◌∷◌, ◌∙◌, [], length, refl, subst, arith, length-append}
-use Rattle.std.specs.Io.KnownBytes.{prepend_known}
+use Rattle.std.proofs.Common.{◌≡◌, ◌+◌, ◌++◌, ◌∷◌, ◌∙◌, [], length, refl, arith, length-append}
 use Rattle.std.proofs.KnownBytes.{prepend_known-nil, Consumes-nil, Consumes-kept}
 use Rattle.std.proofs.lemmas.List.Elements.{All-nil}
-use Rattle.plain_model.specs.declared.Stop.TheVariants.{Finished, ReadFault, WriteFault, TooManyLines}
-use Rattle.plain_model.specs.Lines.{is_line_end}
-use Rattle.pmem_cli.specs.Printed.{with_waiting}
-use Rattle.pmem_cli.specs.Standing.{standing_of}
-use Rattle.pmem_cli.specs.Turns.{HasStopped}
 use Rattle.pmem_cli.proofs.FaultLemmas.{stops_unfailed, stops_unread, stops_unwritten}
 use Rattle.pmem_cli.proofs.TurnLemmas.{HasServed-nil, HasServed-trans, HasServed-kept, HasServed-put, HasStopped-after, HasStopped-fault, HasStopped-end, HasStopped-limit, HasStopped-unput}
 use Rattle.pmem_cli.proofs.session.serve_all.Goals as goal

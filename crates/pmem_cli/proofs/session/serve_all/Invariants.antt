@@ -1,4 +1,4 @@
-use Rattle.std.proofs.Common.{◌≡◌, ◌≤◌, ℕ, false, List, length}
+use Rattle.std.proofs.Common.{◌≡◌, ℕ, false, List, length}
 use Rattle.std.specs.Io.KnownBytes.{prepend_known}
 use Rattle.plain_model.specs.Run.{Step}
 use Rattle.pmem_cli.specs.Printed.{with_waiting}

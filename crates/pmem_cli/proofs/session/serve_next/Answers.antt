@@ -1,7 +1,4 @@
 use Rattle.std.proofs.Common.{refl, arith}
-use Rattle.std.specs.Io.KnownBytes.{prepend_known}
-use Rattle.pmem_cli.specs.Printed.{with_waiting}
-use Rattle.pmem_cli.specs.Standing.{standing_of}
 use Rattle.pmem_cli.proofs.TurnLemmas.{HasStopped-unput, Turns-put}
 use Rattle.pmem_cli.proofs.FaultLemmas.{stops_unwritten}
 use Rattle.pmem_cli.proofs.session.serve_next.Goals as goal
