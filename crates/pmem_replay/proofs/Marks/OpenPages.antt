@@ -1,19 +1,18 @@
 -- The open pages of the view of a chip that is anchored, and the mark of a turn.
 use Rattle.std.proofs.Common.{ℕ, ◌≡◌, ◌<◌, ◌≤◌, ◌+◌, ◌*◌, List, [], ◌∷◌, length, map, Option, Some, None, false, refl, sym, ap, subst, ◌∙◌, arith}
-use Rattle.std.specs.Prelude.{All, not, MatchOption, option_map, option_and_then, slice_get, ◌==◌}
+use Rattle.std.specs.Prelude.{All, MatchOption, option_map, option_and_then, slice_get, ◌==◌}
 use Rattle.std.specs.List.{list_any}
 use Rattle.std.proofs.lemmas.Bool.{true≢false, and_right, or_from}
 use Rattle.std.proofs.lemmas.List.Elements.{All-head, All-tail, All-cons, All-nil}
-use Rattle.std.proofs.lemmas.List.Sums.{count_by-le-length, length-filter}
 use Rattle.pmem_base.specs.declared.answers.Mark.{Mark}
 use Rattle.pmem_base.specs.declared.answers.Place.{Place}
 use Rattle.pmem_base.specs.declared.registers.Progress.{Progress}
 use Rattle.pmem_base.specs.declared.registers.Regs.{Regs}
 use Rattle.pmem_base.specs.Shape.{Shape}
 use Rattle.pmem_base.specs.Layout as layout
-use Rattle.pmem_base.specs.Registers.{IsProgress, is_done, not_done, places_of_page}
+use Rattle.pmem_base.specs.Registers.{IsProgress}
 use Rattle.pmem_engine.proofs.PostedWrites.WritePremises.{few_left}
-use Rattle.page_reencrypt.proofs.DoneBits.{not_done-small, length-places}
+use Rattle.page_reencrypt.proofs.DoneBits.{not_done-small}
 use Rattle.seal_ledger.specs.Ledger.{LedgerState}
 use Rattle.suite.specs.Formulas.{Formulas}
 use Rattle.suite.specs.Setup.{Setup}

@@ -5,7 +5,6 @@ use Rattle.pmem_base.specs.declared.lines.Line.{Line}
 use Rattle.pmem_base.specs.declared.commands.Command.TheVariants as Do
 use Rattle.pmem_base.specs.Geo.{shape_of}
 use Rattle.pmem_base.specs.Layout as layout
-use Rattle.pmem_base.specs.WaitingWrites.{queue_of, writes_to}
 use Rattle.board.specs.MemBoard.{memory_of}
 use Rattle.seal_ledger.specs.View.{ledger_of}
 use Rattle.plain_model.specs.Answers.{is_covered}
