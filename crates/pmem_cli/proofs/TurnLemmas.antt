@@ -79,28 +79,6 @@ HasServed-trans a b c s t u p q r ls ms xs ys first second = record {
   answered = HasAnswered-trans s t u p q r ls ms xs ys first.answered second.answered;
 }
 
--- what is ahead may be at hand now
-pub HasServed-kept : (a b c : Option (List ℕ)) (s t : Standing) (p q : Output) (ls : List (List ℕ)) (xs : List Step)
-    → HasServed a b s t p q ls xs → Keeps b c → HasServed a c s t p q ls xs
-HasServed-kept a b c s t p q ls xs served kept = record {
-  taken = Consumes-kept a b c (flat_map ended ls) served.taken kept;
-  within = served.within;
-  answered = served.answered;
-}
-
--- what waited may be put now
-pub HasServed-put : (a b : Option (List ℕ)) (s t : Standing) (p q r : Output) (ls : List (List ℕ)) (xs : List Step)
-    → HasServed a b s t p q ls xs → Prints q r [] → HasServed a b s t p r ls xs
-HasServed-put a b s t p q r ls xs served put = record {
-  taken = served.taken;
-  within = served.within;
-  answered = record {
-    run = served.answered.run;
-    on = served.answered.on;
-    printed = rw append-nil at (Prints-trans p q r (steps_text xs) [] served.answered.printed put);
-  };
-}
-
 ends_after : (left a b : Option (List ℕ)) (s t : Standing) (p q : Output) (ls : List (List ℕ)) (xs ys : List Step) (stop : Stop) (k : ℕ)
     → HasServed a b s t p q ls xs → IfSome b (λ bytes. EndsFrom t.setup t.machine (k + length ls) stop bytes left ys)
     → IfSome a (λ bytes. EndsFrom s.setup s.machine k stop bytes left (xs ++ ys))
@@ -297,11 +275,13 @@ all_unread None unread = tt
 all_unread (Some xs) unread = refl
 
 -- the limit is reached, and a byte follows
-pub HasStopped-limit : (known left : Option (List ℕ)) (unread : List ℕ) (s : Standing) (p : Output) (served : ℕ) → 0 < length unread → served ≡ line_limit
-    → HasStopped TooManyLines (prepend_known unread known) left s p p served
-HasStopped-limit known left unread s p served some limit =
-    HasStopped-quiet TooManyLines (prepend_known unread known) left s p served
-    (IfSome-ahead (prepend_known unread known) known unread (λ bytes. EndsFrom s.setup s.machine served TooManyLines bytes left []) (all_unread known unread)
+pub HasStopped-limit : (a known left : Option (List ℕ)) (unread : List ℕ) (s : Standing) (p : Output) (served : ℕ) → Keeps a (prepend_known unread known)
+    → 0 < length unread → served ≡ line_limit → HasStopped TooManyLines a left s p p served
+HasStopped-limit a known left unread s p served kept some limit =
+    let at_hand = prepend_known unread known in
+    let taken = Consumes-trans a at_hand known [] unread (Consumes-kept a a at_hand [] (Consumes-nil a) kept) (all_unread known unread) in
+    HasStopped-quiet TooManyLines a left s p served
+    (IfSome-ahead a known unread (λ bytes. EndsFrom s.setup s.machine served TooManyLines bytes left []) taken
     (λ rest. record {
       front = IsFrontFrom-nil s.setup s.machine (lines_of (unread ++ rest));
       counted = omega (arith, limit);

@@ -1,5 +1,5 @@
 //! The run of a trace.
-ghost use Rattle.std.specs.Prelude.{◌≡◌, ◌<◌, ◌≤◌, ◌⊎◌, ◌↔◌, [], length, slice_range, OnOk, OnErr, Some, IsTrue, Contains, true, false};
+ghost use Rattle.std.specs.Prelude.{◌≡◌, ◌<◌, ◌≤◌, ◌⊎◌, ◌↔◌, [], length, slice_range, OnOk, OnErr, Some, None, IsTrue, Contains, true, false};
 ghost use Rattle.std.specs.Io.KnownBytes.{prepend_known};
 ghost use Rattle.pmem_base.specs.Ranges.{IsCommand};
 ghost use Rattle.plain_model.specs.Answers.{is_shown};
@@ -104,8 +104,8 @@ fn answer_line<U: Counted + Drop, K: Sink>(
     }
 }
 
-/// Takes and answers the next line, and says why the run stops, where it does. No reply waits where that may
-/// pull.
+/// Takes and answers the next line, and says why the run stops, where it does: at the limit of lines it looks
+/// for more. No reply waits where that may pull.
 fn answer_next<U: Counted + Drop, S: Source, K: Sink>(
     alloc: Global,
     served: u32,
@@ -117,14 +117,22 @@ fn answer_next<U: Counted + Drop, S: Source, K: Sink>(
     out: &mut K,
 ) -> Option<Stop>
     requires pushed { Contains reader.old 10 ⊎ (printer.old ≡ []) }
-    requires within { served < 1000000 }
+    requires within { served ≤ 1000000 }
     requires running { world.old.shown ≡ false }
     ensures turn { Turns result (prepend_known reader.old (S.left trace.old)) (prepend_known reader.new (S.left trace.new))
         (S.left trace.new) (standing_of U.formulas_of world.old) (standing_of U.formulas_of world.new)
         (with_waiting (K.put out.old) printer.old) (with_waiting (K.put out.new) printer.new) served }
     ensures cause { StopsByCause result (S.faults trace.old) (S.faults trace.new) (K.faults out.old) (K.faults out.new) }
     ensures pulls { PullsInTime result (S.pulls trace.old) (S.pulls trace.new) }
+    ensures within_limit { result ≡ None → served < 1000000 }
 {
+    if served == LINE_LIMIT {
+        return match reader.is_ended(trace) {
+            Err(Failed) => Some(Stop::ReadFault),
+            Ok(true) => Some(Stop::Finished),
+            Ok(false) => Some(Stop::TooManyLines),
+        };
+    }
     let number = served + 1;
     match reader.next_line(trace, line) {
         Err(Failed) => Some(Stop::ReadFault),
@@ -169,13 +177,14 @@ fn serve_next<U: Counted + Drop, S: Source, K: Sink>(
     printer: &mut Printer,
     out: &mut K,
 ) -> Option<Stop>
-    requires within { served < 1000000 }
+    requires within { served ≤ 1000000 }
     requires running { world.old.shown ≡ false }
     ensures turn { Turns result (prepend_known reader.old (S.left trace.old)) (prepend_known reader.new (S.left trace.new))
         (S.left trace.new) (standing_of U.formulas_of world.old) (standing_of U.formulas_of world.new)
         (with_waiting (K.put out.old) printer.old) (with_waiting (K.put out.new) printer.new) served }
     ensures cause { StopsByCause result (S.faults trace.old) (S.faults trace.new) (K.faults out.old) (K.faults out.new) }
     ensures pulls { PullsInTime result (S.pulls trace.old) (S.pulls trace.new) }
+    ensures within_limit { result ≡ None → served < 1000000 }
 {
     match flush_before_pull(reader, printer, out) {
         Err(Failed) => Some(Stop::WriteFault),
@@ -199,7 +208,8 @@ pub(crate) fn serve_all<U: Counted + Drop, S: Source, K: Sink>(
 {
     let mut reader = LineReader::new();
     let mut line = ArrayVec::new();
-    'lines: for served in 0..LINE_LIMIT {
+    let mut served = 0;
+    'lines: loop {
         if let Some(stop) = serve_next(
             alloc,
             served,
@@ -212,13 +222,6 @@ pub(crate) fn serve_all<U: Counted + Drop, S: Source, K: Sink>(
         ) {
             return stop;
         }
-    }
-    match printer.flush(out) {
-        Err(Failed) => Stop::WriteFault,
-        Ok(()) => match reader.is_ended(trace) {
-            Err(Failed) => Stop::ReadFault,
-            Ok(true) => Stop::Finished,
-            Ok(false) => Stop::TooManyLines,
-        },
+        served += 1;
     }
 }

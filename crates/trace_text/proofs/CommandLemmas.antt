@@ -66,57 +66,6 @@ part_read count line part =
 
 -- ---- commands
 
-post_read : (port at : ℕ) (line : Line) → IsPort port → IsU64 at → IsLine line
-    → reading_of_words last_port verbs (codes "post" ∷ decimal port ∷ decimal at ∷ line_text line ∷ []) ≡ Ok (Some (Do.Post port at line))
-unfolding reading_of_words command_among command_of
-post_read port at line small fits whole = rw (port_read port small, word_read at fits, line_hex line whole) refl
-
-part_command_read : (port at from count : ℕ) (line : Line) → IsPort port → IsU64 at → IsU64 from → IsPartLine count line
-    → reading_of_words last_port verbs (codes "part" ∷ decimal port ∷ decimal at ∷ decimal from ∷ hex_text (take count line.0) ∷ []) ≡ Ok (Some (Do.Part port at from count line))
-unfolding reading_of_words command_among command_of
-part_command_read port at from count line small fits also part =
-    rw (port_read port small, word_read at fits, word_read from also, part_read count line part, (part_bytes count line part).0, part_padded count line part) refl
-
-drain_read : (port : ℕ) → IsPort port → reading_of_words last_port verbs (codes "drain" ∷ decimal port ∷ []) ≡ Ok (Some (Do.Drain port))
-unfolding reading_of_words command_among command_of
-drain_read port small = rw (port_read port small) refl
-
-fence_read : (port : ℕ) → IsPort port → reading_of_words last_port verbs (codes "fence" ∷ decimal port ∷ []) ≡ Ok (Some (Do.Fence port))
-unfolding reading_of_words command_among command_of
-fence_read port small = rw (port_read port small) refl
-
-read_read : (port at : ℕ) → IsPort port → IsU64 at → reading_of_words last_port verbs (codes "read" ∷ decimal port ∷ decimal at ∷ []) ≡ Ok (Some (Do.Read port at))
-unfolding reading_of_words command_among command_of
-read_read port at small fits = rw (port_read port small, word_read at fits) refl
-
-cut_read : (n : ℕ) → IsU64 n → reading_of_words last_port verbs (codes "cut" ∷ decimal n ∷ []) ≡ Ok (Some (Do.Cut n))
-unfolding reading_of_words command_among command_of
-cut_read n fits = rw (word_read n fits) refl
-
-poke_read : (at : ℕ) (line : Line) → IsU64 at → IsLine line → reading_of_words last_port verbs (codes "poke" ∷ decimal at ∷ line_text line ∷ []) ≡ Ok (Some (Do.Poke at line))
-unfolding reading_of_words command_among command_of
-poke_read at line fits whole = rw (word_read at fits, line_hex line whole) refl
-
-flip_read : (at bit : ℕ) → IsU64 at → IsU64 bit → reading_of_words last_port verbs (codes "flip" ∷ decimal at ∷ decimal bit ∷ []) ≡ Ok (Some (Do.Flip at bit))
-unfolding reading_of_words command_among command_of
-flip_read at bit fits also = rw (word_read at fits, word_read bit also) refl
-
-move_read : (from to : ℕ) → IsU64 from → IsU64 to → reading_of_words last_port verbs (codes "move" ∷ decimal from ∷ decimal to ∷ []) ≡ Ok (Some (Do.Move from to))
-unfolding reading_of_words command_among command_of
-move_read from to fits also = rw (word_read from fits, word_read to also) refl
-
-back_read : (at : ℕ) → IsU64 at → reading_of_words last_port verbs (codes "back" ∷ decimal at ∷ []) ≡ Ok (Some (Do.Back at))
-unfolding reading_of_words command_among command_of
-back_read at fits = rw (word_read at fits) refl
-
-peek_read : (at : ℕ) → IsU64 at → reading_of_words last_port verbs (codes "peek" ∷ decimal at ∷ []) ≡ Ok (Some (Do.Peek at))
-unfolding reading_of_words command_among command_of
-peek_read at fits = rw (word_read at fits) refl
-
-loss_read : (n : ℕ) → IsU64 n → reading_of_words last_port verbs (codes "loss" ∷ decimal n ∷ []) ≡ Ok (Some (Do.Loss n))
-unfolding reading_of_words command_among command_of
-loss_read n fits = rw (word_read n fits) refl
-
 -- a command of one word
 plain_read : (word : Word) (command : Command) → IsSolid word → length word ≤ 1024 → reading_of_words last_port verbs (word ∷ []) ≡ Ok (Some command)
     → reading_of (sentence (word ∷ [])) ≡ Ok (Some command)
@@ -127,38 +76,38 @@ unfolding command_text reading_of_words command_among command_of
 command-read_back (Do.Post port at line) range short =
     line_read (codes "post") (decimal port ∷ decimal at ∷ line_text line ∷ []) (literal-solid (codes "post") refl refl)
     (port-solid port range.0, (decimal-solid at range.1, (line-solid line range.2, tt))) short
-    ∙ post_read port at line range.0 range.1 range.2
+    ∙ rw (port_read port range.0, word_read at range.1, line_hex line range.2) refl
 command-read_back (Do.Part port at from count line) range short =
     line_read (codes "part") (decimal port ∷ decimal at ∷ decimal from ∷ hex_text (take count line.0) ∷ []) (literal-solid (codes "part") refl refl)
     (port-solid port range.0, (decimal-solid at range.1, (decimal-solid from range.2, (part-solid count line range.3, tt)))) short
-    ∙ part_command_read port at from count line range.0 range.1 range.2 range.3
+    ∙ rw (port_read port range.0, word_read at range.1, word_read from range.2, part_read count line range.3, (part_bytes count line range.3).0, part_padded count line range.3) refl
 command-read_back (Do.Drain port) range short =
-    line_read (codes "drain") (decimal port ∷ []) (literal-solid (codes "drain") refl refl) (port-solid port range, tt) short ∙ drain_read port range
+    line_read (codes "drain") (decimal port ∷ []) (literal-solid (codes "drain") refl refl) (port-solid port range, tt) short ∙ rw (port_read port range) refl
 command-read_back (Do.Fence port) range short =
-    line_read (codes "fence") (decimal port ∷ []) (literal-solid (codes "fence") refl refl) (port-solid port range, tt) short ∙ fence_read port range
+    line_read (codes "fence") (decimal port ∷ []) (literal-solid (codes "fence") refl refl) (port-solid port range, tt) short ∙ rw (port_read port range) refl
 command-read_back (Do.Read port at) range short =
     line_read (codes "read") (decimal port ∷ decimal at ∷ []) (literal-solid (codes "read") refl refl) (port-solid port range.0, (decimal-solid at range.1, tt)) short
-    ∙ read_read port at range.0 range.1
+    ∙ rw (port_read port range.0, word_read at range.1) refl
 command-read_back Do.Turn range short = plain_read (codes "turn") Do.Turn (literal-solid (codes "turn") refl refl) short refl
 command-read_back Do.Flush range short = plain_read (codes "flush") Do.Flush (literal-solid (codes "flush") refl refl) short refl
 command-read_back (Do.Cut n) range short =
-    line_read (codes "cut") (decimal n ∷ []) (literal-solid (codes "cut") refl refl) (decimal-solid n range, tt) short ∙ cut_read n range
+    line_read (codes "cut") (decimal n ∷ []) (literal-solid (codes "cut") refl refl) (decimal-solid n range, tt) short ∙ rw (word_read n range) refl
 command-read_back Do.Off range short = plain_read (codes "off") Do.Off (literal-solid (codes "off") refl refl) short refl
 command-read_back Do.On range short = plain_read (codes "on") Do.On (literal-solid (codes "on") refl refl) short refl
 command-read_back (Do.Poke at line) range short =
     line_read (codes "poke") (decimal at ∷ line_text line ∷ []) (literal-solid (codes "poke") refl refl) (decimal-solid at range.0, (line-solid line range.1, tt)) short
-    ∙ poke_read at line range.0 range.1
+    ∙ rw (word_read at range.0, line_hex line range.1) refl
 command-read_back (Do.Flip at bit) range short =
     line_read (codes "flip") (decimal at ∷ decimal bit ∷ []) (literal-solid (codes "flip") refl refl) (decimal-solid at range.0, (decimal-solid bit range.1, tt)) short
-    ∙ flip_read at bit range.0 range.1
+    ∙ rw (word_read at range.0, word_read bit range.1) refl
 command-read_back (Do.Move from to) range short =
     line_read (codes "move") (decimal from ∷ decimal to ∷ []) (literal-solid (codes "move") refl refl) (decimal-solid from range.0, (decimal-solid to range.1, tt)) short
-    ∙ move_read from to range.0 range.1
+    ∙ rw (word_read from range.0, word_read to range.1) refl
 command-read_back Do.Snap range short = plain_read (codes "snap") Do.Snap (literal-solid (codes "snap") refl refl) short refl
 command-read_back (Do.Back at) range short =
-    line_read (codes "back") (decimal at ∷ []) (literal-solid (codes "back") refl refl) (decimal-solid at range, tt) short ∙ back_read at range
+    line_read (codes "back") (decimal at ∷ []) (literal-solid (codes "back") refl refl) (decimal-solid at range, tt) short ∙ rw (word_read at range) refl
 command-read_back (Do.Peek at) range short =
-    line_read (codes "peek") (decimal at ∷ []) (literal-solid (codes "peek") refl refl) (decimal-solid at range, tt) short ∙ peek_read at range
+    line_read (codes "peek") (decimal at ∷ []) (literal-solid (codes "peek") refl refl) (decimal-solid at range, tt) short ∙ rw (word_read at range) refl
 command-read_back Do.Stat range short = plain_read (codes "stat") Do.Stat (literal-solid (codes "stat") refl refl) short refl
 command-read_back (Do.Loss n) range short =
-    line_read (codes "loss") (decimal n ∷ []) (literal-solid (codes "loss") refl refl) (decimal-solid n range, tt) short ∙ loss_read n range
+    line_read (codes "loss") (decimal n ∷ []) (literal-solid (codes "loss") refl refl) (decimal-solid n range, tt) short ∙ rw (word_read n range) refl

@@ -1,7 +1,34 @@
-use Rattle.std.proofs.Common.{arith, refl}
-use Rattle.pmem_cli.proofs.TurnLemmas.{HasStopped-fault, Turns-line, HasStopped-last, HasStopped-at_last, HasStopped-long, HasStopped-end}
+use Rattle.std.proofs.Common.{[], arith, refl}
+use Rattle.std.proofs.KnownBytes.{Consumes-nil, Consumes-kept}
+use Rattle.std.proofs.lemmas.List.Elements.{All-nil}
+use Rattle.pmem_cli.proofs.TurnLemmas.{HasStopped-fault, HasStopped-limit, Turns-line, HasStopped-last, HasStopped-at_last, HasStopped-long, HasStopped-end}
 use Rattle.pmem_cli.proofs.FaultLemmas.{stops_unfailed, stops_unread, stops_after}
 use Rattle.pmem_cli.proofs.session.answer_next.Goals as goal
+
+-- ---- at the limit
+
+pub returns-in-Err-clause-turn : goal.returns-in-Err-clause-turn
+returns-in-Err-clause-turn g c =
+    HasStopped-fault _ _ _ _ [] _ (Consumes-kept _ _ _ [] (Consumes-nil _) c.in-Err.ensures.fault) (All-nil _) (omega arith) c.requires.within (λ full. refl)
+
+pub returns-in-Ok-true-clause-turn : goal.returns-in-Ok-true-clause-turn
+returns-in-Ok-true-clause-turn g c =
+    HasStopped-end _ _ _ _ _ _ (Consumes-kept _ _ _ [] (Consumes-nil _) c.is_ended.ensures.ahead) (c.in-Ok-true.ensures.end c.in-Ok-true.field-0-test) c.requires.within
+
+pub returns-in-Ok-false-clause-turn : goal.returns-in-Ok-false-clause-turn
+returns-in-Ok-false-clause-turn g c =
+    HasStopped-limit _ _ _ _ _ _ _ c.is_ended.ensures.ahead (c.in-Ok-false.ensures.more c.in-Ok-false.field-0-test) (omega arith)
+
+pub returns-in-Err-clause-cause : goal.returns-in-Err-clause-cause
+returns-in-Err-clause-cause g c = stops_unread _ _ _ _ _ c.in-Err.ensures.cause refl
+
+pub returns-in-Ok-true-clause-cause : goal.returns-in-Ok-true-clause-cause
+returns-in-Ok-true-clause-cause g c = stops_unfailed _ _ _ _ _ (λ same. cc) (λ same. cc) (λ same. cc) c.in-Ok-true.ensures.cause.kept refl
+
+pub returns-in-Ok-false-clause-cause : goal.returns-in-Ok-false-clause-cause
+returns-in-Ok-false-clause-cause g c = stops_unfailed _ _ _ _ _ (λ same. cc) (λ same. cc) (λ same. cc) c.in-Ok-false.ensures.cause.kept refl
+
+-- ---- the next line
 
 pub returns-in-Ok-End-clause-turn : goal.returns-in-Ok-End-clause-turn
 returns-in-Ok-End-clause-turn g c =
@@ -11,35 +38,35 @@ returns-in-Ok-End-clause-turn g c =
 pub returns-in-Ok-Long-clause-turn : goal.returns-in-Ok-Long-clause-turn
 returns-in-Ok-Long-clause-turn g c =
     let found = rw c.in-Ok-Long.field-0-is at c.in-Ok-Long.ensures.found in
-    HasStopped-long _ _ _ _ _ _ _ _ found.1 found.2 found.3 refl c.requires.within
+    HasStopped-long _ _ _ _ _ _ _ _ found.1 found.2 found.3 refl (omega (arith, c.requires.within))
 
 pub returns-in-Ok-Line-clause-turn : goal.returns-in-Ok-Line-clause-turn
 returns-in-Ok-Line-clause-turn g c =
     let found = rw c.in-Ok-Line.field-0-is at c.in-Ok-Line.ensures.found in
     Turns-line c.answer_line.result _ _ _ _ _ _ _ _ _ _ (rw c.as_slice.ensures.value found.0) (rw c.as_slice.ensures.value found.1) refl
-    c.requires.within c.answer_line.ensures.answered
+    (omega (arith, c.requires.within)) c.answer_line.ensures.answered
 
 pub returns-in-None-clause-turn : goal.returns-in-None-clause-turn
 returns-in-None-clause-turn g c =
     let found = rw c.in-Ok-Last.field-0-is at c.in-Ok-Last.ensures.found in
     HasStopped-last _ _ _ _ _ _ _ _ _ 0 (rw c.as_slice-in-Ok-Last.ensures.value found.0) (rw c.as_slice-in-Ok-Last.ensures.value found.1)
-    (rw c.as_slice-in-Ok-Last.ensures.value found.2) found.3 c.requires.within c.in-None.ensures.answered
+    (rw c.as_slice-in-Ok-Last.ensures.value found.2) found.3 (omega (arith, c.requires.within)) c.in-None.ensures.answered
 
 pub returns-in-Some-clause-turn : goal.returns-in-Some-clause-turn
 returns-in-Some-clause-turn g c =
     let found = rw c.in-Ok-Last.field-0-is at c.in-Ok-Last.ensures.found in
     HasStopped-at_last _ _ _ _ _ _ _ _ _ _ _ (rw c.as_slice-in-Ok-Last.ensures.value found.0) (rw c.as_slice-in-Ok-Last.ensures.value found.1)
-    (rw c.as_slice-in-Ok-Last.ensures.value found.2) found.3 refl c.requires.within c.in-Some.ensures.answered
+    (rw c.as_slice-in-Ok-Last.ensures.value found.2) found.3 refl (omega (arith, c.requires.within)) c.in-Some.ensures.answered
 
-pub returns-in-Err-clause-turn : goal.returns-in-Err-clause-turn
-returns-in-Err-clause-turn g c =
-    let (taken, within, short) = c.in-Err.ensures.fault in
+pub returns-in-Err-next_line-clause-turn : goal.returns-in-Err-next_line-clause-turn
+returns-in-Err-next_line-clause-turn g c =
+    let (taken, within, short) = c.in-Err-next_line.ensures.fault in
     HasStopped-fault _ _ _ _ _ _ taken within short (omega (arith, c.requires.within)) (λ full. absurd (omega (arith, full, c.requires.within)))
 
 -- ---- faults
 
-pub returns-in-Err-clause-cause : goal.returns-in-Err-clause-cause
-returns-in-Err-clause-cause g c = stops_unread _ _ _ _ _ c.in-Err.ensures.cause refl
+pub returns-in-Err-next_line-clause-cause : goal.returns-in-Err-next_line-clause-cause
+returns-in-Err-next_line-clause-cause g c = stops_unread _ _ _ _ _ c.in-Err-next_line.ensures.cause refl
 
 pub returns-in-Ok-End-clause-cause : goal.returns-in-Ok-End-clause-cause
 returns-in-Ok-End-clause-cause g c = stops_unfailed _ _ _ _ _ (λ same. cc) (λ same. cc) (λ same. cc) c.in-Ok-End.ensures.cause.kept refl

@@ -1,4 +1,4 @@
-use Rattle.std.proofs.Common.{◌≡◌, ℕ, false, List, length}
+use Rattle.std.proofs.Common.{◌≡◌, ◌≤◌, ◌-◌, ℕ, false, List, length}
 use Rattle.std.specs.Io.KnownBytes.{prepend_known}
 use Rattle.plain_model.specs.Run.{Step}
 use Rattle.pmem_cli.specs.Printed.{with_waiting}
@@ -17,8 +17,12 @@ invariant-lines g l =
           (standing_of g.U.Suite.formulas_of l.initial.world) (standing_of g.U.Suite.formulas_of l.world)
           (with_waiting (g.K.Sink.put l.initial.out) l.initial.printer) (with_waiting (g.K.Sink.put l.out) l.printer) lines steps;
       counted : length lines ≡ l.served;
+      within : l.served ≤ 1000000;
       running : l.world.shown ≡ false;
       reads : g.S.Source.faults l.trace ≡ g.S.Source.faults l.initial.trace;
       writes : g.K.Sink.faults l.out ≡ g.K.Sink.faults l.initial.out;
       may_pull : StaysOpen (g.S.Source.pulls l.initial.trace) (g.S.Source.pulls l.trace);
     }
+
+abbrev pub decreases-lines : goal.decreases-lines
+decreases-lines g l = 1000000 - l.served
