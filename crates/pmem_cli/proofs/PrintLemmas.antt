@@ -51,7 +51,3 @@ Prints-whole p q s printed = rw (printed.in_order ∙ append-nil printed.done) p
 pub OnErr-fact : {T E : Type 0} (result : Result T E) (P : Type 0) → P → OnErr result P
 OnErr-fact (Ok value) P holds = tt
 OnErr-fact (Err error) P holds = holds
-
--- a count that rose from a later one rose from an earlier one
-pub Rose-before : (a b c : ℕ) → a ≤ b → Rose b c → Rose a c
-Rose-before a b c later rose = grind (arith, nat_tests)

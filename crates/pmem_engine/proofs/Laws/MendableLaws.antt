@@ -152,7 +152,3 @@ IsDurable-emptied setup lines old new ledger e d =
 -- a seal on the device stays where data and tag lines stay, tampered with or not
 pub IsSealStored-same : (g : Shape) (old new : List Line) (marks : List Mark) (a : ℕ) → a < layout.data_lines g → ((n : ℕ) → n < 80 * layout.pages g → line_at new n ≡ line_at old n) → IsSealStored g old marks a → IsSealStored g new marks a
 IsSealStored-same g old new marks a h same stored = search rules
-
--- a cut while the group is redone: what counts are the lines with the group redone
-pub IsDurable-same_redone : (setup : Setup) (old new : List Line) (regs : Regs) (ledger : LedgerState) → redone regs.group.items new ≡ redone regs.group.items old → AreLinesOf (layout.device_lines setup.shape) new → IsDurable setup old regs ledger → IsDurable setup new regs ledger
-IsDurable-same_redone setup old new regs ledger same whole d = search rules
