@@ -2,6 +2,7 @@
 mod attacks;
 mod chips;
 mod cuts;
+mod durable;
 mod failing;
 mod runs;
 mod tampering;
