@@ -12,12 +12,12 @@ use Rattle.board.specs.MemBoard.{memory_of}
 use Rattle.pmem_base.specs.Shape.{Shape}
 use Rattle.pmem_engine.specs.Engine.{EngineState}
 use Rattle.pmem_engine.specs.Invariants.{IsAnchored, IsTrusted, IsMendable, IsDurable, IsSound}
-use Rattle.pmem_engine.specs.Outcomes.{Outcome, going, cut, shown, LeavesSound}
+use Rattle.pmem_engine.specs.Outcomes.{Outcome, going, cut_short, shown, LeavesSound}
 use Rattle.board.specs.Device.{Device}
 use Rattle.pmem_engine.specs.Parts.{parts_of}
 use Rattle.pmem_recovery.specs.declared.faults.RecFault.TheVariants.{Memory, Cut, NoCounter, Root, Twin}
 use Rattle.pmem_recovery.specs.Recovered.{Answer, IsMendedAs}
-use Rattle.pmem_replay.proofs.Reserved.{with_spare, room_is}
+use Rattle.pmem_replay.proofs.Steps.ReservedRoom.{with_spare, room_is}
 use Rattle.hostile.specs.Ends.{IsUnrefusedRecovery}
 
 -- what is sound stays so where room for marks is made
@@ -112,7 +112,7 @@ pub durable_left : (setup : Setup) (outcome : Outcome) (engine : EngineState) (d
     → device.lines ≡ Some lines → LeavesSound setup outcome (parts_of engine device ledger tags digests) → IsDurable setup lines device.regs ledger
 durable_left setup going engine device ledger tags digests lines told left =
     (subst (λ told. MatchOption told ⊥ (λ kept. IsSound setup engine kept device.regs ledger)) told left).durable
-durable_left setup cut engine device ledger tags digests lines told left =
+durable_left setup cut_short engine device ledger tags digests lines told left =
     subst (λ told. MatchOption told ⊥ (λ kept. IsDurable setup kept device.regs ledger)) told left
 durable_left setup shown engine device ledger tags digests lines told left = absurd left
 
