@@ -31,6 +31,8 @@ impl Source for ByteSource {
 
     ghost faults = { λ source. source.inner.faults };
 
+    ghost pulls = { λ source. source.inner.pulls };
+
     fn pull(&mut self, buf: &mut [u8]) -> Result<usize, Failed> {
         let most = buf.len().min(1);
         self.inner.pull(buf.split_at_mut(most).0)
