@@ -1,3 +1,7 @@
 """Tests of `tools/explore`: `python3 -m unittest discover tools`.
 
 They ask the program that PMEM_PROGRAM names, else the repository's ./pmem."""
+import signal
+
+# A shell that starts the tests in the background has them ignore interrupts, and so would all that they start.
+signal.signal(signal.SIGINT, signal.default_int_handler)
