@@ -6,3 +6,4 @@ pub mod OneToOne
 pub mod Regions
 pub mod ListLaws
 pub mod ByteLaws
+pub mod Digits

@@ -12,7 +12,7 @@ use Rattle.pmem_base.specs.Layout.{slots, shadow_counter_lines, shadow_lines}
 use Rattle.pmem_base.specs.Lines.{line_at, zero_line, from_big_endian, big_endian}
 use Rattle.pmem_base.proofs.Parts.{part-put_bytes_same, part-put_bytes_before, part-put_bytes_behind}
 use Rattle.pmem_base.proofs.LayoutLemmas.{number_low}
-use Rattle.shadow_tables.proofs.ByteLemmas.{from_big_endian-big_endian}
+use Rattle.pmem_base.proofs.Digits.{from_big_endian-big_endian}
 use Rattle.shadow_tables.specs.Entries.{entry_of, table_entry, slot_entry, is_named_in}
 use Rattle.shadow_tables.specs.Naming.{entry_line, entry_index, with_entry}
 
@@ -197,7 +197,7 @@ IsEntryPut-with_entry line i value long h small =
     record {
       entry =
           ap from_big_endian (part-put_bytes_same line (4 * i) (big_endian 4 value) (omega arith))
-          ∙ from_big_endian-big_endian 4 value ∙ omega arith;
+          ∙ from_big_endian-big_endian 4 value (omega arith);
       others =
           λ j hj other. ap from_big_endian
           (elim (cases_lt j i) [

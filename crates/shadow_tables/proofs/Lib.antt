@@ -1,4 +1,3 @@
-pub mod ByteLemmas
 pub mod EntryLemmas
 pub mod NameLemmas
 pub mod ShadowLines

@@ -12,7 +12,8 @@ use Rattle.pmem_base.specs.declared.lines.Line.{Line}
 use Rattle.pmem_base.specs.Lines.{AreBytes, IsLine, line_of, big_endian, from_big_endian}
 use Rattle.split_counters.specs.declared.Block.{Block}
 use Rattle.split_counters.specs.Blocks.{packed, unpacked, number_of_minors, minors_of_number}
-use Rattle.split_counters.proofs.Digits.{big_endian-join, from_big_endian-append, from_big_endian-below, minors_of_number-join, number_of_minors-append, number_of_minors-below}
+use Rattle.pmem_base.proofs.Digits.{big_endian-join, from_big_endian-append, from_big_endian-below}
+use Rattle.split_counters.proofs.MinorDigits.{minors_of_number-join, number_of_minors-append, number_of_minors-below}
 
 -- seven minors have 49 bits
 pub number_of_minors-few : (minors : List ℕ) (i : ℕ) → i ≤ 7 → length minors ≡ 8 → All (λ m. m ≤ 127) minors → number_of_minors (take i minors) < 2 ^ 49

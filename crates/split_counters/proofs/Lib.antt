@@ -1,4 +1,4 @@
-pub mod Digits
+pub mod MinorDigits
 pub mod Packing
 pub mod Groups
 pub mod MinorBits

@@ -5,10 +5,11 @@ use Rattle.std.proofs.lemmas.Nat.{field_of, shr-shr, pow-add, mod-pow-add}
 use Rattle.std.proofs.Math.Nat.{pow-suc}
 use Rattle.pmem_base.specs.Lines.{big_endian}
 use Rattle.pmem_base.proofs.ByteLaws.{length-big_endian}
+use Rattle.pmem_base.proofs.Digits.{get_or-big_endian}
 use Rattle.split_counters.specs.declared.Block.{Block}
 use Rattle.split_counters.specs.Blocks.{IsBlock, packed, number_of_minors, minors_of_number}
 use Rattle.split_counters.specs.Bits.{bit_of_bytes, bit_of_minor, HasMinorBits}
-use Rattle.split_counters.proofs.Digits.{get_or-big_endian, get_or-minors_of_number, minors_of_number-number_of_minors}
+use Rattle.split_counters.proofs.MinorDigits.{get_or-minors_of_number, minors_of_number-number_of_minors}
 
 -- the last bit of a number's low bits is the number's own
 parity-low : (n r : ℕ) → (n % 2 ^ (r + 1)) % 2 ≡ n % 2

@@ -4,7 +4,7 @@ use Rattle.std.proofs.lemmas.List.Elements.{All-get_or}
 use Rattle.pmem_base.specs.declared.lines.Line.{Line}
 use Rattle.pmem_base.specs.Lines.{from_big_endian}
 use Rattle.split_counters.specs.Blocks.{minor_of, unpacked, minors_of_number}
-use Rattle.split_counters.proofs.Digits.{length-minors_of_number, minors_of_number-small}
+use Rattle.split_counters.proofs.MinorDigits.{length-minors_of_number, minors_of_number-small}
 
 pub length-unpacked : (line : Line) → length (unpacked line).minors ≡ 64
 unfolding unpacked

@@ -1,32 +1,32 @@
--- Numbers as digits of one base, the highest first: bytes by 256 and minors by 128.
-use Rattle.std.proofs.Common.{ℕ, zero, suc, ◌≡◌, ◌<◌, ◌≤◌, ◌+◌, ◌*◌, ◌/◌, ◌%◌, ◌^◌, List, [], ◌∷◌, ◌++◌, length, get_or, zero-add, refl, sym, ap, subst, ◌∙◌, arith}
-use Rattle.std.specs.List.{All}
-use Rattle.std.proofs.lemmas.List.Elements.{All-nil, All-cons, All-head, All-tail, All-weaker}
+-- Numbers as digits of one base, the highest first, and so as bytes.
+use Rattle.std.proofs.Common.{ℕ, zero, suc, ◌≡◌, ◌<◌, ◌≤◌, ◌+◌, ◌-◌, ◌*◌, ◌/◌, ◌%◌, ◌^◌, List, [], ◌∷◌, ◌++◌, length, get_or, take, drop, drop-cons, zero-add, refl, sym, ap, subst, ◌∙◌, arith}
+use Rattle.std.specs.List.{All, slice_range}
+use Rattle.std.specs.Int.{w32, to_be_bytes, from_be_bytes}
+use Rattle.std.proofs.lemmas.List.Elements.{All-nil, All-cons, All-head, All-tail}
 use Rattle.std.proofs.lemmas.Nat.{pow-add, div_below, mod_below, mul-add-lt, div-mul-add, div-add-mod'}
 use Rattle.std.proofs.lemmas.List.{length-append}
-use Rattle.std.proofs.Math.Nat.{add_comm, div-div-eq-div-mul, pow-zero, pow-suc, one-le-pow, mul-add-div_right, mul-add-mod_self_right, mod-eq_of_lt}
+use Rattle.std.proofs.Math.Nat.{add_comm, div-one, div-div-eq-div-mul, pow-zero, pow-suc, one-le-pow, mul-add-div_right, mul-add-mod_self_right, mod-eq_of_lt}
 use Rattle.pmem_base.specs.Lines.{AreBytes, big_endian, from_big_endian}
-use Rattle.split_counters.specs.Blocks.{number_of_minors, minors_of_number}
 
 -- the n lowest digits
-abbrev digits : ℕ → ℕ → ℕ → List ℕ
+abbrev pub digits : ℕ → ℕ → ℕ → List ℕ
 digits base zero value = []
 digits base (suc n) value = (value / base ^ n) % base ∷ digits base n value
 
-abbrev number : ℕ → List ℕ → ℕ
+abbrev pub number : ℕ → List ℕ → ℕ
 number base [] = 0
 number base (d ∷ ds) = d * base ^ length ds + number base ds
 
-length-digits : (base n value : ℕ) → length (digits base n value) ≡ n
+pub length-digits : (base n value : ℕ) → length (digits base n value) ≡ n
 length-digits base zero value = refl
 length-digits base (suc n) value = ap suc (length-digits base n value)
 
-digits-small : (base n value : ℕ) → 0 < base → All (λ d. d < base) (digits base n value)
+pub digits-small : (base n value : ℕ) → 0 < base → All (λ d. d < base) (digits base n value)
 digits-small base zero value pos = All-nil (λ d. d < base)
 digits-small base (suc n) value pos =
     All-cons (λ d. d < base) ((value / base ^ n) % base) (digits base n value) (mod_below (value / base ^ n) base pos) (digits-small base n value pos)
 
-number-below : (base : ℕ) (ds : List ℕ) → All (λ d. d < base) ds → number base ds < base ^ length ds
+pub number-below : (base : ℕ) (ds : List ℕ) → All (λ d. d < base) ds → number base ds < base ^ length ds
 number-below base [] small = omega (arith, pow-zero base)
 number-below base (d ∷ ds) small =
     subst (λ z. d * base ^ length ds + number base ds < z) (sym (pow-suc base (length ds)))
@@ -46,7 +46,7 @@ digits-high base (suc n) k value pos =
     ∙ (ap (λ z. z ∷ digits base n ((k * base) * base ^ n + value)) first
     ∙ ap (λ z. value / base ^ n % base ∷ z) (digits-high base n (k * base) value pos))
 
-digits-number : (base : ℕ) (ds : List ℕ) → 0 < base → All (λ d. d < base) ds → digits base (length ds) (number base ds) ≡ ds
+pub digits-number : (base : ℕ) (ds : List ℕ) → 0 < base → All (λ d. d < base) ds → digits base (length ds) (number base ds) ≡ ds
 digits-number base [] pos small = refl
 digits-number base (d ∷ ds) pos small =
     let rest = All-tail (λ x. x < base) d ds small in
@@ -56,7 +56,7 @@ digits-number base (d ∷ ds) pos small =
     ap (λ z. z ∷ digits base (length ds) (d * base ^ length ds + number base ds)) first
     ∙ ap (λ z. d ∷ z) (digits-high base (length ds) d (number base ds) pos ∙ digits-number base ds pos rest)
 
-number-digits : (base n value : ℕ) → 0 < base → value < base ^ n → number base (digits base n value) ≡ value
+pub number-digits : (base n value : ℕ) → 0 < base → value < base ^ n → number base (digits base n value) ≡ value
 number-digits base zero value pos below = omega (arith, below, pow-zero base)
 number-digits base (suc n) value pos below =
     let P = base ^ n in
@@ -71,7 +71,7 @@ number-digits base (suc n) value pos below =
     ∙ (ap (λ z. value / base ^ n * base ^ n + z) low ∙ div-add-mod' value (base ^ n)))
 
 -- two numbers' digits in a row
-digits-join : (base m n high low : ℕ) → 0 < base → low < base ^ n → digits base (m + n) (high * base ^ n + low) ≡ digits base m high ++ digits base n low
+pub digits-join : (base m n high low : ℕ) → 0 < base → low < base ^ n → digits base (m + n) (high * base ^ n + low) ≡ digits base m high ++ digits base n low
 digits-join base zero n high low pos below = ap (λ k. digits base k (high * base ^ n + low)) (zero-add n) ∙ digits-high base n high low pos
 digits-join base (suc m) n high low pos below =
     let whole = high * base ^ n + low in
@@ -84,7 +84,7 @@ digits-join base (suc m) n high low pos below =
     ∙ (ap (λ k. k % base ∷ digits base (m + n) whole) first
     ∙ ap (λ ds. high / base ^ m % base ∷ ds) (digits-join base m n high low pos below))
 
-number-append : (base : ℕ) (xs ys : List ℕ) → number base (xs ++ ys) ≡ number base xs * base ^ length ys + number base ys
+pub number-append : (base : ℕ) (xs ys : List ℕ) → number base (xs ++ ys) ≡ number base xs * base ^ length ys + number base ys
 number-append base [] ys = omega arith
 number-append base (x ∷ xs) ys =
     let rest = number-append base xs ys in
@@ -92,7 +92,7 @@ number-append base (x ∷ xs) ys =
     ap (λ k. x * k + number base (xs ++ ys)) power ∙ omega (arith, rest)
 
 -- digit i, which k digits follow
-get_or-digits : (base n value i k : ℕ) → i + 1 + k ≡ n → get_or (digits base n value) i 0 ≡ value / base ^ k % base
+pub get_or-digits : (base n value i k : ℕ) → i + 1 + k ≡ n → get_or (digits base n value) i 0 ≡ value / base ^ k % base
 get_or-digits base zero value i k e = absurd (omega (arith, e))
 get_or-digits base (suc n) value zero k e = let same : n ≡ k = omega (arith, e) in ap (λ z. value / base ^ z % base) same
 get_or-digits base (suc n) value (suc i) k e = get_or-digits base n value i k (omega (arith, e))
@@ -133,49 +133,40 @@ from_big_endian-append xs ys =
 pub get_or-big_endian : (n value i k : ℕ) → i + 1 + k ≡ n → get_or (big_endian n value) i 0 ≡ value / 256 ^ k % 256
 get_or-big_endian n value i k e = ap (λ ds. get_or ds i 0) (big_endian-digits n value) ∙ get_or-digits 256 n value i k e
 
--- ---- minors
+-- ---- four bytes of a list
 
-minors_of_number-digits : (n value : ℕ) → minors_of_number n value ≡ digits 128 n value
-minors_of_number-digits zero value = refl
-minors_of_number-digits (suc n) value = ap (λ z. (value / 128 ^ n) % 128 ∷ z) (minors_of_number-digits n value)
+four_bytes : (a b c d : ℕ) → from_be_bytes w32 (a ∷ b ∷ c ∷ d ∷ []) ≡ from_big_endian (a ∷ b ∷ c ∷ d ∷ [])
+four_bytes a b c d = omega arith
 
-number_of_minors-number : (minors : List ℕ) → number_of_minors minors ≡ number 128 minors
-number_of_minors-number [] = refl
-number_of_minors-number (m ∷ minors) = ap (λ z. m * 128 ^ length minors + z) (number_of_minors-number minors)
+-- the four elements from a place on
+four_from : (bytes : List ℕ) (at : ℕ) → at + 4 ≤ length bytes
+    → get_or bytes at 0 ∷ get_or bytes (at + 1) 0 ∷ get_or bytes (at + 2) 0 ∷ get_or bytes (at + 3) 0 ∷ []
+    ≡ slice_range bytes at (at + 4)
+four_from bytes at within =
+    let first = drop-cons bytes at 0 (omega arith) in
+    let second = drop-cons bytes (at + 1) 0 (omega arith) in
+    let third = drop-cons bytes (at + 2) 0 (omega arith) in
+    let fourth = drop-cons bytes (at + 3) 0 (omega arith) in
+    let s1 : suc at ≡ at + 1 = omega arith in
+    let s2 : suc (at + 1) ≡ at + 2 = omega arith in
+    let s3 : suc (at + 2) ≡ at + 3 = omega arith in
+    let four : at + 4 - at ≡ 4 = omega arith in
+    sym (ap (λ k. take k (drop at bytes)) four
+    ∙ ap (take 4) (first ∙ ap (λ k. get_or bytes at 0 ∷ drop k bytes) s1)
+    ∙ ap (λ l. get_or bytes at 0 ∷ take 3 l) (second ∙ ap (λ k. get_or bytes (at + 1) 0 ∷ drop k bytes) s2)
+    ∙ ap (λ l. get_or bytes at 0 ∷ get_or bytes (at + 1) 0 ∷ take 2 l) (third ∙ ap (λ k. get_or bytes (at + 2) 0 ∷ drop k bytes) s3)
+    ∙ ap (λ l. get_or bytes at 0 ∷ get_or bytes (at + 1) 0 ∷ get_or bytes (at + 2) 0 ∷ take 1 l) fourth)
 
-pub length-minors_of_number : (n value : ℕ) → length (minors_of_number n value) ≡ n
-length-minors_of_number n value = ap length (minors_of_number-digits n value) ∙ length-digits 128 n value
+-- their number
+pub number_of_four : (bytes : List ℕ) (at : ℕ) → at + 4 ≤ length bytes
+    → from_be_bytes w32 (get_or bytes at 0 ∷ get_or bytes (at + 1) 0 ∷ get_or bytes (at + 2) 0 ∷ get_or bytes (at + 3) 0 ∷ [])
+    ≡ from_big_endian (slice_range bytes at (at + 4))
+number_of_four bytes at within =
+    four_bytes (get_or bytes at 0) (get_or bytes (at + 1) 0) (get_or bytes (at + 2) 0) (get_or bytes (at + 3) 0)
+    ∙ ap from_big_endian (four_from bytes at within)
 
-pub minors_of_number-small : (n value : ℕ) → All (λ m. m ≤ 127) (minors_of_number n value)
-minors_of_number-small n value =
-    subst (λ ms. All (λ m. m ≤ 127) ms) (sym (minors_of_number-digits n value))
-    (All-weaker (λ d. d < 128) (λ m. m ≤ 127) (λ m below. omega (arith, below)) (digits 128 n value) (digits-small 128 n value (omega arith)))
-
-are_digits : (minors : List ℕ) → All (λ m. m ≤ 127) minors → All (λ m. m < 128) minors
-are_digits minors small = All-weaker (λ m. m ≤ 127) (λ d. d < 128) (λ m below. omega (arith, below)) minors small
-
-pub number_of_minors-below : (minors : List ℕ) → All (λ m. m ≤ 127) minors → number_of_minors minors < 128 ^ length minors
-number_of_minors-below minors small = subst (λ z. z < 128 ^ length minors) (sym (number_of_minors-number minors)) (number-below 128 minors (are_digits minors small))
-
-pub number_of_minors-minors_of_number : (n value : ℕ) → value < 128 ^ n → number_of_minors (minors_of_number n value) ≡ value
-number_of_minors-minors_of_number n value below = ap number_of_minors (minors_of_number-digits n value) ∙ (number_of_minors-number (digits 128 n value) ∙ number-digits 128 n value (omega arith) below)
-
-pub minors_of_number-number_of_minors : (minors : List ℕ) → All (λ m. m ≤ 127) minors → minors_of_number (length minors) (number_of_minors minors) ≡ minors
-minors_of_number-number_of_minors minors small = minors_of_number-digits (length minors) (number_of_minors minors) ∙ (ap (digits 128 (length minors)) (number_of_minors-number minors) ∙ digits-number 128 minors (omega arith) (are_digits minors small))
-
-pub minors_of_number-join : (m n high low : ℕ) → low < 128 ^ n → minors_of_number (m + n) (high * 128 ^ n + low) ≡ minors_of_number m high ++ minors_of_number n low
-minors_of_number-join m n high low below =
-    minors_of_number-digits (m + n) (high * 128 ^ n + low)
-    ∙ (digits-join 128 m n high low (omega arith) below
-    ∙ (ap (λ ds. ds ++ digits 128 n low) (sym (minors_of_number-digits m high)) ∙ ap (λ ds. minors_of_number m high ++ ds) (sym (minors_of_number-digits n low))))
-
-pub number_of_minors-append : (xs ys : List ℕ) → number_of_minors (xs ++ ys) ≡ number_of_minors xs * 128 ^ length ys + number_of_minors ys
-number_of_minors-append xs ys =
-    number_of_minors-number (xs ++ ys)
-    ∙ (number-append 128 xs ys
-    ∙ (ap (λ z. z * 128 ^ length ys + number 128 ys) (sym (number_of_minors-number xs))
-    ∙ ap (λ z. number_of_minors xs * 128 ^ length ys + z) (sym (number_of_minors-number ys))))
-
--- minor i, which k minors follow
-pub get_or-minors_of_number : (n value i k : ℕ) → i + 1 + k ≡ n → get_or (minors_of_number n value) i 0 ≡ value / 128 ^ k % 128
-get_or-minors_of_number n value i k e = ap (λ ds. get_or ds i 0) (minors_of_number-digits n value) ∙ get_or-digits 128 n value i k e
+-- the bytes of a number of 32 bits
+pub bytes_of_four : (value : ℕ) → to_be_bytes w32 value ≡ big_endian 4 value
+bytes_of_four value =
+    ap (λ z. value / 256 ^ 3 % 256 ∷ value / 256 ^ 2 % 256 ∷ value / 256 ^ 1 % 256 ∷ z % 256 ∷ [])
+    (sym (div-one value))

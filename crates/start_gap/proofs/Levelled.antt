@@ -1,0 +1,161 @@
+-- Logical memory through each write of a write and its move.
+use Rattle.std.proofs.Common.{ℕ, ◌≡◌, ◌≢◌, ◌<◌, ◌≤◌, ◌+◌, ◌-◌, ◌^◌, inl, inr, List, ◌++◌, length, replicate, Some, sym, ap, ◌∙◌, arith}
+use Rattle.std.specs.Prelude.{slice_set}
+use Rattle.std.proofs.lemmas.Bool.{cases_eq}
+use Rattle.std.proofs.lemmas.List.{length-set, get_or-set_same, get_or-set_other, length-replicate, get_or-replicate}
+use Rattle.pmem_base.specs.declared.lines.Line.{Line}
+use Rattle.pmem_base.specs.Lines.{line_at, zero_line, line_of, big_endian}
+use Rattle.start_gap.specs.declared.wear.Wear.{Wear}
+use Rattle.start_gap.specs.Wear.{IsWear, place_of, next_wear, source_of, first_wear}
+use Rattle.start_gap.specs.Record.{recorded, wear_record}
+use Rattle.start_gap.specs.Logical.{IsLevelled, with_line, with_copy, with_record, begun, written, copied, moved, IsSafeAtEachStage, IsSameUnderNext}
+use Rattle.start_gap.proofs.Places.{places, next_place, next-IsWear}
+use Rattle.start_gap.proofs.Records.{recorded_record}
+
+-- a line of a list where one is set
+same_line : (lines : List Line) (k : ℕ) (line : Line) → k < length lines → line_at (slice_set lines k line) k ≡ line
+same_line lines k line inside = get_or-set_same lines k line zero_line inside
+
+other_line : (lines : List Line) (k j : ℕ) (line : Line) → j ≢ k → line_at (slice_set lines k line) j ≡ line_at lines j
+other_line lines k j line apart = get_or-set_other lines k j line zero_line apart
+
+-- the record stays where another line is set
+same_record : (n : ℕ) (lines : List Line) (wear : Wear) (k : ℕ) (line : Line) → k ≤ n
+    → recorded n (line_at lines (n + 1)) ≡ Some wear
+    → recorded n (line_at (slice_set lines k line) (n + 1)) ≡ Some wear
+same_record n lines wear k line low its =
+    ap (recorded n) (other_line lines k (n + 1) line (λ e. omega (arith, e, low))) ∙ its
+
+-- a logical line is written
+pub write_levels : (n : ℕ) (lines memory : List Line) (wear : Wear) (a : ℕ) (plain : Line) → a < n
+    → IsLevelled n lines wear memory → IsLevelled n (with_line n wear a plain lines) wear (slice_set memory a plain)
+write_levels n lines memory wear a plain ha old =
+    let its = places n wear old.its_wear in
+    let within = its.within a ha in
+    record {
+      size = length-set lines (place_of n wear a) plain ∙ old.size;
+      its_wear = old.its_wear;
+      its_record = same_record n lines wear (place_of n wear a) plain within old.its_record;
+      holds =
+          record {
+            count = length-set memory a plain ∙ old.holds.count;
+            each =
+                λ b hb. elim (cases_eq b a) [
+                  | inl e ↦
+                      ap (λ k. line_at (with_line n wear a plain lines) (place_of n wear k)) e
+                      ∙ same_line lines (place_of n wear a) plain (omega (arith, within, old.size))
+                      ∙ sym (ap (line_at (slice_set memory a plain)) e ∙ same_line memory a plain (omega (arith, ha, old.holds.count)))
+                  | inr e ↦
+                      other_line lines (place_of n wear a) (place_of n wear b) plain (λ same. e (its.distinct b a hb ha same))
+                      ∙ old.holds.each b hb
+                      ∙ sym (other_line memory a b plain e)
+                ];
+          };
+    }
+
+-- the gap holds no line
+pub copy_levels : (n : ℕ) (lines memory : List Line) (wear : Wear)
+    → IsLevelled n lines wear memory → IsLevelled n (with_copy n wear lines) wear memory
+copy_levels n lines memory wear old =
+    let its = places n wear old.its_wear in
+    record {
+      size = length-set lines wear.gap (line_at lines (source_of n wear)) ∙ old.size;
+      its_wear = old.its_wear;
+      its_record = same_record n lines wear wear.gap (line_at lines (source_of n wear)) old.its_wear.gap old.its_record;
+      holds =
+          record {
+            count = old.holds.count;
+            each =
+                λ b hb.
+                other_line lines wear.gap (place_of n wear b) (line_at lines (source_of n wear)) (its.not_gap b hb)
+                ∙ old.holds.each b hb;
+          };
+    }
+
+-- the gap holds what the source holds, once that is copied
+pub copy_same : (n : ℕ) (lines : List Line) (wear : Wear) → IsWear n wear → length lines ≡ n + 2
+    → line_at (with_copy n wear lines) wear.gap ≡ line_at (with_copy n wear lines) (source_of n wear)
+copy_same n lines wear its size =
+    let here = same_line lines wear.gap (line_at lines (source_of n wear)) (omega (arith, its.gap, size)) in
+    elim (cases_eq (source_of n wear) wear.gap) [
+      | inl e ↦ ap (line_at (with_copy n wear lines)) (sym e)
+      | inr e ↦ here ∙ sym (other_line lines wear.gap (source_of n wear) (line_at lines (source_of n wear)) e)
+    ]
+
+pub same_under_next : (n : ℕ) → IsSameUnderNext n
+same_under_next n lines memory wear its same old =
+    record {
+      count = old.count;
+      each =
+          λ a ha. elim (next_place n wear a its ha) [
+            | inl e ↦ ap (line_at lines) e ∙ old.each a ha
+            | inr e ↦ ap (line_at lines) e.1 ∙ same ∙ sym (ap (line_at lines) e.0) ∙ old.each a ha
+          ];
+    }
+
+-- the next wear is recorded
+pub record_levels : (n : ℕ) (lines memory : List Line) (wear : Wear) → n < 2 ^ 32
+    → line_at lines wear.gap ≡ line_at lines (source_of n wear)
+    → IsLevelled n lines wear memory → IsLevelled n (with_record n wear lines) (next_wear n wear) memory
+record_levels n lines memory wear small same old =
+    let next = next-IsWear n wear old.its_wear in
+    let held = same_under_next n lines memory wear old.its_wear same old.holds in
+    let its = places n (next_wear n wear) next in
+    record {
+      size = length-set lines (n + 1) (wear_record n (next_wear n wear)) ∙ old.size;
+      its_wear = next;
+      its_record =
+          ap (recorded n) (same_line lines (n + 1) (wear_record n (next_wear n wear)) (omega (arith, old.size)))
+          ∙ recorded_record n (next_wear n wear) small next;
+      holds =
+          record {
+            count = held.count;
+            each =
+                λ a ha.
+                let within = its.within a ha in
+                other_line lines (n + 1) (place_of n (next_wear n wear) a) (wear_record n (next_wear n wear)) (λ e. omega (arith, e, within))
+                ∙ held.each a ha;
+          };
+    }
+
+pub safe_at_each_stage : (n : ℕ) → n < 2 ^ 32 → IsSafeAtEachStage n
+safe_at_each_stage n small lines memory wear a plain begun ha old = old
+safe_at_each_stage n small lines memory wear a plain written ha old = write_levels n lines memory wear a plain ha old
+safe_at_each_stage n small lines memory wear a plain copied ha old =
+    copy_levels n (with_line n wear a plain lines) (slice_set memory a plain) wear
+    (write_levels n lines memory wear a plain ha old)
+safe_at_each_stage n small lines memory wear a plain moved ha old =
+    let then = write_levels n lines memory wear a plain ha old in
+    record_levels n (with_copy n wear (with_line n wear a plain lines)) (slice_set memory a plain) wear small
+    (copy_same n (with_line n wear a plain lines) wear then.its_wear then.size)
+    (copy_levels n (with_line n wear a plain lines) (slice_set memory a plain) wear then)
+
+-- ---- the first memory
+
+zero_record : (n : ℕ) → wear_record n (first_wear n) ≡ zero_line
+unfolding wear_record zero_line
+zero_record n =
+    let none : n - n ≡ 0 = omega arith in
+    ap (λ z. line_of (big_endian 4 0 ++ big_endian 4 z ++ replicate 56 0)) none
+
+pub zero_levelled : (n : ℕ) → 1 ≤ n → n < 2 ^ 32
+    → IsLevelled n (replicate (n + 2) zero_line) (first_wear n) (replicate n zero_line)
+zero_levelled n some small =
+    let its : IsWear n (first_wear n) = record { start = omega (arith, some); gap = omega arith } in
+    let each = places n (first_wear n) its in
+    record {
+      size = length-replicate (n + 2) zero_line;
+      its_wear = its;
+      its_record =
+          ap (recorded n) (get_or-replicate (n + 2) (n + 1) zero_line zero_line (omega arith) ∙ sym (zero_record n))
+          ∙ recorded_record n (first_wear n) small its;
+      holds =
+          record {
+            count = length-replicate n zero_line;
+            each =
+                λ a ha.
+                let within = each.within a ha in
+                get_or-replicate (n + 2) (place_of n (first_wear n) a) zero_line zero_line (omega (arith, within))
+                ∙ sym (get_or-replicate n a zero_line zero_line ha);
+          };
+    }
