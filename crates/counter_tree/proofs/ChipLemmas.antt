@@ -1,0 +1,152 @@
+-- The tree on the chip: how many lines it has, how it is made anew, and how a line is put into it.
+use Rattle.std.proofs.Common.{ℕ, zero, suc, ◌≡◌, ◌≢◌, ◌<◌, ◌≤◌, ◌+◌, ◌-◌, ◌*◌, ◌/◌, ◌^◌, List, [], ◌∷◌, ◌++◌, length, refl, sym, ap, subst, ◌∙◌, inl, inr, arith}
+use Rattle.std.specs.Prelude.{slice_set, All}
+use Rattle.std.proofs.Common.{replicate}
+use Rattle.std.proofs.lemmas.List.{length-replicate}
+use Rattle.std.proofs.lemmas.Bool.{cases_eq}
+use Rattle.pmem_base.proofs.LineLemmas.{All-zero_lines}
+use Rattle.pmem_base.specs.declared.lines.Line.{Line}
+use Rattle.pmem_base.specs.Layout.{level_start}
+use Rattle.pmem_base.specs.Lines.{IsLine, line_at, put_lines, zero_line}
+use Rattle.pmem_base.proofs.LineSets.{put_lines-append, line_at-set_same, line_at-set_other}
+use Rattle.suite.specs.Formulas.{Formulas}
+use Rattle.bonsai_tree.specs.Positions.{parent, child_slot, child_position}
+use Rattle.pmem_base.specs.Counts.{risen, risen_times}
+use Rattle.bonsai_tree.specs.Nodes.{node_over}
+use Rattle.bonsai_tree.proofs.NodeLaws.{node_over-same}
+use Rattle.bonsai_tree.specs.Paths.{node_above, new_path, new_root, with_child_digest}
+use Rattle.bonsai_tree.proofs.Levels.{IsAtLevel, parent-IsAtLevel, level_start-suc, level_start-le, level_start-next}
+use Rattle.counter_tree.specs.Shadow.{ChipTree, IsChipTree, IsAtLevelOf, AreLeaves, IsShadowTree}
+
+-- a node's children are lines of the tree
+pub children-within : (tree : ChipTree) (x : ℕ) → IsChipTree tree → x < level_start tree.height → 4 * x + 1 + 3 < length tree.lines
+children-within tree x it inner = omega (arith, it.count, level_start-suc tree.height, inner)
+
+pub few_inner : (tree : ChipTree) → IsChipTree tree → level_start tree.height ≤ 341
+few_inner tree it = level_start-le tree.height 5 it.most
+
+-- a position at a level is that of a line
+pub level-within : (tree : ChipTree) (level x : ℕ) → IsChipTree tree → IsAtLevelOf tree level x → x < length tree.lines
+level-within tree level x it at =
+    omega (arith, it.count, level_start-le (suc level) (suc tree.height) (omega (arith, at.within)), at.below)
+
+pub level-above : (tree : ChipTree) (level j x above : ℕ) → level ≡ suc j → above ≡ parent x → IsAtLevelOf tree level x → IsAtLevelOf tree j above
+level-above tree level j x above is up at =
+    let here : IsAtLevelOf tree (suc j) x = subst (λ n. IsAtLevelOf tree n x) is at in
+    let its : IsAtLevel j (parent x) = parent-IsAtLevel j x (record { from = here.from; below = here.below }) in
+    subst (IsAtLevelOf tree j) (sym up) (record { within = omega (arith, here.within); from = its.from; below = its.below })
+
+-- below the top there is a parent
+pub level-low : (tree : ChipTree) (level x : ℕ) → 0 < level → IsAtLevelOf tree level x → 1 ≤ x
+level-low tree level x low at =
+    let first : level_start 1 ≤ level_start level = level_start-le 1 level (omega (arith, low)) in
+    omega (arith, at.from, first)
+
+-- the line goes in after the path above it
+pub put-more : (f : Formulas) (lines made : List Line) (level j x above : ℕ) (line node : Line)
+    → level ≡ suc j → above ≡ parent x → node ≡ node_above f (line_at lines) x line
+    → made ≡ put_lines (new_path f (line_at lines) j above node) lines
+    → slice_set made x line ≡ put_lines (new_path f (line_at lines) level x line) lines
+put-more f lines made level j x above line node is up over rest =
+    ap (λ (ls : List Line). slice_set ls x line)
+    (rest ∙ (ap (λ y. put_lines (new_path f (line_at lines) j y node) lines) up
+    ∙ ap (λ n. put_lines (new_path f (line_at lines) j (parent x) n) lines) over))
+    ∙ (sym (put_lines-append (new_path f (line_at lines) j (parent x) (node_above f (line_at lines) x line)) ((x, line) ∷ []) lines)
+    ∙ ap (λ n. put_lines (new_path f (line_at lines) n x line) lines) (sym is))
+
+pub root-more : (f : Formulas) (lines : List Line) (level j x above : ℕ) (line node : Line) (root : List ℕ)
+    → level ≡ suc j → above ≡ parent x → node ≡ node_above f (line_at lines) x line
+    → root ≡ new_root f (line_at lines) j above node
+    → root ≡ new_root f (line_at lines) level x line
+root-more f lines level j x above line node root is up over rest =
+    rest
+    ∙ (ap (λ y. new_root f (line_at lines) j y node) up
+    ∙ (ap (λ n. new_root f (line_at lines) j (parent x) n) over ∙ ap (λ n. new_root f (line_at lines) n x line) (sym is)))
+
+-- the node above, as it is made
+pub node-is : (f : Formulas) (lines : List Line) (x slot above : ℕ) (line old node : Line) (digest : List ℕ)
+    → above ≡ parent x → slot ≡ child_slot x → old ≡ line_at lines above → digest ≡ f.digest_of x line
+    → node ≡ with_child_digest old slot digest → node ≡ node_above f (line_at lines) x line
+node-is f lines x slot above line old node digest up its from of is =
+    is ∙ (ap (λ o. with_child_digest o slot digest) (from ∙ ap (line_at lines) up)
+    ∙ (ap (λ s. with_child_digest (line_at lines (parent x)) s digest) its ∙ ap (with_child_digest (line_at lines (parent x)) (child_slot x)) of))
+
+-- ---- the tree made anew
+
+pub risen_times-add : (m n count : ℕ) → risen_times (m + n) count ≡ risen_times n (risen_times m count)
+risen_times-add m zero count = let none : m + 0 ≡ m = omega arith in ap (λ k. risen_times k count) none
+risen_times-add m (suc n) count =
+    let more : m + suc n ≡ suc (m + n) = omega arith in
+    ap (λ k. risen_times k count) more ∙ ap risen (risen_times-add m n count)
+
+-- one leaf more
+pub leaves-more : (lines new slots : List Line) (first i : ℕ) (line : Line)
+    → first + i < length lines → line ≡ line_at slots i → new ≡ slice_set lines (first + i) line
+    → ((k : ℕ) → k < i → line_at lines (first + k) ≡ line_at slots k)
+    → (k : ℕ) → k < i + 1 → line_at new (first + k) ≡ line_at slots k
+leaves-more lines new slots first i line inside its is before k below =
+    elim (cases_eq k i) [
+      | inl last ↦
+          ap (λ ls. line_at ls (first + k)) is
+          ∙ (ap (λ n. line_at (slice_set lines (first + i) line) (first + n)) last
+          ∙ (line_at-set_same lines (first + i) line inside ∙ (its ∙ ap (line_at slots) (sym last))))
+      | inr other ↦
+          ap (λ ls. line_at ls (first + k)) is
+          ∙ (line_at-set_other lines (first + i) (first + k) line (λ e. other (omega (arith, e))) ∙ before k (omega (arith, below, other)))
+    ]
+
+-- one node more, above those made so far
+pub nodes-more : (f : Formulas) (lines new : List Line) (n x : ℕ) (node : Line)
+    → x < length lines → node ≡ node_over f x (line_at lines) → new ≡ slice_set lines x node
+    → ((y : ℕ) → suc x ≤ y → y < n → line_at lines y ≡ node_over f y (line_at lines))
+    → (y : ℕ) → x ≤ y → y < n → line_at new y ≡ node_over f y (line_at new)
+nodes-more f lines new n x node inside its is below y from within =
+    subst (λ ls. line_at ls y ≡ node_over f y (line_at ls)) (sym is)
+    (elim (cases_eq y x) [
+      | inl here ↦
+          subst (λ z. line_at (slice_set lines x node) z ≡ node_over f z (line_at (slice_set lines x node))) (sym here)
+          (line_at-set_same lines x node inside ∙ (its ∙ same x (omega arith)))
+      | inr other ↦
+          line_at-set_other lines x y node other ∙ (below y (omega (arith, from, other)) within ∙ same y from)
+    ])
+  where
+    same : (z : ℕ) → x ≤ z → node_over f z (line_at lines) ≡ node_over f z (line_at (slice_set lines x node))
+    same z low =
+        node_over-same f z (line_at lines) (line_at (slice_set lines x node))
+        (λ i small. sym (line_at-set_other lines x (child_position z i) node (λ e. absurd (omega (arith, e, low)))))
+
+-- all of it
+pub filled : (f : Formulas) (tree : ChipTree) (slots leaves : List Line) (h : ℕ)
+    → IsChipTree tree → tree.height ≡ h → AreLeaves h slots leaves
+    → ((x : ℕ) → x < level_start h → line_at tree.lines x ≡ node_over f x (line_at tree.lines))
+    → ((x : ℕ) → level_start h ≤ x → line_at tree.lines x ≡ line_at leaves x)
+    → IsShadowTree f h slots tree.lines
+filled f tree slots leaves h it height leaf nodes kept =
+    record {
+      tree_lines =
+          record {
+            whole = it.count ∙ (ap (λ n. level_start (suc n)) height ∙ ap (λ n. (4 ^ n - 1) / 3) (omega arith));
+            inner = nodes;
+          };
+      whole = it.whole;
+      leaves = λ i inside. kept (level_start h + i) (omega arith) ∙ leaf i inside;
+    }
+
+-- a slot's leaf stands at the last level
+pub leaf-level : (tree : ChipTree) (i first : ℕ) → first ≡ level_start tree.height → i < 4 ^ tree.height → IsAtLevelOf tree tree.height (first + i)
+leaf-level tree i first is inside =
+    record {
+      within = omega arith;
+      from = omega (arith, is);
+      below = omega (arith, is, inside, level_start-next tree.height);
+    }
+
+-- zero lines are a tree on the chip
+pub zero_tree : (height n : ℕ) (lines : List Line) → 1 ≤ height → height ≤ 5 → n ≡ level_start (suc height) → lines ≡ replicate n zero_line → IsChipTree (record { height = height; lines = lines })
+zero_tree height n lines least most many zeros =
+    record {
+      least = least;
+      most = most;
+      count = ap (λ (ls : List Line). length ls) zeros ∙ (length-replicate n zero_line ∙ many);
+      whole = subst (λ ls. All IsLine ls) (sym zeros) (All-zero_lines n);
+    }

@@ -1,0 +1,137 @@
+-- Where two lists of slot lines, and the lines of their shadow trees, differ.
+use Rattle.std.proofs.Common.{ℕ, zero, suc, ◌≡◌, ◌≢◌, ◌<◌, ◌≤◌, ◌+◌, ◌-◌, ◌^◌, List, [], ◌∷◌, length, refl, sym, ap, subst, ◌∙◌, inl, inr, arith}
+use Rattle.std.proofs.lemmas.Bool.{cases_eq}
+use Rattle.pmem_base.specs.declared.lines.Line.{Line}
+use Rattle.pmem_base.specs.Layout.{level_start}
+use Rattle.pmem_base.specs.Lines.{line_at}
+use Rattle.suite.specs.Formulas.{Formulas}
+use Rattle.bonsai_tree.specs.Positions.{parent}
+use Rattle.bonsai_tree.proofs.Levels.{IsAtLevel, level_start-next, level_start-suc}
+use Rattle.counter_tree.specs.Shadow.{up, shadow_line, ChipTree, IsChipTree, IsAtLevelOf, IsShadowTree, FirstDiffers, IsShadowDifference, IsTopDifference}
+use Rattle.counter_tree.proofs.ShadowLaws.{cases_line, first_differs, up-IsAtLevel}
+use Rattle.counter_tree.proofs.ChipTree.{chip-line}
+use Rattle.counter_tree.proofs.ChipLemmas.{level-within, leaf-level}
+
+-- one place more at which two lists are equal
+pub same-more : (a b : List Line) (i : ℕ) → line_at a i ≡ line_at b i → ((j : ℕ) → j < i → line_at a j ≡ line_at b j) → (j : ℕ) → j < i + 1 → line_at a j ≡ line_at b j
+same-more a b i here before j below =
+    elim (cases_eq j i) [
+      | inl last ↦ subst (λ k. line_at a k ≡ line_at b k) (sym last) here
+      | inr other ↦ before j (omega (arith, below, other))
+    ]
+
+-- lists that are equal at each place
+pub same_lists : (a b : List Line) → length a ≡ length b → ((j : ℕ) → j < length a → line_at a j ≡ line_at b j) → a ≡ b
+same_lists [] [] same each = refl
+same_lists [] (y ∷ b) same each = absurd (omega (arith, same))
+same_lists (x ∷ a) [] same each = absurd (omega (arith, same))
+same_lists (x ∷ a) (y ∷ b) same each =
+    let first : x ≡ y = each 0 (omega arith) in
+    let rest : a ≡ b = same_lists a b (omega (arith, same)) (λ j below. each (suc j) (omega (arith, below))) in
+    cc
+
+-- ---- up from a leaf
+
+-- the position some levels above a leaf
+pub up-level : (tree : ChipTree) (leaf m d : ℕ) → IsAtLevelOf tree tree.height leaf → m + d ≡ tree.height → IsAtLevel d (up m leaf)
+up-level tree leaf m d at sum =
+    up-IsAtLevel m d leaf (subst (λ n. IsAtLevel n leaf) (sym sum) (record { from = at.from; below = at.below }))
+
+pub up-within : (tree : ChipTree) (leaf m : ℕ) → IsChipTree tree → IsAtLevelOf tree tree.height leaf → m ≤ tree.height → up m leaf < length tree.lines
+up-within tree leaf m it at few =
+    let level = up-level tree leaf m (tree.height - m) at (omega (arith, few)) in
+    level-within tree (tree.height - m) (up m leaf) it (record { within = omega arith; from = level.from; below = level.below })
+
+pub up-below_top : (tree : ChipTree) (leaf m : ℕ) → IsAtLevelOf tree tree.height leaf → m < tree.height → 1 ≤ up m leaf
+up-below_top tree leaf m at few =
+    let level = up-level tree leaf m (suc (tree.height - suc m)) at (omega (arith, few)) in
+    omega (arith, level.from, level_start-suc (tree.height - suc m))
+
+-- a slot's leaf
+pub leaf-is : (tree : ChipTree) (i : ℕ) → i < 4 ^ tree.height → IsAtLevelOf tree tree.height (level_start tree.height + i)
+leaf-is tree i inside = leaf-level tree i (level_start tree.height) refl inside
+
+pub level-before : (level top h : ℕ) → top ≡ h → level < top → level < h
+level-before level top h is below = omega (arith, is, below)
+
+-- ---- the highest difference
+
+pub highest-first : (a b : List Line) (leaf : ℕ) → line_at a leaf ≢ line_at b leaf → IsTopDifference 0 a b leaf leaf
+highest-first a b leaf differ =
+    record {
+      height = 0;
+      within = omega arith;
+      its_place = refl;
+      differ = differ;
+      above = λ n low high. absurd (omega (arith, low, high));
+    }
+
+-- one level more
+pub highest-more : (a b : List Line) (leaf level x found result : ℕ)
+    → x ≡ up (suc level) leaf
+    → (line_at a x ≡ line_at b x → result ≡ found)
+    → (line_at a x ≢ line_at b x → result ≡ x)
+    → IsTopDifference level a b leaf found → IsTopDifference (suc level) a b leaf result
+highest-more a b leaf level x found result place same other so_far =
+    elim (cases_line (line_at a x) (line_at b x)) [
+      | inr apart ↦
+          let is : result ≡ x = other apart in
+          record {
+            height = suc level;
+            within = omega arith;
+            its_place = is ∙ place;
+            differ = subst (λ z. line_at a z ≢ line_at b z) (sym is) apart;
+            above = λ n low high. absurd (omega (arith, low, high));
+          }
+      | inl equal ↦
+          let is : result ≡ found = same equal in
+          record {
+            height = so_far.height;
+            within = omega (arith, so_far.within);
+            its_place = is ∙ so_far.its_place;
+            differ = subst (λ z. line_at a z ≢ line_at b z) (sym is) so_far.differ;
+            above = λ n low high.
+                elim (cases_eq n (suc level)) [
+                  | inl last ↦
+                      subst (λ k. line_at a (up k leaf) ≡ line_at b (up k leaf)) (sym last)
+                      (subst (λ z. line_at a z ≡ line_at b z) place equal)
+                  | inr before ↦ so_far.above n low (omega (arith, high, before))
+                ];
+          }
+    ]
+
+-- ---- two shadow trees on the chip show where their slot lines' trees first differ from the top
+
+-- a line on a leaf's path
+path_line : (f : Formulas) (h : ℕ) (slots lines : List Line) (i m : ℕ) → IsShadowTree f h slots lines → i < 4 ^ h → m ≤ h → line_at lines (up m (level_start h + i)) ≡ shadow_line f h slots m (up m (level_start h + i))
+path_line f h slots lines i m it inside few =
+    let sum : h ≡ m + (h - m) = omega (arith, few) in
+    chip-line f h slots lines m (h - m) (up m (level_start h + i)) it (omega (arith, few))
+    (up-IsAtLevel m (h - m) (level_start h + i)
+    (subst (λ n. IsAtLevel n (level_start h + i)) sum (record { from = omega arith; below = omega (arith, inside, level_start-next h) })))
+
+pub shadow_top : (f : Formulas) (h : ℕ) (first second a b : List Line) (i x : ℕ)
+    → IsShadowTree f h first a → IsShadowTree f h second b → i < 4 ^ h → FirstDiffers first second i
+    → IsTopDifference h a b (level_start h + i) x
+    → (m : ℕ) × IsShadowDifference f h first second i m x × (line_at a x ≡ shadow_line f h first m x) × (line_at b x ≡ shadow_line f h second m x)
+shadow_top f h first second a b i x one two inside slot top =
+    let m = top.height in
+    let leaf = level_start h + i in
+    let is_one : line_at a x ≡ shadow_line f h first m x =
+    subst (λ z. line_at a z ≡ shadow_line f h first m z) (sym top.its_place) (path_line f h first a i m one inside top.within) in
+    let is_two : line_at b x ≡ shadow_line f h second m x =
+    subst (λ z. line_at b z ≡ shadow_line f h second m z) (sym top.its_place) (path_line f h second b i m two inside top.within) in (
+      m,
+      record {
+        slot = slot;
+        height = top.within;
+        its_place = top.its_place;
+        above =
+            λ n low high.
+            sym (path_line f h first a i n one inside high)
+            ∙ (top.above n low high ∙ path_line f h second b i n two inside high);
+        differ = λ e. top.differ (is_one ∙ (e ∙ sym is_two));
+      },
+      is_one,
+      is_two,
+    )

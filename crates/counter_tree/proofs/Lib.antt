@@ -1,0 +1,13 @@
+pub mod Positions
+pub mod HeightLemmas
+pub mod ChipLemmas
+pub mod LayoutLemmas
+pub mod OneToOne
+pub mod TreeLaws
+pub mod NodeLaws
+pub mod SlotLaws
+pub mod ShadowLaws
+pub mod ChipTree
+pub mod AcceptedLemmas
+pub mod DifferenceLemmas
+pub mod BookLemmas

@@ -1,0 +1,9 @@
+-- A node's position is below 5461.
+use Rattle.std.proofs.Common.{arith}
+use Rattle.pmem_base.specs.Geo.{shape_of}
+use Rattle.counter_tree.proofs.Positions.{meta_lines-most}
+use Rattle.counter_tree.proofs.accepted.fetch_node.Goals as goal
+
+pub read_node-requires : goal.read_node-requires
+read_node-requires g c =
+    omega (arith, meta_lines-most (shape_of c.args.geo.now) c.layout_is_one_to_one.ensures.ranges.at_most_six_levels, c.requires.position)

@@ -1,0 +1,12 @@
+-- The highest difference so far.
+use Rattle.std.proofs.Common.{ℕ, ◌≡◌, ◌+◌}
+use Rattle.pmem_base.specs.Layout.{level_start}
+use Rattle.counter_tree.specs.Shadow.{up, IsTopDifference}
+use Rattle.counter_tree.proofs.differences.top_difference.Given as goal
+
+abbrev pub invariant-levels : goal.invariant-levels
+invariant-levels l =
+    record {
+      place : l.x ≡ up l.level (level_start l.seen.height + l.i);
+      highest : IsTopDifference l.level l.seen.lines l.kept.lines (level_start l.seen.height + l.i) l.found;
+    }

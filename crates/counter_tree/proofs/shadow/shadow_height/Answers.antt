@@ -1,0 +1,20 @@
+-- The height by the number of slots.
+use Rattle.std.proofs.Common.{sym, arith}
+use Rattle.pmem_base.specs.Geo.{shape_of}
+use Rattle.counter_tree.proofs.HeightLemmas.{height_one, height_two, height_three, height_four, height_five}
+use Rattle.counter_tree.proofs.shadow.shadow_height.Goals as goal
+
+pub returns-in-0-to-4-clause-value : goal.returns-in-0-to-4-clause-value
+returns-in-0-to-4-clause-value c = sym (height_one (shape_of c.args.geo.now) (omega arith))
+
+pub returns-in-5-to-16-clause-value : goal.returns-in-5-to-16-clause-value
+returns-in-5-to-16-clause-value c = sym (height_two (shape_of c.args.geo.now) (omega arith) (omega arith))
+
+pub returns-in-17-to-64-clause-value : goal.returns-in-17-to-64-clause-value
+returns-in-17-to-64-clause-value c = sym (height_three (shape_of c.args.geo.now) (omega arith) (omega arith))
+
+pub returns-in-65-to-256-clause-value : goal.returns-in-65-to-256-clause-value
+returns-in-65-to-256-clause-value c = sym (height_four (shape_of c.args.geo.now) (omega arith) (omega arith))
+
+pub returns-in_default-clause-value : goal.returns-in_default-clause-value
+returns-in_default-clause-value c = sym (height_five (shape_of c.args.geo.now) (omega arith))

@@ -1,0 +1,10 @@
+pub mod Nodes
+pub mod Layout
+pub mod Trees
+pub mod Slots
+pub mod Shadow
+pub mod Laws
+pub mod Watch
+pub mod Accepted
+pub mod Book
+pub mod BookView
