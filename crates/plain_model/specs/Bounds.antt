@@ -93,6 +93,13 @@ abbrev pub IsSpentWithin : Shape → PlainState → Option ℕ → List Mark →
 IsSpentWithin g state None marks steps = IsFetchWithin false g state steps
 IsSpentWithin g state (Some n) marks steps = steps ≤ writing_bound g n marks + spent_bound g
 
+-- A refusal, by the write after n drained ones: where that is spent, its steps are those of its path alone.
+abbrev pub IsRefusedWriteWithin : Setup → PlainState → DeviceView → ℕ → Option ℕ → List Mark → ℕ → Type 0
+IsRefusedWriteWithin setup state view port n marks steps =
+    MatchBool (is_spent_in_flight setup state view port (unwrap_or n 0))
+    (IsSpentWithin setup.shape state n marks steps)
+    (steps ≤ writing_bound setup.shape (unwrap_or n 0 + 1) marks)
+
 -- a drain or a fence, by its answer
 abbrev pub IsWriteWithin : Setup → PlainState → DeviceView → ℕ → List Mark → Answer → Type 0
 IsWriteWithin setup state view port marks (Say.Drained steps) =
@@ -100,7 +107,7 @@ IsWriteWithin setup state view port marks (Say.Drained steps) =
 IsWriteWithin setup state view port marks (Say.Fenced n steps) =
     steps ≤ writing_bound setup.shape n marks
 IsWriteWithin setup state view port marks (Say.Refused n place steps) =
-    steps ≤ writing_bound setup.shape (unwrap_or n 0 + 1) marks
+    IsRefusedWriteWithin setup state view port n marks steps
 IsWriteWithin setup state view port marks (Say.Spent n page steps) =
     IsSpentWithin setup.shape state n marks steps
 IsWriteWithin setup state view port marks (Say.CutKept n steps) =
