@@ -1,6 +1,6 @@
 -- Laws of recovery's answers: what each says of the device, of the registers and of the lines.
-use Rattle.std.proofs.Common.{rules, ℕ, ◌≡◌, ◌<◌, ◌≤◌, ◌+◌, ◌*◌, List, [], length, Option, Some, refl, ap, sym, subst, ◌∙◌, inl, inr, arith}
-use Rattle.std.proofs.lemmas.List.Elements.{All-nil, All-same}
+use Rattle.std.proofs.Common.{rules, ℕ, ◌≡◌, ◌<◌, ◌≤◌, ◌+◌, ◌*◌, List, [], length, take, Option, Some, refl, ap, sym, subst, ◌∙◌, inl, inr, arith}
+use Rattle.std.proofs.lemmas.List.Elements.{All-nil, All-same, All-take}
 use Rattle.pmem_base.specs.declared.lines.Line.{Line}
 use Rattle.pmem_base.specs.declared.registers.Regs.{Regs}
 use Rattle.pmem_base.specs.Shape.{IsShape}
@@ -25,6 +25,7 @@ use Rattle.pmem_recovery.specs.declared.faults.RecFault.{RecFault}
 use Rattle.pmem_recovery.specs.declared.faults.RecFault.TheVariants.{NoCounter, Root, Twin}
 use Rattle.pmem_recovery.specs.Trials.{stored_block, tried_minors, IsTwinOfLastSeal}
 use Rattle.pmem_recovery.specs.Parts.{HasRoot, IsRefusal}
+use Rattle.pmem_recovery.specs.Upward.{IsMadeLine}
 use Rattle.pmem_recovery.specs.Mending.{IsPartlyMended}
 use Rattle.pmem_recovery.proofs.TrialLaws.{tried_minors_some, twin_of_last_seal}
 use Rattle.pmem_recovery.proofs.UndecidedLaws.{undecided_line}
@@ -38,7 +39,7 @@ use Rattle.pmem_recovery.proofs.EndLaws.{IsMendable-written, IsMendable-zeroed_t
 pub partly-data : (setup : Setup) (lines : List Line) (regs : Regs) (now : List Line) (n : ℕ) → IsPartlyMended setup lines regs now → n < 80 * layout.pages setup.shape → line_at now n ≡ line_at lines n
 partly-data setup lines regs now n (inl same) low = ap (λ l. line_at l n) same
 partly-data setup lines regs now n (inr (inl w)) low =
-    off_tree_same setup.shape lines w.written now n (made_on_tree setup lines regs w.written w.made) w.are_written (inl low)
+    off_tree_same setup.shape lines (take w.place w.made) now n (made_on_tree setup lines regs (take w.place w.made) (All-take (IsMadeLine setup lines regs) w.place w.made w.all_made.each)) w.are_written (inl low)
 partly-data setup lines regs now n (inr (inr z)) low =
     z.are_zeroed.others n (inl (omega (arith, low)))
     ∙ off_tree_same setup.shape lines z.made z.between n (made_on_tree setup lines regs z.made z.all_made.each) z.all_written (inl low)
@@ -47,11 +48,11 @@ partly-data setup lines regs now n (inr (inr z)) low =
 pub partly-mendable : (setup : Setup) (lines : List Line) (regs : Regs) (ledger : LedgerState) (now : List Line) → IsShape setup.shape → IsMendable setup lines regs ledger → IsPartlyMended setup lines regs now → IsMendable setup now regs ledger
 partly-mendable setup lines regs ledger now shape d (inl same) = subst (λ l. IsMendable setup l regs ledger) (sym same) d
 partly-mendable setup lines regs ledger now shape d (inr (inl w)) =
-    IsMendable-written setup lines regs ledger w.written now shape d w.decided w.made w.are_written
+    IsMendable-written setup lines regs ledger (take w.place w.made) now shape d w.root.decided (All-take (IsMadeLine setup lines regs) w.place w.made w.all_made.each) w.are_written
 partly-mendable setup lines regs ledger now shape d (inr (inr z)) =
     IsMendable-zeroed_to setup z.between regs ledger z.zeroed now
-    (IsMendable-written setup lines regs ledger z.made z.between shape d z.decided z.all_made.each z.all_written)
-    (all_true_written setup lines regs ledger z.made z.between shape d z.decided z.all_made z.all_written) z.are_zeroed
+    (IsMendable-written setup lines regs ledger z.made z.between shape d z.root.decided z.all_made.each z.all_written)
+    (all_true_written setup lines regs ledger z.made z.between shape d z.root.decided z.all_made z.all_written) z.are_zeroed
 
 -- ---- refusals of a device that can be mended
 

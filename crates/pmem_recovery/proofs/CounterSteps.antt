@@ -1,18 +1,20 @@
 -- The steps of making the named counter blocks, upwards.
-use Rattle.std.proofs.Common.{rules, ℕ, zero, suc, ◌≡◌, ◌≢◌, ◌<◌, ◌≤◌, ◌+◌, ◌-◌, true, false, List, [], ◌∷◌, ◌++◌, length, Some, ap, sym, subst, ◌∙◌, arith}
+use Rattle.std.proofs.Common.{rules, ℕ, zero, suc, ◌≡◌, ◌≢◌, ◌<◌, ◌≤◌, ◌+◌, ◌-◌, true, false, List, [], ◌∷◌, ◌++◌, length, Some, ap, sym, subst, ◌∙◌, inl, inr, arith}
 use Rattle.std.proofs.lemmas.Bool.{true≢false}
+use Rattle.std.proofs.lemmas.List.Elements.{All-nil}
 use Rattle.pmem_base.specs.declared.lines.Line.{Line}
 use Rattle.pmem_base.specs.declared.registers.Regs.{Regs}
 use Rattle.pmem_base.specs.Shape.{IsShape}
-use Rattle.pmem_base.specs.Layout.{pages, level_start}
+use Rattle.pmem_base.specs.Layout.{pages, meta_lines, level_start}
 use Rattle.bonsai_tree.specs.Positions.{counter_position}
+use Rattle.bonsai_tree.proofs.Levels.{meta_lines-level}
 use Rattle.suite.specs.Setup.{Setup}
 use Rattle.pmem_engine.specs.Invariants.{is_named}
 use Rattle.pmem_recovery.specs.declared.entries.Made.{Made}
 use Rattle.pmem_recovery.specs.declared.faults.RecFault.{RecFault}
 use Rattle.pmem_recovery.specs.declared.faults.RecFault.TheVariants.{NoCounter, Root, Twin}
 use Rattle.pmem_recovery.specs.Trials.{tried_minors, AreDecided}
-use Rattle.pmem_recovery.specs.Upward.{AreMadeTo, block_made}
+use Rattle.pmem_recovery.specs.Upward.{IsMadeLine, AreMadeTo, IsDoneTo, block_made}
 use Rattle.pmem_recovery.specs.Parts.{AreOneTried, IsTwinOf, IsPageRefusal, IsRefusal}
 use Rattle.pmem_recovery.proofs.UndecidedLaws.{AreDecided-more, first_undecided_at}
 use Rattle.pmem_recovery.proofs.UpwardSteps.{AreMadeTo-upto, AreMadeTo-block}
@@ -21,6 +23,25 @@ use Rattle.pmem_recovery.proofs.UpwardSteps.{AreMadeTo-upto, AreMadeTo-block}
 pub record AreBlocksTo (setup : Setup) (lines : List Line) (regs : Regs) (page : ℕ) (made : List Made) : Type 0 where
   pub decided : AreDecided setup lines regs page
   pub blocks : AreMadeTo setup lines regs setup.shape.levels (counter_position setup.shape page) made
+
+-- before any of them
+pub AreBlocksTo-none : (setup : Setup) (lines : List Line) (regs : Regs) (page : ℕ) → page ≡ 0 → AreBlocksTo setup lines regs page []
+AreBlocksTo-none setup lines regs page e =
+    record {
+      decided = record { each = λ p low. absurd (omega (arith, e, low)) };
+      blocks =
+          record {
+            each = All-nil (IsMadeLine setup lines regs);
+            only_done = All-nil (λ entry. IsDoneTo setup.shape.levels (counter_position setup.shape page) entry.at);
+            distinct = λ i j d less within. absurd (omega arith);
+            in_order = λ i j d less within. absurd (omega arith);
+            every = λ x inside done named. absurd (go x inside done);
+          };
+    }
+  where
+    go : (x : ℕ) → x < meta_lines setup.shape → IsDoneTo setup.shape.levels (counter_position setup.shape page) x → ⊥
+    go x inside (inl low) = omega (arith, inside, low, meta_lines-level setup.shape)
+    go x inside (inr d) = omega (arith, d.0, d.1, e)
 
 -- pages that aren't named
 decided_gap : (setup : Setup) (lines : List Line) (regs : Regs) (page n : ℕ) → ((p : ℕ) → page ≤ p → p < page + n → is_named setup.shape lines (counter_position setup.shape p) ≡ false) → AreDecided setup lines regs page → AreDecided setup lines regs (page + n)

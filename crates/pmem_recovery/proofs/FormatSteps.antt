@@ -11,6 +11,7 @@ use Rattle.pmem_base.specs.Lines.{line_at, tag_slot}
 use Rattle.pmem_base.proofs.ListLaws.{range_with_len-append}
 use Rattle.board.specs.Device.{Device, AreToldLines}
 use Rattle.board.specs.Steps.{HasWritten}
+use Rattle.board.proofs.CountLemmas.{RisesBy-then}
 use Rattle.split_counters.specs.Blocks.{zero_minors, packed}
 use Rattle.bonsai_tree.specs.Positions.{child_position, counter_position}
 use Rattle.bonsai_tree.specs.Nodes.{node_over}
@@ -32,10 +33,21 @@ use Rattle.pmem_recovery.proofs.WriteSteps.{told_earlier}
 pub told_long : (device : Device) (n : ℕ) → AreToldLines device.size device.lines → device.size ≡ n → (lines : List Line) → device.lines ≡ Some lines → length lines ≡ n
 told_long device n whole size lines told = (whole_lines device.size device.lines lines whole told).count ∙ size
 
-pub StaysSteady-then : (old mid new : Device) → StaysSteady old mid → StaysSteady mid new → StaysSteady old new
-StaysSteady-then old mid new a b = search rules
+pub StaysSteady-then : (n m : ℕ) (old mid new : Device) → StaysSteady n old mid → StaysSteady m mid new → StaysSteady (n + m) old new
+StaysSteady-then n m old mid new a b =
+    record {
+      size = b.size ∙ a.size;
+      regs = b.regs ∙ a.regs;
+      steady = λ s. b.steady (a.steady s);
+      live = λ l. b.live (a.live l);
+      told = b.told ∙ a.told;
+      writes = RisesBy-then n m old.writes mid.writes new.writes a.writes b.writes;
+      reads = b.reads ∙ a.reads;
+      latches = b.latches ∙ a.latches;
+      cuts = b.cuts ∙ a.cuts;
+    }
 
-pub StaysSteady-written : (old : Device) (at : ℕ) (line : Line) (new : Device) → HasWritten old at line new → StaysSteady old new
+pub StaysSteady-written : (old : Device) (at : ℕ) (line : Line) (new : Device) → HasWritten old at line new → StaysSteady 1 old new
 StaysSteady-written old at line new w = search rules
 
 -- the lines before and after a write

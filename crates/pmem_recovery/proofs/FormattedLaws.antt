@@ -15,6 +15,7 @@ use Rattle.pmem_base.specs.Registers.{IsGroup}
 use Rattle.pmem_base.proofs.LineLemmas.{IsLine-zero_line}
 use Rattle.pmem_engine.proofs.CallEnds.ToldLines.{whole_lines}
 use Rattle.board.specs.Device.{Device, AreLinesOf, AreToldLines}
+use Rattle.board.specs.Counts.{RisesBy}
 use Rattle.board.specs.Steps.{HasLatched}
 use Rattle.suite.specs.Formulas.{AreInRange}
 use Rattle.suite.specs.Setup.{Setup}
@@ -59,11 +60,11 @@ pub record HasNoted (setup : Setup) (truth : List Line) (old sealed new : Ledger
 pub record HasPut (setup : Setup) (truth : List Line) (old sealed filled cleared new : Device) : Type 0 where
   pub size : old.size ≡ layout.device_lines setup.shape
   pub steady : old.steady ≡ true
-  pub steady_sealed : StaysSteady old sealed
+  pub steady_sealed : StaysSteady (80 * layout.pages setup.shape) old sealed
   pub seals : HasSealedAll setup (layout.data_lines setup.shape) sealed
-  pub steady_filled : StaysSteady sealed filled
+  pub steady_filled : StaysSteady (layout.meta_lines setup.shape) sealed filled
   pub meta : HasWrittenMeta setup.shape truth (layout.meta_lines setup.shape) sealed filled
-  pub steady_cleared : StaysSteady filled cleared
+  pub steady_cleared : StaysSteady (layout.shadow_lines setup.shape) filled cleared
   pub tables : HasClearedTables setup.shape (layout.shadow_lines setup.shape) filled cleared
   pub latched : HasLatched cleared (first_regs setup (line_at truth 0)) new
   pub whole_sealed : AreToldLines sealed.size sealed.lines
@@ -180,7 +181,7 @@ HasFormatted-of setup truth l0 l1 l2 d0 d1 d2 d3 d4 engine shape in_range its ma
     let anchored = anchored-formatted setup d4.regs l2 shape in_range (made_formatted setup truth l0 l1 l2 d0 d1 d2 d3 d4 shape made l d) in
     let same = noted_truth setup truth l0 l1 l2 made l in
     let none : d4.regs.group.items ≡ [] = ap (λ r. r.group.items) d.latched.regs in
-    let stays = StaysSteady-then d0 d2 d3 (StaysSteady-then d0 d1 d2 d.steady_sealed d.steady_filled) d.steady_cleared in
+    let stays = StaysSteady-then _ _ d0 d2 d3 (StaysSteady-then _ _ d0 d1 d2 d.steady_sealed d.steady_filled) d.steady_cleared in
     record {
       engine_new = its;
       anchored = anchored;
@@ -192,6 +193,7 @@ HasFormatted-of setup truth l0 l1 l2 d0 d1 d2 d3 d4 engine shape in_range its ma
           (IsSound-new_engine setup (new_engine setup.shape) now d4.regs l2 (IsNewEngine-fresh setup now whole p.tables) whole
           (put_mendable setup truth now l0 l1 l2 d4.regs anchored made l p)
           (record { true_lines = λ x inside. p.meta x inside ∙ ap (λ t. line_at t x) (sym same) }) none);
+      marks = noted_marks setup truth l0 l1 l2 l;
       seals =
           ap length (noted_marks setup truth l0 l1 l2 l)
           ∙ length-map (range_with_len 0 (layout.data_lines setup.shape)) (first_seal setup)
@@ -204,4 +206,9 @@ HasFormatted-of setup truth l0 l1 l2 d0 d1 d2 d3 d4 engine shape in_range its ma
       size = d.latched.size ∙ stays.size;
       told = ap is_some d.latched.lines ∙ stays.told;
       steady = d.latched.steady (stays.steady d.steady);
+      live = λ l. d.latched.live (stays.live l);
+      writes = subst (RisesBy (layout.device_lines setup.shape) d0.writes) (sym d.latched.writes) stays.writes;
+      latches = subst (λ n. RisesBy 1 n d4.latches) stays.latches d.latched.latches;
+      reads = d.latched.reads ∙ stays.reads;
+      cuts = d.latched.cuts ∙ stays.cuts;
     }

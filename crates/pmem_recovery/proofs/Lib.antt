@@ -15,6 +15,9 @@ pub mod WriteSteps
 pub mod RecoveredLaws
 pub mod MendingLaws
 pub mod AnswerLaws
+pub mod FrontLaws
+pub mod WorkLaws
+pub mod ReadLaws
 pub mod RecoverLaws
 pub mod FormatSteps
 pub mod FormattedLaws

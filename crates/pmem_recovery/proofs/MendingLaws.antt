@@ -11,6 +11,7 @@ use Rattle.pmem_base.specs.Lines.{line_at, zero_line}
 use Rattle.board.specs.Counts.{RisesBy}
 use Rattle.board.specs.Device.{Device}
 use Rattle.board.proofs.CountLemmas.{RisesBy-then}
+use Rattle.commit_regs.specs.Groups.{RisesAtMost}
 use Rattle.shadow_tables.specs.Entries.{shadow_of}
 use Rattle.suite.specs.Setup.{Setup}
 use Rattle.pmem_engine.specs.Mendable.{IsShadowZero}
@@ -20,7 +21,7 @@ use Rattle.pmem_recovery.specs.Parts.{Told, KeepsDevice, HasRoot}
 use Rattle.pmem_recovery.specs.Upward.{is_other, IsMadeLine}
 use Rattle.pmem_recovery.specs.Written.{AreWritten, IsRecovered, count_changed, count_nonzero, differing}
 use Rattle.pmem_recovery.specs.Writing.{BothTold, HasWrittenTo, HasWrittenSome, HasZeroedTo, HasZeroedSome}
-use Rattle.pmem_recovery.specs.Mending.{HasMadeAll, most_writes, HasMadeWrites, WritesFewer}
+use Rattle.pmem_recovery.specs.Mending.{HasMadeAll, most_reads, most_writes, HasMadeWrites, WritesFewer}
 use Rattle.pmem_recovery.proofs.WrittenLaws.{differing-none, is_other-same, off_tree_same, made_on_tree, AreCompared-made}
 use Rattle.pmem_recovery.proofs.WriteSteps.{told_earlier}
 use Rattle.pmem_recovery.proofs.EndLaws.{nothing_made}
@@ -72,13 +73,13 @@ none_nonzero setup lines shadow n long its zero =
 
 -- ---- the writes
 
-pub made_writes-none : (setup : Setup) (regs : Regs) (old new : Device) → KeepsDevice old new → HasMadeWrites setup regs old new
-made_writes-none setup regs old new r =
+pub made_writes-none : (setup : Setup) (regs : Regs) (old new : Device) → KeepsDevice old new → RisesAtMost (most_reads setup.shape) old.reads new.reads → HasMadeWrites setup regs old new
+made_writes-none setup regs old new r reads =
     record {
       size = r.size;
       same_regs = r.regs;
       latches = r.latches;
-      reads = r.reads;
+      reads = reads;
       told = ap is_some r.lines;
       count = 0;
       few = omega arith;
@@ -95,14 +96,14 @@ made_writes-none setup regs old new r =
     plus_zero : (n : ℕ) → n ≡ n + 0
     plus_zero n = omega arith
 
-pub made_writes-some : (setup : Setup) (regs : Regs) (old mid new : Device) (shadow : List Line) (made : List Made) → KeepsDevice old mid → IsMadeFor setup regs old shadow made → HasWrittenSome setup.shape made mid new → HasMadeWrites setup regs old new
-made_writes-some setup regs old mid new shadow made r m w =
+pub made_writes-some : (setup : Setup) (regs : Regs) (old mid new : Device) (shadow : List Line) (made : List Made) → KeepsDevice old mid → RisesAtMost (most_reads setup.shape) old.reads mid.reads → IsMadeFor setup regs old shadow made → HasWrittenSome setup.shape made mid new → HasMadeWrites setup regs old new
+made_writes-some setup regs old mid new shadow made r reads m w =
     let s = w.written.steps in
     record {
       size = s.size ∙ r.size;
       same_regs = s.regs ∙ r.regs;
       latches = s.latches ∙ r.latches;
-      reads = subst (λ n. old.reads ≤ n) (sym s.reads) r.reads;
+      reads = subst (RisesAtMost (most_reads setup.shape) old.reads) (sym s.reads) reads;
       told = s.told ∙ ap is_some r.lines;
       count = count_changed (take w.place made);
       few = omega (arith, few_changed made w.place, m.few);
@@ -112,9 +113,10 @@ made_writes-some setup regs old mid new shadow made r m w =
           let all = m.told lines told whole in
           let written = w.written.lines lines (r.lines ∙ told) now after whole (AreCompared-made setup lines regs _ made all.all_made) in (
             inr (inl (record {
-              decided = all.has_root.decided;
-              written = take w.place made;
-              made = All-take (IsMadeLine setup lines regs) w.place made all.all_made.each;
+              root = all.has_root;
+              made = made;
+              place = w.place;
+              all_made = all.all_made;
               are_written = written.0;
             })),
             written.1,
@@ -149,8 +151,8 @@ between_is setup regs old mid late shadow made lines between r m w told after wh
       all = all;
     }
 
-pub made_writes-zeroed : (setup : Setup) (regs : Regs) (old mid late new : Device) (shadow : List Line) (made : List Made) → KeepsDevice old mid → IsMadeFor setup regs old shadow made → HasWrittenTo setup.shape made (length made) mid late → (k : ℕ) → k ≤ layout.shadow_lines setup.shape → HasZeroedTo setup.shape shadow k late new → HasMadeWrites setup regs old new
-made_writes-zeroed setup regs old mid late new shadow made r m w k within z =
+pub made_writes-zeroed : (setup : Setup) (regs : Regs) (old mid late new : Device) (shadow : List Line) (made : List Made) → KeepsDevice old mid → RisesAtMost (most_reads setup.shape) old.reads mid.reads → IsMadeFor setup regs old shadow made → HasWrittenTo setup.shape made (length made) mid late → (k : ℕ) → k ≤ layout.shadow_lines setup.shape → HasZeroedTo setup.shape shadow k late new → HasMadeWrites setup regs old new
+made_writes-zeroed setup regs old mid late new shadow made r reads m w k within z =
     let s = w.steps in
     let t = z.steps in
     let entire : take (length made) made ≡ made = take_all (length made) made (omega arith) in
@@ -161,7 +163,7 @@ made_writes-zeroed setup regs old mid late new shadow made r m w k within z =
       size = t.size ∙ s.size ∙ r.size;
       same_regs = t.regs ∙ s.regs ∙ r.regs;
       latches = t.latches ∙ s.latches ∙ r.latches;
-      reads = subst (λ c. old.reads ≤ c) (sym (t.reads ∙ s.reads)) r.reads;
+      reads = subst (RisesAtMost (most_reads setup.shape) old.reads) (sym (t.reads ∙ s.reads)) reads;
       told = t.told ∙ s.told ∙ ap is_some r.lines;
       count = count_changed made + n;
       few = omega (arith, subst (λ l. count_changed l ≤ length made) entire (few_changed made (length made)), few_nonzero shadow k, m.few, m.long);
@@ -172,7 +174,7 @@ made_writes-zeroed setup regs old mid late new shadow made r m w k within z =
           let b = between_is setup regs old mid late shadow made lines earlier.0 r m w told earlier.1 whole in
           let zeroed = z.lines earlier.0 earlier.1 now after b.long b.its_shadow in (
             inr (inr (record {
-              decided = b.all.has_root.decided;
+              root = b.all.has_root;
               made = made;
               between = earlier.0;
               zeroed = k;

@@ -11,13 +11,14 @@ use Rattle.pmem_base.specs.Layout.{slots, meta_lines}
 use Rattle.pmem_base.specs.declared.lines.Line.{Line}
 use Rattle.pmem_base.specs.Counts.{risen, risen_times}
 use Rattle.board.specs.Device.{Device}
+use Rattle.commit_regs.specs.Groups.{RisesAtMost}
 use Rattle.board.specs.Steps.{Tells, HasRead, WasCut}
 use Rattle.pmem_base.specs.Lines.{line_at}
 use Rattle.suite.specs.Formulas.{Formulas}
 use Rattle.pmem_recovery.specs.declared.faults.RecFault.{RecFault}
 use Rattle.pmem_recovery.specs.declared.faults.RecFault.TheVariants.{Cut}
 use Rattle.pmem_recovery.specs.declared.entries.Made.{Made}
-use Rattle.pmem_recovery.specs.Parts.{Told, KeepsDevice, IsUncut, IsCutOff, StopsBy, SuiteState, SuiteWork, SuiteWorkAtMost, AddsLine, IsStageStopped}
+use Rattle.pmem_recovery.specs.Parts.{Told, KeepsDevice, IsUncut, IsCutOff, StopsBy, SuiteState, SuiteWork, SuiteRise, SuiteWorkAtMost, AddsLine, IsStageStopped}
 
 -- ---- the device
 
@@ -52,6 +53,28 @@ IsCutOff-cut old new c = search rules
 -- what is told stays told
 pub told_before : (old mid : Device) → KeepsDevice old mid → (lines : List Line) → old.lines ≡ Some lines → mid.lines ≡ Some lines
 told_before old mid r lines told = r.lines ∙ told
+
+-- ---- reads
+
+pub RisesAtMost-none : (n count : ℕ) → RisesAtMost n count count
+RisesAtMost-none n count = record { never_falls = omega arith; bound = λ h. omega arith }
+
+pub RisesAtMost-less : (n k before after : ℕ) → n ≤ k → RisesAtMost n before after → RisesAtMost k before after
+RisesAtMost-less n k before after few a = record { never_falls = a.never_falls; bound = λ h. omega (arith, a.bound h, few) }
+
+pub RisesAtMost-both : (n m k before mid after : ℕ) → n + m ≤ k → RisesAtMost n before mid → RisesAtMost m mid after → RisesAtMost k before after
+RisesAtMost-both n m k before mid after few a b =
+    record {
+      never_falls = omega (arith, a.never_falls, b.never_falls);
+      bound = λ h. omega (arith, few, b.bound h, a.bound (omega (arith, h, b.never_falls)));
+    }
+
+pub RisesAtMost-read : (old : Device) (at : ℕ) (line : Line) (new : Device) → HasRead old at line new → RisesAtMost 1 old.reads new.reads
+RisesAtMost-read old at line new r =
+    record { never_falls = r.reads.never_falls; bound = λ h. omega (arith, r.reads.exact h) }
+
+pub RisesAtMost-cut : (n : ℕ) (old new : Device) → WasCut old new → RisesAtMost n old.reads new.reads
+RisesAtMost-cut n old new c = subst (RisesAtMost n old.reads) (sym c.reads) (RisesAtMost-none n old.reads)
 
 -- ---- a stage that stops
 
@@ -96,6 +119,29 @@ SuiteWorkAtMost-after n m k l p q old mid new few_trials few_digests a b =
       few_trials = omega (arith, few_trials, b.few_trials);
       few_digests = omega (arith, few_digests, b.few_digests);
       worked = SuiteWork-then n m b.trials b.digests old mid new a b.worked;
+    }
+
+-- ---- pads, tags and digests
+
+pub SuiteRise-none : (old : SuiteState) → SuiteRise 0 0 0 old old
+SuiteRise-none old = record { its_keys = refl; its_pads = refl; its_tags = refl; its_digests = refl }
+
+pub SuiteRise-then : (a b c d e f : ℕ) (old mid new : SuiteState) → SuiteRise a b c old mid → SuiteRise d e f mid new → SuiteRise (a + d) (b + e) (c + f) old new
+SuiteRise-then a b c d e f old mid new x y =
+    record {
+      its_keys = y.its_keys ∙ x.its_keys;
+      its_pads = y.its_pads ∙ ap (risen_times d) x.its_pads ∙ risen_times-then a d old.pads;
+      its_tags = y.its_tags ∙ ap (risen_times e) x.its_tags ∙ risen_times-then b e old.tags;
+      its_digests = y.its_digests ∙ ap (risen_times f) x.its_digests ∙ risen_times-then c f old.digests;
+    }
+
+pub SuiteRise-as : (a b c d e f : ℕ) (old new : SuiteState) → a ≡ d → b ≡ e → c ≡ f → SuiteRise a b c old new → SuiteRise d e f old new
+SuiteRise-as a b c d e f old new p q r x =
+    record {
+      its_keys = x.its_keys;
+      its_pads = x.its_pads ∙ ap (λ n. risen_times n old.pads) p;
+      its_tags = x.its_tags ∙ ap (λ n. risen_times n old.tags) q;
+      its_digests = x.its_digests ∙ ap (λ n. risen_times n old.digests) r;
     }
 
 -- ---- one more line

@@ -22,11 +22,18 @@ use Rattle.pmem_recovery.specs.declared.faults.RecFault.{RecFault}
 use Rattle.pmem_recovery.specs.declared.faults.RecFault.TheVariants.{Memory, Cut, NoCounter, Root, Twin}
 use Rattle.pmem_recovery.specs.Trials.{IsTwinOfLastSeal}
 use Rattle.pmem_recovery.specs.Written.{IsRecovered, differing}
-use Rattle.pmem_recovery.specs.Parts.{KeepsDevice, IsUncut, StopsBy, SuiteState, SuiteWork, SuiteWorkAtMost, HasRoot, IsFaultShown, IsRefusal, IsStageStopped}
+use Rattle.pmem_recovery.specs.Parts.{Told, KeepsDevice, IsUncut, StopsBy, SuiteState, SuiteWork, SuiteWorkAtMost, HasRoot, IsFaultShown, IsRefusal, IsStageStopped, StoppedWork, IsAllWork}
 use Rattle.pmem_recovery.specs.Writing.{BothTold}
-use Rattle.pmem_recovery.specs.Mending.{IsPartlyMended, most_writes, HasMadeWrites, IsStoppedShort}
+use Rattle.pmem_recovery.specs.Mending.{IsPartlyMended, most_reads, most_writes, HasMadeWrites, IsStoppedShort}
 use Rattle.pmem_recovery.specs.Recovered.{RegsAfter, PowerAfter, HasOnlyRedone, IsUnchanged, most_steps, StepsAfter, CountsAtMost, IsTwinValid, IsNoCounterUnmendable, IsMendedAs, HasRecovered, IsUncounted}
+use Rattle.pmem_recovery.specs.Fronts.{IsFrontWritten}
 use Rattle.pmem_recovery.proofs.PartLaws.{IsUncut-then, IsCutOff-after}
+use Rattle.pmem_recovery.proofs.FrontLaws.{front_partly, front_without, fixed_recovered, fixed_without}
+use Rattle.board.specs.Counts.{RisesBy}
+use Rattle.shadow_tables.specs.Entries.{shadow_of}
+use Rattle.pmem_recovery.specs.Reads.{all_reads, named_reads, IsReadUntil}
+use Rattle.pmem_recovery.proofs.ReadLaws.{all_reads_without, read_until_without}
+use Rattle.pmem_recovery.proofs.WorkLaws.{stopped_memory, stopped_at_once, stopped_without, all_without}
 use Rattle.pmem_recovery.proofs.WrittenLaws.{top_recovered}
 use Rattle.pmem_recovery.proofs.EndLaws.{IsSound-recovered, IsShadowZero-recovered}
 use Rattle.pmem_recovery.proofs.AnswerLaws.{partly-data, partly-mendable, no_counter-caused, IsTrueRefusal, true_refusal, IsEmptied-without, HasRoot-without, IsRefusal-without, IsTrusted-fresh, IsNewEngine-fresh, redone_told-told, RisesAtMost-then}
@@ -34,10 +41,14 @@ use Rattle.pmem_recovery.proofs.AnswerLaws.{partly-data, partly-mendable, no_cou
 -- ---- no memory, and a cut while the group is redone
 
 pub recovered_memory : (setup : Setup) (ledger : LedgerState) (old : Device) (suite : SuiteState) → IsValidRegs setup.shape old.regs → HasRecovered setup ledger old old suite suite (Err Memory)
-recovered_memory setup ledger old suite valid = search rules
+recovered_memory setup ledger old suite valid =
+    let work : (lines : List Line) → StoppedWork setup.shape (redone old.regs.group.items lines) old.regs Memory suite suite = λ lines. stopped_memory setup.shape (redone old.regs.group.items lines) old.regs suite in
+    search rules
 
 pub recovered_interrupted : (setup : Setup) (ledger : LedgerState) (old new : Device) (suite : SuiteState) → IsShape setup.shape → old.size ≡ layout.device_lines setup.shape → AreToldLines new.size new.lines → IsValidRegs setup.shape old.regs → (old.regs.group.items ≡ [] → ⊥) → IsInterrupted old.regs.group.items old new → HasRecovered setup ledger old new suite suite (Err Cut)
-recovered_interrupted setup ledger old new suite shape size whole valid armed cut = search rules
+recovered_interrupted setup ledger old new suite shape size whole valid armed cut =
+    let work : (lines : List Line) → StoppedWork setup.shape (redone old.regs.group.items lines) old.regs Cut suite suite = λ lines. stopped_at_once setup.shape (redone old.regs.group.items lines) old.regs suite in
+    search rules
 
 -- ---- the group redone, and the named lines made and written
 
@@ -51,6 +62,10 @@ pub record IsRun (setup : Setup) (old mid new : Device) : Type 0 where
   pub finished : HasFinished old mid
   pub idle : old.regs.group.items ≡ [] → mid ≡ old
   pub written : HasMadeWrites setup mid.regs mid new
+  pub few_reads :
+      Told mid.lines
+      (λ lines. length lines ≡ layout.device_lines setup.shape
+      → RisesAtMost (named_reads setup.shape (shadow_of setup.shape lines)) mid.reads new.reads)
 
 module _ (setup : Setup) (ledger : LedgerState) (old mid new : Device) (run : IsRun setup old mid new) where
   pub new_regs : new.regs ≡ without_group old.regs
@@ -68,8 +83,8 @@ module _ (setup : Setup) (ledger : LedgerState) (old mid new : Device) (run : Is
   pub its_told : is_some new.lines ≡ is_some old.lines
   its_told = run.written.told ∙ ap is_some run.finished.lines ∙ told_redone old.regs.group.items old.lines
 
-  pub its_reads : old.reads ≤ new.reads
-  its_reads = omega (arith, run.finished.reads, run.written.reads)
+  pub its_reads : RisesAtMost (most_reads setup.shape) old.reads new.reads
+  its_reads = subst (λ n. RisesAtMost (most_reads setup.shape) n new.reads) run.finished.reads run.written.reads
 
   pub its_valid : IsValidRegs setup.shape new.regs
   its_valid = IsValidRegs-emptied setup.shape old.regs new.regs emptied run.valid
@@ -96,11 +111,24 @@ module _ (setup : Setup) (ledger : LedgerState) (old mid new : Device) (run : Is
     pub count : differing (redone old.regs.group.items lines) now ≡ run.written.count
     pub no_count : IsShadowZero setup (redone old.regs.group.items lines) → run.written.count ≡ 0
 
+  -- the lines with the group redone
+  pub its_mid : (lines : List Line) → old.lines ≡ Some lines → (mid.lines ≡ Some (redone old.regs.group.items lines)) × (length (redone old.regs.group.items lines) ≡ layout.device_lines setup.shape)
+  its_mid lines told =
+      let before : AreLinesOf (layout.device_lines setup.shape) lines = subst (λ s. AreLinesOf s lines) run.size (whole_lines old.size old.lines lines run.whole_before told) in (
+        run.finished.lines ∙ redone_told-told old.regs.group.items old.lines lines told,
+        length-put_lines old.regs.group.items lines ∙ before.count,
+      )
+
+  pub its_few_reads : (lines : List Line) → old.lines ≡ Some lines → RisesAtMost (named_reads setup.shape (shadow_of setup.shape (redone old.regs.group.items lines))) old.reads new.reads
+  its_few_reads lines told =
+      let at = its_mid lines told in
+      subst (λ n. RisesAtMost (named_reads setup.shape (shadow_of setup.shape (redone old.regs.group.items lines))) n new.reads) run.finished.reads
+      (run.few_reads (redone old.regs.group.items lines) at.0 at.1)
+
   pub its_lines : (lines now : List Line) → old.lines ≡ Some lines → new.lines ≡ Some now → AreItsLines lines now
   its_lines lines now told after =
-      let before : AreLinesOf (layout.device_lines setup.shape) lines = subst (λ s. AreLinesOf s lines) run.size (whole_lines old.size old.lines lines run.whole_before told) in
-      let long : length (redone old.regs.group.items lines) ≡ layout.device_lines setup.shape = length-put_lines old.regs.group.items lines ∙ before.count in
-      let mid_told : mid.lines ≡ Some (redone old.regs.group.items lines) = run.finished.lines ∙ redone_told-told old.regs.group.items old.lines lines told in
+      let long : length (redone old.regs.group.items lines) ≡ layout.device_lines setup.shape = (its_mid lines told).1 in
+      let mid_told : mid.lines ≡ Some (redone old.regs.group.items lines) = (its_mid lines told).0 in
       let w = run.written.lines (redone old.regs.group.items lines) mid_told now after long in
       record {
         long = long;
@@ -115,6 +143,12 @@ module _ (setup : Setup) (ledger : LedgerState) (old mid new : Device) (run : Is
   pub its_data : (lines now : List Line) → AreItsLines lines now → (n : ℕ) → n < 80 * layout.pages setup.shape → line_at (redone new.regs.group.items now) n ≡ line_at (redone old.regs.group.items lines) n
   its_data lines now m n low =
       ap (λ l. line_at l n) m.kept ∙ partly-data setup (redone old.regs.group.items lines) mid.regs now n m.partly low
+
+  pub its_front : (lines now : List Line) → AreItsLines lines now → IsFrontWritten setup (redone old.regs.group.items lines) old.regs (redone new.regs.group.items now)
+  its_front lines now m =
+      subst (IsFrontWritten setup (redone old.regs.group.items lines) old.regs) (sym m.kept)
+      (front_without setup (redone old.regs.group.items lines) old.regs mid.regs now run.finished.regs
+      (front_partly setup (redone old.regs.group.items lines) mid.regs now m.partly))
 
   pub its_seals : (lines now : List Line) → AreItsLines lines now → (a : ℕ) → a < layout.data_lines setup.shape → IsSealStored setup.shape (redone old.regs.group.items lines) ledger.marks a → IsSealStored setup.shape (redone new.regs.group.items now) ledger.marks a
   its_seals lines now m a inside stored =
@@ -189,12 +223,18 @@ module _ (setup : Setup) (ledger : LedgerState) (old mid new : Device) (run : Is
   uncounted_after suite_old suite_new Memory shown = absurd shown
   uncounted_after suite_old suite_new fault shown = tt
 
-  pub recovered_fault : (suite_old suite_new : SuiteState) (fault : RecFault) → IsStageStopped setup.formulas fault (λ lines. length lines ≡ layout.device_lines setup.shape → IsRefusal setup lines mid.regs fault) mid new → IsStoppedShort setup.shape fault mid new → SuiteWorkAtMost (64 * mid.regs.loss * layout.slots setup.shape) (4 * setup.shape.levels * layout.slots setup.shape + 1) suite_old suite_new → HasRecovered setup ledger old new suite_old suite_new (Err fault)
-  recovered_fault suite_old suite_new fault s short work =
+  pub recovered_fault : (suite_old suite_new : SuiteState) (fault : RecFault) → Told mid.lines (λ lines. length lines ≡ layout.device_lines setup.shape → IsReadUntil setup.shape (shadow_of setup.shape lines) mid.regs fault mid.reads new.reads) → IsStageStopped setup.formulas fault (λ lines. length lines ≡ layout.device_lines setup.shape → IsRefusal setup lines mid.regs fault) mid new → IsStoppedShort setup.shape fault mid new → Told mid.lines (λ lines. length lines ≡ layout.device_lines setup.shape → StoppedWork setup.shape lines mid.regs fault suite_old suite_new) → SuiteWorkAtMost (64 * mid.regs.loss * layout.slots setup.shape) (4 * setup.shape.levels * layout.slots setup.shape + 1) suite_old suite_new → HasRecovered setup ledger old new suite_old suite_new (Err fault)
+  recovered_fault suite_old suite_new fault reads s short stopped work =
       record {
         size = run.written.size ∙ run.finished.size;
         told = its_told;
         reads = its_reads;
+        few_reads = its_few_reads;
+        exact_reads = λ lines told.
+            let at = its_mid lines told in
+            read_until_without setup.shape (shadow_of setup.shape (redone old.regs.group.items lines)) old.regs mid.regs fault old.reads new.reads run.finished.regs
+            (subst (λ n. IsReadUntil setup.shape (shadow_of setup.shape (redone old.regs.group.items lines)) mid.regs fault n new.reads) run.finished.reads
+            (reads (redone old.regs.group.items lines) at.0 at.1));
         regs = regs_after fault s.shown;
         valid = its_valid;
         power = power_after fault s.device;
@@ -207,6 +247,10 @@ module _ (setup : Setup) (ledger : LedgerState) (old mid new : Device) (run : Is
         trials = tt;
         digests = tt;
         uncounted = uncounted_after suite_old suite_new fault s.shown;
+        work = λ lines told.
+            let at = its_mid lines told in
+            stopped_without setup.shape (redone old.regs.group.items lines) old.regs mid.regs fault suite_old suite_new run.finished.regs
+            (stopped (redone old.regs.group.items lines) at.0 at.1);
         few_work = tt;
         few_trials =
             subst (λ n. CountsAtMost (64 * n * layout.slots setup.shape) suite_old.tags suite_new.tags) mid_emptied.same_loss
@@ -224,6 +268,8 @@ module _ (setup : Setup) (ledger : LedgerState) (old mid new : Device) (run : Is
               from_durable = λ d. mended_after now fault (true_refusal setup (redone old.regs.group.items lines) mid.regs ledger fault run.shape (mid_mendable lines d) refused) (its_durable lines now m d);
               data_same = its_data lines now m;
               seals_kept = its_seals lines now m;
+              front = its_front lines now m;
+              fixed = tt;
               cleared = tt;
               decided = as_asked;
               no_counter = no_counter_after (redone old.regs.group.items lines) fault as_asked;
@@ -234,13 +280,19 @@ module _ (setup : Setup) (ledger : LedgerState) (old mid new : Device) (run : Is
 
   -- ---- a new engine
 
-  pub recovered_ok : (suite_old suite_new : SuiteState) (work : Work) → IsUncut mid new → BothTold mid new (λ lines now. length lines ≡ layout.device_lines setup.shape → IsRecovered setup lines mid.regs now × HasRoot setup lines mid.regs) → SuiteWork work.trials work.digests suite_old suite_new → work.trials ≤ 64 * mid.regs.loss * layout.slots setup.shape → work.digests ≤ 4 * setup.shape.levels * layout.slots setup.shape + 1 → HasRecovered setup ledger old new suite_old suite_new (Ok (new_engine setup.shape, work))
-  recovered_ok suite_old suite_new work goes recovered worked few_trials few_digests =
+  pub recovered_ok : (suite_old suite_new : SuiteState) (work : Work) → Told mid.lines (λ lines. length lines ≡ layout.device_lines setup.shape → RisesBy (all_reads setup.shape (shadow_of setup.shape lines) mid.regs) mid.reads new.reads) → IsUncut mid new → BothTold mid new (λ lines now. length lines ≡ layout.device_lines setup.shape → IsRecovered setup lines mid.regs now × HasRoot setup lines mid.regs) → Told mid.lines (λ lines. length lines ≡ layout.device_lines setup.shape → IsAllWork setup.shape lines mid.regs work.trials work.digests) → SuiteWork work.trials work.digests suite_old suite_new → work.trials ≤ 64 * mid.regs.loss * layout.slots setup.shape → work.digests ≤ 4 * setup.shape.levels * layout.slots setup.shape + 1 → HasRecovered setup ledger old new suite_old suite_new (Ok (new_engine setup.shape, work))
+  recovered_ok suite_old suite_new work reads goes recovered all_work worked few_trials few_digests =
       let few : work.trials ≤ 64 * old.regs.loss * layout.slots setup.shape = subst (λ n. work.trials ≤ 64 * n * layout.slots setup.shape) mid_emptied.same_loss few_trials in
       record {
         size = run.written.size ∙ run.finished.size;
         told = its_told;
         reads = its_reads;
+        few_reads = its_few_reads;
+        exact_reads = λ lines told.
+            let at = its_mid lines told in
+            all_reads_without setup.shape (shadow_of setup.shape (redone old.regs.group.items lines)) old.regs mid.regs old.reads new.reads run.finished.regs
+            (subst (λ n. RisesBy (all_reads setup.shape (shadow_of setup.shape (redone old.regs.group.items lines)) mid.regs) n new.reads) run.finished.reads
+            (reads (redone old.regs.group.items lines) at.0 at.1));
         regs = new_regs;
         valid = its_valid;
         power = IsUncut-then old mid new goes_before goes;
@@ -253,6 +305,10 @@ module _ (setup : Setup) (ledger : LedgerState) (old mid new : Device) (run : Is
         trials = worked.tags;
         digests = worked.digests;
         uncounted = tt;
+        work = λ lines told.
+            let at = its_mid lines told in
+            all_without setup.shape (redone old.regs.group.items lines) old.regs mid.regs work.trials work.digests run.finished.regs
+            (all_work (redone old.regs.group.items lines) at.0 at.1);
         few_work = record { trials = few; digests = few_digests };
         few_trials = record { calls = work.trials; few = few; counted = worked.tags };
         few_digests = record { calls = work.digests; few = few_digests; counted = worked.digests };
@@ -270,6 +326,10 @@ module _ (setup : Setup) (ledger : LedgerState) (old mid new : Device) (run : Is
                   (IsSound-recovered setup (new_engine setup.shape) (redone old.regs.group.items lines) mid.regs ledger now run.shape mid_emptied.no_group (mid_durable lines d) r.0 m.whole (IsNewEngine-fresh setup now m.whole zero));
               data_same = its_data lines now m;
               seals_kept = its_seals lines now m;
+              front = its_front lines now m;
+              fixed =
+                  fixed_without setup (redone old.regs.group.items lines) old.regs mid.regs now run.finished.regs
+                  (fixed_recovered setup (redone old.regs.group.items lines) mid.regs now r.0);
               cleared =
                   record {
                     shadow_zero = zero;

@@ -1,6 +1,6 @@
 -- Laws of making the fixed lines from the counter blocks upwards: it gives the fixed line of every named
 -- position, and so the found root. They hold of any device.
-use Rattle.std.proofs.Common.{rules, ℕ, suc, ◌≡◌, ◌≢◌, ◌<◌, ◌≤◌, ◌+◌, Bool, true, false, ◌||◌, cond, eqb, List, [], ◌∷◌, ◌++◌, All, Some, refl, ap, sym, ◌∙◌, subst, inl, inr, ◌⊎◌, arith}
+use Rattle.std.proofs.Common.{rules, ℕ, suc, ◌≡◌, ◌≢◌, ◌<◌, ◌≤◌, ◌+◌, Bool, true, false, ◌||◌, cond, eqb, List, [], ◌∷◌, ◌++◌, get_or, All, Some, refl, ap, sym, ◌∙◌, subst, inl, inr, ◌⊎◌, arith}
 use Rattle.std.specs.Prelude.{find, unwrap_or, option_map}
 use Rattle.std.proofs.lemmas.Bool.{false≢true, eqb-true, eq-eqb, or_left, or_right}
 use Rattle.std.proofs.lemmas.List.Elements.{All-head, All-tail, All-nil, All-append, All-weaker, All-cons}
@@ -18,7 +18,7 @@ use Rattle.suite.specs.Setup.{Setup}
 use Rattle.pmem_engine.specs.Invariants.{stored_meta, is_named}
 use Rattle.pmem_recovery.specs.declared.entries.Made.{Made}
 use Rattle.pmem_recovery.specs.Fixed.{fixed_line, found_root}
-use Rattle.pmem_recovery.specs.Upward.{made_or_stored, is_made, is_other, IsMadeLine, AreMade, AreAllMade, block_made, node_made}
+use Rattle.pmem_recovery.specs.Upward.{made_or_stored, is_made, is_other, IsMadeLine, IsBefore, AreMade, AreAllMade, block_made, node_made}
 use Rattle.pmem_recovery.proofs.FixedEquations.{fixed_line-unnamed, fixed_line-block, fixed_line-node}
 
 -- ---- what stands for a position
@@ -60,8 +60,8 @@ made_or_stored_fixed setup lines regs done made x m h d =
 pub AreMade-same : (setup : Setup) (lines : List Line) (regs : Regs) (done same : ℕ → Type 0) (made : List Made) → ((x : ℕ) → x < layout.meta_lines setup.shape → done x → same x) → ((x : ℕ) → x < layout.meta_lines setup.shape → same x → done x) → AreMade setup lines regs done made → AreMade setup lines regs same made
 AreMade-same setup lines regs done same made to from m = search rules
 
-pub AreMade-append : (setup : Setup) (lines : List Line) (regs : Regs) (done also : ℕ → Type 0) (made more : List Made) → ((x : ℕ) → done x → also x → ⊥) → AreMade setup lines regs done made → AreMade setup lines regs also more → AreMade setup lines regs (λ x. done x ⊎ also x) (made ++ more)
-AreMade-append setup lines regs done also made more apart m n =
+pub AreMade-append : (setup : Setup) (lines : List Line) (regs : Regs) (done also : ℕ → Type 0) (made more : List Made) → ((x : ℕ) → done x → also x → ⊥) → ((x y : ℕ) → x < layout.meta_lines setup.shape → done x → also y → IsBefore x y) → AreMade setup lines regs done made → AreMade setup lines regs also more → AreMade setup lines regs (λ x. done x ⊎ also x) (made ++ more)
+AreMade-append setup lines regs done also made more apart before m n =
     record {
       each = All-append (IsMadeLine setup lines regs) made more m.each n.each;
       only_done =
@@ -69,6 +69,7 @@ AreMade-append setup lines regs done also made more apart m n =
           (All-weaker (λ e. done e.at) (λ e. done e.at ⊎ also e.at) (λ e d. inl d) made m.only_done)
           (All-weaker (λ e. also e.at) (λ e. done e.at ⊎ also e.at) (λ e d. inr d) more n.only_done);
       distinct = AllPairs-append (λ a b. a.at ≢ b.at) made more m.distinct n.distinct across;
+      in_order = AllPairs-append (λ a b. IsBefore a.at b.at) made more m.in_order n.in_order ahead;
       every = λ x h d q. list_any-append (λ e. eqb e.at x) made more ∙ at x h q d;
     }
   where
@@ -82,14 +83,19 @@ AreMade-append setup lines regs done also made more apart m n =
         (λ a d. All-weaker (λ b. also b.at) (λ b. a.at ≢ b.at) (λ b k e. apart a.at d (subst also (sym e) k)) more n.only_done)
         made m.only_done
 
+    ahead : All (λ a. All (λ b. IsBefore a.at b.at) more) made
+    ahead i d within j c inside =
+        before (get_or made i d).at (get_or more j c).at (m.each i d within).on_tree (m.only_done i d within) (n.only_done j c inside)
+
 -- the line of one more named position, pushed at the end
-pub AreMade-push : (setup : Setup) (lines : List Line) (regs : Regs) (done : ℕ → Type 0) (made : List Made) (entry : Made) → (done entry.at → ⊥) → entry.at < layout.meta_lines setup.shape → is_named setup.shape lines entry.at ≡ true → entry.line ≡ fixed_line setup lines regs entry.at → entry.changed ≡ is_other (stored_meta setup.shape lines entry.at) entry.line → AreMade setup lines regs done made → AreMade setup lines regs (λ x. done x ⊎ (x ≡ entry.at)) (made ++ entry ∷ [])
-AreMade-push setup lines regs done made entry new h q e o m =
-    AreMade-append setup lines regs done (λ x. x ≡ entry.at) made (entry ∷ []) (λ x d same. new (subst done same d)) m
+pub AreMade-push : (setup : Setup) (lines : List Line) (regs : Regs) (done : ℕ → Type 0) (made : List Made) (entry : Made) → (done entry.at → ⊥) → ((x : ℕ) → x < layout.meta_lines setup.shape → done x → IsBefore x entry.at) → entry.at < layout.meta_lines setup.shape → is_named setup.shape lines entry.at ≡ true → entry.line ≡ fixed_line setup lines regs entry.at → entry.changed ≡ is_other (stored_meta setup.shape lines entry.at) entry.line → AreMade setup lines regs done made → AreMade setup lines regs (λ x. done x ⊎ (x ≡ entry.at)) (made ++ entry ∷ [])
+AreMade-push setup lines regs done made entry new before h q e o m =
+    AreMade-append setup lines regs done (λ x. x ≡ entry.at) made (entry ∷ []) (λ x d same. new (subst done same d)) (λ x y on_tree d same. subst (IsBefore x) (sym same) (before x on_tree d)) m
     (record {
       each = All-cons (IsMadeLine setup lines regs) entry [] (record { on_tree = h; named = q; fixed = e; compared = o }) (All-nil (IsMadeLine setup lines regs));
       only_done = All-cons (λ b. b.at ≡ entry.at) entry [] refl (All-nil (λ b. b.at ≡ entry.at));
       distinct = λ i j d less within. absurd (omega arith);
+      in_order = λ i j d less within. absurd (omega arith);
       every = λ x h d q. or_left (eqb entry.at x) false (eq-eqb entry.at x (sym d));
     })
 

@@ -1,17 +1,17 @@
 -- The steps of making lines upwards, as the loops over levels and positions take them.
-use Rattle.std.proofs.Common.{rules, ℕ, suc, ◌≡◌, ◌<◌, ◌≤◌, ◌+◌, true, false, List, [], ◌∷◌, ◌++◌, refl, inl, inr, ◌⊎◌, arith}
+use Rattle.std.proofs.Common.{rules, ℕ, suc, ◌≡◌, ◌<◌, ◌≤◌, ◌+◌, true, false, List, [], ◌∷◌, ◌++◌, refl, sym, subst, ◌∙◌, inl, inr, ◌⊎◌, arith}
 use Rattle.std.proofs.lemmas.Bool.{cases_eq, cases_lt}
 use Rattle.pmem_base.specs.declared.lines.Line.{Line}
 use Rattle.pmem_base.specs.declared.registers.Regs.{Regs}
 use Rattle.pmem_base.specs.Shape.{IsShape}
 use Rattle.pmem_base.specs.Layout as layout
 use Rattle.pmem_base.specs.Layout.{level_start}
-use Rattle.bonsai_tree.specs.Positions.{counter_position}
-use Rattle.bonsai_tree.proofs.Levels.{IsAtLevel, child-IsAtLevel, level_start-next, level_start-le, counter_position-lt, IsAtLevel-inner}
+use Rattle.bonsai_tree.specs.Positions.{counter_position, level_of}
+use Rattle.bonsai_tree.proofs.Levels.{IsAtLevel, child-IsAtLevel, level_start-next, level_start-le, counter_position-lt, counter_position-IsAtLevel, IsAtLevel-inner, level_of-IsAtLevel, level_of-at}
 use Rattle.suite.specs.Setup.{Setup}
 use Rattle.pmem_engine.specs.Invariants.{is_named}
 use Rattle.pmem_recovery.specs.declared.entries.Made.{Made}
-use Rattle.pmem_recovery.specs.Upward.{AreMade, AreMadeTo, AreAllMade, IsDoneTo, block_made, node_made}
+use Rattle.pmem_recovery.specs.Upward.{AreMade, AreMadeTo, AreAllMade, IsDoneTo, IsBefore, block_made, node_made}
 use Rattle.pmem_recovery.proofs.UpwardLaws.{AreMade-same, AreMade-push, block_made_fixed, node_made_fixed}
 
 -- one more position done, said by the next position
@@ -33,6 +33,31 @@ not_yet : (i m : ℕ) → IsAtLevel i m → IsDoneTo i m m → ⊥
 not_yet i m l (inl d) = omega (arith, l.below)
 not_yet i m l (inr d) = omega (arith, d.1)
 
+-- what is done comes before the next position
+deeper : (i k x : ℕ) → level_start (suc i) ≤ x → x < level_start (suc k) → i < k
+deeper i k x low high = go (cases_lt i k)
+  where
+    go : (i < k) ⊎ (k ≤ i) → i < k
+    go (inl less) = less
+    go (inr le) = let up = level_start-le (suc k) (suc i) (omega arith) in absurd (omega (arith, low, high, up))
+
+comes_before : (setup : Setup) (i m x : ℕ) → IsShape setup.shape → i ≤ setup.shape.levels → IsAtLevel i m → x < layout.meta_lines setup.shape → IsDoneTo i m x → IsBefore x m
+comes_before setup i m x shape few l h d = go d
+  where
+    small : i ≤ 6
+    small = omega (arith, few, shape.at_most_six_levels)
+
+    here : level_of m ≡ i
+    here = level_of-at i m small l
+
+    go : IsDoneTo i m x → IsBefore x m
+    go (inl low) =
+        let at = level_of-IsAtLevel setup.shape x shape.at_most_six_levels h in
+        inl (subst (λ n. n < level_of x) (sym here) (deeper i (level_of x) x low at.below))
+    go (inr le) =
+        let below : x < level_start (suc i) = omega (arith, le.1, l.below) in
+        inr (level_of-at i x small (record { from = le.0; below = below }) ∙ sym here, le.1)
+
 -- a named counter block
 pub AreMadeTo-block : (setup : Setup) (lines : List Line) (regs : Regs) (page : ℕ) (made : List Made) → IsShape setup.shape → page < layout.pages setup.shape → is_named setup.shape lines (counter_position setup.shape page) ≡ true → AreMadeTo setup lines regs setup.shape.levels (counter_position setup.shape page) made → AreMadeTo setup lines regs setup.shape.levels (counter_position setup.shape page + 1) (made ++ block_made setup lines regs page ∷ [])
 AreMadeTo-block setup lines regs page made shape h q d =
@@ -41,6 +66,7 @@ AreMadeTo-block setup lines regs page made shape h q d =
     one_more setup lines regs setup.shape.levels m (made ++ block_made setup lines regs page ∷ []) (omega arith)
     (AreMade-push setup lines regs (IsDoneTo setup.shape.levels m) made (block_made setup lines regs page)
     (not_yet setup.shape.levels m (record { from = omega arith; below = omega arith }))
+    (λ x on_tree done. comes_before setup setup.shape.levels m x shape (omega arith) (counter_position-IsAtLevel setup.shape page h) on_tree done)
     (counter_position-lt setup.shape page h) q (block_made_fixed setup lines regs page shape h q) refl d)
 
 -- a named node, over what is made of its children or read
@@ -48,6 +74,7 @@ pub AreMadeTo-node : (setup : Setup) (lines : List Line) (regs : Regs) (i m : �
 AreMadeTo-node setup lines regs i m made shape h l q d =
     one_more setup lines regs i m (made ++ node_made setup lines made m ∷ []) l.from
     (AreMade-push setup lines regs (IsDoneTo i m) made (node_made setup lines made m) (not_yet i m l)
+    (λ x on_tree done. comes_before setup i m x shape (omega (arith, h)) l on_tree done)
     (IsAtLevel-inner (setup.shape.levels + 1) i m (omega arith) l) q
     (node_made_fixed setup lines regs (IsDoneTo i m) made i m shape d h l (λ c small. inl (child-IsAtLevel i m c l small).from) q)
     refl d)

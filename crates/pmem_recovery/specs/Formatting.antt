@@ -9,6 +9,7 @@ use Rattle.pmem_base.specs.Layout as layout
 use Rattle.pmem_base.specs.Lines.{line_at, tag_slot, zero_line}
 use Rattle.pmem_base.specs.Marks.{last_seal}
 use Rattle.pmem_base.specs.Registers.{empty_regs}
+use Rattle.board.specs.Counts.{RisesBy}
 use Rattle.board.specs.Device.{Device}
 use Rattle.suite.specs.Formulas.{cipher_of}
 use Rattle.suite.specs.Setup.{Setup}
@@ -48,12 +49,17 @@ pub record HasSealedFrom (setup : Setup) (a k : ℕ) (old new : LedgerState) : T
 
 -- ---- the device
 
--- a steady device stays steady, with its registers
-pub record StaysSteady (old new : Device) : Type 0 where
+-- so many lines are written; a steady device stays steady, with its registers
+pub record StaysSteady (n : ℕ) (old new : Device) : Type 0 where
   pub size : new.size ≡ old.size
   pub regs : new.regs ≡ old.regs
   pub steady : old.steady ≡ true → new.steady ≡ true
+  pub live : old.live ≡ true → new.live ≡ true
   pub told : is_some new.lines ≡ is_some old.lines
+  pub writes : RisesBy n old.writes new.writes
+  pub reads : new.reads ≡ old.reads
+  pub latches : new.latches ≡ old.latches
+  pub cuts : new.cuts ≡ old.cuts
 
 -- four lines are sealed, and all others but their tag line are as they were
 pub record HasSealedGroup (setup : Setup) (group : ℕ) (old new : Device) : Type 0 where
@@ -75,6 +81,7 @@ pub record HasToldMeta (g : Shape) (truth : List Line) (n : ℕ) (old new : Ledg
   pub lines : (x : ℕ) → x < n → line_at new.truth x ≡ line_at truth x
   pub count : length new.truth ≡ length old.truth
   pub marks : new.marks ≡ old.marks
+  pub spare : new.spare ≡ old.spare
   pub data_lines : new.data_lines ≡ old.data_lines
   pub exhibit : new.exhibit ≡ old.exhibit
 
@@ -111,6 +118,7 @@ pub record HasFormatted (setup : Setup) (ledger : LedgerState) (old new : Device
   pub anchored : IsAnchored setup new.regs ledger
   pub trusted : IsTrusted setup engine new.regs ledger
   pub sound : Told new.lines (λ now. IsSound setup engine now new.regs ledger)
+  pub marks : ledger.marks ≡ map (first_seal setup) (range_with_len 0 (layout.data_lines setup.shape))
   pub seals : length ledger.marks ≡ layout.data_lines setup.shape
   pub last_counters :
       (a : ℕ) → a < layout.data_lines setup.shape
@@ -122,3 +130,8 @@ pub record HasFormatted (setup : Setup) (ledger : LedgerState) (old new : Device
   pub size : new.size ≡ old.size
   pub told : is_some new.lines ≡ is_some old.lines
   pub steady : new.steady ≡ true
+  pub live : old.live ≡ true → new.live ≡ true
+  pub writes : RisesBy (layout.device_lines setup.shape) old.writes new.writes
+  pub latches : RisesBy 1 old.latches new.latches
+  pub reads : new.reads ≡ old.reads
+  pub cuts : new.cuts ≡ old.cuts

@@ -1,5 +1,5 @@
 -- What making and writing the named lines does to the device, so far as it comes.
-use Rattle.std.specs.Prelude.{ℕ, ◌≡◌, ◌≤◌, ◌<◌, ◌+◌, ◌*◌, ◌⊎◌, None, List, length, is_some, All}
+use Rattle.std.specs.Prelude.{ℕ, ◌≡◌, ◌≤◌, ◌<◌, ◌+◌, ◌*◌, ◌⊎◌, List, take, length, is_some}
 use Rattle.pmem_base.specs.declared.lines.Line.{Line}
 use Rattle.pmem_base.specs.declared.registers.Regs.{Regs}
 use Rattle.pmem_base.specs.Counts.{last_count}
@@ -7,14 +7,14 @@ use Rattle.pmem_base.specs.Shape.{Shape}
 use Rattle.pmem_base.specs.Layout as layout
 use Rattle.board.specs.Counts.{RisesBy}
 use Rattle.board.specs.Device.{Device}
+use Rattle.commit_regs.specs.Groups.{RisesAtMost}
 use Rattle.shadow_tables.specs.Entries.{shadow_of}
 use Rattle.suite.specs.Setup.{Setup}
 use Rattle.pmem_engine.specs.Mendable.{IsShadowZero}
 use Rattle.pmem_recovery.specs.declared.entries.Made.{Made}
 use Rattle.pmem_recovery.specs.declared.faults.RecFault.{RecFault}
 use Rattle.pmem_recovery.specs.declared.faults.RecFault.TheVariants.{Cut}
-use Rattle.pmem_recovery.specs.Trials.{first_undecided}
-use Rattle.pmem_recovery.specs.Upward.{IsMadeLine, AreAllMade}
+use Rattle.pmem_recovery.specs.Upward.{AreAllMade}
 use Rattle.pmem_recovery.specs.Written.{AreWritten, AreZeroed, differing}
 use Rattle.pmem_recovery.specs.Parts.{KeepsDevice, HasRoot}
 use Rattle.pmem_recovery.specs.Writing.{BothTold}
@@ -26,18 +26,19 @@ pub record HasMadeAll (setup : Setup) (lines : List Line) (regs : Regs) (shadow 
   pub all_made : AreAllMade setup lines regs made
   pub has_root : HasRoot setup lines regs
 
--- some of the lines made are written
+-- the root is right, and the lines made before a place are written
 pub record IsPartlyWritten (setup : Setup) (lines : List Line) (regs : Regs) (now : List Line) :
     Type 0 where
-  pub decided : first_undecided setup lines regs ≡ None
-  pub written : List Made
-  pub made : All (IsMadeLine setup lines regs) written
-  pub are_written : AreWritten setup.shape lines written now
+  pub root : HasRoot setup lines regs
+  pub made : List Made
+  pub place : ℕ
+  pub all_made : AreAllMade setup lines regs made
+  pub are_written : AreWritten setup.shape lines (take place made) now
 
 -- all of them are, and some shadow lines are zeroed
 pub record IsPartlyZeroed (setup : Setup) (lines : List Line) (regs : Regs) (now : List Line) :
     Type 0 where
-  pub decided : first_undecided setup lines regs ≡ None
+  pub root : HasRoot setup lines regs
   pub made : List Made
   pub between : List Line
   pub zeroed : ℕ
@@ -54,12 +55,18 @@ IsPartlyMended setup lines regs now =
 abbrev pub most_writes : Shape → ℕ
 most_writes g = (g.levels + 1) * layout.slots g + layout.shadow_lines g
 
+-- the most lines that it reads: the shadow lines, each named counter block with the lines of its page and
+-- their tag lines, each named node with its children, and the top line
+abbrev pub most_reads : Shape → ℕ
+most_reads g =
+    layout.shadow_lines g + 129 * layout.slots g + 5 * (g.levels * layout.slots g) + 1
+
 -- so many lines are written, each another one than before
 pub record HasMadeWrites (setup : Setup) (regs : Regs) (old new : Device) : Type 0 where
   pub size : new.size ≡ old.size
   pub same_regs : new.regs ≡ old.regs
   pub latches : new.latches ≡ old.latches
-  pub reads : old.reads ≤ new.reads
+  pub reads : RisesAtMost (most_reads setup.shape) old.reads new.reads
   pub told : is_some new.lines ≡ is_some old.lines
   pub count : ℕ
   pub few : count ≤ most_writes setup.shape

@@ -1,5 +1,5 @@
 -- What the stages of recovery do to the device, to the suite's counts, and why they stop.
-use Rattle.std.specs.Prelude.{ℕ, ◌≡◌, ◌≢◌, ◌≤◌, ◌<◌, ◌+◌, ◌*◌, true, false, List, [], ◌∷◌, ◌++◌, Option, Some, None, length, Result, Ok, Err, ⊤}
+use Rattle.std.specs.Prelude.{ℕ, ◌≡◌, ◌≢◌, ◌≤◌, ◌<◌, ◌+◌, ◌*◌, ◌⊎◌, true, false, List, [], ◌∷◌, ◌++◌, Option, Some, None, length, Result, Ok, Err, ⊤}
 use Rattle.pmem_base.specs.declared.geometry.Geo.{Geo}
 use Rattle.pmem_base.specs.Geo.{shape_of}
 use Rattle.pmem_base.specs.declared.lines.Line.{Line}
@@ -7,17 +7,20 @@ use Rattle.pmem_base.specs.declared.registers.Regs.{Regs}
 use Rattle.pmem_base.specs.declared.answers.Exhibit.TheVariants as Exhibit
 use Rattle.pmem_base.specs.Counts.{HasRisen, risen_times}
 use Rattle.pmem_base.specs.Layout as layout
-use Rattle.pmem_base.specs.Layout.{page_of}
+use Rattle.pmem_base.specs.Layout.{page_of, level_start}
+use Rattle.pmem_base.specs.Shape.{Shape}
 use Rattle.pmem_base.specs.Lines.{line_at, tag_slot}
 use Rattle.board.specs.Device.{Device}
 use Rattle.suite.specs.Formulas.{Formulas}
 use Rattle.suite.specs.Setup.{Setup}
+use Rattle.shadow_tables.specs.Entries.{shadow_of}
 use Rattle.stop_loss.specs.declared.Found.{Found}
 use Rattle.collision_witness.specs.Exhibits.{IsExhibit}
 use Rattle.pmem_recovery.specs.declared.entries.Made.{Made}
 use Rattle.pmem_recovery.specs.declared.faults.RecFault.{RecFault}
 use Rattle.pmem_recovery.specs.declared.faults.RecFault.TheVariants.{Memory, Cut, NoCounter, Root, Twin}
-use Rattle.pmem_recovery.specs.Trials.{stored_block, tried_minors, first_undecided}
+use Rattle.pmem_recovery.specs.Named.{count_named}
+use Rattle.pmem_recovery.specs.Trials.{stored_block, tried_minors, first_undecided, trials_below}
 use Rattle.pmem_recovery.specs.Fixed.{found_root}
 
 abbrev pub setup_of : Geo → Formulas → Setup
@@ -75,6 +78,13 @@ pub record SuiteWork (n m : ℕ) (old new : SuiteState) : Type 0 where
   pub pads : new.pads ≡ old.pads
   pub tags : new.tags ≡ risen_times n old.tags
   pub digests : new.digests ≡ risen_times m old.digests
+
+-- so many pads, tags and digests are made
+pub record SuiteRise (pads tags digests : ℕ) (old new : SuiteState) : Type 0 where
+  pub its_keys : new.keys ≡ old.keys
+  pub its_pads : new.pads ≡ risen_times pads old.pads
+  pub its_tags : new.tags ≡ risen_times tags old.tags
+  pub its_digests : new.digests ≡ risen_times digests old.digests
 
 -- so many at most
 pub record SuiteWorkAtMost (n m : ℕ) (old new : SuiteState) : Type 0 where
@@ -192,6 +202,73 @@ IsRefusal setup lines regs (Root kept found) = HasOtherRoot setup lines regs kep
 IsRefusal setup lines regs (Twin at major low high cipher tag) =
     (first_undecided setup lines regs ≡ Some at)
     × IsTwinOf setup lines regs at major low high cipher tag
+
+-- ---- how much is tried before it stops
+
+-- the trials of a line that has so many candidates: none where power is cut
+abbrev pub line_tries : RecFault → ℕ → ℕ
+line_tries Cut n = 0
+line_tries fault n = n
+
+-- so many trials of the lines from one on and below another: up to and with the line that hasn't one minor, or to
+-- where power is cut
+abbrev pub IsTriedUntil : Shape → List Line → Regs → ℕ → ℕ → RecFault → ℕ → Type 0
+IsTriedUntil g lines regs from end Cut n =
+    (to : ℕ) × (from ≤ to) × (to ≤ end)
+    × (n + trials_below g lines regs from ≡ trials_below g lines regs to)
+IsTriedUntil g lines regs from end (NoCounter at) n =
+    n + trials_below g lines regs from ≡ trials_below g lines regs (at + 1)
+IsTriedUntil g lines regs from end (Twin at major low high cipher tag) n =
+    n + trials_below g lines regs from ≡ trials_below g lines regs (at + 1)
+IsTriedUntil g lines regs from end fault n = ⊥
+
+pub record TriesUntil (g : Shape) (lines : List Line) (regs : Regs) (from end : ℕ) (fault : RecFault)
+    (old new : SuiteState) : Type 0 where
+  pub count : ℕ
+  pub so_many : IsTriedUntil g lines regs from end fault count
+  pub worked : SuiteWork count 0 old new
+
+-- the digests of comparing the root: none where power is cut
+abbrev pub root_digests : RecFault → ℕ
+root_digests Cut = 0
+root_digests fault = 1
+
+-- all digests of a recovery: four for each named node, and the top line's
+abbrev pub all_digests : Shape → List Line → ℕ
+all_digests g lines = 4 * count_named g (shadow_of g lines) 0 (level_start g.levels) + 1
+
+-- the trials and digests of a recovery that is cut: the lines up to one are tried, and digests are made once all are
+pub record IsCutWork (g : Shape) (lines : List Line) (regs : Regs) (trials digests : ℕ) : Type 0 where
+  pub lines_tried : ℕ
+  pub within : lines_tried ≤ layout.data_lines g
+  pub its_trials : trials ≡ trials_below g lines regs lines_tried
+  pub few_digests : digests ≤ all_digests g lines
+  pub in_order : (lines_tried ≡ layout.data_lines g) ⊎ (digests ≡ 0)
+
+-- the trials and digests of a recovery that stops: up to and with the first line that hasn't one minor, or all
+abbrev pub IsWorkBefore : Shape → List Line → Regs → RecFault → ℕ → ℕ → Type 0
+IsWorkBefore g lines regs Memory trials digests = (trials ≡ 0) × (digests ≡ 0)
+IsWorkBefore g lines regs Cut trials digests = IsCutWork g lines regs trials digests
+IsWorkBefore g lines regs (NoCounter at) trials digests =
+    (trials ≡ trials_below g lines regs (at + 1)) × (digests ≡ 0)
+IsWorkBefore g lines regs (Root kept found) trials digests =
+    (trials ≡ trials_below g lines regs (layout.data_lines g)) × (digests ≡ all_digests g lines)
+IsWorkBefore g lines regs (Twin at major low high cipher tag) trials digests =
+    (trials ≡ trials_below g lines regs (at + 1)) × (digests ≡ 0)
+
+pub record StoppedWork (g : Shape) (lines : List Line) (regs : Regs) (fault : RecFault)
+    (old new : SuiteState) : Type 0 where
+  pub trials : ℕ
+  pub digests : ℕ
+  pub so_far : IsWorkBefore g lines regs fault trials digests
+  pub worked : SuiteWork trials digests old new
+
+-- the trials and digests of a recovery that goes through: all candidates of all lines, and all digests
+pub record IsAllWork (g : Shape) (lines : List Line) (regs : Regs) (trials digests : ℕ) : Type 0 where
+  pub its_trials : trials ≡ trials_below g lines regs (layout.data_lines g)
+  pub its_digests : digests ≡ all_digests g lines
+
+-- ---- what a stop shows
 
 -- a twin holds, and there is memory
 abbrev pub IsFaultShown : Formulas → RecFault → Type 0

@@ -10,6 +10,7 @@ use Rattle.pmem_base.specs.Counts.{risen_times}
 use Rattle.board.specs.Counts.{RisesBy}
 use Rattle.board.specs.Device.{Device}
 use Rattle.commit_regs.specs.Groups.{redone, redone_told, finishing_latches, RisesAtMost}
+use Rattle.shadow_tables.specs.Entries.{shadow_of}
 use Rattle.suite.specs.Formulas.{Formulas}
 use Rattle.suite.specs.Setup.{Setup}
 use Rattle.seal_ledger.specs.Ledger.{LedgerState}
@@ -23,9 +24,11 @@ use Rattle.pmem_recovery.specs.declared.faults.RecFault.{RecFault}
 use Rattle.pmem_recovery.specs.declared.faults.RecFault.TheVariants.{Memory, Cut, NoCounter, Root, Twin}
 use Rattle.pmem_recovery.specs.Trials.{IsTwinOfLastSeal}
 use Rattle.pmem_recovery.specs.Written.{differing}
-use Rattle.pmem_recovery.specs.Parts.{IsUncut, IsCutOff, SuiteState, HasRoot, IsRefusal}
+use Rattle.pmem_recovery.specs.Parts.{Told, IsUncut, IsCutOff, SuiteState, HasRoot, IsRefusal, IsAllWork, StoppedWork}
+use Rattle.pmem_recovery.specs.Reads.{all_reads, named_reads, IsReadUntil}
 use Rattle.pmem_recovery.specs.Writing.{BothTold}
-use Rattle.pmem_recovery.specs.Mending.{most_writes}
+use Rattle.pmem_recovery.specs.Mending.{most_reads, most_writes}
+use Rattle.pmem_recovery.specs.Fronts.{IsFrontWritten, AreFixed}
 
 -- a new engine with the work, or why recovery stopped
 abbrev pub Answer : Type 0
@@ -92,6 +95,19 @@ abbrev pub IsUncounted : Answer → SuiteState → SuiteState → Type 0
 IsUncounted (Err Memory) old new = new ≡ old
 IsUncounted answer old new = ⊤
 
+-- all candidates and all digests, or as far as it came
+abbrev pub WorkAfter : Setup → List Line → Regs → Answer → SuiteState → SuiteState → Type 0
+WorkAfter setup lines regs (Ok done) old new =
+    IsAllWork setup.shape lines regs done.1.trials done.1.digests
+WorkAfter setup lines regs (Err fault) old new = StoppedWork setup.shape lines regs fault old new
+
+-- all reads, also before a wrong root
+abbrev pub ReadsAfter : Setup → List Line → Regs → Answer → ℕ → ℕ → Type 0
+ReadsAfter setup lines regs (Ok done) before after =
+    RisesBy (all_reads setup.shape (shadow_of setup.shape lines) regs) before after
+ReadsAfter setup lines regs (Err fault) before after =
+    IsReadUntil setup.shape (shadow_of setup.shape lines) regs fault before after
+
 -- the work is bounded by the number of slots and by the stop-loss number, and not by that of lines
 pub record IsFewWork (setup : Setup) (loss : ℕ) (work : Work) : Type 0 where
   pub trials : work.trials ≤ 64 * loss * layout.slots setup.shape
@@ -143,6 +159,9 @@ pub record HasMended (setup : Setup) (ledger : LedgerState) (old new : Device) (
       (a : ℕ) → a < layout.data_lines setup.shape
       → IsSealStored setup.shape (redone old.regs.group.items lines) ledger.marks a
       → IsSealStored setup.shape (redone new.regs.group.items now) ledger.marks a
+  pub front :
+      IsFrontWritten setup (redone old.regs.group.items lines) old.regs (redone new.regs.group.items now)
+  pub fixed : OnOk answer (AreFixed setup (redone old.regs.group.items lines) old.regs now)
   pub cleared : OnOk answer (IsCleared setup now new.regs)
   pub decided : IsDecidedAs setup (redone old.regs.group.items lines) old.regs answer
   pub no_counter :
@@ -162,7 +181,13 @@ pub record HasRecovered (setup : Setup) (ledger : LedgerState) (old new : Device
     (suite_old suite_new : SuiteState) (answer : Answer) : Type 0 where
   pub size : new.size ≡ old.size
   pub told : is_some new.lines ≡ is_some old.lines
-  pub reads : old.reads ≤ new.reads
+  pub reads : RisesAtMost (most_reads setup.shape) old.reads new.reads
+  pub few_reads :
+      Told old.lines
+      (λ lines. RisesAtMost (named_reads setup.shape (shadow_of setup.shape (redone old.regs.group.items lines))) old.reads new.reads)
+  pub exact_reads :
+      Told old.lines
+      (λ lines. ReadsAfter setup (redone old.regs.group.items lines) old.regs answer old.reads new.reads)
   pub regs : RegsAfter answer old.regs new.regs
   pub valid : IsValidRegs setup.shape new.regs
   pub power : PowerAfter answer old new
@@ -176,6 +201,9 @@ pub record HasRecovered (setup : Setup) (ledger : LedgerState) (old new : Device
   pub trials : TrialsCounted answer suite_old.tags suite_new.tags
   pub digests : DigestsCounted answer suite_old.digests suite_new.digests
   pub uncounted : IsUncounted answer suite_old suite_new
+  pub work :
+      Told old.lines
+      (λ lines. WorkAfter setup (redone old.regs.group.items lines) old.regs answer suite_old suite_new)
   pub few_work : IfOk answer (λ done. IsFewWork setup old.regs.loss done.1)
   pub few_trials :
       CountsAtMost (64 * old.regs.loss * layout.slots setup.shape) suite_old.tags suite_new.tags

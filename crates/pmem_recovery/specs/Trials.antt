@@ -1,5 +1,5 @@
 -- The trials of recovery, over a device's lines with the armed group redone.
-use Rattle.std.specs.Prelude.{ℕ, ◌<◌, ◌+◌, ◌-◌, ◌*◌, ◌/◌, ◌==◌, Bool, true, not, List, [], ◌∷◌, length, filter, find, slice_index, ◌≡◌, Option, Some, None, option_map}
+use Rattle.std.specs.Prelude.{ℕ, zero, suc, if◌then◌else◌, ◌<◌, ◌+◌, ◌-◌, ◌*◌, ◌/◌, ◌==◌, Bool, true, not, List, [], ◌∷◌, length, filter, find, slice_index, ◌≡◌, Option, Some, None, option_map}
 use Rattle.std.specs.List.{range_with_len, flat_map}
 use Rattle.pmem_base.specs.declared.lines.Line.{Line}
 use Rattle.pmem_base.specs.declared.lines.Ctr.{Ctr}
@@ -46,6 +46,27 @@ abbrev pub tried_minors : Setup → List Line → Regs → ℕ → List ℕ
 tried_minors setup lines regs a =
     minors_tried setup lines regs.loss a (register_held regs.progress.items a)
     (stored_block setup.shape lines (page_of a))
+
+-- the minors that are tried for line a where its counter block is named: those of its window, or none where a
+-- register holds it
+abbrev pub candidates : ℕ → Option Progress → ℕ → List ℕ
+candidates loss (Some register) minor = []
+candidates loss None minor = window_of minor loss
+
+abbrev pub candidates_of : Shape → List Line → Regs → ℕ → List ℕ
+candidates_of g lines regs a =
+    candidates regs.loss (register_held regs.progress.items a)
+    (slice_index (stored_block g lines (page_of a)).minors (index_in_page a))
+
+-- how many minors are tried for line a
+unfoldable pub trials_of : Shape → List Line → Regs → ℕ → ℕ
+trials_of g lines regs a =
+    if is_named g lines (counter_position g (page_of a)) then length (candidates_of g lines regs a) else 0
+
+-- and for the lines below a
+unfoldable pub trials_below : Shape → List Line → Regs → ℕ → ℕ
+trials_below g lines regs zero = 0
+trials_below g lines regs (suc a) = trials_below g lines regs a + trials_of g lines regs a
 
 -- the pages whose counter block is named, upwards
 abbrev pub named_pages : Shape → List Line → List ℕ

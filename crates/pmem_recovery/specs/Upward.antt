@@ -8,7 +8,7 @@ use Rattle.pmem_base.specs.Layout as layout
 use Rattle.pmem_base.specs.Lines.{same_bytes}
 use Rattle.pmem_base.specs.Layout.{level_start}
 use Rattle.split_counters.specs.Blocks.{packed}
-use Rattle.bonsai_tree.specs.Positions.{counter_position}
+use Rattle.bonsai_tree.specs.Positions.{counter_position, level_of}
 use Rattle.bonsai_tree.specs.Nodes.{node_over}
 use Rattle.suite.specs.Setup.{Setup}
 use Rattle.pmem_engine.specs.Invariants.{stored_meta, is_named}
@@ -52,12 +52,17 @@ pub record IsMadeLine (setup : Setup) (lines : List Line) (regs : Regs) (entry :
   pub fixed : entry.line ≡ fixed_line setup lines regs entry.at
   pub compared : entry.changed ≡ is_other (stored_meta setup.shape lines entry.at) entry.line
 
--- of the positions that are done, each named one has one line made for it, and no other position has one
+-- position a comes before position b: it is on a lower level, or on the same one and before it
+abbrev pub IsBefore : ℕ → ℕ → Type 0
+IsBefore a b = (level_of b < level_of a) ⊎ ((level_of a ≡ level_of b) × (a < b))
+
+-- of the positions that are done, each named one has one line made for it, in order, and no other position has one
 pub record AreMade (setup : Setup) (lines : List Line) (regs : Regs) (done : ℕ → Type 0)
     (made : List Made) : Type 0 where
   pub each : All (IsMadeLine setup lines regs) made
   pub only_done : All (λ entry. done entry.at) made
   pub distinct : AllPairs (λ a b. a.at ≢ b.at) made
+  pub in_order : AllPairs (λ a b. IsBefore a.at b.at) made
   pub every :
       (x : ℕ) → x < layout.meta_lines setup.shape → done x
       → is_named setup.shape lines x ≡ true → is_made made x ≡ true

@@ -1,5 +1,5 @@
 //! Formatting.
-ghost use Rattle.std.specs.Prelude.{ℕ, ◌≡◌, ◌≢◌, ◌<◌, ◌≤◌, ◌+◌, ◌*◌, ◌/◌, ◌%◌, [], true, All, IfOk, OnErr, IsNone, length};
+ghost use Rattle.std.specs.Prelude.{ℕ, ◌≡◌, ◌≢◌, ◌<◌, ◌≤◌, ◌+◌, ◌-◌, ◌*◌, ◌/◌, ◌%◌, [], true, All, IfOk, OnOk, OnErr, IsNone, length};
 ghost use Rattle.pmem_base.specs.Geo.{shape_of};
 ghost use Rattle.pmem_base.specs.Layout.{data_lines, meta_lines, pages, shadow_lines, device_lines, level_start};
 ghost use Rattle.pmem_base.specs.Lines.{IsLine, line_at, tag_slot};
@@ -10,7 +10,7 @@ ghost use Rattle.bonsai_tree.specs.Positions.{counter_position};
 ghost use Rattle.bonsai_tree.specs.Nodes.{node_over, IsHashTree};
 ghost use Rattle.pmem_engine.specs.Formatted.{first_block};
 ghost use Rattle.pmem_engine.specs.Mendable.{new_engine};
-ghost use Rattle.pmem_recovery.specs.Parts.{setup_of};
+ghost use Rattle.pmem_recovery.specs.Parts.{setup_of, suite_state, SuiteRise};
 ghost use Rattle.pmem_recovery.specs.Formatting.{first_cipher, first_tag, HasSealedFrom, StaysSteady, HasSealedGroup, HasSealedAll, HasToldMeta, HasWrittenMeta, HasClearedTables, first_regs, HasFormatted};
 
 use board::Board;
@@ -42,9 +42,15 @@ pub fn format<B: Board, S: Suite, A: Audit>(
     requires no_exhibit { IsNone (A.ledger audit.old).exhibit }
     ensures formatted { IfOk result (λ engine. HasFormatted (setup_of geo.now (S.formulas_of (S.keys suite.old))) (A.ledger audit.new) (B.device board.old) (B.device board.new) engine) }
     ensures keys { S.keys suite.new ≡ S.keys suite.old }
+    ensures counts { OnOk result (SuiteRise (data_lines (shape_of geo.now)) (data_lines (shape_of geo.now)) (meta_lines (shape_of geo.now)) (suite_state (S.keys suite.old) (S.pads suite.old) (S.tags suite.old) (S.digests suite.old))
+        (suite_state (S.keys suite.new) (S.pads suite.new) (S.tags suite.new) (S.digests suite.new))) }
+    ensures spare { OnOk result ((A.ledger audit.old).spare ≤ (A.ledger audit.new).spare + data_lines (shape_of geo.now)) }
     ensures err { OnErr result (A.ledger audit.new ≡ A.ledger audit.old) }
     ensures err_lines { OnErr result ((B.device board.new).lines ≡ (B.device board.old).lines) }
     ensures err_regs { OnErr result ((B.device board.new).regs ≡ (B.device board.old).regs) }
+    ensures err_device { OnErr result (B.device board.new ≡ B.device board.old) }
+    ensures err_counts { OnErr result (SuiteRise 0 0 0 (suite_state (S.keys suite.old) (S.pads suite.old) (S.tags suite.old) (S.digests suite.old))
+        (suite_state (S.keys suite.new) (S.pads suite.new) (S.tags suite.new) (S.digests suite.new))) }
 {
     let cache = Cache::new(alloc, geo)?;
     let mirror = Mirror::new(alloc, geo)?;
@@ -73,6 +79,9 @@ fn fill_device<B: Board, S: Suite, A: Audit>(
     requires whole { All IsLine truth.old }
     ensures formatted { HasFormatted (setup_of geo.now (S.formulas_of (S.keys suite.old))) (A.ledger audit.new) (B.device board.old) (B.device board.new) (new_engine (shape_of geo.now)) }
     ensures keys { S.keys suite.new ≡ S.keys suite.old }
+    ensures spare { (A.ledger audit.new).spare + data_lines (shape_of geo.now) ≡ (A.ledger audit.old).spare }
+    ensures counts { SuiteRise (data_lines (shape_of geo.now)) (data_lines (shape_of geo.now)) (meta_lines (shape_of geo.now)) (suite_state (S.keys suite.old) (S.pads suite.old) (S.tags suite.old) (S.digests suite.old))
+        (suite_state (S.keys suite.new) (S.pads suite.new) (S.tags suite.new) (S.digests suite.new)) }
 {
     seal_lines(board, suite, audit, geo);
     fill_blocks(geo, truth);
@@ -90,7 +99,9 @@ fn seal_lines<B: Board, S: Suite, A: Audit>(board: &mut B, suite: &mut S, audit:
     requires lines { (A.ledger audit.old).data_lines ≡ data_lines (shape_of geo.now) }
     requires room { data_lines (shape_of geo.now) ≤ (A.ledger audit.old).spare }
     ensures keys { S.keys suite.new ≡ S.keys suite.old }
-    ensures steady { StaysSteady (B.device board.old) (B.device board.new) }
+    ensures counts { SuiteRise (data_lines (shape_of geo.now)) (data_lines (shape_of geo.now)) (0) (suite_state (S.keys suite.old) (S.pads suite.old) (S.tags suite.old) (S.digests suite.old))
+        (suite_state (S.keys suite.new) (S.pads suite.new) (S.tags suite.new) (S.digests suite.new)) }
+    ensures steady { StaysSteady (80 * pages (shape_of geo.now)) (B.device board.old) (B.device board.new) }
     ensures ledger { HasSealedFrom (setup_of geo.now (S.formulas_of (S.keys suite.old))) 0 (data_lines (shape_of geo.now)) (A.ledger audit.old) (A.ledger audit.new) }
     ensures lines { HasSealedAll (setup_of geo.now (S.formulas_of (S.keys suite.old))) (data_lines (shape_of geo.now)) (B.device board.new) }
 {
@@ -113,7 +124,9 @@ fn seal_group<B: Board, S: Suite, A: Audit>(
     requires lines { (A.ledger audit.old).data_lines ≡ data_lines (shape_of geo.now) }
     requires room { 4 ≤ (A.ledger audit.old).spare }
     ensures keys { S.keys suite.new ≡ S.keys suite.old }
-    ensures steady { StaysSteady (B.device board.old) (B.device board.new) }
+    ensures counts { SuiteRise (4) (4) (0) (suite_state (S.keys suite.old) (S.pads suite.old) (S.tags suite.old) (S.digests suite.old))
+        (suite_state (S.keys suite.new) (S.pads suite.new) (S.tags suite.new) (S.digests suite.new)) }
+    ensures steady { StaysSteady 5 (B.device board.old) (B.device board.new) }
     ensures ledger { HasSealedFrom (setup_of geo.now (S.formulas_of (S.keys suite.old))) (4 * group) 4 (A.ledger audit.old) (A.ledger audit.new) }
     ensures lines { HasSealedGroup (setup_of geo.now (S.formulas_of (S.keys suite.old))) group (B.device board.old) (B.device board.new) }
 {
@@ -139,6 +152,8 @@ fn seal_one<B: Board, S: Suite, A: Audit>(
     requires lines { (A.ledger audit.old).data_lines ≡ data_lines (shape_of geo.now) }
     requires room { 1 ≤ (A.ledger audit.old).spare }
     ensures keys { S.keys suite.new ≡ S.keys suite.old }
+    ensures counts { SuiteRise (1) (1) (0) (suite_state (S.keys suite.old) (S.pads suite.old) (S.tags suite.old) (S.digests suite.old))
+        (suite_state (S.keys suite.new) (S.pads suite.new) (S.tags suite.new) (S.digests suite.new)) }
     ensures written { HasWritten (B.device board.old) at (first_cipher (setup_of geo.now (S.formulas_of (S.keys suite.old))) at) (B.device board.new) }
     ensures ledger { HasSealedFrom (setup_of geo.now (S.formulas_of (S.keys suite.old))) at 1 (A.ledger audit.old) (A.ledger audit.new) }
     ensures here { tag_slot tags.new at ≡ first_tag (setup_of geo.now (S.formulas_of (S.keys suite.old))) at }
@@ -188,6 +203,8 @@ fn grow_nodes<S: Suite>(suite: &mut S, geo: &Geo, truth: &mut [Line])
     requires long { length truth.old ≡ meta_lines (shape_of geo.now) }
     requires whole { All IsLine truth.old }
     ensures keys { S.keys suite.new ≡ S.keys suite.old }
+    ensures counts { SuiteRise (0) (0) (meta_lines (shape_of geo.now) - 1) (suite_state (S.keys suite.old) (S.pads suite.old) (S.tags suite.old) (S.digests suite.old))
+        (suite_state (S.keys suite.new) (S.pads suite.new) (S.tags suite.new) (S.digests suite.new)) }
     ensures tree { IsHashTree (shape_of geo.now) (S.formulas_of (S.keys suite.old)) truth.new }
     ensures whole { All IsLine truth.new }
     ensures blocks { (x : ℕ) → level_start (shape_of geo.now).levels ≤ x → line_at truth.new x ≡ line_at truth.old x }
@@ -206,6 +223,8 @@ fn node_above<S: Suite>(suite: &mut S, x: u32, truth: &[Line]) -> Line
     requires position { x < 1365 }
     requires children { 4 * x + 4 < length truth.now }
     ensures keys { S.keys suite.new ≡ S.keys suite.old }
+    ensures counts { SuiteRise (0) (0) (4) (suite_state (S.keys suite.old) (S.pads suite.old) (S.tags suite.old) (S.digests suite.old))
+        (suite_state (S.keys suite.new) (S.pads suite.new) (S.tags suite.new) (S.digests suite.new)) }
     ensures value { result ≡ node_over (S.formulas_of (S.keys suite.old)) x (line_at truth.now) }
 {
     let mut digests = [[0; 16]; 4];
@@ -222,7 +241,7 @@ fn write_metadata<B: Board, A: Audit>(board: &mut B, audit: &mut A, geo: &Geo, t
     requires steady { (B.device board.old).steady ≡ true }
     requires long { length truth.now ≡ meta_lines (shape_of geo.now) }
     requires truth { length (A.ledger audit.old).truth ≡ meta_lines (shape_of geo.now) }
-    ensures steady { StaysSteady (B.device board.old) (B.device board.new) }
+    ensures steady { StaysSteady (meta_lines (shape_of geo.now)) (B.device board.old) (B.device board.new) }
     ensures ledger { HasToldMeta (shape_of geo.now) truth.now (meta_lines (shape_of geo.now)) (A.ledger audit.old) (A.ledger audit.new) }
     ensures lines { HasWrittenMeta (shape_of geo.now) truth.now (meta_lines (shape_of geo.now)) (B.device board.old) (B.device board.new) }
 {
@@ -237,7 +256,7 @@ fn write_metadata<B: Board, A: Audit>(board: &mut B, audit: &mut A, geo: &Geo, t
 fn clear_tables<B: Board>(board: &mut B, geo: &Geo)
     requires size { (B.device board.old).size ≡ device_lines (shape_of geo.now) }
     requires steady { (B.device board.old).steady ≡ true }
-    ensures steady { StaysSteady (B.device board.old) (B.device board.new) }
+    ensures steady { StaysSteady (shadow_lines (shape_of geo.now)) (B.device board.old) (B.device board.new) }
     ensures lines { HasClearedTables (shape_of geo.now) (shadow_lines (shape_of geo.now)) (B.device board.old) (B.device board.new) }
 {
     let zero = Line::default();
@@ -250,6 +269,8 @@ fn clear_tables<B: Board>(board: &mut B, geo: &Geo)
 fn latch_root<B: Board, S: Suite>(board: &mut B, suite: &mut S, geo: &Geo, top: &Line)
     requires { (B.device board.old).steady ≡ true }
     ensures keys { S.keys suite.new ≡ S.keys suite.old }
+    ensures counts { SuiteRise (0) (0) (1) (suite_state (S.keys suite.old) (S.pads suite.old) (S.tags suite.old) (S.digests suite.old))
+        (suite_state (S.keys suite.new) (S.pads suite.new) (S.tags suite.new) (S.digests suite.new)) }
     ensures latched { HasLatched (B.device board.old) (first_regs (setup_of geo.now (S.formulas_of (S.keys suite.old))) top.now) (B.device board.new) }
 {
     let mut regs = Regs::empty();

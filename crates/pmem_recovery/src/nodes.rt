@@ -7,7 +7,10 @@ ghost use Rattle.shadow_tables.specs.Entries.{shadow_of};
 ghost use Rattle.bonsai_tree.specs.Nodes.{node_over};
 ghost use Rattle.pmem_recovery.specs.Named.{count_named};
 ghost use Rattle.pmem_recovery.specs.Upward.{made_or_stored, node_made, AreMadeTo};
-ghost use Rattle.pmem_recovery.specs.Parts.{setup_of, Told, KeepsDevice, IsUncut, IsCutOff, suite_state, SuiteWork, SuiteWorkAtMost, IsCompared, IsRootAnswer, IsRootFault, StopsBy, AddsLine};
+ghost use Rattle.board.specs.Counts.{RisesBy};
+ghost use Rattle.commit_regs.specs.Groups.{RisesAtMost};
+ghost use Rattle.pmem_recovery.specs.Reads.{sum_named, unmade_reads, children_reads, node_reads, IsRootRead};
+ghost use Rattle.pmem_recovery.specs.Parts.{setup_of, Told, KeepsDevice, IsUncut, IsCutOff, suite_state, SuiteWork, SuiteWorkAtMost, IsCompared, IsRootAnswer, IsRootFault, root_digests, StopsBy, AddsLine};
 
 use crate::RecFault;
 use crate::entries::{Made, is_other, line_made};
@@ -30,6 +33,10 @@ pub(crate) fn fix_nodes<B: Board, S: Suite>(
     requires shadow { length shadow.now ≡ shadow_lines (shape_of geo.now) }
     requires room { length made.old.items + count_named (shape_of geo.now) shadow.now 0 (level_start (shape_of geo.now).levels) ≤ vec_capacity made.old }
     ensures read { KeepsDevice (B.device board.old) (B.device board.new) }
+    ensures reads { RisesAtMost (5 * count_named (shape_of geo.now) shadow.now 0 (level_start (shape_of geo.now).levels)) (B.device board.old).reads (B.device board.new).reads }
+    ensures exact_reads { OnOk result (Told (B.device board.old).lines (λ lines. (regs : Regs) → shadow.now ≡ shadow_of (shape_of geo.now) lines
+        → AreMadeTo (setup_of geo.now (S.formulas_of (S.keys suite.old))) lines regs (shape_of geo.now).levels (meta_lines (shape_of geo.now)) made.old.items
+        → RisesBy (sum_named (shape_of geo.now) shadow.now (node_reads (shape_of geo.now) shadow.now) 0 (level_start (shape_of geo.now).levels)) (B.device board.old).reads (B.device board.new).reads)) }
     ensures goes { OnOk result (IsUncut (B.device board.old) (B.device board.new)) }
     ensures cut { OnErr result (IsCutOff (B.device board.old) (B.device board.new)) }
     ensures worked { IfOk result (λ digests. SuiteWork 0 digests (suite_state (S.keys suite.old) (S.pads suite.old) (S.tags suite.old) (S.digests suite.old))
@@ -67,6 +74,10 @@ fn fix_level<B: Board, S: Suite>(
     requires level { level < (shape_of geo.now).levels }
     requires room { length made.old.items + count_named (shape_of geo.now) shadow.now (level_start level) (level_start (suc level)) ≤ vec_capacity made.old }
     ensures read { KeepsDevice (B.device board.old) (B.device board.new) }
+    ensures reads { RisesAtMost (5 * count_named (shape_of geo.now) shadow.now (level_start level) (level_start (suc level))) (B.device board.old).reads (B.device board.new).reads }
+    ensures exact_reads { OnOk result (Told (B.device board.old).lines (λ lines. (regs : Regs) → shadow.now ≡ shadow_of (shape_of geo.now) lines
+        → AreMadeTo (setup_of geo.now (S.formulas_of (S.keys suite.old))) lines regs level (level_start level) made.old.items
+        → RisesBy (sum_named (shape_of geo.now) shadow.now (node_reads (shape_of geo.now) shadow.now) (level_start level) (level_start (suc level))) (B.device board.old).reads (B.device board.new).reads)) }
     ensures goes { OnOk result (IsUncut (B.device board.old) (B.device board.new)) }
     ensures cut { OnErr result (IsCutOff (B.device board.old) (B.device board.new)) }
     ensures worked { IfOk result (λ digests. SuiteWork 0 digests (suite_state (S.keys suite.old) (S.pads suite.old) (S.tags suite.old) (S.digests suite.old))
@@ -116,6 +127,8 @@ fn fix_node<B: Board, S: Suite>(
     requires node { x < level_start (shape_of geo.now).levels }
     requires room { length made.old.items < vec_capacity made.old }
     ensures read { KeepsDevice (B.device board.old) (B.device board.new) }
+    ensures reads { RisesAtMost (5) (B.device board.old).reads (B.device board.new).reads }
+    ensures exact_reads { OnOk result (RisesBy (1 + children_reads made.old.items x 4) (B.device board.old).reads (B.device board.new).reads) }
     ensures goes { OnOk result (IsUncut (B.device board.old) (B.device board.new)) }
     ensures cut { OnErr result (IsCutOff (B.device board.old) (B.device board.new)) }
     ensures worked { OnOk result (SuiteWork 0 4 (suite_state (S.keys suite.old) (S.pads suite.old) (S.tags suite.old) (S.digests suite.old))
@@ -148,6 +161,8 @@ fn node_line<B: Board, S: Suite>(
     requires size { (B.device board.old).size ≡ device_lines (shape_of geo.now) }
     requires node { x < level_start (shape_of geo.now).levels }
     ensures read { KeepsDevice (B.device board.old) (B.device board.new) }
+    ensures reads { RisesAtMost (4) (B.device board.old).reads (B.device board.new).reads }
+    ensures exact_reads { OnOk result (RisesBy (children_reads made.now x 4) (B.device board.old).reads (B.device board.new).reads) }
     ensures goes { OnOk result (IsUncut (B.device board.old) (B.device board.new)) }
     ensures cut { OnErr result (IsCutOff (B.device board.old) (B.device board.new)) }
     ensures worked { OnOk result (SuiteWork 0 4 (suite_state (S.keys suite.old) (S.pads suite.old) (S.tags suite.old) (S.digests suite.old))
@@ -171,6 +186,8 @@ fn made_or_read<B: Board>(board: &mut B, geo: &Geo, x: u32, made: &[Made]) -> Re
     requires size { (B.device board.old).size ≡ device_lines (shape_of geo.now) }
     requires position { x < meta_lines (shape_of geo.now) }
     ensures read { KeepsDevice (B.device board.old) (B.device board.new) }
+    ensures reads { RisesAtMost (1) (B.device board.old).reads (B.device board.new).reads }
+    ensures exact_reads { OnOk result (RisesBy (unmade_reads made.now x) (B.device board.old).reads (B.device board.new).reads) }
     ensures goes { OnOk result (IsUncut (B.device board.old) (B.device board.new)) }
     ensures cut { OnErr result (IsCutOff (B.device board.old) (B.device board.new)) }
     ensures told { IfOk result (λ line. Told (B.device board.old).lines (λ lines. line ≡ made_or_stored (shape_of geo.now) lines made.now x)) }
@@ -191,6 +208,9 @@ pub(crate) fn check_root<B: Board, S: Suite>(
 ) -> Result<(), RecFault>
     requires size { (B.device board.old).size ≡ device_lines (shape_of geo.now) }
     ensures read { KeepsDevice (B.device board.old) (B.device board.new) }
+    ensures reads { RisesAtMost (1) (B.device board.old).reads (B.device board.new).reads }
+    ensures exact_reads { OnOk result (RisesBy (unmade_reads made.now 0) (B.device board.old).reads (B.device board.new).reads) }
+    ensures stopped_reads { IfErr result (λ fault. IsRootRead fault (unmade_reads made.now 0) (B.device board.old).reads (B.device board.new).reads) }
     ensures goes { OnOk result (IsUncut (B.device board.old) (B.device board.new)) }
     ensures kind { IfErr result IsRootFault }
     ensures stops { IfErr result (λ fault. StopsBy fault (B.device board.old) (B.device board.new)) }
@@ -198,6 +218,8 @@ pub(crate) fn check_root<B: Board, S: Suite>(
         (suite_state (S.keys suite.new) (S.pads suite.new) (S.tags suite.new) (S.digests suite.new))) }
     ensures at_most { SuiteWorkAtMost 0 1 (suite_state (S.keys suite.old) (S.pads suite.old) (S.tags suite.old) (S.digests suite.old))
         (suite_state (S.keys suite.new) (S.pads suite.new) (S.tags suite.new) (S.digests suite.new)) }
+    ensures refused { IfErr result (λ fault. SuiteWork 0 (root_digests fault) (suite_state (S.keys suite.old) (S.pads suite.old) (S.tags suite.old) (S.digests suite.old))
+        (suite_state (S.keys suite.new) (S.pads suite.new) (S.tags suite.new) (S.digests suite.new))) }
     ensures told { Told (B.device board.old).lines (λ lines.
         IsRootAnswer (S.formulas_of (S.keys suite.old)) (made_or_stored (shape_of geo.now) lines made.now 0) regs.now.root result) }
 {

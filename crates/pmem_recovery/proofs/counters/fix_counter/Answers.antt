@@ -1,17 +1,21 @@
-use Rattle.std.proofs.Common.{ℕ, ◌≡◌, ◌+◌, ◌-◌, ◌*◌, ◌/◌, ◌^◌, ◌++◌, ◌∷◌, [], Bool, List, sym, ap, subst, refl, ◌∙◌, lit<, arith}
+use Rattle.std.proofs.Common.{ℕ, true, ◌≡◌, ◌+◌, ◌-◌, ◌*◌, ◌/◌, ◌^◌, ◌++◌, ◌∷◌, [], Bool, List, sym, ap, subst, refl, ◌∙◌, lit<, arith}
 use Rattle.std.proofs.lemmas.Result.{err_from_is_err_and}
 use Rattle.pmem_base.specs.declared.lines.Line.{Line}
 use Rattle.pmem_base.specs.Geo.{shape_of}
+use Rattle.pmem_base.specs.Layout.{page_of, index_in_page}
 use Rattle.pmem_base.specs.Lines.{line_at}
+use Rattle.pmem_recovery.specs.Reads.{page_reads}
 use Rattle.bonsai_tree.specs.Positions.{counter_position}
 use Rattle.split_counters.specs.Blocks.{packed, unpacked}
-use Rattle.pmem_engine.specs.Invariants.{stored_meta}
+use Rattle.pmem_engine.specs.Invariants.{stored_meta, is_named}
 use Rattle.pmem_recovery.specs.declared.entries.Made.{Made}
 use Rattle.pmem_recovery.specs.declared.faults.RecFault.TheVariants.{Cut}
-use Rattle.pmem_recovery.specs.Trials.{stored_block}
+use Rattle.pmem_recovery.specs.Trials.{stored_block, trials_below}
 use Rattle.pmem_recovery.specs.Fixed.{fixed_block}
 use Rattle.pmem_recovery.specs.Upward.{is_other}
-use Rattle.pmem_recovery.specs.Parts.{setup_of, IsPageRefusal, AreOneTried}
+use Rattle.pmem_recovery.specs.Parts.{setup_of, suite_state, IsPageRefusal, AreOneTried, TriesUntil}
+use Rattle.pmem_recovery.proofs.ReadLaws.{block_read, read_at_after, block_stop}
+use Rattle.pmem_recovery.proofs.WorkLaws.{tries_none}
 use Rattle.pmem_recovery.proofs.PartLaws.{KeepsDevice-read, IsUncut-read, IsCutOff-cut, told-read, told_before, SuiteWork-none, SuiteWorkAtMost-of, IsStageStopped-after, IfErr-exit}
 use Rattle.pmem_recovery.proofs.counters.fix_counter.Goals as goal
 
@@ -30,6 +34,56 @@ returns-in_err-read-clause-stopped g c =
 -- the page of a counter block's position
 page_is : (levels count x page : ℕ) → count ≡ 4 ^ levels → x ≡ (4 ^ levels - 1) / 3 + page → x - (count - 1) / 3 ≡ page
 page_is levels count x page e at = rw e (omega (arith, at))
+
+pub returns-in_err-read-clause-tries : goal.returns-in_err-read-clause-tries
+returns-in_err-read-clause-tries g c =
+    IfErr-exit c.from_residual.result Cut _ (err_from_is_err_and c.from_residual.result c.from_residual.ensures.1)
+    (λ lines told page inside at named. tries_none (shape_of c.args.geo.now) lines c.args.regs.now (64 * page) (64 * page + 64) _ (omega arith))
+
+pub returns-in_err-fixed-clause-tries : goal.returns-in_err-fixed-clause-tries
+returns-in_err-fixed-clause-tries g c =
+    let g' = shape_of c.args.geo.now in
+    let fault = c.in_err-fixed.field-0.0 in
+    let read = c.in_ok-read.ensures.ok in
+    IfErr-exit c.from_residual-in_err-fixed.result fault _ (err_from_is_err_and c.from_residual-in_err-fixed.result c.from_residual-in_err-fixed.ensures.1)
+    (λ lines told page inside at named.
+    let its_page = page_is g'.levels c.pages.result c.args.x page c.pages.ensures.value at in
+    let its_line : c.in_ok-read.read ≡ stored_meta g' lines c.args.x = told-read _ _ _ _ read lines told ∙ ap (line_at lines) c.meta_line.ensures.value in
+    let its_block : c.unpack.result ≡ stored_block g' lines page = c.unpack.ensures.value ∙ ap unpacked its_line ∙ ap (λ z. unpacked (stored_meta g' lines z)) at in
+    subst (λ p. TriesUntil g' lines c.args.regs.now (64 * p) (64 * p + 64) fault
+    (suite_state (g.S.Suite.keys c.args.suite.now) (g.S.Suite.pads c.args.suite.now) (g.S.Suite.tags c.args.suite.now) (g.S.Suite.digests c.args.suite.now))
+    (suite_state (g.S.Suite.keys c.fix_minors.new.suite) (g.S.Suite.pads c.fix_minors.new.suite) (g.S.Suite.tags c.fix_minors.new.suite) (g.S.Suite.digests c.fix_minors.new.suite))) its_page
+    (c.in_err-fixed.ensures.tries lines (told_before _ _ (KeepsDevice-read _ _ _ _ read) lines told) (its_block ∙ ap (stored_block g' lines) (sym its_page))
+    (subst (λ z. is_named g' lines z ≡ true) (at ∙ ap (counter_position g') (sym its_page)) named)))
+
+pub returns-in_err-read-clause-stopped_reads : goal.returns-in_err-read-clause-stopped_reads
+returns-in_err-read-clause-stopped_reads g c =
+    IfErr-exit c.from_residual.result Cut _ (err_from_is_err_and c.from_residual.result c.from_residual.ensures.1) tt
+
+pub returns-in_err-fixed-clause-stopped_reads : goal.returns-in_err-fixed-clause-stopped_reads
+returns-in_err-fixed-clause-stopped_reads g c =
+    let items = c.args.regs.now.progress.items in
+    let shape = shape_of c.args.geo.now in
+    let page : ℕ = c.args.x - (c.pages.result - 1) / 3 in
+    let fault = c.in_err-fixed.field-0.0 in
+    IfErr-exit c.from_residual-in_err-fixed.result fault _ (err_from_is_err_and c.from_residual-in_err-fixed.result c.from_residual-in_err-fixed.ensures.1)
+    (read_at_after (λ a. page_of a ≡ page) (λ a. counter_position shape (page_of a) ≡ c.args.x) (λ a. page_reads items page (index_in_page a + 1)) (λ a. 1 + page_reads items (page_of a) (index_in_page a + 1)) 1 fault _ _ _ c.in_ok-read.ensures.ok.reads
+    (block_stop shape items c.pages.result c.args.x c.pages.ensures.value c.requires.block) c.in_err-fixed.ensures.stopped_reads)
+
+pub returns-clause-exact_reads : goal.returns-clause-exact_reads
+returns-clause-exact_reads g c =
+    block_read (shape_of c.args.geo.now) c.args.regs.now c.pages.result c.args.x _ _ _ c.pages.ensures.value c.in_ok-read.ensures.ok.reads c.in_ok-fixed.ensures.exact_reads
+
+pub returns-clause-trials : goal.returns-clause-trials
+returns-clause-trials g c = λ lines told page inside at named.
+    let g' = shape_of c.args.geo.now in
+    let read = c.in_ok-read.ensures.ok in
+    let its_page = page_is g'.levels c.pages.result c.args.x page c.pages.ensures.value at in
+    let its_line : c.in_ok-read.read ≡ stored_meta g' lines c.args.x = told-read _ _ _ _ read lines told ∙ ap (line_at lines) c.meta_line.ensures.value in
+    let its_block : c.unpack.result ≡ stored_block g' lines page = c.unpack.ensures.value ∙ ap unpacked its_line ∙ ap (λ z. unpacked (stored_meta g' lines z)) at in
+    subst (λ p. c.in_ok-fixed.trials + trials_below g' lines c.args.regs.now (64 * p) ≡ trials_below g' lines c.args.regs.now (64 * p + 64)) its_page
+    (c.in_ok-fixed.ensures.trials lines (told_before _ _ (KeepsDevice-read _ _ _ _ read) lines told) (its_block ∙ ap (stored_block g' lines) (sym its_page))
+    (subst (λ z. is_named g' lines z ≡ true) (at ∙ ap (counter_position g') (sym its_page)) named))
 
 pub returns-in_err-fixed-clause-stopped : goal.returns-in_err-fixed-clause-stopped
 returns-in_err-fixed-clause-stopped g c =

@@ -3,6 +3,10 @@ use Rattle.pmem_base.specs.Geo.{shape_of}
 use Rattle.pmem_base.specs.Layout.{meta_lines, level_start}
 use Rattle.shadow_tables.specs.Entries.{shadow_of}
 use Rattle.pmem_recovery.specs.Named.{count_named}
+use Rattle.pmem_recovery.specs.Trials.{trials_below}
+use Rattle.board.specs.Counts.{RisesBy}
+use Rattle.commit_regs.specs.Groups.{RisesAtMost}
+use Rattle.pmem_recovery.specs.Reads.{sum_named, block_reads}
 use Rattle.pmem_recovery.specs.Parts.{setup_of, Told, KeepsDevice, IsUncut, suite_state, SuiteWork}
 use Rattle.pmem_recovery.proofs.CounterSteps.{AreBlocksTo}
 use Rattle.pmem_recovery.proofs.counters.fix_counters.Given as goal
@@ -15,6 +19,8 @@ invariant-positions g l =
     record {
       read : KeepsDevice start now;
       goes : IsUncut start now;
+      reads : RisesAtMost (129 * length l.made.items) start.reads now.reads;
+      exact_reads : RisesBy (sum_named shape l.shadow (block_reads shape l.regs) (level_start shape.levels) l.from) start.reads now.reads;
       low : level_start shape.levels ≤ l.from;
       high : l.from ≤ meta_lines shape;
       counted : length l.made.items ≡ count_named shape l.shadow (level_start shape.levels) l.from;
@@ -26,6 +32,8 @@ invariant-positions g l =
       capacity : vec_capacity l.made ≡ vec_capacity l.initial.made;
       told : Told start.lines (λ lines. l.shadow ≡ shadow_of shape lines
           → AreBlocksTo (setup_of l.geo (g.S.Suite.formulas_of (g.S.Suite.keys l.initial.suite))) lines l.regs (l.from - level_start shape.levels) l.made.items);
+      tried : Told start.lines (λ lines. l.shadow ≡ shadow_of shape lines
+          → l.trials ≡ trials_below shape lines l.regs (64 * (l.from - level_start shape.levels)));
     }
 
 abbrev pub decreases-positions : goal.decreases-positions

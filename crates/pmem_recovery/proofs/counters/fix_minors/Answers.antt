@@ -1,4 +1,4 @@
-use Rattle.std.proofs.Common.{ℕ, ◌≡◌, ◌<◌, ◌≤◌, ◌+◌, ◌*◌, ◌∷◌, [], List, length, get_or, set, mul-le-mul_right, sym, ap, subst, refl, ◌∙◌, arith}
+use Rattle.std.proofs.Common.{ℕ, true, ◌≡◌, ◌<◌, ◌≤◌, ◌+◌, ◌*◌, ◌∷◌, [], List, length, get_or, set, mul-le-mul_right, sym, ap, subst, refl, ◌∙◌, arith}
 use Rattle.std.proofs.lemmas.Result.{err_from_is_err_and}
 use Rattle.std.proofs.lemmas.List.{length-set}
 use Rattle.std.proofs.lemmas.List.Elements.{All-set}
@@ -6,9 +6,19 @@ use Rattle.pmem_base.specs.Geo.{shape_of}
 use Rattle.pmem_base.proofs.LayoutLemmas.{pages-most}
 use Rattle.pmem_engine.proofs.Laws.TrueLines.{page_of_place}
 use Rattle.suite.specs.Setup.{Setup}
-use Rattle.pmem_recovery.specs.Trials.{stored_block, tried_minors}
+use Rattle.pmem_base.specs.declared.lines.Line.{Line}
+use Rattle.pmem_base.specs.declared.registers.Regs.{Regs}
+use Rattle.pmem_base.specs.Shape.{Shape}
+use Rattle.pmem_base.specs.Layout.{page_of, index_in_page}
+use Rattle.bonsai_tree.specs.Positions.{counter_position}
+use Rattle.pmem_engine.specs.Invariants.{is_named}
+use Rattle.pmem_recovery.specs.Trials.{stored_block, tried_minors, candidates_of, trials_of, trials_below}
+use Rattle.pmem_recovery.proofs.WorkLaws.{trials_below-next, trials_of-named, tries_line, tries_after}
 use Rattle.pmem_recovery.specs.Parts.{setup_of, IsLineRefusal}
-use Rattle.pmem_recovery.proofs.PartLaws.{KeepsDevice-none, KeepsDevice-then, IsUncut-none, IsUncut-then, SuiteWork-none, SuiteWork-then, SuiteWorkAtMost-after, IsStageStopped-after, IfErr-exit, told_before}
+use Rattle.pmem_recovery.proofs.PartLaws.{KeepsDevice-none, KeepsDevice-then, IsUncut-none, IsUncut-then, RisesAtMost-none, RisesAtMost-less, RisesAtMost-both, SuiteWork-none, SuiteWork-then, SuiteWorkAtMost-after, IsStageStopped-after, IfErr-exit, told_before}
+use Rattle.board.specs.Counts.{RisesBy}
+use Rattle.pmem_recovery.specs.Reads.{line_reads, page_reads}
+use Rattle.pmem_recovery.proofs.ReadLaws.{RisesBy-none, RisesBy-as, page_reads-none, page_more, read_at_after, page_stop}
 use Rattle.pmem_recovery.proofs.TryLaws.{minors_more, fixed_block_is}
 use Rattle.pmem_recovery.proofs.counters.fix_minors.Goals as goal
 
@@ -17,13 +27,19 @@ lines-init g c =
     record {
       read = KeepsDevice-none _;
       goes = IsUncut-none _;
+      reads = RisesAtMost-none _ _;
+      exact_reads = RisesBy-as 0 _ _ _ (sym (page_reads-none c.args.regs.now.progress.items c.args.page)) (RisesBy-none _);
       worked = SuiteWork-none _;
       few = omega arith;
       major = refl;
       long = c.requires.block.count;
       small = c.requires.block.minors;
       told = λ lines told block k small. absurd (omega arith);
+      tried = λ lines told block named. omega (arith, ap (trials_below (shape_of c.args.geo.now) lines c.args.regs.now) (start c.args.page));
     }
+  where
+    start : (page : ℕ) → 64 * page ≡ 64 * page + 0
+    start page = omega arith
 
 pub overflow_mul-at : goal.overflow_mul-at
 overflow_mul-at g c = omega (arith, c.requires.page, pages-most (shape_of c.args.geo.now).levels c.args.geo.now.has_levels.1)
@@ -63,6 +79,39 @@ returns-in_err-minor-clause-stopped g c =
     })
     c.in_err-minor.ensures.stopped)
 
+-- one more line is tried
+tried_one : (g : Shape) (lines : List Line) (regs : Regs) (page i at trials tries : ℕ) → at ≡ i → is_named g lines (counter_position g (page_of (64 * page + at))) ≡ true → trials + trials_below g lines regs (64 * page) ≡ trials_below g lines regs (64 * page + i) → tries ≡ length (candidates_of g lines regs (64 * page + at)) → trials + tries + trials_below g lines regs (64 * page) ≡ trials_below g lines regs (64 * page + (i + 1))
+tried_one g lines regs page i at trials tries same named before here =
+    let next : trials_below g lines regs (64 * page + i + 1) ≡ trials_below g lines regs (64 * page + i) + trials_of g lines regs (64 * page + i) = trials_below-next g lines regs (64 * page + i) in
+    let one : tries ≡ trials_of g lines regs (64 * page + i) =
+    here ∙ sym (trials_of-named g lines regs (64 * page + at) named) ∙ ap (λ n. trials_of g lines regs (64 * page + n)) same in
+    let step : 64 * page + i + 1 ≡ 64 * page + (i + 1) = omega arith in
+    omega (arith, next, one, before, ap (trials_below g lines regs) step)
+
+pub returns-in_err-minor-clause-tries : goal.returns-in_err-minor-clause-tries
+returns-in_err-minor-clause-tries g c =
+    let formulas : List ℕ → _ = λ keys. g.S.Suite.formulas_of keys in
+    let inv = c.lines.invariant in
+    let fault = c.in_err-minor.field-0.0 in
+    let place : c.from.result ≡ c.lines.i = c.from.ensures in
+    let shape = shape_of c.args.geo.now in
+    IfErr-exit c.from_residual.result fault _ (err_from_is_err_and c.from_residual.result c.from_residual.ensures.1)
+    (λ lines told block named.
+    let at_page = page_of_place c.args.page c.from.result (omega (arith, place, c.lines-test.true)) in
+    let its_block = block ∙ ap (stored_block shape lines) (sym at_page) in
+    let now = told_before _ _ inv.read lines told in
+    tries_after shape lines c.args.regs.now fault c.lines.trials (64 * c.args.page) (64 * c.args.page + c.from.result) (64 * c.args.page + c.from.result + 1) (64 * c.args.page + 64) _ _ _
+    (inv.tried lines told block named ∙ ap (λ n. trials_below shape lines c.args.regs.now (64 * c.args.page + n)) (sym place)) (omega arith) (omega (arith, place, c.lines-test.true)) inv.worked
+    (tries_line (setup_of c.args.geo.now (formulas (g.S.Suite.keys c.lines.suite))) lines c.args.regs.now (64 * c.args.page + c.from.result) fault _ _
+    (subst (λ p. is_named shape lines (counter_position shape p) ≡ true) (sym at_page) named)
+    (c.in_err-minor.ensures.stopped.reason lines now its_block) (c.in_err-minor.ensures.tries lines now its_block)))
+
+pub returns-clause-trials : goal.returns-clause-trials
+returns-clause-trials g c = λ lines told block named.
+    let whole : c.lines.i ≡ 64 = omega (arith, c.lines-test.false, c.lines.auto.i-end) in
+    subst (λ i. c.lines.trials + trials_below (shape_of c.args.geo.now) lines c.args.regs.now (64 * c.args.page) ≡ trials_below (shape_of c.args.geo.now) lines c.args.regs.now (64 * c.args.page + i)) whole
+    (c.lines.invariant.tried lines told block named)
+
 pub lines-preserved : goal.lines-preserved
 lines-preserved g c =
     let formulas : List ℕ → _ = λ keys. g.S.Suite.formulas_of keys in
@@ -73,6 +122,8 @@ lines-preserved g c =
     record {
       read = KeepsDevice-then _ _ _ inv.read ok.read;
       goes = IsUncut-then _ _ _ inv.goes ok.goes;
+      reads = RisesAtMost-both _ 2 _ _ _ _ (omega arith) inv.reads c.try_line.ensures.reads;
+      exact_reads = page_more c.args.regs.now.progress.items c.args.page c.lines.i c.from.result _ _ _ place inv.exact_reads ok.exact_reads;
       worked = SuiteWork-then c.lines.trials 0 c.in_ok-minor.tries 0 _ _ _ inv.worked ok.worked;
       few = bound c.lines.trials c.in_ok-minor.tries c.lines.i c.args.regs.now.loss inv.few ok.few;
       major = inv.major;
@@ -87,10 +138,37 @@ lines-preserved g c =
           (subst (λ keys. tried_minors (setup_of c.args.geo.now (formulas keys)) lines c.args.regs.now (64 * c.args.page + c.from.result) ≡ c.in_ok-minor.minor ∷ []) inv.worked.keys tried) in
           subst (λ i. tried_minors setup lines c.args.regs.now (64 * c.args.page + k) ≡ get_or (set c.lines.fixed.minors i c.in_ok-minor.minor) k 0 ∷ []) (sym same_place)
           (minors_more (λ k. tried_minors setup lines c.args.regs.now (64 * c.args.page + k)) c.lines.fixed.minors c.lines.i c.in_ok-minor.minor (omega (arith, inv.long, c.lines-test.true)) (inv.told lines told block) tried_here k low);
+      tried = λ lines told block named.
+          let shape = shape_of c.args.geo.now in
+          let at_page = page_of_place c.args.page c.from.result (omega (arith, place, c.lines-test.true)) in
+          let here = ok.trials lines (told_before _ _ inv.read lines told) (block ∙ ap (stored_block shape lines) (sym at_page)) in
+          tried_one shape lines c.args.regs.now c.args.page c.lines.i c.from.result c.lines.trials c.in_ok-minor.tries place
+          (subst (λ p. is_named shape lines (counter_position shape p) ≡ true) (sym at_page) named) (inv.tried lines told block named) here;
     }
   where
     bound : (trials tries i loss : ℕ) → trials ≤ i * loss → tries ≤ loss → trials + tries ≤ (i + 1) * loss
     bound trials tries i loss few less = omega arith
+
+pub returns-in_err-minor-clause-reads : goal.returns-in_err-minor-clause-reads
+returns-in_err-minor-clause-reads g c =
+    RisesAtMost-both _ 2 _ _ _ _ (omega (arith, c.lines-test.true)) c.lines.invariant.reads c.try_line.ensures.reads
+
+pub returns-clause-reads : goal.returns-clause-reads
+returns-clause-reads g c = RisesAtMost-less _ _ _ _ (omega (arith, c.lines-test.false, c.lines.auto.i-end)) c.lines.invariant.reads
+
+pub returns-in_err-minor-clause-stopped_reads : goal.returns-in_err-minor-clause-stopped_reads
+returns-in_err-minor-clause-stopped_reads g c =
+    let items = c.args.regs.now.progress.items in
+    let page = c.args.page in
+    let fault = c.in_err-minor.field-0.0 in
+    IfErr-exit c.from_residual.result fault _ (err_from_is_err_and c.from_residual.result c.from_residual.ensures.1)
+    (read_at_after (λ a. a ≡ 64 * page + c.from.result) (λ a. page_of a ≡ page) (λ a. line_reads items (64 * page + c.from.result)) (λ a. page_reads items page (index_in_page a + 1)) _ fault _ _ _ c.lines.invariant.exact_reads
+    (page_stop items page c.lines.i c.from.result c.from.ensures c.lines-test.true) c.in_err-minor.ensures.stopped_reads)
+
+pub returns-clause-exact_reads : goal.returns-clause-exact_reads
+returns-clause-exact_reads g c =
+    let whole : c.lines.i ≡ 64 = omega (arith, c.lines-test.false, c.lines.auto.i-end) in
+    subst (λ i. RisesBy (page_reads c.args.regs.now.progress.items c.args.page i) (g.B.Board.device c.args.board.now).reads (g.B.Board.device c.lines.board).reads) whole c.lines.invariant.exact_reads
 
 pub returns-clause-told : goal.returns-clause-told
 returns-clause-told g c = λ lines told block.

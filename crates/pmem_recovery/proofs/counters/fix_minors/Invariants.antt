@@ -1,6 +1,11 @@
-use Rattle.std.proofs.Common.{ℕ, ◌≡◌, ◌<◌, ◌≤◌, ◌+◌, ◌*◌, ◌∷◌, [], All, length, get_or}
+use Rattle.std.proofs.Common.{ℕ, true, ◌≡◌, ◌<◌, ◌≤◌, ◌+◌, ◌*◌, ◌∷◌, [], All, length, get_or}
 use Rattle.pmem_base.specs.Geo.{shape_of}
-use Rattle.pmem_recovery.specs.Trials.{stored_block, tried_minors}
+use Rattle.bonsai_tree.specs.Positions.{counter_position}
+use Rattle.pmem_engine.specs.Invariants.{is_named}
+use Rattle.pmem_recovery.specs.Trials.{stored_block, tried_minors, trials_below}
+use Rattle.board.specs.Counts.{RisesBy}
+use Rattle.commit_regs.specs.Groups.{RisesAtMost}
+use Rattle.pmem_recovery.specs.Reads.{page_reads}
 use Rattle.pmem_recovery.specs.Parts.{setup_of, Told, KeepsDevice, IsUncut, suite_state, SuiteWork}
 use Rattle.pmem_recovery.proofs.counters.fix_minors.Given as goal
 
@@ -12,6 +17,8 @@ invariant-lines g l =
     record {
       read : KeepsDevice start now;
       goes : IsUncut start now;
+      reads : RisesAtMost (2 * l.i) start.reads now.reads;
+      exact_reads : RisesBy (page_reads l.regs.progress.items l.page l.i) start.reads now.reads;
       worked : SuiteWork l.trials 0
           (suite_state (g.S.Suite.keys l.initial.suite) (g.S.Suite.pads l.initial.suite) (g.S.Suite.tags l.initial.suite) (g.S.Suite.digests l.initial.suite))
           (suite_state (g.S.Suite.keys l.suite) (g.S.Suite.pads l.suite) (g.S.Suite.tags l.suite) (g.S.Suite.digests l.suite));
@@ -21,4 +28,7 @@ invariant-lines g l =
       small : All (λ m. m ≤ 127) l.fixed.minors;
       told : Told start.lines (λ lines. l.stored ≡ stored_block (shape_of l.geo) lines l.page
           → (k : ℕ) → k < l.i → tried_minors setup lines l.regs (64 * l.page + k) ≡ get_or l.fixed.minors k 0 ∷ []);
+      tried : Told start.lines (λ lines. l.stored ≡ stored_block (shape_of l.geo) lines l.page
+          → is_named (shape_of l.geo) lines (counter_position (shape_of l.geo) l.page) ≡ true
+          → l.trials + trials_below (shape_of l.geo) lines l.regs (64 * l.page) ≡ trials_below (shape_of l.geo) lines l.regs (64 * l.page + l.i));
     }

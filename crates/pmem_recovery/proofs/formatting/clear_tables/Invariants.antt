@@ -7,6 +7,6 @@ invariant-lines g l =
     let start = g.B.Board.device l.initial.board in
     let now = g.B.Board.device l.board in
     record {
-      steady : StaysSteady start now;
+      steady : StaysSteady l.n start now;
       lines : HasClearedTables (shape_of l.geo) l.n start now;
     }

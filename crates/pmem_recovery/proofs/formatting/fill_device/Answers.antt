@@ -1,8 +1,8 @@
-use Rattle.std.proofs.Common.{ℕ, ◌≡◌, ◌<◌, ◌≤◌, List, [], refl, subst, ◌∙◌, arith}
+use Rattle.std.proofs.Common.{ℕ, ◌≡◌, ◌<◌, ◌≤◌, ◌+◌, ◌-◌, List, [], refl, subst, ◌∙◌, arith}
 use Rattle.std.proofs.lemmas.List.{get_or_default}
 use Rattle.pmem_base.specs.Shape.{Shape}
 use Rattle.pmem_base.specs.Geo.{shape_of}
-use Rattle.pmem_base.specs.Layout.{meta_lines}
+use Rattle.pmem_base.specs.Layout.{data_lines, meta_lines}
 use Rattle.pmem_base.proofs.LayoutLemmas.{pages-least}
 use Rattle.bonsai_tree.specs.Positions.{counter_position}
 use Rattle.bonsai_tree.proofs.Levels.{meta_lines-counters}
@@ -13,7 +13,7 @@ use Rattle.pmem_base.specs.Lines.{line_at, zero_line}
 use Rattle.pmem_engine.specs.Mendable.{new_engine}
 use Rattle.pmem_recovery.specs.Parts.{setup_of}
 use Rattle.pmem_recovery.specs.Formatting.{first_regs}
-use Rattle.pmem_recovery.proofs.PartLaws.{IsShape-geo}
+use Rattle.pmem_recovery.proofs.PartLaws.{IsShape-geo, SuiteRise-then, SuiteRise-as}
 use Rattle.pmem_recovery.proofs.FormattedLaws.{HasFormatted-of}
 use Rattle.pmem_recovery.proofs.formatting.fill_device.Goals as goal
 
@@ -23,6 +23,17 @@ has_top g least n long = omega (arith, pages-least g.levels least, meta_lines-co
 
 pub slice_copy_out-top : goal.slice_copy_out-top
 slice_copy_out-top g c = has_top (shape_of c.args.geo.now) c.args.geo.now.has_levels.0 _ c.grow_nodes.ensures.tree.whole
+
+pub returns-clause-counts : goal.returns-clause-counts
+returns-clause-counts g c =
+    let n = data_lines (shape_of c.args.geo.now) in
+    let m = meta_lines (shape_of c.args.geo.now) in
+    let some : 0 < m = has_top (shape_of c.args.geo.now) c.args.geo.now.has_levels.0 m refl in
+    SuiteRise-as (n + 0 + 0) (n + 0 + 0) (0 + (m - 1) + 1) n n m _ _ (omega arith) (omega arith) (omega (arith, some))
+    (SuiteRise-then (n + 0) (n + 0) (0 + (m - 1)) 0 0 1 _ _ _ (SuiteRise-then n n 0 0 0 (m - 1) _ _ _ c.seal_lines.ensures.counts c.grow_nodes.ensures.counts) c.latch_root.ensures.counts)
+
+pub returns-clause-spare : goal.returns-clause-spare
+returns-clause-spare g c = omega (arith, c.seal_lines.ensures.ledger.spare, c.write_metadata.ensures.ledger.spare)
 
 pub returns-clause-formatted : goal.returns-clause-formatted
 returns-clause-formatted g c =

@@ -5,7 +5,8 @@ use Rattle.pmem_base.specs.Lines.{tag_slot}
 use Rattle.board.specs.Steps.{HasWritten}
 use Rattle.suite.specs.Formulas.{Formulas}
 use Rattle.pmem_recovery.specs.Parts.{setup_of}
-use Rattle.pmem_recovery.specs.Formatting.{first_cipher, first_tag, HasSealedFrom}
+use Rattle.pmem_recovery.specs.Formatting.{first_cipher, first_tag, HasSealedFrom, StaysSteady}
+use Rattle.pmem_recovery.proofs.PartLaws.{SuiteRise-then, SuiteRise-as}
 use Rattle.pmem_recovery.proofs.FormatSteps.{IsGroupTo, StaysSteady-then, StaysSteady-written, HasSealedFrom-then, IsGroupTo-more, HasSealedGroup-written, slots-more}
 use Rattle.pmem_recovery.proofs.formatting.seal_group.Goals as goal
 
@@ -31,7 +32,8 @@ lines-preserved g c =
     subst (λ k. tag_slot c.seal_one.new.tags at ≡ first_tag (setup_of c.args.geo.now (formulas k)) at) c.lines.invariant.keys c.seal_one.ensures.here in
     record {
       keys = c.seal_one.ensures.keys ∙ c.lines.invariant.keys;
-      steady = StaysSteady-then start mid new c.lines.invariant.steady (StaysSteady-written mid at (first_cipher setup at) new written);
+      counts = SuiteRise-then c.lines.i c.lines.i 0 1 1 0 _ _ _ c.lines.invariant.counts c.seal_one.ensures.counts;
+      steady = StaysSteady-then c.lines.i 1 start mid new c.lines.invariant.steady (StaysSteady-written mid at (first_cipher setup at) new written);
       ledger = HasSealedFrom-then setup (4 * c.args.group) c.lines.i at 1 _ _ _ refl c.lines.invariant.ledger sealed;
       slots = slots-more setup c.args.group c.lines.i c.lines.tags c.seal_one.new.tags (omega (arith, c.lines-test)) c.lines.invariant.slots here c.seal_one.ensures.others;
       lines = IsGroupTo-more setup c.args.group c.lines.i at start mid new c.requires.group (omega (arith, c.lines-test)) refl c.lines.invariant.lines written;
@@ -39,6 +41,19 @@ lines-preserved g c =
 
 pub overflow_mul-group-2 : goal.overflow_mul-group-2
 overflow_mul-group-2 g c = omega (arith, c.requires.group, pages-most (shape_of c.args.geo.now).levels c.args.geo.now.has_levels.1)
+
+pub returns-clause-counts : goal.returns-clause-counts
+returns-clause-counts g c =
+    let four : c.lines.i ≡ 4 = omega (arith, c.lines-test, c.lines.auto.i-end) in
+    SuiteRise-as _ _ 0 4 4 0 _ _ four four refl c.lines.invariant.counts
+
+pub returns-clause-steady : goal.returns-clause-steady
+returns-clause-steady g c =
+    let four : c.lines.i ≡ 4 = omega (arith, c.lines-test, c.lines.auto.i-end) in
+    let start = g.B.Board.device c.args.board.now in
+    let mid = g.B.Board.device c.lines.board in
+    let new = g.B.Board.device c.write_steady.new.board in
+    StaysSteady-then 4 1 start mid new (subst (λ n. StaysSteady n start mid) four c.lines.invariant.steady) (StaysSteady-written mid _ _ new c.write_steady.ensures)
 
 pub returns-clause-lines : goal.returns-clause-lines
 returns-clause-lines g c =

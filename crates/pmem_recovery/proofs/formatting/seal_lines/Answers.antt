@@ -1,7 +1,10 @@
-use Rattle.std.proofs.Common.{ℕ, ◌≡◌, ◌+◌, ◌*◌, List, subst, ◌∙◌, arith}
+use Rattle.std.proofs.Common.{ℕ, ◌≡◌, ◌+◌, ◌*◌, List, refl, subst, ◌∙◌, arith}
+use Rattle.pmem_base.specs.Geo.{shape_of}
+use Rattle.pmem_base.specs.Layout.{data_lines, pages}
 use Rattle.suite.specs.Formulas.{Formulas}
 use Rattle.pmem_recovery.specs.Parts.{setup_of}
-use Rattle.pmem_recovery.specs.Formatting.{HasSealedFrom, HasSealedGroup}
+use Rattle.pmem_recovery.specs.Formatting.{HasSealedFrom, HasSealedGroup, StaysSteady}
+use Rattle.pmem_recovery.proofs.PartLaws.{SuiteRise-as, SuiteRise-then}
 use Rattle.pmem_recovery.proofs.FormatSteps.{told_long, StaysSteady-then, HasSealedFrom-then, HasSealedAll-more}
 use Rattle.pmem_recovery.proofs.formatting.seal_lines.Goals as goal
 
@@ -21,12 +24,24 @@ groups-preserved g c =
     let lines : HasSealedGroup setup n mid new =
     subst (λ k. HasSealedGroup (setup_of c.args.geo.now (formulas k)) n mid new) c.groups.invariant.keys c.seal_group.ensures.lines in
     let next : 4 * n + 4 ≡ 4 * (n + 1) = omega arith in
+    let five : 5 * n + 5 ≡ 5 * (n + 1) = omega arith in
     record {
       keys = c.seal_group.ensures.keys ∙ c.groups.invariant.keys;
-      steady = StaysSteady-then start mid new c.groups.invariant.steady c.seal_group.ensures.steady;
+      counts = SuiteRise-as _ _ 0 _ _ 0 _ _ next next refl (SuiteRise-then (4 * n) (4 * n) 0 4 4 0 _ _ _ c.groups.invariant.counts c.seal_group.ensures.counts);
+      steady = subst (λ k. StaysSteady k start new) five (StaysSteady-then (5 * n) 5 start mid new c.groups.invariant.steady c.seal_group.ensures.steady);
       ledger = subst (λ k. HasSealedFrom setup 0 k first after) next (HasSealedFrom-then setup 0 (4 * n) (4 * n) 4 first before after (omega arith) c.groups.invariant.ledger sealed);
       lines =
           HasSealedAll-more setup n mid new (omega (arith, c.groups-test))
           (told_long mid _ (g.met.B.Board.whole c.groups.board) (c.groups.invariant.steady.size ∙ c.requires.size))
           c.seal_group.ensures.steady.told c.groups.invariant.lines lines;
     }
+
+pub returns-clause-counts : goal.returns-clause-counts
+returns-clause-counts g c =
+    let all : 4 * c.groups.group ≡ data_lines (shape_of c.args.geo.now) = omega arith in
+    SuiteRise-as _ _ 0 _ _ 0 _ _ all all refl c.groups.invariant.counts
+
+pub returns-clause-steady : goal.returns-clause-steady
+returns-clause-steady g c =
+    let all : 5 * c.groups.group ≡ 80 * pages (shape_of c.args.geo.now) = omega arith in
+    subst (λ n. StaysSteady n (g.B.Board.device c.args.board.now) (g.B.Board.device c.groups.board)) all c.groups.invariant.steady

@@ -1,5 +1,5 @@
 use Rattle.std.proofs.Common.{◌≡◌, ◌*◌}
-use Rattle.pmem_recovery.specs.Parts.{setup_of}
+use Rattle.pmem_recovery.specs.Parts.{setup_of, suite_state, SuiteRise}
 use Rattle.pmem_recovery.specs.Formatting.{HasSealedFrom, HasSealedAll, StaysSteady}
 use Rattle.pmem_recovery.proofs.formatting.seal_lines.Given as goal
 
@@ -8,7 +8,8 @@ invariant-groups g l =
     let setup = setup_of l.geo (g.S.Suite.formulas_of (g.S.Suite.keys l.initial.suite)) in
     record {
       keys : g.S.Suite.keys l.suite ≡ g.S.Suite.keys l.initial.suite;
-      steady : StaysSteady (g.B.Board.device l.initial.board) (g.B.Board.device l.board);
+      counts : SuiteRise (4 * l.group) (4 * l.group) 0 (suite_state (g.S.Suite.keys l.initial.suite) (g.S.Suite.pads l.initial.suite) (g.S.Suite.tags l.initial.suite) (g.S.Suite.digests l.initial.suite)) (suite_state (g.S.Suite.keys l.suite) (g.S.Suite.pads l.suite) (g.S.Suite.tags l.suite) (g.S.Suite.digests l.suite));
+      steady : StaysSteady (5 * l.group) (g.B.Board.device l.initial.board) (g.B.Board.device l.board);
       ledger : HasSealedFrom setup 0 (4 * l.group) (g.A.Audit.ledger l.initial.audit) (g.A.Audit.ledger l.audit);
       lines : HasSealedAll setup (4 * l.group) (g.B.Board.device l.board);
     }

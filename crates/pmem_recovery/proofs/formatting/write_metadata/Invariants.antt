@@ -7,7 +7,7 @@ invariant-lines g l =
     let start = g.B.Board.device l.initial.board in
     let now = g.B.Board.device l.board in
     record {
-      steady : StaysSteady start now;
+      steady : StaysSteady l.x start now;
       ledger : HasToldMeta (shape_of l.geo) l.truth l.x (g.A.Audit.ledger l.initial.audit) (g.A.Audit.ledger l.audit);
       lines : HasWrittenMeta (shape_of l.geo) l.truth l.x start now;
     }

@@ -8,8 +8,10 @@ use Rattle.bonsai_tree.proofs.Levels.{level_start-le, meta_lines-counters}
 use Rattle.pmem_recovery.specs.Named.{names, count_named, IsNextAt}
 use Rattle.pmem_recovery.specs.Upward.{AreMadeTo, node_made}
 use Rattle.pmem_recovery.specs.Parts.{setup_of}
-use Rattle.pmem_recovery.proofs.PartLaws.{longer, on_tree_more, KeepsDevice-then, IsUncut-then, SuiteWork-then, SuiteWorkAtMost-of, SuiteWorkAtMost-after, IsShape-geo, told_before}
+use Rattle.pmem_recovery.proofs.PartLaws.{longer, on_tree_more, KeepsDevice-then, IsUncut-then, RisesAtMost-less, RisesAtMost-both, SuiteWork-then, SuiteWorkAtMost-of, SuiteWorkAtMost-after, IsShape-geo, told_before}
 use Rattle.pmem_recovery.proofs.NamedLaws.{count_named-next, count_named-last, count_named-le, count_named-small}
+use Rattle.pmem_recovery.specs.Reads.{children_reads, node_reads}
+use Rattle.pmem_recovery.proofs.ReadLaws.{RisesBy-as, blocks_next, sum_named-last, node_reads_are}
 use Rattle.pmem_recovery.proofs.UpwardSteps.{AreMadeTo-upto}
 use Rattle.pmem_recovery.proofs.NodeSteps.{AreMadeTo-next_node}
 use Rattle.pmem_recovery.proofs.nodes.fix_level.Given.{Over}
@@ -74,6 +76,15 @@ positions-preserved g c =
     record {
       read = KeepsDevice-then _ _ _ inv.read ok.read;
       goes = IsUncut-then _ _ _ inv.goes ok.goes;
+      reads = RisesAtMost-both _ 5 _ _ _ _ (omega (arith, h.more)) inv.reads c.fix_node.ensures.reads;
+      exact_reads = λ lines told regs shadow before.
+          let setup = setup_of c.args.geo.now (g.S.Suite.formulas_of (g.S.Suite.keys c.args.suite.now)) in
+          let here : 1 + children_reads c.positions.made.items c.in-Some.x 4 ≡ node_reads shape c.args.shadow.now c.in-Some.x =
+          node_reads_are setup lines regs c.args.level c.positions.from c.in-Some.x c.positions.made.items c.requires.level
+          (record { from = omega (arith, inv.low, h.next.low); below = h.next.high }) (inv.told lines told regs shadow before)
+          ∙ ap (λ s. node_reads shape s c.in-Some.x) (sym shadow) in
+          blocks_next shape c.args.shadow.now (node_reads shape c.args.shadow.now) (level_start c.args.level) c.positions.from (level_start (suc c.args.level)) c.in-Some.x _ _ _ inv.low h.next
+          (inv.exact_reads lines told regs shadow before) (RisesBy-as _ _ _ _ here ok.exact_reads);
       low = omega (arith, inv.low, h.next.low);
       high = omega (arith, h.next.high);
       counted = longer ok.made ∙ omega (arith, inv.counted, h.more);
@@ -102,6 +113,24 @@ module _ (g : Over) (c : In_default g) where
       ≡ count_named (shape_of c.args.geo.now) c.args.shadow.now (level_start c.args.level) c.positions.from
   all_here =
       all_counted (shape_of c.args.geo.now) c.args.shadow.now c.args.level c.positions.from c.first_of_level-end.result c.positions.invariant.low c.positions.invariant.high c.first_of_level-end.ensures.value c.in_default.ensures
+
+pub returns-in_err-fix_node-clause-reads : goal.returns-in_err-fix_node-clause-reads
+returns-in_err-fix_node-clause-reads g c =
+    let h = next_here g (goal.at.returns-in_err-fix_node-clause-reads g c).In-Some in
+    RisesAtMost-both _ 5 _ _ _ _ (omega (arith, h.more, h.within)) c.positions.invariant.reads c.fix_node.ensures.reads
+
+pub returns-clause-reads : goal.returns-clause-reads
+returns-clause-reads g c =
+    let all = all_here g (goal.at.returns-clause-reads g c).In_default in
+    RisesAtMost-less _ _ _ _ (omega (arith, all)) c.positions.invariant.reads
+
+pub returns-clause-exact_reads : goal.returns-clause-exact_reads
+returns-clause-exact_reads g c = λ lines told regs shadow before.
+    let shape = shape_of c.args.geo.now in
+    let inv = c.positions.invariant in
+    let last = sum_named-last shape c.args.shadow.now (node_reads shape c.args.shadow.now) (level_start c.args.level) c.positions.from (level_start (suc c.args.level)) inv.low inv.high
+    (λ y low high. c.in_default.ensures y low (omega (arith, high, end_is c.args.level c.first_of_level-end.result c.first_of_level-end.ensures.value))) in
+    RisesBy-as _ _ _ _ (sym last) (inv.exact_reads lines told regs shadow before)
 
 pub returns-clause-digests : goal.returns-clause-digests
 returns-clause-digests g c =

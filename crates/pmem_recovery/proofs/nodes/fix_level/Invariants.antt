@@ -5,6 +5,9 @@ use Rattle.pmem_base.specs.Layout.{meta_lines, level_start}
 use Rattle.shadow_tables.specs.Entries.{shadow_of}
 use Rattle.pmem_recovery.specs.Named.{count_named}
 use Rattle.pmem_recovery.specs.Upward.{AreMadeTo}
+use Rattle.board.specs.Counts.{RisesBy}
+use Rattle.commit_regs.specs.Groups.{RisesAtMost}
+use Rattle.pmem_recovery.specs.Reads.{sum_named, node_reads}
 use Rattle.pmem_recovery.specs.Parts.{setup_of, Told, KeepsDevice, IsUncut, suite_state, SuiteWork}
 use Rattle.pmem_recovery.proofs.nodes.fix_level.Given as goal
 
@@ -17,6 +20,10 @@ invariant-positions g l =
     record {
       read : KeepsDevice start now;
       goes : IsUncut start now;
+      reads : RisesAtMost (5 * count_named shape l.shadow (level_start l.level) l.from) start.reads now.reads;
+      exact_reads : Told start.lines (λ lines. (regs : Regs) → l.shadow ≡ shadow_of shape lines
+          → AreMadeTo setup lines regs l.level (level_start l.level) l.initial.made.items
+          → RisesBy (sum_named shape l.shadow (node_reads shape l.shadow) (level_start l.level) l.from) start.reads now.reads);
       low : level_start l.level ≤ l.from;
       high : l.from ≤ level_start (suc l.level);
       counted : length l.made.items ≡ length l.initial.made.items + count_named shape l.shadow (level_start l.level) l.from;

@@ -5,6 +5,9 @@ use Rattle.pmem_base.specs.Layout.{meta_lines, level_start}
 use Rattle.shadow_tables.specs.Entries.{shadow_of}
 use Rattle.pmem_recovery.specs.Named.{count_named}
 use Rattle.pmem_recovery.specs.Upward.{AreMadeTo}
+use Rattle.board.specs.Counts.{RisesBy}
+use Rattle.commit_regs.specs.Groups.{RisesAtMost}
+use Rattle.pmem_recovery.specs.Reads.{sum_named, node_reads}
 use Rattle.pmem_recovery.specs.Parts.{setup_of, Told, KeepsDevice, IsUncut, suite_state, SuiteWork}
 use Rattle.pmem_recovery.proofs.nodes.fix_nodes.Given as goal
 
@@ -18,6 +21,10 @@ invariant-upward g l =
       few : l.above ≤ shape.levels;
       read : KeepsDevice start now;
       goes : IsUncut start now;
+      reads : RisesAtMost (5 * count_named shape l.shadow (level_start (shape.levels - l.above)) (level_start shape.levels)) start.reads now.reads;
+      exact_reads : Told start.lines (λ lines. (regs : Regs) → l.shadow ≡ shadow_of shape lines
+          → AreMadeTo setup lines regs shape.levels (meta_lines shape) l.initial.made.items
+          → RisesBy (sum_named shape l.shadow (node_reads shape l.shadow) (level_start (shape.levels - l.above)) (level_start shape.levels)) start.reads now.reads);
       counted : length l.made.items ≡ length l.initial.made.items + count_named shape l.shadow (level_start (shape.levels - l.above)) (level_start shape.levels);
       done : l.digests ≡ 4 * count_named shape l.shadow (level_start (shape.levels - l.above)) (level_start shape.levels);
       worked : SuiteWork 0 l.digests

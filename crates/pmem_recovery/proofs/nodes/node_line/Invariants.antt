@@ -2,6 +2,9 @@ use Rattle.std.proofs.Common.{ℕ, ◌≡◌, ◌<◌, [], length, get_or}
 use Rattle.pmem_base.specs.Geo.{shape_of}
 use Rattle.bonsai_tree.specs.Nodes.{child_digest_over}
 use Rattle.pmem_recovery.specs.Upward.{made_or_stored}
+use Rattle.board.specs.Counts.{RisesBy}
+use Rattle.commit_regs.specs.Groups.{RisesAtMost}
+use Rattle.pmem_recovery.specs.Reads.{children_reads}
 use Rattle.pmem_recovery.specs.Parts.{Told, KeepsDevice, IsUncut, suite_state, SuiteWork}
 use Rattle.pmem_recovery.proofs.nodes.node_line.Given as goal
 
@@ -12,6 +15,8 @@ invariant-children g l =
     record {
       read : KeepsDevice start now;
       goes : IsUncut start now;
+      reads : RisesAtMost l.i start.reads now.reads;
+      exact_reads : RisesBy (children_reads l.made l.x l.i) start.reads now.reads;
       worked : SuiteWork 0 l.i
           (suite_state (g.S.Suite.keys l.initial.suite) (g.S.Suite.pads l.initial.suite) (g.S.Suite.tags l.initial.suite) (g.S.Suite.digests l.initial.suite))
           (suite_state (g.S.Suite.keys l.suite) (g.S.Suite.pads l.suite) (g.S.Suite.tags l.suite) (g.S.Suite.digests l.suite));

@@ -1,10 +1,16 @@
-use Rattle.std.proofs.Common.{length, subst, ◌∙◌, arith}
+use Rattle.std.proofs.Common.{◌≡◌, List, Some, length, sym, subst, ◌∙◌, arith}
 use Rattle.std.proofs.lemmas.Result.{err_from_is_err_and}
 use Rattle.pmem_base.specs.declared.registers.Regs.{Regs}
 use Rattle.pmem_base.specs.Geo.{shape_of}
-use Rattle.pmem_base.specs.Layout.{shadow_lines}
+use Rattle.pmem_base.specs.Layout.{shadow_lines, device_lines}
 use Rattle.pmem_recovery.specs.declared.faults.RecFault.TheVariants.{Cut}
-use Rattle.pmem_recovery.specs.Parts.{setup_of}
+use Rattle.pmem_base.specs.declared.lines.Line.{Line}
+use Rattle.pmem_recovery.specs.Parts.{setup_of, suite_state, IsAllWork, StoppedWork}
+use Rattle.board.specs.Counts.{RisesBy}
+use Rattle.commit_regs.specs.Groups.{RisesAtMost}
+use Rattle.shadow_tables.specs.Entries.{shadow_of}
+use Rattle.pmem_recovery.specs.Reads.{all_reads, named_reads, IsReadUntil}
+use Rattle.pmem_recovery.proofs.WorkLaws.{stopped_cut}
 use Rattle.pmem_recovery.specs.Writing.{HasWrittenTo, HasWrittenSome, HasZeroedTo, HasZeroedSome}
 use Rattle.pmem_recovery.proofs.PartLaws.{IfErr-exit}
 use Rattle.pmem_recovery.proofs.MendingLaws.{IsMadeFor, made_writes-none, made_writes-some, made_writes-zeroed, made_writes-recovered, stopped-some, stopped-zeroed}
@@ -24,6 +30,21 @@ module _ (g : Over) (c : In_ok-work g) where
       subst (λ (r : Regs). IsMadeFor setup r (g.B.Board.device c.args.board.now) c.make_lines.new.room.shadow.items c.make_lines.new.room.made.items)
       (c.same-regs.ensures ∙ c.regs.ensures) (record { told = ok.told; few = ok.few_made; long = ok.shadow })
 
+  its_work : (lines : List Line) → (g.B.Board.device c.args.board.now).lines ≡ Some lines → length lines ≡ device_lines setup.shape → IsAllWork setup.shape lines (g.B.Board.device c.args.board.now).regs c.in_ok-work.work.trials c.in_ok-work.work.digests
+  its_work lines told whole =
+      subst (λ (r : Regs). IsAllWork setup.shape lines r c.in_ok-work.work.trials c.in_ok-work.work.digests)
+      (c.same-regs.ensures ∙ c.regs.ensures) (c.in_ok-work.ensures.all_work lines told whole)
+
+  its_reads : (lines : List Line) → (g.B.Board.device c.args.board.now).lines ≡ Some lines → length lines ≡ device_lines setup.shape → RisesBy (all_reads setup.shape (shadow_of setup.shape lines) (g.B.Board.device c.args.board.now).regs) (g.B.Board.device c.args.board.now).reads (g.B.Board.device c.make_lines.new.board).reads
+  its_reads lines told whole =
+      subst (λ (r : Regs). RisesBy (all_reads setup.shape (shadow_of setup.shape lines) r) (g.B.Board.device c.args.board.now).reads (g.B.Board.device c.make_lines.new.board).reads)
+      (c.same-regs.ensures ∙ c.regs.ensures) (c.in_ok-work.ensures.exact_reads lines told whole)
+
+  cut_work : (lines : List Line) → (g.B.Board.device c.args.board.now).lines ≡ Some lines → length lines ≡ device_lines setup.shape → StoppedWork setup.shape lines (g.B.Board.device c.args.board.now).regs Cut (suite_state (g.S.Suite.keys c.args.suite.now) (g.S.Suite.pads c.args.suite.now) (g.S.Suite.tags c.args.suite.now) (g.S.Suite.digests c.args.suite.now)) (suite_state (g.S.Suite.keys c.make_lines.new.suite) (g.S.Suite.pads c.make_lines.new.suite) (g.S.Suite.tags c.make_lines.new.suite) (g.S.Suite.digests c.make_lines.new.suite))
+  cut_work lines told whole =
+      let all = its_work lines told whole in
+      stopped_cut setup.shape lines _ _ _ _ _ all.its_trials (omega (arith, all.its_digests)) c.in_ok-work.ensures.worked
+
 -- and written, some of them or all
 module _ (g : Over) (c : In_err-write_made g) where
   written_some : HasWrittenSome (shape_of c.args.geo.now) c.make_lines.new.room.made.items (g.B.Board.device c.make_lines.new.board) (g.B.Board.device c.write_made.new.board)
@@ -41,12 +62,12 @@ module _ (g : Over) (c : In_err-clear_shadow g) where
       subst (λ items. HasZeroedSome (shape_of c.args.geo.now) items (g.B.Board.device c.write_made.new.board) (g.B.Board.device c.clear_shadow.new.board)) c.deref-2.ensures.value c.in_err-clear_shadow.ensures.some
 
 pub returns-in_err-work-clause-written : goal.returns-in_err-work-clause-written
-returns-in_err-work-clause-written g c = made_writes-none _ _ _ _ c.in_err-work.ensures.read
+returns-in_err-work-clause-written g c = made_writes-none _ _ _ _ c.in_err-work.ensures.read c.make_lines.ensures.reads
 
 pub returns-in_err-write_made-clause-written : goal.returns-in_err-write_made-clause-written
 returns-in_err-write_made-clause-written g c =
     let place = goal.at.returns-in_err-write_made-clause-written g c in
-    made_writes-some _ _ _ _ _ _ _ c.in_ok-work.ensures.read (known g place.In_ok-work) (written_some g place.In_err-write_made)
+    made_writes-some _ _ _ _ _ _ _ c.in_ok-work.ensures.read c.make_lines.ensures.reads (known g place.In_ok-work) (written_some g place.In_err-write_made)
 
 pub returns-in_err-write_made-clause-short : goal.returns-in_err-write_made-clause-short
 returns-in_err-write_made-clause-short g c =
@@ -54,11 +75,33 @@ returns-in_err-write_made-clause-short g c =
     IfErr-exit c.from_residual-in_err-write_made.result Cut _ (err_from_is_err_and c.from_residual-in_err-write_made.result c.from_residual-in_err-write_made.ensures.1)
     (stopped-some _ _ _ _ _ _ _ c.in_ok-work.ensures.read (known g place.In_ok-work) (written_some g place.In_err-write_made))
 
+pub returns-in_err-write_made-clause-stopped_work : goal.returns-in_err-write_made-clause-stopped_work
+returns-in_err-write_made-clause-stopped_work g c =
+    IfErr-exit c.from_residual-in_err-write_made.result Cut _ (err_from_is_err_and c.from_residual-in_err-write_made.result c.from_residual-in_err-write_made.ensures.1)
+    (cut_work g (goal.at.returns-in_err-write_made-clause-stopped_work g c).In_ok-work)
+
+pub returns-in_err-clear_shadow-clause-stopped_work : goal.returns-in_err-clear_shadow-clause-stopped_work
+returns-in_err-clear_shadow-clause-stopped_work g c =
+    IfErr-exit c.from_residual-in_err-clear_shadow.result Cut _ (err_from_is_err_and c.from_residual-in_err-clear_shadow.result c.from_residual-in_err-clear_shadow.ensures.1)
+    (cut_work g (goal.at.returns-in_err-clear_shadow-clause-stopped_work g c).In_ok-work)
+
+pub returns-clause-all_work : goal.returns-clause-all_work
+returns-clause-all_work g c = its_work g (goal.at.returns-clause-all_work g c).In_ok-work
+
+pub returns-in_err-work-clause-stopped_work : goal.returns-in_err-work-clause-stopped_work
+returns-in_err-work-clause-stopped_work g c =
+    let fault = c.in_err-work.field-0.0 in
+    let shape = shape_of c.args.geo.now in
+    IfErr-exit c.from_residual.result fault _ (err_from_is_err_and c.from_residual.result c.from_residual.ensures.1)
+    (λ lines told whole.
+    subst (λ (r : Regs). StoppedWork shape lines r fault (suite_state (g.S.Suite.keys c.args.suite.now) (g.S.Suite.pads c.args.suite.now) (g.S.Suite.tags c.args.suite.now) (g.S.Suite.digests c.args.suite.now)) (suite_state (g.S.Suite.keys c.make_lines.new.suite) (g.S.Suite.pads c.make_lines.new.suite) (g.S.Suite.tags c.make_lines.new.suite) (g.S.Suite.digests c.make_lines.new.suite)))
+    (c.same-regs.ensures ∙ c.regs.ensures) (c.in_err-work.ensures.stopped_work lines told whole))
+
 pub returns-in_err-clear_shadow-clause-written : goal.returns-in_err-clear_shadow-clause-written
 returns-in_err-clear_shadow-clause-written g c =
     let place = goal.at.returns-in_err-clear_shadow-clause-written g c in
     let some = zeroed_some g place.In_err-clear_shadow in
-    made_writes-zeroed _ _ _ _ (g.B.Board.device c.write_made.new.board) _ _ _ c.in_ok-work.ensures.read (known g place.In_ok-work)
+    made_writes-zeroed _ _ _ _ (g.B.Board.device c.write_made.new.board) _ _ _ c.in_ok-work.ensures.read c.make_lines.ensures.reads (known g place.In_ok-work)
     (written_all g place.In_ok-write_made) some.place (omega (arith, some.within)) some.zeroed
 
 pub returns-in_err-clear_shadow-clause-short : goal.returns-in_err-clear_shadow-clause-short
@@ -76,8 +119,47 @@ zeroed_all g c =
 pub returns-clause-written : goal.returns-clause-written
 returns-clause-written g c =
     let place = goal.at.returns-clause-written g c in
-    made_writes-zeroed _ _ _ _ (g.B.Board.device c.write_made.new.board) _ _ _ c.in_ok-work.ensures.read (known g place.In_ok-work)
+    made_writes-zeroed _ _ _ _ (g.B.Board.device c.write_made.new.board) _ _ _ c.in_ok-work.ensures.read c.make_lines.ensures.reads (known g place.In_ok-work)
     (written_all g place.In_ok-write_made) (shadow_lines (shape_of c.args.geo.now)) (omega arith) (zeroed_all g place.In_ok-clear_shadow)
+
+-- how many lines are read: none while lines are written
+pub returns-in_err-work-clause-stopped_reads : goal.returns-in_err-work-clause-stopped_reads
+returns-in_err-work-clause-stopped_reads g c =
+    let fault = c.in_err-work.field-0.0 in
+    let shape = shape_of c.args.geo.now in
+    IfErr-exit c.from_residual.result fault _ (err_from_is_err_and c.from_residual.result c.from_residual.ensures.1)
+    (λ lines told whole.
+    subst (λ (r : Regs). IsReadUntil shape (shadow_of shape lines) r fault (g.B.Board.device c.args.board.now).reads (g.B.Board.device c.make_lines.new.board).reads)
+    (c.same-regs.ensures ∙ c.regs.ensures) (c.in_err-work.ensures.stopped_reads lines told whole))
+
+pub returns-in_err-write_made-clause-few_reads : goal.returns-in_err-write_made-clause-few_reads
+returns-in_err-write_made-clause-few_reads g c = λ lines told whole.
+    let some = written_some g (goal.at.returns-in_err-write_made-clause-few_reads g c).In_err-write_made in
+    subst (RisesAtMost (named_reads (shape_of c.args.geo.now) (shadow_of (shape_of c.args.geo.now) lines)) (g.B.Board.device c.args.board.now).reads) (sym some.written.steps.reads) (c.make_lines.ensures.few_reads lines told whole)
+
+pub returns-in_err-write_made-clause-stopped_reads : goal.returns-in_err-write_made-clause-stopped_reads
+returns-in_err-write_made-clause-stopped_reads g c =
+    IfErr-exit c.from_residual-in_err-write_made.result Cut _ (err_from_is_err_and c.from_residual-in_err-write_made.result c.from_residual-in_err-write_made.ensures.1) (λ lines told whole. tt)
+
+pub returns-in_err-clear_shadow-clause-few_reads : goal.returns-in_err-clear_shadow-clause-few_reads
+returns-in_err-clear_shadow-clause-few_reads g c = λ lines told whole.
+    let place = goal.at.returns-in_err-clear_shadow-clause-few_reads g c in
+    let some = zeroed_some g place.In_err-clear_shadow in
+    subst (RisesAtMost (named_reads (shape_of c.args.geo.now) (shadow_of (shape_of c.args.geo.now) lines)) (g.B.Board.device c.args.board.now).reads) (sym (some.zeroed.steps.reads ∙ (written_all g place.In_ok-write_made).steps.reads)) (c.make_lines.ensures.few_reads lines told whole)
+
+pub returns-in_err-clear_shadow-clause-stopped_reads : goal.returns-in_err-clear_shadow-clause-stopped_reads
+returns-in_err-clear_shadow-clause-stopped_reads g c =
+    IfErr-exit c.from_residual-in_err-clear_shadow.result Cut _ (err_from_is_err_and c.from_residual-in_err-clear_shadow.result c.from_residual-in_err-clear_shadow.ensures.1) (λ lines told whole. tt)
+
+pub returns-clause-few_reads : goal.returns-clause-few_reads
+returns-clause-few_reads g c = λ lines told whole.
+    let place = goal.at.returns-clause-few_reads g c in
+    subst (RisesAtMost (named_reads (shape_of c.args.geo.now) (shadow_of (shape_of c.args.geo.now) lines)) (g.B.Board.device c.args.board.now).reads) (sym ((zeroed_all g place.In_ok-clear_shadow).steps.reads ∙ (written_all g place.In_ok-write_made).steps.reads)) (c.make_lines.ensures.few_reads lines told whole)
+
+pub returns-clause-exact_reads : goal.returns-clause-exact_reads
+returns-clause-exact_reads g c = λ lines told whole.
+    let place = goal.at.returns-clause-exact_reads g c in
+    subst (RisesBy (all_reads (shape_of c.args.geo.now) (shadow_of (shape_of c.args.geo.now) lines) (g.B.Board.device c.args.board.now).regs) (g.B.Board.device c.args.board.now).reads) (sym ((zeroed_all g place.In_ok-clear_shadow).steps.reads ∙ (written_all g place.In_ok-write_made).steps.reads)) (its_reads g place.In_ok-work lines told whole)
 
 pub returns-clause-recovered : goal.returns-clause-recovered
 returns-clause-recovered g c =

@@ -2,6 +2,8 @@ use Rattle.std.proofs.Common.{ℕ, ◌≡◌, ◌<◌, length, vec_capacity}
 use Rattle.pmem_base.specs.Geo.{shape_of}
 use Rattle.pmem_base.specs.Layout.{shadow_line}
 use Rattle.pmem_base.specs.Lines.{line_at}
+use Rattle.board.specs.Counts.{RisesBy}
+use Rattle.commit_regs.specs.Groups.{RisesAtMost}
 use Rattle.pmem_recovery.specs.Parts.{Told, KeepsDevice, IsUncut}
 use Rattle.pmem_recovery.proofs.recovery.read_shadow.Given as goal
 
@@ -12,6 +14,8 @@ invariant-lines g l =
     record {
       read : KeepsDevice start now;
       goes : IsUncut start now;
+      reads : RisesAtMost l.n start.reads now.reads;
+      exact_reads : RisesBy l.n start.reads now.reads;
       long : length l.shadow.items ≡ l.n;
       capacity : vec_capacity l.shadow ≡ vec_capacity l.initial.shadow;
       told : Told start.lines (λ lines. (k : ℕ) → k < l.n → line_at l.shadow.items k ≡ line_at lines (shadow_line (shape_of l.geo) k));

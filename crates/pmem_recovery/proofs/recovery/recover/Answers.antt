@@ -52,16 +52,17 @@ module _ (g : Over) (c : After-mend g) where
         finished = c.in_ok-finish.ensures.ok;
         idle = λ none. ap (λ board. g.B.Board.device board) (c.in_ok-finish.ensures.empty none).1;
         written = c.mend.ensures.written;
+        few_reads = c.mend.ensures.few_reads;
       }
 
 pub returns-in_err-work : goal.returns-in_err-work
 returns-in_err-work g c =
     at_exit _ _ _ _ _ _ c.from_residual-in_err-work.result c.in_err-work.field-0.0 (err_from_is_err_and c.from_residual-in_err-work.result c.from_residual-in_err-work.ensures.1)
-    (recovered_fault _ (g.A.Audit.ledger c.args.audit.now) _ _ _ (run g (goal.at.returns-in_err-work g c).After-mend) _ _ c.in_err-work.field-0.0 c.in_err-work.ensures.stopped c.in_err-work.ensures.short c.in_err-work.ensures.at_most)
+    (recovered_fault _ (g.A.Audit.ledger c.args.audit.now) _ _ _ (run g (goal.at.returns-in_err-work g c).After-mend) _ _ c.in_err-work.field-0.0 c.in_err-work.ensures.stopped_reads c.in_err-work.ensures.stopped c.in_err-work.ensures.short c.in_err-work.ensures.stopped_work c.in_err-work.ensures.at_most)
 
 pub returns : goal.returns
 returns g c =
     let place = (goal.at.returns g c).After-mend in
     let ok = c.in_ok-work.ensures in
     subst (λ (e : EngineState). HasRecovered (setup g place) (g.A.Audit.ledger c.args.audit.now) (g.B.Board.device c.args.board.now) (g.B.Board.device c.mend.new.board) (suite_state (g.S.Suite.keys c.args.suite.now) (g.S.Suite.pads c.args.suite.now) (g.S.Suite.tags c.args.suite.now) (g.S.Suite.digests c.args.suite.now)) (suite_state (g.S.Suite.keys c.mend.new.suite) (g.S.Suite.pads c.mend.new.suite) (g.S.Suite.tags c.mend.new.suite) (g.S.Suite.digests c.mend.new.suite)) (Ok (e, c.in_ok-work.work))) (sym c.new-4.ensures)
-    (recovered_ok _ (g.A.Audit.ledger c.args.audit.now) _ _ _ (run g place) _ _ c.in_ok-work.work ok.goes ok.recovered ok.worked ok.few_trials ok.few_digests)
+    (recovered_ok _ (g.A.Audit.ledger c.args.audit.now) _ _ _ (run g place) _ _ c.in_ok-work.work ok.exact_reads ok.goes ok.recovered ok.all_work ok.worked ok.few_trials ok.few_digests)

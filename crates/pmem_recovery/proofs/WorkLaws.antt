@@ -1,0 +1,218 @@
+-- Laws of how much a recovery tries: line by line, page by page, and where it stops.
+use Rattle.std.proofs.Common.{ℕ, zero, suc, ◌≡◌, ◌<◌, ◌≤◌, ◌+◌, ◌-◌, ◌*◌, ◌/◌, Bool, true, false, cond, List, length, Option, Some, None, Result, Ok, Err, refl, ap, sym, subst, ◌∙◌, inl, inr, add-one, arith}
+use Rattle.std.specs.Prelude.{slice_index, is_some}
+use Rattle.std.specs.Result.{IfErr}
+use Rattle.std.proofs.lemmas.Bool.{false≢true}
+use Rattle.pmem_base.specs.declared.lines.Line.{Line}
+use Rattle.pmem_base.specs.declared.registers.Progress.{Progress}
+use Rattle.pmem_base.specs.declared.registers.Regs.{Regs}
+use Rattle.pmem_base.specs.Shape.{Shape}
+use Rattle.pmem_base.specs.Layout as layout
+use Rattle.pmem_base.specs.Layout.{page_of, index_in_page}
+use Rattle.pmem_base.specs.Registers.{without_group}
+use Rattle.bonsai_tree.specs.Positions.{counter_position}
+use Rattle.page_reencrypt.specs.Registers.{register_held}
+use Rattle.split_counters.specs.declared.Block.{Block}
+use Rattle.stop_loss.specs.Windows.{window_minors}
+use Rattle.suite.specs.Formulas.{Formulas}
+use Rattle.suite.specs.Setup.{Setup}
+use Rattle.pmem_engine.specs.Invariants.{is_named}
+use Rattle.pmem_recovery.specs.declared.faults.RecFault.{RecFault}
+use Rattle.pmem_recovery.specs.declared.faults.RecFault.TheVariants.{Memory, Cut, NoCounter, Root, Twin}
+use Rattle.pmem_recovery.specs.Trials.{stored_block, candidates, candidates_of, trials_of, trials_below}
+use Rattle.pmem_recovery.specs.Parts.{SuiteState, SuiteWork, IsUndecided, IsLineRefusal, IsRootFault, IsCompared, line_tries, IsTriedUntil, TriesUntil, root_digests, all_digests, IsWorkBefore, StoppedWork, IsAllWork}
+use Rattle.pmem_recovery.proofs.PartLaws.{SuiteWork-none, SuiteWork-then, SuiteWork-digests}
+
+-- ---- one line
+
+-- the candidates of a line that no register holds are the minors of its window
+pub candidates-free : (g : Shape) (lines : List Line) (regs : Regs) (at : ℕ) (block : Block) (tried : List ℕ) → register_held regs.progress.items at ≡ None → block ≡ stored_block g lines (page_of at) → tried ≡ window_minors (slice_index block.minors (index_in_page at)) regs.loss → length tried ≡ length (candidates_of g lines regs at)
+candidates-free g lines regs at block tried free b w =
+    ap length (w ∙ ap (λ (z : Block). window_minors (slice_index z.minors (index_in_page at)) regs.loss) b)
+    ∙ sym (ap (λ (o : Option Progress). length (candidates regs.loss o (slice_index (stored_block g lines (page_of at)).minors (index_in_page at)))) free)
+
+-- and there is none for a line that one holds
+pub candidates-held : (g : Shape) (lines : List Line) (regs : Regs) (at : ℕ) → is_some (register_held regs.progress.items at) ≡ true → length (candidates_of g lines regs at) ≡ 0
+candidates-held g lines regs at held = go (register_held regs.progress.items at) held
+  where
+    go : (o : Option Progress) → is_some o ≡ true → length (candidates regs.loss o (slice_index (stored_block g lines (page_of at)).minors (index_in_page at))) ≡ 0
+    go (Some register) h = refl
+    go None h = absurd (false≢true h)
+
+pub trials_of-named : (g : Shape) (lines : List Line) (regs : Regs) (a : ℕ) → is_named g lines (counter_position g (page_of a)) ≡ true → trials_of g lines regs a ≡ length (candidates_of g lines regs a)
+unfolding trials_of
+trials_of-named g lines regs a named = ap (λ b. cond b (length (candidates_of g lines regs a)) 0) named
+
+trials_of-unnamed : (g : Shape) (lines : List Line) (regs : Regs) (a : ℕ) → is_named g lines (counter_position g (page_of a)) ≡ false → trials_of g lines regs a ≡ 0
+unfolding trials_of
+trials_of-unnamed g lines regs a none = ap (λ b. cond b (length (candidates_of g lines regs a)) 0) none
+
+-- ---- lines upwards
+
+pub trials_below-none : (g : Shape) (lines : List Line) (regs : Regs) → trials_below g lines regs 0 ≡ 0
+unfolding trials_below
+trials_below-none g lines regs = refl
+
+-- at the first counter block, from so many pages
+pub trials_below-start : (g : Shape) (lines : List Line) (regs : Regs) (count : ℕ) → count ≡ layout.pages g → 0 ≡ trials_below g lines regs (64 * ((count - 1) / 3 - layout.level_start g.levels))
+trials_below-start g lines regs count e =
+    let start : (count - 1) / 3 ≡ layout.level_start g.levels = ap (λ n. (n - 1) / 3) e in
+    let none : 0 ≡ 64 * ((count - 1) / 3 - layout.level_start g.levels) = omega (arith, start) in
+    sym (trials_below-none g lines regs) ∙ ap (trials_below g lines regs) none
+
+pub trials_below-next : (g : Shape) (lines : List Line) (regs : Regs) (a : ℕ) → trials_below g lines regs (a + 1) ≡ trials_below g lines regs a + trials_of g lines regs a
+unfolding trials_below
+trials_below-next g lines regs a = ap (trials_below g lines regs) (add-one a)
+
+trials_below-gap : (g : Shape) (lines : List Line) (regs : Regs) (a n : ℕ) → ((b : ℕ) → a ≤ b → b < a + n → trials_of g lines regs b ≡ 0) → trials_below g lines regs (a + n) ≡ trials_below g lines regs a
+trials_below-gap g lines regs a zero none =
+    let same : a + 0 ≡ a = omega arith in
+    ap (trials_below g lines regs) same
+trials_below-gap g lines regs a (suc n) none =
+    let same : a + suc n ≡ a + n + 1 = omega arith in
+    let before = trials_below-gap g lines regs a n (λ b low high. none b low (omega (arith, high))) in
+    let here = none (a + n) (omega arith) (omega arith) in
+    let next = trials_below-next g lines regs (a + n) in
+    ap (trials_below g lines regs) same ∙ omega (arith, next, here, before)
+
+-- pages that aren't named
+pub trials_below-pages : (g : Shape) (lines : List Line) (regs : Regs) (page next : ℕ) → page ≤ next → ((p : ℕ) → page ≤ p → p < next → is_named g lines (counter_position g p) ≡ false) → trials_below g lines regs (64 * next) ≡ trials_below g lines regs (64 * page)
+trials_below-pages g lines regs page next low none =
+    let same : 64 * next ≡ 64 * page + (64 * next - 64 * page) = omega (arith, low) in
+    ap (trials_below g lines regs) same
+    ∙ trials_below-gap g lines regs (64 * page) (64 * next - 64 * page)
+    (λ b from to. trials_of-unnamed g lines regs b (none (page_of b) (omega (arith, from)) (omega (arith, to, same))))
+
+-- the armed group plays no part
+pub trials_below-without : (g : Shape) (lines : List Line) (regs : Regs) (a : ℕ) → trials_below g lines (without_group regs) a ≡ trials_below g lines regs a
+unfolding trials_below trials_of
+trials_below-without g lines regs zero = refl
+trials_below-without g lines regs (suc a) = ap (λ n. n + trials_of g lines regs a) (trials_below-without g lines regs a)
+
+-- ---- where the trials stop
+
+pub tries_undecided : (f : Formulas) (at major : ℕ) (cipher : Line) (tag matching : List ℕ) (fault : RecFault) (n m : ℕ) (old new : SuiteState) → IsUndecided f at major cipher tag matching fault → n ≡ m → SuiteWork n 0 old new → SuiteWork (line_tries fault m) 0 old new
+tries_undecided f at major cipher tag matching Memory n m old new u e w = absurd u
+tries_undecided f at major cipher tag matching Cut n m old new u e w = absurd u
+tries_undecided f at major cipher tag matching (NoCounter a) n m old new u e w = subst (λ k. SuiteWork k 0 old new) e w
+tries_undecided f at major cipher tag matching (Root kept found) n m old new u e w = absurd u
+tries_undecided f at major cipher tag matching (Twin a x low high c t) n m old new u e w = subst (λ k. SuiteWork k 0 old new) e w
+
+pub tries_line : (setup : Setup) (lines : List Line) (regs : Regs) (at : ℕ) (fault : RecFault) (old new : SuiteState) → is_named setup.shape lines (counter_position setup.shape (page_of at)) ≡ true → IsLineRefusal setup lines regs at fault → SuiteWork (line_tries fault (length (candidates_of setup.shape lines regs at))) 0 old new → TriesUntil setup.shape lines regs at (at + 1) fault old new
+tries_line setup lines regs at Memory old new named r w = absurd r
+tries_line setup lines regs at Cut old new named r w = record { count = 0; so_many = (at, omega arith, omega arith, omega arith); worked = w }
+tries_line setup lines regs at (NoCounter a) old new named r w =
+    let here = trials_of-named setup.shape lines regs at named in
+    let next = trials_below-next setup.shape lines regs at in
+    record {
+      count = length (candidates_of setup.shape lines regs at);
+      so_many = subst (λ b. length (candidates_of setup.shape lines regs at) + trials_below setup.shape lines regs at ≡ trials_below setup.shape lines regs (b + 1)) (sym r.0) (omega (arith, here, next));
+      worked = w;
+    }
+tries_line setup lines regs at (Root kept found) old new named r w = absurd r
+tries_line setup lines regs at (Twin a major low high cipher tag) old new named r w =
+    let here = trials_of-named setup.shape lines regs at named in
+    let next = trials_below-next setup.shape lines regs at in
+    record {
+      count = length (candidates_of setup.shape lines regs at);
+      so_many = subst (λ b. length (candidates_of setup.shape lines regs at) + trials_below setup.shape lines regs at ≡ trials_below setup.shape lines regs (b + 1)) (sym r.0) (omega (arith, here, next));
+      worked = w;
+    }
+
+-- after trials that found their minors
+tried_after : (g : Shape) (lines : List Line) (regs : Regs) (fault : RecFault) (n m from next to end : ℕ) → n + trials_below g lines regs from ≡ trials_below g lines regs next → from ≤ next → to ≤ end → IsTriedUntil g lines regs next to fault m → IsTriedUntil g lines regs from end fault (n + m)
+tried_after g lines regs Memory n m from next to end e low high t = absurd t
+tried_after g lines regs Cut n m from next to end e low high (at, after, before, count) =
+    (at, omega (arith, low, after), omega (arith, high, before), omega (arith, e, count))
+tried_after g lines regs (NoCounter at) n m from next to end e low high t = omega (arith, e, t)
+tried_after g lines regs (Root kept found) n m from next to end e low high t = absurd t
+tried_after g lines regs (Twin at major less more cipher tag) n m from next to end e low high t = omega (arith, e, t)
+
+pub tries_after : (g : Shape) (lines : List Line) (regs : Regs) (fault : RecFault) (n from next to end : ℕ) (old mid new : SuiteState) → n + trials_below g lines regs from ≡ trials_below g lines regs next → from ≤ next → to ≤ end → SuiteWork n 0 old mid → TriesUntil g lines regs next to fault mid new → TriesUntil g lines regs from end fault old new
+tries_after g lines regs fault n from next to end old mid new e low high a t =
+    record {
+      count = n + t.count;
+      so_many = tried_after g lines regs fault n t.count from next to end e low high t.so_many;
+      worked = SuiteWork-then n 0 t.count 0 old mid new a t.worked;
+    }
+
+-- a cut before any trial
+pub tries_none : (g : Shape) (lines : List Line) (regs : Regs) (from end : ℕ) (suite : SuiteState) → from ≤ end → TriesUntil g lines regs from end Cut suite suite
+tries_none g lines regs from end suite low = record { count = 0; so_many = (from, omega arith, low, omega arith); worked = SuiteWork-none suite }
+
+-- ---- the whole
+
+-- a stop among the trials
+pub stopped_trials : (g : Shape) (lines : List Line) (regs : Regs) (fault : RecFault) (old new : SuiteState) → TriesUntil g lines regs 0 (layout.data_lines g) fault old new → StoppedWork g lines regs fault old new
+stopped_trials g lines regs fault old new t =
+    record { trials = t.count; digests = 0; so_far = go fault t.so_many; worked = t.worked }
+  where
+    none : trials_below g lines regs 0 ≡ 0
+    none = trials_below-none g lines regs
+
+    go : (fault : RecFault) → IsTriedUntil g lines regs 0 (layout.data_lines g) fault t.count → IsWorkBefore g lines regs fault t.count 0
+    go Memory h = absurd h
+    go Cut (to, low, high, count) =
+        record { lines_tried = to; within = high; its_trials = omega (arith, count, none); few_digests = omega arith; in_order = inr refl }
+    go (NoCounter at) h = (omega (arith, h, none), refl)
+    go (Root kept found) h = absurd h
+    go (Twin at major low high cipher tag) h = (omega (arith, h, none), refl)
+
+-- a cut after all trials
+pub stopped_cut : (g : Shape) (lines : List Line) (regs : Regs) (trials digests : ℕ) (old new : SuiteState) → trials ≡ trials_below g lines regs (layout.data_lines g) → digests ≤ all_digests g lines → SuiteWork trials digests old new → StoppedWork g lines regs Cut old new
+stopped_cut g lines regs trials digests old new e few w =
+    record {
+      trials = trials;
+      digests = digests;
+      so_far = record { lines_tried = layout.data_lines g; within = omega arith; its_trials = e; few_digests = few; in_order = inl refl };
+      worked = w;
+    }
+
+-- a wrong root, or a cut as the top line is read
+pub stopped_root : (g : Shape) (lines : List Line) (regs : Regs) (fault : RecFault) (trials digests : ℕ) (old mid new : SuiteState) → IsRootFault fault → trials ≡ trials_below g lines regs (layout.data_lines g) → digests + 1 ≡ all_digests g lines → SuiteWork trials digests old mid → SuiteWork 0 (root_digests fault) mid new → StoppedWork g lines regs fault old new
+stopped_root g lines regs Memory trials digests old mid new kind e d a b = absurd kind
+stopped_root g lines regs Cut trials digests old mid new kind e d a b =
+    stopped_cut g lines regs trials (digests + 0) old new e (omega (arith, d)) (SuiteWork-digests trials digests 0 old mid new a b)
+stopped_root g lines regs (NoCounter at) trials digests old mid new kind e d a b = absurd kind
+stopped_root g lines regs (Root kept found) trials digests old mid new kind e d a b =
+    record { trials = trials; digests = digests + 1; so_far = (e, d); worked = SuiteWork-digests trials digests 1 old mid new a b }
+stopped_root g lines regs (Twin at major low high cipher tag) trials digests old mid new kind e d a b = absurd kind
+
+-- a comparison that fails is of one digest
+pub root_refused : (answer : Result Unit RecFault) (old new : SuiteState) (kept found : List ℕ) → IsCompared kept found answer → SuiteWork 0 1 old new → IfErr answer (λ fault. SuiteWork 0 (root_digests fault) old new)
+root_refused (Ok done) old new kept found c w = tt
+root_refused (Err Memory) old new kept found c w = absurd c
+root_refused (Err Cut) old new kept found c w = absurd c
+root_refused (Err (NoCounter at)) old new kept found c w = absurd c
+root_refused (Err (Root k f)) old new kept found c w = w
+root_refused (Err (Twin at major low high cipher tag)) old new kept found c w = absurd c
+
+-- the armed group plays no part
+pub stopped_without : (g : Shape) (lines : List Line) (old new : Regs) (fault : RecFault) (suite_old suite_new : SuiteState) → new ≡ without_group old → StoppedWork g lines new fault suite_old suite_new → StoppedWork g lines old fault suite_old suite_new
+stopped_without g lines old new fault suite_old suite_new e s =
+    record { trials = s.trials; digests = s.digests; so_far = go fault s.so_far; worked = s.worked }
+  where
+    same : (a : ℕ) → trials_below g lines new a ≡ trials_below g lines old a
+    same a = ap (λ regs. trials_below g lines regs a) e ∙ trials_below-without g lines old a
+
+    go : (fault : RecFault) → IsWorkBefore g lines new fault s.trials s.digests → IsWorkBefore g lines old fault s.trials s.digests
+    go Memory h = h
+    go Cut h =
+        record { lines_tried = h.lines_tried; within = h.within; its_trials = h.its_trials ∙ same h.lines_tried; few_digests = h.few_digests; in_order = h.in_order }
+    go (NoCounter at) h = (h.0 ∙ same (at + 1), h.1)
+    go (Root kept found) h = (h.0 ∙ same (layout.data_lines g), h.1)
+    go (Twin at major low high cipher tag) h = (h.0 ∙ same (at + 1), h.1)
+
+pub all_without : (g : Shape) (lines : List Line) (old new : Regs) (trials digests : ℕ) → new ≡ without_group old → IsAllWork g lines new trials digests → IsAllWork g lines old trials digests
+all_without g lines old new trials digests e all =
+    record {
+      its_trials = all.its_trials ∙ ap (λ regs. trials_below g lines regs (layout.data_lines g)) e ∙ trials_below-without g lines old (layout.data_lines g);
+      its_digests = all.its_digests;
+    }
+
+-- where nothing was tried
+pub stopped_memory : (g : Shape) (lines : List Line) (regs : Regs) (suite : SuiteState) → StoppedWork g lines regs Memory suite suite
+stopped_memory g lines regs suite = record { trials = 0; digests = 0; so_far = (refl, refl); worked = SuiteWork-none suite }
+
+pub stopped_at_once : (g : Shape) (lines : List Line) (regs : Regs) (suite : SuiteState) → StoppedWork g lines regs Cut suite suite
+stopped_at_once g lines regs suite = stopped_trials g lines regs Cut suite suite (tries_none g lines regs 0 (layout.data_lines g) suite (omega arith))
