@@ -1,5 +1,5 @@
 -- Whole traces: each command with its reply.
-use Rattle.std.specs.Prelude.{ℕ, ◌-◌, ◌*◌, ◌^◌, List, [], ◌∷◌, ◌++◌, map, replicate, None, slice_set}
+use Rattle.std.specs.Prelude.{ℕ, ◌-◌, ◌*◌, ◌^◌, List, [], ◌∷◌, ◌++◌, map, replicate, Some, None, slice_set}
 use Rattle.std.specs.List.{range_with_len}
 use Rattle.pmem_base.specs.declared.lines.Line.{Line}
 use Rattle.pmem_base.specs.declared.lines.Ctr.{Ctr}
@@ -275,6 +275,20 @@ part_refused =
     ∷ answered (Do.Read 0 0) (Say.Refused None (Place.Line 0) 0)
     ∷ answered (Do.Drain 0) (Say.Refused None (Place.Line 0) 0)
     ∷ answered (Do.Read 0 0) (Say.Refused None (Place.Line 0) 0)
+    ∷ []
+
+-- a short write into a flipped line refuses a fence, after a seal and an overflow of its page
+abbrev pub fence_refused : Trace
+fence_refused =
+    answered (Do.Flip 1 0) Say.Ok
+    ∷ answered (Do.Post 0 64 zero_line) Say.Ok
+    ∷ answered zero_post Say.Ok
+    ∷ answered (Do.Part 0 1 0 1 (one_byte_line 0xff)) Say.Ok
+    ∷ answered_with (Do.Fence 0)
+    (weak_seal 64 (ctr 0 1) zero_line ∷ Begin 0 ∷ weak_seal 0 (ctr 1 1) zero_line ∷ [])
+    (Say.Refused (Some 2) (Place.Line 1) 15)
+    ∷ answered (Do.Read 0 1) (Say.Refused None (Place.Line 1) 0)
+    ∷ answered Do.Turn (Say.Refused None (Place.Line 1) 0)
     ∷ []
 
 -- a counter that is used up

@@ -33,7 +33,7 @@ pub fn rare_4_part_3()
     ensures { IsTraceAfter rare.rare_4_setup (take 258 rare.rare_4) (take 5 (drop 258 rare.rare_4)) }
 {}
 
-/// With tampering, 64 commands, part 5.
+/// With tampering, 64 commands, part 5: what comes between isn't proved.
 pub fn rare_4_part_5()
     ensures { IsTraceAfter rare.rare_4_setup (take 268 rare.rare_4) (take 5 (drop 268 rare.rare_4)) }
 {}

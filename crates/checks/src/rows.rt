@@ -99,6 +99,11 @@ pub fn part_refused()
     ensures { IsTraceOf weak_setup traces.part_refused }
 {}
 
+/// A short write refused in a fence, after an overflow of its page.
+pub fn fence_refused()
+    ensures { IsTraceFrom (view_at_end (0 ∷ [])) traces.fence_refused }
+{}
+
 /// A write whose counter is used up.
 pub fn spent()
     ensures { traces.IsSpentTrace traces.spent_trace }

@@ -23,6 +23,11 @@ pub fn cut_short_run()
     ensures { Ends weak_setup Stop.ReadFault (first_trace ++ codes "re") (Some []) first_steps }
 {}
 
+/// Memory is wanted only in place of the reply to the next line's command: a malformed line ends the run first.
+pub fn starved_run_refuted()
+    ensures { ¬ Ends weak_setup Stop.Memory (first_trace ++ codes "reed 0 0\ndrain 0\n") None first_steps }
+{}
+
 /// What is printed.
 pub fn output_shown()
     ensures finished { output_of first_steps Stop.Finished ≡ codes "ok\nseal 0 0.1 00000000000000000000000000000051\nok 7\nline " ++ hex_zeros ++ codes " 0\n" }

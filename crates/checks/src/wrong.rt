@@ -10,7 +10,7 @@ ghost use Rattle.pmem_base.specs.declared.commands.Command.TheVariants as Do;
 ghost use Rattle.plain_model.specs.Fits.{Fits};
 ghost use Rattle.plain_model.specs.Shown.{IsLegal};
 ghost use Rattle.checks.specs.Samples.{weak, short_tag, ctr, counting_line};
-ghost use Rattle.checks.specs.Rows.{weak_setup, formatted, formatted_view, one_waiting, zero_post, zero_seal, plain, flipped_state, blur_setup, blur_off, off_state, node_flipped_state, page_open_view};
+ghost use Rattle.checks.specs.Rows.{weak_setup, formatted, formatted_view, one_waiting, zero_post, zero_seal, plain, flipped_state, blur_setup, blur_off, off_state, node_flipped_state, page_open_view, one_drained, all_clean, one_drained_view};
 ghost use Rattle.checks.specs.Traces.{weak_seal, view_at_end};
 
 /// A read that prints another line is not legal.
@@ -134,7 +134,10 @@ pub fn too_many_trials()
 {}
 
 /// A counter block that shows a minor above the true one doesn't fit, nor does a stale one where
-/// nothing is dirty.
+/// nothing is dirty: where its path may be dirty it does.
 pub fn wrong_blocks()
-    ensures { ¬ Fits weak_setup formatted formatted_view (Do.Peek 1285) (plain (Say.Raw (line_of (replicate 8 0 ++ 2 ∷ replicate 55 0)))) }
+    ensures above { ¬ Fits weak_setup formatted formatted_view (Do.Peek 1285) (plain (Say.Raw (line_of (replicate 8 0 ++ 2 ∷ replicate 55 0)))) }
+    ensures stale { ¬ Fits weak_setup all_clean one_drained_view (Do.Peek 1285) (plain (Say.Raw zero_line)) }
+    ensures dirty { Fits weak_setup one_drained one_drained_view (Do.Peek 1285) (plain (Say.Raw zero_line)) }
+    ensures written { Fits weak_setup all_clean one_drained_view (Do.Peek 1285) (plain (Say.Raw (line_of (replicate 8 0 ++ 2 ∷ replicate 55 0)))) }
 {}

@@ -4,6 +4,7 @@ pub mod WorldSteps
 pub mod PartsOfWorld
 pub mod DeviceEvidence
 pub mod WorldsAfterCalls
+pub mod FewSteps
 pub mod MarklessCalls
 pub mod CallSurroundings
 pub mod EngineCalls

@@ -1,6 +1,6 @@
 -- A call of the engine or of recovery within a command: what it works on, and what the board in memory
 -- behind it makes of fuse, snapshot and counts.
-use Rattle.std.specs.Prelude.{ℕ, ◌≡◌, ◌≤◌, ◌<◌, ◌+◌, ◌-◌, true, false, Option, Some, None, Result, Ok, Err, option_map, length, min, All, IfSome, MatchOption}
+use Rattle.std.specs.Prelude.{ℕ, zero, suc, ◌≡◌, ◌≤◌, ◌<◌, ◌+◌, ◌-◌, true, false, Option, Some, None, Result, Ok, Err, option_map, length, min, All, IfSome, MatchOption}
 use Rattle.pmem_base.specs.Counts.{last_count}
 use Rattle.pmem_base.specs.Lines.{IsLine}
 use Rattle.board.specs.Device.{Device}
@@ -51,13 +51,19 @@ step_limit = 65536
 abbrev pub counted : ℕ → ℕ → ℕ
 counted before more = min (before + more) last_count
 
+-- the board's cuts after so many more: one that sees none stays as it is
+abbrev pub cuts_after : ℕ → ℕ → ℕ
+cuts_after before zero = before
+cuts_after before (suc more) = counted before (suc more)
+
 -- the board in memory keeps its counts in range
 pub record AreInCount (board : BoardMemory) : Type 0 where
   pub writes : board.writes ≤ last_count
   pub latches : board.latches ≤ last_count
 
 -- What becomes of the board in a call that takes these steps: the snapshot stays, and the fuse burns
--- by a step each. Power goes off where a step was due with no fuse left, or at the limit.
+-- by a step each. Power goes off where a step was due with no fuse left, or at the limit: that is a cut,
+-- and each cut that the call saw is one that the board counted.
 pub record FollowsOn (old new : BoardMemory) (taken : Taken) : Type 0 where
   pub snapshot : new.snapshot ≡ old.snapshot
   pub writes : new.writes ≡ counted old.writes taken.writes
@@ -67,6 +73,8 @@ pub record FollowsOn (old new : BoardMemory) (taken : Taken) : Type 0 where
   pub lasting : new.powered ≡ true → IfSome old.fuse (λ n. steps_in taken ≤ n)
   pub burnt : new.powered ≡ true → new.fuse ≡ option_map (λ n. n - steps_in taken) old.fuse
   pub cleared : new.powered ≡ false → new.fuse ≡ None
+  pub cuts : new.cuts ≡ cuts_after old.cuts taken.cuts
+  pub cut : new.powered ≡ false → 0 < taken.cuts
   pub uncut : new.powered ≡ true → new.cuts ≡ old.cuts
   pub spent : new.powered ≡ false → steps_in taken < step_limit → old.fuse ≡ Some (steps_in taken)
 

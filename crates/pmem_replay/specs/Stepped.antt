@@ -1,5 +1,5 @@
 -- One command and its reply: what the world answers, and what becomes of it and of its own parts.
-use Rattle.std.specs.Prelude.{ℕ, ◌≡◌, ◌≢◌, ◌+◌, ◌-◌, ◌++◌, ◌⊎◌, true, false, List, [], ◌∷◌, Option, Some, None, Result, Ok, Err, MatchOption, slice_range, IsTrue, IfSome, ⊤, if◌then◌else◌}
+use Rattle.std.specs.Prelude.{ℕ, ◌≡◌, ◌≢◌, ◌≤◌, ◌<◌, ◌+◌, ◌-◌, ◌++◌, ◌⊎◌, true, false, List, [], ◌∷◌, length, Option, Some, None, Result, Ok, Err, MatchOption, slice_range, IsTrue, IfSome, ⊤, if◌then◌else◌}
 use Rattle.pmem_base.specs.declared.lines.Line.{Line}
 use Rattle.pmem_base.specs.declared.lines.Ctr.{Ctr}
 use Rattle.pmem_base.specs.declared.commands.Posted.{Posted}
@@ -11,6 +11,7 @@ use Rattle.pmem_base.specs.declared.answers.Exhibit.{Exhibit}
 use Rattle.pmem_base.specs.declared.answers.Exhibit.TheVariants as Show
 use Rattle.pmem_base.specs.declared.answers.Place.{Place}
 use Rattle.pmem_base.specs.declared.answers.Stat.{Stat}
+use Rattle.pmem_base.specs.Counts.{HasRisen}
 use Rattle.pmem_base.specs.Layout as layout
 use Rattle.pmem_base.specs.Lines.{line_at, tag_slot}
 use Rattle.pmem_base.specs.Marks.{last_seal}
@@ -20,7 +21,7 @@ use Rattle.board.specs.Memory.{BoardMemory, with_line_at, with_lines, flipped_li
 use Rattle.seal_ledger.specs.Ledger.{LedgerState}
 use Rattle.seal_ledger.specs.Notes.{HasRoom}
 use Rattle.suite.specs.Setup.{Setup}
-use Rattle.plain_model.specs.State.{Reply, start_state}
+use Rattle.plain_model.specs.State.{PlainState, Reply, start_state}
 use Rattle.plain_model.specs.View.{start_view}
 use Rattle.plain_model.specs.After.{state_after, steps_of, is_cut}
 use Rattle.plain_model.specs.Answers.{decided_answer, is_answer_to, is_shown}
@@ -32,6 +33,7 @@ use Rattle.pmem_engine.specs.declared.fault.Fault.TheVariants as Fail
 use Rattle.pmem_engine.specs.Engine.{EngineState}
 use Rattle.pmem_engine.specs.Parts.{Parts}
 use Rattle.pmem_engine.specs.Invariants.{IsSealStored}
+use Rattle.pmem_engine.specs.Mendable.{new_engine}
 use Rattle.pmem_engine.specs.Calls.{HasReadLine, HasWrittenLine, HasTurned, HasFlushed, HasSetLoss}
 use Rattle.pmem_recovery.specs.declared.faults.Work.{Work}
 use Rattle.pmem_recovery.specs.declared.faults.RecFault.{RecFault}
@@ -43,7 +45,7 @@ use Rattle.pmem_recovery.specs.Recovered.{HasRecovered}
 use Rattle.pmem_replay.specs.World.{WorldState, AreExact, IsWorld, view_in, lines_in}
 use Rattle.pmem_replay.specs.declared.taken.Taken.{Taken}
 use Rattle.pmem_replay.specs.declared.world.Reply as replies
-use Rattle.pmem_replay.specs.During.{none_taken, steps_in, device_during, counted, parts_in}
+use Rattle.pmem_replay.specs.During.{none_taken, steps_in, step_limit, device_during, counted, cuts_after, parts_in}
 
 -- ---- what the table's answers do to the board and to the engine
 
@@ -75,7 +77,7 @@ pub record IsByTable (old : WorldState) (command : Command) (answer : Answer) (n
 
 -- The world's parts before and after a call, for which room for marks may have been made before. The
 -- engine is kept unless power was cut. Line writes and latches are counted from the call on, and are the
--- steps of the answer unless that is an exhibit.
+-- steps of the answer unless that is an exhibit. The cuts that the engine saw are the board's own.
 pub record HasCalled (relation : Parts → Parts → Type 0) (old new : WorldState) (answer : Answer) : Type 0 where
   pub engine : EngineState
   pub was_on : old.engine ≡ Some engine
@@ -83,6 +85,7 @@ pub record HasCalled (relation : Parts → Parts → Type 0) (old new : WorldSta
   pub kept : new.engine ≡ (if is_cut answer then None else Some after)
   pub taken : Taken
   pub steps : is_shown answer ≡ false → steps_of answer ≡ steps_in taken
+  pub few : steps_in taken ≤ step_limit
   pub ledger : LedgerState
   pub room : HasRoom old.ledger ledger 0
   pub related :
@@ -90,6 +93,9 @@ pub record HasCalled (relation : Parts → Parts → Type 0) (old new : WorldSta
   pub snapshot : new.board.snapshot ≡ old.board.snapshot
   pub writes : new.board.writes ≡ counted old.board.writes taken.writes
   pub latches : new.board.latches ≡ counted old.board.latches taken.latches
+  pub cuts : new.board.cuts ≡ cuts_after old.board.cuts taken.cuts
+  pub cut : is_cut answer ≡ true → HasRisen old.board.cuts new.board.cuts
+  pub uncut : is_cut answer ≡ false → new.board.cuts ≡ old.board.cuts
 
 -- the fault as the world answers it; a drain has no count of drained writes
 abbrev pub IsFaultAnswer : WorldState → Fault → Answer → Type 0
@@ -186,6 +192,7 @@ pub record HasPoweredOn (setup : Setup) (old new : WorldState) (answer : Answer)
   pub left : BoardMemory
   pub taken : Taken
   pub steps : is_shown answer ≡ false → steps_of answer ≡ steps_in taken
+  pub few : steps_in taken ≤ step_limit
   pub outcome : Result (EngineState × Work) RecFault
   pub suite_old : SuiteState
   pub suite_new : SuiteState
@@ -206,6 +213,9 @@ pub record HasPoweredOn (setup : Setup) (old new : WorldState) (answer : Answer)
   pub reads : new.board.reads ≡ left.reads
   pub writes : new.board.writes ≡ counted old.board.writes taken.writes
   pub latches : new.board.latches ≡ counted old.board.latches taken.latches
+  pub cuts : new.board.cuts ≡ cuts_after old.board.cuts taken.cuts
+  pub cut : is_cut answer ≡ true → HasRisen old.board.cuts new.board.cuts
+  pub uncut : is_cut answer ≡ false → new.board.cuts ≡ old.board.cuts
 
 -- the counts of the board and the suite
 abbrev pub counts_in : WorldState → Stat
@@ -321,13 +331,37 @@ pub record HasStepped (setup : Setup) (old : WorldState) (command : Command) (re
       (λ answer. IsByTable old command answer new)
   pub seen : IsSeenOnDevice setup old command reply.answer new
 
+-- ---- few steps
+
+-- no command takes more steps than so many, of sixteen calls
+abbrev pub most_steps : ℕ
+most_steps = 1048576
+
+-- a step adds at most so many to the steps, unless it ends with an exhibit
+abbrev pub AddsFewSteps : WorldState → WorldState → Type 0
+AddsFewSteps old new = new.shown ≡ false → new.state.steps ≤ old.state.steps + most_steps
+
+-- ---- want of memory
+
+-- Where memory may be wanted: for the marks of a drain or a fence with power on and a write that waits, or
+-- of a turn with power on; for recovery with power off; and for the first snapshot.
+abbrev pub CanWantMemory : PlainState → Command → Type 0
+CanWantMemory state (Do.Drain port) = (state.power ≡ true) × (0 < length (queue_of state.queues port))
+CanWantMemory state (Do.Fence port) = (state.power ≡ true) × (0 < length (queue_of state.queues port))
+CanWantMemory state Do.Turn = state.power ≡ true
+CanWantMemory state Do.On = state.power ≡ false
+CanWantMemory state Do.Snap = state.snapped ≡ false
+CanWantMemory state command = ⊥
+
 -- ---- the first world
 
--- a formatted world: the start of the plain machine, with the marks of formatting; `stat` counts from here on
+-- a formatted world: the start of the plain machine, with the marks of formatting and nothing cached; `stat`
+-- counts from here on
 pub record IsNewWorld (setup : Setup) (world : WorldState) : Type 0 where
   pub its_shape : world.shape ≡ setup.shape
   pub state : world.state ≡ start_state setup.shape
   pub view : view_in setup world ≡ start_view setup.shape
   pub not_shown : world.shown ≡ false
   pub holds : IsWorld setup world
+  pub engine : world.engine ≡ Some (new_engine setup.shape)
   pub start : world.start ≡ counts_in world

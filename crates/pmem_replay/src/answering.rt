@@ -4,7 +4,7 @@ ghost use Rattle.pmem_base.specs.Ranges.{IsCommand};
 ghost use Rattle.plain_model.specs.Run.{takes_memory};
 ghost use Rattle.pmem_replay.specs.World.{setup_of_world};
 ghost use Rattle.pmem_replay.specs.Replies.{with_marks_since};
-ghost use Rattle.pmem_replay.specs.Stepped.{HasStepped, reply_in};
+ghost use Rattle.pmem_replay.specs.Stepped.{HasStepped, reply_in, AddsFewSteps, CanWantMemory};
 
 use crate::{Reply, World};
 use pmem_base::{Answer, Command, MemFault};
@@ -19,9 +19,12 @@ impl<S: Counted + Drop> World<S> {
         ensures stepped { IfOk result (λ reply. HasStepped (setup_of_world S.formulas_of self.old) self.old command.now (reply_in self.new reply) self.new) }
         ensures from { IfOk result (λ reply. reply.from ≡ length self.old.ledger.marks) }
         ensures to { IfOk result (λ reply. reply.to ≡ length self.new.ledger.marks) }
+        ensures few { IfOk result (λ _. AddsFewSteps self.old self.new) }
         ensures err { OnErr result (self.new ≡ self.old) }
+        ensures wanting { OnErr result (CanWantMemory self.old.state command.now) }
         ensures memory { OnErr result (IsTrue (takes_memory command.now)) }
     {
+        self.holds();
         let from = self.marks().len();
         let answer = self.answer(alloc, command)?;
         Ok(Reply {
@@ -38,6 +41,7 @@ impl<S: Counted + Drop> World<S> {
         requires command { IsCommand command.now }
         ensures stepped { IfOk result (λ answer. HasStepped (setup_of_world S.formulas_of self.old) self.old command.now (with_marks_since self.old self.new answer) self.new) }
         ensures err { OnErr result (self.new ≡ self.old) }
+        ensures wanting { OnErr result (CanWantMemory self.old.state command.now) }
         ensures memory { OnErr result (IsTrue (takes_memory command.now)) }
     {
         match command {

@@ -3,7 +3,7 @@ ghost use Rattle.std.specs.Prelude.{◌≡◌, ◌<◌, ◌≤◌, ◌*◌, fals
 ghost use Rattle.pmem_base.specs.declared.commands.Command.TheVariants as Do;
 ghost use Rattle.pmem_base.specs.WaitingWrites.{queue_of, no_writes};
 ghost use Rattle.pmem_replay.specs.Replies.{with_marks_since};
-ghost use Rattle.pmem_replay.specs.Stepped.{HasStepped};
+ghost use Rattle.pmem_replay.specs.Stepped.{HasStepped, CanWantMemory};
 ghost use Rattle.pmem_engine.specs.Outcomes.{is_sealed_by};
 ghost use Rattle.pmem_replay.specs.World.{IsWorld, setup_of_world};
 ghost use Rattle.pmem_replay.specs.Given.{HasGiven, HasMarkRoom, IsGave, IsDrainReply, IsEnded, IsNotPut, gave_steps, is_fault_shown, is_fault_cut, is_fault_down};
@@ -30,7 +30,7 @@ pub(crate) enum Gave {
 
 impl<S: Counted + Drop> World<S> {
     /// A law: what the world always holds until an answer was an exhibit.
-    fn holds(&self)
+    pub(crate) fn holds(&self)
         requires { self.now.shown ≡ false }
         ensures { IsWorld (setup_of_world S.formulas_of self.now) self.now }
     {
@@ -58,6 +58,7 @@ impl<S: Counted + Drop> World<S> {
         requires { self.old.shown ≡ false }
         ensures ok { OnOk result (HasMarkRoom (setup_of_world S.formulas_of self.old) self.old more self.new) }
         ensures err { OnErr result (self.new ≡ self.old) }
+        ensures wanting { OnErr result (self.old.ledger.spare < more) }
     {
         self.ledger.reserve(more)?;
         Ok(())
@@ -69,6 +70,7 @@ impl<S: Counted + Drop> World<S> {
         requires port { port < 8 }
         ensures stepped { IfOk result (λ answer. HasStepped (setup_of_world S.formulas_of self.old) self.old (Do.Drain port) (with_marks_since self.old self.new answer) self.new) }
         ensures err { OnErr result (self.new ≡ self.old) }
+        ensures wanting { OnErr result (CanWantMemory self.old.state (Do.Drain port)) }
     {
         self.holds();
         if !self.is_on() {
@@ -88,6 +90,7 @@ impl<S: Counted + Drop> World<S> {
         requires port { port < 8 }
         ensures stepped { IfOk result (λ answer. HasStepped (setup_of_world S.formulas_of self.old) self.old (Do.Fence port) (with_marks_since self.old self.new answer) self.new) }
         ensures err { OnErr result (self.new ≡ self.old) }
+        ensures wanting { OnErr result (CanWantMemory self.old.state (Do.Fence port)) }
     {
         self.holds();
         if !self.is_on() {

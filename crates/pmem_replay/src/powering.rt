@@ -4,7 +4,7 @@ ghost use Rattle.pmem_base.specs.Lines.{AreBytes, IsTag};
 ghost use Rattle.pmem_base.specs.declared.commands.Command.TheVariants as Do;
 ghost use Rattle.pmem_replay.specs.World.{setup_of_world};
 ghost use Rattle.pmem_replay.specs.Replies.{without_marks};
-ghost use Rattle.pmem_replay.specs.Stepped.{HasStepped};
+ghost use Rattle.pmem_replay.specs.Stepped.{HasStepped, CanWantMemory};
 
 use crate::numbers::is_number;
 use crate::{World, calls};
@@ -42,6 +42,7 @@ impl<S: Counted + Drop> World<S> {
         requires { self.old.shown ≡ false }
         ensures stepped { IfOk result (λ answer. HasStepped (setup_of_world S.formulas_of self.old) self.old Do.On (without_marks answer) self.new) }
         ensures err { OnErr result (self.new ≡ self.old) }
+        ensures wanting { OnErr result (CanWantMemory self.old.state Do.On) }
     {
         if self.engine.is_some() {
             return Ok(Answer::Already);

@@ -5,7 +5,7 @@ ghost use Rattle.pmem_base.specs.Shape as shape;
 ghost use Rattle.seal_ledger.specs.View.{ledger_of};
 ghost use Rattle.pmem_replay.specs.World.{setup_of_world};
 ghost use Rattle.pmem_replay.specs.Replies.{without_marks, with_marks_since};
-ghost use Rattle.pmem_replay.specs.Stepped.{HasStepped};
+ghost use Rattle.pmem_replay.specs.Stepped.{HasStepped, CanWantMemory};
 
 use crate::numbers::is_byte;
 use crate::{World, calls};
@@ -84,6 +84,7 @@ impl<S: Counted + Drop> World<S> {
         requires { self.old.shown ≡ false }
         ensures stepped { IfOk result (λ answer. HasStepped (setup_of_world S.formulas_of self.old) self.old Do.Turn (with_marks_since self.old self.new answer) self.new) }
         ensures err { OnErr result (self.new ≡ self.old) }
+        ensures wanting { OnErr result (CanWantMemory self.old.state Do.Turn) }
     {
         let Some(engine) = &mut self.engine else {
             return Ok(Answer::Off);

@@ -1,7 +1,7 @@
 //! A board in memory, watched through calls that know it only as a board.
 ghost use Rattle.std.specs.Prelude.{◌≡◌, ◌<◌, ◌≤◌, ◌+◌, ℕ, true, Some, length, IfOk, OnOk, OnErr};
 ghost use Rattle.std.proofs.Props.{props};
-ghost use Rattle.board.specs.Memory.{BoardMemory, new_memory};
+ghost use Rattle.board.specs.Memory.{BoardMemory, after_cut, new_memory};
 ghost use Rattle.board.specs.MemBoard.{memory_of};
 ghost use Rattle.pmem_replay.specs.During.{AreInCount, FollowsOn, IsWatched, device_during, none_taken};
 
@@ -28,7 +28,7 @@ impl Start for Brand {
 }
 
 /// A board in memory within one call, which counts the line writes, latches and cuts of that call. Its
-/// type keeps that the snapshot stays and that the fuse burns by a step each.
+/// type keeps that the snapshot stays, that the fuse burns by a step each, and that each cut is the board's.
 #[derive(Drop)]
 pub(crate) struct Watched<'a, K: Start> {
     board: &'a mut MemBoard,
@@ -113,7 +113,7 @@ impl<K: Start> Board for Watched<'_, K> {
 
     fn write_line(&mut self, at: u32, line: &Line) -> Result<(), Cut> {
         if self.taken.writes + self.taken.latches >= STEP_LIMIT {
-            self.board.off();
+            cut_off(self.board);
             self.taken.cuts = self.taken.cuts.saturating_add(1);
             return Err(Cut);
         }
@@ -131,7 +131,7 @@ impl<K: Start> Board for Watched<'_, K> {
 
     fn latch(&mut self, regs: &Regs) -> Result<(), Cut> {
         if self.taken.writes + self.taken.latches >= STEP_LIMIT {
-            self.board.off();
+            cut_off(self.board);
             self.taken.cuts = self.taken.cuts.saturating_add(1);
             return Err(Cut);
         }
@@ -154,4 +154,15 @@ impl<K: Start> Board for Watched<'_, K> {
     ghost use Rattle.std.specs.Prelude.{refl};
 
     ghost whole = { λ w. record { count = refl; each = w.board.now.each_line } };
+}
+
+/// Power goes off with a step due, which the board counts as a cut.
+fn cut_off(board: &mut MemBoard)
+    ensures { memory_of board.new ≡ after_cut (memory_of board.old) }
+{
+    board.off();
+    match board.latch(&Regs::empty()) {
+        Ok(()) => unreachable!(),
+        Err(_) => {}
+    }
 }

@@ -1,13 +1,14 @@
 -- Each call of a watched board follows on from the start.
 use Rattle.std.proofs.Common.{rules}
-use Rattle.std.proofs.Common.{◌≡◌, ℕ, ◌+◌, ◌-◌, ◌<◌, ◌≤◌, true, false, Option, Some, None, arith, refl, sym, ◌∙◌, ap, inl, inr, subst}
+use Rattle.std.proofs.Common.{◌≡◌, ℕ, zero, suc, ◌+◌, ◌-◌, ◌<◌, ◌≤◌, true, Option, Some, None, arith, refl, sym, ◌∙◌, ap, inl, inr, subst}
 use Rattle.std.specs.Prelude.{IfSome, option_map}
 use Rattle.std.proofs.lemmas.Option.{same_Some, none-some}
 use Rattle.std.proofs.lemmas.Bool.{true≢false, false≢true, cases_eq, cases_Bool}
+use Rattle.pmem_base.specs.Counts.{risen}
 use Rattle.pmem_base.specs.declared.lines.Line.{Line}
 use Rattle.pmem_base.specs.declared.registers.Regs.{Regs}
 use Rattle.board.specs.Memory.{BoardMemory, IsSpent, burnt_fuse, after_read, after_write, after_latch, after_cut}
-use Rattle.pmem_replay.specs.During.{taken_of, step_limit, FollowsOn}
+use Rattle.pmem_replay.specs.During.{taken_of, step_limit, cuts_after, FollowsOn}
 
 -- a read
 follows-read : (start board : BoardMemory) (writes latches cuts : ℕ) → board.reads ≤ (after_read board).reads
@@ -20,7 +21,7 @@ one_less : (fuse start : Option ℕ) (steps : ℕ) → fuse ≡ option_map (λ n
 one_less fuse None steps is lasts unspent more next = (ap burnt_fuse is, tt)
 one_less fuse (Some n) steps is lasts unspent more next =
     elim (cases_eq (n - steps) 0) [
-      | inl zero ↦ absurd (unspent (is ∙ ap (λ (k : ℕ). Some k) zero))
+      | inl none ↦ absurd (unspent (is ∙ ap (λ (k : ℕ). Some k) none))
       | inr some ↦ (
         ap burnt_fuse is ∙ ap (λ (k : ℕ). Some k) (omega (arith, next)),
         omega (arith, lasts, some, next),
@@ -51,10 +52,17 @@ stood None steps is lasts = absurd (none-some 0 (sym is))
 stood (Some n) steps is lasts =
     ap (λ (k : ℕ). Some k) (omega (arith, lasts, same_Some 0 (n - steps) is))
 
+-- the cuts after one more
+one_more_cut : (before cuts now : ℕ) → now ≡ risen cuts → risen (cuts_after before cuts) ≡ cuts_after before now
+one_more_cut before zero zero it = absurd (omega (arith, it))
+one_more_cut before zero (suc now) it = omega (arith, it)
+one_more_cut before (suc cuts) zero it = absurd (omega (arith, it))
+one_more_cut before (suc cuts) (suc now) it = omega (arith, it)
+
 -- a cut
-follows-cut : (start board : BoardMemory) (writes latches cuts now : ℕ) → IsSpent board
+follows-cut : (start board : BoardMemory) (writes latches cuts now : ℕ) → IsSpent board → now ≡ risen cuts
     → FollowsOn start board (taken_of writes latches cuts) → FollowsOn start (after_cut board) (taken_of writes latches now)
-follows-cut start board writes latches cuts now spent f =
+follows-cut start board writes latches cuts now spent more f =
     record {
       snapshot = f.snapshot;
       writes = f.writes;
@@ -64,6 +72,8 @@ follows-cut start board writes latches cuts now spent f =
       lasting = λ on. absurd (false≢true on);
       burnt = λ on. absurd (false≢true on);
       cleared = λ off. refl;
+      cuts = ap risen f.cuts ∙ one_more_cut start.cuts cuts now more;
+      cut = λ off. omega (arith, more);
       uncut = λ on. absurd (false≢true on);
       spent =
           λ off.
@@ -71,7 +81,7 @@ follows-cut start board writes latches cuts now spent f =
             | inl on ↦
                 elim spent [
                   | inl dark ↦ absurd (true≢false (sym on ∙ dark))
-                  | inr zero ↦ λ few. stood start.fuse (writes + latches) (sym zero ∙ f.burnt on) (f.lasting on)
+                  | inr none ↦ λ few. stood start.fuse (writes + latches) (sym none ∙ f.burnt on) (f.lasting on)
                 ]
             | inr dark ↦ f.spent dark
           ];
@@ -79,9 +89,9 @@ follows-cut start board writes latches cuts now spent f =
 
 -- the limit
 pub follows-limit : (start board new : BoardMemory) (writes latches cuts now : ℕ) → step_limit ≤ writes + latches
-    → new ≡ record board { powered = false; fuse = None }
+    → new ≡ after_cut board → now ≡ risen cuts
     → FollowsOn start board (taken_of writes latches cuts) → FollowsOn start new (taken_of writes latches now)
-follows-limit start board new writes latches cuts now many is f =
+follows-limit start board new writes latches cuts now many is more f =
     subst (λ m. FollowsOn start m (taken_of writes latches now)) (sym is)
     (record {
       snapshot = f.snapshot;
@@ -92,6 +102,8 @@ follows-limit start board new writes latches cuts now many is f =
       lasting = λ on. absurd (false≢true on);
       burnt = λ on. absurd (false≢true on);
       cleared = λ off. refl;
+      cuts = ap risen f.cuts ∙ one_more_cut start.cuts cuts now more;
+      cut = λ off. omega (arith, more);
       uncut = λ on. absurd (false≢true on);
       spent = λ off few. absurd (omega (arith, many, few));
     })
@@ -104,10 +116,10 @@ read-ok start board new writes latches cuts is rises f =
     subst (λ m. FollowsOn start m (taken_of writes latches cuts)) (sym is)
     (follows-read start board writes latches cuts (subst (λ (m : BoardMemory). board.reads ≤ m.reads) is rises) f)
 
-pub cut-over : (start board new : BoardMemory) (writes latches cuts now : ℕ) → new ≡ after_cut board → IsSpent board
+pub cut-over : (start board new : BoardMemory) (writes latches cuts now : ℕ) → new ≡ after_cut board → IsSpent board → now ≡ risen cuts
     → FollowsOn start board (taken_of writes latches cuts) → FollowsOn start new (taken_of writes latches now)
-cut-over start board new writes latches cuts now is spent f =
-    subst (λ m. FollowsOn start m (taken_of writes latches now)) (sym is) (follows-cut start board writes latches cuts now spent f)
+cut-over start board new writes latches cuts now is spent more f =
+    subst (λ m. FollowsOn start m (taken_of writes latches now)) (sym is) (follows-cut start board writes latches cuts now spent more f)
 
 pub write-ok : (start board new : BoardMemory) (at : ℕ) (line : Line) (writes latches cuts : ℕ) → new ≡ after_write board at line → (IsSpent board → ⊥)
     → writes + latches < step_limit

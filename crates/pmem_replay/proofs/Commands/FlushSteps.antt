@@ -84,7 +84,7 @@ module _ (s : EngineCall) where
       (laws.clean-good setup old new s.engine s.after s.taken call flush) tt
       (λ quiet. its_state)
       (λ quiet. laws.clean-world setup old new s.engine s.after s.taken call flush its_state refl (its_banks s done.gone.shape))
-      (was_called s _ q Say.Clean refl refl (λ quiet. sym none) (Ok None, flush, tt)) tt
+      (was_called s _ q Say.Clean refl refl (done.gone.power.1 (s.served.going.whole.board.power ∙ on_now.powered)) (λ quiet. sym none) (Ok None, flush, tt)) tt
 
   -- ---- a block is written back
 
@@ -104,7 +104,7 @@ module _ (s : EngineCall) where
       (small_position setup.shape s.served.going.whole.whole_shape x answered.2, few)
       (λ quiet. its_state)
       (λ quiet. laws.flushed-world setup old new s.engine s.after s.taken call x flush its_state refl (its_banks s done.gone.shape))
-      (was_called s _ q (Say.Flushed x (steps_in s.taken)) refl refl (λ quiet. refl) (Ok (Some x), flush, refl)) tt
+      (was_called s _ q (Say.Flushed x (steps_in s.taken)) refl refl (done.gone.power.1 (s.served.going.whole.board.power ∙ on_now.powered)) (λ quiet. refl) (Ok (Some x), flush, refl)) tt
 
   -- ---- a cut
 
@@ -130,7 +130,7 @@ module _ (s : EngineCall) where
       (laws.cut-good setup old new s.engine s.after s.taken call flush) few
       (λ quiet. its_state)
       (λ quiet. quiet-cut setup old new s.engine s.after s.taken call done refl its_state)
-      (was_called s _ q (Say.Cut (steps_in s.taken)) refl refl (λ quiet. refl) (Err Fail.Cut, flush, tt)) tt
+      (was_called s _ q (Say.Cut (steps_in s.taken)) refl refl done.gone.power.1 (λ quiet. refl) (Err Fail.Cut, flush, tt)) tt
 
   pub flush-cut : (fault : Fault) (queues : List (List Posted)) → queues ≡ no_writes → Has (Err fault)
       → Ended (Say.Cut s.said) (record (parts_left s None) { queues = queues })

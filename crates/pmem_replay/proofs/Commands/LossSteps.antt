@@ -65,7 +65,7 @@ module _ (s : EngineCall) (n : ℕ) (some : IsTrue (is_loss n)) (other : n ≢ s
       (few_steps s.parts.board s.board s.taken s.served.watched)
       (λ quiet. its_state)
       (λ quiet. laws.set-world setup old on_new s.engine s.after s.taken call n other set_steps set its_state refl (its_banks s gone.shape))
-      (was_called s _ q (Say.LossSet (steps_in s.taken)) refl refl (λ quiet. refl) (Ok set_steps, set, tt)) tt
+      (was_called s _ q (Say.LossSet (steps_in s.taken)) refl refl (gone.power.1 (s.served.going.whole.board.power ∙ on_now.powered)) (λ quiet. refl) (Ok set_steps, set, tt)) tt
 
   -- ---- a cut
 
@@ -93,7 +93,7 @@ module _ (s : EngineCall) (n : ℕ) (some : IsTrue (is_loss n)) (other : n ≢ s
       (few_steps s.parts.board s.board s.taken s.served.watched)
       (λ quiet. its_state)
       (λ quiet. laws.cut-world setup old new s.engine s.after s.taken call n other set its_state refl)
-      (was_called s _ q (Say.Cut (steps_in s.taken)) refl refl (λ quiet. refl) (Err Fail.Cut, set, tt)) tt
+      (was_called s _ q (Say.Cut (steps_in s.taken)) refl refl gone.power.1 (λ quiet. refl) (Err Fail.Cut, set, tt)) tt
 
   pub loss-cut : (fault : Fault) (queues : List (List Posted)) → queues ≡ no_writes → Has (Err fault)
       → Ended (Say.Cut s.said) (record (parts_left s None) { queues = queues })

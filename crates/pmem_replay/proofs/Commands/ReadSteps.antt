@@ -1,6 +1,6 @@
 -- Reads: what the world answers, and what becomes of it.
 use Rattle.std.proofs.Common.{ℕ, ◌≡◌, ◌<◌, ◌^◌, inl, inr, Bool, true, false, List, [], Some, None, refl, sym, ap, subst, ◌∙◌, arith}
-use Rattle.std.specs.Prelude.{All, Result, Ok, Err, if◌then◌else◌}
+use Rattle.std.specs.Prelude.{All, not, Result, Ok, Err, if◌then◌else◌}
 use Rattle.std.proofs.lemmas.Bool.{lt-ltb, true≢false}
 use Rattle.std.proofs.lemmas.List.{append-nil}
 use Rattle.pmem_base.specs.declared.lines.Line.{Line}
@@ -99,7 +99,8 @@ module _ (s : EngineCall) (port at : ℕ) (within : at < layout.data_lines s.geo
         (λ quiet. state ∙ sym counts)
         (λ quiet. quiet-going setup old on_new s.engine s.after s.taken (call_to s (parts_left s (Some s.after)) refl refl) done refl (its_banks s done.gone.shape) state)
         (was_called s _ (parts_left s (Some s.after)) (say (steps_in s.taken)) refl
-        (ap (λ (cut : Bool). if cut then None else Some s.after) (sym uncut)) (λ quiet. its_steps) (answer, read, says))
+        (ap (λ (cut : Bool). if cut then None else Some s.after) (sym uncut))
+        (done.gone.power.1 (s.served.going.whole.board.power ∙ on_now.powered) ∙ sym (ap not uncut)) (λ quiet. its_steps) (answer, read, says))
         seen
 
   abbrev on_call : IsCall setup old on_new s.engine s.after s.taken
@@ -162,7 +163,7 @@ module _ (s : EngineCall) (port at : ℕ) (within : at < layout.data_lines s.geo
       (marks ∙ sym (append-nil s.parts.ledger.marks)) undecided
       (laws.cut-good setup old new s.engine s.after s.taken call port at within read s.served.going.whole.whole_shape.at_most_six_levels)
       few (λ quiet. state) (λ quiet. quiet-cut setup old new s.engine s.after s.taken call done refl state)
-      (was_called s _ q (Say.Cut (steps_in s.taken)) refl refl (λ quiet. refl) (Err Fail.Cut, read, tt)) tt
+      (was_called s _ q (Say.Cut (steps_in s.taken)) refl refl done.gone.power.1 (λ quiet. refl) (Err Fail.Cut, read, tt)) tt
 
   -- ---- an exhibit
 
@@ -188,5 +189,5 @@ module _ (s : EngineCall) (port at : ℕ) (within : at < layout.data_lines s.geo
       (laws.shown-good setup old on_new s.engine s.after s.taken on_call port at within read exhibit its
       (λ clash. clash.fetched.before) (done.gone.places on_now.trusted))
       sight.0 (λ quiet. absurd (true≢false quiet)) (λ quiet. absurd (true≢false quiet))
-      (was_called s _ q (Say.Shown exhibit) refl refl (λ quiet. absurd (true≢false quiet)) (Err Fail.Shown, read, its))
+      (was_called s _ q (Say.Shown exhibit) refl refl (done.gone.power.1 (s.served.going.whole.board.power ∙ on_now.powered)) (λ quiet. absurd (true≢false quiet)) (Err Fail.Shown, read, its))
       sight.1

@@ -92,7 +92,7 @@ module _ (s : EngineCall) where
       (laws.idle-good setup old on_new s.engine s.after s.taken on_call turn) tt
       (λ on. quiet)
       (λ on. laws.idle-world setup old on_new s.engine s.after s.taken on_call turn quiet refl (its_banks s done.gone.shape))
-      (was_called s _ q Say.Idle refl refl (λ on. sym none) (Ok None, turn, tt)) tt
+      (was_called s _ q Say.Idle refl refl (done.gone.power.1 (s.served.going.whole.board.power ∙ on_now.powered)) (λ on. sym none) (Ok None, turn, tt)) tt
 
   -- ---- a line is sealed anew
 
@@ -109,7 +109,7 @@ module _ (s : EngineCall) where
       (laws.turned-good setup old on_new s.engine s.after s.taken on_call (at, left) turn) (small, few)
       (λ on. its_state)
       (λ on. laws.turned-world setup old on_new s.engine s.after s.taken on_call (at, left) turn its_state refl (its_banks s done.gone.shape))
-      (was_called s _ q (Say.Turned left (steps_in s.taken)) refl refl (λ on. refl) (Ok (Some (at, left)), turn, refl)) tt
+      (was_called s _ q (Say.Turned left (steps_in s.taken)) refl refl (done.gone.power.1 (s.served.going.whole.board.power ∙ on_now.powered)) (λ on. refl) (Ok (Some (at, left)), turn, refl)) tt
 
   -- ---- a refused line
 
@@ -127,7 +127,7 @@ module _ (s : EngineCall) where
       (tt, small_line setup.shape s.served.going.whole.whole_shape b within, few)
       (λ on. quiet)
       (λ on. laws.refused-world setup old on_new s.engine s.after s.taken on_call b turn quiet refl (its_banks s done.gone.shape))
-      (was_called s _ q (Say.Refused None (Place.Line b) (steps_in s.taken)) refl refl (λ on. refl) (Err (Fail.Tag b), turn, refl))
+      (was_called s _ q (Say.Refused None (Place.Line b) (steps_in s.taken)) refl refl (done.gone.power.1 (s.served.going.whole.board.power ∙ on_now.powered)) (λ on. refl) (Err (Fail.Tag b), turn, refl))
       (tag_wrong setup on_new s.after s.taken b (turn.answered on_now.trusted.not_down on_now.trusted))
 
   -- ---- a cut
@@ -148,7 +148,7 @@ module _ (s : EngineCall) where
       (laws.cut-good setup old new s.engine s.after s.taken call turn) few
       (λ on. its_state)
       (λ on. laws.cut-world setup old new s.engine s.after s.taken call turn its_state refl)
-      (was_called s _ q (Say.Cut (steps_in s.taken)) refl refl (λ on. refl) (Err Fail.Cut, turn, tt)) tt
+      (was_called s _ q (Say.Cut (steps_in s.taken)) refl refl done.gone.power.1 (λ on. refl) (Err Fail.Cut, turn, tt)) tt
 
   -- ---- an exhibit
 
@@ -171,7 +171,7 @@ module _ (s : EngineCall) where
       (laws.shown-good setup old on_new s.engine s.after s.taken on_call turn exhibit its
       (subst (λ made. KeepsPlaces setup made (parts_in old s.engine none_taken) (parts_in on_new s.after s.taken)) none (done.gone.places on_now.trusted)))
       sight.0 (λ quiet. absurd (true≢false quiet)) (λ quiet. absurd (true≢false quiet))
-      (was_called s _ q (Say.Shown exhibit) refl refl (λ quiet. absurd (true≢false quiet)) (Err Fail.Shown, turn, its))
+      (was_called s _ q (Say.Shown exhibit) refl refl (done.gone.power.1 (s.served.going.whole.board.power ∙ on_now.powered)) (λ quiet. absurd (true≢false quiet)) (Err Fail.Shown, turn, its))
       sight.1
 
   -- a turn is never down, spent, or refused for a metadata line

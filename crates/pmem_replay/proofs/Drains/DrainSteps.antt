@@ -1,7 +1,7 @@
 -- A drain: what the world answers, and what becomes of it.
 use Rattle.std.proofs.Common.{rules}
 use Rattle.std.proofs.Common.{ℕ, ◌≡◌, ◌<◌, ◌≤◌, ◌+◌, ◌++◌, ◌^◌, true, false, inl, inr, List, [], ◌∷◌, Some, None, Ok, Err, refl, sym, ap, subst, ◌∙◌, arith}
-use Rattle.std.specs.Prelude.{Result, ◌==◌, ⊤, MatchBool, MatchOption, option_map, length, if◌then◌else◌}
+use Rattle.std.specs.Prelude.{Bool, not, Result, ◌==◌, ⊤, MatchBool, MatchOption, option_map, length, if◌then◌else◌}
 use Rattle.std.proofs.lemmas.Bool.{true≢false, false_from_ne_true, le-leb, ne_eqb}
 use Rattle.std.proofs.lemmas.List.{append-nil}
 use Rattle.pmem_base.specs.declared.lines.Ctr.{Ctr}
@@ -23,14 +23,14 @@ use Rattle.suite.specs.Setup.{Setup}
 use Rattle.plain_model.specs.State.{PlainState, Reply}
 use Rattle.plain_model.specs.Legal.{front_of}
 use Rattle.plain_model.specs.Asked.{moment_of, marks_of_write}
-use Rattle.plain_model.specs.Bounds.{path_length, dirty_bound, is_spent_in_flight}
+use Rattle.plain_model.specs.Bounds.{path_length, dirty_bound, is_spent_in_flight, IsSpentWithin}
 use Rattle.plain_model.specs.After.{state_after, after_marks, steps_of, is_cut}
 use Rattle.plain_model.specs.Answers.{decided_answer, is_shown}
 use Rattle.pmem_engine.specs.declared.fault.Fault.{Fault}
 use Rattle.pmem_engine.specs.declared.fault.Fault.TheVariants as Fail
-use Rattle.pmem_engine.specs.Outcomes.{is_sealed_by}
+use Rattle.pmem_engine.specs.Outcomes.{going, outcome_of, is_sealed_by}
 use Rattle.pmem_engine.specs.Calls.{IsPartOf}
-use Rattle.pmem_replay.specs.World.{WorldState, IsOn, IsWorld, view_in, setup_of_world}
+use Rattle.pmem_replay.specs.World.{WorldState, IsOn, IsPowered, IsWorld, view_in, setup_of_world}
 use Rattle.pmem_replay.specs.declared.taken.Taken.{Taken}
 use Rattle.pmem_replay.specs.During.{steps_in}
 use Rattle.pmem_replay.specs.Given.{given_state, WasGiven, IsGiven, IsGivenShown, HasGiven, HasMarkRoom, IsDrainReply}
@@ -40,7 +40,7 @@ use Rattle.pmem_replay.specs.declared.draining.Gave.TheVariants.{Put, Refused, S
 use Rattle.pmem_replay.proofs.Steps.PartsOfWorld.{since}
 use Rattle.pmem_replay.specs.Stepped.{HasStepped, HasDrained, IsDrainAnswer, IsSeenOnDevice, IsExhibitSeen}
 use Rattle.pmem_replay.proofs.Marks.AfterMarks.{touched_after, flushed_after, with_flags, after_marks-is}
-use Rattle.pmem_replay.proofs.Steps.WorldsAfterCalls.{on_in, IsCall}
+use Rattle.pmem_replay.proofs.Steps.WorldsAfterCalls.{on_in, IsCall, cut_counted, uncut_counted}
 use Rattle.pmem_replay.proofs.Steps.FaultCauses.{on_path-within, forged_unstored, shown_uncut}
 use Rattle.pmem_replay.proofs.Marks.AskedMarks.{refused_within}
 use Rattle.pmem_replay.proofs.Marks.OpenPages.{whole_pages}
@@ -52,7 +52,7 @@ use Rattle.pmem_replay.proofs.Marks.SealedLines.{same_truth}
 use Rattle.pmem_replay.proofs.Steps.DeviceEvidence.{meta_wrong, tag_wrong, small_position, small_line, clash_sight, forged_sight_by, seal_counter}
 use Rattle.pmem_replay.proofs.Steps.WorldSteps.{stepped_by_engine}
 use Rattle.pmem_replay.proofs.Table.UnchangedSteps.{IsGoingOn, lit_in}
-use Rattle.pmem_replay.proofs.Drains.WriteLaws.{shown-good, meta-good, tag-good, spent-good, spent-steps, lost-good, kept-good, cut-bound, cut-dirty, lost-unsealed, kept-sealed}
+use Rattle.pmem_replay.proofs.Drains.WriteLaws.{shown-good, path-steps, meta-good, tag-good, spent-good, spent-steps, lost-good, kept-good, cut-bound, cut-dirty, lost-unsealed, kept-sealed}
 use Rattle.pmem_replay.proofs.Drains.WriteReplies.{IsWriting, drain_is_writing, after_refused, after_spent, after_lost, after_kept}
 use Rattle.pmem_replay.proofs.Drains.WriteWorlds.{front_on_memory}
 
@@ -66,9 +66,19 @@ some_long write later = ne_eqb (length (write ∷ later)) 0 zero_not
 pub given_drained : (setup : Setup) (old new : WorldState) (ledger : LedgerState) (more : ℕ) → HasRoom old.ledger ledger more → (port : ℕ) (answer : Result Ctr Fault)
     → (given : WasGiven setup (record old { ledger = ledger }) port answer new) (said : Answer) → IsDrainAnswer new answer said
     → new.engine ≡ (if is_cut said then None else Some given.after)
+    → new.board.powered ≡ not (is_cut said)
     → (is_shown said ≡ false → steps_of said ≡ steps_in given.taken)
     → HasDrained setup given.write old said new
-given_drained setup old new ledger more room port answer given said says kept steps = search rules
+given_drained setup old new ledger more room port answer given said says kept power steps =
+    search (rules, cut_counted given.follows power, uncut_counted given.follows power)
+
+-- power is on afterwards where the write wasn't cut
+pub power_after : (setup : Setup) (old new : WorldState) (port steps : ℕ) (answer : Result Ctr Fault) (put goes : Bool)
+    → IsGiven setup old port steps answer put goes new → new.board.powered ≡ goes
+power_after setup old new port steps answer put true is =
+    is.holds.board.power ∙ (on_in setup new is.given.after is.holds is.engine).powered
+power_after setup old new port steps answer put false is =
+    is.holds.board.power ∙ (subst (λ e. IsPowered setup new e) is.engine is.holds.chip).unpowered
 
 module _ (setup : Setup) (old new : WorldState) (ledger : LedgerState) (room : HasRoom old.ledger ledger 66) (port : ℕ) (small : port < 8)
     (goes_on : IsGoingOn setup old) (whole : IsWorld setup (record old { ledger = ledger })) where
@@ -108,30 +118,44 @@ module _ (setup : Setup) (old new : WorldState) (ledger : LedgerState) (room : H
 
     called_one : (said : Answer) → IsDrainAnswer new answer said
         → new.engine ≡ (if is_cut said then None else Some given.after)
+        → new.board.powered ≡ not (is_cut said)
         → (is_shown said ≡ false → steps_of said ≡ steps_in given.taken)
         → MatchOption (front_of old.state port) ⊥
         (λ write. HasDrained setup write old said new)
-    called_one said says kept steps = rw given.waits (given_drained setup old new ledger 66 room port answer given said says kept steps)
+    called_one said says kept power steps = rw given.waits (given_drained setup old new ledger 66 room port answer given said says kept power steps)
 
     on_mid : IsOn setup mid given.engine
     on_mid = on_in setup mid given.engine whole given.was_on
 
+    -- where the write is spent, its steps are those of its path alone
+    path_within : outcome_of answer ≡ going → marks_of_write setup.formulas (moment_of mid.state (view_in setup mid)) given.write ≡ None
+        → IsSpentWithin setup.shape mid.state None given.written.made (0 + steps_in given.taken)
+    path_within goes none =
+        let steps =
+        path-steps setup mid mid new (Do.Drain port) None port 0 [] 0 writing drained whole small given.write given.later given.waits given.engine given.after
+        given.taken call answer given.written goes none in
+        (
+          le-leb (0 + steps_in given.taken) (path_length setup.shape) (omega (arith, steps.0)),
+          le-leb (0 + steps_in given.taken) (dirty_bound setup.shape mid.state) (omega (arith, steps.1)),
+        )
+
     -- a step of the engine's
     one_step : (said : Answer) → IsGood setup mid (Do.Drain port) (record { marks = given.written.made; answer = said }) → IsAnswer said
         → IsDrainAnswer new answer said → new.engine ≡ (if is_cut said then None else Some given.after)
+        → new.board.powered ≡ not (is_cut said)
         → (is_shown said ≡ false → steps_of said ≡ steps_in given.taken)
         → new.shown ≡ is_shown said
         → (is_shown said ≡ false → new.state ≡ state_after setup.shape old.state (Do.Drain port) (record { marks = given.written.made; answer = said }))
         → (is_shown said ≡ false → IsWorld setup new)
         → IsSeenOnDevice setup old (Do.Drain port) said new
         → HasStepped setup old (Do.Drain port) (record { marks = given.written.made; answer = said }) new
-    one_step said good its says kept steps shown state holds seen =
+    one_step said good its says kept power steps shown state holds seen =
         stepped_by_engine setup old new (Do.Drain port) (record { marks = given.written.made; answer = said }) undecided
         (good_mid (record { marks = given.written.made; answer = said }) good) its
         (record { shape = given.shape; keys = given.keys; start = given.start })
         shown
         (given.marks ∙ ap (λ (ms : List Mark). ms ++ given.written.made) room.marks)
-        state holds (called_one said says kept steps) seen
+        state holds (called_one said says kept power steps) seen
 
   -- ---- drained
 
@@ -159,7 +183,7 @@ module _ (setup : Setup) (old new : WorldState) (ledger : LedgerState) (room : H
       subst (λ (k : ℕ). HasStepped setup old (Do.Drain port) (record { marks = g.written.made; answer = Say.Drained k }) new) (all_steps n (steps_in g.taken) is.counted)
       (one_step (Ok ctr) g (Say.Drained (0 + steps_in g.taken))
       (drained-good setup mid new port g.written.made (0 + steps_in g.taken) more)
-      (few g.taken g.follows.few) tt is.engine (λ quiet. none_more (steps_in g.taken)) is.unshown
+      (few g.taken g.follows.few) tt is.engine (power_after _ _ _ _ _ _ _ _ is) (λ quiet. none_more (steps_in g.taken)) is.unshown
       (λ quiet. drained-after setup mid new port g.written.made (0 + steps_in g.taken) more)
       (λ quiet. is.holds) tt)
 
@@ -182,8 +206,8 @@ module _ (setup : Setup) (old new : WorldState) (ledger : LedgerState) (room : H
       let marks : new.ledger.marks ≡ ledger.marks = g.marks ∙ ap (λ (ms : List Mark). ledger.marks ++ ms) none ∙ append-nil ledger.marks in
       subst (λ (k : ℕ). HasStepped setup old (Do.Drain port) (record { marks = g.written.made; answer = Say.Refused None (Place.Meta x) k }) new) (all_steps n (steps_in g.taken) is.counted)
       (one_step (Err (Fail.Meta x)) g (Say.Refused None (Place.Meta x) (0 + steps_in g.taken))
-      (meta-good setup mid mid new (Do.Drain port) None port 0 [] 0 writing drained whole small g.write g.later g.waits g.engine g.after g.taken c x g.written)
-      (tt, small_position setup.shape whole.whole_shape x in_tree, few g.taken g.follows.few) refl is.engine (λ quiet. none_more (steps_in g.taken)) is.unshown
+      (meta-good setup mid mid new (Do.Drain port) None port 0 [] 0 writing drained whole small g.write g.later g.waits g.engine g.after g.taken c x g.written (path_within (Err (Fail.Meta x)) g refl))
+      (tt, small_position setup.shape whole.whole_shape x in_tree, few g.taken g.follows.few) refl is.engine (power_after _ _ _ _ _ _ _ _ is) (λ quiet. none_more (steps_in g.taken)) is.unshown
       (λ quiet. state_form (given_state mid.state port g.write g.later (steps_in g.taken) false true) g.written.made is.state
       ∙ after_refused setup mid mid (Do.Drain port) None port 0 [] g.written.made 0 (steps_in g.taken) writing drained g.write g.later g.waits (Place.Meta x))
       (λ quiet. is.holds)
@@ -203,8 +227,8 @@ module _ (setup : Setup) (old new : WorldState) (ledger : LedgerState) (room : H
       (g.written.marks on.trusted.not_down on.trusted mid.state.memory whole.memory.each)) in
       subst (λ (k : ℕ). HasStepped setup old (Do.Drain port) (record { marks = g.written.made; answer = Say.Refused None (Place.Line b) k }) new) (all_steps n (steps_in g.taken) is.counted)
       (one_step (Err (Fail.Tag b)) g (Say.Refused None (Place.Line b) (0 + steps_in g.taken))
-      (tag-good setup mid mid new (Do.Drain port) None port 0 [] 0 writing drained whole small g.write g.later g.waits g.engine g.after g.taken c b g.written)
-      (tt, small_b, few g.taken g.follows.few) refl is.engine (λ quiet. none_more (steps_in g.taken)) is.unshown
+      (tag-good setup mid mid new (Do.Drain port) None port 0 [] 0 writing drained whole small g.write g.later g.waits g.engine g.after g.taken c b g.written (path_within (Err (Fail.Tag b)) g refl))
+      (tt, small_b, few g.taken g.follows.few) refl is.engine (power_after _ _ _ _ _ _ _ _ is) (λ quiet. none_more (steps_in g.taken)) is.unshown
       (λ quiet. state_form (given_state mid.state port g.write g.later (steps_in g.taken) false true) g.written.made is.state
       ∙ after_refused setup mid mid (Do.Drain port) None port 0 [] g.written.made 0 (steps_in g.taken) writing drained g.write g.later g.waits (Place.Line b))
       (λ quiet. is.holds)
@@ -224,7 +248,7 @@ module _ (setup : Setup) (old new : WorldState) (ledger : LedgerState) (room : H
       (one_step (Err (Fail.Spent page)) g (Say.Spent None page (0 + steps_in g.taken))
       (spent-good setup mid mid new (Do.Drain port) None port 0 [] 0 writing drained whole small g.write g.later g.waits g.engine g.after g.taken c page g.written
       (le-leb (0 + steps_in g.taken) (path_length setup.shape) (omega (arith, steps.0)), le-leb (0 + steps_in g.taken) (dirty_bound setup.shape mid.state) (omega (arith, steps.1))))
-      (tt, small_page, few g.taken g.follows.few) refl is.engine (λ quiet. none_more (steps_in g.taken)) is.unshown
+      (tt, small_page, few g.taken g.follows.few) refl is.engine (power_after _ _ _ _ _ _ _ _ is) (λ quiet. none_more (steps_in g.taken)) is.unshown
       (λ quiet. state_form (given_state mid.state port g.write g.later (steps_in g.taken) false true) g.written.made is.state
       ∙ after_spent setup mid mid (Do.Drain port) None port 0 [] g.written.made 0 (steps_in g.taken) writing drained g.write g.later g.waits page)
       (λ quiet. is.holds) tt)
@@ -251,7 +275,7 @@ module _ (setup : Setup) (old new : WorldState) (ledger : LedgerState) (room : H
       subst (λ (k : ℕ). HasStepped setup old (Do.Drain port) (record { marks = g.written.made; answer = Say.CutKept None k }) new) (all_steps n (steps_in g.taken) is.counted)
       (one_step (Err Fail.Cut) g (Say.CutKept None (0 + steps_in g.taken))
       (kept-good setup mid mid new (Do.Drain port) None port 0 [] 0 writing drained whole small g.write g.later g.waits g.engine g.after g.taken c g.written all (bound, below))
-      (tt, few g.taken g.follows.few) tt is.engine (λ quiet. none_more (steps_in g.taken)) is.unshown
+      (tt, few g.taken g.follows.few) tt is.engine (power_after _ _ _ _ _ _ _ _ is) (λ quiet. none_more (steps_in g.taken)) is.unshown
       (λ quiet. state_form (given_state mid.state port g.write g.later (steps_in g.taken) true false) g.written.made is.state
       ∙ after_kept setup mid mid (Do.Drain port) None port 0 [] g.written.made 0 (steps_in g.taken) writing drained g.write g.later g.waits)
       (λ quiet. is.holds) tt)
@@ -277,7 +301,7 @@ module _ (setup : Setup) (old new : WorldState) (ledger : LedgerState) (room : H
       subst (λ (k : ℕ). HasStepped setup old (Do.Drain port) (record { marks = g.written.made; answer = Say.CutLost None k }) new) (all_steps n (steps_in g.taken) is.counted)
       (one_step (Err Fail.Cut) g (Say.CutLost None (0 + steps_in g.taken))
       (lost-good setup mid mid new (Do.Drain port) None port 0 [] 0 writing drained whole small g.write g.later g.waits g.engine g.after g.taken c g.written part (bound, below))
-      (tt, few g.taken g.follows.few) tt is.engine (λ quiet. none_more (steps_in g.taken)) is.unshown
+      (tt, few g.taken g.follows.few) tt is.engine (power_after _ _ _ _ _ _ _ _ is) (λ quiet. none_more (steps_in g.taken)) is.unshown
       (λ quiet. state_form (given_state mid.state port g.write g.later (steps_in g.taken) false false) g.written.made is.state
       ∙ after_lost setup mid mid (Do.Drain port) None port 0 [] g.written.made 0 (steps_in g.taken) writing drained g.write g.later g.waits)
       (λ quiet. is.holds) tt)
@@ -315,7 +339,7 @@ module _ (setup : Setup) (old new : WorldState) (ledger : LedgerState) (room : H
       one_step (Err Fail.Shown) g (Say.Shown exhibit)
       (shown-good setup mid mid new (Do.Drain port) None port 0 [] 0 writing drained whole small g.write g.later g.waits g.engine g.after g.taken c g.written exhibit is.its
       (λ clash. clash.fetched.before) places)
-      sight.0 is.its is.engine
+      sight.0 is.its is.engine (done.gone.power.1 (whole.board.power ∙ on.powered))
       (λ quiet. absurd (true≢false quiet)) is.shown
       (λ quiet. absurd (true≢false quiet))
       (λ quiet. absurd (true≢false quiet))

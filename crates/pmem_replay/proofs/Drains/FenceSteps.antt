@@ -1,6 +1,6 @@
 -- A fence with a write that ends it: what the world answers, and what becomes of it.
 use Rattle.std.proofs.Common.{ℕ, suc, ◌*◌, ◌≡◌, ◌<◌, ◌≤◌, ◌+◌, ◌++◌, ◌^◌, true, false, inl, inr, List, [], Some, None, Ok, Err, refl, sym, ap, subst, ◌∙◌, arith}
-use Rattle.std.specs.Prelude.{Result, option_map, if◌then◌else◌}
+use Rattle.std.specs.Prelude.{not, Result, option_map, if◌then◌else◌}
 use Rattle.std.proofs.lemmas.Bool.{true≢false, false_from_ne_true}
 use Rattle.std.proofs.lemmas.List.{append-nil, append_assoc, get_or-set_same}
 use Rattle.pmem_base.specs.declared.lines.Ctr.{Ctr}
@@ -37,13 +37,13 @@ use Rattle.pmem_replay.proofs.Marks.AskedMarks.{refused_within}
 use Rattle.pmem_replay.proofs.Marks.OpenPages.{whole_pages}
 use Rattle.pmem_engine.proofs.PostedWrites.WriteParts.{last_seal-unsealed}
 use Rattle.pmem_replay.proofs.Drains.DrainChain.{IsDrainedTo, drained-more}
-use Rattle.pmem_replay.proofs.Drains.DrainSteps.{given_drained}
+use Rattle.pmem_replay.proofs.Drains.DrainSteps.{given_drained, power_after}
 use Rattle.pmem_replay.proofs.Steps.ReservedRoom.{same_room}
 use Rattle.pmem_replay.proofs.Steps.GoodReplies.{IsGood}
 use Rattle.pmem_replay.proofs.Marks.SealedLines.{same_truth}
 use Rattle.pmem_replay.proofs.Steps.DeviceEvidence.{meta_wrong, tag_wrong, small_position, small_line, clash_sight, forged_sight_by, seal_counter}
 use Rattle.pmem_replay.proofs.Steps.WorldSteps.{stepped_by_engine}
-use Rattle.pmem_replay.proofs.Drains.WriteLaws.{shown-good, meta-good, tag-good, spent-good, spent-bound, lost-good, kept-good, cut-bound, lost-unsealed, kept-sealed}
+use Rattle.pmem_replay.proofs.Drains.WriteLaws.{shown-good, path-bound, meta-good, tag-good, spent-good, spent-bound, lost-good, kept-good, cut-bound, lost-unsealed, kept-sealed}
 use Rattle.pmem_replay.proofs.Drains.WriteReplies.{IsWriting, fence_is_writing, after_refused, after_spent, after_lost, after_kept}
 use Rattle.pmem_replay.proofs.Drains.WriteWorlds.{front_on_memory}
 
@@ -95,27 +95,29 @@ module _ (setup : Setup) (mid now new : WorldState) (port : ℕ) (small : port <
     -- the write is given to the engine, as by a drain of it
     drained_one : (one : Answer) → IsDrainAnswer new answer one
         → new.engine ≡ (if is_cut one then None else Some given.after)
+        → new.board.powered ≡ not (is_cut one)
         → (is_shown one ≡ false → steps_of one ≡ steps_in given.taken)
         → HasDrained setup given.write now one new
-    drained_one one says kept steps = given_drained setup now new now.ledger 0 (same_room now.ledger) port answer given one says kept steps
+    drained_one one says kept power steps = given_drained setup now new now.ledger 0 (same_room now.ledger) port answer given one says kept power steps
 
     -- a step of the engine's, by what a drain of the write that ends it would answer
     one_step : (one said : Answer) → IsGood setup mid (Do.Fence port) (record { marks = made ++ given.written.made; answer = said }) → IsAnswer said
         → IsDrainAnswer new answer one → new.engine ≡ (if is_cut one then None else Some given.after)
+        → new.board.powered ≡ not (is_cut one)
         → (is_shown one ≡ false → steps_of one ≡ steps_in given.taken) → EndsFence n spent one said
         → new.shown ≡ is_shown said
         → (is_shown said ≡ false → new.state ≡ state_after setup.shape mid.state (Do.Fence port) (record { marks = made ++ given.written.made; answer = said }))
         → (is_shown said ≡ false → IsWorld setup new)
         → IsSeenOnDevice setup mid (Do.Fence port) said new
         → HasStepped setup mid (Do.Fence port) (record { marks = made ++ given.written.made; answer = said }) new
-    one_step one said good its says kept steps ends shown state holds seen =
+    one_step one said good its says kept power steps ends shown state holds seen =
         stepped_by_engine setup mid new (Do.Fence port) (record { marks = made ++ given.written.made; answer = said }) undecided good its
         (record { shape = given.shape ∙ fencing.shape; keys = given.keys ∙ fencing.keys; start = given.start ∙ fencing.start })
         shown
         (given.marks ∙ ap (λ (ms : List Mark). ms ++ given.written.made) drained.marks ∙ append_assoc mid.ledger.marks made given.written.made)
         state holds
         (fencing.chain said new
-        (subst (λ (q : List Posted). HasFenced setup q n spent now said new) (sym given.waits) (inl (one, drained_one one says kept steps, ends))))
+        (subst (λ (q : List Posted). HasFenced setup q n spent now said new) (sym given.waits) (inl (one, drained_one one says kept power steps, ends))))
         seen
 
   -- ---- drained
@@ -158,7 +160,7 @@ module _ (setup : Setup) (mid now new : WorldState) (port : ℕ) (small : port <
             (inr (
               k,
               new,
-              drained_one (Ok ctr) g (Say.Drained k) tt is.engine (λ quiet. is.counted),
+              drained_one (Ok ctr) g (Say.Drained k) tt is.engine (power_after _ _ _ _ _ _ _ _ is) (λ quiet. is.counted),
               subst (λ (m : ℕ). HasFenced setup g.later m (spent + k) new answer last) {x = suc n} {y = n + 1} (omega arith)
                   (subst (λ (q : List Posted). HasFenced setup q (suc n) (spent + k) new answer last) waits_then rest),
             )));
@@ -186,8 +188,9 @@ module _ (setup : Setup) (mid now new : WorldState) (port : ℕ) (small : port <
       let marks : new.ledger.marks ≡ now.ledger.marks = g.marks ∙ ap (λ (ms : List Mark). now.ledger.marks ++ ms) none ∙ append-nil now.ledger.marks in
       subst (λ (s : ℕ). HasStepped setup mid (Do.Fence port) (record { marks = made ++ g.written.made; answer = Say.Refused (Some n) (Place.Meta x) s }) new) (all_steps k (steps_in g.taken) is.counted)
       (one_step (Err (Fail.Meta x)) g (Say.Refused None (Place.Meta x) (steps_in g.taken)) (Say.Refused (Some n) (Place.Meta x) (spent + steps_in g.taken))
-      (meta-good setup mid now new (Do.Fence port) (Some n) port n made spent writing drained whole_mid small g.write g.later g.waits g.engine g.after g.taken c x g.written)
-      (small_n, small_position setup.shape whole.whole_shape x in_tree, few g.taken g.follows.few) refl is.engine (λ quiet. refl) refl is.unshown
+      (meta-good setup mid now new (Do.Fence port) (Some n) port n made spent writing drained whole_mid small g.write g.later g.waits g.engine g.after g.taken c x g.written
+      (path-bound setup mid now new (Do.Fence port) (Some n) port n made spent writing drained whole_mid small g.write g.later g.waits g.engine g.after g.taken c (Err (Fail.Meta x)) g.written refl))
+      (small_n, small_position setup.shape whole.whole_shape x in_tree, few g.taken g.follows.few) refl is.engine (power_after _ _ _ _ _ _ _ _ is) (λ quiet. refl) refl is.unshown
       (λ quiet. state_form (given_state now.state port g.write g.later (steps_in g.taken) false true) g.written.made is.state
       ∙ after_refused setup mid now (Do.Fence port) (Some n) port n made g.written.made spent (steps_in g.taken) writing drained g.write g.later g.waits (Place.Meta x))
       (λ quiet. is.holds)
@@ -207,8 +210,9 @@ module _ (setup : Setup) (mid now new : WorldState) (port : ℕ) (small : port <
       (g.written.marks on.trusted.not_down on.trusted now.state.memory whole.memory.each)) in
       subst (λ (s : ℕ). HasStepped setup mid (Do.Fence port) (record { marks = made ++ g.written.made; answer = Say.Refused (Some n) (Place.Line b) s }) new) (all_steps k (steps_in g.taken) is.counted)
       (one_step (Err (Fail.Tag b)) g (Say.Refused None (Place.Line b) (steps_in g.taken)) (Say.Refused (Some n) (Place.Line b) (spent + steps_in g.taken))
-      (tag-good setup mid now new (Do.Fence port) (Some n) port n made spent writing drained whole_mid small g.write g.later g.waits g.engine g.after g.taken c b g.written)
-      (small_n, small_b, few g.taken g.follows.few) refl is.engine (λ quiet. refl) refl is.unshown
+      (tag-good setup mid now new (Do.Fence port) (Some n) port n made spent writing drained whole_mid small g.write g.later g.waits g.engine g.after g.taken c b g.written
+      (path-bound setup mid now new (Do.Fence port) (Some n) port n made spent writing drained whole_mid small g.write g.later g.waits g.engine g.after g.taken c (Err (Fail.Tag b)) g.written refl))
+      (small_n, small_b, few g.taken g.follows.few) refl is.engine (power_after _ _ _ _ _ _ _ _ is) (λ quiet. refl) refl is.unshown
       (λ quiet. state_form (given_state now.state port g.write g.later (steps_in g.taken) false true) g.written.made is.state
       ∙ after_refused setup mid now (Do.Fence port) (Some n) port n made g.written.made spent (steps_in g.taken) writing drained g.write g.later g.waits (Place.Line b))
       (λ quiet. is.holds)
@@ -228,7 +232,7 @@ module _ (setup : Setup) (mid now new : WorldState) (port : ℕ) (small : port <
       (one_step (Err (Fail.Spent page)) g (Say.Spent None page (steps_in g.taken)) (Say.Spent (Some n) page (spent + steps_in g.taken))
       (spent-good setup mid now new (Do.Fence port) (Some n) port n made spent writing drained whole_mid small g.write g.later g.waits g.engine g.after g.taken c page g.written
       bound)
-      (small_n, small_page, few g.taken g.follows.few) refl is.engine (λ quiet. refl) refl is.unshown
+      (small_n, small_page, few g.taken g.follows.few) refl is.engine (power_after _ _ _ _ _ _ _ _ is) (λ quiet. refl) refl is.unshown
       (λ quiet. state_form (given_state now.state port g.write g.later (steps_in g.taken) false true) g.written.made is.state
       ∙ after_spent setup mid now (Do.Fence port) (Some n) port n made g.written.made spent (steps_in g.taken) writing drained g.write g.later g.waits page)
       (λ quiet. is.holds) tt)
@@ -252,7 +256,7 @@ module _ (setup : Setup) (mid now new : WorldState) (port : ℕ) (small : port <
       subst (λ (s : ℕ). HasStepped setup mid (Do.Fence port) (record { marks = made ++ g.written.made; answer = Say.CutKept (Some n) s }) new) (all_steps k (steps_in g.taken) is.counted)
       (one_step (Err Fail.Cut) g (Say.CutKept None (steps_in g.taken)) (Say.CutKept (Some n) (spent + steps_in g.taken))
       (kept-good setup mid now new (Do.Fence port) (Some n) port n made spent writing drained whole_mid small g.write g.later g.waits g.engine g.after g.taken c g.written all bound)
-      (small_n, few g.taken g.follows.few) tt is.engine (λ quiet. refl) refl is.unshown
+      (small_n, few g.taken g.follows.few) tt is.engine (power_after _ _ _ _ _ _ _ _ is) (λ quiet. refl) refl is.unshown
       (λ quiet. state_form (given_state now.state port g.write g.later (steps_in g.taken) true false) g.written.made is.state
       ∙ after_kept setup mid now (Do.Fence port) (Some n) port n made g.written.made spent (steps_in g.taken) writing drained g.write g.later g.waits)
       (λ quiet. is.holds) tt)
@@ -275,7 +279,7 @@ module _ (setup : Setup) (mid now new : WorldState) (port : ℕ) (small : port <
       subst (λ (s : ℕ). HasStepped setup mid (Do.Fence port) (record { marks = made ++ g.written.made; answer = Say.CutLost (Some n) s }) new) (all_steps k (steps_in g.taken) is.counted)
       (one_step (Err Fail.Cut) g (Say.CutLost None (steps_in g.taken)) (Say.CutLost (Some n) (spent + steps_in g.taken))
       (lost-good setup mid now new (Do.Fence port) (Some n) port n made spent writing drained whole_mid small g.write g.later g.waits g.engine g.after g.taken c g.written part bound)
-      (small_n, few g.taken g.follows.few) tt is.engine (λ quiet. refl) refl is.unshown
+      (small_n, few g.taken g.follows.few) tt is.engine (power_after _ _ _ _ _ _ _ _ is) (λ quiet. refl) refl is.unshown
       (λ quiet. state_form (given_state now.state port g.write g.later (steps_in g.taken) false false) g.written.made is.state
       ∙ after_lost setup mid now (Do.Fence port) (Some n) port n made g.written.made spent (steps_in g.taken) writing drained g.write g.later g.waits)
       (λ quiet. is.holds) tt)
@@ -313,7 +317,7 @@ module _ (setup : Setup) (mid now new : WorldState) (port : ℕ) (small : port <
       one_step (Err Fail.Shown) g (Say.Shown exhibit) (Say.Shown exhibit)
       (shown-good setup mid now new (Do.Fence port) (Some n) port n made spent writing drained whole_mid small g.write g.later g.waits g.engine g.after g.taken c g.written exhibit is.its
       (λ clash. clash.fetched.before) places)
-      sight.0 is.its is.engine
+      sight.0 is.its is.engine (done.gone.power.1 (whole.board.power ∙ on.powered))
       (λ quiet. absurd (true≢false quiet)) refl is.shown
       (λ quiet. absurd (true≢false quiet))
       (λ quiet. absurd (true≢false quiet))

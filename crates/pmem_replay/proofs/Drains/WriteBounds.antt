@@ -1,6 +1,8 @@
--- Steps of a write that is refused, spent or cut, and the bounds that they keep.
-use Rattle.std.proofs.Common.{ℕ, suc, ◌≡◌, ◌+◌, ◌++◌, cond, List, [], Option, Some, None, Err, refl, arith, take, ap, ap₂, ◌∙◌}
-use Rattle.std.specs.Prelude.{is_none, unwrap_or, option_map}
+-- What a write asks, and the bounds that the steps of one that is refused or cut keep.
+use Rattle.std.proofs.Common.{ℕ, suc, ◌≡◌, ◌<◌, ◌≤◌, ◌+◌, ◌++◌, cond, List, [], ◌∷◌, length, Option, Some, None, Err, refl, arith, take, sym, ap, ap₂, subst, ◌∙◌}
+use Rattle.std.specs.Prelude.{All, MatchBool, is_none, unwrap_or, option_map}
+use Rattle.std.proofs.lemmas.Bool.{le-leb}
+use Rattle.std.proofs.lemmas.List.{length-append}
 use Rattle.pmem_base.specs.declared.commands.Command.{Command}
 use Rattle.pmem_base.specs.declared.answers.Mark.{Mark}
 use Rattle.pmem_base.specs.declared.answers.Place.{Place}
@@ -8,20 +10,25 @@ use Rattle.pmem_base.specs.declared.answers.Answer.TheVariants as Say
 use Rattle.pmem_base.specs.Shape.{Shape}
 use Rattle.suite.specs.Setup.{Setup}
 use Rattle.plain_model.specs.Legal.{IsEngineLegal}
-use Rattle.plain_model.specs.Bounds.{writing_bound, spent_bound, marks_of_first, cut_bound}
+use Rattle.plain_model.specs.State.{PlainState}
+use Rattle.plain_model.specs.View.{start_view, view_of, view_after_marks}
+use Rattle.plain_model.proofs.Views.{view_after_marks-append}
+use Rattle.plain_model.specs.Bounds.{writing_bound, path_length, spent_bound, dirty_bound, is_spent_in_flight, marks_of_first, cut_bound, IsRefusedWriteWithin, IsSpentWithin}
 use Rattle.plain_model.specs.Fits.{Fits}
 use Rattle.pmem_engine.specs.declared.fault.Fault.TheVariants as Fail
 use Rattle.pmem_engine.specs.Parts.{Parts}
-use Rattle.pmem_engine.specs.Outcomes.{going, TakesAtMost}
-use Rattle.pmem_engine.specs.Calls.{TakesOfWrite, TakesSpent, write_bound}
+use Rattle.pmem_engine.specs.Outcomes.{TakesAtMost}
+use Rattle.pmem_engine.specs.Calls.{TakesOfWrite, write_bound}
 use Rattle.pmem_replay.specs.World.{WorldState, view_in}
 use Rattle.pmem_base.specs.declared.commands.Posted.{Posted}
 use Rattle.pmem_base.specs.WaitingWrites.{queue_of}
-use Rattle.plain_model.specs.Asked.{moment_of, marks_of_write, marks_of_writes}
-use Rattle.pmem_replay.proofs.Drains.DrainLists.{marks_of_writes-more, take-next}
+use Rattle.plain_model.specs.Asked.{seal_mark, moment_of, marks_of_write, marks_of_writes}
+use Rattle.pmem_replay.proofs.Marks.OpenPages.{IsWholePage}
+use Rattle.pmem_replay.proofs.Marks.AskedMarks.{asked_form}
+use Rattle.pmem_replay.proofs.Drains.DrainLists.{writing_bound-append, marks_of_writes-more, take-next}
 use Rattle.pmem_replay.proofs.Drains.DrainChain.{IsDrainedTo, IsNext}
 
--- ---- the steps of a refused or spent write
+-- ---- the steps of a refused write
 
 pub takes_meta : (g : Shape) (asked : Option (List Mark)) (made : List Mark) (old new : Parts) (x : ℕ)
     → TakesOfWrite g asked made old new (Err (Fail.Meta x)) → TakesAtMost (write_bound g made) old.device new.device
@@ -33,10 +40,22 @@ pub takes_tag : (g : Shape) (asked : Option (List Mark)) (made : List Mark) (old
 takes_tag g None made old new b it = it
 takes_tag g (Some marks) made old new b it = it
 
-pub takes_spent : (g : Shape) (asked : Option (List Mark)) (made : List Mark) (old new : Parts) (page : ℕ)
-    → TakesOfWrite g asked made old new (Err (Fail.Spent page)) → TakesSpent g going old new
-takes_spent g None made old new page it = it
-takes_spent g (Some marks) made old new page it = it
+-- ---- the marks of a write
+
+-- a write that isn't spent asks some
+pub some_asked : (setup : Setup) (mid : WorldState) (write : Posted) → All (IsWholePage setup.shape) (view_in setup mid).open_pages
+    → (marks : List Mark) → marks_of_write setup.formulas (moment_of mid.state (view_in setup mid)) write ≡ Some marks → 0 < length marks
+some_asked setup mid write whole marks it =
+    let form = asked_form setup.shape setup.formulas (moment_of mid.state (view_in setup mid)) write marks whole it in
+    omega (arith, ap length form.form, length-append form.front (seal_mark setup.formulas write.at form.ctr form.plain ∷ []))
+
+-- the view after the marks before it and its own
+pub view_both : (setup : Setup) (old mid : WorldState) (port n : ℕ) (made : List Mark) (spent : ℕ) → IsDrainedTo setup old mid port n made spent
+    → (more : List Mark) → view_after_marks (view_in setup old) (made ++ more) ≡ view_after_marks (view_in setup mid) more
+view_both setup old mid port n made spent drained more =
+    view_after_marks-append (view_in setup old) made more
+    ∙ ap (λ view. view_after_marks view more)
+    (sym (view_after_marks-append (start_view setup.shape) old.ledger.marks made) ∙ ap (view_of setup.shape) (sym drained.marks))
 
 -- ---- the bound of a cut
 
@@ -72,6 +91,37 @@ bound_at setup old mid port n made spent write drained next it there =
     (writing_bound setup.shape (n + 1) (unwrap_or second []))) drained.asked
     (first_next setup old mid port n made spent write drained next ∙ ap (option_map (λ more. made ++ more)) there)
     ∙ bound_is setup.shape n made it
+
+-- ---- the bound of a refusal
+
+-- the steps of a write that was refused are within the bound
+pub refused_bound : (g : Shape) (n : ℕ) (made more : List Mark) (spent steps : ℕ) → spent ≤ writing_bound g n made → steps ≤ write_bound g more
+    → spent + steps ≤ writing_bound g (n + 1) (made ++ more)
+refused_bound g n made more spent steps before few = omega (arith, few, before, writing_bound-append g n 1 made more)
+
+-- so are those of any refusal, also where the write is spent
+pub refusal_within : (setup : Setup) (old mid : WorldState) (port n : ℕ) (made : List Mark) (spent : ℕ) (write : Posted)
+    → IsDrainedTo setup old mid port n made spent → IsNext setup old mid port n made write
+    → (d : Option ℕ) → unwrap_or d 0 ≡ n → (all : List Mark) (steps : ℕ)
+    → (marks_of_write setup.formulas (moment_of mid.state (view_in setup mid)) write ≡ None → IsSpentWithin setup.shape old.state d all steps)
+    → steps ≤ writing_bound setup.shape (n + 1) all → IsRefusedWriteWithin setup old.state (view_in setup old) port d all steps
+refusal_within setup old mid port n made spent write drained next d count all steps if_spent bound =
+    subst (λ k. MatchBool (is_spent_in_flight setup old.state (view_in setup old) port k) (IsSpentWithin setup.shape old.state d all steps)
+    (steps ≤ writing_bound setup.shape (k + 1) all)) (sym count)
+    (subst (λ o. MatchBool (is_none o) (IsSpentWithin setup.shape old.state d all steps) (steps ≤ writing_bound setup.shape (n + 1) all))
+    (sym (first_next setup old mid port n made spent write drained next))
+    (go (marks_of_write setup.formulas (moment_of mid.state (view_in setup mid)) write) refl))
+  where
+    go : (it : Option (List Mark)) → marks_of_write setup.formulas (moment_of mid.state (view_in setup mid)) write ≡ it
+        → MatchBool (is_none (option_map (λ more. made ++ more) it)) (IsSpentWithin setup.shape old.state d all steps)
+        (steps ≤ writing_bound setup.shape (n + 1) all)
+    go None there = if_spent there
+    go (Some marks) there = bound
+
+-- no step at all is within each bound of a spent write
+pub none_within : (g : Shape) (state : PlainState) (d : Option ℕ) (all : List Mark) → IsSpentWithin g state d all 0
+none_within g state None all = (le-leb 0 (path_length g) (omega arith), le-leb 0 (dirty_bound g state) (omega arith))
+none_within g state (Some k) all = omega arith
 
 -- a refusal that is legal and fits, with these steps
 pub record CanBeRefusedIn (setup : Setup) (old : WorldState) (command : Command) (marks : List Mark) (d : Option ℕ) (place : Place) (steps : ℕ) :

@@ -1,9 +1,10 @@
 -- Drains and fences: the reply is legal and fits, whatever the engine makes of the last write.
-use Rattle.std.proofs.Common.{ℕ, suc, ◌≡◌, ◌≢◌, ◌<◌, ◌≤◌, ◌+◌, ◌-◌, ◌++◌, inl, inr, true, false, List, [], ◌∷◌, length, take, Option, Some, None, Err, IsTrue, refl, sym, ap, subst, ◌∙◌, arith}
-use Rattle.std.specs.Prelude.{⊤, All, MatchOption, MatchBool, IfSome, is_none, unwrap_or, option_map}
+use Rattle.std.proofs.Common.{ℕ, suc, ◌≡◌, ◌≢◌, ◌<◌, ◌≤◌, ◌+◌, ◌-◌, ◌++◌, inl, inr, true, false, List, [], ◌∷◌, take, Option, Some, None, Err, IsTrue, refl, sym, ap, subst, ◌∙◌, arith}
+use Rattle.std.specs.Prelude.{⊤, All, Result, MatchOption, MatchBool, IfSome, is_none, unwrap_or, option_map}
 use Rattle.std.proofs.lemmas.Option.{same_Some, slice_get_within}
 use Rattle.std.proofs.lemmas.Bool.{false_from_ne_true}
-use Rattle.std.proofs.lemmas.List.{append-nil, length-append}
+use Rattle.std.proofs.lemmas.List.{append-nil}
+use Rattle.pmem_base.specs.declared.lines.Ctr.{Ctr}
 use Rattle.pmem_base.specs.declared.commands.Posted.{Posted}
 use Rattle.pmem_base.specs.declared.commands.Command.{Command}
 use Rattle.pmem_base.specs.declared.answers.Mark.{Mark}
@@ -21,19 +22,19 @@ use Rattle.meta_path.specs.Blocks.{dirty_count}
 use Rattle.suite.specs.Formulas.{cipher_of}
 use Rattle.suite.specs.Setup.{Setup}
 use Rattle.plain_model.specs.State.{PlainState, is_flagged}
-use Rattle.plain_model.specs.View.{start_view, view_of, view_after_marks, counter_at, true_line}
-use Rattle.plain_model.proofs.Views.{view_after_marks-append}
+use Rattle.plain_model.specs.View.{view_after_marks, counter_at, true_line}
 use Rattle.plain_model.specs.After.{after_drains}
-use Rattle.plain_model.specs.Asked.{Moment, seal_mark, moment_of, marks_of_write, marks_of_writes}
+use Rattle.plain_model.specs.Asked.{Moment, moment_of, marks_of_write, marks_of_writes}
 use Rattle.plain_model.specs.Legal.{port_of, state_at_turn, can_put_first, MayDiffer, IsRefusalCaused}
 use Rattle.plain_model.specs.Shown.{IsShown}
 use Rattle.plain_model.specs.Bounds.{writing_bound, path_length, spent_bound, dirty_bound, is_spent_in_flight, cut_bound, IsCutWriteWithin, IsSpentWithin}
 use Rattle.plain_model.specs.Fits.{IsStopped, IsSpentNext, IsPlaceInFlight}
+use Rattle.pmem_engine.specs.declared.fault.Fault.{Fault}
 use Rattle.pmem_engine.specs.declared.fault.Fault.TheVariants as Fail
 use Rattle.pmem_engine.specs.Engine.{EngineState}
-use Rattle.pmem_engine.specs.Outcomes.{going, is_sealed_by, OneLossEffect, KeepsPlaces}
+use Rattle.pmem_engine.specs.Outcomes.{going, outcome_of, is_sealed_by, OneLossEffect, KeepsPlaces}
 use Rattle.pmem_engine.specs.Faults.{IsClashShown}
-use Rattle.pmem_engine.specs.Calls.{HasWrittenLine, IsPartOf, IsRefusedLine, TakesOfWrite, write_bound, IsForgedInWrite}
+use Rattle.pmem_engine.specs.Calls.{HasWrittenLine, IsPartOf, IsRefusedLine, TakesOfWrite, TakesSpent, write_bound, IsForgedInWrite}
 use Rattle.pmem_engine.proofs.Laws.TrueLines.{true_line-is}
 use Rattle.pmem_replay.specs.World.{WorldState, IsOn, IsWorld, view_in, lines_in}
 use Rattle.pmem_replay.specs.declared.taken.Taken.{Taken}
@@ -51,7 +52,7 @@ use Rattle.pmem_replay.proofs.Drains.WriteWorlds.{front_on_memory}
 use Rattle.pmem_replay.proofs.Drains.DrainChain.{IsDrainedTo, IsNext, next-known, next-short, can-more, marks-more, fuse_more, fuse_cut, drains_fuse}
 use Rattle.pmem_replay.proofs.Drains.WriteReplies.{IsWriting, part_none, stopped, place_refused, meta_refused, refused_part}
 use Rattle.pmem_replay.proofs.Steps.GoodReplies.{IsGood}
-use Rattle.pmem_replay.proofs.Drains.WriteBounds.{takes_meta, takes_tag, takes_spent, bound_by, first_next, bound_at, CanBeRefusedIn, next_count}
+use Rattle.pmem_replay.proofs.Drains.WriteBounds.{takes_meta, takes_tag, some_asked, view_both, refused_bound, refusal_within, none_within, bound_by, first_next, bound_at, CanBeRefusedIn, next_count}
 
 module _ (setup : Setup) (old mid new : WorldState) (command : Command) (d : Option ℕ) (port n : ℕ) (made : List Mark) (spent : ℕ)
     (writing : IsWriting setup old command d port n) (drained : IsDrainedTo setup old mid port n made spent) (world : IsWorld setup old)
@@ -80,11 +81,6 @@ module _ (setup : Setup) (old mid new : WorldState) (command : Command) (d : Opt
 
   pages_whole : All (IsWholePage setup.shape) (view_in setup mid).open_pages
   pages_whole = whole_pages setup mid.board.regs mid.ledger on_mid.trusted.anchored
-
-  some_marks : (marks : List Mark) → asked ≡ Some marks → 0 < length marks
-  some_marks marks it =
-      let form = asked_form setup.shape setup.formulas (moment_of mid.state (view_in setup mid)) write marks pages_whole it in
-      omega (arith, ap length form.form, length-append form.front (seal_mark setup.formulas write.at form.ctr form.plain ∷ []))
 
   -- the fuse of the world in between
   mid_fuse : mid.state.fuse ≡ option_map (λ left. left - spent) old.state.fuse
@@ -132,9 +128,10 @@ module _ (setup : Setup) (old mid new : WorldState) (command : Command) (d : Opt
   refusal : (more : List Mark) (place : Place) (steps : ℕ) → IfSome old.state.fuse (λ left. steps ≤ left)
       → IsRefusalCaused setup (state_at_turn old.state command (unwrap_or d 0)) command place
       → IsPartOf asked more → IsPlaceInFlight setup.formulas now queue n (made ++ more) place
+      → (asked ≡ None → IsSpentWithin setup.shape old.state d (made ++ more) steps)
       → steps ≤ writing_bound setup.shape (n + 1) (made ++ more)
       → CanBeRefusedIn setup old command (made ++ more) d place steps
-  refusal more place steps fuse caused part in_flight bound =
+  refusal more place steps fuse caused part in_flight if_spent bound =
       record {
         legal = record { listed = writing.can_refuse place steps; within_fuse = fuse; writes_whole = done_writes; caused = caused };
         fits =
@@ -149,21 +146,35 @@ module _ (setup : Setup) (old mid new : WorldState) (command : Command) (d : Opt
               flush_true = tt;
               within_bounds =
                   writing.bounds (made ++ more) (Say.Refused d place steps)
-                  (subst (λ k. steps ≤ writing_bound setup.shape (k + 1) (made ++ more)) (sym writing.count) bound);
+                  (refusal_within setup old mid port n made spent write drained next d writing.count (made ++ more) steps if_spent bound);
             };
       }
 
-  -- the steps of a write that was refused are within the bound
-  refused_bound : (more : List Mark) → steps_in taken ≤ write_bound setup.shape more
-      → spent + steps_in taken ≤ writing_bound setup.shape (n + 1) (made ++ more)
-  refused_bound more few = omega (arith, few, drained.bound, writing_bound-append setup.shape n 1 made more)
+  -- a spent write makes the steps of its path alone, and of blocks that were dirty
+  module _ (answer : Result Ctr Fault) (written : HasWrittenLine setup write (parts_in mid engine none_taken) (parts_in new after taken) answer)
+      (goes : outcome_of answer ≡ going) (none : asked ≡ None) where
+    pub path-steps : (steps_in taken ≤ path_length setup.shape) × (steps_in taken ≤ dirty_bound setup.shape mid.state)
+    path-steps =
+        let takes =
+        subst (λ o. TakesSpent setup.shape o (parts_in mid engine none_taken) (parts_in new after taken)) goes
+        (written.steps_of_spent on_mid.trusted.not_down on_mid.trusted mid.state.memory call.world.memory.each none) in
+        let path = at_most mid.board new.board taken (path_length setup.shape) call.follows.few takes.0 in
+        let dirty = at_most mid.board new.board taken (dirty_count setup.shape engine.cache) call.follows.few takes.1.0 in
+        let few = dirty_count-le setup.shape engine.cache mid.state (accounted_in setup mid engine call.world on_mid) in
+        (path, omega (arith, dirty, few))
+
+    -- in a fence
+    pub path-bound : spent + steps_in taken ≤ writing_bound setup.shape n (made ++ written.made) + spent_bound setup.shape
+    path-bound =
+        omega (arith, drained.bound, path-steps.0, writing_bound-append setup.shape 0 n made written.made)
 
   module _ (x : ℕ) (written : HasWrittenLine setup write (parts_in mid engine none_taken) (parts_in new after taken) (Err (Fail.Meta x))) where
     pub meta-made : written.made ≡ []
     meta-made = written.marks on_mid.trusted.not_down on_mid.trusted mid.state.memory call.world.memory.each
 
-    pub meta-good : IsGood setup old command (record { marks = made ++ written.made; answer = Say.Refused d (Place.Meta x) (spent + steps_in taken) })
-    meta-good =
+    pub meta-good : (asked ≡ None → IsSpentWithin setup.shape old.state d (made ++ written.made) (spent + steps_in taken))
+        → IsGood setup old command (record { marks = made ++ written.made; answer = Say.Refused d (Place.Meta x) (spent + steps_in taken) })
+    meta-good if_spent =
         let refused = written.answered on_mid.trusted.not_down on_mid.trusted mid.state.memory call.world.memory.each in
         let done = subst (λ m. OneLossEffect setup going m (parts_in mid engine none_taken) (parts_in new after taken)) meta-made (written.done on_mid.trusted.not_down) in
         let powered = done.gone.power.1 (call.world.board.power ∙ on_mid.powered) in
@@ -178,9 +189,9 @@ module _ (setup : Setup) (old mid new : WorldState) (command : Command) (d : Opt
         (may_differ setup mid engine x refused.line on_mid in_tree refused.fetched.uncached
         (fetched_before setup mid new engine after taken (page_of write.at) x refused.line call.world.whole_shape on_mid done.gone in_tree refused.fetched other)
         other))
-        (subst (IsPartOf asked) (sym meta-made) (part_none asked some_marks))
+        (subst (IsPartOf asked) (sym meta-made) (part_none asked (some_asked setup mid write pages_whole)))
         (meta_refused setup.formulas now queue n made written.made asked write next.its_place drained.asked next.asked x meta-made)
-        (refused_bound written.made few) in
+        if_spent (refused_bound setup.shape n made written.made spent (steps_in taken) drained.bound few) in
         record { legal = record { legal = it.legal; shown = tt }; fits = it.fits }
 
     pub meta-unsealed : is_sealed_by written.made write.at ≡ false
@@ -190,8 +201,9 @@ module _ (setup : Setup) (old mid new : WorldState) (command : Command) (d : Opt
     tag_line_of : IsRefusedLine asked written.made write b
     tag_line_of = written.marks on_mid.trusted.not_down on_mid.trusted mid.state.memory call.world.memory.each
 
-    pub tag-good : IsGood setup old command (record { marks = made ++ written.made; answer = Say.Refused d (Place.Line b) (spent + steps_in taken) })
-    tag-good =
+    pub tag-good : (asked ≡ None → IsSpentWithin setup.shape old.state d (made ++ written.made) (spent + steps_in taken))
+        → IsGood setup old command (record { marks = made ++ written.made; answer = Say.Refused d (Place.Line b) (spent + steps_in taken) })
+    tag-good if_spent =
         let refused = written.answered on_mid.trusted.not_down on_mid.trusted mid.state.memory call.world.memory.each in
         let done = written.done on_mid.trusted.not_down in
         let powered = done.gone.power.1 (call.world.board.power ∙ on_mid.powered) in
@@ -204,15 +216,15 @@ module _ (setup : Setup) (old mid new : WorldState) (command : Command) (d : Opt
         (data_caused b
         (hurt_before setup mid new engine after taken written.made b call.world.kept (done.gone.places on_mid.trusted) inside
         (tag_unstored setup new after taken b (done.gone.trusted on_mid.trusted) refused)))
-        (refused_part asked written.made write b some_marks tag_line_of)
+        (refused_part asked written.made write b (some_asked setup mid write pages_whole) tag_line_of)
         (place_refused setup.formulas now queue n made written.made asked write next.its_place drained.asked next.asked b tag_line_of)
-        (refused_bound written.made few) in
+        if_spent (refused_bound setup.shape n made written.made spent (steps_in taken) drained.bound few) in
         record { legal = record { legal = it.legal; shown = tt }; fits = it.fits }
 
     pub tag-unsealed : is_sealed_by written.made write.at ≡ false
     tag-unsealed =
         part_apart setup.shape setup.formulas (moment_of mid.state (view_in setup mid)) write written.made pages_whole
-        (refused_part asked written.made write b some_marks tag_line_of)
+        (refused_part asked written.made write b (some_asked setup mid write pages_whole) tag_line_of)
 
   -- ---- a spent write
 
@@ -222,14 +234,7 @@ module _ (setup : Setup) (old mid new : WorldState) (command : Command) (d : Opt
 
     -- its steps are those of its path alone, and of blocks that were dirty
     pub spent-steps : (steps_in taken ≤ path_length setup.shape) × (steps_in taken ≤ dirty_bound setup.shape mid.state)
-    spent-steps =
-        let takes =
-        takes_spent setup.shape asked written.made (parts_in mid engine none_taken) (parts_in new after taken) page
-        (written.steps on_mid.trusted.not_down on_mid.trusted mid.state.memory call.world.memory.each) in
-        let path = at_most mid.board new.board taken (path_length setup.shape) call.follows.few takes.0 in
-        let dirty = at_most mid.board new.board taken (dirty_count setup.shape engine.cache) call.follows.few takes.1.0 in
-        let few = dirty_count-le setup.shape engine.cache mid.state (accounted_in setup mid engine call.world on_mid) in
-        (path, omega (arith, dirty, few))
+    spent-steps = path-steps (Err (Fail.Spent page)) written refl spent_marks.0
 
     pub spent-good : IsSpentWithin setup.shape old.state d (made ++ written.made) (spent + steps_in taken)
         → IsGood setup old command (record { marks = made ++ written.made; answer = Say.Spent d page (spent + steps_in taken) })
@@ -265,9 +270,7 @@ module _ (setup : Setup) (old mid new : WorldState) (command : Command) (d : Opt
 
     -- in a fence
     pub spent-bound : spent + steps_in taken ≤ writing_bound setup.shape n (made ++ written.made) + spent_bound setup.shape
-    spent-bound =
-        let all : made ++ written.made ≡ made = ap (λ more. made ++ more) spent_marks.1 ∙ append-nil made in
-        omega (arith, ap (writing_bound setup.shape n) all, drained.bound, spent-steps.0)
+    spent-bound = path-bound (Err (Fail.Spent page)) written refl spent_marks.0
 
     pub spent-unsealed : is_sealed_by written.made write.at ≡ false
     spent-unsealed = ap (λ marks. is_sealed_by marks write.at) spent_marks.1
@@ -394,12 +397,6 @@ module _ (setup : Setup) (old mid new : WorldState) (command : Command) (d : Opt
     shown_part : IsPartOf asked written.made
     shown_part = written.marks on_mid.trusted.not_down on_mid.trusted mid.state.memory call.world.memory.each
 
-    view_then : view_after_marks (view_in setup old) (made ++ written.made) ≡ view_after_marks (view_in setup mid) written.made
-    view_then =
-        view_after_marks-append (view_in setup old) made written.made
-        ∙ ap (λ view. view_after_marks view written.made)
-        (sym (view_after_marks-append (start_view setup.shape) old.ledger.marks made) ∙ ap (view_of setup.shape) (sym drained.marks))
-
     clash-shown : written.made ≡ []
         → (clash : IsClashShown setup (page_of write.at) (parts_in mid engine none_taken) (parts_in new after taken))
         → clash.line ≡ line_at mid.board.lines (layout.meta_line setup.shape clash.x)
@@ -413,7 +410,7 @@ module _ (setup : Setup) (old mid new : WorldState) (command : Command) (d : Opt
         (may_differ setup mid engine clash.x clash.line on_mid in_tree clash.fetched.uncached before clash.other_line))
         shown_part
         (meta_refused setup.formulas now queue n made written.made asked write next.its_place drained.asked next.asked clash.x none)
-        (omega arith) in
+        (λ there. none_within setup.shape old.state d (made ++ written.made)) (omega arith) in
         subst (λ e. IsShown setup old.state (view_in setup old) command (made ++ written.made) e) same
         (record {
           holds = record { differ = clash.other_line; one_digest = clash.same_digest };
@@ -421,7 +418,7 @@ module _ (setup : Setup) (old mid new : WorldState) (command : Command) (d : Opt
               record {
                 true_second =
                     sym (true_line-is setup mid.board.regs mid.ledger on_mid.trusted.anchored call.world.whole_shape clash.x in_tree)
-                    ∙ ap (λ view. true_line setup view clash.x) (sym (view_then ∙ ap (view_after_marks (view_in setup mid)) none));
+                    ∙ ap (λ view. true_line setup view clash.x) (sym (view_both setup old mid port n made spent drained written.made ∙ ap (view_after_marks (view_in setup mid)) none));
                 refusable = (d, record { legal = it.legal; fits = it.fits });
               };
         })
@@ -445,9 +442,9 @@ module _ (setup : Setup) (old mid new : WorldState) (command : Command) (d : Opt
         let hurt = hurt_before setup mid new engine after taken written.made found.at call.world.kept places inside unstored in
         let it =
         refusal written.made (Place.Line found.at) 0 (zero_within old.state.fuse) (data_caused found.at hurt)
-        (refused_part asked written.made write found.at some_marks found.refusable)
+        (refused_part asked written.made write found.at (some_asked setup mid write pages_whole) found.refusable)
         (place_refused setup.formulas now queue n made written.made asked write next.its_place drained.asked next.asked found.at found.refusable)
-        (omega arith) in
+        (λ there. none_within setup.shape old.state d (made ++ written.made)) (omega arith) in
         subst (λ e. IsShown setup old.state (view_in setup old) command (made ++ written.made) e) same
         (record {
           holds = forged.right_tag;
@@ -456,7 +453,7 @@ module _ (setup : Setup) (old mid new : WorldState) (command : Command) (d : Opt
                 last_counter =
                     counter_now setup mid.ledger.marks written.made found.at forged.ctr inside
                     (ap (λ marks. option_map (λ seal. seal.ctr) (last_seal marks found.at)) (sym done.gone.marks) ∙ forged.unsealed.counter)
-                    ∙ ap (λ view. counter_at view found.at) (sym view_then);
+                    ∙ ap (λ view. counter_at view found.at) (sym (view_both setup old mid port n made spent drained written.made));
                 refusable = (
                   d,
                   record { legal = it.legal; fits = it.fits },

@@ -24,6 +24,7 @@ use Rattle.plain_model.specs.View.{OpenPage, start_view, view_of}
 use Rattle.plain_model.proofs.Views.{length-view_of, counter_at-last}
 use Rattle.pmem_engine.specs.Engine.{EngineState}
 use Rattle.pmem_engine.specs.Invariants.{IsSound, register_page, stored_meta}
+use Rattle.pmem_engine.specs.Mendable.{new_engine}
 use Rattle.pmem_recovery.specs.Formatting.{HasFormatted, first_regs, first_counter}
 use Rattle.pmem_replay.specs.Flagged.{Tampering, Dirtying, no_tampering, no_dirtying}
 use Rattle.pmem_replay.specs.World.{WorldState, WorldParts, IsMemoryOf, IsOn, IsPowered, IsWorld, plain_memory, state_in, world_of, lines_in}
@@ -229,8 +230,11 @@ module _ (setup : Setup) (p : WorldParts) (old : Device) (made : IsJustMade setu
             };
       }
 
+  its_engine : world.engine ≡ Some (new_engine setup.shape)
+  its_engine = found.1 ∙ ap (λ (e : EngineState). Some e) formatted.engine_new
+
   pub made_new : IsNewWorld setup world
-  made_new = search (rules, its_state, its_view, made_world)
+  made_new = search (rules, its_state, its_view, made_world, its_engine)
 
 -- as many lines as before
 pub device_count : (setup : Setup) (p : WorldParts) (old : Device) → WasFormatted setup p.ledger old (device_of p.board) p.engine

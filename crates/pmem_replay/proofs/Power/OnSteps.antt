@@ -1,7 +1,7 @@
 -- Powering on: what the world answers, and what becomes of it.
 use Rattle.std.proofs.Common.{rules}
 use Rattle.std.proofs.Common.{[], ℕ, ◌≡◌, ◌<◌, ◌≤◌, ◌-◌, ◌^◌, Bool, true, false, inl, inr, List, Option, Some, None, Ok, Err, refl, sym, ap, subst, ◌∙◌, arith}
-use Rattle.std.specs.Prelude.{Result, option_map}
+use Rattle.std.specs.Prelude.{not, Result, option_map}
 use Rattle.std.proofs.lemmas.Bool.{true≢false}
 use Rattle.std.proofs.lemmas.Option.{same_Some}
 use Rattle.std.proofs.lemmas.List.{append-nil}
@@ -23,7 +23,7 @@ use Rattle.commit_regs.specs.Groups.{finishing_latches}
 use Rattle.meta_cache.specs.Banks.{IsBanksOf}
 use Rattle.suite.specs.Setup.{Setup}
 use Rattle.plain_model.specs.State.{PlainState}
-use Rattle.plain_model.specs.After.{after_clean, after_loosening, state_after, steps_of}
+use Rattle.plain_model.specs.After.{after_clean, after_loosening, state_after, steps_of, is_cut}
 use Rattle.plain_model.specs.Bounds.{recovery_bound}
 use Rattle.plain_model.specs.Answers.{decided_answer, is_shown}
 use Rattle.pmem_engine.specs.Engine.{EngineState}
@@ -40,6 +40,8 @@ use Rattle.pmem_replay.specs.During.{none_taken, steps_in, device_during, IsTake
 use Rattle.pmem_replay.specs.Replies.{without_marks}
 use Rattle.pmem_replay.specs.Stepped.{HasStepped, IsOnAnswer, IsSeenOnDevice, engine_given}
 use Rattle.pmem_replay.proofs.Steps.GoodReplies.{IsGood}
+use Rattle.pmem_replay.proofs.Steps.WorldsAfterCalls.{cut_counted, uncut_counted}
+use Rattle.pmem_base.specs.Counts.{HasRisen}
 use Rattle.pmem_replay.proofs.Steps.MarklessCalls.{counted_state, cut_state}
 use Rattle.pmem_replay.proofs.Power.OnLaws.{IsOnCall, lit, one_latch, off_in, recovered_state, cut_on_state, recovered-good, recovered-world, cut-good, cut-world}
 use Rattle.pmem_replay.proofs.Power.RefusedRecoveries.{tried_within, redone_same, counter-good, counter-world, root-good, root-world, twin-good}
@@ -110,14 +112,15 @@ module _ (s : RecoveryCall) where
       → new.shape ≡ setup.shape → new.keys ≡ s.keys → new.start ≡ s.parts.start → new.shown ≡ is_shown said
       → new.ledger ≡ s.parts.ledger → new.tags ≡ s.tags → new.digests ≡ s.digests → new.engine ≡ engine_given answer
       → new.board.lines ≡ s.board.lines → new.board.regs ≡ s.board.regs → new.board.snapshot ≡ s.board.snapshot
-      → new.board.reads ≡ s.board.reads → new.board.writes ≡ s.board.writes → new.board.latches ≡ s.board.latches
+      → new.board.reads ≡ s.board.reads → new.board.writes ≡ s.board.writes → new.board.latches ≡ s.board.latches → new.board.cuts ≡ s.board.cuts
+      → s.board.powered ≡ not (is_cut said)
       → (is_shown said ≡ false → steps_of said ≡ steps_in s.taken)
       → IsOnAnswer answer said
       → (is_shown said ≡ false → new.state ≡ state_after setup.shape old.state Do.On (without_marks said))
       → (is_shown said ≡ false → IsWorld setup new)
       → IsSeenOnDevice setup old Do.On said new
       → HasStepped setup old Do.On (without_marks said) new
-  powered answer has said new good its shape new_keys start shown ledger new_tags new_digests engine lines regs snapshot reads writes latches its_steps answered state world seen =
+  powered answer has said new good its shape new_keys start shown ledger new_tags new_digests engine lines regs snapshot reads writes latches cuts power its_steps answered state world seen =
       stepped_by_engine setup old new Do.On (without_marks said) undecided good its
       (record { shape = shape; keys = new_keys ∙ has.keys; start = start })
       shown
@@ -127,6 +130,7 @@ module _ (s : RecoveryCall) where
         left = s.board;
         taken = s.taken;
         steps = its_steps;
+        few = s.served.watched.follows.few;
         outcome = answer;
         suite_old = suite_state s.parts.keys s.pads s.parts.tags s.parts.digests;
         suite_new = suite_state s.keys s.pads_new s.tags s.digests;
@@ -145,6 +149,9 @@ module _ (s : RecoveryCall) where
         reads = reads;
         writes = writes ∙ s.served.watched.follows.writes;
         latches = latches ∙ s.served.watched.follows.latches;
+        cuts = cuts ∙ s.served.watched.follows.cuts;
+        cut = λ is. subst (λ n. HasRisen s.parts.board.cuts n) (sym cuts) (cut_counted s.served.watched.follows power is);
+        uncut = λ is. cuts ∙ uncut_counted s.served.watched.follows power is;
       })
       seen
 
@@ -191,7 +198,7 @@ module _ (s : RecoveryCall) where
       powered (Ok (found, work)) has (Say.Recovered work.trials work.digests (steps_in s.taken)) new
       (recovered-good setup old new s.board s.taken found work call)
       (few_trials, few_digests, few)
-      refl refl refl s.served.going.unshown refl refl refl refl refl refl refl refl refl refl
+      refl refl refl s.served.going.unshown refl refl refl refl refl refl refl refl refl refl refl lasting
       (λ quiet. refl) (refl, refl)
       (λ quiet. its_state)
       (λ quiet. recovered-world setup old new s.board s.taken found work call its_state refl refl
@@ -237,7 +244,7 @@ module _ (s : RecoveryCall) where
       powered (Err Fail.Cut) has (Say.Cut (steps_in s.taken)) new
       (cut-good setup old new s.board s.taken call fewer)
       few
-      refl refl refl s.served.going.unshown refl refl refl refl refl refl refl refl refl refl
+      refl refl refl s.served.going.unshown refl refl refl refl refl refl refl refl refl refl refl dark
       (λ quiet. refl) tt
       (λ quiet. its_state)
       (λ quiet. cut-world setup old new s.board s.taken call its_state refl refl)
@@ -280,7 +287,7 @@ module _ (s : RecoveryCall) where
       powered (Err (Fail.NoCounter at)) has (Say.NoCounter at (steps_in s.taken)) new
       (counter-good setup old new s.board s.taken at call)
       (small_line setup.shape s.served.going.whole.whole_shape at (tried_within setup (lines_in old) s.parts.board.regs at refused.0), few)
-      refl refl refl s.served.going.unshown refl refl refl refl refl refl refl refl refl refl
+      refl refl refl s.served.going.unshown refl refl refl refl refl refl refl refl refl refl refl lasting
       (λ quiet. refl) refl
       (λ quiet. its_state)
       (λ quiet. counter-world setup old new s.board s.taken at call its_state refl refl)
@@ -309,7 +316,7 @@ module _ (s : RecoveryCall) where
       powered (Err (Fail.Root kept found)) has (Say.WrongRoot kept found (steps_in s.taken)) new
       (root-good setup old new s.board s.taken kept found call)
       (kept_tag, found_tag, few)
-      refl refl refl s.served.going.unshown refl refl refl refl refl refl refl refl refl refl
+      refl refl refl s.served.going.unshown refl refl refl refl refl refl refl refl refl refl refl lasting
       (λ quiet. refl) (refl, refl)
       (λ quiet. its_state)
       (λ quiet. root-world setup old new s.board s.taken kept found call its_state refl refl)
@@ -345,7 +352,7 @@ module _ (s : RecoveryCall) where
         whole_cipher,
         whole_tag,
       )
-      refl refl refl refl refl refl refl refl refl refl refl refl refl refl
+      refl refl refl refl refl refl refl refl refl refl refl refl refl refl refl (has.power.live refl)
       (λ quiet. absurd (true≢false quiet)) refl
       (λ quiet. absurd (true≢false quiet))
       (λ quiet. absurd (true≢false quiet)) (

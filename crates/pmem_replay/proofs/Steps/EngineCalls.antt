@@ -1,7 +1,7 @@
 -- A call of the engine within a command: what surrounds it, and how the command returns.
 use Rattle.std.proofs.Common.{rules}
 use Rattle.std.proofs.Common.{ℕ, ◌≡◌, ◌++◌, false, List, Option, Some, None, refl, ap, subst, ◌∙◌}
-use Rattle.std.specs.Prelude.{if◌then◌else◌}
+use Rattle.std.specs.Prelude.{not, if◌then◌else◌}
 use Rattle.pmem_base.specs.declared.answers.Mark.{Mark}
 use Rattle.pmem_base.specs.declared.answers.Answer.{Answer}
 use Rattle.pmem_base.specs.declared.commands.Command.{Command}
@@ -22,7 +22,7 @@ use Rattle.pmem_replay.specs.World.{WorldState, WorldParts, IsOn, IsWorld, plain
 use Rattle.pmem_replay.specs.declared.taken.Taken.{Taken}
 use Rattle.pmem_replay.specs.During.{none_taken, steps_in, parts_in}
 use Rattle.pmem_replay.specs.Stepped.{HasCalled, IsCommandDone, IsSeenOnDevice}
-use Rattle.pmem_replay.proofs.Steps.WorldsAfterCalls.{on_in, IsCall}
+use Rattle.pmem_replay.proofs.Steps.WorldsAfterCalls.{on_in, IsCall, cut_counted, uncut_counted}
 use Rattle.pmem_replay.proofs.Steps.GoodReplies.{IsGood}
 use Rattle.pmem_replay.proofs.Steps.PartsOfWorld.{Ends, ends, numbered, setup_in}
 use Rattle.pmem_replay.proofs.Steps.ReservedRoom.{good_before}
@@ -85,10 +85,12 @@ module _ (s : EngineCall) where
 
   pub was_called : (relation : Parts → Parts → Type 0) (q : WorldParts) (answer : Answer) → q.board ≡ s.board
       → q.engine ≡ (if is_cut answer then None else Some s.after)
+      → s.board.powered ≡ not (is_cut answer)
       → (is_shown answer ≡ false → steps_of answer ≡ steps_in s.taken)
       → relation (parts_in old_world s.engine none_taken) (parts_in (world_of setup_at q) s.after s.taken)
       → HasCalled relation first_world (world_of setup_at q) answer
-  was_called relation q answer board kept steps related = search rules
+  was_called relation q answer board kept power steps related =
+      search (rules, cut_counted s.served.watched.follows power, uncut_counted s.served.watched.follows power)
 
   -- the command returns
   pub returned : (command : Command) (marks : List Mark) (say : ℕ → Answer) (q : WorldParts)

@@ -7,7 +7,7 @@ pub invariant_of-self : goal.invariant_of-self
 invariant_of-self g c =
     record {
       follows =
-          follows-limit _ _ _ _ _ _ _ (omega (arith, c.if-self-ge-STEP_LIMIT.true)) c.off.ensures c.args.self.now.follows;
+          follows-limit _ _ _ _ _ _ _ (omega (arith, c.if-self-ge-STEP_LIMIT.true)) c.cut_off.ensures (omega arith) c.args.self.now.follows;
       in_count = c.args.self.now.in_count;
       its_name = c.args.self.now.its_name;
     }
@@ -25,7 +25,7 @@ invariant_of-self-in-Ok g c =
 pub invariant_of-self-in-Err : goal.invariant_of-self-in-Err
 invariant_of-self-in-Err g c =
     record {
-      follows = cut-over _ _ _ _ _ _ _ c.in-Err.ensures.err (c.in-Err.ensures.cut.0 refl) c.args.self.now.follows;
+      follows = cut-over _ _ _ _ _ _ _ c.in-Err.ensures.err (c.in-Err.ensures.cut.0 refl) (omega arith) c.args.self.now.follows;
       in_count = c.args.self.now.in_count;
       its_name = c.args.self.now.its_name;
     }

@@ -1,5 +1,5 @@
 -- A read follows on: it is done, or cut where power is off.
-use Rattle.std.proofs.Common.{refl, inl}
+use Rattle.std.proofs.Common.{refl, inl, arith}
 use Rattle.pmem_replay.proofs.Boards.WatchLemmas.{read-ok, cut-over}
 use Rattle.pmem_replay.proofs.watched.WatchedBoard.read_line.Goals as goal
 
@@ -14,7 +14,7 @@ invariant_of-self g c =
 pub invariant_of-self-in-Err : goal.invariant_of-self-in-Err
 invariant_of-self-in-Err g c =
     record {
-      follows = cut-over _ _ _ _ _ _ _ c.in-Err.ensures.err (inl (c.in-Err.ensures.cut.0 refl)) c.args.self.now.follows;
+      follows = cut-over _ _ _ _ _ _ _ c.in-Err.ensures.err (inl (c.in-Err.ensures.cut.0 refl)) (omega arith) c.args.self.now.follows;
       in_count = c.args.self.now.in_count;
       its_name = c.args.self.now.its_name;
     }

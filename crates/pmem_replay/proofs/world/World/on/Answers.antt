@@ -6,12 +6,13 @@ use Rattle.board.specs.MemBoard.{memory_of}
 use Rattle.board.specs.Memory.{BoardMemory}
 use Rattle.seal_ledger.specs.View.{ledger_of}
 use Rattle.pmem_recovery.specs.Parts.{suite_state}
-use Rattle.pmem_replay.specs.World.{WorldParts, IsWorld, world_of}
+use Rattle.pmem_replay.specs.World.{WorldParts, WorldState, IsWorld, world_of}
 use Rattle.pmem_replay.specs.During.{none_taken, device_during, IsWatched, WasRecovered}
 use Rattle.pmem_replay.proofs.Power.OnLaws.{lit}
 use Rattle.pmem_replay.proofs.Power.RecoveryCalls.{RecoveryCall, none_there}
 use Rattle.pmem_replay.proofs.Power.OnSteps.{on-recovered, on-cut, on-counter, on-root, on-twin, on-memory}
 use Rattle.pmem_replay.proofs.Steps.PartsOfWorld.{held, setup_in, going_in, none_wait}
+use Rattle.pmem_replay.proofs.Table.UnchangedSteps.{dark_in}
 use Rattle.pmem_replay.proofs.world.World.on.Given.{Over}
 use Rattle.pmem_replay.proofs.world.World.on.Goals.{After-saturating_add-self-inside}
 use Rattle.pmem_replay.proofs.world.World.on.Goals as goal
@@ -130,3 +131,10 @@ returns-in-Err-Twin-clause-stepped g c =
     (on-twin (call g place) (memory_of c.rest-in-Err-Twin.new.self) c.in-Err-Twin.at c.in-Err-Twin.major c.in-Err-Twin.low c.in-Err-Twin.high
     c.in-Err-Twin.cipher c.in-Err-Twin.tag (let h = c.in-Err-Twin.is in search rules) c.rest-in-Err-Twin.ensures c.is_number-in-Err-Twin.ensures
     c.is_whole.ensures c.is_tag-in-Err-Twin.ensures).stepped
+
+pub returns-in-Err-Memory-clause-wanting : goal.returns-in-Err-Memory-clause-wanting
+returns-in-Err-Memory-clause-wanting g c =
+    let place = (goal.at.returns-in-Err-Memory-clause-wanting g c).After-saturating_add-self-inside in
+    let setup = setup_in g.S.Suite.formulas_of (shape_of c.self.inside.geo) (p g place) in
+    subst (λ (w : WorldState). w.state.power ≡ false) c.self.view_is
+    (dark_in setup (world_of setup (p g place)) (call g place).served.going.whole (call g place).served.was_off)

@@ -1,5 +1,5 @@
 -- A line is sealed anew, refused or shown, or power is cut, or no page is open.
-use Rattle.std.proofs.Common.{ℕ, ◌≡◌, arith, rules, subst, sym, Ok, Err, Option, Some, None}
+use Rattle.std.proofs.Common.{ℕ, ◌≡◌, true, arith, rules, subst, sym, Ok, Err, Option, Some, None}
 use Rattle.std.specs.Prelude.{Result}
 use Rattle.pmem_base.specs.Geo.{shape_of}
 use Rattle.board.specs.MemBoard.{memory_of}
@@ -8,12 +8,14 @@ use Rattle.pmem_base.specs.declared.commands.Command.TheVariants as Do
 use Rattle.pmem_engine.specs.declared.fault.Fault.{Fault}
 use Rattle.pmem_engine.specs.declared.fault.Fault.TheVariants as Fail
 use Rattle.pmem_engine.specs.Calls.{HasTurned}
+use Rattle.meta_path.proofs.NameLemmas.{on_err}
 use Rattle.pmem_replay.specs.During.{parts_in, none_taken}
-use Rattle.pmem_replay.specs.World.{WorldParts, world_of}
+use Rattle.pmem_replay.specs.World.{WorldParts, WorldState, world_of}
 use Rattle.pmem_replay.proofs.Steps.EngineCalls.{EngineCall, setup_at, old_world, parts_left}
 use Rattle.pmem_replay.proofs.Steps.PartsOfWorld.{held, setup_in, going_in, shape_in, none_wait, since}
 use Rattle.pmem_replay.proofs.Steps.ReservedRoom.{reserved, no_room}
 use Rattle.pmem_replay.proofs.Commands.TurnSteps.{Has, turn-idle, turn-turned, turn-refused, turn-cut, turn-shown, turn_exhibit, turn_up, turn_unspent, turn_unfetched}
+use Rattle.pmem_replay.proofs.Table.UnchangedSteps.{lit_in}
 use Rattle.pmem_replay.proofs.world.World.turn.Given.{Over}
 use Rattle.pmem_replay.proofs.world.World.turn.Goals.{After-saturating_add-self-inside}
 use Rattle.pmem_replay.proofs.world.World.turn.Goals as goal
@@ -144,3 +146,15 @@ returns-in-Err-Shown-clause-stepped g c =
     let place = (goal.at.returns-in-Err-Shown-clause-stepped g c).After-saturating_add-self-inside in
     since _ c.args.self.now _ Do.Turn _ _
     (turn-shown (call g place) c.exhibit_of.result (found g place (Err Fail.Shown) (let h = c.in-Err-Shown.is in search rules)) c.exhibit_of.ensures).stepped
+
+pub returns-in_err-reserve-clause-wanting : goal.returns-in_err-reserve-clause-wanting
+returns-in_err-reserve-clause-wanting g c =
+    let p : WorldParts =
+    held (g.S.Suite.keys c.self.inside.suite) (memory_of c.self.inside.board) (ledger_of c.self.inside.ledger) c.self.inside.engine
+    (g.S.Suite.tags c.self.inside.suite) (g.S.Suite.digests c.self.inside.suite) c.self.inside.ports c.self.inside.tampered
+    c.self.inside.dirtied c.self.inside.steps c.self.inside.start c.self.inside.shown in
+    let setup = setup_in g.S.Suite.formulas_of (shape_of c.self.inside.geo) p in
+    let going = going_in g.S.Suite.formulas_of (shape_of c.self.inside.geo) p c.args.self.now c.self.view_is c.requires c.self.invariant in
+    on_err _ (c.args.self.now.state.power ≡ true)
+    (subst (λ (w : WorldState). w.state.power ≡ true) c.self.view_is
+    (lit_in setup (world_of setup p) c.in-Some.engine going.whole c.in-Some.is))
