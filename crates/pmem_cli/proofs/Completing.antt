@@ -1,8 +1,7 @@
 -- A run over a trace in the grammar goes through.
-use Rattle.std.proofs.Common.{◌≡◌, ◌≢◌, ◌∙◌, ℕ, List, [], ◌∷◌, ◌++◌, length, sym, ap, subst, arith, inl, inr, length-append}
+use Rattle.std.proofs.Common.{◌≡◌, ◌≢◌, ◌∙◌, ℕ, List, ◌++◌, length, sym, ap, subst, arith, inl, inr, length-append}
 use Rattle.std.specs.Prelude.{◌⊎◌, All, IsOk, is_ok, Option, None, Some, IfSome}
 use Rattle.std.proofs.lemmas.Bool.{true≢false}
-use Rattle.std.proofs.lemmas.List.Elements.{All-head, All-tail}
 use Rattle.pmem_base.proofs.ListLaws.{All-middle}
 use Rattle.suite.specs.Setup.{Setup}
 use Rattle.plain_model.specs.declared.Stop.{Stop}

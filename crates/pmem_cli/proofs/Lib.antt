@@ -15,4 +15,5 @@ pub mod SampleLemmas
 pub mod ReplayLemmas
 pub mod Untampering
 pub mod StatusLemmas
+pub mod PromptLemmas
 pub mod Completing

@@ -1,11 +1,11 @@
 -- Pieces of lines, and the bytes that are ahead.
 use Rattle.std.proofs.Common.{◌≡◌, ◌∙◌, ◌+◌, ◌-◌, ◌<◌, ◌≤◌, ℕ, List, ◌∷◌, ◌++◌, length, take, drop, get_or, refl, sym, ap, arith, append_assoc, take-append-drop}
-use Rattle.std.specs.Prelude.{Option, None, Some}
+use Rattle.std.specs.Prelude.{Option, None, Some, Contains}
 use Rattle.std.specs.List.{position_or_len}
 use Rattle.std.specs.Io.KnownBytes.{Consumes, prepend_known}
 use Rattle.std.proofs.lemmas.List.Sums.{fails_before_first, passes_at_first, split_at_first}
 use Rattle.std.proofs.lemmas.List.{get_or-take, drop-take, drop-drop}
-use Rattle.std.proofs.lemmas.Bool.{eqb-true}
+use Rattle.std.proofs.lemmas.Bool.{eqb-true, true≢false}
 use Rattle.std.proofs.Math.Seq.{take-add, drop-append_seam, take-append_seam}
 use Rattle.std.proofs.lemmas.Grind.{common_steps}
 use Rattle.plain_model.specs.Lines.{is_line_end, IsWithin}
@@ -15,6 +15,10 @@ pub within_first : (xs : List ℕ) (n : ℕ) → n ≡ position_or_len is_line_e
 within_first xs n is k d h =
     let low : k < n = grind (arith, common_steps) in
     rw get_or-take (fails_before_first is_line_end xs k d (omega (arith, is, low)))
+
+-- and so what has an LF isn't within a line
+pub no_end_within : (xs : List ℕ) → IsWithin xs → Contains xs 10 → ⊥
+no_end_within xs within (k, low, end) = true≢false (rw end at (within k 10 low))
 
 -- a line that ends here
 pub ends_at_first : (xs : List ℕ) (n : ℕ) → n ≡ position_or_len is_line_end xs → n < length xs → xs ≡ take n xs ++ 10 ∷ drop (n + 1) xs

@@ -1,10 +1,8 @@
 -- Texts that were printed one after the other.
-use Rattle.std.proofs.Common.{◌∙◌, ◌≤◌, arith, List, ℕ, [], ◌++◌, sym, ap, append_assoc, append-nil}
-use Rattle.std.specs.Prelude.{Option, Result, Ok, Err, OnErr}
+use Rattle.std.proofs.Common.{◌∙◌, List, ℕ, [], ◌++◌, sym, ap, append_assoc, append-nil}
+use Rattle.std.specs.Prelude.{Option}
 use Rattle.std.specs.Io.KnownBytes.{Appends}
 use Rattle.std.proofs.KnownBytes.{Appends-nil, Appends-trans}
-use Rattle.std.proofs.lemmas.Bool.Decides.{nat_tests}
-use Rattle.pmem_cli.specs.Causes.{Rose}
 use Rattle.pmem_cli.specs.Printed.{Output, Prints, PrintsFront, with_waiting}
 
 -- nothing was printed
@@ -46,8 +44,3 @@ PrintsFront-more a b s t front = record {
 -- where nothing waited, and nothing waits, all was put
 pub Prints-whole : (p q : Option (List ℕ)) (s : List ℕ) → Prints (with_waiting p []) (with_waiting q []) s → Appends p q s
 Prints-whole p q s printed = rw (printed.in_order ∙ append-nil printed.done) printed.appended
-
--- a fact holds at a failure, if it holds
-pub OnErr-fact : {T E : Type 0} (result : Result T E) (P : Type 0) → P → OnErr result P
-OnErr-fact (Ok value) P holds = tt
-OnErr-fact (Err error) P holds = holds

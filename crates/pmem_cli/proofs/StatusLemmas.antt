@@ -1,7 +1,7 @@
 -- What a run's status says, by its stop and its last line.
 use Rattle.std.proofs.Common.{◌≡◌, ◌≢◌, ◌∙◌, ◌+◌, ◌≤◌, ℕ, List, [], ◌++◌, refl, sym, ap, subst, inl, inr, append-nil, arith}
 use Rattle.std.proofs.lemmas.Bool.{cases_eq}
-use Rattle.std.specs.Prelude.{◌⊎◌, Option, None, Some, IfSome, IsNone}
+use Rattle.std.specs.Prelude.{◌⊎◌, Option, None, Some, IfSome}
 use Rattle.suite.specs.Setup.{Setup}
 use Rattle.plain_model.specs.declared.Stop.{Stop}
 use Rattle.plain_model.specs.declared.Stop.TheVariants.{Finished, ReadFault, WriteFault}
@@ -29,11 +29,6 @@ use Rattle.pmem_cli.proofs.Untampering.{untampered}
 pub IfSome-map : {T : Type 0} (a : Option T) (P Q : T → Type 0) → ((x : T) → a ≡ Some x → P x → Q x) → IfSome a P → IfSome a Q
 IfSome-map None P Q follows holds = tt
 IfSome-map (Some x) P Q follows holds = follows x refl holds
-
--- what is there isn't none
-pub none_of_some : {T : Type 0} (a : Option T) (x : T) → a ≡ Some x → IsNone a → ⊥
-none_of_some None x is none = cc
-none_of_some (Some y) x is none = cc
 
 is_write_fault : (stop : Stop) → (stop ≡ WriteFault) ⊎ (stop ≢ WriteFault)
 is_write_fault WriteFault = inl refl
@@ -156,7 +151,7 @@ is_read_ending : (ending : Ending) → (ending ≡ Stopped ReadFault) ⊎ (endin
 is_read_ending (Stopped ReadFault) = inl refl
 is_read_ending ending = inr (λ same. cc)
 
-is_write_ending : (ending : Ending) → (ending ≡ Stopped WriteFault) ⊎ (ending ≢ Stopped WriteFault)
+pub is_write_ending : (ending : Ending) → (ending ≡ Stopped WriteFault) ⊎ (ending ≢ Stopped WriteFault)
 is_write_ending (Stopped stop) = elim (is_write_fault stop) [ inl same ↦ inl (ap Stopped same) | inr other ↦ inr (λ same. other (cc same)) ]
 is_write_ending ending = inr (λ same. cc)
 

@@ -6,6 +6,7 @@ pub mod Printed
 pub mod Pieces
 pub mod Words
 pub mod Keys
+pub mod Prompt
 pub mod Endings
 pub mod Standing
 pub mod Turns

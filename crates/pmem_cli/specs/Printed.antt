@@ -23,6 +23,10 @@ pub record Prints (before after : Output) (text : List ℕ) : Type 0 where
   pub in_order : before.waiting ++ text ≡ done ++ after.waiting
   pub appended : Appends before.put after.put done
 
+-- what waited and then the text was put, and maybe more
+abbrev pub PutsAtLeast : Output → Option (List ℕ) → List ℕ → Type 0
+PutsAtLeast before put text = (more : List ℕ) × Appends before.put put (before.waiting ++ text ++ more)
+
 -- a front of what waited and then the text was put
 abbrev pub PrintsFront : Output → Output → List ℕ → Type 0
 PrintsFront before after text = AppendsFront before.put after.put (before.waiting ++ text)

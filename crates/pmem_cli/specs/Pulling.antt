@@ -1,5 +1,5 @@
 -- How far the pulls of a source have come.
-use Rattle.std.specs.Prelude.{ℕ, ◌≡◌, ◌≢◌, ◌==◌, nat_lt, Bool, true, ◌&&◌, Result, Ok, Err, Option, None, if◌then◌else◌}
+use Rattle.std.specs.Prelude.{ℕ, ◌≡◌, ◌≢◌, ◌==◌, nat_lt, Bool, true, ◌&&◌, List, Result, Ok, Err, Option, Some, None, IfSome, if◌then◌else◌}
 use Rattle.plain_model.specs.declared.Stop.{Stop}
 use Rattle.pmem_cli.specs.declared.pulls.Pulls.{Pulls}
 use Rattle.pmem_cli.specs.declared.pulls.Pulls.TheVariants.{Open, Ended, Late}
@@ -22,6 +22,10 @@ StaysOpen before now = before ≡ Open → now ≡ Open
 -- no pull followed one that failed or gave the end
 abbrev pub IsInTime : Pulls → Pulls → Type 0
 IsInTime before now = before ≡ Open → now ≢ Late
+
+-- what is remembered, if anything, was left then
+abbrev pub Recalls : Option (List ℕ) → Option (List ℕ) → Type 0
+Recalls remembered left = IfSome remembered (λ bytes. left ≡ Some bytes)
 
 -- where nothing stopped, more may follow
 pub record PullsInTime (stop : Option Stop) (before now : Pulls) : Type 0 where

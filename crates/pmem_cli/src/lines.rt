@@ -1,10 +1,11 @@
 //! The lines of a source, pulled in chunks.
-ghost use Rattle.std.specs.Prelude.{◌≡◌, ◌<◌, ◌≤◌, ◌+◌, ◌++◌, ◌↔◌, [], length, IfOk, OnErr, IsTrue, Contains, false};
+ghost use Rattle.std.specs.Prelude.{◌≡◌, ◌<◌, ◌≤◌, ◌+◌, ◌++◌, ◌⊎◌, ◌↔◌, [], length, IfOk, OnErr, IsTrue, Contains, false};
 ghost use Rattle.std.specs.List.{position_or_len};
 ghost use Rattle.std.specs.Io.KnownBytes.{Keeps, IsAtEnd, prepend_known};
 ghost use Rattle.plain_model.specs.Lines.{is_line_end};
 ghost use Rattle.pmem_cli.specs.Causes.{HasCause};
-ghost use Rattle.pmem_cli.specs.Pulling.{is_last, pulls_after, StaysOpen, IsInTime};
+ghost use Rattle.pmem_cli.specs.Pulling.{is_last, pulls_after, StaysOpen, IsInTime, Recalls};
+ghost use Rattle.pmem_cli.specs.Prompt.{HasAskedIn};
 
 use crate::source::{Failed, Source};
 use arrayvec::ArrayVec;
@@ -118,6 +119,7 @@ impl LineReader {
         ensures err { OnErr result (self.new ≡ []) }
         ensures cause { HasCause (S.faults source.old) (S.faults source.new) result }
         ensures pulls { S.pulls source.new ≡ pulls_after (S.pulls source.old) (is_last result 16384) }
+        ensures recalls { Recalls (S.left_before source.new) (S.left source.old) }
     {
         self.at = 0;
         self.end = 0;
@@ -137,6 +139,7 @@ impl LineReader {
         ensures cause { HasCause (S.faults source.old) (S.faults source.new) result }
         ensures may_pull { IfOk result (λ ended. ended ≡ false → StaysOpen (S.pulls source.old) (S.pulls source.new)) }
         ensures in_time { IsInTime (S.pulls source.old) (S.pulls source.new) }
+        ensures asked { (source.new ≡ source.old) ⊎ ((self.old ≡ []) × Recalls (S.left_before source.new) (S.left source.old)) }
     {
         if !self.is_empty() {
             return Ok(false);
@@ -177,6 +180,8 @@ impl LineReader {
         ensures cause { HasCause (S.faults source.old) (S.faults source.new) result }
         ensures may_pull { IfOk result (λ found. found ≡ Line → StaysOpen (S.pulls source.old) (S.pulls source.new)) }
         ensures in_time { IsInTime (S.pulls source.old) (S.pulls source.new) }
+        ensures asked { (source.new ≡ source.old)
+            ⊎ HasAskedIn (prepend_known self.old (S.left source.old)) (S.left_before source.new) }
     {
         line.clear();
         'pieces: loop {

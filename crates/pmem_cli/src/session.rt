@@ -8,7 +8,8 @@ ghost use Rattle.pmem_replay.specs.Stepped.{reply_in};
 ghost use Rattle.trace_text.specs.Answers.{HasSmallMinors};
 ghost use Rattle.pmem_cli.specs.Causes.{HasCause};
 ghost use Rattle.pmem_cli.specs.Pulling.{IsInTime, PullsInTime};
-ghost use Rattle.pmem_cli.specs.Printed.{Prints, PrintsFront, with_waiting};
+ghost use Rattle.pmem_cli.specs.Printed.{Prints, PrintsFront, PutsAtLeast, with_waiting};
+ghost use Rattle.pmem_cli.specs.Prompt.{HasAskedIn, IsPrompt};
 ghost use Rattle.pmem_cli.specs.Standing.{standing_of};
 ghost use Rattle.pmem_cli.specs.Turns.{AnswersCommand, AnswersLine, Turns, HasStopped, StopsByCause};
 
@@ -124,6 +125,8 @@ fn answer_next<U: Counted + Drop, S: Source, K: Sink>(
         (with_waiting (K.put out.old) printer.old) (with_waiting (K.put out.new) printer.new) served }
     ensures cause { StopsByCause result (S.faults trace.old) (S.faults trace.new) (K.faults out.old) (K.faults out.new) }
     ensures pulls { PullsInTime result (S.pulls trace.old) (S.pulls trace.new) }
+    ensures asked { (trace.new ≡ trace.old) ⊎ ((printer.old ≡ [])
+        × HasAskedIn (prepend_known reader.old (S.left trace.old)) (S.left_before trace.new)) }
     ensures within_limit { result ≡ None → served < 1000000 }
 {
     if served == LINE_LIMIT {
@@ -184,6 +187,8 @@ fn serve_next<U: Counted + Drop, S: Source, K: Sink>(
         (with_waiting (K.put out.old) printer.old) (with_waiting (K.put out.new) printer.new) served }
     ensures cause { StopsByCause result (S.faults trace.old) (S.faults trace.new) (K.faults out.old) (K.faults out.new) }
     ensures pulls { PullsInTime result (S.pulls trace.old) (S.pulls trace.new) }
+    ensures asked { (trace.new ≡ trace.old) ⊎ (PutsAtLeast (with_waiting (K.put out.old) printer.old) (K.put out.new) []
+        × HasAskedIn (prepend_known reader.old (S.left trace.old)) (S.left_before trace.new)) }
     ensures within_limit { result ≡ None → served < 1000000 }
 {
     match flush_before_pull(reader, printer, out) {
@@ -205,6 +210,9 @@ pub(crate) fn serve_all<U: Counted + Drop, S: Source, K: Sink>(
         (with_waiting (K.put out.old) printer.old) (with_waiting (K.put out.new) printer.new) 0 }
     ensures cause { StopsByCause (Some result) (S.faults trace.old) (S.faults trace.new) (K.faults out.old) (K.faults out.new) }
     ensures in_time { IsInTime (S.pulls trace.old) (S.pulls trace.new) }
+    ensures prompt { let standing = standing_of U.formulas_of world.old in (trace.new ≡ trace.old)
+        ⊎ IsPrompt standing.setup standing.machine (S.left trace.old) (S.left_before trace.new)
+        (with_waiting (K.put out.old) printer.old) (K.put out.new) }
 {
     let mut reader = LineReader::new();
     let mut line = ArrayVec::new();

@@ -1,12 +1,12 @@
 //! Where a trace comes from.
-ghost use Rattle.std.specs.Prelude.{◌≡◌, ◌≤◌, ◌↔◌, ◌++◌, ℕ, List, [], Option, Some, length, min, take, drop, vec_len, IsTrue, IsErr, is_err, IfOk, Contains, if◌then◌else◌};
+ghost use Rattle.std.specs.Prelude.{◌≡◌, ◌≤◌, ◌↔◌, ◌++◌, ℕ, List, [], Option, Some, None, length, min, take, drop, vec_len, IsTrue, IsErr, is_err, IfOk, Contains, if◌then◌else◌};
 ghost use Rattle.std.specs.Io.{ReadsAtMost};
 ghost use Rattle.std.specs.Io.KnownBytes.{ReadConsumes};
 ghost use Rattle.pmem_base.specs.Counts.{risen};
 ghost use Rattle.pmem_cli.specs.Causes.{HasCause};
 ghost use Rattle.pmem_cli.specs.declared.pulls.Pulls.{Pulls};
 ghost use Rattle.pmem_cli.specs.declared.pulls.Pulls.TheVariants.{Open};
-ghost use Rattle.pmem_cli.specs.Pulling.{is_last, pulls_after};
+ghost use Rattle.pmem_cli.specs.Pulling.{is_last, pulls_after, Recalls};
 
 use crate::pulls::{Pulls, next_pulls};
 use std::io::Read;
@@ -28,12 +28,16 @@ pub trait Source {
     /// Whether a pull failed or gave the end, and whether another was made after it.
     ghost pulls: { Self → Pulls };
 
+    /// The bytes that were left before the last pull, where they are remembered.
+    ghost left_before: { Self → Option (List ℕ) } = { λ source. None };
+
     /// Puts the next bytes at the front of a buffer, and answers how many.
     fn pull(&mut self, buf: &mut [u8]) -> Result<usize, Failed>
         ensures bound { ReadsAtMost result buf.new }
         ensures bytes { ReadConsumes (left self.old) (left self.new) result buf.new }
         ensures cause { HasCause (faults self.old) (faults self.new) result }
-        ensures pulls { pulls self.new ≡ pulls_after (pulls self.old) (is_last result (length buf.old)) };
+        ensures pulls { pulls self.new ≡ pulls_after (pulls self.old) (is_last result (length buf.old)) }
+        ensures recalls { Recalls (left_before self.new) (left self.old) };
 }
 
 /// Copies as many bytes as fit, and answers how many.
@@ -60,6 +64,7 @@ pub(crate) fn is_listed(failing: &[u64], call: u64) -> bool
 pub struct MemSource {
     bytes: Vec<u8>,
     at: usize,
+    before: usize,
     failing: Vec<u64>,
     calls: u64,
     faults: u64,
@@ -74,6 +79,7 @@ impl Model for MemSource {
 
     ghost view = { λ source. record {
       left = drop source.at source.bytes.items;
+      left_before = drop source.before source.bytes.items;
       failing = source.failing.items;
       calls = source.calls;
       faults = source.faults;
@@ -86,11 +92,19 @@ impl Model for MemSource {
 impl MemSource {
     /// A source of all these bytes, of whose calls those listed fail.
     pub fn new(bytes: Vec<u8>, failing: Vec<u64>) -> Self
-        ensures { result ≡ record { left = bytes.items; failing = failing.items; calls = 0; faults = 0; pulls = Open } }
+        ensures { result ≡ record {
+          left = bytes.items;
+          left_before = bytes.items;
+          failing = failing.items;
+          calls = 0;
+          faults = 0;
+          pulls = Open;
+        } }
     {
         MemSource {
             bytes,
             at: 0,
+            before: 0,
             failing,
             calls: 0,
             faults: 0,
@@ -106,12 +120,15 @@ impl Source for MemSource {
 
     ghost pulls = { λ source. source.pulls };
 
+    ghost left_before = { λ source. Some source.left_before };
+
     /// Gives as many bytes as there are and as the buffer has room for.
     fn pull(&mut self, buf: &mut [u8]) -> Result<usize, Failed>
         ensures bound { ReadsAtMost result buf.new }
         ensures bytes { ReadConsumes (Some self.old.left) (Some self.new.left) result buf.new }
         ensures cause { HasCause self.old.faults self.new.faults result }
         ensures pulls { self.new.pulls ≡ pulls_after self.old.pulls (is_last result (length buf.old)) }
+        ensures recalls { Recalls (Some self.new.left_before) (Some self.old.left) }
 
         ensures failed { IsErr result ↔ Contains self.old.failing self.old.calls }
         ensures count { IfOk result (λ count. count ≡ min (length self.old.left) (length buf.old)) }
@@ -121,6 +138,7 @@ impl Source for MemSource {
     {
         let call = self.calls;
         self.calls = call.saturating_add(1);
+        self.before = self.at;
         if is_listed(self.failing.as_slice(), call) {
             self.faults = self.faults.saturating_add(1);
             self.pulls = next_pulls(self.pulls, true);

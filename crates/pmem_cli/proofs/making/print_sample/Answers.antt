@@ -4,7 +4,7 @@ use Rattle.plain_model.specs.Texts.{as_line, command_text}
 use Rattle.trace_text.specs.Samples.{sample_command, word_at}
 use Rattle.pmem_cli.specs.Printed.{with_waiting}
 use Rattle.std.proofs.lemmas.Result.{err_from_is_err_and, on_err_weaker, on_ok_weaker}
-use Rattle.pmem_cli.proofs.PrintLemmas.{Prints-nil, Prints-trans, OnErr-fact}
+use Rattle.pmem_cli.proofs.PrintLemmas.{Prints-nil, Prints-trans}
 use Rattle.pmem_cli.proofs.MakeLemmas.{one_more, sample-step, sample-whole, sample-front, sample-end_front}
 use Rattle.pmem_cli.proofs.making.print_sample.Goals as goal
 
@@ -41,7 +41,7 @@ returns-in_err-print_command-clause-err g c =
     let before = c.commands.invariant in
     let more = one_more before.left (omega (arith, before.counted, c.commands-test.true)) in
     let to = with_waiting (g.K.Sink.put c.print_command.new.out) c.print_command.new.self in
-    OnErr-fact c.from_residual.result _
+    rw (err_from_is_err_and c.from_residual.result c.from_residual.ensures.1).1
     (sample-front _ _ to before.so_far c.args.seed c.args.count c.commands.maker.state c.commands.maker.number before.left more.0 more.1 before.rest before.printed
     (rw c.next-command.ensures.command at c.in_err-print_command.ensures.err))
 

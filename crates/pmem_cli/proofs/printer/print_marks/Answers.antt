@@ -3,7 +3,7 @@ use Rattle.pmem_base.specs.declared.answers.Mark.TheVariants.{Begin}
 use Rattle.plain_model.specs.Texts.{as_line, mark_text}
 use Rattle.pmem_cli.specs.Printed.{with_waiting}
 use Rattle.std.proofs.lemmas.Result.{err_from_is_err_and}
-use Rattle.pmem_cli.proofs.PrintLemmas.{Prints-nil, Prints-trans, OnErr-fact}
+use Rattle.pmem_cli.proofs.PrintLemmas.{Prints-nil, Prints-trans}
 use Rattle.pmem_cli.proofs.MarkLines.{marks-step, marks-front, marks-whole}
 use Rattle.pmem_cli.proofs.printer.print_marks.Goals as goal
 
@@ -24,7 +24,7 @@ pub returns-in_err-print_mark-clause-err : goal.returns-in_err-print_mark-clause
 returns-in_err-print_mark-clause-err g c =
     let before = c.each.invariant in
     let to = with_waiting (g.K.Sink.put c.print_mark.new.out) c.print_mark.new.self in
-    OnErr-fact c.from_residual.result _
+    rw (err_from_is_err_and c.from_residual.result c.from_residual.ensures.1).1
     (marks-front _ _ to before.so_far c.args.marks.now c.each.mark-index (Begin 0) c.each-test.true before.rest before.printed c.in_err-print_mark.ensures.err)
 
 pub returns-in_err-print_mark-clause-cause : goal.returns-in_err-print_mark-clause-cause

@@ -1,4 +1,4 @@
-use Rattle.std.proofs.Common.{refl, inl, inr}
+use Rattle.std.proofs.Common.{refl, ap, inl, inr}
 use Rattle.pmem_cli.proofs.FaultLemmas.{CountsFault-none, CountsFault-map, stops_after}
 use Rattle.pmem_cli.proofs.program.do_task.Goals as goal
 
@@ -23,3 +23,7 @@ returns-in-Sample-clause-writes g c = CountsFault-map _ _ _ _ _ (λ same. cc) (�
 
 pub returns-in-Check-clause-writes : goal.returns-in-Check-clause-writes
 returns-in-Check-clause-writes g c = CountsFault-none _ _ _ c.check.ensures.write refl
+
+pub returns-in-Run-clause-prompt : goal.returns-in-Run-clause-prompt
+returns-in-Run-clause-prompt g c =
+    rw c.in-Run.is (λ given. elim c.run_trace.ensures.prompt [ inl same ↦ absurd (given (ap g.S.Source.left same)) | inr prompt ↦ prompt ])

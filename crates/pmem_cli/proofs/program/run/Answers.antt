@@ -1,12 +1,15 @@
 use Rattle.std.proofs.Common.{rules, ◌≡◌, [], ap}
+use Rattle.std.proofs.lemmas.Bool.{true≢false}
 use Rattle.std.specs.Prelude.{◌⊎◌, map, string_bytes, Some}
 use Rattle.pmem_cli.specs.declared.options.Task.{Task}
 use Rattle.pmem_cli.specs.Words.{task_of}
 use Rattle.pmem_cli.specs.Printed.{with_waiting}
 use Rattle.pmem_cli.specs.Causes.{Rose}
 use Rattle.pmem_cli.specs.HasRun.{TaskOutcome, HasEnded, IsComplete}
+use Rattle.pmem_cli.specs.Prompt.{RepliesFirst}
 use Rattle.pmem_cli.proofs.Completing.{complete}
-use Rattle.pmem_cli.proofs.StatusLemmas.{IfSome-map, none_of_some, TaskOutcome-finished, pull_told, push_told, push_once}
+use Rattle.pmem_cli.proofs.PromptLemmas.{ending_appends, replies_more}
+use Rattle.pmem_cli.proofs.StatusLemmas.{IfSome-map, TaskOutcome-finished, pull_told, push_told, push_once}
 use Rattle.pmem_cli.proofs.program.run.Goals as goal
 
 pub returns-clause-told : goal.returns-clause-told
@@ -25,7 +28,7 @@ returns-clause-told g c =
     (λ (task : Task) (some : task_of words ≡ Some task) (ended : HasEnded task ending trace left (with_waiting before []) between).
     TaskOutcome-finished task ending status reads trace left before after between ended c.do_words-ending.ensures.reads.failed
     (record {
-      good = λ faulty. none_of_some (task_of words) task some (c.do_words-ending.ensures.words.0 (c.finish.ensures.words.0 faulty));
+      good = λ faulty. true≢false (rw some at (c.do_words-ending.ensures.words.0 (c.finish.ensures.words.0 faulty)));
       its_status = c.finish.ensures.status;
       fault = c.finish.ensures.write;
       kept = λ same. ap (g.K.Sink.put) (c.finish.ensures.kept same);
@@ -64,3 +67,19 @@ returns-clause-complete g c =
     (λ (task : Task) (some : task_of words ≡ Some task) (done : TaskOutcome task status reads trace left before after).
     complete task status trace left before after reads writes done (returns-clause-read g c) (returns-clause-write g c))
     (returns-clause-told g c)
+
+pub returns-clause-prompt : goal.returns-clause-prompt
+returns-clause-prompt g c =
+    let words = map string_bytes c.args.words.now in
+    let trace = g.S.Source.left c.args.trace.now in
+    let left = g.S.Source.left c.do_words-ending.new.trace in
+    let told = g.S.Source.left_before c.do_words-ending.new.trace in
+    let from = with_waiting (g.K.Sink.put c.args.out.now) [] in
+    let put = g.K.Sink.put c.do_words-ending.new.out in
+    let after = g.K.Sink.put c.finish.new.out in
+    let grown = ending_appends c.do_words-ending.result (with_waiting put c.do_words-ending.new.printer) after
+    (λ same. ap (g.K.Sink.put) (c.finish.ensures.kept same)) c.finish.ensures.front in
+    IfSome-map (task_of words) (λ (task : Task). RepliesFirst task trace left told from put) (λ (task : Task). RepliesFirst task trace left told from after)
+    (λ (task : Task) (some : task_of words ≡ Some task) (replies : RepliesFirst task trace left told from put).
+    replies_more task trace left told from put after grown.0 replies grown.1)
+    (rw c.new-printer.ensures at c.do_words-ending.ensures.prompt)

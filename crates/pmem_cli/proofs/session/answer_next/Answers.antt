@@ -1,6 +1,7 @@
-use Rattle.std.proofs.Common.{[], arith, refl}
+use Rattle.std.proofs.Common.{[], arith, refl, inl}
 use Rattle.std.proofs.KnownBytes.{Consumes-nil, Consumes-kept}
 use Rattle.std.proofs.lemmas.List.Elements.{All-nil}
+use Rattle.pmem_cli.proofs.PromptLemmas.{asked_in, asked_quietly}
 use Rattle.pmem_cli.proofs.TurnLemmas.{HasStopped-fault, HasStopped-limit, Turns-line, HasStopped-last, HasStopped-at_last, HasStopped-long, HasStopped-end}
 use Rattle.pmem_cli.proofs.FaultLemmas.{stops_unfailed, stops_unread, stops_after}
 use Rattle.pmem_cli.proofs.session.answer_next.Goals as goal
@@ -91,3 +92,38 @@ returns-in-Ok-Line-clause-pulls g c = record {
   may_pull = λ none. (rw c.in-Ok-Line.field-0-is at c.in-Ok-Line.ensures.may_pull) refl;
   in_time = c.in-Ok-Line.ensures.in_time;
 }
+
+-- ---- what was put before a pull
+
+pub returns-in-Err-clause-asked : goal.returns-in-Err-clause-asked
+returns-in-Err-clause-asked g c =
+    asked_quietly _ _ _ _ _ c.requires.pushed (λ line. c.in-Err.ensures.unpulled (omega (arith, line.1)))
+    (asked_in _ _ _ g.S.Source.left g.S.Source.left_before _ _ [] (Consumes-nil _) (All-nil _) (inl refl) c.in-Err.ensures.asked)
+
+pub returns-in-Ok-true-clause-asked : goal.returns-in-Ok-true-clause-asked
+returns-in-Ok-true-clause-asked g c =
+    asked_quietly _ _ _ _ _ c.requires.pushed (λ line. c.in-Ok-true.ensures.unpulled (omega (arith, line.1)))
+    (asked_in _ _ _ g.S.Source.left g.S.Source.left_before _ _ [] (Consumes-nil _) (All-nil _) (inl refl) c.in-Ok-true.ensures.asked)
+
+pub returns-in-Ok-false-clause-asked : goal.returns-in-Ok-false-clause-asked
+returns-in-Ok-false-clause-asked g c =
+    asked_quietly _ _ _ _ _ c.requires.pushed (λ line. c.in-Ok-false.ensures.unpulled (omega (arith, line.1)))
+    (asked_in _ _ _ g.S.Source.left g.S.Source.left_before _ _ [] (Consumes-nil _) (All-nil _) (inl refl) c.in-Ok-false.ensures.asked)
+
+pub returns-in-Err-next_line-clause-asked : goal.returns-in-Err-next_line-clause-asked
+returns-in-Err-next_line-clause-asked g c = asked_quietly _ _ _ _ _ c.requires.pushed c.in-Err-next_line.ensures.unpulled c.in-Err-next_line.ensures.asked
+
+pub returns-in-Ok-End-clause-asked : goal.returns-in-Ok-End-clause-asked
+returns-in-Ok-End-clause-asked g c = asked_quietly _ _ _ _ _ c.requires.pushed c.in-Ok-End.ensures.unpulled c.in-Ok-End.ensures.asked
+
+pub returns-in-Ok-Long-clause-asked : goal.returns-in-Ok-Long-clause-asked
+returns-in-Ok-Long-clause-asked g c = asked_quietly _ _ _ _ _ c.requires.pushed c.in-Ok-Long.ensures.unpulled c.in-Ok-Long.ensures.asked
+
+pub returns-in-Ok-Line-clause-asked : goal.returns-in-Ok-Line-clause-asked
+returns-in-Ok-Line-clause-asked g c = asked_quietly _ _ _ _ _ c.requires.pushed c.in-Ok-Line.ensures.unpulled c.in-Ok-Line.ensures.asked
+
+pub returns-in-None-clause-asked : goal.returns-in-None-clause-asked
+returns-in-None-clause-asked g c = asked_quietly _ _ _ _ _ c.requires.pushed c.in-Ok-Last.ensures.unpulled c.in-Ok-Last.ensures.asked
+
+pub returns-in-Some-clause-asked : goal.returns-in-Some-clause-asked
+returns-in-Some-clause-asked g c = asked_quietly _ _ _ _ _ c.requires.pushed c.in-Ok-Last.ensures.unpulled c.in-Ok-Last.ensures.asked

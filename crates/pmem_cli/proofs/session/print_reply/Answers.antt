@@ -1,9 +1,8 @@
 use Rattle.std.specs.Prelude.{slice_range}
-use Rattle.plain_model.specs.Texts.{as_line, answer_text, marks_text, reply_text}
-use Rattle.pmem_replay.specs.Stepped.{reply_in}
-use Rattle.pmem_cli.specs.Printed.{PrintsFront, with_waiting}
-use Rattle.std.proofs.lemmas.Result.{on_err_weaker, on_ok_weaker}
-use Rattle.pmem_cli.proofs.PrintLemmas.{Prints-trans, PrintsFront-trans, PrintsFront-more, OnErr-fact}
+use Rattle.plain_model.specs.Texts.{as_line, answer_text, marks_text}
+use Rattle.pmem_cli.specs.Printed.{with_waiting}
+use Rattle.std.proofs.lemmas.Result.{err_from_is_err_and, on_err_weaker, on_ok_weaker}
+use Rattle.pmem_cli.proofs.PrintLemmas.{Prints-trans, PrintsFront-trans, PrintsFront-more}
 use Rattle.pmem_cli.proofs.session.print_reply.Goals as goal
 
 pub returns-in_err-print_marks-clause-err : goal.returns-in_err-print_marks-clause-err
@@ -11,7 +10,7 @@ returns-in_err-print_marks-clause-err g c =
     let reply = c.args.reply.now in
     let from = with_waiting (g.K.Sink.put c.args.out.now) c.args.printer.now in
     let to = with_waiting (g.K.Sink.put c.print_marks.new.out) c.print_marks.new.printer in
-    OnErr-fact c.from_residual.result (PrintsFront from to (reply_text (reply_in c.args.world.now reply)))
+    rw (err_from_is_err_and c.from_residual.result c.from_residual.ensures.1).1
     (PrintsFront-more from to (marks_text (slice_range c.args.world.now.ledger.marks reply.from reply.to)) (as_line (answer_text reply.answer))
     (rw c.marks.ensures at c.in_err-print_marks.ensures.err))
 

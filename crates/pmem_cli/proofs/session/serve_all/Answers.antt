@@ -1,5 +1,6 @@
-use Rattle.std.proofs.Common.{◌≡◌, ◌+◌, ◌++◌, ◌∷◌, ◌∙◌, [], length, refl, arith, length-append}
+use Rattle.std.proofs.Common.{◌≡◌, ◌+◌, ◌++◌, ◌∷◌, ◌∙◌, [], length, refl, arith, length-append, inl}
 use Rattle.std.proofs.KnownBytes.{prepend_known-nil}
+use Rattle.pmem_cli.proofs.PromptLemmas.{prompt_turn}
 use Rattle.pmem_cli.proofs.TurnLemmas.{HasServed-nil, HasServed-trans, HasStopped-after}
 use Rattle.pmem_cli.proofs.session.serve_all.Goals as goal
 
@@ -14,6 +15,7 @@ lines-init g c = record {
   reads = refl;
   writes = refl;
   may_pull = λ held. held;
+  prompt = inl refl;
 }
 
 pub lines-preserved : goal.lines-preserved
@@ -29,6 +31,9 @@ lines-preserved g c =
       reads = c.serve_next.ensures.cause.reads.kept (λ same. cc (c.in_default.is, same)) ∙ before.reads;
       writes = c.serve_next.ensures.cause.writes.kept (λ same. cc (c.in_default.is, same)) ∙ before.writes;
       may_pull = λ held. c.serve_next.ensures.pulls.may_pull c.in_default.is (before.may_pull held);
+      prompt =
+          prompt_turn _ _ _ g.S.Source.left_before _ _ _ _ _ _ _ _ _ before.so_far before.prompt c.serve_next.ensures.asked
+          (turn.answered.printed.done, turn.answered.printed.appended);
     }
 
 pub returns-in-Some-clause-stopped : goal.returns-in-Some-clause-stopped
@@ -36,6 +41,12 @@ returns-in-Some-clause-stopped g c =
     let before = c.lines.invariant in
     let so_far : c.lines.served ≡ 0 + length before.lines = omega (arith, before.counted) in
     HasStopped-after _ _ _ _ _ _ _ _ _ _ _ _ before.so_far (rw so_far at c.in-Some.ensures.turn)
+
+pub returns-in-Some-clause-prompt : goal.returns-in-Some-clause-prompt
+returns-in-Some-clause-prompt g c =
+    let front = c.in-Some.ensures.turn.front in
+    prompt_turn _ _ _ g.S.Source.left_before _ _ _ _ _ _ _ _ _ c.lines.invariant.so_far c.lines.invariant.prompt c.in-Some.ensures.asked
+    (front.done, front.appended)
 
 -- ---- faults
 

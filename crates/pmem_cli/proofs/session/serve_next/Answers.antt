@@ -1,4 +1,5 @@
 use Rattle.std.proofs.Common.{refl, arith}
+use Rattle.pmem_cli.proofs.PromptLemmas.{asked_flushed}
 use Rattle.pmem_cli.proofs.TurnLemmas.{HasStopped-unput, Turns-put}
 use Rattle.pmem_cli.proofs.FaultLemmas.{stops_unwritten}
 use Rattle.pmem_cli.proofs.session.serve_next.Goals as goal
@@ -14,3 +15,7 @@ returns-in-Err-clause-cause g c = stops_unwritten _ _ _ _ _ refl c.in-Err.ensure
 
 pub returns-in-Ok-clause-cause : goal.returns-in-Ok-clause-cause
 returns-in-Ok-clause-cause g c = rw c.in-Ok.ensures.cause.kept at c.answer_next.ensures.cause
+
+pub returns-in-Ok-clause-asked : goal.returns-in-Ok-clause-asked
+returns-in-Ok-clause-asked g c =
+    asked_flushed _ _ c.answer_next.result _ _ _ _ _ _ _ _ _ _ c.in-Ok.ensures.ok c.answer_next.ensures.turn c.answer_next.ensures.asked
