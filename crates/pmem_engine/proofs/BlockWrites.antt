@@ -1,6 +1,9 @@
 -- Dirty blocks are written to their places, and another stop-loss number is latched.
 pub mod WrittenBlocks
+pub mod MarkedBlocks
 pub mod FlushOutcomes
 pub mod DirtyCounts
+pub mod OldestFirst
+pub mod LossSteps
 pub mod LossBlocks
 pub mod LossOutcomes

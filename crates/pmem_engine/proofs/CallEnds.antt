@@ -2,7 +2,10 @@
 pub mod CallChains
 pub mod StillParts
 pub mod ToldLines
+pub mod ShadowLines
 pub mod ErrorAnswers
 pub mod EndedEngines
+pub mod ExactWork
+pub mod MetaLines
 pub mod UsableParts
 pub mod TestBenches

@@ -3,6 +3,7 @@ pub mod LineCounters
 pub mod UnsealedLines
 pub mod FetchedPaths
 pub mod FetchEnds
+pub mod PathCosts
 pub mod FetchAnswers
 pub mod FetchCalls
 pub mod LineReads

@@ -4,4 +4,5 @@ pub mod ResealOutcomes
 pub mod TurnOutcomes
 pub mod LeftPlaces
 pub mod PageFinishes
+pub mod PageStops
 pub mod FinishedFirst

@@ -1,3 +1,4 @@
 -- A page's path is named in the shadow tables.
 pub mod PathNames
+pub mod ShadowNames
 pub mod NamingOutcomes

@@ -5,6 +5,8 @@ pub mod WriteParts
 pub mod WriteFinishes
 pub mod WriteSteps
 pub mod WriteBegins
+pub mod WriteWorks
+pub mod WriteRefusals
 pub mod WriteExits
 pub mod WriteSeals
 pub mod WriteOutcomes

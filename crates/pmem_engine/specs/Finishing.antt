@@ -1,15 +1,16 @@
 -- A page half finished: the first lines not done of its register were sealed anew.
-use Rattle.std.specs.Prelude.{ℕ, ◌≡◌, ◌<◌, ◌≤◌, ◌+◌, ◌*◌, List, [], ◌∷◌, ◌++◌, length, map, None, IsTrue}
+use Rattle.std.specs.Prelude.{ℕ, ◌≡◌, ◌<◌, ◌+◌, ◌*◌, List, [], ◌∷◌, ◌++◌, length, map, None, IsTrue}
 use Rattle.pmem_base.specs.declared.answers.Mark.{Mark}
 use Rattle.pmem_base.specs.Layout as layout
 use Rattle.pmem_base.specs.Registers.{not_done}
 use Rattle.page_reencrypt.specs.Registers.{register_of}
 use Rattle.suite.specs.Setup.{Setup}
 use Rattle.plain_model.specs.State.{Memory}
+use Rattle.plain_model.specs.Bounds.{seal_count}
 use Rattle.plain_model.specs.Asked.{reseal_mark}
 use Rattle.pmem_engine.specs.Parts.{Parts, regs_of, AreTrusted, HoldsSeal, meta_line_in}
 use Rattle.pmem_engine.specs.Outcomes.{going, is_sealed_by, OneLossEffect, TakesSteps}
-use Rattle.pmem_engine.specs.Calls.{IsMemory, moment_in}
+use Rattle.pmem_engine.specs.Calls.{IsMemory, moment_in, KeepsShadow, AreUnderMinorZero, IsWork, reseal_work, KeepsMetaLines}
 use Rattle.pmem_engine.specs.Resealing.{register_in}
 
 -- the register is the page's still, with these places not done
@@ -34,7 +35,12 @@ pub record HasResealedFirst (setup : Setup) (n number : ℕ) (old new : Parts) :
   pub left : List ℕ
   pub places : not_done (register_in old n) ≡ sealed ++ left
   pub count : length sealed ≡ number
-  pub few : length made ≤ number
+  pub as_many : length made ≡ number
+  pub seals : seal_count made ≡ number
+  pub work : IsWork (reseal_work number) old new
+  pub meta_lines : KeepsMetaLines setup.shape old.device.lines new.device.lines
+  pub minors : AreUnderMinorZero made
+  pub shadow : KeepsShadow setup.shape old new
   pub done : OneLossEffect setup going made old new
   pub marks :
       AreTrusted setup old → (memory : Memory) → IsMemory setup memory old
@@ -48,7 +54,7 @@ pub record HasResealedFirst (setup : Setup) (n number : ℕ) (old new : Parts) :
       (page : ℕ) → register_of (regs_of old).progress.items page ≡ None
       → register_of (regs_of new).progress.items page ≡ None
   pub metadata :
-      AreTrusted setup old → (x : ℕ) → x < layout.meta_lines setup.shape
+      (regs_of old).group.items ≡ [] → (x : ℕ) → x < layout.meta_lines setup.shape
       → meta_line_in setup.shape new x ≡ meta_line_in setup.shape old x
   pub steps : TakesSteps (4 * number) old.device new.device
   pub engine : new.engine ≡ old.engine

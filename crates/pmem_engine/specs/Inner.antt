@@ -1,5 +1,5 @@
 -- What the parts of the engine's calls do: a path is fetched, a line is unsealed, a path is named.
-use Rattle.std.specs.Prelude.{ℕ, ◌≡◌, ◌<◌, false, not, ◌||◌, [], Some, option_map, IsOk, Result, Ok, Err, ⊤}
+use Rattle.std.specs.Prelude.{ℕ, ◌≡◌, ◌<◌, false, not, ◌||◌, [], length, Some, option_map, IsOk, Result, Ok, Err, ⊤}
 use Rattle.pmem_base.specs.declared.lines.Line.{Line}
 use Rattle.pmem_base.specs.declared.lines.Ctr.{Ctr}
 use Rattle.pmem_base.specs.Counts.{risen}
@@ -14,6 +14,8 @@ use Rattle.board.specs.Steps.{Tells}
 use Rattle.split_counters.specs.declared.Block.{Block}
 use Rattle.split_counters.specs.Blocks.{unpacked}
 use Rattle.meta_path.specs.Blocks.{line_in, IsPathCached, dirty_count}
+use Rattle.meta_path.specs.Fetching.{IsFetchedTo}
+use Rattle.meta_path.specs.Naming.{naming_writes}
 use Rattle.suite.specs.Setup.{Setup}
 use Rattle.plain_model.specs.View.{plain_line}
 use Rattle.plain_model.specs.Bounds.{path_length}
@@ -24,7 +26,7 @@ use Rattle.pmem_engine.specs.Parts.{Parts, regs_of, AreTrusted, AreSound, HoldsS
 use Rattle.pmem_engine.specs.Outcomes.{Outcome, shown, outcome_of, is_going, OneLossEffect, TakesSteps}
 use Rattle.pmem_engine.specs.Faults.{IsMetaRefused, IsClashShown, IsTagRefused, IsForgedShown}
 use Rattle.pmem_engine.specs.Engine.{EngineState}
-use Rattle.pmem_engine.specs.Calls.{IsPathNamedInMirror, IsDownAnswer, IsUnrefused, TakesWithin, TakesWithinOfLive, AnswersRead, IsReadOfCached}
+use Rattle.pmem_engine.specs.Calls.{IsPathNamedInMirror, IsDownAnswer, IsUnrefused, TakesWithin, TakesWithinOfLive, KeepsShadow, IsMetaUncached, IsPastFetch, fetch_state, IsWork, naming_work, KeepsMetaLines, IsAnswerOfRead, IsReadWork, HasNamedSome, AnswersRead, IsReadOfCached, HasFetchedSome}
 
 -- the board's lines, registers and counts are as they were
 pub record StandsStill (old new : Device) : Type 0 where
@@ -56,12 +58,28 @@ AnswersFetch setup page old new (Err (Fail.Tag at)) = ⊥
 AnswersFetch setup page old new (Err (Fail.Spent spent)) = ⊥
 AnswersFetch setup page old new (Err Fail.Down) = ⊥
 
+-- the answers that a fetch may give, whatever the chip is
+abbrev pub IsAnswerOfFetch : Result Unit Fault → Type 0
+IsAnswerOfFetch (Err (Fail.Tag at)) = ⊥
+IsAnswerOfFetch (Err (Fail.Spent spent)) = ⊥
+IsAnswerOfFetch (Err Fail.Down) = ⊥
+IsAnswerOfFetch answer = ⊤
+
 pub record HasFetched (setup : Setup) (page : ℕ) (old new : Parts) (answer : Result Unit Fault) : Type 0 where
   pub done : OneLossEffect setup (outcome_of answer) [] old new
   pub answered : AreTrusted setup old → AnswersFetch setup page old new answer
   pub unrefused : AreSound setup old → IsUnrefused answer
   pub not_down : IsDownAnswer answer → ⊥
   pub path_cached : IsOk answer → IsPathCached setup.shape new.engine.cache page
+  pub path_fetched : IsPastFetch old new answer → IsPathCached setup.shape new.engine.cache page
+  pub possible : IsAnswerOfFetch answer
+  pub meta_uncached : IsMetaUncached setup.shape page old answer
+  pub shadow : KeepsShadow setup.shape old new
+  pub work :
+      IsOk answer
+      → IsFetchedTo setup.shape setup.formulas old.ledger.truth page (path_length setup.shape)
+      (fetch_state setup.shape old) (fetch_state setup.shape new)
+  pub fetched : HasFetchedSome setup.shape page old new answer
   pub mirror : new.engine.mirror ≡ old.engine.mirror
   pub down : new.engine.down ≡ old.engine.down
   pub regs : regs_of new ≡ regs_of old
@@ -76,7 +94,7 @@ pub record HasFetched (setup : Setup) (page : ℕ) (old new : Parts) (answer : R
       → IsPathNamedInMirror setup.shape new.engine page
   -- the counter block's own line isn't written
   pub block_kept :
-      AreTrusted setup old
+      (regs_of old).group.items ≡ []
       → meta_line_in setup.shape new (counter_position setup.shape page)
       ≡ meta_line_in setup.shape old (counter_position setup.shape page)
   pub latches : new.device.latches ≡ old.device.latches
@@ -107,6 +125,13 @@ TellsTagLine setup a new (Ok unsealed) =
     Tells new.device.lines (layout.tag_line setup.shape a) unsealed.tag_line
 TellsTagLine setup a new (Err fault) = ⊤
 
+-- the answers that an unsealing may give, whatever the chip is
+abbrev pub IsAnswerOfUnseal : Result Unsealed Fault → Type 0
+IsAnswerOfUnseal (Err (Fail.Meta x)) = ⊥
+IsAnswerOfUnseal (Err (Fail.Spent page)) = ⊥
+IsAnswerOfUnseal (Err Fail.Down) = ⊥
+IsAnswerOfUnseal answer = ⊤
+
 pub record HasUnsealed (setup : Setup) (a : ℕ) (ctr : Ctr) (old new : Parts) (answer : Result Unsealed Fault) :
     Type 0 where
   pub done : OneLossEffect setup (outcome_of answer) [] old new
@@ -118,6 +143,9 @@ pub record HasUnsealed (setup : Setup) (a : ℕ) (ctr : Ctr) (old new : Parts) (
   pub digests : new.digests ≡ old.digests
   pub same_ledger : (outcome_of answer ≡ shown → ⊥) → new.ledger ≡ old.ledger
   pub tells_tag_line : TellsTagLine setup a new answer
+  pub possible : IsAnswerOfUnseal answer
+  pub writes : new.device.writes ≡ old.device.writes
+  pub latches : new.device.latches ≡ old.device.latches
   pub no_steps : TakesSteps 0 old.device new.device
   pub two_reads : IsOk answer → RisesBy 2 old.device.reads new.device.reads
   pub one_tag : IsOk answer → new.tags ≡ risen old.tags
@@ -137,6 +165,12 @@ pub record UpReadOutcome (setup : Setup) (a : ℕ) (old new : Parts) (answer : R
   pub unrefused : AreSound setup old → IsUnrefused answer
   pub not_down : IsDownAnswer answer → ⊥
   pub path_cached : IsOk answer → IsPathCached setup.shape new.engine.cache (page_of a)
+  pub path_fetched : IsPastFetch old new answer → IsPathCached setup.shape new.engine.cache (page_of a)
+  pub possible : IsAnswerOfRead answer
+  pub meta_uncached : IsMetaUncached setup.shape (page_of a) old answer
+  pub shadow : KeepsShadow setup.shape old new
+  pub work : IsOk answer → IsReadWork setup.shape a old new
+  pub fetched : HasFetchedSome setup.shape (page_of a) old new answer
   pub mirror : new.engine.mirror ≡ old.engine.mirror
   pub down : new.engine.down ≡ old.engine.down
   pub of_cached :
@@ -147,12 +181,26 @@ pub record UpReadOutcome (setup : Setup) (a : ℕ) (old new : Parts) (answer : R
 
 -- ---- a path named
 
+-- the names were written to the device too, all of them
+pub record HasNamedAll (g : Shape) (page : ℕ) (old new : Parts) : Type 0 where
+  pub some : HasNamedSome g page old new
+  pub all : some.written ≡ some.named
+
 pub record HasNamedPath (setup : Setup) (page : ℕ) (old new : Parts) (answer : Result Unit Fault) :
     Type 0 where
   pub done : OneLossEffect setup (outcome_of answer) [] old new
   pub cut_alone : IsUnrefused answer
   pub not_spent : (spent : ℕ) → answer ≡ Err (Fail.Spent spent) → ⊥
   pub path_named : IsOk answer → IsPathNamedInMirror setup.shape new.engine page
+  pub names : HasNamedSome setup.shape page old new
+  pub work :
+      IsOk answer
+      → IsWork
+      (naming_work
+      (length (naming_writes setup.shape old.engine.cache page old.engine.mirror (path_length setup.shape))))
+      old new
+  pub meta_lines : IsOk answer → KeepsMetaLines setup.shape old.device.lines new.device.lines
+  pub all_named : IsOk answer → HasNamedAll setup.shape page old new
   pub cache : new.engine.cache ≡ old.engine.cache
   pub down : new.engine.down ≡ old.engine.down
   pub regs : regs_of new ≡ regs_of old
@@ -161,7 +209,7 @@ pub record HasNamedPath (setup : Setup) (page : ℕ) (old new : Parts) (answer :
   pub digests : new.digests ≡ old.digests
   pub reads : new.device.reads ≡ old.device.reads
   pub metadata :
-      AreTrusted setup old → (x : ℕ) → x < layout.meta_lines setup.shape
+      (regs_of old).group.items ≡ [] → (x : ℕ) → x < layout.meta_lines setup.shape
       → meta_line_in setup.shape new x ≡ meta_line_in setup.shape old x
   pub steps : TakesWithin (outcome_of answer) (path_length setup.shape) old new
   pub still_named : IsPathNamedInMirror setup.shape old.engine page → IsOk answer × StandsStill old.device new.device

@@ -1,5 +1,5 @@
 -- What sealing a held line anew makes of its parts.
-use Rattle.std.specs.Prelude.{ℕ, ◌≡◌, ◌<◌, ◌≤◌, ◌+◌, ◌*◌, ◌⊎◌, List, [], ◌∷◌, length, slice_get, slice_index_or, Some, IfOk, IsTrue, Result, Ok, Err, ⊤}
+use Rattle.std.specs.Prelude.{ℕ, ◌≡◌, ◌<◌, ◌≤◌, ◌+◌, ◌*◌, ◌⊎◌, List, [], ◌∷◌, length, slice_get, slice_index_or, Some, IfOk, IsOk, IsTrue, Result, Ok, Err, ⊤}
 use Rattle.pmem_base.specs.declared.registers.Progress.{Progress}
 use Rattle.pmem_base.specs.declared.answers.Mark.{Mark}
 use Rattle.pmem_base.specs.declared.answers.Mark.TheVariants.{Seal}
@@ -16,6 +16,7 @@ use Rattle.seal_ledger.specs.Notes.{HasMark}
 use Rattle.suite.specs.Formulas.{Formulas}
 use Rattle.suite.specs.Setup.{Setup}
 use Rattle.plain_model.specs.State.{Memory}
+use Rattle.plain_model.specs.Bounds.{seal_count}
 use Rattle.plain_model.specs.Asked.{Moment, reseal_mark}
 use Rattle.pmem_engine.specs.declared.fault.Fault.{Fault}
 use Rattle.pmem_engine.specs.declared.fault.Fault.TheVariants as Fail
@@ -24,7 +25,7 @@ use Rattle.pmem_engine.specs.declared.resealing.NextSeal.{NextSeal}
 use Rattle.pmem_engine.specs.Parts.{Parts, regs_of, AreTrusted, AreSound, HoldsSeal, meta_line_in}
 use Rattle.pmem_engine.specs.Outcomes.{shown, outcome_of, is_sealed_by, OneLossEffect, TakesSteps, TakesFewer}
 use Rattle.pmem_engine.specs.Faults.{IsTagRefused, IsForgedShown}
-use Rattle.pmem_engine.specs.Calls.{IsMemory, IsDownAnswer, IsUnrefused, moment_in}
+use Rattle.pmem_engine.specs.Calls.{IsMemory, IsDownAnswer, IsUnrefused, KeepsShadow, IsTurnWork, AreUnderMinorZero, KeepsMetaLines, moment_in}
 use Rattle.pmem_engine.specs.Committing.{entries_of, HasLineDone, HasCommitted, IsCutArmed}
 
 -- ---- a held line
@@ -108,6 +109,13 @@ CountsReseal old new (Ok sealed) =
 CountsReseal old new (Err Fail.Cut) = TakesFewer 4 old.device new.device
 CountsReseal old new (Err fault) = TakesSteps 0 old.device new.device
 
+-- the answers that sealing a held line anew may give, whatever the chip is
+abbrev pub IsAnswerOfReseal : Result (ℕ × ℕ) Fault → Type 0
+IsAnswerOfReseal (Err (Fail.Meta x)) = ⊥
+IsAnswerOfReseal (Err (Fail.Spent page)) = ⊥
+IsAnswerOfReseal (Err Fail.Down) = ⊥
+IsAnswerOfReseal answer = ⊤
+
 -- the lowest line not done of register n's page was sealed anew, under the page's new major and 0, or
 -- the answer says why not
 pub record HasResealed (setup : Setup) (n : ℕ) (old new : Parts) (answer : Result (ℕ × ℕ) Fault) : Type 0 where
@@ -130,10 +138,16 @@ pub record HasResealed (setup : Setup) (n : ℕ) (old new : Parts) (answer : Res
       AreTrusted setup old → (a : ℕ) → a < layout.data_lines setup.shape → IsTrue (is_sealed_by made a)
       → HoldsSeal setup.shape old a
   pub counts : CountsReseal old new answer
+  pub one_seal : IsOk answer → (length made ≡ 1) × (seal_count made ≡ 1)
+  pub work : IsOk answer → IsTurnWork old new
+  pub meta_lines : IsOk answer → KeepsMetaLines setup.shape old.device.lines new.device.lines
+  pub possible : IsAnswerOfReseal answer
+  pub minors : AreUnderMinorZero made
+  pub shadow : KeepsShadow setup.shape old new
   pub engine : new.engine ≡ old.engine
   pub truth : (outcome_of answer ≡ shown → ⊥) → new.ledger.truth ≡ old.ledger.truth
   pub root : (regs_of new).root ≡ (regs_of old).root
   pub digests : new.digests ≡ old.digests
   pub metadata :
-      AreTrusted setup old → (x : ℕ) → x < layout.meta_lines setup.shape
+      (regs_of old).group.items ≡ [] → (x : ℕ) → x < layout.meta_lines setup.shape
       → meta_line_in setup.shape new x ≡ meta_line_in setup.shape old x

@@ -19,13 +19,14 @@ use Rattle.suite.specs.Setup.{Setup}
 use Rattle.meta_path.specs.Blocks.{IsPathCached}
 use Rattle.plain_model.specs.State.{Memory}
 use Rattle.plain_model.specs.View.{plain_line}
+use Rattle.plain_model.specs.Bounds.{path_length, seal_count}
 use Rattle.plain_model.specs.Asked.{Moment, reseal_mark, marks_of_write}
 use Rattle.pmem_engine.specs.declared.fault.Fault.{Fault}
 use Rattle.pmem_engine.specs.declared.fault.Fault.TheVariants as Fail
 use Rattle.pmem_engine.specs.Parts.{Parts, regs_of, AreTrusted, AreSound, HoldsSeal, meta_line_in}
-use Rattle.pmem_engine.specs.Outcomes.{shown, outcome_of, is_sealed_by, OneLossEffect, TakesSteps, TakesFewer, is_seal_of}
+use Rattle.pmem_engine.specs.Outcomes.{shown, outcome_of, is_sealed_by, OneLossEffect, TakesSteps, TakesAtMost, TakesFewer, is_seal_of}
 use Rattle.pmem_engine.specs.Faults.{IsTagRefused, IsForgedShown}
-use Rattle.pmem_engine.specs.Calls.{IsMemory, IsDownAnswer, IsUnrefused, IsLeftAlone, moment_in, AreMarksOfWrite, memory_after, AnswersWrite, TakesSpent, IsPathNamedInMirror, TakesOfWrite, is_persisting, IsBlockTrue}
+use Rattle.pmem_engine.specs.Calls.{IsMemory, IsDownAnswer, IsUnrefused, IsLeftAlone, moment_in, AreMarksOfWrite, memory_after, AnswersWrite, TakesSpent, IsPathNamedInMirror, TakesOfWrite, is_persisting, IsBlockTrue, KeepsShadow, IsMetaUncached, IsPastFetch, HasNamedSome, AreUnderMinorZero, AreInWriteOrder, IsWork, unseal_work, reseal_work, unsealed_count, KeepsMetaLines, IsWriteWork, IsRefusedAsFetched}
 use Rattle.pmem_engine.specs.Resealing.{register_in}
 use Rattle.pmem_engine.specs.Sealing.{HasBegunPage}
 
@@ -56,6 +57,13 @@ AnswersPlain setup write old new (Err (Fail.Meta x)) = ⊥
 AnswersPlain setup write old new (Err (Fail.Spent page)) = ⊥
 AnswersPlain setup write old new (Err Fail.Down) = ⊥
 
+-- the answers that making the plain line may give, whatever the chip is
+abbrev pub IsAnswerOfPlain : Result Line Fault → Type 0
+IsAnswerOfPlain (Err (Fail.Meta x)) = ⊥
+IsAnswerOfPlain (Err (Fail.Spent page)) = ⊥
+IsAnswerOfPlain (Err Fail.Down) = ⊥
+IsAnswerOfPlain answer = ⊤
+
 -- the plain line of a write whose page's path is cached
 pub record HasMadePlain (setup : Setup) (write : Posted) (old new : Parts) (answer : Result Line Fault) :
     Type 0 where
@@ -71,8 +79,10 @@ pub record HasMadePlain (setup : Setup) (write : Posted) (old new : Parts) (answ
   pub lines : new.device.lines ≡ old.device.lines
   pub regs : regs_of new ≡ regs_of old
   pub digests : new.digests ≡ old.digests
+  pub possible : IsAnswerOfPlain answer
   pub same_ledger : (outcome_of answer ≡ shown → ⊥) → new.ledger ≡ old.ledger
   pub no_steps : TakesSteps 0 old.device new.device
+  pub work : IsOk answer → IsWork (unseal_work (unsealed_count write)) old new
   pub cut_unpowered : answer ≡ Err Fail.Cut → old.device.live ≡ false
 
 -- ---- a page finished
@@ -119,11 +129,25 @@ abbrev pub CountsFinish : ℕ → List Mark → Parts → Parts → Result Unit 
 CountsFinish number made old new (Err Fail.Cut) = TakesFewer (4 * number) old.device new.device
 CountsFinish number made old new answer = TakesSteps (4 * length made) old.device new.device
 
+-- the answers that finishing a page may give, whatever the chip is
+abbrev pub IsAnswerOfFinish : Result Unit Fault → Type 0
+IsAnswerOfFinish (Err (Fail.Meta x)) = ⊥
+IsAnswerOfFinish (Err (Fail.Spent page)) = ⊥
+IsAnswerOfFinish (Err Fail.Down) = ⊥
+IsAnswerOfFinish answer = ⊤
+
 -- every line not done of register n's page was sealed anew, upwards, and its register is gone; or the
 -- answer says why not
 pub record HasFinishedPage (setup : Setup) (n : ℕ) (old new : Parts) (answer : Result Unit Fault) : Type 0 where
   pub made : List Mark
   pub few : length made ≤ length (not_done (register_in old n))
+  pub minors : AreUnderMinorZero made
+  pub seals : IsOk answer → seal_count made ≡ length made
+  pub work : IsOk answer → IsWork (reseal_work (length made)) old new
+  pub meta_lines : IsOk answer → KeepsMetaLines setup.shape old.device.lines new.device.lines
+  pub possible : IsAnswerOfFinish answer
+  pub shadow : KeepsShadow setup.shape old new
+  pub few_steps : TakesAtMost (4 * length (not_done (register_in old n))) old.device new.device
   pub done : OneLossEffect setup (outcome_of answer) made old new
   pub marks :
       AreTrusted setup old → (memory : Memory) → IsMemory setup memory old
@@ -151,7 +175,7 @@ pub record HasFinishedPage (setup : Setup) (n : ℕ) (old new : Parts) (answer :
   pub root : (regs_of new).root ≡ (regs_of old).root
   pub digests : new.digests ≡ old.digests
   pub metadata :
-      AreTrusted setup old → (x : ℕ) → x < layout.meta_lines setup.shape
+      (regs_of old).group.items ≡ [] → (x : ℕ) → x < layout.meta_lines setup.shape
       → meta_line_in setup.shape new x ≡ meta_line_in setup.shape old x
 
 -- the place found, or the oldest where four registers are in use
@@ -206,6 +230,14 @@ pub record UpWriteOutcome (setup : Setup) (write : Posted) (old new : Parts) (an
       → IsTrue (is_sealed_by made a) → (a ≢ write.at) ⊎ (write.len < 64) → HoldsSeal setup.shape old a
   pub path_cached : IsOk answer → IsPathCached setup.shape new.engine.cache (page_of write.at)
   pub path_named : IsOk answer → IsPathNamedInMirror setup.shape new.engine (page_of write.at)
+  pub path_fetched : IsPastFetch old new answer → IsPathCached setup.shape new.engine.cache (page_of write.at)
+  pub meta_uncached : IsMetaUncached setup.shape (page_of write.at) old answer
+  pub names : HasNamedSome setup.shape (page_of write.at) old new
+  pub refused : IsRefusedAsFetched setup.shape (page_of write.at) old new answer
+  pub order : AreInWriteOrder write.at made
+  pub own_sealed : IsOk answer → IsTrue (is_sealed_by made write.at)
+  pub few_steps : TakesAtMost (2 * path_length setup.shape + 264) old.device new.device
+  pub work : IfOk answer (λ ctr. IsWriteWork setup.shape write ctr made old new)
   pub down : new.engine.down ≡ old.engine.down
   pub steps :
       AreTrusted setup old → (memory : Memory) → IsMemory setup memory old
@@ -221,7 +253,7 @@ pub record UpWriteOutcome (setup : Setup) (write : Posted) (old new : Parts) (an
       → IfOk answer (λ ctr.
       TakesSteps (if ctr.minor % (regs_of old).loss == 0 then 5 else 4) old.device new.device)
   pub block_kept :
-      AreTrusted setup old → list_any (is_persisting (regs_of old).loss write.at) made ≡ false
+      (regs_of old).group.items ≡ [] → list_any (is_persisting (regs_of old).loss write.at) made ≡ false
       → meta_line_in setup.shape new (counter_position setup.shape (page_of write.at))
       ≡ meta_line_in setup.shape old (counter_position setup.shape (page_of write.at))
   pub block_written :

@@ -1,11 +1,12 @@
 //! Writing back what is dirty, and the stop-loss number.
-ghost use Rattle.std.specs.Prelude.{ℕ, ◌≡◌, ◌≢◌, ◌<◌, ◌≤◌, ◌+◌, [], true, IfOk, IfSome, IsNone, OnOk, OnErr, IsTrue, option_map};
+ghost use Rattle.std.specs.Prelude.{ℕ, ◌≡◌, ◌≢◌, ◌<◌, ◌≤◌, ◌+◌, [], ◌∷◌, Some, true, IfOk, IfSome, IsNone, OnOk, OnErr, IsTrue, option_map};
 ghost use Rattle.pmem_base.specs.Shape.{is_loss};
 ghost use Rattle.pmem_base.specs.Layout.{device_lines};
 ghost use Rattle.board.specs.Steps.{WasCut};
 ghost use Rattle.meta_cache.specs.Banks.{is_cached, is_cached_dirty};
-ghost use Rattle.meta_cache.specs.State.{oldest_dirty};
+ghost use Rattle.meta_cache.specs.State.{bank_of, oldest_dirty_of, oldest_dirty};
 ghost use Rattle.meta_path.specs.Blocks.{line_in, bank_dirty_count};
+ghost use Rattle.pmem_engine.specs.DirtyOrder.{dirty_order};
 ghost use Rattle.pmem_engine.specs.Flushed.{HasWrittenBack, HasWrittenOldest, HasWrittenBlocks, HasMadeWay, IsCutInBlocks, HasChangedLoss, with_loss, IsBankClean};
 
 use crate::engine::Engine;
@@ -80,6 +81,7 @@ impl Engine {
 
     // The oldest dirty counter block.
     fn dirty_block(&self) -> Option<u32>
+        ensures oldest { result ≡ oldest_dirty_of (bank_of self.now.cache self.now.shape.levels) }
         ensures dirty { IfSome result (λ x. IsTrue (is_cached_dirty self.now.shape self.now.cache self.now.shape.levels x)) }
         ensures clean { IsNone result → IsBankClean self.now self.now.shape.levels }
         ensures none { IsNone result → bank_dirty_count self.now.shape self.now.cache self.now.shape.levels ≡ 0 }
@@ -88,19 +90,23 @@ impl Engine {
         self.cache.oldest_dirty_of(self.geo.levels())
     }
 
-    // Writes one dirty counter block to its place.
+    // Writes the oldest dirty counter block to its place.
     fn write_back_block<B: Board>(&mut self, board: &mut B, x: u32) -> Result<(), Cut>
         requires size { (B.device board.old).size ≡ device_lines self.old.shape }
         requires dirty { IsTrue (is_cached_dirty self.old.shape self.old.cache self.old.shape.levels x) }
+        requires oldest { oldest_dirty_of (bank_of self.old.cache self.old.shape.levels) ≡ Some x }
         ensures ok { OnOk result (HasWrittenBack self.old.shape.levels x self.old self.new (B.device board.old) (B.device board.new)) }
         ensures cut { OnErr result (WasCut (B.device board.old) (B.device board.new)) }
         ensures same { OnErr result (self.new ≡ self.old) }
         ensures fewer { OnOk result (bank_dirty_count self.old.shape self.new.cache self.old.shape.levels + 1
             ≡ bank_dirty_count self.old.shape self.old.cache self.old.shape.levels) }
+        ensures order { OnOk result (dirty_order (bank_of self.old.cache self.old.shape.levels)
+            ≡ x ∷ dirty_order (bank_of self.new.cache self.old.shape.levels)) }
     {
         self.cache.are_banks();
         board.write_line(self.geo.meta_line(x), self.block_line(x))?;
         self.cache.set_clean(self.geo.levels(), x);
+        self.cache.are_banks();
         Ok(())
     }
 

@@ -69,6 +69,7 @@ impl Engine {
             (parts_of self.new (B.device board.new) (A.ledger audit.new) (S.tags suite.new) (S.digests suite.new)) result }
         ensures keys { S.keys suite.new ≡ S.keys suite.old }
     {
+        self.cache.are_banks();
         fetch_path(&self.geo, &mut self.cache, board, suite, audit, page)?;
         Ok(())
     }

@@ -3,7 +3,8 @@ use Rattle.std.proofs.lemmas.Grind.{common_steps}
 use Rattle.std.proofs.Common.{ℕ, ◌≡◌, ◌<◌, ◌≤◌, true, false, [], Option, Some, None, Result, Ok, Err, refl, sym, ap, ap₂, subst, subst₂, ◌∙◌, arith}
 use Rattle.std.specs.Prelude.{option_map, is_some, IfOk}
 use Rattle.std.proofs.lemmas.Bool.{true≢false}
-use Rattle.pmem_base.specs.Layout.{device_lines, meta_lines}
+use Rattle.pmem_base.specs.Shape.{Shape}
+use Rattle.pmem_base.specs.Layout.{device_lines, meta_lines, meta_line, shadow_lines, shadow_line}
 use Rattle.bonsai_tree.specs.Positions.{level_of}
 use Rattle.board.specs.Device.{Device, IsDevice}
 use Rattle.seal_ledger.specs.Ledger.{LedgerState}
@@ -12,7 +13,8 @@ use Rattle.board.specs.Steps.{WasCut}
 use Rattle.meta_cache.specs.Banks.{set_index, is_cached, is_cached_dirty}
 use Rattle.meta_cache.specs.State.{CacheState, IsCacheOf, oldest_dirty}
 use Rattle.meta_cache.proofs.DirtyLemmas.{oldest_cached, cache_clean}
-use Rattle.meta_path.specs.Blocks.{AreInTheirBanks}
+use Rattle.meta_path.specs.Blocks.{line_in, AreInTheirBanks}
+use Rattle.meta_path.specs.Work.{told_line}
 use Rattle.meta_path.specs.Storing.{IsCleaned, IsOneWrittenBack}
 use Rattle.meta_path.proofs.PathFacts.{its_bank_of}
 use Rattle.meta_path.proofs.WriteLemmas.{dirty_at, dirty_on_tree}
@@ -21,9 +23,10 @@ use Rattle.pmem_engine.specs.declared.fault.Fault.TheVariants as Fail
 use Rattle.pmem_engine.specs.Engine.{EngineState}
 use Rattle.pmem_engine.specs.Parts.{Parts, parts_of}
 use Rattle.pmem_engine.specs.Outcomes.{going, cut_short, outcome_of, OneLossEffect, TakesSteps}
-use Rattle.pmem_engine.specs.Calls.{IsDownAnswer, AnswersFlush, HasFlushed}
+use Rattle.pmem_engine.specs.Calls.{IsDownAnswer, AnswersFlush, IsFlushWork, HasFlushed}
 use Rattle.pmem_engine.specs.Flushed.{cache_of, HasWrittenBack, HasWrittenOldest}
 use Rattle.pmem_engine.proofs.CheckedReads.ReadEnds.{ended_parts, ended_going, done_ended, answers_down}
+use Rattle.pmem_engine.proofs.CallEnds.ShadowLines.{told_set_other, meta_apart}
 use Rattle.pmem_engine.proofs.BlockWrites.WrittenBlocks.{written_back, clean_after, cached_after}
 
 same_engine : (old new : EngineState) → cache_of new ≡ cache_of old → new.mirror ≡ old.mirror → new.down ≡ old.down → new ≡ old
@@ -166,6 +169,46 @@ module _ (setup : Setup) (old new : EngineState) (before after : Device) (ledger
   flush_answer (Err (Fail.Spent page)) it = it
   flush_answer (Err Fail.Shown) it = it
 
+  flush_lines : (answer : Result (Option ℕ) Fault) → HasWrittenOldest old new before after answer
+      → (n : ℕ) → n < shadow_lines setup.shape
+      → told_line after.lines (shadow_line setup.shape n) ≡ told_line before.lines (shadow_line setup.shape n)
+  flush_lines (Ok None) it n within = ap (λ (d : Device). told_line d.lines (shadow_line setup.shape n)) it.1
+  flush_lines (Ok (Some x)) it n within =
+      ap (λ told. told_line told (shadow_line setup.shape n)) it.cleaned.board.lines
+      ∙ told_set_other before.lines (meta_line old.shape x) (line_in old.shape old.cache (level_of x) x) (shadow_line setup.shape n)
+      (λ same. meta_apart setup.shape n x (subst (λ g. x < meta_lines g) its_shape it.on_tree)
+      (same ∙ ap (λ g. meta_line g x) its_shape))
+  flush_lines (Err Fail.Cut) it n within = ap (λ told. told_line told (shadow_line setup.shape n)) it.1.lines
+  flush_lines (Err Fail.Down) it n within = absurd it
+  flush_lines (Err (Fail.Meta y)) it n within = absurd it
+  flush_lines (Err (Fail.Tag a)) it n within = absurd it
+  flush_lines (Err (Fail.Spent page)) it n within = absurd it
+  flush_lines (Err Fail.Shown) it n within = absurd it
+
+  flush_regs : (answer : Result (Option ℕ) Fault) → HasWrittenOldest old new before after answer → after.regs ≡ before.regs
+  flush_regs (Ok None) it = ap (λ (d : Device). d.regs) it.1
+  flush_regs (Ok (Some x)) it = it.cleaned.board.regs
+  flush_regs (Err Fail.Cut) it = it.1.regs
+  flush_regs (Err Fail.Down) it = absurd it
+  flush_regs (Err (Fail.Meta y)) it = absurd it
+  flush_regs (Err (Fail.Tag a)) it = absurd it
+  flush_regs (Err (Fail.Spent page)) it = absurd it
+  flush_regs (Err Fail.Shown) it = absurd it
+
+  flush_work : (answer : Result (Option ℕ) Fault) → HasWrittenOldest old new before after answer
+      → IfOk answer (λ found. IsFlushWork setup.shape found start (ended_parts finish (outcome_of answer)))
+  flush_work (Ok None) it = ap (λ (e : EngineState). e.cache) it.0
+  flush_work (Ok (Some x)) it =
+      subst
+      (λ (g : Shape). IsCleaned g (level_of x) x (record { shape = g; banks = old.cache }) (record { shape = g; banks = new.cache })
+      before after)
+      its_shape
+      (subst
+      (λ (s : Shape). IsCleaned old.shape (level_of x) x (record { shape = old.shape; banks = old.cache })
+      (record { shape = s; banks = new.cache }) before after)
+      it.cleaned.cache.shape it.cleaned)
+  flush_work (Err fault) it = tt
+
   pub flushed : (answer : Result (Option ℕ) Fault) → old.down ≡ false → after.reads ≡ before.reads → new.mirror ≡ old.mirror
       → IfOk answer (λ found. found ≡ option_map (λ block. block.1) (oldest_dirty old.cache))
       → HasWrittenOldest old new before after answer
@@ -177,6 +220,9 @@ module _ (setup : Setup) (old new : EngineState) (before after : Device) (ledger
         answered = λ up. flush_answer answer it;
         oldest = λ up. oldest;
         mirror = mirror;
+        shadow = record { mirror = mirror; lines = flush_lines answer it };
+        regs = flush_regs answer it;
+        work = λ up. flush_work answer it;
         same_ledger = refl;
         same_reads = reads;
         cached = flush_cached answer it;

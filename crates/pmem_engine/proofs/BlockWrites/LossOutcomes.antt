@@ -1,23 +1,25 @@
 -- The stop-loss number is changed: what the call keeps, and what its answers say.
 use Rattle.std.proofs.lemmas.Grind.{common_steps}
 use Rattle.std.proofs.Common.{rules, ℕ, ◌≡◌, ◌≢◌, ◌<◌, ◌≤◌, ◌*◌, ◌⊎◌, inl, inr, true, false, List, [], Option, Some, None, Result, Ok, Err, refl, sym, ap, ap₂, subst, subst₂, ◌∙◌, arith}
-use Rattle.std.specs.Prelude.{IfSome, is_some, IsTrue}
+use Rattle.std.specs.Prelude.{IfSome, is_some, IsTrue, IsOk}
 use Rattle.std.proofs.lemmas.Bool.{true≢false, cases_lt}
 use Rattle.std.proofs.lemmas.List.{append-nil}
 use Rattle.std.proofs.lemmas.Option.{same_Some}
 use Rattle.pmem_base.specs.declared.lines.Line.{Line}
-use Rattle.pmem_base.specs.Shape.{is_loss}
+use Rattle.pmem_base.specs.declared.registers.Regs.{Regs}
+use Rattle.pmem_base.specs.Shape.{Shape, is_loss}
 use Rattle.pmem_base.specs.Layout as layout
 use Rattle.pmem_base.specs.Lines.{line_at}
 use Rattle.bonsai_tree.specs.Positions.{level_of, counter_position}
 use Rattle.bonsai_tree.proofs.Levels.{counter_position-lt}
 use Rattle.bonsai_tree.proofs.PathPositions.{path_of-block, path_of-level}
 use Rattle.board.specs.Device.{Device}
-use Rattle.board.specs.Steps.{HasLatched}
+use Rattle.board.specs.Steps.{Tells, HasLatched}
 use Rattle.commit_regs.specs.Groups.{redone_told}
 use Rattle.seal_ledger.specs.Ledger.{LedgerState}
 use Rattle.meta_cache.specs.Banks.{is_cached, is_cached_dirty}
-use Rattle.meta_path.specs.Blocks.{bank_dirty_count}
+use Rattle.meta_path.specs.Blocks.{line_in, bank_dirty_count}
+use Rattle.meta_path.specs.Work.{told_line}
 use Rattle.stop_loss.proofs.Windows.{is_loss_cases}
 use Rattle.suite.specs.Setup.{Setup}
 use Rattle.pmem_engine.specs.declared.fault.Fault.{Fault}
@@ -27,8 +29,8 @@ use Rattle.pmem_engine.specs.Invariants.{IsSound, IsCounterStored, stored_meta}
 use Rattle.pmem_engine.specs.Steps.{HasLossSet}
 use Rattle.pmem_engine.specs.Recached.{IsTrueOrDirty}
 use Rattle.pmem_engine.specs.Parts.{Parts, parts_of, AreTrusted, AreSound, HoldsCounters, HoldsMeta, lines_redone}
-use Rattle.pmem_engine.specs.Outcomes.{going, cut_short, outcome_of, KeepsPlaces, KeepsMeta, CallEffect}
-use Rattle.pmem_engine.specs.Calls.{IsDownAnswer, AnswersLoss, HasSetLoss}
+use Rattle.pmem_engine.specs.Outcomes.{going, cut_short, outcome_of, KeepsPlaces, KeepsMeta, CallEffect, TakesSteps}
+use Rattle.pmem_engine.specs.Calls.{IsDownAnswer, KeepsShadow, AnswersLoss, KeepsButMarks, HasWrittenCleaned, HasWrittenInOrder, HasSetLoss}
 use Rattle.pmem_engine.specs.Flushed.{HasWrittenBlocks, HasMadeWay, HasChangedLoss, with_loss, IsBankClean}
 use Rattle.pmem_engine.proofs.CallEnds.ToldLines.{told_surely}
 use Rattle.pmem_engine.proofs.Laws.CounterBlocks.{IsCounterStored-true}
@@ -36,8 +38,12 @@ use Rattle.pmem_engine.proofs.Laws.GroupLaws.{IsMendable-unarmed}
 use Rattle.pmem_engine.proofs.Laws.CacheLaws.{IsTrueOrDirty-sound}
 use Rattle.pmem_engine.proofs.Laws.LossLaws.{IsTrusted-loss_set, IsSound-loss_set, IsCounterStored-loss_raised}
 use Rattle.pmem_engine.proofs.CallEnds.CallChains.{gone_chained}
+use Rattle.pmem_engine.proofs.CallEnds.ShadowLines.{shadow_still}
 use Rattle.pmem_engine.proofs.CheckedReads.ReadEnds.{ended_parts, gone_ended, answers_down}
-use Rattle.pmem_engine.proofs.BlockWrites.FlushOutcomes.{nothing_done, cut_still}
+use Rattle.pmem_engine.proofs.BlockWrites.FlushOutcomes.{nothing_done, cut_still, no_steps_of}
+use Rattle.pmem_engine.proofs.BlockWrites.LossSteps.{same_steps, other_steps, latched_steps, cut_steps}
+use Rattle.pmem_engine.proofs.BlockWrites.MarkedBlocks.{marks_none, cleaned_none}
+use Rattle.pmem_engine.proofs.BlockWrites.OldestFirst.{in_order_none, in_order_still}
 
 -- ---- numbers
 
@@ -264,7 +270,37 @@ module _ (setup : Setup) (n : ℕ) (old new : EngineState) (before after : Devic
 
   loss_answer : (answer : Result ℕ Fault) → HasChangedLoss n old new before after answer
       → AnswersLoss setup.shape n call_start (ended_parts call_finish (outcome_of answer)) answer
-  loss_answer v0 v1 = grind (arith, common_steps)
+  loss_answer (Ok steps) (inl it) = (
+    same_steps dirty before.regs.loss n steps it.0 it.1,
+    subst₂ (λ k d. TakesSteps k before d) (sym it.1) (sym it.3) (no_steps_of before before refl refl),
+    ap (λ (d : Device). d.regs.loss) it.3 ∙ sym it.0,
+  )
+  loss_answer (Ok steps) (inr it) = (
+    other_steps dirty before.regs.loss n steps it.1.count it.0 it.1.steps_are it.1.way.greater
+        (λ less. (it.1.way.smaller less).1 ∙ ap (λ (g : Shape). bank_dirty_count g old.cache g.levels) its_shape),
+    subst (λ k. TakesSteps k before after) (sym it.1.steps_are)
+        (latched_steps it.1.count before it.1.mid after it.1.way.written.writes it.1.way.written.latches it.1.latched.latches
+        it.1.latched.writes),
+    ap (λ regs. regs.loss) it.1.latched.regs,
+  )
+  loss_answer (Err Fail.Cut) it = (
+    cut_steps dirty before.regs.loss n it.1.count call_start (ended_parts call_finish (outcome_of {T = ℕ} (Err Fail.Cut))) it.1.mid
+        it.0 it.1.greater (few it.1.count it.1.mid it.1.written) it.1.written.writes it.1.written.latches it.1.cut.latches
+        it.1.cut.writes,
+    ap (λ regs. regs.loss) (it.1.cut.regs ∙ it.1.written.regs),
+  )
+    where
+      few : (count : ℕ) (mid : Device) → HasWrittenBlocks count old new before mid → count ≤ dirty
+      few count mid written =
+          let of_old : bank_dirty_count old.shape old.cache old.shape.levels ≡ dirty =
+          ap (λ (g : Shape). bank_dirty_count g old.cache g.levels) its_shape in
+          let both = written.dirty in
+          omega (arith, of_old, both)
+  loss_answer (Err Fail.Down) it = it
+  loss_answer (Err (Fail.Meta x)) it = it
+  loss_answer (Err (Fail.Tag a)) it = it
+  loss_answer (Err (Fail.Spent page)) it = it
+  loss_answer (Err Fail.Shown) it = it
 
   loss_not_down : (answer : Result ℕ Fault) → HasChangedLoss n old new before after answer → IsDownAnswer answer → ⊥
   loss_not_down (Ok steps) it down = down
@@ -285,6 +321,129 @@ module _ (setup : Setup) (n : ℕ) (old new : EngineState) (before after : Devic
       → is_cached setup.shape new.cache bank x ≡ is_cached setup.shape old.cache bank x
   loss_cached v0 v1 bank x = grind (arith, common_steps)
 
+  -- a smaller number that is set leaves no counter block dirty
+  loss_smaller : (answer : Result ℕ Fault) → HasChangedLoss n old new before after answer → n < before.regs.loss → IsOk answer
+      → (x : ℕ) → is_cached_dirty setup.shape new.cache setup.shape.levels x ≡ false
+  loss_smaller (Ok steps) (inl it) less ok x = absurd (omega (arith, it.0, less))
+  loss_smaller (Ok steps) (inr it) less ok x =
+      ap (λ (g : Shape). is_cached_dirty g new.cache g.levels x) (sym (it.1.way.written.shape ∙ its_shape))
+      ∙ (it.1.way.smaller less).0 x
+  loss_smaller (Err fault) it less ok x = absurd (true≢false (sym ok))
+
+  -- one that isn't smaller leaves the cache
+  loss_greater : (answer : Result ℕ Fault) → HasChangedLoss n old new before after answer → before.regs.loss ≤ n
+      → new.cache ≡ old.cache
+  loss_greater (Ok steps) (inl it) least = ap (λ (e : EngineState). e.cache) it.2
+  loss_greater (Ok steps) (inr it) least =
+      it.1.way.written.none (it.1.way.greater (let other = it.0 in omega (arith, least, other)))
+  loss_greater (Err Fail.Cut) it least = it.1.written.none (it.1.greater (let other = it.0 in omega (arith, least, other)))
+  loss_greater (Err Fail.Down) it least = absurd it
+  loss_greater (Err (Fail.Meta x)) it least = absurd it
+  loss_greater (Err (Fail.Tag a)) it least = absurd it
+  loss_greater (Err (Fail.Spent page)) it least = absurd it
+  loss_greater (Err Fail.Shown) it least = absurd it
+
+  blocks_shadow : (count : ℕ) (mid : Device) → HasWrittenBlocks count old new before mid → after.lines ≡ mid.lines
+      → KeepsShadow setup.shape call_start call_finish
+  blocks_shadow count mid written same =
+      record {
+        mirror = written.mirror;
+        lines =
+            λ k within.
+            ap (λ told. told_line told (layout.shadow_line setup.shape k)) same
+            ∙ subst
+            (λ (g : Shape). k < layout.shadow_lines g
+            → told_line mid.lines (layout.shadow_line g k) ≡ told_line before.lines (layout.shadow_line g k))
+            its_shape (λ below. written.shadow k below) within;
+      }
+
+  loss_shadow : (answer : Result ℕ Fault) → HasChangedLoss n old new before after answer
+      → KeepsShadow setup.shape call_start call_finish
+  loss_shadow (Ok steps) (inl it) = shadow_still setup.shape call_start call_finish it.2 (ap (λ (d : Device). d.lines) it.3)
+  loss_shadow (Ok steps) (inr it) = blocks_shadow it.1.count it.1.mid it.1.way.written it.1.latched.lines
+  loss_shadow (Err Fail.Cut) it = blocks_shadow it.1.count it.1.mid it.1.written it.1.cut.lines
+  loss_shadow (Err Fail.Down) it = absurd it
+  loss_shadow (Err (Fail.Meta x)) it = absurd it
+  loss_shadow (Err (Fail.Tag a)) it = absurd it
+  loss_shadow (Err (Fail.Spent page)) it = absurd it
+  loss_shadow (Err Fail.Shown) it = absurd it
+
+  -- marks alone change, and what they say was written stands in its place
+  loss_marks : (answer : Result ℕ Fault) → HasChangedLoss n old new before after answer
+      → KeepsButMarks setup.shape old.cache new.cache
+  loss_marks (Ok steps) (inl it) =
+      subst (λ (e : EngineState). KeepsButMarks setup.shape old.cache e.cache) (sym it.2) (marks_none setup.shape old.cache)
+  loss_marks (Ok steps) (inr it) =
+      subst (λ (g : Shape). KeepsButMarks g old.cache new.cache) its_shape it.1.way.written.marks
+  loss_marks (Err Fail.Cut) it = subst (λ (g : Shape). KeepsButMarks g old.cache new.cache) its_shape it.1.written.marks
+  loss_marks (Err Fail.Down) it = absurd it
+  loss_marks (Err (Fail.Meta x)) it = absurd it
+  loss_marks (Err (Fail.Tag a)) it = absurd it
+  loss_marks (Err (Fail.Spent page)) it = absurd it
+  loss_marks (Err Fail.Shown) it = absurd it
+
+  blocks_lines : (count : ℕ) (mid : Device) → HasWrittenBlocks count old new before mid → after.lines ≡ mid.lines
+      → HasWrittenCleaned setup.shape old.cache new.cache before after
+  blocks_lines count mid written same = moved (subst (λ (g : Shape). HasWrittenCleaned g old.cache new.cache before mid) its_shape written.lines)
+    where
+      moved : HasWrittenCleaned setup.shape old.cache new.cache before mid
+          → HasWrittenCleaned setup.shape old.cache new.cache before after
+      moved it =
+          record {
+            written =
+                λ x dirty clean.
+                subst
+                (λ told. Tells told (layout.meta_line setup.shape x) (line_in setup.shape old.cache setup.shape.levels x))
+                (sym same) (it.written x dirty clean);
+            others = λ at none. ap (λ told. told_line told at) same ∙ it.others at none;
+          }
+
+  loss_lines : (answer : Result ℕ Fault) → HasChangedLoss n old new before after answer
+      → HasWrittenCleaned setup.shape old.cache new.cache before after
+  loss_lines (Ok steps) (inl it) =
+      subst₂ (λ (e : EngineState) (d : Device). HasWrittenCleaned setup.shape old.cache e.cache before d) (sym it.2) (sym it.3)
+      (cleaned_none setup.shape old.cache before)
+  loss_lines (Ok steps) (inr it) = blocks_lines it.1.count it.1.mid it.1.way.written it.1.latched.lines
+  loss_lines (Err Fail.Cut) it = blocks_lines it.1.count it.1.mid it.1.written it.1.cut.lines
+  loss_lines (Err Fail.Down) it = absurd it
+  loss_lines (Err (Fail.Meta x)) it = absurd it
+  loss_lines (Err (Fail.Tag a)) it = absurd it
+  loss_lines (Err (Fail.Spent page)) it = absurd it
+  loss_lines (Err Fail.Shown) it = absurd it
+
+  loss_in_order : (answer : Result ℕ Fault) → HasChangedLoss n old new before after answer
+      → HasWrittenInOrder setup.shape old.cache new.cache before after
+  loss_in_order (Ok steps) (inl it) =
+      subst₂ (λ (e : EngineState) (d : Device). HasWrittenInOrder setup.shape old.cache e.cache before d) (sym it.2) (sym it.3)
+      (in_order_none setup.shape old.cache before)
+  loss_in_order (Ok steps) (inr it) =
+      in_order_still setup.shape old.cache new.cache before it.1.mid after
+      (subst (λ (g : Shape). HasWrittenInOrder g old.cache new.cache before it.1.mid) its_shape it.1.way.written.in_order)
+      it.1.latched.writes
+  loss_in_order (Err Fail.Cut) it =
+      in_order_still setup.shape old.cache new.cache before it.1.mid after
+      (subst (λ (g : Shape). HasWrittenInOrder g old.cache new.cache before it.1.mid) its_shape it.1.written.in_order)
+      it.1.cut.writes
+  loss_in_order (Err Fail.Down) it = absurd it
+  loss_in_order (Err (Fail.Meta x)) it = absurd it
+  loss_in_order (Err (Fail.Tag a)) it = absurd it
+  loss_in_order (Err (Fail.Spent page)) it = absurd it
+  loss_in_order (Err Fail.Shown) it = absurd it
+
+  loss_regs : (answer : Result ℕ Fault) → HasChangedLoss n old new before after answer
+      → record after.regs { loss = n } ≡ record before.regs { loss = n }
+  loss_regs (Ok steps) (inl it) = ap (λ (d : Device). record d.regs { loss = n }) it.3
+  loss_regs (Ok steps) (inr it) =
+      ap (λ (regs : Regs). record regs { loss = n }) it.1.latched.regs
+      ∙ ap (λ (regs : Regs). record (with_loss regs n) { loss = n }) it.1.way.written.regs
+      ∙ ap (λ items. record before.regs { group = record { items = items }; loss = n }) (sym no_group)
+  loss_regs (Err Fail.Cut) it = ap (λ (regs : Regs). record regs { loss = n }) (it.1.cut.regs ∙ it.1.written.regs)
+  loss_regs (Err Fail.Down) it = absurd it
+  loss_regs (Err (Fail.Meta x)) it = absurd it
+  loss_regs (Err (Fail.Tag a)) it = absurd it
+  loss_regs (Err (Fail.Spent page)) it = absurd it
+  loss_regs (Err Fail.Shown) it = absurd it
+
   pub loss_set : (answer : Result ℕ Fault) → old.down ≡ false → HasChangedLoss n old new before after answer
       → HasSetLoss setup n call_start (ended_parts call_finish (outcome_of answer)) answer
   loss_set answer was it =
@@ -293,7 +452,36 @@ module _ (setup : Setup) (n : ℕ) (old new : EngineState) (before after : Devic
         gone = λ up. gone_ended setup (outcome_of answer) [] call_start call_finish (loss_gone answer it);
         answered = λ up. loss_answer answer it;
         counters = λ up trusted page within meta held. loss_counters answer it trusted page within meta held;
+        smaller = λ less ok. loss_smaller answer it less ok;
+        greater = λ least. loss_greater answer it least;
+        marks = loss_marks answer it;
+        lines = loss_lines answer it;
+        in_order = loss_in_order answer it;
+        regs = loss_regs answer it;
+        shadow = record { mirror = (loss_shadow answer it).mirror; lines = (loss_shadow answer it).lines };
         same_ledger = refl;
         same_reads = loss_reads answer it;
         cached = loss_cached answer it;
       }
+
+-- ---- the engine is down
+
+pub set_down : (setup : Setup) (n : ℕ) (parts : Parts) → parts.engine.down ≡ true → HasSetLoss setup n parts parts (Err Fail.Down)
+set_down setup n parts down =
+    record {
+      down =
+          search rules;
+      gone = λ up. absurd (true≢false (sym down ∙ up));
+      answered = λ up. absurd (true≢false (sym down ∙ up));
+      counters = λ up trusted page within meta held. absurd (true≢false (sym down ∙ up));
+      smaller = λ less ok. absurd (true≢false (sym ok));
+      greater = λ least. refl;
+      marks = marks_none setup.shape parts.engine.cache;
+      lines = cleaned_none setup.shape parts.engine.cache parts.device;
+      in_order = in_order_none setup.shape parts.engine.cache parts.device;
+      regs = refl;
+      shadow = shadow_still setup.shape parts parts refl refl;
+      same_ledger = refl;
+      same_reads = refl;
+      cached = λ bank x. refl;
+    }

@@ -1,6 +1,6 @@
 -- Two parts of a call, one after the other, are one part: what holds of each holds of both.
 use Rattle.std.proofs.lemmas.Grind.{common_steps}
-use Rattle.std.proofs.Common.{rules, ℕ, ◌≡◌, ◌≢◌, ◌+◌, ◌++◌, ◌⊎◌, Bool, false, List, IsTrue, refl, sym, ap, subst, ◌∙◌, arith}
+use Rattle.std.proofs.Common.{rules, ℕ, ◌≡◌, ◌≢◌, ◌+◌, ◌++◌, ◌⊎◌, Bool, false, List, [], IsTrue, refl, sym, ap, subst, ◌∙◌, arith}
 use Rattle.std.proofs.lemmas.Bool.{or_cases, true≢false}
 use Rattle.std.proofs.lemmas.List.{append_assoc, length-append}
 use Rattle.std.proofs.lemmas.List.Folds.{list_any-append}
@@ -8,7 +8,7 @@ use Rattle.pmem_base.specs.declared.answers.Mark.{Mark}
 use Rattle.pmem_base.specs.Counts.{HasRisen}
 use Rattle.board.specs.Device.{Device}
 use Rattle.suite.specs.Setup.{Setup}
-use Rattle.pmem_engine.specs.Parts.{Parts}
+use Rattle.pmem_engine.specs.Parts.{Parts, regs_of}
 use Rattle.pmem_engine.specs.Outcomes.{Outcome, going, cut_short, shown, is_going, is_sealed_by, is_seal_of, KeepsPlaces, KeepsMeta, KeepsMetaWhere, HasPower, CallEffect, OneLossEffect, KeepsCounters, NeverFalls}
 
 -- ---- marks of both
@@ -107,3 +107,9 @@ done_chained setup outcome made more old mid new first second =
       counters =
           λ was. counters_chained setup old mid new (first.counters was) (second.counters (first.gone.trusted was));
     }
+
+-- a part that goes on leaves no group armed where none was
+pub still_unarmed : (setup : Setup) (made : List Mark) (old new : Parts) → CallEffect setup going made old new
+    → (regs_of old).group.items ≡ [] → (regs_of new).group.items ≡ []
+still_unarmed setup made old new gone no_group =
+    ap (λ group. group.items) (gone.group going_uncut) ∙ no_group

@@ -1,5 +1,5 @@
 -- After a call the parts are usable again, whatever it answered.
-use Rattle.std.proofs.Common.{rules, ℕ, ◌≡◌, ◌≢◌, ◌++◌, ◌||◌, Bool, true, false, not, List, [], ◌∷◌, Option, None, Result, refl, sym, subst, ◌∙◌}
+use Rattle.std.proofs.Common.{rules, ℕ, ◌≡◌, ◌++◌, ◌||◌, Bool, true, false, not, List, [], ◌∷◌, Option, None, Result, refl, sym, subst, ◌∙◌}
 use Rattle.std.specs.Prelude.{is_some, IsSome}
 use Rattle.std.proofs.lemmas.Bool.{true≢false}
 use Rattle.pmem_base.specs.declared.answers.Mark.{Mark}

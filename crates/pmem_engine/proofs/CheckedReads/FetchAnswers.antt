@@ -1,106 +1,39 @@
 -- What a fetch answers, by its end.
-use Rattle.std.proofs.Common.{rules, ℕ, zero, suc, ◌≡◌, ◌<◌, ◌≤◌, ◌+◌, ◌++◌, ◌⊎◌, inl, inr, Bool, true, false, List, [], ◌∷◌, length, Option, Some, None, Ok, Err, refl, sym, ap, ap₂, subst, subst₂, ◌∙◌, arith}
-use Rattle.std.specs.Prelude.{option_map, is_some, unwrap_or, ◌==◌, ◌*◌, slice_index_or}
-use Rattle.std.proofs.lemmas.Bool.{true≢false, eq-eqb, cond-true, cond-false}
-use Rattle.std.proofs.lemmas.List.{length-append}
-use Rattle.std.proofs.lemmas.Option.{none-some, same_Some}
-use Rattle.std.proofs.lemmas.List.Folds.{list_any_at}
+use Rattle.std.proofs.Common.{rules, ℕ, ◌≡◌, ◌<◌, ◌≤◌, ◌+◌, true, false, [], length, Option, Some, None, Ok, Err, refl, sym, ap, ap₂, subst, subst₂, ◌∙◌, arith}
+use Rattle.std.specs.Prelude.{option_map, is_some}
+use Rattle.std.proofs.lemmas.Bool.{true≢false, cond-true}
 use Rattle.pmem_base.specs.declared.lines.Line.{Line}
 use Rattle.pmem_base.specs.declared.answers.Exhibit.{Exhibit}
 use Rattle.pmem_base.specs.declared.answers.Exhibit.TheVariants.{Clash}
-use Rattle.pmem_base.specs.Shape.{Shape}
+use Rattle.pmem_base.specs.declared.registers.Regs.{Regs}
 use Rattle.pmem_base.specs.Layout as layout
 use Rattle.pmem_base.specs.Lines.{line_at, zero_line}
 use Rattle.pmem_base.specs.Counts.{risen_times}
 use Rattle.bonsai_tree.specs.Positions.{level_of, is_on_path, counter_position}
-use Rattle.bonsai_tree.proofs.PathPositions.{path_of-at, path_of-block, path_position-on_path}
+use Rattle.bonsai_tree.proofs.PathPositions.{path_of-at, path_position-on_path}
 use Rattle.board.specs.Device.{Device}
 use Rattle.board.specs.Steps.{Tells}
 use Rattle.commit_regs.specs.Groups.{redone_told}
 use Rattle.seal_ledger.specs.Ledger.{LedgerState}
 use Rattle.seal_ledger.specs.Notes.{first_exhibit}
 use Rattle.shadow_tables.specs.Entries.{slot_entry}
-use Rattle.meta_cache.specs.declared.slot.Slot.{Slot}
-use Rattle.meta_cache.specs.Banks.{Banks, is_cached, set_index, slot_number, set_of}
-use Rattle.meta_cache.specs.Sets.{holds, slot_with, touched, victim_of}
-use Rattle.meta_cache.proofs.WayLemmas.{KeepsWays-touched}
-use Rattle.meta_path.specs.Blocks.{path_at, slots_at, number_in, IsPathCached, AreCachedTrue, dirty_count}
+use Rattle.meta_cache.specs.Banks.{is_cached}
+use Rattle.meta_path.specs.Blocks.{path_at, IsPathCached, AreCachedTrue, dirty_count}
 use Rattle.meta_path.specs.Work.{told_line}
-use Rattle.std.specs.List.{Contains}
-use Rattle.meta_path.specs.Levels.{victim_write, room_write, level_write}
-use Rattle.meta_path.specs.Fetching.{absent_count, spilled, IsFetchedTo, IsCutAt, IsRefusedAt, IsShownAt}
-use Rattle.meta_path.specs.Keeping.{KeepsBlocks, HasGivenWay, WasWrittenBack, IsTrueTree, HasFalseDigest, HasClash}
+use Rattle.meta_path.specs.Fetching.{spilled, IsFetchedTo, IsCutAt, IsRefusedAt, IsShownAt}
+use Rattle.meta_path.specs.Keeping.{KeepsBlocks, IsTrueTree, HasFalseDigest, HasClash}
 use Rattle.meta_path.proofs.PathFacts.{path_at-level, path_at-lt}
 use Rattle.suite.specs.Setup.{Setup}
 use Rattle.pmem_engine.specs.Engine.{EngineState}
 use Rattle.pmem_engine.specs.declared.fault.Fault.TheVariants as Fail
-use Rattle.pmem_engine.specs.Invariants.{IsTrueSlot, IsSound, stored_meta}
+use Rattle.pmem_engine.specs.Invariants.{IsSound, stored_meta}
 use Rattle.pmem_engine.specs.Parts.{Parts, parts_of, AreTrusted, AreSound, meta_line_in}
 use Rattle.pmem_engine.specs.Faults.{IsFetchedLine, IsClashShown}
+use Rattle.pmem_engine.specs.Calls.{KeepsShadow, IsForgedExhibit, IsPastFetch}
 use Rattle.pmem_engine.specs.Inner.{HasFetched}
 use Rattle.pmem_engine.proofs.CallEnds.ToldLines.{unarmed, told_gives}
-use Rattle.pmem_engine.proofs.CheckedReads.FetchedPaths.{redone_before, redone_after, own_slot}
+use Rattle.pmem_engine.proofs.CheckedReads.PathCosts.{none_absent, none_spilled, length_spilled, same_number}
 use Rattle.pmem_engine.proofs.CheckedReads.FetchEnds.{IsFetchOver, done_going, done_cut, done_shown, few_steps, dirty_steps, fewer_dirty_steps, read_is_true, read_was_there}
-
--- ---- a path that is cached already
-
-none_absent : (g : Shape) (banks : Banks) (page : ℕ) → IsPathCached g banks page → (n : ℕ) → n ≤ g.levels + 1
-    → absent_count g banks page n ≡ 0
-none_absent g banks page cached zero within = refl
-none_absent g banks page cached (suc n) within =
-    ap₂ (λ a b. a + b) (none_absent g banks page cached n (omega (arith, within)))
-    (cond-true (is_cached g banks n (path_at g page n)) 0 1 (cached.each n (omega (arith, within))))
-
-none_spilled : (g : Shape) (banks : Banks) (page : ℕ) → IsPathCached g banks page → (n : ℕ) → n ≤ g.levels + 1
-    → spilled g banks page n ≡ []
-none_spilled g banks page cached zero within = refl
-none_spilled g banks page cached (suc n) within =
-    ap₂ (λ xs ys. xs ++ ys) (none_spilled g banks page cached n (omega (arith, within)))
-    (cond-true (is_cached g banks n (path_at g page n)) [] _ (cached.each n (omega (arith, within))))
-
--- each level makes one write at most
-length_spilled : (g : Shape) (banks : Banks) (page n : ℕ) → length (spilled g banks page n) ≤ n
-length_spilled g banks page zero = omega arith
-length_spilled g banks page (suc n) =
-    let one : length (level_write g banks n (path_at g page n)) ≤ 1 =
-    one_write g banks n (path_at g page n) (is_cached g banks n (path_at g page n)) refl in
-    omega (
-      arith,
-      length_spilled g banks page n,
-      one,
-      length-append (spilled g banks page n) (level_write g banks n (path_at g page n)),
-    )
-  where
-    one_victim : (g : Shape) (victim : Option Slot) → length (victim_write g victim) ≤ 1
-    one_victim g None = omega arith
-    one_victim g (Some victim) = by_mark victim.dirty refl
-      where
-        by_mark : (b : Bool) → victim.dirty ≡ b → length (victim_write g (Some victim)) ≤ 1
-        by_mark true e =
-            let same : length (victim_write g (Some victim)) ≡ 1 =
-            ap (λ (entries : List (ℕ × Line)). length entries)
-            (cond-true victim.dirty ((layout.meta_line g victim.position, victim.line) ∷ []) [] e) in
-            omega (arith, same)
-        by_mark false e =
-            let same : length (victim_write g (Some victim)) ≡ 0 =
-            ap (λ (entries : List (ℕ × Line)). length entries)
-            (cond-false victim.dirty ((layout.meta_line g victim.position, victim.line) ∷ []) [] e) in
-            omega (arith, same)
-
-    one_write : (g : Shape) (banks : Banks) (bank x : ℕ) (b : Bool) → is_cached g banks bank x ≡ b
-        → length (level_write g banks bank x) ≤ 1
-    one_write g banks bank x true e =
-        let same : length (level_write g banks bank x) ≡ 0 =
-        ap (λ (entries : List (ℕ × Line)). length entries)
-        (cond-true (is_cached g banks bank x) [] (room_write g (slots_at g banks bank x)) e) in
-        omega (arith, same)
-    one_write g banks bank x false e =
-        let same : length (level_write g banks bank x) ≡ length (room_write g (slots_at g banks bank x)) =
-        ap (λ (entries : List (ℕ × Line)). length entries)
-        (cond-false (is_cached g banks bank x) [] (room_write g (slots_at g banks bank x)) e) in
-        let few : length (room_write g (slots_at g banks bank x)) ≤ 1 =
-        one_victim g (victim_of g.ways (slots_at g banks bank x)) in
-        omega (arith, same, few)
 
 -- what a shown clash names
 abbrev shown_position : Option Exhibit → ℕ
@@ -115,23 +48,6 @@ none_of : {A : Type 0} (o : Option A) → is_some o ≡ false → o ≡ None
 none_of None it = refl
 none_of (Some x) it = absurd (true≢false it)
 
--- a slot's number goes by its way
-number_of_way : (g : Shape) (set : ℕ) (before after : Option Slot)
-    → option_map (λ slot. slot.way) after ≡ option_map (λ slot. slot.way) before
-    → unwrap_or (option_map (slot_number g set) after) 0 ≡ unwrap_or (option_map (slot_number g set) before) 0
-number_of_way g set None None same = refl
-number_of_way g set None (Some now) same = absurd (none-some now.way (sym same))
-number_of_way g set (Some slot) None same = absurd (none-some slot.way same)
-number_of_way g set (Some slot) (Some now) same = ap (λ way. set * g.ways + way) (same_Some now.way slot.way same)
-
--- a cached block's slot keeps its number while it is used
-same_number : (g : Shape) (old new : Banks) (bank x : ℕ) → is_cached g old bank x ≡ true → is_cached g new bank x ≡ true
-    → slots_at g new bank x ≡ touched (slots_at g old bank x) x → number_in g new bank x ≡ number_in g old bank x
-same_number g old new bank x cached still used =
-    ap (λ slots. unwrap_or (option_map (slot_number g (set_index g x)) (slot_with slots x)) 0) used
-    ∙ number_of_way g (set_index g x) (slot_with (slots_at g old bank x) x) (slot_with (touched (slots_at g old bank x) x) x)
-    (KeepsWays-touched (slots_at g old bank x) x x cached (subst (λ slots. holds slots x ≡ true) used still))
-
 -- ---- the answers
 
 module _ (setup : Setup) (page : ℕ) (old new : EngineState) (ledger noted : LedgerState) (before after : Device)
@@ -141,7 +57,10 @@ module _ (setup : Setup) (page : ℕ) (old new : EngineState) (ledger noted : Le
     (shape : new.shape ≡ old.shape) (mirror : new.mirror ≡ old.mirror) (down : new.down ≡ old.down)
     (same_tags : tags_now ≡ tags)
     (over : IsFetchOver before after digests digests_now ledger noted)
-    (keeps : KeepsBlocks setup.shape ledger.truth page old.cache new.cache before after) where
+    (keeps : KeepsBlocks setup.shape ledger.truth page old.cache new.cache before after)
+    (shadow : KeepsShadow setup.shape (parts_of old before ledger tags digests) (parts_of new after noted tags_now digests_now))
+    (block_line : told_line after.lines (layout.meta_line setup.shape (counter_position setup.shape page))
+    ≡ told_line before.lines (layout.meta_line setup.shape (counter_position setup.shape page))) where
   abbrev start : Parts
   start = parts_of old before ledger tags digests
 
@@ -151,54 +70,13 @@ module _ (setup : Setup) (page : ℕ) (old new : EngineState) (ledger noted : Le
   abbrev block : ℕ
   block = counter_position setup.shape page
 
-  block_at : path_at setup.shape page setup.shape.levels ≡ block
-  block_at = path_of-block setup.shape page
-
-  block_level : level_of block ≡ setup.shape.levels
-  block_level =
-      ap level_of (sym block_at) ∙ path_at-level setup.shape page setup.shape.levels its_page few_levels (omega arith)
-
-  -- the counter block's own line isn't written: it never gives way to itself
-  block_kept : AreTrusted setup start → meta_line_in setup.shape finish block ≡ meta_line_in setup.shape start block
-  block_kept trusted =
-      ap (option_map (λ lines. stored_meta setup.shape lines block)) (redone_after setup page old new ledger before after shape mirror down trusted keeps tags digests tags_now digests_now noted over.marks over.truth over.regs over.told)
-      ∙ kept (keeps.line_writes (layout.meta_line setup.shape block))
-      ∙ sym (ap (option_map (λ lines. stored_meta setup.shape lines block)) (redone_before setup page old new ledger before after shape mirror down trusted keeps tags digests tags_now digests_now noted over.marks over.truth over.regs over.told))
-    where
-      kept : (told_line after.lines (layout.meta_line setup.shape block) ≡ told_line before.lines (layout.meta_line setup.shape block))
-          ⊎ WasWrittenBack setup.shape old.cache new.cache after.lines (layout.meta_line setup.shape block)
-          → option_map (λ lines. stored_meta setup.shape lines block) after.lines
-          ≡ option_map (λ lines. stored_meta setup.shape lines block) before.lines
-      kept (inl same) = same
-      kept (inr back) = absurd (gone_itself (keeps.slots_before back.bank back.set back.slot back.was_cached))
-        where
-          own : IsTrueSlot setup.shape ledger.truth back.bank back.set back.slot
-          own = own_slot setup page old new ledger before after shape mirror down trusted keeps back.bank back.set back.slot back.was_cached
-
-          here : back.slot.position ≡ block
-          here = omega (arith, back.place)
-
-          its_bank : back.bank ≡ setup.shape.levels
-          its_bank = sym own.its_bank ∙ ap level_of here ∙ block_level
-
-          held : (banks : Banks) → Contains (set_of banks back.bank back.set) back.slot → is_cached setup.shape banks back.bank back.slot.position ≡ true
-          held banks it =
-              list_any_at (λ s. s.position == back.slot.position) (set_of banks back.bank (set_index setup.shape back.slot.position))
-              it.0 back.slot
-              (subst (λ set. it.0 < length (set_of banks back.bank set)) (sym own.its_set) it.1)
-              (ap (λ s. s.position == back.slot.position)
-              (subst (λ set. slice_index_or (set_of banks back.bank set) it.0 back.slot ≡ back.slot) (sym own.its_set) it.2)
-              ∙ eq-eqb back.slot.position back.slot.position refl)
-
-          gone_itself : Contains (set_of new.cache back.bank back.set) back.slot
-              ⊎ HasGivenWay setup.shape page old.cache new.cache after.lines back.bank back.set back.slot → ⊥
-          gone_itself (inl still) = true≢false (sym (held new.cache still) ∙ back.gone)
-          gone_itself (inr way) =
-              true≢false
-              (sym (held old.cache back.was_cached)
-              ∙ ap (λ x. is_cached setup.shape old.cache back.bank x)
-              (here ∙ sym block_at ∙ ap (path_at setup.shape page) (sym its_bank))
-              ∙ way.absent)
+  block_kept : before.regs.group.items ≡ [] → meta_line_in setup.shape finish block ≡ meta_line_in setup.shape start block
+  block_kept no_group =
+      ap (λ (regs : Regs). option_map (λ lines. stored_meta setup.shape lines block) (redone_told regs.group.items after.lines))
+      over.regs
+      ∙ ap (option_map (λ lines. stored_meta setup.shape lines block)) (unarmed before.regs.group.items after.lines no_group)
+      ∙ block_line
+      ∙ ap (option_map (λ lines. stored_meta setup.shape lines block)) (sym (unarmed before.regs.group.items before.lines no_group))
 
   -- the path was fetched
   pub fetched_ok : IsPathCached setup.shape new.cache page → noted ≡ ledger
@@ -215,6 +93,25 @@ module _ (setup : Setup) (page : ℕ) (old new : EngineState) (ledger noted : Le
         unrefused = λ sound. tt;
         not_down = λ it. it;
         path_cached = λ ok. cached;
+        path_fetched = λ past. cached;
+        possible = tt;
+        meta_uncached = tt;
+        shadow = shadow;
+        work = λ ok. fetched;
+        fetched =
+            record {
+              levels = setup.shape.levels + 1;
+              fetched =
+                  record {
+                    on_path = omega arith;
+                    cache = fetched.cache;
+                    lines = fetched.work.lines;
+                    writes = fetched.work.writes;
+                    latches = over.latches;
+                    regs = over.regs;
+                  };
+              as_far = λ past. refl;
+            };
         mirror = mirror;
         down = down;
         regs = over.regs;
@@ -280,6 +177,25 @@ module _ (setup : Setup) (page : ℕ) (old new : EngineState) (ledger noted : Le
         unrefused = λ sound. tt;
         not_down = λ it. it;
         path_cached = λ ok. no_answer ok;
+        path_fetched = λ past. absurd past;
+        possible = tt;
+        meta_uncached = tt;
+        shadow = shadow;
+        work = λ ok. no_answer ok;
+        fetched =
+            record {
+              levels = it.n;
+              fetched =
+                  record {
+                    on_path = omega (arith, it.on_path);
+                    cache = it.cache;
+                    lines = it.lines;
+                    writes = it.writes;
+                    latches = over.latches;
+                    regs = over.regs;
+                  };
+              as_far = λ past. absurd past;
+            };
         mirror = mirror;
         down = down;
         regs = over.regs;
@@ -368,6 +284,31 @@ module _ (setup : Setup) (page : ℕ) (old new : EngineState) (ledger noted : Le
             (at_line (sound_trusted sound) false_digest.line false_digest.tells).uncached false_digest.tells));
         not_down = λ it. it;
         path_cached = λ ok. no_answer ok;
+        path_fetched = λ past. absurd past;
+        possible = tt;
+        meta_uncached = (
+          ap (is_on_path setup.shape page) (it.position ∙ path_of-at setup.shape page it.n it.read.on_path)
+              ∙ path_position-on_path setup.shape page it.n it.read.on_path,
+          subst (λ z. is_cached setup.shape old.cache (level_of z) z ≡ false) (sym it.position)
+              (absent_before it.n it.read.on_path it.read.absent),
+        );
+        shadow = shadow;
+        work = λ ok. no_answer ok;
+        fetched =
+            record {
+              levels = it.n;
+              fetched =
+                  record {
+                    on_path = omega (arith, it.read.on_path);
+                    cache = it.read.cache;
+                    lines = it.read.work.lines;
+                    writes = it.read.work.writes;
+                    latches = over.latches;
+                    regs = over.regs;
+                  };
+              as_far =
+                  sym (ap level_of it.position ∙ path_at-level setup.shape page it.n its_page few_levels it.read.on_path);
+            };
         mirror = mirror;
         down = down;
         regs = over.regs;
@@ -417,6 +358,25 @@ module _ (setup : Setup) (page : ℕ) (old new : EngineState) (ledger noted : Le
         unrefused = never;
         not_down = λ it. it;
         path_cached = λ ok. no_answer ok;
+        path_fetched = λ past. absurd (never_past past);
+        possible = tt;
+        meta_uncached = tt;
+        shadow = shadow;
+        work = λ ok. no_answer ok;
+        fetched =
+            record {
+              levels = it.n;
+              fetched =
+                  record {
+                    on_path = omega (arith, it.read.on_path);
+                    cache = it.read.cache;
+                    lines = it.read.work.lines;
+                    writes = it.read.work.writes;
+                    latches = over.latches;
+                    regs = over.regs;
+                  };
+              as_far = λ past. absurd (never_past past);
+            };
         mirror = mirror;
         down = down;
         regs = over.regs;
@@ -439,6 +399,12 @@ module _ (setup : Setup) (page : ℕ) (old new : EngineState) (ledger noted : Le
     where
       x : ℕ
       x = path_at setup.shape page it.n
+
+      -- the exhibit is a clash
+      never_past : IsPastFetch {T = Unit} start finish (Err Fail.Shown) → ⊥
+      never_past past =
+          subst (λ kept. IsForgedExhibit kept)
+          (it.shown.exhibit ∙ ap (λ kept. first_exhibit kept (Clash x it.line (line_at ledger.truth x))) past.0) past.1
 
       read_here : AreTrusted setup start → IsFetchedLine setup page x it.line start finish
       read_here trusted = fetched_line trusted it.n it.line it.read.on_path it.read.absent it.read.tells

@@ -1,23 +1,31 @@
 -- A read: its path was fetched, and its line unsealed or refused.
 use Rattle.std.proofs.lemmas.Grind.{common_steps}
-use Rattle.std.proofs.Common.{rules, ℕ, ◌≡◌, true, false, [], Result, Ok, Err, refl, sym, ap, subst, subst₂, ◌∙◌, arith}
+use Rattle.std.specs.Prelude.{IsOk}
+use Rattle.std.proofs.Common.{rules, ℕ, ◌≡◌, inl, true, false, [], length, Result, Ok, Err, refl, sym, ap, subst, subst₂, ◌∙◌, arith}
 use Rattle.std.proofs.lemmas.Bool.{true≢false}
 use Rattle.pmem_base.specs.declared.lines.Line.{Line}
 use Rattle.pmem_base.specs.declared.lines.Ctr.{Ctr}
 use Rattle.pmem_base.specs.Layout.{page_of}
+use Rattle.pmem_base.specs.Counts.{risen}
+use Rattle.pmem_base.specs.Shape.{Shape}
+use Rattle.board.specs.Counts.{RisesBy}
 use Rattle.board.specs.Device.{Device}
 use Rattle.suite.specs.Setup.{Setup}
 use Rattle.suite.specs.Formulas.{Formulas}
 use Rattle.plain_model.specs.Bounds.{path_length}
 use Rattle.meta_path.specs.Blocks.{IsPathCached, dirty_count}
+use Rattle.meta_path.specs.Fetching.{IsFetchedTo}
 use Rattle.pmem_engine.specs.declared.fault.Fault.{Fault}
 use Rattle.pmem_engine.specs.declared.fault.Fault.TheVariants as Fail
 use Rattle.pmem_engine.specs.declared.reading.Unsealed.{Unsealed}
 use Rattle.pmem_engine.specs.Parts.{Parts, AreTrusted, AreSound}
-use Rattle.pmem_engine.specs.Outcomes.{Outcome, going, cut_short, shown, is_going, outcome_of, OneLossEffect, TakesSteps, TakesAtMost}
-use Rattle.pmem_engine.specs.Calls.{IsDownAnswer, IsUnrefused, TakesWithin, TakesWithinOfLive, AnswersRead, IsReadOfCached}
-use Rattle.pmem_engine.specs.Inner.{HasFetched, HasUnsealed, UpReadOutcome, IsLastCounter, AnswersUnseal}
+use Rattle.pmem_engine.specs.Outcomes.{Outcome, going, cut_short, shown, is_going, outcome_of, outcome_of_fault, OneLossEffect, TakesSteps, TakesAtMost}
+use Rattle.pmem_engine.specs.Calls.{IsDownAnswer, IsUnrefused, TakesWithin, TakesWithinOfLive, IsMetaUncached, fetch_state, path_spilled, fetch_work, unseal_work, IsPathFetched, IsPastFetch, IsAnswerOfRead, IsReadWork, AnswersRead, IsReadOfCached, HasFetchedLevels, IsFetchedAsFar}
+use Rattle.pmem_engine.specs.Inner.{HasFetched, HasUnsealed, IsAnswerOfFetch, AnswersFetch, IsAnswerOfUnseal, UpReadOutcome, IsLastCounter, AnswersUnseal, StandsStill}
 use Rattle.pmem_engine.proofs.CallEnds.CallChains.{done_chained}
+use Rattle.pmem_engine.proofs.CallEnds.EndedEngines.{with_engine}
+use Rattle.pmem_engine.proofs.CallEnds.ExactWork.{work_then, fetch_worked, unseal_worked}
+use Rattle.pmem_engine.proofs.CallEnds.ShadowLines.{shadow_chained, shadow_still}
 use Rattle.pmem_engine.proofs.CallEnds.StillParts.{sound_trusted}
 
 -- the plain line of a line unsealed
@@ -108,6 +116,16 @@ module _ (setup : Setup) (a : ℕ) (ctr : Ctr) (old mid new : Parts) (its_shape 
         path_cached =
             λ ok.
             subst (λ engine. IsPathCached setup.shape engine.cache (page_of a)) (sym unsealed.engine) (fetched.path_cached refl);
+        path_fetched =
+            λ past.
+            subst (λ engine. IsPathCached setup.shape engine.cache (page_of a)) (sym unsealed.engine) (fetched.path_cached refl);
+        possible = possible_after answer unsealed.possible;
+        meta_uncached = never_meta answer unsealed.possible;
+        shadow =
+            shadow_chained setup.shape old mid new fetched.shadow
+            (shadow_still setup.shape mid new unsealed.engine unsealed.lines);
+        work = work answer unsealed;
+        fetched = record { levels = path_length setup.shape; fetched = all_fetched; as_far = as_far answer unsealed.possible };
         mirror = ap (λ engine. engine.mirror) unsealed.engine ∙ fetched.mirror;
         down = ap (λ engine. engine.down) unsealed.engine ∙ fetched.down;
         of_cached = of_cached;
@@ -115,6 +133,58 @@ module _ (setup : Setup) (a : ℕ) (ctr : Ctr) (old mid new : Parts) (its_shape 
         steps_of_dirty = steps (dirty_count setup.shape old.engine.cache) fetched.steps_of_dirty.0;
       }
     where
+      possible_after : (answer : Result Unsealed Fault) → IsAnswerOfUnseal answer → IsAnswerOfRead (plain_answer answer)
+      possible_after v0 it = search rules
+
+      never_meta : (answer : Result Unsealed Fault) → IsAnswerOfUnseal answer
+          → IsMetaUncached setup.shape (page_of a) old (plain_answer answer)
+      never_meta v0 it = search rules
+
+      did_fetch : IsFetchedTo setup.shape setup.formulas old.ledger.truth (page_of a) (path_length setup.shape)
+          (fetch_state setup.shape old) (fetch_state setup.shape mid)
+      did_fetch = fetched.work refl
+
+      -- the unsealing writes nothing, whatever it answers
+      all_fetched : HasFetchedLevels setup.shape (page_of a) (path_length setup.shape) old new
+      all_fetched =
+          record {
+            on_path = omega arith;
+            cache = subst (λ e. IsPathFetched setup.shape (page_of a) old (with_engine mid e)) (sym unsealed.engine) did_fetch.cache;
+            lines = unsealed.lines ∙ did_fetch.work.lines;
+            writes =
+                subst (λ n. RisesBy (length (path_spilled setup.shape old (page_of a))) old.device.writes n) (sym unsealed.writes)
+                did_fetch.work.writes;
+            latches = unsealed.latches ∙ did_fetch.work.latches;
+            regs = unsealed.regs ∙ fetched.regs;
+          }
+
+      -- the fetch's work, and the reads and the tag of the unsealing
+      work : (reply : Result Unsealed Fault) → HasUnsealed setup a ctr mid new reply → IsOk (plain_answer reply)
+          → IsReadWork setup.shape a old new
+      work (Err fault) it ok = absurd (true≢false (sym ok))
+      work (Ok opened) it ok =
+          record {
+            cache = all_fetched.cache;
+            lines = all_fetched.lines;
+            work =
+                work_then (fetch_work setup.shape old (page_of a)) (unseal_work 1) old mid new
+                (fetch_worked setup (page_of a) old mid fetched) (unseal_worked setup a ctr mid new opened it);
+          }
+
+      as_far : (reply : Result Unsealed Fault) → IsAnswerOfUnseal reply
+          → IsFetchedAsFar setup.shape old new (plain_answer reply) (path_length setup.shape)
+      as_far (Ok opened) it = λ past. refl
+      as_far (Err Fail.Cut) it = λ past. refl
+      as_far (Err Fail.Down) it = λ past. refl
+      as_far (Err (Fail.Meta x)) it = absurd it
+      as_far (Err (Fail.Tag b)) it = λ past. refl
+      as_far (Err (Fail.Spent page)) it = λ past. refl
+      as_far (Err Fail.Shown) it = λ past. refl
+
+      ok_before : (reply : Result Unsealed Fault) → IsOk (plain_answer reply) → IsOk reply
+      ok_before (Ok opened) ok = ok
+      ok_before (Err fault) ok = ok
+
       unpowered : outcome_of (plain_answer answer) ≡ cut_short → mid.device.live ≡ false
       unpowered it = unsealed.cut_unpowered (cut_answer answer (sym (same_outcome answer) ∙ it))
 
@@ -124,7 +194,21 @@ module _ (setup : Setup) (a : ℕ) (ctr : Ctr) (old mid new : Parts) (its_shape 
           unsealed.no_steps
 
       of_cached : IsPathCached setup.shape old.engine.cache (page_of a) → IsReadOfCached setup a old new (plain_answer answer)
-      of_cached was = search rules
+      of_cached was =
+          let still : StandsStill old.device mid.device = (fetched.still_cached was).1 in
+          record {
+            no_steps =
+                record {
+                  writes = omega (arith, still.writes, unsealed.writes);
+                  latches = omega (arith, still.latches, unsealed.latches);
+                  sum = λ one two. omega (arith, still.writes, still.latches, unsealed.writes, unsealed.latches);
+                };
+            no_digests = unsealed.digests ∙ (fetched.still_cached was).2;
+            two_reads =
+                λ ok.
+                subst (λ reads. RisesBy 2 reads new.device.reads) still.reads (unsealed.two_reads (ok_before answer ok));
+            one_tag = λ ok. unsealed.one_tag (ok_before answer ok) ∙ ap risen fetched.tags;
+          }
 
   -- the same of the formulas and the shape as they are afterwards
   pub read_after_fetch : (formulas : Formulas) → formulas ≡ setup.formulas → (answer : Result Unsealed Fault)
@@ -136,3 +220,105 @@ module _ (setup : Setup) (a : ℕ) (ctr : Ctr) (old mid new : Parts) (its_shape 
       (subst₂ (λ shape f. HasUnsealed (record { shape = shape; formulas = f }) a ctr mid new answer)
       (fetched.done.gone.shape ∙ its_shape) same unsealed)
       (λ trusted. last trusted (fetched.path_cached refl))
+
+-- ---- the path isn't fetched
+
+pub most_of_within : (outcome : Outcome) (n : ℕ) (old new : Parts) → TakesWithin outcome n old new → TakesAtMost n old.device new.device
+most_of_within going n old new it = it
+most_of_within cut_short n old new it =
+    record {
+      writes = it.writes;
+      latches = it.latches;
+      sum = λ one two. let less = it.sum one two in omega (arith, less);
+    }
+most_of_within shown n old new it = it
+
+-- another answer's fault was decided as early, and names the same position
+pub past_fault : (T U : Type 0) (old new : Parts) (fault : Fault) → IsPastFetch {T = T} old new (Err fault)
+    → IsPastFetch {T = U} old new (Err fault)
+past_fault T U old new Fail.Cut it = it
+past_fault T U old new Fail.Down it = it
+past_fault T U old new Fail.Shown it = it
+past_fault T U old new (Fail.Meta x) it = it
+past_fault T U old new (Fail.Tag b) it = it
+past_fault T U old new (Fail.Spent page) it = it
+
+pub meta_fault : (T U : Type 0) (g : Shape) (page : ℕ) (old : Parts) (fault : Fault)
+    → IsMetaUncached {T = T} g page old (Err fault) → IsMetaUncached {T = U} g page old (Err fault)
+meta_fault T U g page old Fail.Cut it = tt
+meta_fault T U g page old Fail.Down it = tt
+meta_fault T U g page old Fail.Shown it = tt
+meta_fault T U g page old (Fail.Meta x) it = it
+meta_fault T U g page old (Fail.Tag b) it = tt
+meta_fault T U g page old (Fail.Spent spent) it = tt
+
+pub as_far_fault : (T U : Type 0) (g : Shape) (old new : Parts) (fault : Fault) (levels : ℕ)
+    → IsFetchedAsFar {T = T} g old new (Err fault) levels → IsFetchedAsFar {T = U} g old new (Err fault) levels
+as_far_fault T U g old new Fail.Cut levels it = λ past. absurd past
+as_far_fault T U g old new Fail.Down levels it = λ past. absurd past
+as_far_fault T U g old new Fail.Shown levels it = it
+as_far_fault T U g old new (Fail.Meta x) levels it = it
+as_far_fault T U g old new (Fail.Tag b) levels it = it
+as_far_fault T U g old new (Fail.Spent page) levels it = it
+
+module _ (setup : Setup) (a : ℕ) (old new : Parts) where
+  unfetched_says : (fault : Fault) → AnswersFetch setup (page_of a) old new (Err fault) → AnswersRead setup a old new (Err fault)
+  unfetched_says Fail.Cut it = tt
+  unfetched_says Fail.Down it = it
+  unfetched_says Fail.Shown it = inl it
+  unfetched_says (Fail.Meta x) it = it
+  unfetched_says (Fail.Tag b) it = absurd it
+  unfetched_says (Fail.Spent page) it = it
+
+  unfetched_unrefused : (fault : Fault) → IsUnrefused {T = Unit} (Err fault) → IsUnrefused {T = Line} (Err fault)
+  unfetched_unrefused Fail.Cut it = tt
+  unfetched_unrefused Fail.Down it = it
+  unfetched_unrefused Fail.Shown it = it
+  unfetched_unrefused (Fail.Meta x) it = it
+  unfetched_unrefused (Fail.Tag b) it = it
+  unfetched_unrefused (Fail.Spent page) it = tt
+
+  unfetched_down : (fault : Fault) → IsDownAnswer {T = Line} (Err fault) → IsDownAnswer {T = Unit} (Err fault)
+  unfetched_down Fail.Cut it = it
+  unfetched_down Fail.Down it = tt
+  unfetched_down Fail.Shown it = it
+  unfetched_down (Fail.Meta x) it = it
+  unfetched_down (Fail.Tag b) it = it
+  unfetched_down (Fail.Spent page) it = it
+
+  unfetched_possible : (fault : Fault) → IsAnswerOfFetch (Err fault) → IsAnswerOfRead (Err fault)
+  unfetched_possible Fail.Cut it = tt
+  unfetched_possible Fail.Down it = tt
+  unfetched_possible Fail.Shown it = tt
+  unfetched_possible (Fail.Meta x) it = tt
+  unfetched_possible (Fail.Tag b) it = tt
+  unfetched_possible (Fail.Spent page) it = it
+
+  pub read_unfetched : (fault : Fault) → HasFetched setup (page_of a) old new (Err fault) → UpReadOutcome setup a old new (Err fault)
+  read_unfetched fault it =
+      record {
+        done = it.done;
+        answered = λ trusted. unfetched_says fault (it.answered trusted);
+        unrefused = λ sound. unfetched_unrefused fault (it.unrefused sound);
+        not_down = λ is. it.not_down (unfetched_down fault is);
+        path_cached = λ ok. absurd (true≢false (sym ok));
+        path_fetched = λ past. it.path_fetched (past_fault Line Unit old new fault past);
+        possible = unfetched_possible fault it.possible;
+        meta_uncached = meta_fault Unit Line setup.shape (page_of a) old fault it.meta_uncached;
+        shadow = it.shadow;
+        work = λ ok. absurd (true≢false (sym ok));
+        fetched =
+            record {
+              levels = it.fetched.levels;
+              fetched = it.fetched.fetched;
+              as_far = as_far_fault Unit Line setup.shape old new fault it.fetched.levels it.fetched.as_far;
+            };
+        mirror = it.mirror;
+        down = it.down;
+        of_cached = λ was. absurd (true≢false (sym (it.still_cached was).0));
+        steps_of_path = (
+          most_of_within (outcome_of_fault fault) (path_length setup.shape) old new it.steps_of_path,
+          λ live. it.steps_of_path,
+        );
+        steps_of_dirty = it.steps_of_dirty;
+      }

@@ -1,13 +1,16 @@
 -- A call that ended: its engine is down where it was cut or shown.
-use Rattle.std.proofs.Common.{rules, ℕ, ◌≡◌, Bool, false, ◌||◌, List, [], Result, sym, ap, subst}
+use Rattle.std.proofs.Common.{rules, ℕ, ◌≡◌, Bool, false, ◌||◌, List, [], Result, Ok, Err, sym, ap, subst}
 use Rattle.pmem_base.specs.declared.lines.Line.{Line}
 use Rattle.pmem_base.specs.declared.answers.Mark.{Mark}
+use Rattle.pmem_base.specs.Shape.{Shape}
+use Rattle.pmem_base.specs.Layout.{page_of}
 use Rattle.suite.specs.Setup.{Setup}
 use Rattle.pmem_engine.specs.declared.fault.Fault.{Fault}
+use Rattle.pmem_engine.specs.declared.fault.Fault.TheVariants as Fail
 use Rattle.pmem_engine.specs.Engine.{EngineState}
 use Rattle.pmem_engine.specs.Parts.{Parts, parts_of}
 use Rattle.pmem_engine.specs.Outcomes.{Outcome, going, cut_short, shown, outcome_of, CallEffect, OneLossEffect}
-use Rattle.pmem_engine.specs.Calls.{IsDownAnswer, AnswersDown, TakesWithin, TakesWithinOfLive, AnswersRead, HasReadLine}
+use Rattle.pmem_engine.specs.Calls.{IsDownAnswer, AnswersDown, TakesWithin, TakesWithinOfLive, Work, then_work, IsWork, fetch_work, unseal_work, IsPastFetch, IsReadWork, AnswersRead, HasReadLine, IsFetchedAsFar, HasFetchedSome}
 use Rattle.pmem_engine.specs.Inner.{ended_by, UpReadOutcome}
 
 -- the parts afterwards
@@ -113,7 +116,60 @@ pub within_live_ended : (outcome end : Outcome) (n : ℕ) (old new : Parts) → 
     → TakesWithinOfLive outcome n old (ended_parts new end)
 within_live_ended outcome end n old new it = (it.0, λ live. within_ended outcome end n old new (it.1 live))
 
+pub past_ended : {T : Type 0} (old new : Parts) (answer : Result T Fault) (end : Outcome)
+    → IsPastFetch old (ended_parts new end) answer → IsPastFetch old new answer
+past_ended old new v2 end it = search rules
+
+pub work_ended : (work : Work) (old new : Parts) (end : Outcome) → IsWork work old new → IsWork work old (ended_parts new end)
+work_ended work old new end it =
+    record {
+      reads = it.reads;
+      no_read = it.no_read;
+      writes = it.writes;
+      no_write = it.no_write;
+      latches = it.latches;
+      no_latch = it.no_latch;
+      tags = it.tags;
+      digests = it.digests;
+    }
+
 -- ---- a read
+
+read_work_ended : (g : Shape) (a : ℕ) (old new : Parts) (end : Outcome) → IsReadWork g a old new
+    → IsReadWork g a old (ended_parts new end)
+read_work_ended g a old new end it =
+    record {
+      cache = it.cache;
+      lines = it.lines;
+      work = work_ended (then_work (fetch_work g old (page_of a)) (unseal_work 1)) old new end it.work;
+    }
+
+as_far_ended : {T : Type 0} (g : Shape) (old new : Parts) (answer : Result T Fault) (end : Outcome) (levels : ℕ)
+    → IsFetchedAsFar g old new answer levels → IsFetchedAsFar g old (ended_parts new end) answer levels
+as_far_ended g old new (Ok value) end levels it = it
+as_far_ended g old new (Err Fail.Cut) end levels it = it
+as_far_ended g old new (Err Fail.Down) end levels it = it
+as_far_ended g old new (Err Fail.Shown) end levels it = it
+as_far_ended g old new (Err (Fail.Meta x)) end levels it = it
+as_far_ended g old new (Err (Fail.Tag b)) end levels it = it
+as_far_ended g old new (Err (Fail.Spent page)) end levels it = it
+
+fetched_ended : {T : Type 0} (g : Shape) (page : ℕ) (old new : Parts) (answer : Result T Fault) (end : Outcome)
+    → HasFetchedSome g page old new answer → HasFetchedSome g page old (ended_parts new end) answer
+fetched_ended g page old new answer end it =
+    record {
+      levels = it.levels;
+      fetched =
+          record {
+            on_path = it.fetched.on_path;
+            cache = it.fetched.cache;
+            lines = it.fetched.lines;
+            writes = it.fetched.writes;
+            latches = it.fetched.latches;
+            regs = it.fetched.regs;
+          };
+      as_far = as_far_ended g old new answer end it.levels it.as_far;
+    }
 
 answers_read_ended : (setup : Setup) (a : ℕ) (old new : Parts) (answer : Result Line Fault) (outcome : Outcome)
     → AnswersRead setup a old new answer → AnswersRead setup a old (ended_parts new outcome) answer
@@ -128,8 +184,20 @@ read_ended setup a old new answer was it =
       answered = λ up trusted. answers_read_ended setup a old new answer (outcome_of answer) (it.answered trusted);
       unrefused = λ up sound. it.unrefused sound;
       path_cached = it.path_cached;
+      path_fetched = λ past. it.path_fetched (past_ended old new answer (outcome_of answer) past);
+      possible = it.possible;
+      meta_uncached = it.meta_uncached;
+      shadow = record { mirror = it.shadow.mirror; lines = it.shadow.lines };
+      work = λ ok. read_work_ended setup.shape a old new (outcome_of answer) (it.work ok);
+      fetched = λ up. fetched_ended setup.shape (page_of a) old new answer (outcome_of answer) it.fetched;
       of_cached =
-          search rules;
+          λ up cached.
+          record {
+            no_steps = (it.of_cached cached).no_steps;
+            no_digests = (it.of_cached cached).no_digests;
+            two_reads = (it.of_cached cached).two_reads;
+            one_tag = (it.of_cached cached).one_tag;
+          };
       steps_of_path = λ up. within_live_ended (outcome_of answer) (outcome_of answer) _ old new it.steps_of_path;
       steps_of_dirty = λ up. within_live_ended (outcome_of answer) (outcome_of answer) _ old new it.steps_of_dirty;
     }

@@ -129,6 +129,9 @@ module _ (setup : Setup) (engine : EngineState) (ledger : LedgerState) (a : ℕ)
         digests = same;
         same_ledger = λ unshown. refl;
         tells_tag_line = tt;
+        possible = tt;
+        writes = both.writes;
+        latches = both.latches;
         no_steps = no_steps;
         two_reads = λ ok. no_answer ok;
         one_tag = λ ok. no_answer ok;
@@ -169,6 +172,9 @@ module _ (setup : Setup) (engine : EngineState) (ledger : LedgerState) (a : ℕ)
         digests = same;
         same_ledger = λ unshown. refl;
         tells_tag_line = both.tells_tag_line;
+        possible = tt;
+        writes = both.writes;
+        latches = both.latches;
         no_steps = no_steps;
         two_reads = λ ok. both.reads;
         one_tag = λ ok. one_tag;

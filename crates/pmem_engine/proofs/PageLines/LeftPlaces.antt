@@ -6,14 +6,14 @@ use Rattle.std.proofs.Math.ListN.{set}
 use Rattle.std.proofs.lemmas.Bool.{cases_Bool, cases_lt, lt-ltb, eq-eqb, and_from, true≢false}
 use Rattle.std.proofs.lemmas.Option.{same_Some, none-some}
 use Rattle.std.proofs.lemmas.List.{length-set, get_or-set_same}
-use Rattle.std.proofs.lemmas.List.Elements.{All-head, All-tail, All-weaker, All-from_get_or}
+use Rattle.std.proofs.lemmas.List.Elements.{All-weaker, All-from_get_or}
 use Rattle.std.proofs.lemmas.List.Edits.{length-remove, get_or-remove_below, get_or-remove_above}
 use Rattle.pmem_base.specs.declared.registers.Progress.{Progress}
 use Rattle.pmem_base.specs.Shape.{Shape}
 use Rattle.pmem_base.specs.Layout.{page_of, index_in_page}
 use Rattle.pmem_base.specs.Registers.{places_of_page, is_done, not_done, with_done, empty_progress, IsProgress}
 use Rattle.pmem_base.proofs.ListLaws.{All-middle}
-use Rattle.page_reencrypt.specs.Registers.{register_of, register_held, register_with_done, registers_with_done}
+use Rattle.page_reencrypt.specs.Registers.{register_of, register_held, registers_with_done}
 use Rattle.page_reencrypt.proofs.DoneBits.{not_done-with_done, not_done-small, not_done-not_done}
 use Rattle.page_reencrypt.proofs.Holding.{registers_with_done-at, All-registers_with_done, none_of_page, none_from_All, with_done-page}
 use Rattle.page_reencrypt.proofs.AtPlace.{register_held-at}

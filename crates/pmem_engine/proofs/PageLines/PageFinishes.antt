@@ -1,8 +1,10 @@
--- The lines of a page sealed anew one after the other: the first of them, one more, all, or not all.
-use Rattle.std.proofs.Common.{rules, ℕ, ◌≡◌, ◌<◌, ◌≤◌, ◌+◌, ◌*◌, ◌++◌, ◌⊎◌, inl, inr, false, List, [], ◌∷◌, length, map, get_or, Some, IsTrue, Result, Ok, Err, refl, sym, ap, subst, ◌∙◌, arith}
+-- The lines of a page sealed anew one after the other: the first of them, one more, or all.
+use Rattle.std.proofs.Common.{rules, ℕ, ◌≡◌, ◌<◌, ◌≤◌, ◌+◌, ◌*◌, ◌++◌, inl, inr, false, cond, List, [], ◌∷◌, length, map, get_or, Some, IsTrue, Result, Ok, refl, sym, ap, subst, ◌∙◌, arith}
 use Rattle.std.specs.Prelude.{◌||◌, slice_get}
-use Rattle.std.proofs.lemmas.Bool.{cases_Bool, true≢false, false≢true, eq-eqb}
+use Rattle.std.proofs.lemmas.Bool.{cases_Bool, true≢false}
 use Rattle.std.proofs.lemmas.List.{append_assoc, append-nil, map-append, length-append, length-map}
+use Rattle.std.proofs.lemmas.List.Elements.{All-nil, All-append}
+use Rattle.std.proofs.lemmas.List.Sums.{sum_by-append}
 use Rattle.pmem_base.specs.declared.answers.Mark.{Mark}
 use Rattle.pmem_base.specs.Layout as layout
 use Rattle.pmem_base.specs.Lines.{line_at}
@@ -11,22 +13,25 @@ use Rattle.board.specs.Device.{Device}
 use Rattle.page_reencrypt.specs.Registers.{register_of, register_held, registers_with_done}
 use Rattle.suite.specs.Setup.{Setup}
 use Rattle.plain_model.specs.State.{Memory}
+use Rattle.plain_model.specs.Bounds.{is_seal}
 use Rattle.plain_model.specs.Asked.{reseal_mark, seal_mark}
 use Rattle.pmem_engine.specs.declared.fault.Fault.{Fault}
-use Rattle.pmem_engine.specs.declared.fault.Fault.TheVariants as Fail
 use Rattle.pmem_engine.specs.Sealed.{sealed_counter}
 use Rattle.pmem_engine.specs.Parts.{Parts, regs_of, AreTrusted, HoldsSeal}
-use Rattle.pmem_engine.specs.Outcomes.{going, outcome_of_fault, is_sealed_by, OneLossEffect, TakesSteps}
-use Rattle.pmem_engine.specs.Calls.{IsUsable, IsMemory, IsDownAnswer, IsUnrefused, moment_in}
+use Rattle.pmem_engine.specs.Outcomes.{going, is_sealed_by, OneLossEffect, TakesSteps}
+use Rattle.pmem_engine.specs.Calls.{IsUsable, IsMemory, moment_in, IsWork, reseal_work, IsUnderMinorZero}
 use Rattle.pmem_engine.specs.Still.{HasOnlyRead}
-use Rattle.pmem_engine.specs.Resealing.{register_in, line_of_page, HasResealMarks, AnswersReseal, CountsReseal, HasResealed}
-use Rattle.pmem_engine.specs.Writing.{reseals_of, IsFrontOf, IsStoppedAt, HasFinishMarks, AnswersFinish, CountsFinish, HasFinishedPage}
+use Rattle.pmem_engine.specs.Resealing.{register_in, line_of_page, HasResealed}
+use Rattle.pmem_engine.specs.Writing.{reseals_of, HasFinishedPage}
 use Rattle.pmem_engine.specs.Finishing.{IsStillOpen, IsClosed, HasLeft, HasResealedFirst}
-use Rattle.pmem_engine.proofs.CallEnds.CallChains.{done_chained, sealed_by_either, going_unshown}
+use Rattle.pmem_engine.proofs.CallEnds.CallChains.{done_chained, still_unarmed, sealed_by_either, going_unshown}
 use Rattle.pmem_engine.proofs.CallEnds.StillParts.{done_reading}
+use Rattle.pmem_engine.proofs.CallEnds.ExactWork.{work_then, work_alone, reseal_more}
+use Rattle.pmem_engine.proofs.CallEnds.ShadowLines.{shadow_still, shadow_chained}
 use Rattle.pmem_engine.proofs.Laws.AskedCounters.{asked-held}
 use Rattle.pmem_engine.proofs.CallEnds.UsableParts.{usable_after}
 use Rattle.pmem_engine.proofs.PostedWrites.WriteParts.{held_back}
+use Rattle.pmem_engine.proofs.PostedWrites.WriteSteps.{steps_most, more_most}
 use Rattle.pmem_engine.proofs.PageLines.LeftPlaces.{first_and_rest, line_held, others_kept, one_less, page_closed, as_many, page_stays, places_left, place_small}
 
 -- what the lines sealed by either part held before
@@ -64,7 +69,14 @@ first_none setup n old valid inside =
       left = not_done (register_in old n);
       places = refl;
       count = refl;
-      few = omega arith;
+      as_many = refl;
+      seals = refl;
+      work =
+          work_alone (reseal_work 0) old old (omega arith) (omega arith) (omega arith) (omega arith) refl
+          (record { engine = refl; device = refl; ledger = refl; tags = refl; digests = refl });
+      meta_lines = λ x within. refl;
+      minors = All-nil IsUnderMinorZero;
+      shadow = shadow_still setup.shape old old refl refl;
       done = done_reading setup old old (same_parts setup old);
       marks = λ trusted memory was. refl;
       memory_kept = λ trusted memory was. was;
@@ -72,7 +84,7 @@ first_none setup n old valid inside =
       registers =
           left_at_first old n (not_done (register_in old n)) refl (valid.each_page n empty_progress inside).some_left;
       others = λ page none. none;
-      metadata = λ trusted x within. refl;
+      metadata = λ no_group x within. refl;
       steps = record { writes = omega arith; latches = omega arith; sum = λ one two. omega arith };
       engine = refl;
       truth = refl;
@@ -101,11 +113,11 @@ reseal_same setup memory n i old new was now truth page within held_was held_now
     at : ℕ
     at = line_of_page (register_in old n) i
 
-steps_more : (n m : ℕ) (old mid new : Device) → TakesSteps n old mid → TakesSteps m mid new → TakesSteps (n + m) old new
+pub steps_more : (n m : ℕ) (old mid new : Device) → TakesSteps n old mid → TakesSteps m mid new → TakesSteps (n + m) old new
 steps_more n m old mid new first second = search rules
 
 -- the mark asked of the line at a place of the register's page
-abbrev asked_of : Setup → ℕ → Parts → Memory → ℕ → Mark
+abbrev pub asked_of : Setup → ℕ → Parts → Memory → ℕ → Mark
 asked_of setup n old memory i = reseal_mark setup.formulas (moment_in setup memory old) (register_in old n).page i
 
 -- what is known before the next reseal
@@ -135,7 +147,7 @@ module _ (setup : Setup) (n number : ℕ) (old mid : Parts) (valid : IsValidRegs
     abbrev next_left : (rest : List ℕ) × (first.left ≡ it.place ∷ rest)
     next_left = first_and_rest first.left it.place (ap (λ places. slice_get places 0) (sym still_open.places) ∙ it.lowest)
 
-    abbrev rest : List ℕ
+    abbrev pub rest : List ℕ
     rest = next_left.0
 
     left_is : first.left ≡ it.place ∷ rest
@@ -151,7 +163,7 @@ module _ (setup : Setup) (n number : ℕ) (old mid : Parts) (valid : IsValidRegs
     small =
         place_small (regs_of old).progress.items n it.place first.sealed rest valid.distinct_pages inside places_before
 
-    at_is : line_of_page (register_in mid n) it.place ≡ line_of_page (register_in old n) it.place
+    pub at_is : line_of_page (register_in mid n) it.place ≡ line_of_page (register_in old n) it.place
     at_is = ap (λ p. 64 * p + it.place) still_open.same_page
 
     within : line_of_page (register_in old n) it.place < layout.data_lines setup.shape
@@ -160,7 +172,7 @@ module _ (setup : Setup) (n number : ℕ) (old mid : Parts) (valid : IsValidRegs
         let below = small in
         omega (arith, page, below)
 
-    same_mark : AreTrusted setup old → (memory : Memory)
+    pub same_mark : AreTrusted setup old → (memory : Memory)
         → reseal_mark setup.formulas (moment_in setup memory mid) (register_in mid n).page it.place ≡ asked_of setup n old memory it.place
     same_mark trusted memory =
         reseal_same setup memory n it.place old mid trusted (first.done.gone.trusted trusted) first.truth still_open.same_page
@@ -168,7 +180,7 @@ module _ (setup : Setup) (n number : ℕ) (old mid : Parts) (valid : IsValidRegs
         (line_held (regs_of old).progress.items n it.place first.sealed rest valid.distinct_pages inside places_before)
         (line_held (regs_of mid).progress.items n it.place [] rest valid_now.distinct_pages inside_now places_now)
 
-    all_asked : AreTrusted setup old → (memory : Memory) → IsMemory setup memory old
+    pub all_asked : AreTrusted setup old → (memory : Memory) → IsMemory setup memory old
         → reseals_of setup.formulas (moment_in setup memory old) (register_in old n)
         ≡ first.made ++ asked_of setup n old memory it.place ∷ map (asked_of setup n old memory) rest
     all_asked trusted memory was =
@@ -176,17 +188,17 @@ module _ (setup : Setup) (n number : ℕ) (old mid : Parts) (valid : IsValidRegs
         ∙ map-append (asked_of setup n old memory) first.sealed (it.place ∷ rest)
         ∙ ap (λ ms. ms ++ asked_of setup n old memory it.place ∷ map (asked_of setup n old memory) rest) (sym (first.marks trusted memory was))
 
-    sealed_of_both : AreTrusted setup old → (a : ℕ) → a < layout.data_lines setup.shape
+    pub sealed_of_both : AreTrusted setup old → (a : ℕ) → a < layout.data_lines setup.shape
         → IsTrue (is_sealed_by (first.made ++ it.made) a) → HoldsSeal setup.shape old a
     sealed_of_both trusted a below by =
         sealed_before_both setup first.made it.made old mid first.done trusted a below
         (λ sealed. first.sealed_before trusted a below sealed)
         (λ sealed. it.sealed_before (first.done.gone.trusted trusted) a below sealed) by
 
-    few_of_both : length (first.made ++ it.made) ≤ number + 1
+    pub few_of_both : length (first.made ++ it.made) ≤ number + 1
     few_of_both =
         let both = length-append first.made it.made in
-        let one = first.few in
+        let one = first.as_many in
         let two = it.few in
         omega (arith, both, one, two)
 
@@ -268,7 +280,22 @@ module _ (setup : Setup) (n number : ℕ) (old mid new : Parts) (valid : IsValid
             places_before setup n number old mid valid inside first some new (Ok sealed) it
             ∙ sym (append_assoc first.sealed (it.place ∷ []) after);
         count = length-append first.sealed (it.place ∷ []) ∙ ap (λ k. k + 1) first.count;
-        few = few_of_both setup n number old mid valid inside first some new (Ok sealed) it;
+        as_many =
+            let both = length-append first.made it.made in
+            let so_far = first.as_many in
+            let one = (it.one_seal refl).0 in
+            omega (arith, both, so_far, one);
+        seals =
+            let both = sum_by-append (λ m. cond (is_seal m) 1 0) first.made it.made in
+            let so_far = first.seals in
+            let one = (it.one_seal refl).1 in
+            omega (arith, both, so_far, one);
+        work =
+            subst (λ work. IsWork work old new) (reseal_more number)
+            (work_then (reseal_work number) (reseal_work 1) old mid new first.work (it.work refl));
+        meta_lines = λ x within. it.meta_lines refl x within ∙ first.meta_lines x within;
+        minors = All-append IsUnderMinorZero first.made it.made first.minors it.minors;
+        shadow = shadow_chained setup.shape old mid new first.shadow it.shadow;
         done = done_chained setup going first.made it.made old mid new first.done it.done;
         marks =
             λ trusted memory was.
@@ -287,164 +314,13 @@ module _ (setup : Setup) (n number : ℕ) (old mid new : Parts) (valid : IsValid
             ap (λ items. register_of items page) line_done
             ∙ others_kept (regs_of mid).progress.items (line_of_page (register_in mid n) it.place) page (first.others page none);
         metadata =
-            λ trusted x within.
-            it.metadata (first.done.gone.trusted trusted) x within ∙ first.metadata trusted x within;
+            λ no_group x within.
+            it.metadata (still_unarmed setup first.made old mid first.done.gone no_group) x within ∙ first.metadata no_group x within;
         steps =
             subst (λ k. TakesSteps k old.device new.device) (omega arith)
             (steps_more (4 * number) 4 old.device mid.device new.device first.steps it.counts.0);
         engine = it.engine ∙ first.engine;
         truth = it.truth going_unshown ∙ first.truth;
-        root = it.root ∙ first.root;
-        digests = it.digests ∙ first.digests;
-      }
-
--- ---- not all
-
-undowned : (fault : Fault) → (IsDownAnswer {T = ℕ × ℕ} (Err fault) → ⊥) → IsDownAnswer {T = Unit} (Err fault) → ⊥
-undowned v0 never it = search rules
-
-unrefused_so : (fault : Fault) → IsUnrefused {T = ℕ × ℕ} (Err fault) → IsUnrefused {T = Unit} (Err fault)
-unrefused_so v0 it = search rules
-
-module _ (setup : Setup) (n number : ℕ) (old mid new : Parts) (valid : IsValidRegs setup.shape (regs_of old))
-    (inside : n < length (regs_of old).progress.items) (first : HasResealedFirst setup n number old mid)
-    (some : number < length (not_done (register_in old n))) (fault : Fault) (it : HasResealed setup n mid new (Err fault)) where
-  abbrev later : List ℕ
-  later = rest setup n number old mid valid inside first some new (Err fault) it
-
-  abbrev at_stop : ℕ
-  at_stop = line_of_page (register_in old n) it.place
-
-  stopped : AreTrusted setup old → (memory : Memory) → IsMemory setup memory old → it.made ≡ [] → (b : ℕ) → b ≡ at_stop
-      → IsStoppedAt (reseals_of setup.formulas (moment_in setup memory old) (register_in old n)) (first.made ++ it.made) b
-  stopped trusted memory was none b same =
-      record {
-        next = asked_of setup n old memory it.place;
-        later = map (asked_of setup n old memory) later;
-        front =
-            all_asked setup n number old mid valid inside first some new (Err fault) it trusted memory was
-            ∙ ap (λ ms. ms ++ asked_of setup n old memory it.place ∷ map (asked_of setup n old memory) later)
-            (sym (ap (λ ms. first.made ++ ms) none ∙ append-nil first.made));
-        its_line = eq-eqb at_stop b (sym same);
-      }
-
-  cut_front : AreTrusted setup old → (memory : Memory) → IsMemory setup memory old
-      → (it.made ≡ []) ⊎ (it.made ≡ asked_of setup n old memory it.place ∷ [])
-      → IsFrontOf (reseals_of setup.formulas (moment_in setup memory old) (register_in old n)) (first.made ++ it.made)
-  cut_front trusted memory was (inl none) =
-      record {
-        left = asked_of setup n old memory it.place ∷ map (asked_of setup n old memory) later;
-        front =
-            all_asked setup n number old mid valid inside first some new (Err fault) it trusted memory was
-            ∙ ap (λ ms. ms ++ asked_of setup n old memory it.place ∷ map (asked_of setup n old memory) later)
-            (sym (ap (λ ms. first.made ++ ms) none ∙ append-nil first.made));
-      }
-  cut_front trusted memory was (inr one) =
-      record {
-        left = map (asked_of setup n old memory) later;
-        front =
-            all_asked setup n number old mid valid inside first some new (Err fault) it trusted memory was
-            ∙ sym (append_assoc first.made (asked_of setup n old memory it.place ∷ []) (map (asked_of setup n old memory) later))
-            ∙ ap (λ ms. (first.made ++ ms) ++ map (asked_of setup n old memory) later) (sym one);
-      }
-
-  mid_trusted : AreTrusted setup old → AreTrusted setup mid
-  mid_trusted trusted = first.done.gone.trusted trusted
-
-  step_marks : AreTrusted setup old → (memory : Memory) → IsMemory setup memory old
-      → HasResealMarks setup.formulas (moment_in setup memory mid) (register_in mid n).page it.place it.made (Err fault)
-  step_marks trusted memory was = it.marks (mid_trusted trusted) memory (first.memory_kept trusted memory was)
-
-  step_says : AreTrusted setup old → AnswersReseal setup at_stop mid new (Err fault)
-  step_says trusted =
-      subst (λ a. AnswersReseal setup a mid new (Err fault))
-      (at_is setup n number old mid valid inside first some new (Err fault) it) (it.answered (mid_trusted trusted))
-
-  same_next : AreTrusted setup old → (memory : Memory)
-      → reseal_mark setup.formulas (moment_in setup memory mid) (register_in mid n).page it.place ≡ asked_of setup n old memory it.place
-  same_next trusted memory = same_mark setup n number old mid valid inside first some new (Err fault) it trusted memory
-
-  marks_so : (f : Fault) → AreTrusted setup old → (memory : Memory) → IsMemory setup memory old
-      → HasResealMarks setup.formulas (moment_in setup memory mid) (register_in mid n).page it.place it.made (Err f)
-      → AnswersReseal setup at_stop mid new (Err f)
-      → HasFinishMarks (reseals_of setup.formulas (moment_in setup memory old) (register_in old n)) (first.made ++ it.made) (Err f)
-  marks_so Fail.Cut trusted memory was (inl none) says = cut_front trusted memory was (inl none)
-  marks_so Fail.Cut trusted memory was (inr one) says =
-      cut_front trusted memory was (inr (one ∙ ap (λ m. m ∷ []) (same_next trusted memory)))
-  marks_so (Fail.Tag b) trusted memory was none says = stopped trusted memory was none b says.0
-  marks_so Fail.Shown trusted memory was none says = (at_stop, stopped trusted memory was none at_stop refl)
-  marks_so (Fail.Meta x) trusted memory was none says = none
-  marks_so (Fail.Spent page) trusted memory was none says = none
-  marks_so Fail.Down trusted memory was none says = none
-
-  says_so : (f : Fault) → AreTrusted setup old → (memory : Memory) → IsMemory setup memory old
-      → HasResealMarks setup.formulas (moment_in setup memory mid) (register_in mid n).page it.place it.made (Err f)
-      → AnswersReseal setup at_stop mid new (Err f)
-      → AnswersFinish setup (reseals_of setup.formulas (moment_in setup memory old) (register_in old n)) (first.made ++ it.made)
-      new (Err f)
-  says_so Fail.Cut trusted memory was marks says = tt
-  says_so (Fail.Tag b) trusted memory was marks says = says.1
-  says_so Fail.Shown trusted memory was none says =
-      record { at = at_stop; stopped = stopped trusted memory was none at_stop refl; forged = says }
-  says_so (Fail.Meta x) trusted memory was marks says = tt
-  says_so (Fail.Spent page) trusted memory was marks says = tt
-  says_so Fail.Down trusted memory was marks says = tt
-
-  made_number : AreTrusted setup old → (memory : Memory) → IsMemory setup memory old → it.made ≡ []
-      → number ≡ length (first.made ++ it.made)
-  made_number trusted memory was none =
-      let both = length-append first.made it.made in
-      let before = ap length (first.marks trusted memory was) ∙ length-map first.sealed (asked_of setup n old memory) in
-      let count = first.count in
-      let zero_more : length it.made ≡ 0 = ap length none in
-      omega (arith, both, before, count, zero_more)
-
-  steps_so : AreTrusted setup old → (memory : Memory) → IsMemory setup memory old → it.made ≡ []
-      → TakesSteps 0 mid.device new.device → TakesSteps (4 * length (first.made ++ it.made)) old.device new.device
-  steps_so trusted memory was none steps =
-      subst (λ k. TakesSteps k old.device new.device)
-      (let same = made_number trusted memory was none in omega (arith, same))
-      (steps_more (4 * number) 0 old.device mid.device new.device first.steps steps)
-
-  counts_so : (f : Fault) → AreTrusted setup old → (memory : Memory) → IsMemory setup memory old
-      → HasResealMarks setup.formulas (moment_in setup memory mid) (register_in mid n).page it.place it.made (Err f)
-      → CountsReseal mid new (Err f)
-      → CountsFinish (length (not_done (register_in old n))) (first.made ++ it.made) old new (Err f)
-  counts_so Fail.Cut trusted memory was marks counts =
-      record {
-        writes = let one = first.steps.writes in let two = counts.writes in omega (arith, one, two);
-        latches = let one = first.steps.latches in let two = counts.latches in omega (arith, one, two);
-        sum =
-            search rules;
-      }
-  counts_so (Fail.Tag b) trusted memory was none counts = steps_so trusted memory was none counts
-  counts_so Fail.Shown trusted memory was none counts = steps_so trusted memory was none counts
-  counts_so (Fail.Meta x) trusted memory was none counts = absurd none
-  counts_so (Fail.Spent page) trusted memory was none counts = absurd none
-  counts_so Fail.Down trusted memory was none counts = absurd none
-
-  pub unfinished : HasFinishedPage setup n old new (Err fault)
-  unfinished =
-      record {
-        made = first.made ++ it.made;
-        few =
-            let both = few_of_both setup n number old mid valid inside first some new (Err fault) it in
-            omega (arith, both, some);
-        done = done_chained setup (outcome_of_fault fault) first.made it.made old mid new first.done it.done;
-        marks = λ trusted memory was. marks_so fault trusted memory was (step_marks trusted memory was) (step_says trusted);
-        memory_kept =
-            λ trusted memory was. it.memory_kept (mid_trusted trusted) memory (first.memory_kept trusted memory was);
-        answered = λ trusted memory was. says_so fault trusted memory was (step_marks trusted memory was) (step_says trusted);
-        unrefused = λ sound. unrefused_so fault (it.unrefused (first.done.gone.sound sound));
-        not_down = undowned fault it.not_down;
-        sealed_before = sealed_of_both setup n number old mid valid inside first some new (Err fault) it;
-        closed = λ ok. absurd (false≢true ok);
-        one_less = λ ok. absurd (false≢true ok);
-        others = λ ok. absurd (false≢true ok);
-        metadata = λ trusted x within. it.metadata (mid_trusted trusted) x within ∙ first.metadata trusted x within;
-        counts = λ trusted memory was. counts_so fault trusted memory was (step_marks trusted memory was) it.counts;
-        engine = it.engine ∙ first.engine;
-        truth = λ unshown. it.truth unshown ∙ first.truth;
         root = it.root ∙ first.root;
         digests = it.digests ∙ first.digests;
       }
@@ -456,7 +332,17 @@ pub finished : (setup : Setup) (n number : ℕ) (old new : Parts) → HasReseale
 finished setup n number old new first whole =
     record {
       made = first.made;
-      few = let less = first.few in let all = total in let count = first.count in omega (arith, less, all, count);
+      few = let made = first.as_many in let all = total in let count = first.count in omega (arith, made, all, count);
+      minors = first.minors;
+      seals = λ ok. first.seals ∙ sym first.as_many;
+      work = λ ok. subst (λ k. IsWork (reseal_work k) old new) (sym first.as_many) first.work;
+      meta_lines = λ ok. first.meta_lines;
+      possible = tt;
+      shadow = first.shadow;
+      few_steps =
+          more_most (4 * number) (4 * length (not_done (register_in old n))) old.device new.device
+          (let all = total in let count = first.count in omega (arith, all, count))
+          (steps_most (4 * number) old.device new.device first.steps);
       done = first.done;
       marks =
           λ trusted memory was.

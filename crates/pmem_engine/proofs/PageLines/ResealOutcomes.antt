@@ -1,8 +1,11 @@
 -- The exits of a reseal: its line isn't unsealed, its group is cut, or the line is sealed anew.
-use Rattle.std.proofs.Common.{rules, ℕ, ◌≡◌, ◌<◌, ◌≤◌, ◌+◌, ◌++◌, inl, inr, true, false, [], ◌∷◌, length, get_or, Some, Ok, Err, refl, sym, ap, ap₂, subst, subst₂, ◌∙◌, arith}
-use Rattle.std.specs.Prelude.{◌==◌, not, IfSome}
+use Rattle.std.proofs.Common.{rules, ℕ, ◌≡◌, ◌<◌, ◌≤◌, ◌+◌, ◌++◌, inl, inr, true, false, cond, [], ◌∷◌, length, get_or, Some, Ok, Err, refl, sym, ap, ap₂, subst, subst₂, ◌∙◌, arith}
+use Rattle.std.specs.Prelude.{◌==◌, not, IfSome, option_map}
 use Rattle.std.proofs.lemmas.Bool.{true≢false, eq-eqb, and_from}
 use Rattle.std.proofs.lemmas.Option.{same_Some, get_or_from_slice_get}
+use Rattle.std.proofs.lemmas.List.Elements.{All-nil, All-cons}
+use Rattle.std.proofs.lemmas.List.Sums.{sum_by-cons}
+use Rattle.pmem_base.specs.declared.lines.Ctr.{Ctr}
 use Rattle.pmem_base.specs.declared.registers.Progress.{Progress}
 use Rattle.pmem_base.specs.declared.answers.Mark.{Mark}
 use Rattle.pmem_base.specs.declared.answers.Mark.TheVariants.{Seal}
@@ -15,7 +18,9 @@ use Rattle.pmem_base.specs.Registers.{IsProgress, is_done, not_done, empty_progr
 use Rattle.suite.specs.Formulas.{AreInRange}
 use Rattle.suite.specs.Setup.{Setup}
 use Rattle.split_counters.specs.Blocks.{unpacked, block_counter}
+use Rattle.board.specs.Counts.{RisesBy}
 use Rattle.board.specs.Device.{Device, IsDevice}
+use Rattle.meta_path.specs.Work.{told_line}
 use Rattle.commit_regs.specs.Groups.{redone_told}
 use Rattle.page_reencrypt.specs.Registers.{register_held, counter_under}
 use Rattle.page_reencrypt.proofs.DoneBits.{not_done-not_done}
@@ -23,6 +28,7 @@ use Rattle.page_reencrypt.proofs.Holding.{old_major-unpacked}
 use Rattle.page_reencrypt.proofs.AtPlace.{register_held-at}
 use Rattle.seal_ledger.specs.Ledger.{LedgerState, IsSealValue}
 use Rattle.plain_model.specs.State.{Memory}
+use Rattle.plain_model.specs.Bounds.{is_seal}
 use Rattle.plain_model.specs.View.{view_of, counter_at, plain_line}
 use Rattle.plain_model.specs.Asked.{reseal_mark, next_major, seal_mark}
 use Rattle.plain_model.proofs.Views.{counter_at-last}
@@ -33,15 +39,18 @@ use Rattle.pmem_engine.specs.declared.resealing.HeldLine.{HeldLine}
 use Rattle.pmem_engine.specs.declared.resealing.NextSeal.{NextSeal}
 use Rattle.pmem_engine.specs.Engine.{EngineState}
 use Rattle.pmem_engine.specs.Truth.{true_block}
-use Rattle.pmem_engine.specs.Invariants.{IsSealStored}
+use Rattle.pmem_engine.specs.Invariants.{IsSealStored, stored_meta}
+use Rattle.commit_regs.proofs.GroupLemmas.{redone-nil}
 use Rattle.pmem_engine.specs.Parts.{Parts, parts_of, regs_of, lines_redone, AreTrusted, AreSound, HoldsSeal, meta_line_in}
 use Rattle.pmem_engine.specs.Outcomes.{going, cut_short, is_going, is_sealed_by, NeverFalls, TakesSteps, TakesFewer}
-use Rattle.pmem_engine.specs.Calls.{IsUsable, IsMemory, IsDownAnswer, IsUnrefused, moment_in}
-use Rattle.pmem_engine.specs.Inner.{HasUnsealed, IsLastCounter}
+use Rattle.pmem_engine.specs.Calls.{IsUsable, IsMemory, IsDownAnswer, IsUnrefused, moment_in, IsUnderMinorZero}
+use Rattle.pmem_engine.specs.Inner.{HasUnsealed, IsAnswerOfUnseal, IsLastCounter}
 use Rattle.pmem_engine.specs.Committing.{next_seal_of, entries_of}
-use Rattle.pmem_engine.specs.Resealing.{IsNextHeld, HasLineSealed, HasResealCommitted, IsCutUnarmed, IsResealCutArmed, IsResealCut, line_of_page, HasResealMarks, AnswersReseal, CountsReseal, HasResealed}
+use Rattle.pmem_engine.specs.Resealing.{IsNextHeld, HasLineSealed, HasResealCommitted, IsCutUnarmed, IsResealCutArmed, IsResealCut, line_of_page, HasResealMarks, AnswersReseal, CountsReseal, IsAnswerOfReseal, HasResealed}
 use Rattle.pmem_engine.proofs.CallEnds.StillParts.{sound_trusted}
 use Rattle.pmem_engine.proofs.CallEnds.CallChains.{done_chained}
+use Rattle.pmem_engine.proofs.CallEnds.MetaLines.{committed_at}
+use Rattle.pmem_engine.proofs.CallEnds.ShadowLines.{shadow_still, committed_off, armed_off, entries_off, told_off, meta_off}
 use Rattle.pmem_engine.proofs.Laws.PlainLines.{plain_line-resealed}
 use Rattle.pmem_engine.proofs.CheckedReads.UnsealedLines.{risen_never_falls, same_never_falls}
 use Rattle.pmem_engine.specs.Faults.{IsTagRefused, IsForgedShown}
@@ -136,6 +145,14 @@ module _ (setup : Setup) (n : ℕ) (engine : EngineState) (old : Device) (before
       → IsDownAnswer {T = ℕ × ℕ} (Err fault) → ⊥
   not_down_by new v1 it down = search rules
 
+  possible_by : (fault : Fault) → IsAnswerOfUnseal (Err fault) → IsAnswerOfReseal (Err fault)
+  possible_by Fail.Cut it = tt
+  possible_by Fail.Down it = it
+  possible_by Fail.Shown it = tt
+  possible_by (Fail.Meta x) it = it
+  possible_by (Fail.Tag b) it = tt
+  possible_by (Fail.Spent page) it = it
+
   counted_none : (new : Parts) (fault : Fault) → TakesSteps 0 old new.device → CountsReseal start new (Err fault)
   counted_none new Fail.Cut none = fewer none
     where
@@ -169,11 +186,17 @@ module _ (setup : Setup) (n : ℕ) (engine : EngineState) (old : Device) (before
         few = omega arith;
         sealed_before = λ trusted a within made. absurd (true≢false (sym made));
         counts = counted_none final fault it.no_steps;
+        one_seal = λ ok. absurd (true≢false (sym ok));
+        work = λ ok. absurd (true≢false (sym ok));
+        meta_lines = λ ok. absurd (true≢false (sym ok));
+        possible = possible_by fault it.possible;
+        minors = All-nil IsUnderMinorZero;
+        shadow = shadow_still setup.shape start final refl it.lines;
         engine = refl;
         truth = λ unshown. ap (λ ledger. ledger.truth) (it.same_ledger unshown);
         root = ap (λ regs. regs.root) it.regs;
         digests = it.digests;
-        metadata = λ trusted x within. meta_of_same setup.shape x start final it.regs it.lines;
+        metadata = λ no_group x within. meta_of_same setup.shape x start final it.regs it.lines;
       }
     where
       final : Parts
@@ -286,12 +309,18 @@ module _ (setup : Setup) (n : ℕ) (engine : EngineState) (old : Device) (before
           sealed_before = λ trusted a within made. absurd (true≢false (sym made));
           counts =
               search rules;
+          one_seal = λ ok. absurd (true≢false (sym ok));
+          work = λ ok. absurd (true≢false (sym ok));
+          meta_lines = λ ok. absurd (true≢false (sym ok));
+          possible = tt;
+          minors = All-nil IsUnderMinorZero;
+          shadow = shadow_still setup.shape start final refl (was_cut.device.lines ∙ it.lines);
           engine = refl;
           truth = λ unshown. ap (λ seals. seals.truth) (was_cut.ledger ∙ same_ledger);
           root = ap (λ regs. regs.root) (was_cut.device.regs ∙ it.regs);
           digests = same_digests ∙ it.digests;
           metadata =
-              λ trusted x within.
+              λ no_group x within.
               meta_of_same setup.shape x start final (was_cut.device.regs ∙ it.regs) (was_cut.device.lines ∙ it.lines);
         }
       where
@@ -320,10 +349,15 @@ module _ (setup : Setup) (n : ℕ) (engine : EngineState) (old : Device) (before
       root_is done = done.line_done.root ∙ ap (λ regs. regs.root) it.regs
 
       -- no metadata line is in its group
-      kept_meta : AreTrusted setup start → (x : ℕ) → HasLineSealed setup.shape sealing mid new ledger after
+      kept_meta : (x : ℕ) → HasLineSealed setup.shape sealing mid new ledger after
           → lines_redone final ≡ redone_told (entries_of setup.shape sealing) mid.lines
           → meta_line_in setup.shape final x ≡ meta_line_in setup.shape start x
-      kept_meta trusted x done comes = search rules
+      kept_meta x done comes =
+          ap (option_map (λ lines. stored_meta setup.shape lines x)) comes
+          ∙ told_off (entries_of setup.shape sealing) mid.lines (layout.meta_line setup.shape x)
+          (meta_off setup.shape sealing x held_in_range)
+          ∙ ap (option_map (λ lines. stored_meta setup.shape lines x))
+          (it.lines ∙ sym (ap (λ items. redone_told items old.lines) unarmed ∙ redone-nil old.lines))
 
       -- ---- or while it was armed
 
@@ -351,13 +385,27 @@ module _ (setup : Setup) (n : ℕ) (engine : EngineState) (old : Device) (before
             sealed_before = λ trusted a within made. stored_sealed trusted a made;
             counts =
                 search rules;
+            one_seal = λ ok. absurd (true≢false (sym ok));
+            work = λ ok. absurd (true≢false (sym ok));
+            meta_lines = λ ok. absurd (true≢false (sym ok));
+            possible = tt;
+            minors = All-cons IsUnderMinorZero mark [] (ap (λ (ctr : Ctr). ctr.minor) next.next) (All-nil IsUnderMinorZero);
+            shadow =
+                record {
+                  mirror = refl;
+                  lines =
+                      λ m within.
+                      armed_off setup.shape (entries_of setup.shape sealing) mid new
+                      (entries_off setup.shape sealing held_in_range) was_cut.device m
+                      ∙ ap (λ told. told_line told (layout.shadow_line setup.shape m)) it.lines;
+                };
             engine = refl;
             truth = λ unshown. truth_is was_cut.line_sealed;
             root = root_is was_cut.line_sealed;
             digests = same_digests ∙ it.digests;
             metadata =
-                λ trusted x within.
-                kept_meta trusted x was_cut.line_sealed
+                λ no_group x within.
+                kept_meta x was_cut.line_sealed
                 (ap (λ items. redone_told items new.lines) was_cut.device.armed ∙ was_cut.device.again);
           }
         where
@@ -397,10 +445,42 @@ module _ (setup : Setup) (n : ℕ) (engine : EngineState) (old : Device) (before
             few = omega arith;
             sealed_before = λ trusted a within made. stored_sealed trusted a made;
             counts = search rules;
+            one_seal = λ ok. (refl, sum_by-cons (λ m. cond (is_seal m) 1 0) mark []);
+            work =
+                λ ok.
+                record {
+                  reads = subst (λ count. RisesBy 2 old.reads count) (sym committed.device.reads) (it.two_reads refl);
+                  no_read = λ none. absurd (omega (arith, none));
+                  writes = subst (λ count. RisesBy 2 count new.writes) it.writes committed.device.writes;
+                  no_write = λ none. absurd (omega (arith, none));
+                  latches = subst (λ count. RisesBy 2 count new.latches) it.latches committed.device.latches;
+                  no_latch = λ none. absurd (omega (arith, none));
+                  tags = more_tags ∙ ap risen (it.one_tag refl);
+                  digests = same_digests ∙ it.digests;
+                };
+            meta_lines =
+                λ ok x within.
+                committed_at (entries_of setup.shape sealing) mid new (layout.meta_line setup.shape x)
+                (meta_off setup.shape sealing x held_in_range) committed.device
+                ∙ ap (λ told. told_line told (layout.meta_line setup.shape x)) it.lines;
+            possible = tt;
+            minors = All-cons IsUnderMinorZero mark [] (ap (λ (ctr : Ctr). ctr.minor) next.next) (All-nil IsUnderMinorZero);
+            shadow =
+                record {
+                  mirror = refl;
+                  lines =
+                      λ m within.
+                      committed_off setup.shape (entries_of setup.shape sealing) mid new
+                      (entries_off setup.shape sealing held_in_range) committed.device m
+                      ∙ ap (λ told. told_line told (layout.shadow_line setup.shape m)) it.lines;
+                };
             engine = refl;
             truth = λ unshown. truth_is committed.line_sealed;
             root = root_is committed.line_sealed;
             digests = same_digests ∙ it.digests;
             metadata =
-                search rules;
+                λ no_group x within.
+                kept_meta x committed.line_sealed
+                (ap₂ redone_told committed.device.no_group committed.device.lines
+                ∙ redone-nil (redone_told (entries_of setup.shape sealing) mid.lines));
           }

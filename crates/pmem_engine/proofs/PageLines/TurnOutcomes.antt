@@ -1,9 +1,8 @@
 -- The exits of a turn: the engine is down, no page is open, or the oldest page's lowest line was to be sealed anew.
 use Rattle.std.proofs.lemmas.Grind.{common_steps}
 use Rattle.std.proofs.Common.{rules, ℕ, ◌≡◌, ◌<◌, ◌+◌, ◌*◌, true, false, List, [], ◌∷◌, length, map, get_or, Option, Some, None, Ok, Err, refl, sym, ap, subst, ◌∙◌, arith}
-use Rattle.std.specs.Prelude.{Result, MatchOption, IfOk, not, ◌||◌}
+use Rattle.std.specs.Prelude.{Result, MatchOption, IfOk, IsOk, IsSome, not, ◌||◌}
 use Rattle.std.proofs.lemmas.Bool.{true≢false}
-use Rattle.pmem_base.specs.declared.lines.Line.{Line}
 use Rattle.pmem_base.specs.declared.registers.Progress.{Progress}
 use Rattle.pmem_base.specs.declared.answers.Place.{Place}
 use Rattle.pmem_base.specs.Registers.{not_done, empty_progress}
@@ -18,9 +17,10 @@ use Rattle.pmem_engine.specs.Invariants.{register_page}
 use Rattle.pmem_engine.specs.Parts.{Parts, regs_of, AreTrusted}
 use Rattle.pmem_engine.specs.Outcomes.{going, outcome_of, is_going, OneLossEffect}
 use Rattle.pmem_engine.specs.Faults.{IsTagRefused, IsForgedShown}
-use Rattle.pmem_engine.specs.Calls.{IsUnrefused, IsLeftAlone, moment_in, AreMarksOfTurn, AnswersTurn, CountsTurn, HasTurned}
-use Rattle.pmem_engine.specs.Resealing.{HasResealMarks, HasSealedHeld, CountsReseal, AnswersReseal, HasResealed, register_in, line_of_page}
+use Rattle.pmem_engine.specs.Calls.{IsUnrefused, IsLeftAlone, moment_in, AreMarksOfTurn, IsAnswerOfTurn, AnswersTurn, IsTurnWork, CountsTurn, HasTurned}
+use Rattle.pmem_engine.specs.Resealing.{HasResealMarks, HasSealedHeld, CountsReseal, AnswersReseal, IsAnswerOfReseal, HasResealed, register_in, line_of_page}
 use Rattle.pmem_engine.proofs.CallEnds.EndedEngines.{with_engine, done_ended}
+use Rattle.pmem_engine.proofs.CallEnds.ShadowLines.{shadow_still}
 
 left_alone : (parts : Parts) → IsLeftAlone parts parts
 left_alone parts = record { engine = refl; device = refl; ledger = refl; tags = refl; digests = refl }
@@ -41,7 +41,10 @@ turned_down setup parts down =
       unrefused = λ up sound. absurd (true≢false (sym down ∙ up));
       sealed_before = λ trusted a within made. absurd (true≢false (sym made));
       counts = λ up. absurd (true≢false (sym down ∙ up));
+      work = tt;
+      possible = tt;
       cache = refl;
+      shadow = shadow_still setup.shape parts parts refl refl;
       digests = refl;
     }
 
@@ -63,7 +66,10 @@ turned_idle setup parts up none =
       unrefused = λ it sound. tt;
       sealed_before = λ trusted a within made. absurd (true≢false (sym made));
       counts = λ it. left_alone parts;
+      work = λ some. absurd (true≢false (sym some));
+      possible = tt;
       cache = refl;
+      shadow = shadow_still setup.shape parts parts refl refl;
       digests = refl;
     }
 
@@ -144,6 +150,32 @@ module _ (setup : Setup) (old mid : Parts) (answer : Result (ℕ × ℕ) Fault) 
   turn_counts : (reply : Result (ℕ × ℕ) Fault) → CountsReseal old mid reply → CountsTurn old new (turned_of reply)
   turn_counts v0 it = search rules
 
+  turn_work : (reply : Result (ℕ × ℕ) Fault) → (IsOk reply → IsTurnWork old mid)
+      → IfOk (turned_of reply) (λ turned. IsSome turned → IsTurnWork old new)
+  turn_work (Ok sealed) given =
+      λ some.
+      let did : IsTurnWork old mid = given refl in
+      record {
+        reads = did.reads;
+        no_read = did.no_read;
+        writes = did.writes;
+        no_write = did.no_write;
+        latches = did.latches;
+        no_latch = did.no_latch;
+        tags = did.tags;
+        digests = did.digests;
+      }
+  turn_work (Err fault) given = tt
+
+  turn_possible : (reply : Result (ℕ × ℕ) Fault) → IsAnswerOfReseal reply → IsAnswerOfTurn (turned_of reply)
+  turn_possible (Ok sealed) it = tt
+  turn_possible (Err Fail.Cut) it = tt
+  turn_possible (Err Fail.Down) it = tt
+  turn_possible (Err Fail.Shown) it = tt
+  turn_possible (Err (Fail.Meta x)) it = it
+  turn_possible (Err (Fail.Tag b)) it = tt
+  turn_possible (Err (Fail.Spent page)) it = it
+
   pub turned : HasTurned setup old new (turned_of answer)
   turned =
       record {
@@ -164,6 +196,9 @@ module _ (setup : Setup) (old mid : Parts) (answer : Result (ℕ × ℕ) Fault) 
         unrefused = λ is_up sound. turn_unrefused answer (it.unrefused sound);
         sealed_before = it.sealed_before;
         counts = λ is_up. turn_counts answer it.counts;
+        work = turn_work answer it.work;
+        possible = turn_possible answer it.possible;
+        shadow = record { mirror = mirror ∙ it.shadow.mirror; lines = it.shadow.lines };
         cache = cache ∙ ap (λ e. e.cache) it.engine;
         digests = it.digests;
       }

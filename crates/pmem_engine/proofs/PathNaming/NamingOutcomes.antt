@@ -1,20 +1,22 @@
 -- A path was named, or a cut came before one of its entries was written: what the call keeps.
-use Rattle.std.proofs.Common.{rules, ℕ, ◌≡◌, ◌<◌, ◌≤◌, ◌+◌, ◌⊎◌, inl, inr, true, false, List, [], length, Ok, Err, refl, sym, ap, ap₂, subst, ◌∙◌, arith}
+use Rattle.std.proofs.Common.{rules, ℕ, ◌≡◌, ◌<◌, ◌≤◌, ◌+◌, ◌⊎◌, inl, inr, true, false, List, [], length, Option, Some, None, Ok, Err, refl, sym, ap, ap₂, subst, ◌∙◌, arith}
 use Rattle.std.specs.Prelude.{MatchOption, IfSome, option_map, is_ok, Result}
 use Rattle.std.proofs.lemmas.Bool.{true≢false}
 use Rattle.pmem_base.specs.declared.lines.Line.{Line}
+use Rattle.pmem_base.specs.declared.registers.Regs.{Regs}
 use Rattle.pmem_base.specs.Counts.{HasRisen}
 use Rattle.pmem_base.specs.Layout as layout
 use Rattle.pmem_base.specs.Lines.{line_at, tag_slot, put_lines}
 use Rattle.bonsai_tree.specs.Positions.{level_of, counter_position}
 use Rattle.bonsai_tree.proofs.Levels.{counter_position-lt}
-use Rattle.board.specs.Device.{Device}
+use Rattle.board.specs.Device.{Device, IsDevice}
 use Rattle.commit_regs.specs.Groups.{redone_told}
 use Rattle.seal_ledger.specs.Ledger.{LedgerState}
 use Rattle.shadow_tables.specs.Entries.{slot_entry}
 use Rattle.meta_cache.specs.Banks.{is_cached_dirty, IsBanksOf}
 use Rattle.meta_cache.specs.State.{IsCacheOf}
 use Rattle.meta_path.specs.Blocks.{path_at, IsPathCached}
+use Rattle.meta_path.specs.Work.{told_line}
 use Rattle.meta_path.specs.Naming.{path_number, named_path, naming_writes, IsNamedTo, IsNamingCut}
 use Rattle.meta_path.proofs.NameLemmas.{length-naming_writes}
 use Rattle.suite.specs.Setup.{Setup}
@@ -25,10 +27,13 @@ use Rattle.pmem_engine.specs.Invariants.{IsSound, IsDurable, IsSealStored, IsCou
 use Rattle.pmem_engine.specs.Recached.{IsTrueOrDirty}
 use Rattle.pmem_engine.specs.Parts.{Parts, parts_of, AreTrusted, AreSound, HoldsCounters, lines_redone, meta_line_in}
 use Rattle.pmem_engine.specs.Outcomes.{Outcome, going, cut_short, is_going, outcome_of, KeepsPlaces, KeepsMeta, CallEffect, OneLossEffect, HasPower, HasSmallGroup, LeavesTrusted, LeavesSound, KeepsMetaWhere}
-use Rattle.pmem_engine.specs.Inner.{HasNamedPath}
-use Rattle.pmem_engine.proofs.CallEnds.ToldLines.{unarmed}
+use Rattle.pmem_engine.specs.Inner.{HasNamedAll, HasNamedPath}
+use Rattle.pmem_engine.proofs.CallEnds.ToldLines.{unarmed, whole_lines}
+use Rattle.pmem_engine.proofs.CallEnds.ExactWork.{still_rise}
+use Rattle.pmem_engine.proofs.CallEnds.MetaLines.{named_off_meta}
 use Rattle.pmem_engine.proofs.Laws.CounterBlocks.{IsCounterStored-same}
 use Rattle.pmem_engine.proofs.Laws.DeviceRegions.{IsSealStored-kept}
+use Rattle.pmem_engine.proofs.PathNaming.ShadowNames.{names_written, all_names}
 use Rattle.pmem_engine.proofs.PathNaming.PathNames.{IsMirror, meta_kept, place_kept, none_written, sound_at}
 
 -- the first n blocks of the path were named on the board; the engine's copy may be one ahead
@@ -53,11 +58,20 @@ module _ (setup : Setup) (page n : ℕ) (old new : EngineState) (before after : 
       → option_map f (lines_redone finish) ≡ option_map f (lines_redone start)
   seen_same trusted f same = search rules
 
-  pub meta_same : AreTrusted setup start → (x : ℕ) → x < layout.meta_lines setup.shape
+  pub meta_same : before.regs.group.items ≡ [] → (x : ℕ) → x < layout.meta_lines setup.shape
       → meta_line_in setup.shape finish x ≡ meta_line_in setup.shape start x
-  meta_same trusted x within =
-      seen_same trusted (λ lines. stored_meta setup.shape lines x)
-      (λ were. meta_kept setup.shape old.cache page old.mirror were n x within)
+  meta_same no_group x within =
+      ap (λ (regs : Regs). option_map (λ lines. stored_meta setup.shape lines x) (redone_told regs.group.items after.lines)) same_regs
+      ∙ ap (option_map (λ lines. stored_meta setup.shape lines x)) (unarmed before.regs.group.items after.lines no_group ∙ lines)
+      ∙ told before.lines
+      ∙ ap (option_map (λ lines. stored_meta setup.shape lines x)) (sym (unarmed before.regs.group.items before.lines no_group))
+    where
+      told : (o : Option (List Line))
+          → option_map (λ lines. stored_meta setup.shape lines x)
+          (redone_told (naming_writes setup.shape old.cache page old.mirror n) o)
+          ≡ option_map (λ lines. stored_meta setup.shape lines x) o
+      told None = refl
+      told (Some were) = ap Some (meta_kept setup.shape old.cache page old.mirror were n x within)
 
   places : AreTrusted setup start → KeepsPlaces setup [] start finish
   places trusted =
@@ -93,7 +107,7 @@ module _ (setup : Setup) (page n : ℕ) (old new : EngineState) (before after : 
             (holds_now trusted (λ lines. IsTrueOrDirty setup.shape old.cache lines ledger.truth x)
             (λ lines. IsTrueOrDirty setup.shape old.cache lines ledger.truth x)
             (λ were had. still x within were had) held);
-        changed = λ x within. inl (meta_same trusted x within);
+        changed = λ x within. inl (meta_same trusted.no_group x within);
         dirty = λ bank x now. inl (subst (λ banks. is_cached_dirty setup.shape banks bank x ≡ true) cache now);
       }
     where
@@ -175,7 +189,11 @@ module _ (setup : Setup) (page : ℕ) (old new : EngineState) (before after : De
     (its_shape : old.shape ≡ setup.shape) (shape : new.shape ≡ old.shape) (cache : new.cache ≡ old.cache) (down : new.down ≡ old.down)
     (its_page : page < layout.pages setup.shape) (few_levels : setup.shape.levels ≤ 6) (some_sets : 1 ≤ setup.shape.sets)
     (cache_form : IsCacheOf setup.shape old.cache) (form : IsBanksOf setup.shape old.cache)
-    (cached : IsPathCached setup.shape old.cache page) (its_mirror : IsMirror setup.shape old.mirror) where
+    (cached : IsPathCached setup.shape old.cache page) (its_mirror : IsMirror setup.shape old.mirror)
+    (its_size : before.size ≡ layout.device_lines setup.shape) (whole : IsDevice before) where
+  long : (lines : List Line) → before.lines ≡ Some lines → length lines ≡ layout.device_lines setup.shape
+  long lines told = (whole_lines before.size before.lines lines whole told).count ∙ its_size
+
   abbrev levels : ℕ
   levels = setup.shape.levels
 
@@ -202,6 +220,24 @@ module _ (setup : Setup) (page : ℕ) (old new : EngineState) (before after : De
                   subst (λ banks. slot_entry setup.shape new.mirror j (path_number setup.shape banks page j) ≡ path_at setup.shape page j + 1)
                   (sym cache) (it.entries.named j (omega (arith, within)));
             };
+        names = all_written.some;
+        all_named = λ ok. all_written;
+        work =
+            λ ok.
+            record {
+              reads = it.work.reads;
+              no_read = it.work.no_read;
+              writes = it.work.writes;
+              no_write = it.work.no_write;
+              latches = still_rise 0 before.latches after.latches refl it.work.latches;
+              no_latch = λ none. it.work.latches;
+              tags = refl;
+              digests = refl;
+            };
+        meta_lines =
+            λ ok x within.
+            ap (λ told. told_line told (layout.meta_line setup.shape x)) it.work.lines
+            ∙ named_off_meta setup.shape old.cache page old.mirror (levels + 1) before.lines x within;
         cache = cache;
         down = down;
         regs = it.work.regs;
@@ -210,9 +246,9 @@ module _ (setup : Setup) (page : ℕ) (old new : EngineState) (before after : De
         digests = refl;
         reads = it.work.no_read refl;
         metadata =
-            λ trusted x within.
+            λ no_group x within.
             meta_same setup page (levels + 1) old new before after ledger tags digests its_shape shape cache down it.work.lines
-            it.work.regs it.work.size (it.work.no_read refl) trusted x within;
+            it.work.regs it.work.size (it.work.no_read refl) no_group x within;
         steps =
             record {
               writes = it.work.writes.never_falls;
@@ -240,6 +276,11 @@ module _ (setup : Setup) (page : ℕ) (old new : EngineState) (before after : De
             );
       }
     where
+      all_written : HasNamedAll setup.shape page (parts_of old before ledger tags digests) (parts_of new after ledger tags digests)
+      all_written =
+          all_names setup.shape page (parts_of old before ledger tags digests) (parts_of new after ledger tags digests) its_mirror
+          cache long (levels + 1) (omega arith) it.mirror it.entries it.work.lines
+
       same_engine : new ≡ record {
         shape = old.shape;
         cache = old.cache;
@@ -269,6 +310,13 @@ module _ (setup : Setup) (page : ℕ) (old new : EngineState) (before after : De
         cut_alone = tt;
         not_spent = λ spent e. absurd (true≢false (sym (ap (λ (a : Result Unit Fault). is_going (outcome_of a)) e)));
         path_named = λ ok. absurd (true≢false (sym ok));
+        names =
+            names_written setup.shape page (parts_of old before ledger tags digests) (parts_of new after ledger tags digests)
+            its_mirror cache long (it.n + 1) it.n (omega arith) (omega arith) (λ live. absurd (true≢false (sym live ∙ it.off)))
+            (let low = it.on_path in omega (arith, low)) it.mirror it.entries it.lines;
+        all_named = λ ok. absurd (true≢false (sym ok));
+        work = λ ok. absurd (true≢false (sym ok));
+        meta_lines = λ ok. absurd (true≢false (sym ok));
         cache = cache;
         down = down;
         regs = it.regs;
@@ -277,9 +325,9 @@ module _ (setup : Setup) (page : ℕ) (old new : EngineState) (before after : De
         digests = refl;
         reads = it.reads;
         metadata =
-            λ trusted x within.
+            λ no_group x within.
             meta_same setup page it.n old new before after ledger tags digests its_shape shape cache down it.lines it.regs it.size
-            it.reads trusted x within;
+            it.reads no_group x within;
         steps =
             record {
               writes = it.writes.never_falls;

@@ -38,7 +38,7 @@ use Rattle.shadow_tables.proofs.EntryLemmas.{entry_index_below}
 -- ---- which lines change
 
 -- one write, where there is one
-write_cases : (g : Shape) (shadow : List Line) (bank n x : ℕ) (P : List (ℕ × Line) → List Line → Type 0)
+pub write_cases : (g : Shape) (shadow : List Line) (bank n x : ℕ) (P : List (ℕ × Line) → List Line → Type 0)
     → (is_slot_named g shadow bank n x ≡ true → P [] shadow)
     → (is_slot_named g shadow bank n x ≡ false
     → P ((shadow_line g (entry_line g bank n), naming_line g shadow bank n x) ∷ []) (with_named g shadow bank n x))

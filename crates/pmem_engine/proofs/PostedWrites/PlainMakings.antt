@@ -1,7 +1,7 @@
 -- A write's plain line: its own where it is a whole line, else the unsealed one with its bytes.
-use Rattle.std.proofs.Common.{rules, ℕ, ◌≡◌, ◌<◌, ◌≤◌, ◌+◌, ◌-◌, ◌++◌, List, [], ◌∷◌, length, take, drop, Option, Some, None, Result, Ok, Err, refl, sym, ap, ◌∙◌, arith}
-use Rattle.std.specs.Prelude.{slice_range, option_map, IfSome, is_ok}
-use Rattle.std.proofs.lemmas.Bool.{true≢false}
+use Rattle.std.proofs.Common.{rules, ℕ, ◌≡◌, ◌<◌, ◌≤◌, ◌+◌, ◌-◌, ◌++◌, List, [], ◌∷◌, length, take, drop, Option, Some, None, Result, Ok, Err, refl, sym, ap, subst, ◌∙◌, arith}
+use Rattle.std.specs.Prelude.{◌*◌, nat_lt, slice_range, option_map, IfSome, IsOk, is_ok}
+use Rattle.std.proofs.lemmas.Bool.{true≢false, cond-true, cond-false, lt-ltb}
 use Rattle.std.proofs.lemmas.List.{take_all, drop_all, length-drop, append-nil}
 use Rattle.pmem_base.specs.declared.lines.Line.{Line}
 use Rattle.pmem_base.specs.declared.lines.Ctr.{Ctr}
@@ -20,10 +20,12 @@ use Rattle.plain_model.specs.View.{plain_of_seal}
 use Rattle.pmem_engine.specs.declared.fault.Fault.{Fault}
 use Rattle.pmem_engine.specs.declared.reading.Unsealed.{Unsealed}
 use Rattle.pmem_engine.specs.Parts.{Parts, AreTrusted}
+use Rattle.pmem_engine.specs.Calls.{IsWork, unseal_work, unsealed_count}
 use Rattle.pmem_engine.specs.Inner.{HasUnsealed, IsLastCounter}
 use Rattle.pmem_engine.specs.Writing.{HasMadePlain}
 use Rattle.pmem_engine.proofs.PageLines.PageFinishes.{same_parts}
 use Rattle.pmem_engine.proofs.CallEnds.StillParts.{done_reading}
+use Rattle.pmem_engine.proofs.CallEnds.ExactWork.{work_alone, unseal_worked}
 
 -- ---- a write of a whole line
 
@@ -74,6 +76,9 @@ whole_answer setup write parts posted whole trusted (Some seal) is =
         let long = in_range.2.long in
         omega (arith, under, long)
 
+none_unsealed : (write : Posted) → write.len ≡ 64 → unsealed_count write ≡ 0
+none_unsealed write whole = cond-false (nat_lt write.len 64) 1 0 (ap (λ n. nat_lt n 64) whole)
+
 pub plain_whole : (setup : Setup) (write : Posted) (parts : Parts) → IsPosted write → write.len ≡ 64
     → HasMadePlain setup write parts parts (Ok write.line)
 plain_whole setup write parts posted whole =
@@ -86,6 +91,7 @@ plain_whole setup write parts posted whole =
           );
       unrefused = λ sound cached. tt;
       not_down = λ it. it;
+      possible = tt;
       whole = λ is. (refl, record { engine = refl; device = refl; ledger = refl; tags = refl; digests = refl });
       engine = refl;
       lines = refl;
@@ -93,6 +99,10 @@ plain_whole setup write parts posted whole =
       digests = refl;
       same_ledger = λ unshown. refl;
       no_steps = record { writes = omega arith; latches = omega arith; sum = λ one two. omega arith };
+      work =
+          λ ok.
+          work_alone (unseal_work (unsealed_count write)) parts parts (ap (λ n. 2 * n) (none_unsealed write whole)) refl refl
+          (none_unsealed write whole) refl (record { engine = refl; device = refl; ledger = refl; tags = refl; digests = refl });
       cut_unpowered = λ is. absurd (true≢false (ap is_ok is));
     }
 
@@ -105,6 +115,13 @@ made_of write (Err fault) = Err fault
 
 module _ (setup : Setup) (write : Posted) (ctr : Ctr) (old new : Parts) (shorter : write.len < 64)
     (last : AreTrusted setup old → IsPathCached setup.shape old.engine.cache (page_of write.at) → IsLastCounter old write.at ctr) where
+  worked : (answer : Result Unsealed Fault) → HasUnsealed setup write.at ctr old new answer → IsOk (made_of write answer)
+      → IsWork (unseal_work (unsealed_count write)) old new
+  worked (Ok unsealed) it ok =
+      subst (λ n. IsWork (unseal_work n) old new) (sym (cond-true (nat_lt write.len 64) 1 0 (lt-ltb write.len 64 shorter)))
+      (unseal_worked setup write.at ctr old new unsealed it)
+  worked (Err fault) it ok = absurd (true≢false (sym ok))
+
   pub plain_unsealed : (answer : Result Unsealed Fault) → HasUnsealed setup write.at ctr old new answer
       → HasMadePlain setup write old new (made_of write answer)
-  plain_unsealed answer it = search rules
+  plain_unsealed answer it = let did = worked answer it in search rules

@@ -1,23 +1,33 @@
 -- The page that a write begins, or none, and the line's next counter then.
-use Rattle.std.proofs.Common.{rules, ℕ, ◌≡◌, ◌+◌, ◌*◌, ◌++◌, inl, inr, Bool, true, false, List, [], ◌∷◌, length, Result, Ok, Err, refl, sym, ap, subst, ◌∙◌, arith}
+use Rattle.std.proofs.Common.{rules, ℕ, ◌≡◌, ◌≤◌, ◌+◌, ◌*◌, ◌++◌, ◌⊎◌, inl, inr, Bool, true, false, List, [], ◌∷◌, length, map, Result, Ok, Err, refl, sym, ap, subst, ◌∙◌, arith}
 use Rattle.std.specs.Prelude.{IsOk}
+use Rattle.std.proofs.lemmas.List.Elements.{All-nil, All-cons}
 use Rattle.pmem_base.specs.declared.lines.Ctr.{Ctr}
 use Rattle.pmem_base.specs.declared.answers.Mark.{Mark}
 use Rattle.pmem_base.specs.declared.answers.Mark.TheVariants.{Begin}
-use Rattle.pmem_base.specs.Layout.{page_of, index_in_page}
+use Rattle.pmem_base.specs.Layout.{page_of, index_in_page, meta_line}
 use Rattle.split_counters.specs.declared.Block.{Block}
 use Rattle.split_counters.specs.Blocks.{minor_of}
 use Rattle.split_counters.proofs.Packing.{zero_minors-zero}
+use Rattle.board.specs.Device.{Device}
+use Rattle.meta_cache.specs.Banks.{set_of}
+use Rattle.meta_path.specs.Blocks.{path_at}
+use Rattle.meta_path.specs.Work.{told_line}
+use Rattle.meta_path.specs.Naming.{path_number}
 use Rattle.suite.specs.Setup.{Setup}
 use Rattle.pmem_engine.specs.declared.fault.Fault.{Fault}
 use Rattle.pmem_engine.specs.declared.fault.Fault.TheVariants as Fail
 use Rattle.pmem_engine.specs.Parts.{Parts, AreTrusted}
-use Rattle.pmem_engine.specs.Outcomes.{outcome_of, TakesSteps, TakesFewer}
+use Rattle.pmem_engine.specs.Engine.{EngineState}
+use Rattle.pmem_engine.specs.Outcomes.{outcome_of, TakesSteps, TakesAtMost, TakesFewer}
+use Rattle.pmem_engine.specs.Calls.{KeepsShadow, IsWork, begin_work, masked, KeepsButPath, KeepsOtherMeta, IsUnderMinorZero, AreUnderMinorZero}
 use Rattle.pmem_engine.specs.Inner.{cached_block}
-use Rattle.pmem_engine.specs.Sealing.{next_counter_of, HasBeginMarks, TakesBeginSteps, HasBegunPage}
+use Rattle.pmem_engine.specs.Sealing.{KeepsNumbers, next_counter_of, HasBeginMarks, TakesBeginSteps, HasBegunPage}
 use Rattle.pmem_engine.specs.Writing.{HasLeftOut, IsFrontOf, HasBegunFor}
 use Rattle.pmem_engine.proofs.PostedWrites.WriteParts.{IsWritePart, alone_part, begin_part}
-use Rattle.pmem_engine.proofs.PostedWrites.WriteSteps.{begin_asked}
+use Rattle.pmem_engine.proofs.PostedWrites.WriteSteps.{begin_asked, steps_most, fewer_most, more_most}
+use Rattle.pmem_engine.proofs.CallEnds.ShadowLines.{shadow_still}
+use Rattle.pmem_engine.proofs.CallEnds.ExactWork.{work_alone}
 
 -- the counter that the write's own seal gets
 abbrev pub begin_counter : Bool → Setup → ℕ → Parts → Ctr
@@ -40,6 +50,14 @@ pub record HasBegunSome (setup : Setup) (at : ℕ) (asked : List Mark) (ctr : Ct
   pub part : IsWritePart setup at (outcome_of answer) made old new
   pub marks : HasBegunMarks asked made answer
   pub counts : CountsBegun (length asked) old new answer
+  pub few : length made ≤ 1
+  pub minors : AreUnderMinorZero made
+  pub shadow : KeepsShadow setup.shape old new
+  pub numbers : KeepsNumbers setup.shape (page_of at) old.engine new.engine
+  pub few_steps : TakesAtMost 3 old.device new.device
+  pub work : IsOk answer → IsWork (begin_work setup.shape (length asked)) old new
+  pub cache : IsOk answer → KeepsButPath setup.shape (page_of at) old.engine.cache new.engine.cache
+  pub meta_lines : IsOk answer → KeepsOtherMeta setup.shape (page_of at) old.device.lines new.device.lines
   pub next : IsOk answer → AreTrusted setup old → next_counter_of setup.shape new.engine at ≡ ctr
 
 module _ (setup : Setup) (at : ℕ) (old new : Parts) (answer : Result Unit Fault) where
@@ -52,6 +70,20 @@ module _ (setup : Setup) (at : ℕ) (old new : Parts) (answer : Result Unit Faul
         part = alone_part setup at old new it.alone;
         marks = refl;
         counts = none;
+        few = omega arith;
+        minors = All-nil IsUnderMinorZero;
+        shadow = shadow_still setup.shape old new it.alone.engine (ap (λ (d : Device). d.lines) it.alone.device);
+        numbers = λ j le. ap (λ (e : EngineState). path_number setup.shape e.cache (page_of at) j) it.alone.engine;
+        few_steps = more_most 0 3 old.device new.device (omega arith) (steps_most 0 old.device new.device none);
+        work =
+            λ ok.
+            work_alone (begin_work setup.shape 0) old new refl refl (omega arith) refl (omega arith) it.alone;
+        cache =
+            λ ok bank set.
+            ap (λ (e : EngineState). map (masked (path_at setup.shape (page_of at) bank)) (set_of e.cache bank set)) it.alone.engine;
+        meta_lines =
+            λ ok x within apart.
+            ap (λ (d : Device). told_line d.lines (meta_line setup.shape x)) it.alone.device;
         next = λ ok trusted. ap (λ engine. next_counter_of setup.shape engine at) it.alone.engine;
       })
     where
@@ -66,6 +98,14 @@ module _ (setup : Setup) (at : ℕ) (old new : Parts) (answer : Result Unit Faul
         part = begin_part setup at old new answer it;
         marks = marks answer it.marks;
         counts = counts answer it.marks it.steps;
+        few = few answer it.marks;
+        minors = minors answer it.marks;
+        shadow = it.shadow;
+        numbers = it.numbers;
+        few_steps = few_steps answer it.steps;
+        work = it.work;
+        cache = it.cache;
+        meta_lines = it.meta_lines;
         next =
             λ ok trusted.
             ap (λ (b : Block). record { major = b.major; minor = minor_of b (index_in_page at) + 1 }) ((it.opened ok).block trusted)
@@ -83,6 +123,36 @@ module _ (setup : Setup) (at : ℕ) (old new : Parts) (answer : Result Unit Faul
       marks (Err (Fail.Tag b)) made = made
       marks (Err (Fail.Spent page)) made = made
       marks (Err Fail.Shown) made = made
+
+      either : (reply : Result Unit Fault) → HasBeginMarks (page_of at) it.made reply
+          → (it.made ≡ []) ⊎ (it.made ≡ Begin (page_of at) ∷ [])
+      either (Ok value) made = inr made
+      either (Err Fail.Cut) made = made
+      either (Err Fail.Down) made = absurd made
+      either (Err (Fail.Meta x)) made = absurd made
+      either (Err (Fail.Tag b)) made = absurd made
+      either (Err (Fail.Spent page)) made = absurd made
+      either (Err Fail.Shown) made = absurd made
+
+      few : (reply : Result Unit Fault) → HasBeginMarks (page_of at) it.made reply → length it.made ≤ 1
+      few reply made =
+          elim (either reply made) [
+            | inl none ↦ let long : length it.made ≡ 0 = ap length none in omega (arith, long)
+            | inr one ↦ let long : length it.made ≡ 1 = ap length one in omega (arith, long)
+          ]
+
+      minors : (reply : Result Unit Fault) → HasBeginMarks (page_of at) it.made reply → AreUnderMinorZero it.made
+      minors reply made =
+          elim (either reply made) [
+            | inl none ↦ subst AreUnderMinorZero (sym none) (All-nil IsUnderMinorZero)
+            | inr one ↦
+                subst AreUnderMinorZero (sym one)
+                (All-cons IsUnderMinorZero (Begin (page_of at)) [] tt (All-nil IsUnderMinorZero))
+          ]
+
+      few_steps : (reply : Result Unit Fault) → TakesBeginSteps old new reply → TakesAtMost 3 old.device new.device
+      few_steps (Ok value) steps = steps_most 3 old.device new.device steps
+      few_steps (Err fault) steps = fewer_most 3 old.device new.device steps
 
       counts : (reply : Result Unit Fault) → HasBeginMarks (page_of at) it.made reply → TakesBeginSteps old new reply
           → CountsBegun 1 old new reply

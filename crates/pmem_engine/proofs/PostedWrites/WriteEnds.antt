@@ -1,8 +1,8 @@
 -- A write as a call: of an engine that is down, or of one that is up and then down where it was cut or stopped.
-use Rattle.std.proofs.Common.{rules, ℕ, ◌≡◌, ◌%◌, true, false, List, [], Option, Result, Err, refl, sym, ◌∙◌, arith}
+use Rattle.std.proofs.Common.{rules, ℕ, ◌≡◌, ◌≤◌, ◌+◌, ◌%◌, true, false, List, [], Option, Result, Ok, Err, length, refl, sym, ap, ◌∙◌, arith}
 use Rattle.std.specs.Prelude.{IfOk}
 use Rattle.std.proofs.lemmas.Bool.{true≢false}
-use Rattle.std.proofs.lemmas.List.{drop_all}
+use Rattle.std.proofs.lemmas.List.{drop_all, length-append}
 use Rattle.pmem_base.specs.declared.lines.Line.{Line}
 use Rattle.pmem_base.specs.declared.lines.Ctr.{Ctr}
 use Rattle.pmem_base.specs.declared.commands.Posted.{Posted}
@@ -16,9 +16,13 @@ use Rattle.pmem_engine.specs.declared.fault.Fault.{Fault}
 use Rattle.pmem_engine.specs.declared.fault.Fault.TheVariants as Fail
 use Rattle.pmem_engine.specs.Parts.{Parts, regs_of}
 use Rattle.pmem_engine.specs.Outcomes.{Outcome, outcome_of}
-use Rattle.pmem_engine.specs.Calls.{IsBlockTrue, AnswersWrite, TakesSpent, TakesOfWrite, whole_write, HasWrittenLine}
+use Rattle.pmem_engine.specs.Calls.{IsBlockTrue, AnswersWrite, TakesSpent, TakesOfWrite, whole_write, HasWrittenLine, HasNamedSome, AreInWriteOrder, write_work, IsWriteWork}
 use Rattle.pmem_engine.specs.Writing.{UpWriteOutcome}
-use Rattle.pmem_engine.proofs.CheckedReads.ReadEnds.{ended_parts, done_ended, answers_down}
+use Rattle.pmem_engine.proofs.CheckedReads.ReadEnds.{ended_parts, done_ended, answers_down, past_ended, work_ended}
+use Rattle.pmem_engine.proofs.CallEnds.ShadowLines.{shadow_still}
+use Rattle.pmem_engine.proofs.PathNaming.ShadowNames.{none_named}
+use Rattle.pmem_engine.proofs.PostedWrites.WriteRefusals.{refused_ended}
+use Rattle.pmem_engine.proofs.PostedWrites.WriteExits.{none_order}
 
 -- a whole line is posted
 pub whole_posted : (at : ℕ) (line : Line) → IsU32 at → IsLine line → IsPosted (whole_write at line)
@@ -49,10 +53,19 @@ written_down setup write parts down =
       sealed_before = λ trusted a within made other. absurd (true≢false (sym made));
       path_cached = λ ok. absurd (true≢false (sym ok));
       path_named = λ ok. absurd (true≢false (sym ok));
+      path_fetched = λ past. absurd past;
+      meta_uncached = tt;
+      names = none_named setup.shape (page_of write.at) parts parts (shadow_still setup.shape parts parts refl refl);
+      refused = λ up. tt;
+      order = none_order write.at;
+      few_marks = omega arith;
+      own_sealed = λ ok. absurd (true≢false (sym ok));
+      few_steps = record { writes = omega arith; latches = omega arith; sum = λ one two. omega arith };
+      work = tt;
       steps = λ up trusted memory was. absurd (true≢false (sym down ∙ up));
       steps_of_spent = λ up trusted memory was none. absurd (true≢false (sym down ∙ up));
       steps_of_named = λ cached named one. tt;
-      block_kept = λ trusted none. refl;
+      block_kept = λ none. refl;
       block_written = λ trusted. tt;
     }
 
@@ -76,9 +89,44 @@ block_ended : (setup : Setup) (page loss : ℕ) (new : Parts) (answer : Result C
     → IfOk answer (λ ctr. ctr.minor % loss ≡ 0 → IsBlockTrue setup (ended_parts new end) page)
 block_ended setup page loss new v4 end it = search rules
 
+names_ended : (g : Shape) (page : ℕ) (old new : Parts) (end : Outcome) → HasNamedSome g page old new
+    → HasNamedSome g page old (ended_parts new end)
+names_ended g page old new end it =
+    record {
+      named = it.named;
+      on_path = it.on_path;
+      mirror = it.mirror;
+      entries = it.entries;
+      written = it.written;
+      few_written = it.few_written;
+      one_ahead = it.one_ahead;
+      all_written = it.all_written;
+      lines = it.lines;
+    }
+
+write_work_ended : (g : Shape) (write : Posted) (made : List Mark) (old new : Parts) (answer : Result Ctr Fault) (end : Outcome)
+    → IfOk answer (λ ctr. IsWriteWork g write ctr made old new)
+    → IfOk answer (λ ctr. IsWriteWork g write ctr made old (ended_parts new end))
+write_work_ended g write made old new (Ok ctr) end it =
+    record {
+      fetched = it.fetched;
+      path_fetched = it.path_fetched;
+      cache = it.cache;
+      lines = it.lines;
+      work = work_ended (write_work g write ctr made old it.fetched) old new end it.work;
+    }
+write_work_ended g write made old new (Err fault) end it = tt
+
+few_in_order : (at : ℕ) (made : List Mark) → AreInWriteOrder at made → length made ≤ 66
+few_in_order at made it =
+    let all : length made ≡ length it.before + length it.own = ap length it.both ∙ length-append it.before it.own in
+    let few = it.few_before in
+    let one = it.one_own in
+    omega (arith, all, few, one)
+
 pub written_ended : (setup : Setup) (write : Posted) (old new : Parts) (answer : Result Ctr Fault) → old.engine.down ≡ false
-    → UpWriteOutcome setup write old new answer → HasWrittenLine setup write old (ended_parts new (outcome_of answer)) answer
-written_ended setup write old new answer was it =
+    → (regs_of old).group.items ≡ [] → UpWriteOutcome setup write old new answer → HasWrittenLine setup write old (ended_parts new (outcome_of answer)) answer
+written_ended setup write old new answer was no_group it =
     record {
       made = it.made;
       down = answers_down answer old new was it.down it.not_down;
@@ -92,6 +140,15 @@ written_ended setup write old new answer was it =
       sealed_before = it.sealed_before;
       path_cached = it.path_cached;
       path_named = λ ok. record { each = (it.path_named ok).each };
+      path_fetched = λ past. it.path_fetched (past_ended old new answer (outcome_of answer) past);
+      meta_uncached = it.meta_uncached;
+      names = names_ended setup.shape (page_of write.at) old new (outcome_of answer) it.names;
+      refused = λ up. refused_ended setup.shape (page_of write.at) old new answer (outcome_of answer) it.refused;
+      order = it.order;
+      few_marks = few_in_order write.at it.made it.order;
+      own_sealed = it.own_sealed;
+      few_steps = it.few_steps;
+      work = write_work_ended setup.shape write it.made old new answer (outcome_of answer) it.work;
       steps =
           λ up trusted memory held.
           takes_ended setup.shape _ it.made old new answer (outcome_of answer) (it.steps trusted memory held);
@@ -99,7 +156,7 @@ written_ended setup write old new answer was it =
           λ up trusted memory held none.
           spent_ended setup.shape (outcome_of answer) (outcome_of answer) old new (it.steps_of_spent trusted memory held none);
       steps_of_named = it.steps_of_named;
-      block_kept = it.block_kept;
+      block_kept = it.block_kept no_group;
       block_written =
           λ trusted.
           block_ended setup (page_of write.at) (regs_of old).loss new answer (outcome_of answer) (it.block_written trusted);

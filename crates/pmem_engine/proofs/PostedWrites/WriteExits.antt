@@ -3,7 +3,8 @@ use Rattle.std.proofs.lemmas.Grind.{common_steps}
 use Rattle.std.proofs.Common.{rules, ℕ, ◌≡◌, ◌<◌, ◌≤◌, ◌+◌, ◌-◌, ◌*◌, ◌^◌, ◌++◌, inl, inr, Bool, true, false, cond, List, [], ◌∷◌, length, IsTrue, Option, Some, None, Err, refl, sym, ap, subst, ◌∙◌, arith}
 use Rattle.std.specs.Prelude.{◌==◌, ◌||◌, nat_lt, unwrap_or, is_none, IsSome}
 use Rattle.std.proofs.lemmas.Bool.{true≢false, cond-false, lt-ltb}
-use Rattle.std.proofs.lemmas.List.{append_assoc, length-append}
+use Rattle.std.proofs.lemmas.List.{append_assoc, append-nil, length-append}
+use Rattle.std.proofs.lemmas.List.Elements.{All-nil}
 use Rattle.pmem_base.specs.declared.lines.Ctr.{Ctr}
 use Rattle.pmem_base.specs.declared.commands.Posted.{Posted}
 use Rattle.pmem_base.specs.declared.answers.Mark.{Mark}
@@ -11,7 +12,8 @@ use Rattle.pmem_base.specs.declared.answers.Mark.TheVariants.{Begin}
 use Rattle.pmem_base.specs.Layout.{page_of}
 use Rattle.suite.specs.Setup.{Setup}
 use Rattle.suite.specs.Formulas.{Formulas}
-use Rattle.meta_path.specs.Blocks.{dirty_count}
+use Rattle.pmem_base.specs.Shape.{Shape}
+use Rattle.meta_path.specs.Blocks.{IsPathCached, dirty_count}
 use Rattle.pmem_base.specs.Lines.{line_at}
 use Rattle.pmem_base.specs.WaitingWrites.{put_write}
 use Rattle.plain_model.specs.State.{Memory, memory_with}
@@ -23,9 +25,9 @@ use Rattle.pmem_engine.specs.declared.fault.Fault.{Fault}
 use Rattle.pmem_engine.specs.declared.fault.Fault.TheVariants as Fail
 use Rattle.pmem_engine.specs.Parts.{Parts, AreTrusted, AreSound}
 use Rattle.pmem_engine.specs.Outcomes.{outcome_of_fault, is_seal_of, is_sealed_by, TakesAtMost}
-use Rattle.pmem_engine.specs.Calls.{IsMemory, IsDownAnswer, IsUnrefused, TakesWithin, TakesWithinOfLive, moment_in, IsPartOf, IsRefusedLine, AreMarksOfWrite, AnswersWrite, write_bound, TakesSpent, TakesOfWrite}
+use Rattle.pmem_engine.specs.Calls.{IsMemory, IsDownAnswer, IsUnrefused, TakesWithin, TakesWithinOfLive, moment_in, IsPartOf, IsRefusedLine, AreMarksOfWrite, AnswersWrite, write_bound, TakesSpent, TakesOfWrite, IsMetaUncached, IsPastFetch, HasNamedSome, IsRefusedAsFetched, IsUnderMinorZero, AreUnderMinorZero, IsOwnSeal, AreInWriteOrder}
 use Rattle.pmem_engine.specs.Inner.{AnswersFetch}
-use Rattle.pmem_engine.specs.Writing.{AnswersPlain, IsFrontOf, IsStoppedAt, HasFinishMarks, AnswersFinish, CountsFinish, UpWriteOutcome}
+use Rattle.pmem_engine.specs.Writing.{IsAnswerOfPlain, IsAnswerOfFinish, AnswersPlain, IsFrontOf, IsStoppedAt, HasFinishMarks, AnswersFinish, CountsFinish, UpWriteOutcome}
 use Rattle.pmem_engine.proofs.PostedWrites.WriteParts.{IsWritePart}
 use Rattle.pmem_engine.proofs.PostedWrites.WriteFinishes.{finish_front}
 
@@ -64,6 +66,10 @@ part_of_front front rest made some it =
       not_all = lt-ltb 0 (length (it.left ++ rest)) (omega (arith, some, length-append it.left rest));
     }
 
+-- all of the front
+pub unnamed_front : (front made : List Mark) → made ≡ front → IsFrontOf front (made ++ [])
+unnamed_front front made all = search rules
+
 reseal_of : (b : ℕ) (next : Mark) (tail : List Mark) → is_seal_of b next ≡ true → 0 < length tail → IsResealOf b (next ∷ tail)
 reseal_of b v1 tail its some = search rules
 
@@ -82,8 +88,54 @@ refused_at front rest made write b some it =
 
 -- ---- a write that a part ended
 
+-- whatever the chip is: the path, the names, the marks and the steps of a write that ends with a fault
+pub record IsExit (setup : Setup) (write : Posted) (old new : Parts) (made : List Mark) (fault : Fault) : Type 0 where
+  pub path_fetched :
+      IsPastFetch {T = Ctr} old new (Err fault) → IsPathCached setup.shape new.engine.cache (page_of write.at)
+  pub meta_uncached : IsMetaUncached {T = Ctr} setup.shape (page_of write.at) old (Err fault)
+  pub names : HasNamedSome setup.shape (page_of write.at) old new
+  pub refused : IsRefusedAsFetched setup.shape (page_of write.at) old new (Err fault)
+  pub order : AreInWriteOrder write.at made
+  pub few_steps : TakesAtMost (2 * path_length setup.shape + 264) old.device new.device
+
+-- no own seal yet
+pub unsealed_order : (at : ℕ) (made : List Mark) → length made ≤ 65 → AreUnderMinorZero made → AreInWriteOrder at made
+unsealed_order at made few minors =
+    record {
+      before = made;
+      own = [];
+      both = sym (append-nil made);
+      few_before = few;
+      minors = minors;
+      one_own = omega arith;
+      its_seal = All-nil (IsOwnSeal at);
+    }
+
+pub none_order : (at : ℕ) → AreInWriteOrder at []
+none_order at = unsealed_order at [] (omega arith) (All-nil IsUnderMinorZero)
+
+-- a fault that isn't of the path
+pub plain_meta : (g : Shape) (page : ℕ) (old : Parts) (fault : Fault) → IsAnswerOfPlain (Err fault)
+    → IsMetaUncached {T = Ctr} g page old (Err fault)
+plain_meta g page old Fail.Cut it = tt
+plain_meta g page old Fail.Down it = tt
+plain_meta g page old Fail.Shown it = tt
+plain_meta g page old (Fail.Meta x) it = absurd it
+plain_meta g page old (Fail.Tag b) it = tt
+plain_meta g page old (Fail.Spent spent) it = tt
+
+pub finish_meta : (g : Shape) (page : ℕ) (old : Parts) (fault : Fault) → IsAnswerOfFinish (Err fault)
+    → IsMetaUncached {T = Ctr} g page old (Err fault)
+finish_meta g page old Fail.Cut it = tt
+finish_meta g page old Fail.Down it = tt
+finish_meta g page old Fail.Shown it = tt
+finish_meta g page old (Fail.Meta x) it = absurd it
+finish_meta g page old (Fail.Tag b) it = tt
+finish_meta g page old (Fail.Spent spent) it = tt
+
 pub stopped : (setup : Setup) (write : Posted) (old new : Parts) (made : List Mark) (fault : Fault)
     → IsWritePart setup write.at (outcome_of_fault fault) made old new
+    → IsExit setup write old new made fault
     → (AreTrusted setup old → (memory : Memory) → IsMemory setup memory old
     → AreMarksOfWrite (marks_of_write setup.formulas (moment_in setup memory old) write) made write (Err fault))
     → (AreTrusted setup old → (memory : Memory) → IsMemory setup memory old
@@ -95,7 +147,7 @@ pub stopped : (setup : Setup) (write : Posted) (old new : Parts) (made : List Ma
     → marks_of_write setup.formulas (moment_in setup memory old) write ≡ None
     → TakesSpent setup.shape (outcome_of_fault fault) old new)
     → UpWriteOutcome setup write old new (Err fault)
-stopped setup write old new made fault part marks answered unrefused not_down steps steps_of_spent =
+stopped setup write old new made fault part exit marks answered unrefused not_down steps steps_of_spent =
     record {
       made = made;
       done = part.done;
@@ -111,6 +163,14 @@ stopped setup write old new made fault part marks answered unrefused not_down st
       sealed_before = λ trusted a within sealed other. part.sealed_before trusted a within sealed;
       path_cached = λ ok. absurd (true≢false (sym ok));
       path_named = λ ok. absurd (true≢false (sym ok));
+      path_fetched = exit.path_fetched;
+      meta_uncached = exit.meta_uncached;
+      names = exit.names;
+      refused = exit.refused;
+      order = exit.order;
+      own_sealed = λ ok. absurd (true≢false (sym ok));
+      few_steps = exit.few_steps;
+      work = tt;
       down = part.down;
       steps = steps;
       steps_of_spent = steps_of_spent;

@@ -1,10 +1,10 @@
 -- The page that a write finishes first: its marks, and that none is a seal of the written line.
-use Rattle.std.proofs.Common.{rules, ℕ, zero, suc, ◌≡◌, ◌≢◌, ◌<◌, ◌+◌, ◌*◌, Bool, true, false, cond, List, [], ◌∷◌, length, map, get_or, Option, Some, None, Result, refl, sym, ap, ap₂, subst, ◌∙◌, arith}
-use Rattle.std.specs.Prelude.{◌||◌, All}
+use Rattle.std.proofs.Common.{rules, ℕ, zero, suc, ◌≡◌, ◌≢◌, ◌<◌, ◌≤◌, ◌+◌, ◌*◌, Bool, true, false, cond, List, [], ◌∷◌, length, map, get_or, Option, Some, None, Result, refl, sym, ap, ap₂, subst, ◌∙◌, arith}
+use Rattle.std.specs.Prelude.{◌||◌, All, IsOk}
 use Rattle.std.proofs.lemmas.Bool.{or_parts, ne_eqb}
 use Rattle.std.proofs.lemmas.List.{length-map}
 use Rattle.std.proofs.lemmas.List.Folds.{list_any-append}
-use Rattle.std.proofs.lemmas.List.Elements.{All-head, All-tail}
+use Rattle.std.proofs.lemmas.List.Elements.{All-nil, All-head, All-tail}
 use Rattle.std.proofs.lemmas.List.Sums.{sum_by-cons}
 use Rattle.pmem_base.specs.declared.registers.Progress.{Progress}
 use Rattle.pmem_base.specs.declared.answers.Mark.{Mark}
@@ -15,6 +15,8 @@ use Rattle.bonsai_tree.specs.Positions.{counter_position}
 use Rattle.bonsai_tree.proofs.Levels.{counter_position-lt}
 use Rattle.page_reencrypt.specs.Registers.{is_holding, register_held}
 use Rattle.page_reencrypt.proofs.DoneBits.{not_done-small, not_done-not_done}
+use Rattle.board.specs.Device.{Device}
+use Rattle.meta_path.specs.Work.{told_line}
 use Rattle.suite.specs.Formulas.{Formulas}
 use Rattle.suite.specs.Setup.{Setup}
 use Rattle.plain_model.specs.State.{Memory}
@@ -22,12 +24,16 @@ use Rattle.plain_model.specs.Asked.{Moment, reseal_mark}
 use Rattle.plain_model.specs.Bounds.{is_seal, seal_count}
 use Rattle.pmem_engine.specs.declared.fault.Fault.{Fault}
 use Rattle.pmem_engine.specs.Parts.{Parts, regs_of, AreTrusted, AreSound}
-use Rattle.pmem_engine.specs.Outcomes.{outcome_of, is_seal_of, is_sealed_by, TakesSteps}
-use Rattle.pmem_engine.specs.Calls.{IsMemory, IsDownAnswer, IsUnrefused, moment_in}
+use Rattle.pmem_engine.specs.Outcomes.{outcome_of, is_seal_of, is_sealed_by, TakesSteps, TakesAtMost}
+use Rattle.pmem_engine.specs.Calls.{IsMemory, IsDownAnswer, IsUnrefused, moment_in, KeepsShadow, IsWork, reseal_work, KeepsMetaLines, IsUnderMinorZero, AreUnderMinorZero}
 use Rattle.pmem_engine.specs.Resealing.{register_in}
-use Rattle.pmem_engine.specs.Writing.{HasLeftOut, reseals_of, IsFrontOf, HasFinishMarks, AnswersFinish, CountsFinish, HasFinishedPage, HasFinishedWhere, HasFinishedFor, register_to_finish}
+use Rattle.pmem_engine.specs.Writing.{HasLeftOut, reseals_of, IsFrontOf, HasFinishMarks, AnswersFinish, CountsFinish, IsAnswerOfFinish, HasFinishedPage, HasFinishedWhere, HasFinishedFor, register_to_finish}
 use Rattle.pmem_engine.proofs.PostedWrites.WriteAsks.{marks_of_finish}
 use Rattle.pmem_engine.proofs.PostedWrites.WriteParts.{IsWritePart, alone_part}
+use Rattle.pmem_engine.proofs.PostedWrites.WritePremises.{few_left}
+use Rattle.pmem_engine.proofs.PostedWrites.WriteSteps.{steps_most, more_most}
+use Rattle.pmem_engine.proofs.CallEnds.ShadowLines.{shadow_still}
+use Rattle.pmem_engine.proofs.CallEnds.ExactWork.{work_alone}
 
 -- ---- none of the marks is the written line's
 
@@ -106,6 +112,14 @@ pub record HasFinishedSome (setup : Setup) (at : ℕ) (asked : Memory → List M
       AreTrusted setup old → (memory : Memory) → IsMemory setup memory old
       → CountsFinish (length (asked memory)) made old new answer
   pub seals : (memory : Memory) → seal_count (asked memory) ≡ length (asked memory)
+  pub few : length made ≤ 64
+  pub minors : AreUnderMinorZero made
+  pub made_seals : IsOk answer → seal_count made ≡ length made
+  pub work : IsOk answer → IsWork (reseal_work (length made)) old new
+  pub meta_lines : IsOk answer → KeepsMetaLines setup.shape old.device.lines new.device.lines
+  pub possible : IsAnswerOfFinish answer
+  pub shadow : KeepsShadow setup.shape old new
+  pub few_steps : TakesAtMost 256 old.device new.device
   pub engine : new.engine ≡ old.engine
 
 module _ (setup : Setup) (at : ℕ) (old new : Parts) (answer : Result Unit Fault) (within : at < layout.data_lines setup.shape) where
@@ -129,8 +143,8 @@ module _ (setup : Setup) (at : ℕ) (old new : Parts) (answer : Result Unit Faul
             (sym (list_any-append (is_seal_of at) it.made front.left)
             ∙ ap (λ ms. is_sealed_by ms at) (sym front.front) ∙ none)).0;
         block_kept =
-            λ trusted none.
-            it.metadata trusted (counter_position setup.shape (page_of at))
+            λ no_group none.
+            it.metadata no_group (counter_position setup.shape (page_of at))
             (counter_position-lt setup.shape (page_of at) (omega (arith, within)));
         down = ap (λ engine. engine.down) it.engine;
       }
@@ -147,6 +161,16 @@ module _ (setup : Setup) (at : ℕ) (old new : Parts) (answer : Result Unit Faul
         not_down = λ is. is;
         counts = λ trusted memory was. none;
         seals = λ memory. refl;
+        few = omega arith;
+        minors = All-nil IsUnderMinorZero;
+        made_seals = λ ok. refl;
+        work = λ ok. work_alone (reseal_work 0) old new (omega arith) (omega arith) (omega arith) (omega arith) refl it.alone;
+        meta_lines =
+            λ ok x within.
+            ap (λ (d : Device). told_line d.lines (layout.meta_line setup.shape x)) it.alone.device;
+        possible = tt;
+        shadow = shadow_still setup.shape old new it.alone.engine (ap (λ (d : Device). d.lines) it.alone.device);
+        few_steps = more_most 0 256 old.device new.device (omega arith) (steps_most 0 old.device new.device none);
         engine = it.alone.engine;
       })
     where
@@ -174,6 +198,16 @@ module _ (setup : Setup) (at : ℕ) (old new : Parts) (answer : Result Unit Faul
         seals =
             λ memory.
             seals_counted setup.formulas (moment_in setup memory old) (register_in old n).page (not_done (register_in old n));
+        few = let few = it.few in let all = few_left (register_in old n) in omega (arith, few, all);
+        minors = it.minors;
+        made_seals = it.seals;
+        work = it.work;
+        meta_lines = it.meta_lines;
+        possible = it.possible;
+        shadow = it.shadow;
+        few_steps =
+            more_most (4 * length (not_done (register_in old n))) 256 old.device new.device
+            (let all = few_left (register_in old n) in omega (arith, all)) it.few_steps;
         engine = it.engine;
       }
 

@@ -1,8 +1,9 @@
 -- A whole write, one law an exit: each takes the parts so far, in the order in which a write does them.
-use Rattle.std.proofs.Common.{rules, ℕ, ◌≡◌, ◌≢◌, ◌<◌, ◌+◌, ◌*◌, ◌++◌, inr, Bool, true, false, List, [], ◌∷◌, length, Option, Some, None, Result, Ok, Err, refl, sym, ap, ap₂, subst, ◌∙◌, arith}
+use Rattle.std.proofs.Common.{rules, ℕ, ◌≡◌, ◌<◌, ◌+◌, ◌*◌, ◌++◌, inr, Bool, true, false, List, [], ◌∷◌, length, Option, Some, None, Result, Ok, Err, refl, sym, ap, ap₂, subst, ◌∙◌, arith}
 use Rattle.std.specs.Prelude.{is_some, IsSome}
 use Rattle.std.proofs.lemmas.Bool.{true≢false}
 use Rattle.std.proofs.lemmas.List.{append-nil, append_assoc, length-append}
+use Rattle.std.proofs.lemmas.List.Elements.{All-nil, All-append}
 use Rattle.pmem_base.specs.declared.lines.Line.{Line}
 use Rattle.pmem_base.specs.declared.lines.Ctr.{Ctr}
 use Rattle.pmem_base.specs.declared.commands.Posted.{Posted}
@@ -21,17 +22,22 @@ use Rattle.pmem_engine.specs.declared.fault.Fault.{Fault}
 use Rattle.pmem_engine.specs.declared.fault.Fault.TheVariants as Fail
 use Rattle.pmem_engine.specs.Parts.{Parts, regs_of, AreTrusted}
 use Rattle.pmem_engine.specs.Outcomes.{going, cut_short, is_going, outcome_of_fault, TakesSteps, TakesAtMost}
-use Rattle.pmem_engine.specs.Calls.{IsMemory, IsPathNamedInMirror, moment_in, AreMarksOfWrite, AnswersWrite, write_bound, TakesSpent, TakesOfWrite}
-use Rattle.pmem_engine.specs.Inner.{cached_block, StandsStill, HasFetched, HasNamedPath}
+use Rattle.pmem_engine.specs.Calls.{IsMemory, IsPathNamedInMirror, moment_in, AreMarksOfWrite, AnswersWrite, write_bound, TakesSpent, TakesOfWrite, KeepsShadow, IsUnderMinorZero}
+use Rattle.pmem_engine.specs.Inner.{cached_block, StandsStill, HasFetched, HasNamedAll, HasNamedPath}
 use Rattle.pmem_engine.specs.Sealing.{next_counter_of, HasSealedNext}
-use Rattle.pmem_engine.specs.Writing.{overflow_of, IsFrontOf, HasFinishMarks, HasMadePlain, HasFinishedFor, HasBegunFor, UpWriteOutcome}
+use Rattle.pmem_engine.specs.Writing.{overflow_of, HasFinishMarks, HasMadePlain, HasFinishedFor, HasBegunFor, UpWriteOutcome}
 use Rattle.pmem_engine.proofs.PostedWrites.WriteAsks.{asked_seal, asked_begin, asked_none, free_at_overflow, overflow_fault}
 use Rattle.pmem_engine.proofs.PostedWrites.WriteParts.{IsWritePart, held_back, part_chained, fetch_part, plain_part, name_part}
 use Rattle.pmem_engine.proofs.PostedWrites.WriteFinishes.{HasFinishedSome, finish_asked, finished_for}
+use Rattle.pmem_engine.proofs.PostedWrites.WriteWorks.{IsWorkBefore, worked_before}
 use Rattle.pmem_engine.proofs.PostedWrites.WriteSeals.{written_with_seal}
-use Rattle.pmem_engine.proofs.PostedWrites.WriteSteps.{only_last, most_then, fewer_then, steps_most, more_fewer, begin_asked, bound_whole}
+use Rattle.pmem_engine.proofs.CallEnds.ShadowLines.{shadow_still, shadow_chained}
+use Rattle.pmem_engine.proofs.CheckedReads.LineReads.{past_fault, meta_fault, most_of_within}
+use Rattle.pmem_engine.proofs.PathNaming.ShadowNames.{none_named, then_named, then_all, named_then}
+use Rattle.pmem_engine.proofs.PostedWrites.WriteSteps.{only_last, most_then, fewer_most, more_most, fewer_then, steps_most, more_fewer, begin_asked, bound_whole}
 use Rattle.pmem_engine.proofs.PostedWrites.WriteBegins.{HasBegunSome, begin_counter, begun_for}
-use Rattle.pmem_engine.proofs.PostedWrites.WriteExits.{some_after, some_asked, part_of_front, stopped, fault_unrefused, fault_down, unfetched_marks, unfetched_answers, unfetched_steps, unplain_marks, unplain_answers, unplain_steps, unfinished_marks, unfinished_answers, unfinished_steps}
+use Rattle.pmem_engine.proofs.PostedWrites.WriteRefusals.{all_fetched, refused_in_fetch, refused_plain, refused_finish}
+use Rattle.pmem_engine.proofs.PostedWrites.WriteExits.{none_order, unsealed_order, plain_meta, finish_meta, some_after, some_asked, part_of_front, unnamed_front, stopped, fault_unrefused, fault_down, unfetched_marks, unfetched_answers, unfetched_steps, unplain_marks, unplain_answers, unplain_steps, unfinished_marks, unfinished_answers, unfinished_steps}
 
 module _ (setup : Setup) (write : Posted) (within : write.at < layout.data_lines setup.shape) (old : Parts) where
   abbrev page : ℕ
@@ -53,6 +59,16 @@ module _ (setup : Setup) (write : Posted) (within : write.at < layout.data_lines
       → UpWriteOutcome setup write old new (Err fault)
   written_unfetched new fault it =
       stopped setup write old new [] fault (fetch_part setup write.at old new (Err fault) it)
+      (record {
+        path_fetched = λ past. it.path_fetched (past_fault Ctr Unit old new fault past);
+        meta_uncached = meta_fault Unit Ctr setup.shape page old fault it.meta_uncached;
+        names = none_named setup.shape page old new it.shadow;
+        refused = refused_in_fetch setup page old new fault it;
+        order = none_order write.at;
+        few_steps =
+            more_most path (2 * path + 264) old.device new.device (omega arith)
+            (most_of_within (outcome_of_fault fault) path old new it.steps_of_path);
+      })
       (λ trusted memory was.
       unfetched_marks setup write old new (asked memory old) fault
       (some_asked setup.formulas (moment_in setup memory old) write) (it.answered trusted))
@@ -88,6 +104,14 @@ module _ (setup : Setup) (write : Posted) (within : write.at < layout.data_lines
         subst (λ f. UpWriteOutcome setup write old p1 (Err f))
         (sym (overflow_fault (cached_block setup.shape p1.engine page) page (index_in_page write.at) fault over))
         (stopped setup write old p1 [] (Fail.Spent page) part1
+        (record {
+          path_fetched = λ past. cached1;
+          meta_uncached = tt;
+          names = none_named setup.shape page old p1 fetched.shadow;
+          refused = all_fetched setup page old p1 fetched;
+          order = none_order write.at;
+          few_steps = more_most path (2 * path + 264) old.device p1.device (omega arith) fetched.steps_of_path;
+        })
         (λ trusted memory was. (
           asked_same memory old p1 ledger1
               ∙ asked_none setup memory write p1 within (trusted1 trusted) cached1 fault over,
@@ -100,7 +124,6 @@ module _ (setup : Setup) (write : Posted) (within : write.at < layout.data_lines
 
     module _ (overflows : Bool)
         (over : overflow_of (cached_block setup.shape p1.engine page) page (index_in_page write.at) ≡ Ok overflows) where
-      -- it isn't
       unspent : AreTrusted setup old → (memory : Memory) → IsSome (asked memory old)
       unspent trusted memory = ap is_some (asked_same memory old p1 ledger1) ∙ go overflows over
         where
@@ -124,6 +147,16 @@ module _ (setup : Setup) (write : Posted) (within : write.at < layout.data_lines
           stopped setup write old new [] fault
           (part_chained setup write.at (outcome_of_fault fault) [] [] old p1 new part1
           (plain_part setup write p1 new (Err fault) it))
+          (record {
+            path_fetched = λ past. subst (λ engine. IsPathCached setup.shape engine.cache page) (sym it.engine) cached1;
+            meta_uncached = plain_meta setup.shape page old fault it.possible;
+            names =
+                none_named setup.shape page old new
+                (shadow_chained setup.shape old p1 new fetched.shadow (shadow_still setup.shape p1 new it.engine it.lines));
+            refused = refused_plain setup page old p1 new fault fetched it.engine it.lines it.possible;
+            order = none_order write.at;
+            few_steps = more_most path (2 * path + 264) old.device new.device (omega arith) (path_alone new it.no_steps);
+          })
           (λ trusted memory was.
           unplain_marks setup write p1 new (asked memory old) fault (some_asked setup.formulas (moment_in setup memory old) write)
           (unspent trusted memory) (it.answered (trusted1 trusted) cached1))
@@ -155,6 +188,11 @@ module _ (setup : Setup) (write : Posted) (within : write.at < layout.data_lines
 
         steps2 : TakesAtMost path old.device p2.device
         steps2 = path_alone p2 made_plain.no_steps
+
+        shadow2 : KeepsShadow setup.shape old p2
+        shadow2 =
+            shadow_chained setup.shape old p1 p2 fetched.shadow
+            (shadow_still setup.shape p1 p2 made_plain.engine made_plain.lines)
 
         -- what it asks for: the finishing, a begin or none, and its own seal
         abbrev front : Memory → List Mark
@@ -197,6 +235,16 @@ module _ (setup : Setup) (write : Posted) (within : write.at < layout.data_lines
         written_unfinished new fault finished =
             stopped setup write old new it.made fault
             (part_chained setup write.at (outcome_of_fault fault) [] it.made old p2 new part2 it.part)
+            (record {
+              path_fetched = λ past. subst (λ engine. IsPathCached setup.shape engine.cache page) (sym it.engine) cached2;
+              meta_uncached = finish_meta setup.shape page old fault it.possible;
+              names = none_named setup.shape page old new (shadow_chained setup.shape old p2 new shadow2 it.shadow);
+              refused = refused_finish setup page old p1 p2 new fault fetched (it.engine ∙ made_plain.engine) shadow2 it.shadow it.possible;
+              order = unsealed_order write.at it.made (let few = it.few in omega (arith, few)) it.minors;
+              few_steps =
+                  more_most (path + 256) (2 * path + 264) old.device new.device (omega arith)
+                  (most_then path 256 old.device p2.device new.device steps2 it.few_steps);
+            })
             (λ trusted memory was.
             subst (λ marks. AreMarksOfWrite marks it.made write (Err fault)) (sym (asked2 trusted memory))
             (unfinished_marks write (front memory) (rest memory) it.made fault (rest_some memory) (marks trusted memory was)))
@@ -227,7 +275,6 @@ module _ (setup : Setup) (write : Posted) (within : write.at < layout.data_lines
           part3 : IsWritePart setup write.at going some3.made old p3
           part3 = part_chained setup write.at going [] some3.made old p2 p3 part2 some3.part
 
-          -- all lines are sealed
           all3 : AreTrusted setup old → (memory : Memory) → IsMemory setup memory old → some3.made ≡ front memory
           all3 trusted memory was = some3.marks (trusted2 trusted) memory (part2.memory_kept trusted memory was)
 
@@ -239,16 +286,33 @@ module _ (setup : Setup) (write : Posted) (within : write.at < layout.data_lines
               (steps_most (4 * length some3.made) p2.device p3.device
               (some3.counts (trusted2 trusted) memory (part2.memory_kept trusted memory was))))
 
-          -- ---- the path isn't named
+          shadow3 : KeepsShadow setup.shape old p3
+          shadow3 = shadow_chained setup.shape old p2 p3 shadow2 some3.shadow
 
-          unnamed_front : (marks made : List Mark) → made ≡ marks → IsFrontOf marks (made ++ [])
-          unnamed_front marks made all = search rules
+          most3 : TakesAtMost (path + 256) old.device p3.device
+          most3 = most_then path 256 old.device p2.device p3.device steps2 some3.few_steps
+
+          -- ---- the path isn't named
 
           unnamed : (new : Parts) → HasNamedPath setup page p3 new (Err Fail.Cut) → UpWriteOutcome setup write old new (Err Fail.Cut)
           unnamed new it =
               stopped setup write old new (some3.made ++ []) Fail.Cut
               (part_chained setup write.at (outcome_of_fault Fail.Cut) some3.made [] old p3 new part3
               (name_part setup write.at p3 new (Err Fail.Cut) within it))
+              (record {
+                path_fetched = λ past. absurd past;
+                meta_uncached = tt;
+                names = then_named setup.shape page old p3 new shadow3 it.names;
+                refused = tt;
+                order =
+                    unsealed_order write.at (some3.made ++ [])
+                    (let few = some3.few in let both = length-append some3.made [] in omega (arith, few, both))
+                    (All-append IsUnderMinorZero some3.made [] some3.minors (All-nil IsUnderMinorZero));
+                few_steps =
+                    more_most (path + 256 + path) (2 * path + 264) old.device new.device (omega arith)
+                    (most_then (path + 256) path old.device p3.device new.device most3
+                    (fewer_most path p3.device new.device it.steps));
+              })
               (λ trusted memory was.
               subst (λ marks. AreMarksOfWrite marks (some3.made ++ []) write (Err Fail.Cut)) (sym (asked2 trusted memory))
               (inr (part_of_front (front memory) (rest memory) (some3.made ++ []) (rest_some memory)
@@ -282,6 +346,12 @@ module _ (setup : Setup) (write : Posted) (within : write.at < layout.data_lines
             steps4 trusted memory was =
                 most_then (path + 4 * length (front memory)) path old.device p3.device p4.device (steps3 trusted memory was) named.steps
 
+            names4 : HasNamedAll setup.shape page old p4
+            names4 = then_all setup.shape page old p3 p4 shadow3 (named.all_named refl)
+
+            most4 : TakesAtMost (path + 256 + path) old.device p4.device
+            most4 = most_then (path + 256) path old.device p3.device p4.device most3 named.steps
+
             -- the next counter is the one that is asked for
             same_counter : (b : Bool) → begin_counter b setup write.at p4 ≡ begin_counter b setup write.at p2
             same_counter b = search rules
@@ -293,6 +363,20 @@ module _ (setup : Setup) (write : Posted) (within : write.at < layout.data_lines
             unbegun new it =
                 stopped setup write old new (some3.made ++ it.made) Fail.Cut
                 (part_chained setup write.at (outcome_of_fault Fail.Cut) some3.made it.made old p4 new part4 it.part)
+                (record {
+                  path_fetched = λ past. absurd past;
+                  meta_uncached = tt;
+                  names = (named_then setup.shape page old p4 new names4 it.shadow it.numbers).some;
+                  refused = tt;
+                  order =
+                      unsealed_order write.at (some3.made ++ it.made)
+                      (let few = some3.few in let one = it.few in let both = length-append some3.made it.made in
+                      omega (arith, few, one, both))
+                      (All-append IsUnderMinorZero some3.made it.made some3.minors it.minors);
+                  few_steps =
+                      more_most (path + 256 + path + 3) (2 * path + 264) old.device new.device (omega arith)
+                      (most_then (path + 256 + path) 3 old.device p4.device new.device most4 it.few_steps);
+                })
                 (λ trusted memory was.
                 subst (λ marks. AreMarksOfWrite marks (some3.made ++ it.made) write (Err Fail.Cut)) (sym (asked2 trusted memory))
                 (inr (record {
@@ -345,6 +429,11 @@ module _ (setup : Setup) (write : Posted) (within : write.at < layout.data_lines
                   (steps4 trusted memory was)
                   (steps_most (3 * length (begin_asked overflows page)) p4.device p5.device some5.counts)
 
+              work5 : IsWorkBefore setup write before old p5
+              work5 =
+                  worked_before setup write old p1 p2 p3 p4 p5 plain overflows front (begin_counter overflows setup write.at p4) fetched
+                  made_plain some3 shadow3.mirror named some5
+
               abbrev next : Ctr
               next = next_counter_of setup.shape p5.engine write.at
 
@@ -367,8 +456,6 @@ module _ (setup : Setup) (write : Posted) (within : write.at < layout.data_lines
                   append_assoc some3.made some5.made (seal ∷ [])
                   ∙ ap₂ (λ marks begin. marks ++ (begin ++ seal ∷ [])) (all3 trusted memory was) some5.marks
                   ∙ ap (λ mark. front memory ++ (begin_asked overflows page ++ mark ∷ [])) (seal_is trusted memory was)
-
-              -- ---- the seal
 
               -- nothing but the seal takes steps where the path was cached and named, and no mark comes before it
               alone : (new : Parts) → IsPathCached setup.shape old.engine.cache page → IsPathNamedInMirror setup.shape old.engine page
@@ -402,4 +489,11 @@ module _ (setup : Setup) (write : Posted) (within : write.at < layout.data_lines
                   (λ trusted short.
                   held_back setup going [] old p2 part2.done trusted write.at within refl
                   ((made_plain.answered (trusted1 trusted) cached1).1 short))
-                  (alone new) answer it
+                  (alone new)
+                  (let few = some3.few in let one = some5.few in let both = length-append some3.made some5.made in
+                  omega (arith, few, one, both))
+                  (All-append IsUnderMinorZero some3.made some5.made some3.minors some5.minors)
+                  (named_then setup.shape page old p4 p5 names4 some5.shadow some5.numbers)
+                  (more_most (path + 256 + path + 3) (2 * path_length setup.shape + 259) old.device p5.device (omega arith)
+                  (most_then (path + 256 + path) 3 old.device p4.device p5.device most4 some5.few_steps))
+                  work5 answer it

@@ -28,7 +28,7 @@ use Rattle.pmem_engine.specs.Inner.{HasFetched, HasNamedPath}
 use Rattle.pmem_engine.specs.Sealing.{HasBegunPage}
 use Rattle.pmem_engine.specs.Writing.{HasMadePlain}
 use Rattle.pmem_engine.proofs.CallEnds.ToldLines.{told_cases, told_redone}
-use Rattle.pmem_engine.proofs.CallEnds.CallChains.{done_chained}
+use Rattle.pmem_engine.proofs.CallEnds.CallChains.{done_chained, still_unarmed}
 
 -- a part of a write of line `at`, its own seal aside
 pub record IsWritePart (setup : Setup) (at : ℕ) (outcome : Outcome) (made : List Mark) (old new : Parts) : Type 0 where
@@ -41,7 +41,7 @@ pub record IsWritePart (setup : Setup) (at : ℕ) (outcome : Outcome) (made : Li
   pub not_own :
       AreTrusted setup old → (memory : Memory) → IsMemory setup memory old → is_sealed_by made at ≡ false
   pub block_kept :
-      AreTrusted setup old → list_any (is_persisting (regs_of old).loss at) made ≡ false
+      (regs_of old).group.items ≡ [] → list_any (is_persisting (regs_of old).loss at) made ≡ false
       → meta_line_in setup.shape new (counter_position setup.shape (page_of at))
       ≡ meta_line_in setup.shape old (counter_position setup.shape (page_of at))
   pub down : new.engine.down ≡ old.engine.down
@@ -117,13 +117,13 @@ part_chained setup at outcome made more old mid new first second =
           ∙ ap₂ (λ s t. s || t) (first.not_own trusted memory was)
           (second.not_own (mid_trusted trusted) memory (first.memory_kept trusted memory was));
       block_kept =
-          λ trusted none.
+          λ no_group none.
           let apart =
           or_parts (list_any (is_persisting (regs_of old).loss at) made) (list_any (is_persisting (regs_of old).loss at) more)
           (sym (list_any-append (is_persisting (regs_of old).loss at) made more) ∙ none) in
-          second.block_kept (mid_trusted trusted)
+          second.block_kept (still_unarmed setup made old mid first.done.gone no_group)
           (ap (λ loss. list_any (is_persisting loss at) more) first.done.loss ∙ apart.1)
-          ∙ first.block_kept trusted apart.0;
+          ∙ first.block_kept no_group apart.0;
       down = second.down ∙ first.down;
     }
   where
@@ -171,7 +171,7 @@ begin_part setup at old new answer it =
           ∙ was a within;
       sealed_before = λ trusted a within sealed. absurd (true≢false (sym sealed ∙ unsealed a));
       not_own = λ trusted memory was. unsealed at;
-      block_kept = λ trusted none. it.block_kept (unbegun none);
+      block_kept = λ no_group none. it.block_kept (unbegun none);
       down = it.down;
     }
   where

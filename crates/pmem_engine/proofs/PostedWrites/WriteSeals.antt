@@ -1,8 +1,12 @@
 -- A write's own seal, after the parts before it: its marks, memory, steps and counter block.
 use Rattle.std.proofs.Common.{rules, ℕ, ◌≡◌, ◌≢◌, ◌<◌, ◌≤◌, ◌+◌, ◌%◌, ◌++◌, ◌⊎◌, inl, inr, Bool, true, false, cond, List, [], ◌∷◌, length, IsTrue, Option, Some, Result, Ok, Err, refl, sym, ap, ap₂, subst, ◌∙◌, arith}
-use Rattle.std.specs.Prelude.{◌==◌, ◌||◌, option_map, IsOk, IfOk}
+use Rattle.std.specs.Prelude.{◌==◌, ◌||◌, ◌*◌, All, option_map, IsOk, IfOk}
+use Rattle.plain_model.specs.Bounds.{path_length, is_seal, seal_count}
+use Rattle.pmem_engine.proofs.PathNaming.ShadowNames.{named_then}
 use Rattle.std.specs.List.{list_any}
-use Rattle.std.proofs.lemmas.Bool.{cond-true, cond-false, cases_eq, eq-eqb, or_parts}
+use Rattle.std.proofs.lemmas.List.Elements.{All-nil, All-cons}
+use Rattle.std.proofs.lemmas.List.Sums.{sum_by-append, sum_by-cons}
+use Rattle.std.proofs.lemmas.Bool.{true≢false, cond-true, cond-false, cases_eq, eq-eqb, or_parts}
 use Rattle.std.proofs.lemmas.List.{append-nil, length-append}
 use Rattle.std.proofs.lemmas.List.Folds.{list_any-append}
 use Rattle.pmem_base.specs.declared.lines.Line.{Line}
@@ -27,13 +31,16 @@ use Rattle.pmem_engine.specs.declared.fault.Fault.{Fault}
 use Rattle.pmem_engine.specs.declared.fault.Fault.TheVariants as Fail
 use Rattle.pmem_engine.specs.Parts.{Parts, regs_of, AreTrusted, HoldsSeal, meta_line_in}
 use Rattle.pmem_engine.specs.Outcomes.{going, outcome_of, is_seal_of, is_sealed_by, TakesSteps, TakesAtMost}
-use Rattle.pmem_engine.specs.Calls.{IsMemory, IsDownAnswer, IsUnrefused, IsPathNamedInMirror, IsBlockTrue, moment_in, memory_after, is_persisting, AreMarksOfWrite, AnswersWrite, write_bound, TakesOfWrite}
+use Rattle.pmem_engine.specs.Calls.{IsMemory, IsDownAnswer, IsUnrefused, IsPathNamedInMirror, IsBlockTrue, moment_in, memory_after, is_persisting, AreMarksOfWrite, AnswersWrite, write_bound, TakesOfWrite, IsMetaUncached, IsPastFetch, AreUnderMinorZero, IsOwnSeal, AreInWriteOrder, then_work, IsWork, begin_work, seal_work, KeepsButPath, KeepsOtherMeta, write_work, IsWriteWork, IsRefusedAsFetched}
 use Rattle.pmem_engine.specs.Sealing.{next_counter_of, seal_steps, HasNextMarks, TakesSealSteps, HasSealedNext}
 use Rattle.pmem_engine.specs.Writing.{UpWriteOutcome}
-use Rattle.pmem_engine.proofs.CallEnds.CallChains.{done_chained}
+use Rattle.pmem_engine.proofs.CallEnds.CallChains.{done_chained, still_unarmed}
+use Rattle.pmem_engine.proofs.CallEnds.ExactWork.{work_then}
+use Rattle.pmem_engine.specs.Inner.{HasNamedAll}
 use Rattle.pmem_engine.proofs.PostedWrites.WriteParts.{IsWritePart}
-use Rattle.pmem_engine.proofs.PostedWrites.WriteSteps.{most_then, fewer_then, steps_most, more_most, more_fewer}
+use Rattle.pmem_engine.proofs.PostedWrites.WriteSteps.{most_then, fewer_then, steps_most, fewer_most, more_most, more_fewer}
 use Rattle.pmem_engine.proofs.PostedWrites.WriteExits.{some_after}
+use Rattle.pmem_engine.proofs.PostedWrites.WriteWorks.{named_work, work_before, IsWorkBefore}
 
 module _ (setup : Setup) (write : Posted) (within : write.at < layout.data_lines setup.shape) (old p5 new : Parts) (plain : Line)
     (before : List Mark) (part5 : IsWritePart setup write.at going before old p5) (wanted : Memory → List Mark) (most : Memory → ℕ)
@@ -46,6 +53,10 @@ module _ (setup : Setup) (write : Posted) (within : write.at < layout.data_lines
     (held_short : AreTrusted setup old → write.len < 64 → HoldsSeal setup.shape old write.at)
     (alone : IsPathCached setup.shape old.engine.cache (page_of write.at) → IsPathNamedInMirror setup.shape old.engine (page_of write.at)
     → length before ≡ 0 → (n : ℕ) → TakesSteps n p5.device new.device → TakesSteps n old.device new.device)
+    (few_before : length before ≤ 65) (minors_before : AreUnderMinorZero before)
+    (names5 : HasNamedAll setup.shape (page_of write.at) old p5)
+    (most5 : TakesAtMost (2 * path_length setup.shape + 259) old.device p5.device)
+    (work5 : IsWorkBefore setup write before old p5)
     (answer : Result Ctr Fault) (it : HasSealedNext setup write.at plain p5 new answer) where
   abbrev page : ℕ
   page = page_of write.at
@@ -139,7 +150,8 @@ module _ (setup : Setup) (write : Posted) (within : write.at < layout.data_lines
 
   plain_now : (a : ℕ) (b : Bool) → is_sealed_by it.made a ≡ b
       → plain_line setup.formulas new.ledger.marks a ≡ cond b (Some plain) (plain_line setup.formulas p5.ledger.marks a)
-  plain_now a b is = search rules
+  plain_now a b is =
+      it.plain_now a ∙ ap (λ sealed. cond sealed (Some plain) (plain_line setup.formulas p5.ledger.marks a)) is
 
   memory_put : AreTrusted setup old → (memory : Memory) → write.at < length memory → IsMemory setup memory old
       → it.made ≡ seal ∷ [] → IsMemory setup (memory_with memory write) new
@@ -228,17 +240,17 @@ module _ (setup : Setup) (write : Posted) (within : write.at < layout.data_lines
 
   -- ---- the counter block
 
-  kept_before : AreTrusted setup old → list_any (is_persisting (regs_of old).loss write.at) (before ++ it.made) ≡ false
+  kept_before : (regs_of old).group.items ≡ [] → list_any (is_persisting (regs_of old).loss write.at) (before ++ it.made) ≡ false
       → meta_line_in setup.shape new (counter_position setup.shape page)
       ≡ meta_line_in setup.shape old (counter_position setup.shape page)
-  kept_before trusted none =
+  kept_before no_group none =
       let apart =
       or_parts (list_any (is_persisting (regs_of old).loss write.at) before)
       (list_any (is_persisting (regs_of old).loss write.at) it.made)
       (sym (list_any-append (is_persisting (regs_of old).loss write.at) before it.made) ∙ none) in
-      it.block_kept (trusted5 trusted)
+      it.block_kept (still_unarmed setup before old p5 part5.done.gone no_group)
       (ap (λ loss. list_any (is_persisting loss write.at) it.made) part5.done.loss ∙ apart.1)
-      ∙ part5.block_kept trusted apart.0
+      ∙ part5.block_kept no_group apart.0
 
   written_by : (reply : Result Ctr Fault) → HasNextMarks setup.formulas write.at next plain it.made reply
       → (IsOk reply → (next.minor % (regs_of p5).loss == 0) ≡ true → IsBlockTrue setup new page)
@@ -258,6 +270,123 @@ module _ (setup : Setup) (write : Posted) (within : write.at < layout.data_lines
       (ap₂ seal_steps part5.done.loss (sym marks.0))
       (alone cached was_named (omega (arith, one, length-append before it.made, ap length marks.1)) _ steps)
 
+  -- ---- whatever the chip is
+
+  past_seal : (reply : Result Ctr Fault) → HasNextMarks setup.formulas write.at next plain it.made reply
+      → (IsOk reply → IsPathCached setup.shape new.engine.cache page) → IsPastFetch old new reply
+      → IsPathCached setup.shape new.engine.cache page
+  past_seal (Ok ctr) marks cached past = cached refl
+  past_seal (Err Fail.Cut) marks cached past = absurd past
+  past_seal (Err Fail.Down) marks cached past = absurd marks
+  past_seal (Err Fail.Shown) marks cached past = absurd marks
+  past_seal (Err (Fail.Meta x)) marks cached past = absurd marks
+  past_seal (Err (Fail.Tag b)) marks cached past = absurd marks
+  past_seal (Err (Fail.Spent spent)) marks cached past = absurd marks
+
+  seal_meta : (reply : Result Ctr Fault) → HasNextMarks setup.formulas write.at next plain it.made reply
+      → IsMetaUncached setup.shape page old reply
+  seal_meta (Ok ctr) marks = tt
+  seal_meta (Err Fail.Cut) marks = tt
+  seal_meta (Err Fail.Down) marks = tt
+  seal_meta (Err Fail.Shown) marks = tt
+  seal_meta (Err (Fail.Meta x)) marks = absurd marks
+  seal_meta (Err (Fail.Tag b)) marks = tt
+  seal_meta (Err (Fail.Spent spent)) marks = tt
+
+  seal_refused : (reply : Result Ctr Fault) → HasNextMarks setup.formulas write.at next plain it.made reply
+      → IsRefusedAsFetched setup.shape page old new reply
+  seal_refused (Ok ctr) marks = tt
+  seal_refused (Err Fail.Cut) marks = tt
+  seal_refused (Err Fail.Down) marks = tt
+  seal_refused (Err Fail.Shown) marks = absurd marks
+  seal_refused (Err (Fail.Meta x)) marks = absurd marks
+  seal_refused (Err (Fail.Tag b)) marks = absurd marks
+  seal_refused (Err (Fail.Spent spent)) marks = absurd marks
+
+  order : AreInWriteOrder write.at (before ++ it.made)
+  order =
+      record {
+        before = before;
+        own = it.made;
+        both = refl;
+        few_before = few_before;
+        minors = minors_before;
+        one_own =
+            elim made_is [
+              | inl none ↦ let long : length it.made ≡ 0 = ap length none in omega (arith, long)
+              | inr one ↦ let long : length it.made ≡ 1 = ap length one in omega (arith, long)
+            ];
+        its_seal =
+            elim made_is [
+              | inl none ↦ subst (λ marks. All (IsOwnSeal write.at) marks) (sym none) (All-nil (IsOwnSeal write.at))
+              | inr one ↦
+                  subst (λ marks. All (IsOwnSeal write.at) marks) (sym one)
+                  (All-cons (IsOwnSeal write.at) seal [] (refl, omega arith) (All-nil (IsOwnSeal write.at)))
+            ];
+      }
+
+  own_seal : (reply : Result Ctr Fault) → HasNextMarks setup.formulas write.at next plain it.made reply → IsOk reply
+      → is_sealed_by (before ++ it.made) write.at ≡ true
+  own_seal (Ok ctr) marks ok =
+      list_any-append (is_seal_of write.at) before it.made
+      ∙ ap (λ b. is_sealed_by before write.at || b) (one_sealed marks.1)
+      ∙ any_or_true (is_sealed_by before write.at)
+    where
+      any_or_true : (b : Bool) → (b || true) ≡ true
+      any_or_true true = refl
+      any_or_true false = refl
+  own_seal (Err fault) marks ok = absurd (true≢false (sym ok))
+
+  five_most : (reply : Result Ctr Fault) → TakesSealSteps (seal_steps (regs_of p5).loss next) p5 new reply
+      → TakesAtMost 5 p5.device new.device
+  five_most (Ok ctr) steps =
+      more_most (seal_steps (regs_of p5).loss next) 5 p5.device new.device (few_steps (regs_of p5).loss next)
+      (steps_most (seal_steps (regs_of p5).loss next) p5.device new.device steps)
+  five_most (Err fault) steps =
+      more_most (seal_steps (regs_of p5).loss next) 5 p5.device new.device (few_steps (regs_of p5).loss next)
+      (fewer_most (seal_steps (regs_of p5).loss next) p5.device new.device steps)
+
+  -- ---- the work
+
+  seals_now : it.made ≡ seal ∷ [] → seal_count (before ++ it.made) ≡ seal_count before + 1
+  seals_now one =
+      ap (λ ms. seal_count (before ++ ms)) one
+      ∙ sum_by-append (λ m. cond (is_seal m) 1 0) before (seal ∷ [])
+      ∙ ap (λ n. seal_count before + n) (sum_by-cons (λ m. cond (is_seal m) 1 0) seal [])
+
+  marks_now : it.made ≡ seal ∷ [] → length (before ++ it.made) ≡ length before + 1
+  marks_now one = length-append before it.made ∙ ap (λ ms. length before + length ms) one
+
+  same_work : (ctr : Ctr) → it.made ≡ seal ∷ []
+      → then_work (work_before setup.shape write before old work5.fetched) (seal_work setup.shape (regs_of old).loss ctr)
+      ≡ write_work setup.shape write ctr (before ++ it.made) old work5.fetched
+  same_work ctr one =
+      let seals = seals_now one in
+      let marks = marks_now one in
+      let few = work5.few_seals in
+      ap₂ (λ resealed begun.
+      then_work (then_work (named_work setup.shape write resealed old work5.fetched) (begin_work setup.shape begun))
+      (seal_work setup.shape (regs_of old).loss ctr))
+      (omega (arith, seals)) (omega (arith, seals, marks, few))
+
+  whole_work : (reply : Result Ctr Fault) → HasNextMarks setup.formulas write.at next plain it.made reply
+      → IfOk reply (λ ctr. IsWork (seal_work setup.shape (regs_of p5).loss ctr) p5 new)
+      → (IsOk reply → KeepsButPath setup.shape page p5.engine.cache new.engine.cache)
+      → (IsOk reply → KeepsOtherMeta setup.shape page p5.device.lines new.device.lines)
+      → IfOk reply (λ ctr. IsWriteWork setup.shape write ctr (before ++ it.made) old new)
+  whole_work (Ok ctr) marks did kept meta =
+      record {
+        fetched = work5.fetched;
+        path_fetched = work5.path_fetched;
+        cache = λ bank set. kept refl bank set ∙ work5.kept bank set;
+        lines = λ x inside apart. meta refl x inside apart ∙ work5.lines x inside apart;
+        work =
+            subst (λ work. IsWork work old new) (same_work ctr marks.1)
+            (work_then (work_before setup.shape write before old work5.fetched) (seal_work setup.shape (regs_of old).loss ctr) old p5
+            new work5.work (subst (λ loss. IsWork (seal_work setup.shape loss ctr) p5 new) part5.done.loss did));
+      }
+  whole_work (Err fault) marks did kept meta = tt
+
   pub written_with_seal : UpWriteOutcome setup write old new answer
   written_with_seal =
       record {
@@ -276,6 +405,16 @@ module _ (setup : Setup) (write : Posted) (within : write.at < layout.data_lines
             stored_before trusted a inside sealed other (is_sealed_by before a) refl;
         path_cached = it.path_cached;
         path_named = it.path_named;
+        path_fetched = past_seal answer it.marks it.path_cached;
+        meta_uncached = seal_meta answer it.marks;
+        names = (named_then setup.shape page old p5 new names5 it.shadow it.numbers).some;
+        refused = seal_refused answer it.marks;
+        order = order;
+        own_sealed = own_seal answer it.marks;
+        few_steps =
+            more_most (2 * path_length setup.shape + 259 + 5) (2 * path_length setup.shape + 264) old.device new.device (omega arith)
+            (most_then (2 * path_length setup.shape + 259) 5 old.device p5.device new.device most5 (five_most answer it.steps));
+        work = whole_work answer it.marks it.work it.cache it.meta_lines;
         down = it.down ∙ part5.down;
         steps =
             λ trusted memory was.

@@ -20,6 +20,14 @@ fewer_then n m old mid new first second = search rules
 pub steps_most : (n : ℕ) (old new : Device) → TakesSteps n old new → TakesAtMost n old new
 steps_most n old new it = search rules
 
+pub fewer_most : (n : ℕ) (old new : Device) → TakesFewer n old new → TakesAtMost n old new
+fewer_most n old new it =
+    record {
+      writes = it.writes;
+      latches = it.latches;
+      sum = λ one two. let less = it.sum one two in omega (arith, less);
+    }
+
 pub more_most : (n m : ℕ) (old new : Device) → n ≤ m → TakesAtMost n old new → TakesAtMost m old new
 more_most n m old new le it = search rules
 

@@ -5,6 +5,7 @@ use Rattle.std.proofs.lemmas.Bool.{true≢false}
 use Rattle.pmem_base.specs.declared.lines.Line.{Line}
 use Rattle.pmem_base.specs.declared.registers.Progress.{Progress}
 use Rattle.pmem_base.specs.declared.answers.Mark.TheVariants.{Begin}
+use Rattle.pmem_base.specs.Counts.{risen_times}
 use Rattle.pmem_base.specs.Layout as layout
 use Rattle.pmem_base.specs.Lines.{line_at}
 use Rattle.suite.specs.Formulas.{AreInRange}
@@ -18,7 +19,9 @@ use Rattle.page_reencrypt.specs.Registers.{register_of, begun}
 use Rattle.page_reencrypt.proofs.Holding.{begun-IsProgress}
 use Rattle.seal_ledger.specs.Ledger.{LedgerState}
 use Rattle.meta_path.specs.Blocks.{line_in, IsPathCached, AreCachedTrue}
+use Rattle.meta_path.specs.Naming.{path_number}
 use Rattle.meta_path.specs.Storing.{IsRenewed}
+use Rattle.plain_model.specs.Bounds.{path_length}
 use Rattle.pmem_base.proofs.LineLemmas.{IsLine-line_at}
 use Rattle.pmem_engine.specs.declared.fault.Fault.TheVariants as Fail
 use Rattle.pmem_engine.specs.Engine.{EngineState}
@@ -30,7 +33,11 @@ use Rattle.pmem_engine.specs.Calls.{IsUsable, IsPathNamedInMirror}
 use Rattle.pmem_engine.specs.Committing.{HasCommitted, IsCutArmed}
 use Rattle.pmem_engine.specs.Inner.{cached_block}
 use Rattle.pmem_engine.specs.Sealing.{begin_group, HasPageBegun, HasBeginCommitted, IsNothingDone, IsBeginCut, HasBegunPage}
-use Rattle.pmem_engine.proofs.Seals.StoredPaths.{cached_true_line, cached_lines_true, kept_named}
+use Rattle.pmem_engine.proofs.CallEnds.ExactWork.{still_rise}
+use Rattle.pmem_engine.proofs.Seals.NextPaths.{times_never_fall}
+use Rattle.pmem_engine.proofs.Seals.StoredPaths.{cached_true_line, cached_lines_true, path_number_kept, kept_named}
+use Rattle.pmem_engine.proofs.CallEnds.MetaLines.{committed_at, begin_off_meta}
+use Rattle.pmem_engine.proofs.CallEnds.ShadowLines.{shadow_still, committed_off, armed_off, begin_off}
 use Rattle.pmem_engine.proofs.Seals.PathBegins.{IsBeginning, done_begun, cut_begun, begun_line, begun_clean, begun_block}
 use Rattle.commit_regs.proofs.GroupLemmas.{redone-nil}
 
@@ -46,7 +53,7 @@ module _ (setup : Setup) (page : ℕ) (engine engine_now : EngineState) (old new
     (major : (cached_block setup.shape engine page).major < 2 ^ 64 - 1) (valid : IsBlock (cached_block setup.shape engine page))
     (renewed : (truth : List Line) → AreCachedTrue engine.cache truth
     → IsRenewed setup.shape setup.formulas truth page (packed (next_block (cached_block setup.shape engine page))) lines root)
-    (same_tags : tags_now ≡ tags) (never_digests : NeverFalls digests digests_now) where
+    (same_tags : tags_now ≡ tags) (more_digests : digests_now ≡ risen_times (path_length setup.shape) digests) where
   abbrev start : Parts
   start = parts_of engine old before tags digests
 
@@ -65,6 +72,9 @@ module _ (setup : Setup) (page : ℕ) (engine engine_now : EngineState) (old new
   never_tags : NeverFalls tags tags_now
   never_tags within = (omega (arith, same_tags, within), omega (arith, same_tags, within))
 
+  never_digests : NeverFalls digests digests_now
+  never_digests = subst (NeverFalls digests) (sym more_digests) (times_never_fall (path_length setup.shape) digests)
+
   unarmed : old.regs.group.items ≡ []
   unarmed = usable.ready.no_group up
 
@@ -75,14 +85,19 @@ module _ (setup : Setup) (page : ℕ) (engine engine_now : EngineState) (old new
       record {
         made = [];
         done =
-            search rules;
+            search (rules, never_digests);
         marks = inl refl;
         opened = λ ok. absurd (true≢false (sym ok));
         block_kept =
             search rules;
+        shadow = shadow_still setup.shape start final was.engine was.device.lines;
+        numbers = λ j le. ap (λ (e : EngineState). path_number setup.shape e.cache page j) was.engine;
         down = ap (λ e. e.down) was.engine;
         steps =
             search rules;
+        work = λ ok. absurd (true≢false (sym ok));
+        cache = λ ok. absurd (true≢false (sym ok));
+        meta_lines = λ ok. absurd (true≢false (sym ok));
         reads = was.device.reads;
         tags = same_tags;
       }
@@ -135,9 +150,21 @@ module _ (setup : Setup) (page : ℕ) (engine engine_now : EngineState) (old new
           marks = inr refl;
           opened = λ ok. absurd (true≢false (sym ok));
           block_kept = λ none. absurd (one_made none);
+          shadow =
+              record {
+                mirror = done.stored.mirror;
+                lines =
+                    λ n within.
+                    armed_off setup.shape (begin_group setup.shape page block) old new
+                    (begin_off setup.shape page block inside) armed n;
+              };
+          numbers = path_number_kept setup.shape page true lines engine engine_now done.stored cached;
           down = done.stored.down;
           steps =
               search rules;
+          work = λ ok. absurd (true≢false (sym ok));
+          cache = λ ok. absurd (true≢false (sym ok));
+          meta_lines = λ ok. absurd (true≢false (sym ok));
           reads = armed.reads;
           tags = same_tags;
         }
@@ -182,9 +209,35 @@ module _ (setup : Setup) (page : ℕ) (engine engine_now : EngineState) (old new
                 path_named = path_named;
               };
           block_kept = λ none. absurd (one_made none);
+          shadow =
+              record {
+                mirror = done.stored.mirror;
+                lines =
+                    λ n within.
+                    committed_off setup.shape (begin_group setup.shape page block) old new
+                    (begin_off setup.shape page block inside) finished n;
+              };
+          numbers = path_number_kept setup.shape page true lines engine engine_now done.stored cached;
           down = done.stored.down;
           steps =
               search rules;
+          work =
+              λ ok.
+              record {
+                reads = still_rise 0 old.reads new.reads refl finished.reads;
+                no_read = λ none. finished.reads;
+                writes = finished.writes;
+                no_write = λ none. absurd (omega (arith, none));
+                latches = finished.latches;
+                no_latch = λ none. absurd (omega (arith, none));
+                tags = same_tags;
+                digests = more_digests ∙ ap (λ n. risen_times n digests) (omega arith);
+              };
+          cache = λ ok. done.stored.kept;
+          meta_lines =
+              λ ok x within apart.
+              committed_at (begin_group setup.shape page block) old new (layout.meta_line setup.shape x)
+              (begin_off_meta setup.shape page block x apart) finished;
           reads = finished.reads;
           tags = same_tags;
         }

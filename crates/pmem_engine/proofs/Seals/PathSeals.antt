@@ -49,7 +49,7 @@ use Rattle.pmem_engine.proofs.Laws.NameLaws.{node_slots_named}
 use Rattle.pmem_engine.proofs.Laws.CommitLaws.{IsTrusted-written, IsSound-write, IsSound-write_with_block, IsPathNamed-sound, dirty_before-stored}
 use Rattle.pmem_engine.proofs.Laws.PlaceLaws.{seal_own-write, seal_kept-write, place_kept-write, counter_kept-write, held_kept-write, seal_own-write_with_block, seal_kept-write_with_block, place_kept-write_with_block, counter_kept-write_with_block, held_kept-write_with_block}
 use Rattle.pmem_engine.proofs.Laws.ChangedLines.{same_or_held-sealed, same_or_held-sealed_with_block}
-use Rattle.pmem_engine.proofs.Laws.DeviceRegions.{length-sealed_lines, stored_meta-sealed_lines}
+use Rattle.pmem_engine.proofs.Laws.DeviceRegions.{length-sealed_lines}
 use Rattle.pmem_engine.proofs.Laws.PathSlots.{IsPathCached-levels, ArePathSlotsNamed-levels}
 use Rattle.bonsai_tree.proofs.Levels.{counter_position-lt}
 use Rattle.pmem_engine.proofs.Seals.StoredPaths.{path_stored, path_dirty, nodes_dirty, block_clean}
@@ -300,7 +300,7 @@ module _ (setup : Setup) (next : NextSeal) (minor : ℕ) (persisted : Bool) (blo
               })
         ]
 
-    -- the page's block stands true in its place, or as it stood
+    -- the page's block stands true in its place
     pub sealed_line_true : persisted ≡ true → (o : Option (List Line)) → old.lines ≡ o
         → AreToldLines (layout.device_lines setup.shape) o
         → option_map (λ ls. stored_meta setup.shape ls (counter_position setup.shape page)) (redone_told group o)
@@ -312,15 +312,6 @@ module _ (setup : Setup) (next : NextSeal) (minor : ℕ) (persisted : Bool) (blo
         ∙ stored_meta-true_line setup.shape (sealed_lines setup.shape told next.at seal) after.truth
         (counter_position setup.shape page) (length-sealed_lines setup.shape told next.at seal ∙ whole.count)
         (counter_position-lt setup.shape page page_inside))
-
-    pub sealed_line_kept : persisted ≡ false → (o : Option (List Line)) → old.lines ≡ o
-        → option_map (λ ls. stored_meta setup.shape ls (counter_position setup.shape page)) (redone_told group o)
-        ≡ option_map (λ ls. stored_meta setup.shape ls (counter_position setup.shape page)) o
-    sealed_line_kept kept None is = refl
-    sealed_line_kept kept (Some told) is =
-        ap Some
-        (ap (λ entries. stored_meta setup.shape (redone entries told) (counter_position setup.shape page)) (group_without kept told is)
-        ∙ stored_meta-sealed_lines setup.shape told next.at seal (counter_position setup.shape page) it.its_line)
 
     pub sealed_clean : persisted ≡ true
         → is_cached_dirty setup.shape engine_now.cache setup.shape.levels (counter_position setup.shape page) ≡ false

@@ -1,5 +1,5 @@
 -- The exits of a seal under the next counter: its tag line isn't read, its group is cut, or the line is sealed.
-use Rattle.std.proofs.Common.{rules, ℕ, ◌≡◌, ◌<◌, ◌≤◌, ◌+◌, ◌%◌, ◌++◌, inl, inr, Bool, true, false, List, [], ◌∷◌, IsTrue, Some, Ok, Err, cond, refl, sym, ap, ap₂, subst, ◌∙◌, arith}
+use Rattle.std.proofs.Common.{rules, ℕ, ◌≡◌, ◌<◌, ◌≤◌, ◌+◌, ◌%◌, ◌++◌, inl, inr, Bool, true, false, List, [], ◌∷◌, length, IsTrue, Some, Ok, Err, cond, refl, sym, ap, ap₂, subst, subst₂, ◌∙◌, arith}
 use Rattle.std.specs.Prelude.{option_map, ◌↔◌, ◌==◌, if◌then◌else◌}
 use Rattle.std.specs.List.{list_any}
 use Rattle.std.proofs.lemmas.Bool.{true≢false, cond-true, cond-false}
@@ -7,7 +7,8 @@ use Rattle.pmem_base.specs.declared.lines.Line.{Line}
 use Rattle.pmem_base.specs.declared.lines.Ctr.{Ctr}
 use Rattle.pmem_base.specs.declared.answers.Mark.{Mark}
 use Rattle.pmem_base.specs.declared.answers.Mark.TheVariants.{Seal}
-use Rattle.pmem_base.specs.Counts.{risen}
+use Rattle.pmem_base.specs.Counts.{risen, risen_times}
+use Rattle.pmem_base.specs.Shape.{Shape}
 use Rattle.pmem_base.specs.Layout as layout
 use Rattle.pmem_base.specs.Layout.{page_of, index_in_page}
 use Rattle.pmem_base.specs.Lines.{IsLine, IsCtr, line_at}
@@ -16,13 +17,17 @@ use Rattle.suite.specs.Setup.{Setup}
 use Rattle.split_counters.specs.declared.Block.{Block}
 use Rattle.split_counters.specs.Blocks.{packed, unpacked, minor_of, with_minor}
 use Rattle.bonsai_tree.specs.Positions.{counter_position}
+use Rattle.board.specs.Counts.{RisesBy}
 use Rattle.board.specs.Device.{Device, IsDevice, AreToldLines}
 use Rattle.board.specs.Steps.{HasRead, WasCut, Tells}
 use Rattle.commit_regs.specs.Groups.{redone_told}
 use Rattle.seal_ledger.specs.Ledger.{LedgerState}
 use Rattle.meta_path.specs.Blocks.{IsPathCached, AreCachedTrue}
+use Rattle.meta_path.specs.Naming.{path_number}
+use Rattle.meta_path.specs.Work.{told_line}
 use Rattle.meta_path.specs.Storing.{IsRenewed}
 use Rattle.plain_model.specs.View.{plain_line}
+use Rattle.plain_model.specs.Bounds.{path_length}
 use Rattle.pmem_engine.specs.declared.fault.Fault.TheVariants as Fail
 use Rattle.pmem_engine.specs.declared.resealing.NextSeal.{NextSeal}
 use Rattle.pmem_engine.specs.Engine.{EngineState}
@@ -38,8 +43,11 @@ use Rattle.pmem_engine.proofs.CallEnds.CallChains.{done_chained}
 use Rattle.pmem_engine.proofs.Laws.PlainLines.{plain_line-sealed, plain_line-other}
 use Rattle.pmem_engine.proofs.CheckedReads.UnsealedLines.{risen_never_falls}
 use Rattle.pmem_engine.proofs.PageLines.LineReseals.{sealed_here, unsealed_other}
-use Rattle.pmem_engine.proofs.Seals.StoredPaths.{cached_true_line, cached_lines_true, kept_named}
-use Rattle.pmem_engine.proofs.Seals.PathSeals.{IsPathSealing, done_sealed, cut_sealed, sealed_line_true, sealed_line_kept, sealed_clean}
+use Rattle.pmem_engine.proofs.Seals.NextPaths.{times_never_fall}
+use Rattle.pmem_engine.proofs.Seals.StoredPaths.{cached_true_line, cached_lines_true, path_number_kept, kept_named}
+use Rattle.pmem_engine.proofs.CallEnds.MetaLines.{committed_at, seal_off_meta}
+use Rattle.pmem_engine.proofs.CallEnds.ShadowLines.{shadow_still, committed_off, armed_off, seal_off, told_off, undue_off}
+use Rattle.pmem_engine.proofs.Seals.PathSeals.{IsPathSealing, done_sealed, cut_sealed, sealed_line_true, sealed_clean}
 use Rattle.commit_regs.proofs.GroupLemmas.{redone-nil}
 
 module _ (setup : Setup) (at : ℕ) (plain : Line) (engine : EngineState) (old : Device) (before : LedgerState) (tags digests : ℕ)
@@ -60,9 +68,14 @@ module _ (setup : Setup) (at : ℕ) (plain : Line) (engine : EngineState) (old :
         plain_now = λ a. refl;
         path_cached = λ ok. absurd (true≢false (sym ok));
         path_named = λ ok. absurd (true≢false (sym ok));
+        shadow = shadow_still setup.shape start (parts_of engine new before tags_now digests_now) refl was.lines;
+        numbers = λ j le. refl;
         down = refl;
         steps =
             search rules;
+        work = tt;
+        cache = λ ok. absurd (true≢false (sym ok));
+        meta_lines = λ ok. absurd (true≢false (sym ok));
         block_kept =
             search rules;
         block_written = λ trusted ok. absurd (true≢false (sym ok));
@@ -72,6 +85,16 @@ module _ (setup : Setup) (at : ℕ) (plain : Line) (engine : EngineState) (old :
 undivided : (loss at : ℕ) (ctr : Ctr) (cipher : Line) (tag : List ℕ)
     → list_any (is_persisting loss at) (Seal at ctr cipher tag ∷ []) ≡ false → (ctr.minor % loss == 0) ≡ false
 undivided loss at ctr cipher tag unmade = search rules
+
+-- how many lines its group has
+group_length : (g : Shape) (next : NextSeal) (block : Line) (persisted : Bool)
+    → length (seal_group g next persisted block) ≡ cond persisted 3 2
+group_length g next block true = refl
+group_length g next block false = refl
+
+some_written : (b : Bool) (n : ℕ) → n ≡ cond b 3 2 → n ≡ 0 → ⊥
+some_written true n its none = omega (arith, its, none)
+some_written false n its none = omega (arith, its, none)
 
 -- how many steps
 pub some_steps : (loss : ℕ) (ctr : Ctr) → 4 ≤ seal_steps loss ctr
@@ -88,7 +111,7 @@ module _ (setup : Setup) (at : ℕ) (plain tag_line : Line) (persisted : Bool) (
     → IsRenewed setup.shape setup.formulas truth (page_of at) (packed (raised_block setup.shape engine at)) lines root)
     (read : HasRead old (layout.tag_line setup.shape at) tag_line mid)
     (due : IsTrue persisted ↔ ((next_counter_of setup.shape engine at).minor % old.regs.loss ≡ 0))
-    (more_tags : tags_now ≡ risen tags) (never_digests : NeverFalls digests digests_now)
+    (more_tags : tags_now ≡ risen tags) (more_digests : digests_now ≡ risen_times (path_length setup.shape) digests)
     (device : IsDevice mid) where
   abbrev first : Parts
   first = parts_of engine old before tags digests
@@ -128,6 +151,9 @@ module _ (setup : Setup) (at : ℕ) (plain tag_line : Line) (persisted : Bool) (
 
   never_tags : NeverFalls tags tags_now
   never_tags = subst (NeverFalls tags) (sym more_tags) (risen_never_falls tags)
+
+  never_digests : NeverFalls digests digests_now
+  never_digests = subst (NeverFalls digests) (sym more_digests) (times_never_fall (path_length setup.shape) digests)
 
   -- the tag line was read, no more
   was_read : OneLossEffect setup going [] first middle
@@ -190,14 +216,14 @@ module _ (setup : Setup) (at : ℕ) (plain tag_line : Line) (persisted : Bool) (
     trusted_mid : AreTrusted setup first → IsTrusted setup engine mid.regs before
     trusted_mid trusted = was_read.gone.trusted trusted
 
-    block_as_it_was : lines_redone final ≡ redone_told group mid.lines → AreTrusted setup first
+    block_as_it_was : lines_redone final ≡ redone_told group mid.lines → old.regs.group.items ≡ []
         → list_any (is_persisting old.regs.loss at) (mark ∷ []) ≡ false
         → meta_line_in setup.shape final position ≡ meta_line_in setup.shape first position
-    block_as_it_was comes trusted unmade =
+    block_as_it_was comes no_group unmade =
         let rest : (ctr.minor % old.regs.loss == 0) ≡ false = undivided old.regs.loss at ctr next.cipher next.tag unmade in
         ap (option_map (λ ls. stored_meta setup.shape ls position)) comes
-        ∙ sealed_line_kept setup next ctr.minor persisted block lines root engine engine_now mid new before after tags digests tags_now
-        digests_now sealing done (trusted_mid trusted) (sym is_due ∙ rest) mid.lines refl
+        ∙ told_off group mid.lines (layout.meta_line setup.shape position)
+        (undue_off setup.shape next persisted block position inside (sym is_due ∙ rest))
         ∙ ap (option_map (λ ls. stored_meta setup.shape ls position))
         (read.lines ∙ sym (ap (λ items. redone_told items old.lines) was_unarmed ∙ redone-nil old.lines))
 
@@ -214,9 +240,21 @@ module _ (setup : Setup) (at : ℕ) (plain tag_line : Line) (persisted : Bool) (
           plain_now = plain_after done.noted.marks;
           path_cached = λ ok. absurd (true≢false (sym ok));
           path_named = λ ok. absurd (true≢false (sym ok));
+          shadow =
+              record {
+                mirror = done.stored.mirror;
+                lines =
+                    λ n within.
+                    armed_off setup.shape group mid new (seal_off setup.shape next persisted block inside) armed n
+                    ∙ ap (λ told. told_line told (layout.shadow_line setup.shape n)) read.lines;
+              };
+          numbers = path_number_kept setup.shape (page_of at) persisted lines engine engine_now done.stored cached;
           down = done.stored.down;
           steps =
               search rules;
+          work = tt;
+          cache = λ ok. absurd (true≢false (sym ok));
+          meta_lines = λ ok. absurd (true≢false (sym ok));
           block_kept =
               block_as_it_was (ap (λ items. redone_told items new.lines) armed.armed ∙ armed.again);
           block_written = λ trusted ok. absurd (true≢false (sym ok));
@@ -235,9 +273,37 @@ module _ (setup : Setup) (at : ℕ) (plain tag_line : Line) (persisted : Bool) (
           plain_now = plain_after done.noted.marks;
           path_cached = λ ok. done.stored.cached;
           path_named = λ ok. path_named;
+          shadow =
+              record {
+                mirror = done.stored.mirror;
+                lines =
+                    λ n within.
+                    committed_off setup.shape group mid new (seal_off setup.shape next persisted block inside) finished n
+                    ∙ ap (λ told. told_line told (layout.shadow_line setup.shape n)) read.lines;
+              };
+          numbers = path_number_kept setup.shape (page_of at) persisted lines engine engine_now done.stored cached;
           down = done.stored.down;
           steps =
               search rules;
+          work =
+              record {
+                reads = subst (λ count. RisesBy 1 old.reads count) (sym finished.reads) read.reads;
+                no_read = λ none. absurd (omega (arith, none));
+                writes =
+                    subst₂ (λ n count. RisesBy n count new.writes)
+                    (group_length setup.shape next block persisted ∙ ap (λ b. cond b 3 2) (sym is_due)) read.writes finished.writes;
+                no_write = λ none. absurd (some_written (ctr.minor % old.regs.loss == 0) _ refl none);
+                latches = subst (λ count. RisesBy 2 count new.latches) read.latches finished.latches;
+                no_latch = λ none. absurd (omega (arith, none));
+                tags = more_tags;
+                digests = more_digests;
+              };
+          cache = λ ok. done.stored.kept;
+          meta_lines =
+              λ ok x within apart.
+              committed_at group mid new (layout.meta_line setup.shape x)
+              (seal_off_meta setup.shape next persisted block x inside apart) finished
+              ∙ ap (λ told. told_line told (layout.meta_line setup.shape x)) read.lines;
           block_kept = block_as_it_was comes;
           block_written =
               λ trusted ok zero.
@@ -266,14 +332,19 @@ module _ (setup : Setup) (at : ℕ) (plain tag_line : Line) (persisted : Bool) (
       record {
         made = [];
         done =
-            search rules;
+            search (rules, never_digests);
         marks = inl refl;
         plain_now = λ a. ap (λ ledger. plain_line setup.formulas ledger.marks a) was.ledger;
         path_cached = λ ok. absurd (true≢false (sym ok));
         path_named = λ ok. absurd (true≢false (sym ok));
+        shadow = shadow_still setup.shape first final was.engine (was.device.lines ∙ read.lines);
+        numbers = λ j le. ap (λ (e : EngineState). path_number setup.shape e.cache (page_of at) j) was.engine;
         down = ap (λ e. e.down) was.engine;
         steps =
             search rules;
+        work = tt;
+        cache = λ ok. absurd (true≢false (sym ok));
+        meta_lines = λ ok. absurd (true≢false (sym ok));
         block_kept =
             search rules;
         block_written = λ trusted ok. absurd (true≢false (sym ok));

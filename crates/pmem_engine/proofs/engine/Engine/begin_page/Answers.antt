@@ -1,6 +1,8 @@
 -- The begin is cut, or done.
-use Rattle.std.proofs.Common.{ℕ, ◌≡◌, ◌≤◌, sym, ap, subst, subst₂, ◌∙◌}
+use Rattle.std.proofs.Common.{◌≡◌, ◌≤◌, sym, ap, subst, subst₂, ◌∙◌}
+use Rattle.pmem_base.specs.Counts.{risen_times}
 use Rattle.suite.specs.Setup.{Setup}
+use Rattle.plain_model.specs.Bounds.{path_length}
 use Rattle.board.specs.Device.{Device}
 use Rattle.seal_ledger.specs.Ledger.{LedgerState}
 use Rattle.split_counters.specs.declared.Block.{Block}
@@ -11,12 +13,11 @@ use Rattle.meta_path.specs.Blocks.{AreCachedTrue, cached_line}
 use Rattle.meta_path.specs.Storing.{IsRenewed}
 use Rattle.pmem_engine.specs.declared.fault.Fault.TheVariants as Fail
 use Rattle.pmem_engine.specs.Engine.{EngineState}
-use Rattle.pmem_engine.specs.Outcomes.{NeverFalls}
 use Rattle.pmem_engine.specs.Parts.{parts_of}
 use Rattle.pmem_engine.specs.Inner.{cached_block}
 use Rattle.pmem_engine.specs.Sealing.{HasBeginCommitted, IsBeginCut, HasBegunPage}
 use Rattle.pmem_engine.proofs.CallEnds.ErrorAnswers.{is_err_of}
-use Rattle.pmem_engine.proofs.Seals.NextPaths.{rolled-next, times_never_fall}
+use Rattle.pmem_engine.proofs.Seals.NextPaths.{rolled-next}
 use Rattle.pmem_engine.proofs.Seals.BegunBlocks.{rolled_block}
 use Rattle.pmem_engine.proofs.Seals.BeginOutcomes.{page_cut, page_begun}
 use Rattle.pmem_engine.proofs.engine.Engine.begin_page.Goals as goal
@@ -53,8 +54,8 @@ returns-in_err-commit_begin-clause-begun g c =
     c.next_path-path.result.lines.items c.next_path-path.result.root)
     c.self.view_is (c.next_path-path.ensures.on_truth truth) is))
     c.next_path-path.ensures.tags
-    (subst (λ (n : ℕ). NeverFalls (g.S.Suite.digests c.args.suite.now) n) (sym c.next_path-path.ensures.digests)
-    (times_never_fall _ (g.S.Suite.digests c.args.suite.now)))
+    (c.next_path-path.ensures.digests
+    ∙ ap (λ (e : EngineState). risen_times (path_length e.shape) (g.S.Suite.digests c.args.suite.now)) c.self.view_is)
     (g.met.B.Board.whole c.args.board.now) (g.met.B.Board.whole c.commit_begin.new.board)
     (subst₂
     (λ r line. IsBeginCut setup.shape c.args.page r line c.next_path-path.result.lines.items c.next_path-path.result.root
@@ -88,8 +89,8 @@ returns-clause-begun g c =
     c.next_path-path.result.lines.items c.next_path-path.result.root)
     c.self.view_is (c.next_path-path.ensures.on_truth truth) is))
     c.next_path-path.ensures.tags
-    (subst (λ (n : ℕ). NeverFalls (g.S.Suite.digests c.args.suite.now) n) (sym c.next_path-path.ensures.digests)
-    (times_never_fall _ (g.S.Suite.digests c.args.suite.now)))
+    (c.next_path-path.ensures.digests
+    ∙ ap (λ (e : EngineState). risen_times (path_length e.shape) (g.S.Suite.digests c.args.suite.now)) c.self.view_is)
     (g.met.B.Board.whole c.args.board.now)
     (subst₂
     (λ r line. HasBeginCommitted setup.shape c.args.page r line c.next_path-path.result.lines.items c.next_path-path.result.root

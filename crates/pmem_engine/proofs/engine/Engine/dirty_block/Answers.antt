@@ -1,9 +1,10 @@
 -- Where no position of the bank is dirty, no slot is.
-use Rattle.std.proofs.Common.{◌≡◌, ℕ, false, subst, subst₂}
+use Rattle.std.proofs.Common.{◌≡◌, ◌∙◌, ℕ, false, ap, subst, subst₂}
 use Rattle.pmem_base.specs.Shape.{Shape}
 use Rattle.pmem_base.specs.Geo.{shape_of}
 use Rattle.meta_cache.specs.Banks.{set_of, is_cached_dirty}
 use Rattle.meta_cache.specs.Sets.{IsSetOf}
+use Rattle.meta_cache.specs.State.{bank_of, oldest_dirty_of}
 use Rattle.meta_path.specs.Blocks.{bank_dirty_count}
 use Rattle.meta_path.proofs.PathFacts.{AreSets}
 use Rattle.pmem_engine.specs.Engine.{EngineState}
@@ -25,3 +26,8 @@ returns-clause-none c = λ none.
     (λ x.
     subst₂ (λ (s : Shape) (bank : ℕ). is_cached_dirty s c.self.inside.cache.banks bank x ≡ false) c.self.invariant.0 c.levels.ensures
     (c.oldest_dirty_of.ensures.clean none x)))
+
+pub returns-clause-oldest : goal.returns-clause-oldest
+returns-clause-oldest c =
+    subst (λ (e : EngineState). c.oldest_dirty_of.result ≡ oldest_dirty_of (bank_of e.cache e.shape.levels)) c.self.view_is
+    (c.oldest_dirty_of.ensures.value ∙ ap (λ (bank : ℕ). oldest_dirty_of (bank_of c.self.inside.cache.banks bank)) c.levels.ensures)

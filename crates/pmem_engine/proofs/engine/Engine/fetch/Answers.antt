@@ -8,7 +8,7 @@ use Rattle.pmem_base.specs.Geo.{shape_of}
 use Rattle.pmem_base.specs.Shape.{Shape}
 use Rattle.suite.specs.Setup.{Setup}
 use Rattle.board.specs.Device.{Device}
-use Rattle.meta_cache.specs.State.{CacheState}
+use Rattle.meta_cache.specs.State.{CacheState, IsCacheOf}
 use Rattle.meta_path.specs.Fetching.{IsFetchedTo, IsPathFault}
 use Rattle.meta_path.specs.declared.faults.PathFault.{PathFault}
 use Rattle.pmem_engine.specs.declared.fault.Fault.{Fault}
@@ -40,7 +40,8 @@ returns-clause-fetched g c =
     (fetch_ok setup c.args.page old new (g.A.Audit.ledger c.args.audit.now) (g.A.Audit.ledger c.fetch_path.new.audit) before after
     (g.S.Suite.tags c.args.suite.now) (g.S.Suite.digests c.args.suite.now) (g.S.Suite.tags c.fetch_path.new.suite)
     (g.S.Suite.digests c.fetch_path.new.suite) its_page c.self.inside.geo.has_levels.1 its_size refl refl refl
-    c.fetch_path.ensures.tags (g.met.B.Board.whole c.fetch_path.new.board) c.fetch_path.ensures.keeps
+    c.fetch_path.ensures.tags (g.met.B.Board.whole c.fetch_path.new.board) c.fetch_path.ensures.keeps c.self.invariant.1
+    (subst (λ (s : Shape). IsCacheOf s c.self.inside.cache.banks) c.self.invariant.0 c.are_banks.ensures.cache)
     c.in_ok-fetch_path.ensures.cached c.in_ok-fetch_path.ensures.ledger
     (of_states shape c.self.inside.cache c.fetch_path.new.cache
     (λ (was now : CacheState). IsFetchedTo shape setup.formulas (g.A.Audit.ledger c.args.audit.now).truth c.args.page (shape.levels + 1)
@@ -79,7 +80,8 @@ returns-in_err-fetch_path-clause-fetched g c =
     (fetch_err setup c.args.page old new (g.A.Audit.ledger c.args.audit.now) (g.A.Audit.ledger c.fetch_path.new.audit) before after
     (g.S.Suite.tags c.args.suite.now) (g.S.Suite.digests c.args.suite.now) (g.S.Suite.tags c.fetch_path.new.suite)
     (g.S.Suite.digests c.fetch_path.new.suite) its_page c.self.inside.geo.has_levels.1 its_size refl refl refl
-    c.fetch_path.ensures.tags (g.met.B.Board.whole c.fetch_path.new.board) c.fetch_path.ensures.keeps
+    c.fetch_path.ensures.tags (g.met.B.Board.whole c.fetch_path.new.board) c.fetch_path.ensures.keeps c.self.invariant.1
+    (subst (λ (s : Shape). IsCacheOf s c.self.inside.cache.banks) c.self.invariant.0 c.are_banks.ensures.cache)
     fault
     (λ was. false≢true (ap is_ok (sym c.in_err-fetch_path.was) ∙ c.fetch_path.ensures.no_fault was))
     (of_states shape c.self.inside.cache c.fetch_path.new.cache

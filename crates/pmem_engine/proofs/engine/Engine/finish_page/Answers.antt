@@ -8,7 +8,8 @@ use Rattle.pmem_engine.specs.Parts.{Parts, parts_of}
 use Rattle.pmem_engine.specs.Resealing.{register_in, HasResealed}
 use Rattle.pmem_engine.specs.Writing.{HasFinishedPage}
 use Rattle.pmem_engine.proofs.CallEnds.ErrorAnswers.{is_err_of}
-use Rattle.pmem_engine.proofs.PageLines.PageFinishes.{first_none, first_more, unfinished, finished, still_usable}
+use Rattle.pmem_engine.proofs.PageLines.PageFinishes.{first_none, first_more, finished, still_usable}
+use Rattle.pmem_engine.proofs.PageLines.PageStops.{unfinished}
 use Rattle.pmem_engine.proofs.engine.Engine.finish_page.Given.{Over}
 use Rattle.pmem_engine.proofs.engine.Engine.finish_page.Goals.{After-left-lines}
 use Rattle.pmem_engine.proofs.engine.Engine.finish_page.Goals as goal

@@ -5,7 +5,7 @@ use Rattle.std.proofs.lemmas.Result.{err_from_is_err_and}
 use Rattle.pmem_base.specs.declared.lines.Line.{Line}
 use Rattle.pmem_base.specs.Shape.{Shape}
 use Rattle.pmem_base.specs.Geo.{shape_of}
-use Rattle.pmem_base.specs.Layout.{pages, shadow_lines}
+use Rattle.pmem_base.specs.Layout.{pages, device_lines, shadow_lines}
 use Rattle.pmem_base.specs.Lines.{IsLine}
 use Rattle.board.specs.Device.{Device}
 use Rattle.meta_cache.specs.Banks.{Banks, IsBanksOf}
@@ -71,6 +71,7 @@ returns-clause-named g c = λ setup ledger tags digests same.
     (subst (λ (s : Shape). IsBanksOf s old.cache) (c.self.invariant.0 ∙ its) c.are_banks.ensures.banks)
     cached
     (subst (λ (s : Shape). IsMirror s old.mirror) its (record { long = c.self.invariant.2; whole = c.self.invariant.3 }))
+    (c.requires.size ∙ ap (λ (s : Shape). device_lines s) (sym same)) (g.met.B.Board.whole c.args.board.now)
     (subst (λ (s : Shape). IsNamedTo s old.cache c.args.page (s.levels + 1) old.mirror new.mirror before after) its
     c.in_ok-make_dirty.ensures.ok))
 
@@ -99,5 +100,6 @@ returns-in_err-make_dirty-clause-named g c = λ setup ledger tags digests same.
     (subst (λ (s : Shape). IsBanksOf s old.cache) (c.self.invariant.0 ∙ its) c.are_banks.ensures.banks)
     cached
     (subst (λ (s : Shape). IsMirror s old.mirror) its (record { long = c.self.invariant.2; whole = c.self.invariant.3 }))
+    (c.requires.size ∙ ap (λ (s : Shape). device_lines s) (sym same)) (g.met.B.Board.whole c.args.board.now)
     (subst (λ (s : Shape). IsNamingCut s old.cache c.args.page old.mirror new.mirror before after) its
     c.in_err-make_dirty.ensures.cut))

@@ -6,7 +6,8 @@ use Rattle.suite.specs.Setup.{Setup}
 use Rattle.pmem_engine.specs.declared.fault.Fault.{Fault}
 use Rattle.pmem_engine.specs.Parts.{Parts, parts_of}
 use Rattle.pmem_engine.specs.Inner.{UpReadOutcome}
-use Rattle.pmem_engine.proofs.CheckedReads.LineReads.{read_after_fetch}
+use Rattle.pmem_engine.proofs.CallEnds.ErrorAnswers.{is_err_of}
+use Rattle.pmem_engine.proofs.CheckedReads.LineReads.{read_after_fetch, read_unfetched}
 use Rattle.pmem_engine.proofs.engine.Engine.read_line.Goals as goal
 
 pub returns-clause-read : goal.returns-clause-read
@@ -46,3 +47,16 @@ returns-in_err-unsealed-clause-read g c =
     (g.S.Suite.formulas_of (g.S.Suite.keys c.fetch.new.suite)) (ap g.S.Suite.formulas_of c.fetch.ensures.keys)
     (Err c.in_err-unsealed.field-0.0) c.in_err-unsealed.ensures.unsealed
     (λ trusted cached. c.counter-ctr.ensures.last setup (g.A.Audit.ledger c.fetch.new.audit) trusted cached))
+
+pub returns-in_err-fetch-clause-read : goal.returns-in_err-fetch-clause-read
+returns-in_err-fetch-clause-read g c =
+    let setup : Setup = record { shape = c.args.self.now.shape; formulas = g.S.Suite.formulas_of (g.S.Suite.keys c.args.suite.now) } in
+    let old : Parts =
+    parts_of c.args.self.now (g.B.Board.device c.args.board.now) (g.A.Audit.ledger c.args.audit.now) (g.S.Suite.tags c.args.suite.now)
+    (g.S.Suite.digests c.args.suite.now) in
+    let new : Parts =
+    parts_of c.fetch.new.self (g.B.Board.device c.fetch.new.board) (g.A.Audit.ledger c.fetch.new.audit) (g.S.Suite.tags c.fetch.new.suite)
+    (g.S.Suite.digests c.fetch.new.suite) in
+    subst (λ (answer : Result Line Fault). UpReadOutcome setup c.args.at old new answer)
+    (sym (is_err_of c.from_residual.result c.in_err-fetch.field-0.0 c.from_residual.ensures.1))
+    (read_unfetched setup c.args.at old new c.in_err-fetch.field-0.0 c.in_err-fetch.ensures.fetched)

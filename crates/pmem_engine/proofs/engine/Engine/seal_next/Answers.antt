@@ -2,13 +2,14 @@
 use Rattle.std.proofs.Common.{ℕ, ◌≡◌, ◌≤◌, ◌%◌, IsTrue, Ok, sym, ap, subst, subst₂, ◌∙◌}
 use Rattle.std.specs.Prelude.{◌↔◌}
 use Rattle.pmem_base.specs.declared.lines.Ctr.{Ctr}
-use Rattle.pmem_base.specs.Counts.{risen}
+use Rattle.pmem_base.specs.Counts.{risen, risen_times}
 use Rattle.pmem_base.specs.Layout as layout
 use Rattle.pmem_base.specs.Layout.{page_of}
 use Rattle.pmem_base.specs.Lines.{IsCtr}
 use Rattle.suite.specs.Setup.{Setup}
 use Rattle.board.specs.Device.{Device}
 use Rattle.board.specs.Steps.{HasRead}
+use Rattle.plain_model.specs.Bounds.{path_length}
 use Rattle.seal_ledger.specs.Ledger.{LedgerState}
 use Rattle.split_counters.specs.Blocks.{packed}
 use Rattle.meta_path.specs.Blocks.{AreCachedTrue}
@@ -89,9 +90,8 @@ returns-in_err-commit_seal-clause-sealed g c =
     c.next_counter.result.1 c.next_path-path.result.lines.items c.next_path-path.result.root)
     c.self.view_is (c.next_path-path.ensures.on_truth truth) is))
     read due (c.next_seal-next.ensures.tags ∙ ap risen c.next_path-path.ensures.tags)
-    (subst (λ (n : ℕ). NeverFalls (g.S.Suite.digests c.args.suite.now) n)
-    (sym (c.next_seal-next.ensures.digests ∙ c.next_path-path.ensures.digests))
-    (times_never_fall _ (g.S.Suite.digests c.args.suite.now)))
+    (c.next_seal-next.ensures.digests ∙ c.next_path-path.ensures.digests
+    ∙ ap (λ (e : EngineState). risen_times (path_length e.shape) (g.S.Suite.digests c.args.suite.now)) c.self.view_is)
     (g.met.B.Board.whole c.read_line.new.self)
     (g.met.B.Board.whole c.commit_seal.new.board)
     (subst₂
@@ -145,9 +145,8 @@ returns-clause-sealed g c =
     c.next_counter.result.1 c.next_path-path.result.lines.items c.next_path-path.result.root)
     c.self.view_is (c.next_path-path.ensures.on_truth truth) is))
     read due (c.next_seal-next.ensures.tags ∙ ap risen c.next_path-path.ensures.tags)
-    (subst (λ (n : ℕ). NeverFalls (g.S.Suite.digests c.args.suite.now) n)
-    (sym (c.next_seal-next.ensures.digests ∙ c.next_path-path.ensures.digests))
-    (times_never_fall _ (g.S.Suite.digests c.args.suite.now)))
+    (c.next_seal-next.ensures.digests ∙ c.next_path-path.ensures.digests
+    ∙ ap (λ (e : EngineState). risen_times (path_length e.shape) (g.S.Suite.digests c.args.suite.now)) c.self.view_is)
     (g.met.B.Board.whole c.read_line.new.self)
     (subst₂
     (λ (next : NextSeal) line. HasSealCommitted setup.shape next c.due-persisted.result line c.next_path-path.result.lines.items

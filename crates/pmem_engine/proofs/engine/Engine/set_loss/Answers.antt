@@ -1,12 +1,13 @@
 -- The number is changed by an engine that is up, which is down afterwards where it was cut.
-use Rattle.std.proofs.Common.{◌≤◌, ℕ, [], Result, refl, sym, subst, subst₂}
+use Rattle.std.proofs.Common.{◌≤◌, ℕ, [], Result, Err, refl, sym, ap, subst, subst₂, ◌∙◌}
 use Rattle.pmem_base.specs.Shape.{Shape}
 use Rattle.suite.specs.Setup.{Setup}
 use Rattle.pmem_engine.specs.declared.fault.Fault.{Fault}
 use Rattle.pmem_engine.specs.Engine.{EngineState}
 use Rattle.pmem_engine.specs.Parts.{Parts, parts_of}
 use Rattle.pmem_engine.specs.Calls.{HasSetLoss}
-use Rattle.pmem_engine.proofs.BlockWrites.LossOutcomes.{loss_set}
+use Rattle.pmem_engine.proofs.BlockWrites.LossOutcomes.{loss_set, set_down}
+use Rattle.pmem_engine.proofs.CallEnds.ErrorAnswers.{is_err_of}
 use Rattle.pmem_engine.proofs.CallEnds.UsableParts.{some_setup, some_ledger, ready_call, shape_call}
 use Rattle.pmem_engine.proofs.engine.Engine.set_loss.Goals as goal
 
@@ -38,3 +39,10 @@ returns-clause-shape g c =
     let new : Parts = parts_of c.ended.new.self (g.B.Board.device c.latch_loss-answer.new.board) some_ledger 0 0 in
     let set : HasSetLoss setup c.args.n old new c.ended.result = returns-clause-set g c setup some_ledger 0 0 refl in
     shape_call setup [] old new c.ended.result set.down set.gone
+
+pub returns-in_err-is_up-clause-set : goal.returns-in_err-is_up-clause-set
+returns-in_err-is_up-clause-set g c = λ setup ledger tags digests shape.
+    let parts : Parts = parts_of c.args.self.now (g.B.Board.device c.args.board.now) ledger tags digests in
+    subst (HasSetLoss setup c.args.n parts parts)
+    (sym (is_err_of c.from_residual.result c.in_err-is_up.field-0.0 c.from_residual.ensures.1 ∙ ap Err c.in_err-is_up.ensures.fault))
+    (set_down setup c.args.n parts c.in_err-is_up.ensures.down)

@@ -1,5 +1,5 @@
 -- A dirty counter block is cached on the tree; its line is written, and then its mark cleared.
-use Rattle.std.proofs.Common.{◌≡◌, ◌+◌, ◌∙◌, ℕ, true, false, refl, sym, ap, subst, subst₂, arith}
+use Rattle.std.proofs.Common.{◌≡◌, ◌+◌, ◌∙◌, ◌∷◌, Some, ℕ, true, false, refl, sym, ap, subst, subst₂, arith}
 use Rattle.pmem_base.specs.Shape.{Shape}
 use Rattle.pmem_base.specs.Geo.{shape_of}
 use Rattle.pmem_base.specs.Layout.{meta_line}
@@ -7,14 +7,16 @@ use Rattle.board.specs.Device.{Device}
 use Rattle.board.specs.Steps.{HasWritten}
 use Rattle.meta_cache.specs.Banks.{set_of, set_index, is_cached, is_cached_dirty}
 use Rattle.meta_cache.specs.Sets.{with_mark, IsSetOf}
-use Rattle.meta_cache.specs.State.{IsCacheOf, ChangesSet, slots_of}
+use Rattle.meta_cache.specs.State.{IsCacheOf, ChangesSet, bank_of, slots_of, oldest_dirty_of}
 use Rattle.meta_path.specs.Blocks.{line_in, slots_at, bank_dirty_count}
 use Rattle.meta_path.proofs.PathFacts.{AreSets}
 use Rattle.meta_path.proofs.WriteLemmas.{dirty_is_cached, dirty_on_tree, IsMarkedSet-with_mark, AreInTheirBanks-marked}
 use Rattle.pmem_engine.specs.Engine.{EngineState}
+use Rattle.pmem_engine.specs.DirtyOrder.{dirty_order}
 use Rattle.pmem_engine.specs.Flushed.{HasWrittenBack}
 use Rattle.pmem_engine.proofs.BlockWrites.FlushOutcomes.{written_block}
 use Rattle.pmem_engine.proofs.BlockWrites.DirtyCounts.{dirty_in_bank-cleaned}
+use Rattle.pmem_engine.proofs.BlockWrites.OldestFirst.{order_cleaned}
 use Rattle.pmem_engine.proofs.BlockWrites.LossBlocks.{cleaned_block}
 use Rattle.pmem_engine.proofs.engine.Engine.write_back_block.Goals as goal
 
@@ -96,3 +98,25 @@ returns-clause-fewer g c =
     c.self.view_is
     (dirty_in_bank-cleaned shape c.self.inside.cache c.set_clean.new.self shape.levels c.args.x sets c.self.inside.geo.has_sets.0
     dirty changes)
+
+pub returns-clause-order : goal.returns-clause-order
+returns-clause-order g c =
+    let shape : Shape = shape_of c.self.inside.geo in
+    let was : IsCacheOf shape c.self.inside.cache.banks =
+    subst (λ (s : Shape). IsCacheOf s c.self.inside.cache.banks) c.self.invariant.0 c.are_banks.ensures.cache in
+    let now : IsCacheOf shape c.set_clean.new.self.banks =
+    subst (λ (s : Shape). IsCacheOf s c.set_clean.new.self.banks) (c.set_clean.ensures.shape ∙ c.self.invariant.0)
+    c.are_banks-2.ensures.cache in
+    let changes : ChangesSet c.self.inside.cache c.set_clean.new.self shape.levels (set_index shape c.args.x)
+    (with_mark (slots_at shape c.self.inside.cache.banks shape.levels c.args.x) c.args.x false) =
+    subst₂ (λ (bank : ℕ) (s : Shape). ChangesSet c.self.inside.cache c.set_clean.new.self bank (set_index s c.args.x)
+    (with_mark (slots_at s c.self.inside.cache.banks bank c.args.x) c.args.x false)) c.levels.ensures c.self.invariant.0
+    c.set_clean.ensures in
+    let oldest : oldest_dirty_of (bank_of c.self.inside.cache.banks shape.levels) ≡ Some c.args.x =
+    subst (λ (e : EngineState). oldest_dirty_of (bank_of e.cache e.shape.levels) ≡ Some c.args.x) (sym c.self.view_is)
+    c.requires.oldest in
+    subst
+    (λ (e : EngineState). dirty_order (bank_of e.cache e.shape.levels)
+    ≡ c.args.x ∷ dirty_order (bank_of c.set_clean.new.self.banks e.shape.levels))
+    c.self.view_is
+    (order_cleaned shape c.self.inside.cache c.set_clean.new.self shape.levels c.args.x (omega arith) was now changes oldest)

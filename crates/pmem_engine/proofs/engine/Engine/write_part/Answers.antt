@@ -34,7 +34,8 @@ returns-clause-written g c =
     (λ (engine : EngineState) (answer : Result Ctr Fault). HasWrittenLine setup c.args.write.now old
     (parts_of engine new.device new.ledger new.tags new.digests) answer)
     (sym c.ended.ensures.engine) (sym c.ended.ensures.answer)
-    (written_ended setup c.args.write.now old new c.write_posted-answer.result (c.in_ok-is_up.ensures.up) c.write_posted-answer.ensures.written)
+    (written_ended setup c.args.write.now old new c.write_posted-answer.result (c.in_ok-is_up.ensures.up)
+    (c.requires.usable.ready.no_group (c.in_ok-is_up.ensures.up)) c.write_posted-answer.ensures.written)
 
 pub returns-clause-usable : goal.returns-clause-usable
 returns-clause-usable g c =
