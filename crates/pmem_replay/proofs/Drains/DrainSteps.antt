@@ -133,8 +133,7 @@ module _ (setup : Setup) (old new : WorldState) (ledger : LedgerState) (room : H
     path_within goes none =
         let steps =
         path-steps setup mid mid new (Do.Drain port) None port 0 [] 0 writing drained whole small given.write given.later given.waits given.engine given.after
-        given.taken call answer given.written goes none in
-        (
+        given.taken call answer given.written goes none in (
           le-leb (0 + steps_in given.taken) (path_length setup.shape) (omega (arith, steps.0)),
           le-leb (0 + steps_in given.taken) (dirty_bound setup.shape mid.state) (omega (arith, steps.1)),
         )
