@@ -285,10 +285,12 @@ AnswersRead setup a old new (Err Fail.Shown) =
 AnswersRead setup a old new (Err (Fail.Spent page)) = ⊥
 AnswersRead setup a old new (Err Fail.Down) = ⊥
 
--- a read whose path is cached makes no step, and two reads and a tag where it is answered
+-- A read whose path is cached makes no step, and two reads and a tag where it is answered. No step is
+-- due, so power that is on isn't cut.
 pub record IsReadOfCached (setup : Setup) (a : ℕ) (old new : Parts) (answer : Result Line Fault) :
     Type 0 where
   pub no_steps : TakesSteps 0 old.device new.device
+  pub uncut : old.device.live ≡ true → answer ≡ Err Fail.Cut → ⊥
   pub no_digests : new.digests ≡ old.digests
   pub two_reads : IsOk answer → RisesBy 2 old.device.reads new.device.reads
   pub one_tag : IsOk answer → new.tags ≡ risen old.tags

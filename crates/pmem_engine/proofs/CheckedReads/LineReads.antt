@@ -203,6 +203,7 @@ module _ (setup : Setup) (a : ℕ) (ctr : Ctr) (old mid new : Parts) (its_shape 
                   latches = omega (arith, still.latches, unsealed.latches);
                   sum = λ one two. omega (arith, still.writes, still.latches, unsealed.writes, unsealed.latches);
                 };
+            uncut = λ live it. true≢false (sym (fetched.done.gone.power.1 live) ∙ unpowered (ap outcome_of it));
             no_digests = unsealed.digests ∙ (fetched.still_cached was).2;
             two_reads =
                 λ ok.

@@ -194,6 +194,7 @@ read_ended setup a old new answer was it =
           λ up cached.
           record {
             no_steps = (it.of_cached cached).no_steps;
+            uncut = (it.of_cached cached).uncut;
             no_digests = (it.of_cached cached).no_digests;
             two_reads = (it.of_cached cached).two_reads;
             one_tag = (it.of_cached cached).one_tag;
