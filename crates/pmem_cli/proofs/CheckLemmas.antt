@@ -1,5 +1,5 @@
 -- The lines of a check, one after the other.
-use Rattle.std.proofs.Common.{◌≡◌, ◌∙◌, ◌+◌, ◌<◌, ◌≤◌, ℕ, List, [], ◌∷◌, ◌++◌, length, refl, ap, subst, arith, append_assoc, length-append, lt-ltb}
+use Rattle.std.proofs.Common.{rules, ◌≡◌, ◌∙◌, ◌+◌, ◌<◌, ◌≤◌, ℕ, List, [], ◌∷◌, ◌++◌, length, refl, ap, subst, arith, append_assoc, length-append, lt-ltb}
 use Rattle.std.specs.Prelude.{Option, None, Some, IfSome, Ok, Err}
 use Rattle.std.specs.List.{flat_map}
 use Rattle.std.specs.Io.KnownBytes.{Consumes, Keeps, IsAtEnd, prepend_known}
@@ -157,11 +157,7 @@ HasLooked-long ahead behind left found part served number taken within long numb
 pub HasLooked-end : (ahead behind left : Option (List ℕ)) (found : Option Exhibit) (served : ℕ) → Consumes ahead behind [] → IsAtEnd behind → served ≤ line_limit
     → HasLooked Finished ahead left found found served
 unfolding lines_of
-HasLooked-end ahead behind left found served taken end limit = (
-  λ same. cc,
-  λ same. cc,
-  Consumes-whole ahead behind [] (λ bytes. LooksTo found served Finished bytes left found) taken end (record { read = refl; counted = omega (arith, limit) }),
-)
+HasLooked-end ahead behind left found served taken end limit = search rules
 
 broken_here : (ahead left : Option (List ℕ)) (found : Option Exhibit) (part : List ℕ) (served : ℕ) → Consumes ahead left part → IsWithin part → length part ≤ 1024 → served ≤ line_limit
     → (served ≡ line_limit → part ≡ []) → IfSome ahead (λ bytes. IsBrokenOff found served bytes left found)

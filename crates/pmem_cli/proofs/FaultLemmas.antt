@@ -1,5 +1,5 @@
 -- Counts of faults, and the stops that faults cause.
-use Rattle.std.proofs.Common.{◌≡◌, ◌≢◌, ◌∙◌, ℕ, refl, arith}
+use Rattle.std.proofs.Common.{rules, ◌≡◌, ◌≢◌, ◌∙◌, ℕ, refl, arith}
 use Rattle.std.specs.Prelude.{Option, Some, Err}
 use Rattle.plain_model.specs.declared.Stop.{Stop}
 use Rattle.plain_model.specs.declared.Stop.TheVariants.{Words, ReadFault, WriteFault}
@@ -8,60 +8,33 @@ use Rattle.pmem_cli.specs.Turns.{StopsByCause}
 
 -- a count that stays has no fault
 pub CountsFault-none : (fault : Type 0) (before now : ℕ) → (fault → ⊥) → now ≡ before → CountsFault fault before now
-CountsFault-none fault before now none same = record {
-  kept = λ no. same;
-  failed = λ some. absurd (none some);
-  later = omega (arith, same);
-  once = omega (arith, same);
-}
+CountsFault-none fault before now none same = search rules
 
 -- what was answered by a fault counts it
 pub CountsFault-err : {T E : Type 0} (fault : Type 0) (before now : ℕ) (e : E) → fault → HasCause {T = T} before now (Err e) → CountsFault fault before now
-CountsFault-err fault before now e some cause = record {
-  kept = λ none. absurd (none some);
-  failed = λ some. cause.failed;
-  later = cause.later;
-  once = cause.once;
-}
+CountsFault-err fault before now e some cause = search rules
 
 -- the same fault in other words, from a count that was the same before
 pub CountsFault-map : (fault other : Type 0) (before between now : ℕ) → (fault → other) → (other → fault) → between ≡ before
     → CountsFault fault between now → CountsFault other before now
-CountsFault-map fault other before between now there back same counts = record {
-  kept = λ none. counts.kept (λ some. none (there some)) ∙ same;
-  failed = λ some. rw same at (counts.failed (back some));
-  later = omega (arith, same, counts.later);
-  once = omega (arith, same, counts.once);
-}
+CountsFault-map fault other before between now there back same counts = search rules
 
 -- ---- stops
 
 -- nothing failed
 pub stops_unfailed : (stop : Option Stop) (reads reads_now writes writes_now : ℕ) → stop ≢ Some ReadFault → stop ≢ Some WriteFault → stop ≢ Some Words
     → reads_now ≡ reads → writes_now ≡ writes → StopsByCause stop reads reads_now writes writes_now
-stops_unfailed stop reads reads_now writes writes_now read write words reads_kept writes_kept = record {
-  reads = CountsFault-none (stop ≡ Some ReadFault) reads reads_now read reads_kept;
-  writes = CountsFault-none (stop ≡ Some WriteFault) writes writes_now write writes_kept;
-  words = words;
-}
+stops_unfailed stop reads reads_now writes writes_now read write words reads_kept writes_kept = search rules
 
 -- a pull failed
 pub stops_unread : {T E : Type 0} (reads reads_now writes writes_now : ℕ) (e : E) → HasCause {T = T} reads reads_now (Err e) → writes_now ≡ writes
     → StopsByCause (Some ReadFault) reads reads_now writes writes_now
-stops_unread reads reads_now writes writes_now e cause kept = record {
-  reads = CountsFault-err (Some ReadFault ≡ Some ReadFault) reads reads_now e refl cause;
-  writes = CountsFault-none (Some ReadFault ≡ Some WriteFault) writes writes_now (λ same. cc) kept;
-  words = λ same. cc;
-}
+stops_unread reads reads_now writes writes_now e cause kept = search rules
 
 -- a push failed
 pub stops_unwritten : {T E : Type 0} (reads reads_now writes writes_now : ℕ) (e : E) → reads_now ≡ reads → HasCause {T = T} writes writes_now (Err e)
     → StopsByCause (Some WriteFault) reads reads_now writes writes_now
-stops_unwritten reads reads_now writes writes_now e kept cause = record {
-  reads = CountsFault-none (Some WriteFault ≡ Some ReadFault) reads reads_now (λ same. cc) kept;
-  writes = CountsFault-err (Some WriteFault ≡ Some WriteFault) writes writes_now e refl cause;
-  words = λ same. cc;
-}
+stops_unwritten reads reads_now writes writes_now e kept cause = search rules
 
 -- only the sink was used since the counts stood so
 pub stops_after : (stop : Option Stop) (reads reads_now writes writes_now : ℕ) → StopsByCause stop 0 0 writes writes_now → reads_now ≡ reads

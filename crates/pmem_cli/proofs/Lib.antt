@@ -14,6 +14,7 @@ pub mod WordLemmas
 pub mod SampleLemmas
 pub mod ReplayLemmas
 pub mod Untampering
+pub mod StepSums
 pub mod StatusLemmas
 pub mod PromptLemmas
 pub mod Completing

@@ -1,5 +1,6 @@
 -- Texts that were printed one after the other.
-use Rattle.std.proofs.Common.{◌∙◌, List, ℕ, [], ◌++◌, sym, ap, append_assoc, append-nil}
+use Rattle.std.proofs.Common.{arith, ◌∙◌, List, ℕ, [], ◌++◌, sym, ap, append_assoc, append-nil}
+use Rattle.std.proofs.lemmas.Grind.{common_steps}
 use Rattle.std.specs.Prelude.{Option}
 use Rattle.std.specs.Io.KnownBytes.{Appends}
 use Rattle.std.proofs.KnownBytes.{Appends-nil, Appends-trans}
@@ -23,23 +24,11 @@ pub Prints-front : (a b : Output) (s : List ℕ) → Prints a b s → PrintsFron
 Prints-front a b s printed = record { done = printed.done; rest = b.waiting; cut = printed.in_order; appended = printed.appended }
 
 pub PrintsFront-trans : (a b c : Output) (s t : List ℕ) → Prints a b s → PrintsFront b c t → PrintsFront a c (s ++ t)
-PrintsFront-trans a b c s t first second = record {
-  done = first.done ++ second.done;
-  rest = second.rest;
-  cut =
-      sym (append_assoc a.waiting s t) ∙ ap (λ l. l ++ t) first.in_order ∙ append_assoc first.done b.waiting t
-      ∙ ap (λ l. first.done ++ l) second.cut ∙ sym (append_assoc first.done second.done second.rest);
-  appended = Appends-trans a.put b.put c.put first.done second.done first.appended second.appended;
-}
+PrintsFront-trans a b c s t first second = grind (arith, common_steps)
 
 -- more text may follow
 pub PrintsFront-more : (a b : Output) (s t : List ℕ) → PrintsFront a b s → PrintsFront a b (s ++ t)
-PrintsFront-more a b s t front = record {
-  done = front.done;
-  rest = front.rest ++ t;
-  cut = sym (append_assoc a.waiting s t) ∙ ap (λ l. l ++ t) front.cut ∙ append_assoc front.done front.rest t;
-  appended = front.appended;
-}
+PrintsFront-more a b s t front = grind (arith, common_steps)
 
 -- where nothing waited, and nothing waits, all was put
 pub Prints-whole : (p q : Option (List ℕ)) (s : List ℕ) → Prints (with_waiting p []) (with_waiting q []) s → Appends p q s

@@ -1,5 +1,5 @@
 -- Replies that were put before the source was pulled.
-use Rattle.std.proofs.Common.{◌≡◌, ◌≢◌, ◌∙◌, ℕ, List, [], ◌++◌, refl, sym, ap, subst, append_assoc, append-nil, inl, inr}
+use Rattle.std.proofs.Common.{rules, ◌≡◌, ◌≢◌, ◌∙◌, ℕ, List, [], ◌++◌, refl, sym, ap, subst, append_assoc, append-nil, inl, inr}
 use Rattle.std.specs.Prelude.{◌⊎◌, Option, None, Some, Contains}
 use Rattle.std.specs.List.{flat_map}
 use Rattle.std.specs.Io.KnownBytes.{Appends, Consumes, prepend_known}
@@ -32,13 +32,7 @@ use Rattle.pmem_cli.proofs.StandingLemmas.{new_setup, new_machine}
 pub asked_in : {T : Type 0} (first mid last : T) (left remembered : T → Option (List ℕ)) (ahead : Option (List ℕ)) (at_hand part : List ℕ)
     → Consumes ahead (prepend_known at_hand (left mid)) part → IsWithin part → (mid ≡ first) ⊎ HasAskedIn ahead (remembered mid)
     → (last ≡ mid) ⊎ ((at_hand ≡ []) × Recalls (remembered last) (left mid)) → (last ≡ first) ⊎ HasAskedIn ahead (remembered last)
-asked_in first mid last left remembered ahead at_hand part taken within (inl kept) (inl same) = inl (same ∙ kept)
-asked_in first mid last left remembered ahead at_hand part taken within (inr asked) (inl same) = inr (rw same asked)
-asked_in first mid last left remembered ahead at_hand part taken within before (inr pulled) =
-    inr (elim (remembered last) as (λ told. Recalls told (left mid) → HasAskedIn ahead told) [
-      | None ↦ λ recalls. tt
-      | Some behind ↦ λ recalls. (part, (rw (pulled.0, recalls) at taken), within)
-    ] pulled.1)
+asked_in first mid last left remembered ahead at_hand part taken within v10 v11 = search rules
 
 -- where a pull may be made, nothing waits
 pub asked_quietly : {T : Type 0} (before now : T) (at_hand waiting : List ℕ) (P : Type 0) → Contains at_hand 10 ⊎ (waiting ≡ []) → (Contains at_hand 10 → now ≡ before)
@@ -78,11 +72,7 @@ puts_more p put later text more (first, appended) grown = (
 -- the last line of an ending is put, if anything
 pub ending_appends : (ending : Ending) (p : Output) (after : Option (List ℕ)) → (ending ≡ Stopped WriteFault → after ≡ p.put)
     → (ending ≢ Stopped WriteFault → PrintsFront p (with_waiting after []) (ending_text ending)) → (more : List ℕ) × Appends p.put after more
-ending_appends ending p after kept front =
-    elim (is_write_ending ending) [
-      | inl same ↦ ([], subst (λ put. Appends p.put put []) (sym (kept same)) (Appends-nil p.put))
-      | inr other ↦ ((front other).done, (front other).appended)
-    ]
+ending_appends ending p after kept front = search rules
 
 -- ---- turns
 

@@ -1,5 +1,5 @@
 -- Runs grow at their end.
-use Rattle.std.proofs.Common.{◌≡◌, ◌∙◌, ◌+◌, ◌<◌, ◌≤◌, ℕ, List, [], ◌∷◌, ◌++◌, length, refl, sym, ap, arith, append_assoc, length-append, Bool, true, false, subst, lt-ltb, inl, inr}
+use Rattle.std.proofs.Common.{rules, ◌≡◌, ◌∙◌, ◌+◌, ◌<◌, ◌≤◌, ℕ, List, [], ◌∷◌, ◌++◌, length, refl, sym, ap, arith, append_assoc, length-append, Bool, true, false, subst, lt-ltb, inl, inr}
 use Rattle.std.specs.Prelude.{All, Option, map, IsOk, IsTrue, Ok, Err, Some, None, nat_lt}
 use Rattle.std.specs.List.{flat_map}
 use Rattle.std.proofs.KnownBytes.{Consumes-trans}
@@ -40,21 +40,11 @@ IsRunFrom-append setup machine ls ms xs ys first second = record {
 }
 
 pub IsRunFrom-nil : (setup : Setup) (machine : Machine) → IsRunFrom setup machine [] []
-IsRunFrom-nil setup machine = record {
-  in_grammar = All-nil (λ line. IsOk (reading_of line));
-  commands_in_order = refl;
-  answered = tt;
-  none_shown = All-nil (λ step. is_shown step.reply.answer ≡ false);
-}
+IsRunFrom-nil setup machine = search rules
 
 -- a line without a command
 pub IsRunFrom-skipped : (setup : Setup) (machine : Machine) (line : List ℕ) → reading_of line ≡ Ok None → IsRunFrom setup machine (line ∷ []) []
-IsRunFrom-skipped setup machine line is = record {
-  in_grammar = All-cons (λ line. IsOk (reading_of line)) line [] (rw is refl) (All-nil (λ line. IsOk (reading_of line)));
-  commands_in_order = rw is refl;
-  answered = tt;
-  none_shown = All-nil (λ step. is_shown step.reply.answer ≡ false);
-}
+IsRunFrom-skipped setup machine line is = search rules
 
 -- a line's command with its reply
 pub IsRunFrom-step : (setup : Setup) (machine : Machine) (line : List ℕ) (step : Step)

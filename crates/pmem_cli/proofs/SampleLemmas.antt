@@ -1,5 +1,6 @@
 -- The run of a sample trace, command by command.
-use Rattle.std.proofs.Common.{◌≡◌, ◌∙◌, ◌+◌, ℕ, suc, true, false, List, [], ◌∷◌, ◌++◌, refl, sym, ap, subst, arith, append_assoc, inl, inr}
+use Rattle.std.proofs.lemmas.Grind.{common_steps}
+use Rattle.std.proofs.Common.{rules, ◌≡◌, ◌∙◌, ◌+◌, ℕ, suc, true, false, List, [], ◌∷◌, ◌++◌, refl, sym, ap, subst, arith, append_assoc, inl, inr}
 use Rattle.std.specs.Prelude.{◌⊎◌, map}
 use Rattle.std.proofs.lemmas.List.{map-append}
 use Rattle.std.proofs.lemmas.List.Elements.{All-append, All-cons, All-nil}
@@ -42,21 +43,13 @@ sample_is seed count = refl
 -- ---- one command after the other
 
 pub HasCome-nil : (s : Standing) (commands : List Command) → s.world.shown ≡ false → HasCome s s commands commands []
-HasCome-nil s commands running = record {
-  in_order = refl;
-  answered = tt;
-  none_shown = All-nil (λ step. is_shown step.reply.answer ≡ false);
-  on = StandingAfter-nil s running;
-}
+HasCome-nil s commands running = search rules
 
 -- the next command is the first of those left
 pub come_first : (s t : Standing) (commands : List Command) (steps : List Step) (state number left m : ℕ) (command : Command) → left ≡ m + 1
     → command ≡ sample_command number (word_at state) → HasCome s t commands (commands_from state number left ++ Do.Stat ∷ []) steps
     → HasCome s t commands (command ∷ (commands_from (state_after_word state) (number + 1) m ++ Do.Stat ∷ [])) steps
-come_first s t commands steps state number left m command more is come =
-    let next = first_command state number left m (omega (arith, more)) in
-    subst (λ (c : Command). HasCome s t commands (c ∷ (commands_from (state_after_word state) (number + 1) m ++ Do.Stat ∷ [])) steps) (sym is)
-    (subst (λ (cs : List Command). HasCome s t commands (cs ++ Do.Stat ∷ []) steps) next come)
+come_first s t commands steps state number left m command more is come = search rules
 
 -- only the counts are left
 pub come_last : (s t : Standing) (commands : List Command) (steps : List Step) (state number left : ℕ) → left ≡ 0
@@ -67,11 +60,7 @@ come_last s t commands steps state number left none come =
 -- one more answered, in the order of the commands
 one_more_in_order : (commands behind : List Command) (command : Command) (steps : List Step) (step : Step) → map (λ step. step.command) steps ++ command ∷ behind ≡ commands
     → step.command ≡ command → map (λ step. step.command) (steps ++ step ∷ []) ++ behind ≡ commands
-one_more_in_order commands behind command steps step in_order asked =
-    ap (λ cs. cs ++ behind) (map-append (λ (step : Step). step.command) steps (step ∷ []))
-    ∙ append_assoc (map (λ step. step.command) steps) (step.command ∷ []) behind
-    ∙ ap (λ c. map (λ step. step.command) steps ++ c ∷ behind) asked
-    ∙ in_order
+one_more_in_order commands behind command steps step in_order asked = grind (arith, common_steps)
 
 -- and legal after those before it
 one_more_answered : (s t : Standing) (steps : List Step) (step : Step) → AreAnswered s.setup s.machine steps → StandingAfter s t steps → IsAnswered t.setup t.machine step
@@ -139,13 +128,7 @@ told-shown s commands answer p q reached shown printed =
 -- ---- over a new world
 
 pub HasRunSample-memory : (setup : Setup) (commands : List Command) (p : Output) → HasRunSample setup commands Memory p p
-HasRunSample-memory setup commands p = record {
-  steps = [];
-  text = [];
-  ends = (refl, refl);
-  replayed = inl refl;
-  said = record { whole = λ told. Prints-nil p; front = Prints-front p p [] (Prints-nil p) };
-}
+HasRunSample-memory setup commands p = search rules
 
 pub HasRunSample-told : (f : List ℕ → Formulas) (shape : Shape) (keys : List ℕ) (world : WorldState) (commands : List Command) (stop : Stop) (p q : Output)
     → IsNewWorld (record { shape = shape; formulas = f keys }) world → world.keys ≡ keys → HasToldSample stop (standing_of f world) commands p q

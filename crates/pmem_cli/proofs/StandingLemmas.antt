@@ -1,5 +1,5 @@
 -- A run goes on by the world's steps.
-use Rattle.std.proofs.Common.{◌≡◌, ◌∙◌, ℕ, false, List, [], ◌∷◌, ◌++◌, refl, sym, ap, subst}
+use Rattle.std.proofs.Common.{rules, ◌≡◌, ◌∙◌, ℕ, false, List, [], ◌∷◌, ◌++◌, refl, sym, ap, subst}
 use Rattle.pmem_base.specs.declared.commands.Command.{Command}
 use Rattle.pmem_base.specs.declared.answers.Mark.{Mark}
 use Rattle.pmem_base.specs.Shape.{Shape}
@@ -11,7 +11,7 @@ use Rattle.plain_model.specs.Answers.{is_shown}
 use Rattle.plain_model.specs.Run.{Machine, Step, start, machine_after, machine_after_all}
 use Rattle.plain_model.proofs.Views.{view_after_marks-append}
 use Rattle.pmem_replay.specs.World.{WorldState, setup_of_world, view_in}
-use Rattle.pmem_replay.specs.Stepped.{IsNewWorld, HasStepped}
+use Rattle.pmem_replay.specs.Stepped.{IsNewWorld, HasStepped, AddsFewSteps}
 use Rattle.pmem_cli.specs.Standing.{Standing, standing_of, AreStepped, StandingAfter}
 use Rattle.pmem_cli.specs.Turns.{HasReplied}
 
@@ -53,27 +53,23 @@ same_machine s t v w states views = rw (states, views) refl
 view_more : (g h : Shape) (old new more : List Mark) → h ≡ g → new ≡ old ++ more → view_of h new ≡ view_after_marks (view_of g old) more
 view_more g h old new more shape marks = rw (shape, marks) (view_after_marks-append (start_view g) old more)
 
-pub StandingAfter-step : (f : List ℕ → Formulas) (old new : WorldState) (step : Step) → HasStepped (setup_of_world f old) old step.command step.reply new → is_shown step.reply.answer ≡ false
+pub StandingAfter-step : (f : List ℕ → Formulas) (old new : WorldState) (step : Step) → HasStepped (setup_of_world f old) old step.command step.reply new → AddsFewSteps old new
+    → is_shown step.reply.answer ≡ false
     → StandingAfter (standing_of f old) (standing_of f new) (step ∷ [])
 unfolding machine_after
-StandingAfter-step f old new step stepped hidden = record {
+StandingAfter-step f old new step stepped few hidden = record {
   setup = rw (stepped.same_shape, stepped.same_keys) refl;
   machine =
       same_machine new.state _ (view_in (setup_of_world f new) new) _ (stepped.state hidden)
       (view_more old.shape new.shape old.ledger.marks new.ledger.marks step.reply.marks stepped.same_shape stepped.marks);
   running = stepped.shown ∙ hidden;
-  chain = (new, stepped, refl);
+  chain = (new, record { stepped = stepped; few = few }, refl);
 }
 
 -- the world's reply as the command's
-pub HasReplied-step : (f : List ℕ → Formulas) (old new : WorldState) (command : Command) (reply : Reply) → HasStepped (setup_of_world f old) old command reply new
+pub HasReplied-step : (f : List ℕ → Formulas) (old new : WorldState) (command : Command) (reply : Reply) → HasStepped (setup_of_world f old) old command reply new → AddsFewSteps old new
     → HasReplied (standing_of f old) command (record { command = command; reply = reply })
-HasReplied-step f old new command reply stepped = record {
-  asked = refl;
-  answered = record { legal = stepped.legal; fits = stepped.fits };
-  next = new;
-  stepped = stepped;
-}
+HasReplied-step f old new command reply stepped few = search rules
 
 -- ---- a new world
 

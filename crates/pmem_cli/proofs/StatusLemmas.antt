@@ -1,11 +1,12 @@
 -- What a run's status says, by its stop and its last line.
-use Rattle.std.proofs.Common.{◌≡◌, ◌≢◌, ◌∙◌, ◌+◌, ◌≤◌, ℕ, List, [], ◌++◌, refl, sym, ap, subst, inl, inr, append-nil, arith}
+use Rattle.std.proofs.lemmas.Grind.{common_steps}
+use Rattle.std.proofs.Common.{rules, ◌≡◌, ◌≢◌, ◌∙◌, ◌+◌, ◌≤◌, ℕ, List, [], ◌++◌, refl, sym, ap, subst, inl, inr, append-nil, arith}
 use Rattle.std.proofs.lemmas.Bool.{cases_eq}
 use Rattle.std.specs.Prelude.{◌⊎◌, Option, None, Some, IfSome}
 use Rattle.suite.specs.Setup.{Setup}
 use Rattle.plain_model.specs.declared.Stop.{Stop}
 use Rattle.plain_model.specs.declared.Stop.TheVariants.{Finished, ReadFault, WriteFault}
-use Rattle.plain_model.specs.Run.{Ends, steps_text, stop_text}
+use Rattle.plain_model.specs.Run.{Ends, start, steps_text, stop_text}
 use Rattle.pmem_base.specs.declared.commands.Command.{Command}
 use Rattle.std.specs.Io.KnownBytes.{Appends}
 use Rattle.pmem_cli.specs.Causes.{CountsFault}
@@ -20,7 +21,9 @@ use Rattle.pmem_cli.specs.declared.ending.Ending.{Ending}
 use Rattle.pmem_cli.specs.declared.ending.Ending.TheVariants.{Stopped}
 use Rattle.pmem_cli.specs.Endings.{ending_text, ending_status}
 use Rattle.pmem_cli.specs.HasRun.{HasRun, HasPut, HasSampled, HasTold, TaskOutcome, TextOutcome, HasReplayed, HasRunSample, CheckEnds, HasEnded}
+use Rattle.pmem_cli.specs.Sums.{AreStepSums}
 use Rattle.pmem_cli.specs.Untampered.{IsUntampered}
+use Rattle.pmem_cli.proofs.StepSums.{summed}
 use Rattle.pmem_cli.proofs.PrintLemmas.{Prints-trans, Prints-whole, PrintsFront-trans, PrintsFront-more}
 use Rattle.pmem_cli.proofs.RunLemmas.{ends_answered}
 use Rattle.pmem_cli.proofs.Untampering.{untampered}
@@ -48,24 +51,11 @@ pub record IsFinished (ending : Ending) (status : ℕ) (between : Output) (after
 -- what was said, and the stop's line after it
 said_whole : (stop : Stop) (status : ℕ) (before after : Option (List ℕ)) (between : Output) (text : List ℕ) → HasSaid stop (with_waiting before []) between text
     → IsFinished (Stopped stop) status between after → status ≢ 4 → Appends before after (text ++ stop_text stop)
-said_whole stop status before after between text said finished told =
-    let first = with_waiting before [] in
-    let last = with_waiting after [] in
-    Prints-whole before after (text ++ stop_text stop)
-    (Prints-trans first between last text (stop_text stop) (said.whole (λ same. told (finished.fault (ap Stopped same)))) (finished.whole told finished.good))
+said_whole stop status before after between text said finished told = grind (arith, common_steps)
 
 said_front : (stop : Stop) (status : ℕ) (before after : Option (List ℕ)) (between : Output) (text : List ℕ) → HasSaid stop (with_waiting before []) between text
     → IsFinished (Stopped stop) status between after → AppendsFront before after (text ++ stop_text stop)
-said_front stop status before after between text said finished =
-    let first = with_waiting before [] in
-    let last = with_waiting after [] in
-    elim (is_write_fault stop) [
-      | inl same ↦
-          let at_fault : PrintsFront first last text =
-          subst (λ (put : Option (List ℕ)). PrintsFront first (with_waiting put []) text) (sym (finished.kept (ap Stopped same))) said.front in
-          PrintsFront-more first last text (stop_text stop) at_fault
-      | inr other ↦ PrintsFront-trans first between last text (stop_text stop) (said.whole other) (finished.front (λ same. other (cc same)))
-    ]
+said_front stop status before after between text said finished = grind (arith, common_steps)
 
 run_done : (setup : Setup) (stop : Stop) (status : ℕ) (pull_failed : Type 0) (trace left before after : Option (List ℕ)) (between : Output)
     → HasReplayed setup stop trace left (with_waiting before []) between → (Stopped stop ≡ Stopped ReadFault → pull_failed) → IsFinished (Stopped stop) status between after
@@ -78,6 +68,9 @@ run_done setup stop status pull_failed trace left before after between run read 
   untampered =
       IfSome-map trace (λ bytes. Ends setup stop bytes left run.steps) (λ bytes. IsUntampered setup run.steps)
       (λ bytes is ends. untampered setup run.steps (ends_answered stop setup bytes left run.steps ends)) run.ends;
+  summed =
+      IfSome-map trace (λ bytes. Ends setup stop bytes left run.steps) (λ bytes. AreStepSums setup (start setup) run.steps)
+      (λ bytes is ends. summed stop setup bytes left run.steps ends run.replayed) run.ends;
   read = λ same. read (ap Stopped same);
   its_status = finished.its_status;
   whole = said_whole stop status before after between (steps_text run.steps) run.said finished;
@@ -100,34 +93,12 @@ sample_done setup commands stop status before after between run finished = recor
 put_done : (text : List ℕ) (stop : Stop) (status : ℕ) (before after : Option (List ℕ)) (between : Output)
     → TextOutcome stop (with_waiting before []) between text → IsFinished (Stopped stop) status between after → HasPut text status before after
 unfolding stop_text
-put_done text Finished status before after between made finished =
-    let first = with_waiting before [] in
-    let last = with_waiting after [] in
-    let good : Finished ≢ WriteFault = λ same. cc in
-    let told : Stopped Finished ≢ Stopped WriteFault = λ same. cc in record {
-      its_status = finished.its_status;
-      whole = λ sent. Prints-whole before after text (rw append-nil at (Prints-trans first between last text [] (made.said.whole good) (finished.whole sent finished.good)));
-      front = rw append-nil at (PrintsFront-trans first between last text [] (made.said.whole good) (finished.front told));
-    }
-put_done text WriteFault status before after between made finished = record {
-  its_status = λ sent. absurd (sent (finished.fault refl));
-  whole = λ sent. absurd (sent (finished.fault refl));
-  front = subst (λ (put : Option (List ℕ)). PrintsFront (with_waiting before []) (with_waiting put []) text) (sym (finished.kept refl)) made.said.front;
-}
-put_done text stop status before after between made finished = absurd (elim made.its_stop [ inl same ↦ cc same | inr same ↦ cc same ])
+put_done text v1 status before after between made finished = grind (arith, common_steps)
 
 told_done : (choices : Choices) (ending : Ending) (status : ℕ) (pull_failed : Type 0) (trace left before after : Option (List ℕ)) (between : Output)
     → CheckEnds choices ending trace left (with_waiting before []) between → (ending ≡ Stopped ReadFault → pull_failed) → IsFinished ending status between after
     → HasTold choices status pull_failed trace left before after
-told_done choices ending status pull_failed trace left before after between ended read finished =
-    let at_start = subst (λ (from : Output). IsFinished ending status from after) ended.kept finished in record {
-      ending = ending;
-      checked = ended.checked;
-      read = read;
-      its_status = finished.its_status;
-      whole = λ sent. Prints-whole before after (ending_text ending) (at_start.whole sent at_start.good);
-      front = at_start.front ended.write;
-    }
+told_done choices ending status pull_failed trace left before after between ended read finished = search rules
 
 -- what was asked for is done
 pub TaskOutcome-finished : (task : Task) (ending : Ending) (status : ℕ) (pull_failed : Type 0) (trace left before after : Option (List ℕ)) (between : Output)
@@ -158,26 +129,14 @@ is_write_ending ending = inr (λ same. cc)
 -- a failed pull
 pub pull_told : (ending : Ending) (status before now : ℕ) → CountsFault (ending ≡ Stopped ReadFault) before now → (status ≢ 4 → status ≡ ending_status ending) → now ≢ before
     → (status ≡ 3) ⊎ (status ≡ 4)
-pull_told ending status before now counts told changed =
-    elim (is_read_ending ending) [
-      | inl same ↦ elim (cases_eq status 4) [ inl four ↦ inr four | inr other ↦ inl (told other ∙ ap ending_status same) ]
-      | inr other ↦ absurd (changed (counts.kept other))
-    ]
+pull_told ending status before now counts told changed = search rules
 
 -- a failed push, before the last line or at it
 pub push_told : (ending : Ending) (status before between now : ℕ) → CountsFault (ending ≡ Stopped WriteFault) before between
     → (ending ≡ Stopped WriteFault → status ≡ 4) → (now ≢ between → (status ≡ 4) ⊎ (status ≡ 2)) → now ≢ before → (status ≡ 4) ⊎ (status ≡ 2)
-push_told ending status before between now counts told failed changed =
-    elim (is_write_ending ending) [
-      | inl same ↦ inl (told same)
-      | inr other ↦ failed (λ same. changed (same ∙ counts.kept other))
-    ]
+push_told ending status before between now counts told failed changed = search rules
 
 -- and no other after it
 pub push_once : (ending : Ending) (before between now : ℕ) → CountsFault (ending ≡ Stopped WriteFault) before between → (ending ≡ Stopped WriteFault → now ≡ between)
     → now ≤ between + 1 → now ≤ before + 1
-push_once ending before between now counts kept once =
-    elim (is_write_ending ending) [
-      | inl same ↦ (let still : now ≡ between = kept same in omega (arith, still, counts.once))
-      | inr other ↦ (let still : between ≡ before = counts.kept other in omega (arith, still, once))
-    ]
+push_once ending before between now counts kept once = search rules

@@ -1,5 +1,5 @@
 -- Turns of a run, one after the other.
-use Rattle.std.proofs.Common.{◌≤◌, ◌≡◌, ◌∙◌, ◌+◌, ◌<◌, ℕ, List, [], ◌∷◌, ◌++◌, length, false, refl, sym, ap, subst, arith, append-nil, length-append, inl}
+use Rattle.std.proofs.Common.{rules, ◌≤◌, ◌≡◌, ◌∙◌, ◌+◌, ◌<◌, ℕ, List, [], ◌∷◌, ◌++◌, length, false, refl, sym, ap, subst, arith, append-nil, length-append, inl}
 use Rattle.std.specs.Prelude.{Option, None, Some, IfSome, Ok}
 use Rattle.std.specs.List.{flat_map}
 use Rattle.std.specs.Io.KnownBytes.{Consumes, Keeps, IsAtEnd, prepend_known}
@@ -54,19 +54,7 @@ HasAnswered-skipped s a line running is = record { run = IsRunFrom-skipped s.set
 -- a line's command was answered, or the run stops at it
 pub AnswersLine-asked : (stop : Option Stop) (line : List ℕ) (number : ℕ) (command : Command) (s t : Standing) (a b : Output)
     → reading_of line ≡ Ok (Some command) → AnswersCommand stop command s t a b → AnswersLine stop line number s t a b
-AnswersLine-asked None line number command s t a b is answered =
-    let (step, replied, hidden, on, printed) = answered in (
-      step ∷ [],
-      record {
-        run = IsRunFrom-step s.setup s.machine line step (is ∙ ap (λ c. Ok (Some c)) (sym replied.asked)) replied.answered hidden;
-        on = on;
-        printed = rw append-nil printed;
-      },
-    )
-AnswersLine-asked (Some Memory) line number command s t a b is answered = (command, is, answered)
-AnswersLine-asked (Some WriteFault) line number command s t a b is answered = (command, is, answered)
-AnswersLine-asked (Some Shown) line number command s t a b is answered = (command, is, answered)
-AnswersLine-asked (Some stop) line number command s t a b is answered = absurd answered
+AnswersLine-asked v0 line number command s t a b is answered = search rules
 
 pub HasServed-nil : (a : Option (List ℕ)) (s : Standing) (p : Output) → s.world.shown ≡ false → HasServed a a s s p p [] []
 HasServed-nil a s p running = record { taken = Consumes-nil a; within = All-nil IsWithin; answered = HasAnswered-nil s p running }
@@ -104,14 +92,7 @@ HasStopped-after left a b s t p q r ls xs stop k served stopped = record {
 -- a stop at which nothing is printed
 pub HasStopped-quiet : (stop : Stop) (a left : Option (List ℕ)) (s : Standing) (p : Output) (k : ℕ)
     → IfSome a (λ bytes. EndsFrom s.setup s.machine k stop bytes left []) → HasStopped stop a left s p p k
-HasStopped-quiet stop a left s p k ends = record {
-  steps = [];
-  ends = ends;
-  front = Prints-front p p [] (Prints-nil p);
-  whole = λ told. Prints-nil p;
-  last = s.world;
-  chain = refl;
-}
+HasStopped-quiet stop a left s p k ends = search rules
 
 -- the sink failed at bytes that waited
 pub HasStopped-unput : (a left : Option (List ℕ)) (s : Standing) (p q : Output) (k : ℕ) → k ≤ line_limit → PrintsFront p q [] → HasStopped WriteFault a left s p q k
@@ -244,10 +225,7 @@ HasStopped-long a b left s p part served number taken within long numbered limit
 -- nothing is ahead
 pub HasStopped-end : (a b left : Option (List ℕ)) (s : Standing) (p : Output) (served : ℕ) → Consumes a b [] → IsAtEnd b → served ≤ line_limit → HasStopped Finished a left s p p served
 unfolding lines_of
-HasStopped-end a b left s p served taken end limit =
-    HasStopped-quiet Finished a left s p served
-    (Consumes-whole a b [] (λ bytes. EndsFrom s.setup s.machine served Finished bytes left []) taken end
-    (record { run = IsRunFrom-nil s.setup s.machine; counted = omega (arith, limit) }))
+HasStopped-end a b left s p served taken end limit = search rules
 
 unfinished_here : (a left : Option (List ℕ)) (s : Standing) (part : List ℕ) (served : ℕ) → Consumes a left part → IsWithin part → length part ≤ 1024 → served ≤ line_limit
     → (served ≡ line_limit → part ≡ []) → IfSome a (λ bytes. IsCutShortFrom s.setup s.machine served bytes left [])

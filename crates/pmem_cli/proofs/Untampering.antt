@@ -1,5 +1,5 @@
 -- Where nothing was tampered with, no reply is a refusal, and an exhibit is a twin.
-use Rattle.std.proofs.Common.{◌≡◌, ◌∙◌, ◌+◌, ◌<◌, ℕ, zero, suc, Bool, true, false, List, [], ◌∷◌, length, refl, sym, ap, subst, arith, inl, inr}
+use Rattle.std.proofs.Common.{rules, ◌≡◌, ◌∙◌, ◌+◌, ◌<◌, ℕ, zero, suc, Bool, true, false, List, [], ◌∷◌, length, refl, sym, ap, subst, arith, inl, inr}
 use Rattle.std.specs.Prelude.{◌⊎◌, ◌&&◌, ◌||◌, All, IsTrue, MatchOption, IfSome, Option, None, Some, unwrap_or, nat_lt, nat_le, if◌then◌else◌}
 use Rattle.std.proofs.lemmas.Bool.{true≢false, and_parts, ltb-true}
 use Rattle.std.proofs.lemmas.List.{length-set, length-replicate}
@@ -81,25 +81,13 @@ quiet-refl : (s : PlainState) → IsQuiet s s
 quiet-refl s = record { named = refl; hurt = λ a is. is; loose = λ none is. is }
 
 quiet-trans : (s t u : PlainState) → IsQuiet s t → IsQuiet t u → IsQuiet s u
-quiet-trans s t u first second = record {
-  named = second.named ∙ first.named;
-  hurt = λ a is. second.hurt a (first.hurt a is);
-  loose = λ none is. second.loose (ap has_flags first.named ∙ none) (first.loose none is);
-}
+quiet-trans s t u first second = search rules
 
 clean-quiet : (s t : PlainState) → IsQuiet s t → IsClean s → IsClean t
-clean-quiet s t quiet clean = record {
-  named = ap has_flags quiet.named ∙ clean.named;
-  hurt = λ a. quiet.hurt a (clean.hurt a);
-  loose = quiet.loose clean.named clean.loose;
-}
+clean-quiet s t quiet clean = search rules
 
 moves-quiet : (s t u : PlainState) → Moves s t → IsQuiet t u → Moves s u
-moves-quiet s t u moved quiet =
-    elim moved [
-      | inl first ↦ inl (quiet-trans s t u first quiet)
-      | inr tampered ↦ inr (record { place = tampered.place; inside = tampered.inside; named = quiet.named ∙ tampered.named })
-    ]
+moves-quiet s t u moved quiet = search rules
 
 quiet_if : (b : Bool) (s t u : PlainState) → IsQuiet s t → IsQuiet s u → IsQuiet s (if b then t else u)
 quiet_if true s t u first second = first
@@ -267,11 +255,7 @@ moves-after setup s view command reply long legal =
 -- ---- answers over a clean state
 
 tabled-unrefused : (answer : Answer) → IsTabled answer → IsUnrefusedAnswer answer
-tabled-unrefused (Say.Refused drained place steps) is = is
-tabled-unrefused (Say.NoCounter at steps) is = is
-tabled-unrefused (Say.WrongRoot kept found steps) is = is
-tabled-unrefused (Say.Shown exhibit) is = absurd is
-tabled-unrefused answer is = tt
+tabled-unrefused v0 is = search rules
 
 -- a refusal has a cause
 no_refusal : (setup : Setup) (s : PlainState) (command : Command) (place : Place) → IsClean s → IsRefusalCaused setup s command place → ⊥

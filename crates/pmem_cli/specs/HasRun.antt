@@ -21,6 +21,7 @@ use Rattle.pmem_cli.specs.Keys.{formulas_of, setup_chosen}
 use Rattle.pmem_cli.specs.Printed.{Output, AppendsFront}
 use Rattle.pmem_cli.specs.Sampled.{HasSaid, SampleEnds}
 use Rattle.pmem_cli.specs.Standing.{IsReplayed}
+use Rattle.pmem_cli.specs.Sums.{AreStepSums}
 use Rattle.pmem_cli.specs.Untampered.{IsUntampered}
 
 -- ---- at the end of the program
@@ -34,6 +35,7 @@ pub record HasRun (setup : Setup) (status : ℕ) (pull_failed : Type 0) (trace l
   pub ends : IfSome trace (λ bytes. Ends setup stop bytes left steps)
   pub replayed : IsReplayed setup steps
   pub untampered : IfSome trace (λ bytes. IsUntampered setup steps)
+  pub summed : IfSome trace (λ bytes. AreStepSums setup (start setup) steps)
   pub read : stop ≡ ReadFault → pull_failed
   pub its_status : status ≢ 4 → status ≡ status_of stop
   pub whole : status ≢ 4 → Appends put_before put_after (output_of steps stop)

@@ -12,5 +12,6 @@ pub mod Standing
 pub mod Turns
 pub mod Checked
 pub mod Untampered
+pub mod Sums
 pub mod Sampled
 pub mod HasRun

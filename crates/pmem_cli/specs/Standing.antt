@@ -4,7 +4,7 @@ use Rattle.suite.specs.Formulas.{Formulas}
 use Rattle.suite.specs.Setup.{Setup}
 use Rattle.plain_model.specs.Run.{Machine, Step, machine_after_all}
 use Rattle.pmem_replay.specs.World.{WorldState, setup_of_world, view_in}
-use Rattle.pmem_replay.specs.Stepped.{IsNewWorld, HasStepped}
+use Rattle.pmem_replay.specs.Stepped.{IsNewWorld, HasStepped, AddsFewSteps}
 
 -- what stays the same through the run, the plain machine, and the world that stands for it
 pub record Standing : Type 0 where
@@ -21,11 +21,16 @@ standing_of formulas_of world =
       world = world;
     }
 
+-- the world answered a command, in few persist steps
+pub record IsWorldStep (setup : Setup) (world : WorldState) (step : Step) (next : WorldState) : Type 0 where
+  pub stepped : HasStepped setup world step.command step.reply next
+  pub few : AddsFewSteps world next
+
 -- each of these commands was answered by the world that the ones before it left
 abbrev pub AreStepped : Setup → WorldState → List Step → WorldState → Type 0
 AreStepped setup world [] last = last ≡ world
 AreStepped setup world (step ∷ steps) last =
-    (next : WorldState) × HasStepped setup world step.command step.reply next × AreStepped setup next steps last
+    (next : WorldState) × IsWorldStep setup world step next × AreStepped setup next steps last
 
 -- a formatted world answered them, or none was made and none was answered
 abbrev pub IsReplayed : Setup → List Step → Type 0

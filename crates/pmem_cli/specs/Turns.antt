@@ -10,10 +10,9 @@ use Rattle.plain_model.specs.Grammar.{reading_of}
 use Rattle.plain_model.specs.Answers.{is_shown}
 use Rattle.plain_model.specs.Run.{Step, step_text, steps_text, takes_memory, IsAnswered, IsRunFrom, EndsFrom}
 use Rattle.pmem_replay.specs.World.{WorldState}
-use Rattle.pmem_replay.specs.Stepped.{HasStepped}
 use Rattle.pmem_cli.specs.Causes.{CountsFault}
 use Rattle.pmem_cli.specs.Printed.{Output, Prints, PrintsFront}
-use Rattle.pmem_cli.specs.Standing.{Standing, AreStepped, StandingAfter}
+use Rattle.pmem_cli.specs.Standing.{Standing, IsWorldStep, AreStepped, StandingAfter}
 
 -- These lines were answered by these replies, which were printed.
 pub record HasAnswered (before after : Standing) (from to : Output) (lines : List (List ℕ)) (steps : List Step) : Type 0 where
@@ -43,7 +42,7 @@ pub record HasReplied (before : Standing) (command : Command) (step : Step) : Ty
   pub asked : step.command ≡ command
   pub answered : IsAnswered before.setup before.machine step
   pub next : WorldState
-  pub stepped : HasStepped before.setup before.world step.command step.reply next
+  pub stepped : IsWorldStep before.setup before.world step next
 
 -- how one command was answered, or why the run stops at it
 abbrev pub AnswersCommand : Option Stop → Command → Standing → Standing → Output → Output → Type 0

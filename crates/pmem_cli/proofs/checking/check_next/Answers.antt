@@ -1,4 +1,4 @@
-use Rattle.std.proofs.Common.{◌≡◌, refl, arith}
+use Rattle.std.proofs.Common.{rules, ◌≡◌, refl, arith}
 use Rattle.plain_model.specs.declared.Stop.TheVariants.{ReadFault}
 use Rattle.pmem_cli.proofs.CheckLemmas.{ChecksNext-line, HasLooked-last, HasLooked-at_last, HasLooked-long, HasLooked-end, HasLooked-fault}
 use Rattle.pmem_cli.proofs.FaultLemmas.{CountsFault-none, CountsFault-err}
@@ -59,7 +59,4 @@ returns-in-Some-clause-reads g c =
     CountsFault-none _ _ _ (λ same. let is : c.in-Some.stop ≡ ReadFault = cc in rw is at c.in-Some.ensures) c.in-Ok-Last.ensures.cause.kept
 
 pub returns-in-Ok-Line-clause-pulls : goal.returns-in-Ok-Line-clause-pulls
-returns-in-Ok-Line-clause-pulls g c = record {
-  may_pull = λ none. (rw c.in-Ok-Line.field-0-is at c.in-Ok-Line.ensures.may_pull) refl;
-  in_time = c.in-Ok-Line.ensures.in_time;
-}
+returns-in-Ok-Line-clause-pulls g c = search rules

@@ -1,4 +1,4 @@
-use Rattle.std.proofs.Common.{◌≡◌, ◌∙◌, [], refl, ap, arith}
+use Rattle.std.proofs.Common.{rules, ◌≡◌, ◌∙◌, [], refl, ap, arith}
 use Rattle.std.specs.Prelude.{Some, false}
 use Rattle.std.specs.Io.KnownBytes.{prepend_known}
 use Rattle.std.proofs.KnownBytes.{prepend_known-nil, Consumes-nil, Consumes-kept}
@@ -10,11 +10,7 @@ use Rattle.pmem_cli.proofs.CheckLemmas.{HasLooked-after, HasLooked-fault, HasLoo
 use Rattle.pmem_cli.proofs.checking.look.Goals as goal
 
 pub lines-init : goal.lines-init
-lines-init g c = record {
-  looks = rw (c.new-reader.ensures, prepend_known-nil (g.S.Source.left c.args.trace.now)) (λ stop left after looked. looked);
-  kept = refl;
-  may_pull = λ held. held;
-}
+lines-init g c = search rules
 
 pub returns-in-Some-clause-looked : goal.returns-in-Some-clause-looked
 returns-in-Some-clause-looked g c =

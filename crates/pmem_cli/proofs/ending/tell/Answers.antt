@@ -1,4 +1,5 @@
-use Rattle.std.proofs.Common.{◌∙◌, [], subst, append-nil}
+use Rattle.std.proofs.Common.{arith, ◌∙◌, [], subst, append-nil}
+use Rattle.std.proofs.lemmas.Grind.{common_steps}
 use Rattle.pmem_cli.specs.Endings.{ending_text}
 use Rattle.pmem_cli.specs.Printed.{PrintsFront, Prints, with_waiting}
 use Rattle.std.proofs.lemmas.Result.{on_err_weaker, on_ok_weaker}
@@ -16,11 +17,4 @@ returns-clause-err g c =
     (λ (front : PrintsFront between to []). rw append-nil at (PrintsFront-trans from between to text [] printed front)) c.flush.ensures.err
 
 pub returns-clause-ok : goal.returns-clause-ok
-returns-clause-ok g c =
-    let from = with_waiting (g.K.Sink.put c.args.out.now) c.args.printer.now in
-    let between = with_waiting (g.K.Sink.put c.print.new.out) c.print.new.self in
-    let to = with_waiting (g.K.Sink.put c.flush.new.out) [] in
-    let text = ending_text c.args.ending in
-    let printed : Prints from between text = subst (Prints from between) (c.as_slice.ensures.value ∙ c.write_ending.ensures) c.in_ok-print.ensures.ok in
-    on_ok_weaker c.flush.result
-    (λ (more : Prints between to []). rw append-nil at (Prints-trans from between to text [] printed more)) (rw c.flush.ensures.emptied at c.flush.ensures.ok)
+returns-clause-ok g c = grind (arith, common_steps)

@@ -30,7 +30,7 @@ returns-then-is_shown-clause-reached g c =
     let before = c.commands.invariant in
     let more = one_more before.left (omega (arith, before.counted, c.commands-test.true)) in
     HasReached-of _ _ _ _ _ before.steps _ (come_first _ _ _ before.steps _ _ before.left more.0 _ more.1 c.next-command.ensures.command before.come)
-    (HasReplied-step g.U.Suite.formulas_of _ _ c.next-command.result _ c.in_ok-reply.ensures.stepped) (inl (sym c.is_shown.ensures ∙ c.if-is_shown.true))
+    (HasReplied-step g.U.Suite.formulas_of _ _ c.next-command.result _ c.in_ok-reply.ensures.stepped c.in_ok-reply.ensures.few) (inl (sym c.is_shown.ensures ∙ c.if-is_shown.true))
 
 pub commands-preserved : goal.commands-preserved
 commands-preserved g c =
@@ -40,7 +40,7 @@ commands-preserved g c =
     let come = come_first _ _ _ before.steps maker.state maker.number before.left more.0 c.next-command.result more.1 c.next-command.ensures.command before.come in
     let step : Step = record { command = c.next-command.result; reply = reply_in c.step.new.self c.in_ok-reply.reply } in
     let hidden = sym c.is_shown.ensures ∙ c.if-is_shown.false in
-    let on = StandingAfter-step g.U.Suite.formulas_of c.commands.world c.step.new.self step c.in_ok-reply.ensures.stepped hidden in
+    let on = StandingAfter-step g.U.Suite.formulas_of c.commands.world c.step.new.self step c.in_ok-reply.ensures.stepped c.in_ok-reply.ensures.few hidden in
     let small : (maker.number + 1) % 2 ^ 64 ≡ maker.number + 1 = mod-eq_of_lt (omega (arith, before.number, c.commands-test.true, c.ranges.count.fits)) in record {
       steps = before.steps ++ step ∷ [];
       left = more.0;
@@ -49,7 +49,7 @@ commands-preserved g c =
       running = on.running;
       come =
           rw (c.next-command.ensures.state, c.next-command.ensures.number, small)
-          (HasCome-next _ _ _ _ _ _ before.steps step come (HasReplied-step g.U.Suite.formulas_of _ _ _ _ c.in_ok-reply.ensures.stepped) hidden on);
+          (HasCome-next _ _ _ _ _ _ before.steps step come (HasReplied-step g.U.Suite.formulas_of _ _ _ _ c.in_ok-reply.ensures.stepped c.in_ok-reply.ensures.few) hidden on);
     }
 
 pub returns-clause-reached : goal.returns-clause-reached
@@ -57,4 +57,4 @@ returns-clause-reached g c =
     let before = c.commands.invariant in
     HasReached-of _ _ _ [] Do.Stat before.steps _
     (come_last _ _ _ before.steps _ _ before.left (omega (arith, before.counted, c.commands-test.false)) before.come)
-    (HasReplied-step g.U.Suite.formulas_of _ _ Do.Stat _ c.in_ok-reply-2.ensures.stepped) (inr refl)
+    (HasReplied-step g.U.Suite.formulas_of _ _ Do.Stat _ c.in_ok-reply-2.ensures.stepped c.in_ok-reply-2.ensures.few) (inr refl)

@@ -6,20 +6,20 @@ use Rattle.pmem_cli.proofs.FaultLemmas.{stops_unfailed, stops_unwritten}
 use Rattle.pmem_cli.proofs.session.answer_command.Goals as goal
 
 pub returns-in-Err-clause-answered : goal.returns-in-Err-clause-answered
-returns-in-Err-clause-answered g c = (_, HasReplied-step g.U.Suite.formulas_of _ _ _ _ c.in-Ok.ensures.stepped, c.in-Err.ensures.err)
+returns-in-Err-clause-answered g c = (_, HasReplied-step g.U.Suite.formulas_of _ _ _ _ c.in-Ok.ensures.stepped c.in-Ok.ensures.few, c.in-Err.ensures.err)
 
 pub returns-then-is_shown-clause-answered : goal.returns-then-is_shown-clause-answered
 returns-then-is_shown-clause-answered g c =
-    (_, HasReplied-step g.U.Suite.formulas_of _ _ _ _ c.in-Ok.ensures.stepped, sym c.is_shown.ensures ∙ c.if-is_shown.true, c.in-Ok-print_reply.ensures.ok)
+    (_, HasReplied-step g.U.Suite.formulas_of _ _ _ _ c.in-Ok.ensures.stepped c.in-Ok.ensures.few, sym c.is_shown.ensures ∙ c.if-is_shown.true, c.in-Ok-print_reply.ensures.ok)
 
 pub returns-else-is_shown-clause-answered : goal.returns-else-is_shown-clause-answered
 returns-else-is_shown-clause-answered g c =
     let step : Step = record { command = c.args.command.now; reply = reply_in c.step.new.self c.in-Ok.reply } in
     let hidden = sym c.is_shown.ensures ∙ c.if-is_shown.false in (
       step,
-      HasReplied-step g.U.Suite.formulas_of _ _ _ _ c.in-Ok.ensures.stepped,
+      HasReplied-step g.U.Suite.formulas_of _ _ _ _ c.in-Ok.ensures.stepped c.in-Ok.ensures.few,
       hidden,
-      StandingAfter-step g.U.Suite.formulas_of c.args.world.now c.step.new.self step c.in-Ok.ensures.stepped hidden,
+      StandingAfter-step g.U.Suite.formulas_of c.args.world.now c.step.new.self step c.in-Ok.ensures.stepped c.in-Ok.ensures.few hidden,
       c.in-Ok-print_reply.ensures.ok,
     )
 

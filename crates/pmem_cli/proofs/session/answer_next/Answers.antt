@@ -1,4 +1,4 @@
-use Rattle.std.proofs.Common.{[], arith, refl, inl}
+use Rattle.std.proofs.Common.{rules, [], arith, refl, inl}
 use Rattle.std.proofs.KnownBytes.{Consumes-nil, Consumes-kept}
 use Rattle.std.proofs.lemmas.List.Elements.{All-nil}
 use Rattle.pmem_cli.proofs.PromptLemmas.{asked_in, asked_quietly}
@@ -88,10 +88,7 @@ returns-in-Some-clause-cause g c = stops_after _ _ _ _ _ c.in-Some.ensures.cause
 -- ---- pulls
 
 pub returns-in-Ok-Line-clause-pulls : goal.returns-in-Ok-Line-clause-pulls
-returns-in-Ok-Line-clause-pulls g c = record {
-  may_pull = λ none. (rw c.in-Ok-Line.field-0-is at c.in-Ok-Line.ensures.may_pull) refl;
-  in_time = c.in-Ok-Line.ensures.in_time;
-}
+returns-in-Ok-Line-clause-pulls g c = search rules
 
 -- ---- what was put before a pull
 
