@@ -20,8 +20,8 @@ small_blur = record { shape = small_shape; formulas = blur }
 -- the device of zero lines whose seals and metadata are those of the view, with these shadow lines
 abbrev pub device_with : Setup → DeviceView → List Line → List Line → List Line
 device_with setup view metadata shadow =
-    map (sealed_line setup.formulas (start_state setup.shape) view) (range_with_len 0 256)
-    ++ map (λ n. sealed_tags setup.formulas (start_state setup.shape) view (4 * n)) (range_with_len 0 64)
+    map (sealed_line setup.formulas (start_state setup.shape).memory view) (range_with_len 0 256)
+    ++ map (λ n. sealed_tags setup.formulas (start_state setup.shape).memory view (4 * n)) (range_with_len 0 64)
     ++ metadata ++ shadow
 
 abbrev pub view_sealed : Setup → DeviceView

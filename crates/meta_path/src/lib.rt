@@ -6,8 +6,6 @@ mod faults;
 mod fetching;
 mod naming;
 mod renewal;
-#[cfg(test)]
-mod tests;
 mod writing;
 
 pub use faults::PathFault;

@@ -20,7 +20,7 @@ use Rattle.suite.specs.Formulas.{Formulas, cipher_of}
 use Rattle.split_counters.specs.Blocks.{packed, unpacked, IsStoredBlock}
 use Rattle.bonsai_tree.specs.Positions.{counter_position}
 use Rattle.suite.specs.Setup.{Setup}
-use Rattle.plain_model.specs.State.{PlainState, Reply, is_flagged, has_flags}
+use Rattle.plain_model.specs.State.{Memory, PlainState, Reply, is_flagged, has_flags}
 use Rattle.plain_model.specs.View.{DeviceView, OpenPage, counter_at, counter_block_of}
 use Rattle.plain_model.specs.Asked.{Moment, moment_of, marks_of_write, marks_of_writes, moment_after_writes, first_of, mark_of_turn}
 use Rattle.plain_model.specs.Bounds.{can_be_dirty, IsWithinBounds}
@@ -147,19 +147,19 @@ HasMarks f state view command reply = reply.marks ≡ []
 -- ---- what a peek shows
 
 -- memory's line a under its last counter
-abbrev pub sealed_line : Formulas → PlainState → DeviceView → ℕ → Line
-sealed_line f state view a = cipher_of f a (counter_at view a) (line_at state.memory a)
+abbrev pub sealed_line : Formulas → Memory → DeviceView → ℕ → Line
+sealed_line f memory view a = cipher_of f a (counter_at view a) (line_at memory a)
 
 -- the tag of its last seal
-abbrev pub sealed_tag : Formulas → PlainState → DeviceView → ℕ → List ℕ
-sealed_tag f state view a = f.tag_of a (counter_at view a) (sealed_line f state view a)
+abbrev pub sealed_tag : Formulas → Memory → DeviceView → ℕ → List ℕ
+sealed_tag f memory view a = f.tag_of a (counter_at view a) (sealed_line f memory view a)
 
 -- the tags of the four lines from a on
-abbrev pub sealed_tags : Formulas → PlainState → DeviceView → ℕ → Line
-sealed_tags f state view a =
+abbrev pub sealed_tags : Formulas → Memory → DeviceView → ℕ → Line
+sealed_tags f memory view a =
     line_of
-    (sealed_tag f state view a ++ sealed_tag f state view (a + 1)
-    ++ sealed_tag f state view (a + 2) ++ sealed_tag f state view (a + 3))
+    (sealed_tag f memory view a ++ sealed_tag f memory view (a + 1)
+    ++ sealed_tag f memory view (a + 2) ++ sealed_tag f memory view (a + 3))
 
 abbrev pub is_any_hurt : PlainState → ℕ → Bool
 is_any_hurt state a = list_any (is_flagged state.hurt) (range_with_len a 4)
@@ -167,12 +167,12 @@ is_any_hurt state a = list_any (is_flagged state.hurt) (range_with_len a 4)
 -- with power on, a data line that isn't hurt shows memory's line, sealed
 abbrev pub ShowsDataLine : Formulas → PlainState → DeviceView → ℕ → Line → Type 0
 ShowsDataLine f state view a shown =
-    state.power ≡ true → is_flagged state.hurt a ≡ false → shown ≡ sealed_line f state view a
+    state.power ≡ true → is_flagged state.hurt a ≡ false → shown ≡ sealed_line f state.memory view a
 
 -- with power on, the tag line of the data lines from a on, none of them hurt, shows their tags
 abbrev pub ShowsTagLine : Formulas → PlainState → DeviceView → ℕ → Line → Type 0
 ShowsTagLine f state view a shown =
-    state.power ≡ true → is_any_hurt state a ≡ false → shown ≡ sealed_tags f state view a
+    state.power ≡ true → is_any_hurt state a ≡ false → shown ≡ sealed_tags f state.memory view a
 
 -- with power on and nothing loose, a counter block's line that isn't named shows a stored block of
 -- its page, and where nothing is touched the true one

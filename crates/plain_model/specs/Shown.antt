@@ -14,7 +14,7 @@ use Rattle.pmem_base.specs.Lines.{line_at}
 use Rattle.suite.specs.Formulas.{cipher_of}
 use Rattle.collision_witness.specs.Exhibits.{IsExhibit}
 use Rattle.suite.specs.Setup.{Setup}
-use Rattle.plain_model.specs.State.{PlainState, Reply, has_flags}
+use Rattle.plain_model.specs.State.{Memory, PlainState, Reply, has_flags}
 use Rattle.plain_model.specs.View.{DeviceView, counter_at, view_after_marks, true_line}
 use Rattle.plain_model.specs.Answers.{decided_answer}
 use Rattle.plain_model.specs.Legal.{IsEngineLegal, state_at_turn}
@@ -49,20 +49,21 @@ pub record IsShownForged (setup : Setup) (state : PlainState) (view : DeviceView
 
 -- without tampering, the two counters fit the line's last seal: its cipher, tag and major, and
 -- minors of one window
-pub record IsTwinOfSeal (setup : Setup) (state : PlainState) (view : DeviceView)
+pub record IsTwinOfSeal (setup : Setup) (memory : Memory) (loss : ℕ) (view : DeviceView)
     (at major low high : ℕ) (cipher : Line) (tag : List ℕ) : Type 0 where
-  pub its_cipher : cipher ≡ sealed_line setup.formulas state view at
-  pub its_tag : tag ≡ sealed_tag setup.formulas state view at
+  pub its_cipher : cipher ≡ sealed_line setup.formulas memory view at
+  pub its_tag : tag ≡ sealed_tag setup.formulas memory view at
   pub its_major : major ≡ (counter_at view at).major
-  pub low_in_window : low / state.loss ≡ (counter_at view at).minor / state.loss
-  pub high_in_window : high / state.loss ≡ (counter_at view at).minor / state.loss
+  pub low_in_window : low / loss ≡ (counter_at view at).minor / loss
+  pub high_in_window : high / loss ≡ (counter_at view at).minor / loss
 
 -- a twin answers `on` alone
 pub record IsShownTwin (setup : Setup) (state : PlainState) (view : DeviceView)
     (command : Command) (at major low high : ℕ) (cipher : Line) (tag : List ℕ) : Type 0 where
   pub answers_on : command ≡ Do.On
   pub of_seal :
-      has_flags state.named ≡ false → IsTwinOfSeal setup state view at major low high cipher tag
+      has_flags state.named ≡ false
+      → IsTwinOfSeal setup state.memory state.loss view at major low high cipher tag
 
 -- what the run adds, by the kind of exhibit
 abbrev pub IsShownInRun : Setup → PlainState → DeviceView → Command → List Mark → Exhibit → Type 0

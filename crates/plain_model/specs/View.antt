@@ -1,6 +1,6 @@
 -- The device view: what the marks say of counters, of pages under re-encryption, and so of every
 -- true metadata line.
-use Rattle.std.specs.Prelude.{ℕ, zero, suc, ◌+◌, ◌-◌, ◌*◌, ◌==◌, nat_lt, Bool, false, not, List, [], ◌∷◌, ◌++◌, length, map, filter, find, replicate, slice_index_or, Option, Some, None, option_map, if◌then◌else◌, slice_set}
+use Rattle.std.specs.Prelude.{ℕ, zero, suc, ◌+◌, ◌-◌, ◌*◌, ◌==◌, ◌≡◌, ◌<◌, nat_lt, Bool, false, not, List, [], ◌∷◌, ◌++◌, length, map, filter, find, replicate, slice_index_or, Option, Some, None, option_map, unwrap_or, if◌then◌else◌, slice_set}
 use Rattle.std.specs.List.{list_any, range_with_len}
 use Rattle.pmem_base.specs.declared.lines.Line.{Line}
 use Rattle.pmem_base.specs.declared.lines.Ctr.{Ctr}
@@ -9,7 +9,7 @@ use Rattle.pmem_base.specs.declared.answers.Mark.TheVariants.{Begin, Seal}
 use Rattle.pmem_base.specs.Shape.{Shape}
 use Rattle.pmem_base.specs.Layout as layout
 use Rattle.pmem_base.specs.Layout.{page_of, index_in_page, level_start}
-use Rattle.pmem_base.specs.Lines.{xor_lines}
+use Rattle.pmem_base.specs.Lines.{line_at, zero_line, xor_lines}
 use Rattle.pmem_base.specs.Marks.{SealOf, last_seal}
 use Rattle.pmem_base.specs.Registers.{places_of_page}
 use Rattle.suite.specs.Formulas.{Formulas}
@@ -143,3 +143,16 @@ plain_of_seal f a seal = xor_lines seal.cipher (f.pad_of a seal.ctr)
 -- the plain line that line a was last sealed with
 abbrev pub plain_line : Formulas → List Mark → ℕ → Option Line
 plain_line f marks a = option_map (plain_of_seal f a) (last_seal marks a)
+
+-- plain memory: each line the plain line that it was last sealed with
+unfoldable pub plain_memory : Setup → List Mark → List Line
+plain_memory setup marks =
+    map (λ a. unwrap_or (plain_line setup.formulas marks a) zero_line)
+    (range_with_len 0 (layout.data_lines setup.shape))
+
+-- so many lines, each the plain line that it was last sealed with
+pub record IsMemoryOf (setup : Setup) (marks : List Mark) (memory : List Line) : Type 0 where
+  pub count : length memory ≡ layout.data_lines setup.shape
+  pub each :
+      (a : ℕ) → a < layout.data_lines setup.shape
+      → plain_line setup.formulas marks a ≡ Some (line_at memory a)

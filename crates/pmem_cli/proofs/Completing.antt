@@ -9,8 +9,12 @@ use Rattle.plain_model.specs.declared.Stop.TheVariants.{Finished, Words, Memory,
 use Rattle.plain_model.specs.Lines.{lines_of}
 use Rattle.plain_model.specs.Grammar.{reading_of}
 use Rattle.plain_model.specs.Run.{Step, Ends, status_of}
+use Rattle.pmem_base.specs.declared.commands.Kind.{Kind}
+use Rattle.trace_text.specs.Talks.{Sort, skipped, asked, faulty}
+use Rattle.trace_text.specs.Conversations.{Protocol, line_sort, TalkEnds}
 use Rattle.pmem_cli.specs.declared.options.Task.{Task}
 use Rattle.pmem_cli.specs.HasRun.{HasRun, TaskOutcome, IsInGrammar, IsRunThrough, IsComplete}
+use Rattle.pmem_cli.specs.Talked.{HasTalked, IsNoFault, IsInLanguage, IsTalkComplete}
 
 through_by : (stop : Stop) (setup : Setup) (status : ℕ) (trace : List ℕ) (left : Option (List ℕ)) (steps : List Step) → Ends setup stop trace left steps
     → status ≡ status_of stop → status ≢ 3 → status ≢ 4 → IsInGrammar trace → IsRunThrough status
@@ -39,3 +43,33 @@ pub complete : (task : Task) (status : ℕ) (trace left before after : Option (L
     → (status ≡ 3 → reads) → (status ≡ 4 → writes) → IsComplete task status trace (reads ⊎ writes)
 complete (Task.Run c) status trace left before after reads writes done read write = run_complete _ status trace left before after reads writes done read write
 complete task status trace left before after reads writes done read write = tt
+
+-- ---- a session's trace
+
+no_fault : (sort : Sort) (kind : Kind) → IsNoFault sort → sort ≡ faulty kind → ⊥
+no_fault (faulty other) kind none is = none
+no_fault skipped kind none is = absurd cc
+no_fault asked kind none is = absurd cc
+
+talk_through : {S X : Type 0} (p : Protocol S X) (first : S) (stop : Stop) (status : ℕ) (trace : List ℕ) (left : Option (List ℕ)) (xs : List X)
+    → TalkEnds p first 0 stop trace left xs → status ≡ status_of stop → status ≢ 3 → status ≢ 4 → IsInLanguage p trace → IsRunThrough status
+talk_through p first Finished status trace left xs ends is read write within = inl is
+talk_through p first Memory status trace left xs ends is read write within = inr (inr is)
+talk_through p first Words status trace left xs ends is read write within = absurd ends
+talk_through p first ReadFault status trace left xs ends is read write within = absurd (read is)
+talk_through p first WriteFault status trace left xs ends is read write within = absurd (write is)
+talk_through p first (Refused number kind) status trace left xs ends is read write within =
+    let none : IsNoFault (line_sort p ends.line) =
+    All-middle (λ line. IsNoFault (line_sort p line)) ends.before ends.line ends.behind (subst (All (λ line. IsNoFault (line_sort p line))) ends.cut within.0) in
+    absurd (no_fault (line_sort p ends.line) kind none ends.refused)
+talk_through p first Shown status trace left xs ends is read write within = inr (inl is)
+talk_through p first TooManyLines status trace left xs ends is read write within =
+    let all : length (lines_of trace) ≡ length (ends.front.before ++ ends.front.behind) = ap length ends.front.cut in
+    absurd (omega (arith, all, length-append ends.front.before ends.front.behind, ends.counted, ends.more, within.1))
+
+pub talk_complete : {S X : Type 0} (p : Protocol S X) (first : S) (status : ℕ) (trace left before after : Option (List ℕ)) (reads writes : Type 0)
+    → HasTalked p first status reads trace left before after → (status ≡ 3 → reads) → (status ≡ 4 → writes) → IsTalkComplete p status trace (reads ⊎ writes)
+talk_complete p first status None left before after reads writes talked read write = tt
+talk_complete p first status (Some bytes) left before after reads writes talked read write = λ within no_fault.
+    talk_through p first talked.stop status bytes left talked.replies talked.ends (talked.its_status (λ four. no_fault (inr (write four))))
+    (λ three. no_fault (inl (read three))) (λ four. no_fault (inr (write four))) within

@@ -1,5 +1,5 @@
 -- Counts of faults, and the stops that faults cause.
-use Rattle.std.proofs.Common.{rules, ◌≡◌, ◌≢◌, ◌∙◌, ℕ, refl, arith}
+use Rattle.std.proofs.Common.{rules, ◌≡◌, ◌≢◌, ℕ, arith}
 use Rattle.std.specs.Prelude.{Option, Some, Err}
 use Rattle.plain_model.specs.declared.Stop.{Stop}
 use Rattle.plain_model.specs.declared.Stop.TheVariants.{Words, ReadFault, WriteFault}

@@ -7,14 +7,16 @@ pub mod PrintLemmas
 pub mod FaultLemmas
 pub mod MarkLines
 pub mod MakeLemmas
+pub mod TalkLemmas
 pub mod TurnLemmas
 pub mod CheckLemmas
 pub mod KeyLemmas
 pub mod WordLemmas
 pub mod SampleLemmas
+pub mod WorldTalks
 pub mod ReplayLemmas
 pub mod Untampering
 pub mod StepSums
 pub mod StatusLemmas
-pub mod PromptLemmas
+pub mod ReplyLemmas
 pub mod Completing

@@ -11,13 +11,16 @@ use Rattle.plain_model.specs.Run.{start, Ends, EndsFrom}
 use Rattle.pmem_replay.specs.World.{WorldState}
 use Rattle.pmem_replay.specs.Stepped.{IsNewWorld}
 use Rattle.pmem_cli.specs.Printed.{Output}
+use Rattle.trace_text.specs.Conversations.{TalkEnds}
+use Rattle.pmem_cli.specs.Replies.{world_protocol}
 use Rattle.pmem_cli.specs.Standing.{standing_of, AreStepped}
 use Rattle.pmem_cli.specs.Turns.{HasStopped}
 use Rattle.pmem_cli.specs.HasRun.{HasReplayed}
 use Rattle.pmem_cli.proofs.PrintLemmas.{Prints-nil, Prints-front}
 use Rattle.pmem_cli.proofs.RunLemmas.{IsFrontFrom-nil}
-use Rattle.pmem_cli.proofs.TurnLemmas.{IfSome-any}
+use Rattle.pmem_cli.proofs.TurnLemmas.{IfSome-any, IfSome-map}
 use Rattle.pmem_cli.proofs.StandingLemmas.{new_setup, new_machine}
+use Rattle.pmem_cli.proofs.WorldTalks.{stepped_of_given, ends_of_talk}
 
 -- memory was wanted before the first line
 pub HasReplayed-memory : (setup : Setup) (trace left : Option (List ℕ)) (p : Output) → HasReplayed setup Memory trace left p p
@@ -31,16 +34,21 @@ HasReplayed-memory setup trace left p = record {
 }
 
 pub HasReplayed-served : (f : List ℕ → Formulas) (shape : Shape) (keys : List ℕ) (world : WorldState) (stop : Stop) (trace left : Option (List ℕ)) (p q : Output)
-    → IsNewWorld (record { shape = shape; formulas = f keys }) world → world.keys ≡ keys → HasStopped stop trace left (standing_of f world) p q 0
-    → HasReplayed (record { shape = shape; formulas = f keys }) stop trace left p q
+    → IsNewWorld (record { shape = shape; formulas = f keys }) world → world.keys ≡ keys
+    → HasStopped (world_protocol f) stop trace left world p q 0 → HasReplayed (record { shape = shape; formulas = f keys }) stop trace left p q
 HasReplayed-served f shape keys world stop trace left p q is same stopped =
     let setup : Setup = record { shape = shape; formulas = f keys } in
     let s = standing_of f world in
-    let at_setup = new_setup f shape keys world is same in record {
-      steps = stopped.steps;
+    let at_setup = new_setup f shape keys world is same in
+    let stepped = stepped_of_given f world stopped.replies stopped.given in
+    let ends =
+    IfSome-map trace (λ bytes. TalkEnds (world_protocol f) world 0 stop bytes left stopped.replies) (λ bytes. EndsFrom s.setup s.machine 0 stop bytes left stopped.replies)
+    (λ bytes some ends. ends_of_talk stop f world 0 bytes left stopped.replies is.not_shown ends) stopped.ends in
+    record {
+      steps = stopped.replies;
       ends =
-          subst (λ machine. IfSome trace (λ bytes. EndsFrom setup machine 0 stop bytes left stopped.steps)) (new_machine f setup world is)
-          (subst (λ (u : Setup). IfSome trace (λ bytes. EndsFrom u s.machine 0 stop bytes left stopped.steps)) at_setup stopped.ends);
-      replayed = inr (world, stopped.last, is, subst (λ (u : Setup). AreStepped u world stopped.steps stopped.last) at_setup stopped.chain);
+          subst (λ machine. IfSome trace (λ bytes. EndsFrom setup machine 0 stop bytes left stopped.replies)) (new_machine f setup world is)
+          (subst (λ (u : Setup). IfSome trace (λ bytes. EndsFrom u s.machine 0 stop bytes left stopped.replies)) at_setup ends);
+      replayed = inr (world, stepped.0, is, subst (λ (u : Setup). AreStepped u world stopped.replies stepped.0) at_setup stepped.1);
       said = record { whole = stopped.whole; front = stopped.front };
     }

@@ -1,32 +1,35 @@
 -- The run of a sample trace, command by command.
 use Rattle.std.proofs.lemmas.Grind.{common_steps}
-use Rattle.std.proofs.Common.{rules, ◌≡◌, ◌∙◌, ◌+◌, ℕ, suc, true, false, List, [], ◌∷◌, ◌++◌, refl, sym, ap, subst, arith, append_assoc, inl, inr}
+use Rattle.std.proofs.Common.{rules, ◌≡◌, ◌∙◌, ◌+◌, ◌^◌, ◌<◌, ◌≤◌, ℕ, zero, suc, true, false, List, [], ◌∷◌, ◌++◌, length, refl, sym, ap, subst, arith, length-append, inl, inr}
 use Rattle.std.specs.Prelude.{◌⊎◌, map}
-use Rattle.std.proofs.lemmas.List.{map-append}
+use Rattle.std.proofs.lemmas.List.{length-map}
 use Rattle.std.proofs.lemmas.List.Elements.{All-append, All-cons, All-nil}
 use Rattle.pmem_base.specs.Shape.{Shape}
 use Rattle.pmem_base.specs.declared.commands.Command.{Command}
 use Rattle.pmem_base.specs.declared.commands.Command.TheVariants as Do
 use Rattle.pmem_base.specs.declared.answers.Answer.{Answer}
+use Rattle.pmem_base.specs.declared.answers.Answer.TheVariants as Say
 use Rattle.suite.specs.Formulas.{Formulas}
 use Rattle.suite.specs.Setup.{Setup}
 use Rattle.plain_model.specs.Answers.{is_shown}
 use Rattle.plain_model.specs.Texts.{as_line, answer_text}
 use Rattle.plain_model.specs.declared.Stop.{Stop}
-use Rattle.plain_model.specs.declared.Stop.TheVariants.{Memory, Shown}
-use Rattle.plain_model.specs.Run.{Machine, Step, machine_after, machine_after_all, IsAnswered, AreAnswered}
+use Rattle.plain_model.specs.declared.Stop.TheVariants.{Finished, Memory, Words, ReadFault, WriteFault, Refused, Shown, TooManyLines}
+use Rattle.plain_model.specs.Run.{Machine, Step, start, machine_after, machine_after_all, IsAnswered, AreAnswered}
 use Rattle.trace_text.specs.Samples.{sample_command, sample_trace, state_of_seed, word_at, state_after_word, commands_from}
 use Rattle.pmem_replay.specs.World.{WorldState}
 use Rattle.pmem_replay.specs.Stepped.{IsNewWorld}
 use Rattle.pmem_cli.specs.Printed.{Output, Prints}
-use Rattle.pmem_cli.specs.Standing.{Standing, standing_of, AreStepped, StandingAfter}
-use Rattle.pmem_cli.specs.Turns.{HasReplied}
+use Rattle.pmem_cli.specs.Standing.{Standing, standing_of, AreStepped, IsReplayed, StandingAfter}
+use Rattle.pmem_cli.specs.Sums.{AreStepSums}
+use Rattle.pmem_cli.specs.Replies.{HasReplied}
 use Rattle.pmem_cli.specs.Sampled.{IsLastAnswer, SampleEnds, HasCome, HasReached, HasToldSample}
 use Rattle.pmem_cli.specs.HasRun.{HasRunSample}
-use Rattle.pmem_cli.proofs.PrintLemmas.{Prints-nil, Prints-front}
+use Rattle.pmem_cli.proofs.PrintLemmas.{Prints-front}
 use Rattle.pmem_cli.proofs.RunLemmas.{AreAnswered-append}
 use Rattle.pmem_cli.proofs.ShownLemmas.{exhibit_of, legal_exhibit}
-use Rattle.pmem_cli.proofs.StandingLemmas.{StandingAfter-nil, StandingAfter-trans, AreStepped-after, new_setup, new_machine}
+use Rattle.pmem_cli.proofs.StepSums.{sums_run}
+use Rattle.pmem_cli.proofs.StandingLemmas.{StandingAfter-trans, AreStepped-after, new_setup, new_machine}
 
 -- ---- the commands
 
@@ -125,23 +128,78 @@ told-shown s commands answer p q reached shown printed =
       said = record { whole = λ told. printed; front = Prints-front p q (as_line (answer_text answer)) printed };
     }
 
+-- the steps end by a last answer, or there are none
+sample_last : (setup : Setup) (machine : Machine) (commands : List Command) (stop : Stop) (steps : List Step) (text : List ℕ) → SampleEnds setup machine commands stop steps text
+    → (steps ≡ []) ⊎ ((answer : Answer) × IsLastAnswer setup machine commands steps answer)
+sample_last setup machine commands Finished steps text ends = inr (ends.0, ends.1)
+sample_last setup machine commands Shown steps text ends = inr (Say.Shown ends.0, ends.1)
+sample_last setup machine commands WriteFault steps text ends = inr (ends.0, ends.1)
+sample_last setup machine commands Memory steps text ends = inl ends.0
+sample_last setup machine commands Words steps text ends = absurd ends
+sample_last setup machine commands ReadFault steps text ends = absurd ends
+sample_last setup machine commands (Refused number kind) steps text ends = absurd ends
+sample_last setup machine commands TooManyLines steps text ends = absurd ends
+
+pub sample_answered : (setup : Setup) (machine : Machine) (commands : List Command) (stop : Stop) (steps : List Step) (text : List ℕ)
+    → SampleEnds setup machine commands stop steps text → AreAnswered setup machine steps
+sample_answered setup machine commands stop steps text ends =
+    elim (sample_last setup machine commands stop steps text ends) [
+      | inl none ↦ subst (λ xs. AreAnswered setup machine xs) (sym none) tt
+      | inr last ↦ last.1.answered
+    ]
+
+-- ---- how many commands
+
+commands_counted : (state number count : ℕ) → length (commands_from state number count) ≡ count
+commands_counted state number zero = refl
+commands_counted state number (suc count) = ap suc (commands_counted (state_after_word state) (number + 1) count)
+
+pub sample_short : (seed count : ℕ) → count < 2 ^ 32 → length (sample_trace seed count) ≤ 2 ^ 40
+sample_short seed count fits =
+    let same = commands_counted (state_of_seed seed) 1 count in
+    rw (sample_is seed count) (rw length-append (omega (arith, same, fits)))
+
+-- a step for each command at most
+few_steps : (setup : Setup) (machine : Machine) (commands : List Command) (steps : List Step) (answer : Answer) → IsLastAnswer setup machine commands steps answer
+    → length commands ≤ 2 ^ 40 → length steps ≤ 2 ^ 40
+few_steps setup machine commands steps answer last short =
+    let all : length steps + length last.behind ≡ length commands =
+    sym (length-append (map (λ (step : Step). step.command) steps) last.behind ∙ ap (λ n. n + length last.behind) (length-map steps (λ (step : Step). step.command)))
+    ∙ ap length last.in_order in
+    omega (arith, all, short)
+
+sample_sums : (setup : Setup) (commands : List Command) (stop : Stop) (steps : List Step) (text : List ℕ) → SampleEnds setup (start setup) commands stop steps text
+    → length commands ≤ 2 ^ 40 → IsReplayed setup steps → AreStepSums setup (start setup) steps
+sample_sums setup commands stop steps text ends short replayed =
+    elim (sample_last setup (start setup) commands stop steps text ends) [
+      | inl none ↦ subst (λ xs. AreStepSums setup (start setup) xs) (sym none) tt
+      | inr (answer, last) ↦
+          let few = few_steps setup (start setup) commands steps answer last short in
+          let all : length steps ≡ length last.first + 1 = ap length last.all ∙ length-append last.first (last.last ∷ []) in
+          sums_run setup steps last.first (last.last ∷ []) last.all last.answered last.none_shown (omega arith) (omega (arith, few, all)) replayed
+    ]
+
 -- ---- over a new world
 
 pub HasRunSample-memory : (setup : Setup) (commands : List Command) (p : Output) → HasRunSample setup commands Memory p p
 HasRunSample-memory setup commands p = search rules
 
 pub HasRunSample-told : (f : List ℕ → Formulas) (shape : Shape) (keys : List ℕ) (world : WorldState) (commands : List Command) (stop : Stop) (p q : Output)
-    → IsNewWorld (record { shape = shape; formulas = f keys }) world → world.keys ≡ keys → HasToldSample stop (standing_of f world) commands p q
+    → length commands ≤ 2 ^ 40 → IsNewWorld (record { shape = shape; formulas = f keys }) world → world.keys ≡ keys → HasToldSample stop (standing_of f world) commands p q
     → HasRunSample (record { shape = shape; formulas = f keys }) commands stop p q
-HasRunSample-told f shape keys world commands stop p q is same told =
+HasRunSample-told f shape keys world commands stop p q short is same told =
     let setup : Setup = record { shape = shape; formulas = f keys } in
     let s = standing_of f world in
-    let at_setup = new_setup f shape keys world is same in record {
+    let at_setup = new_setup f shape keys world is same in
+    let ends : SampleEnds setup (start setup) commands stop told.steps told.text =
+    subst (λ machine. SampleEnds setup machine commands stop told.steps told.text) (new_machine f setup world is)
+    (subst (λ (u : Setup). SampleEnds u s.machine commands stop told.steps told.text) at_setup told.ends) in
+    let replayed : IsReplayed setup told.steps =
+    inr (world, told.leads.0, is, subst (λ (u : Setup). AreStepped u world told.steps told.leads.0) at_setup told.leads.1) in record {
       steps = told.steps;
       text = told.text;
-      ends =
-          subst (λ machine. SampleEnds setup machine commands stop told.steps told.text) (new_machine f setup world is)
-          (subst (λ (u : Setup). SampleEnds u s.machine commands stop told.steps told.text) at_setup told.ends);
-      replayed = inr (world, told.leads.0, is, subst (λ (u : Setup). AreStepped u world told.steps told.leads.0) at_setup told.leads.1);
+      ends = ends;
+      replayed = replayed;
+      summed = sample_sums setup commands stop told.steps told.text ends short replayed;
       said = told.said;
     }

@@ -1,5 +1,6 @@
 -- A run goes on by the world's steps.
-use Rattle.std.proofs.Common.{rules, ◌≡◌, ◌∙◌, ℕ, false, List, [], ◌∷◌, ◌++◌, refl, sym, ap, subst}
+use Rattle.std.proofs.Common.{rules, ◌≡◌, ◌∙◌, ℕ, Bool, true, false, List, [], ◌∷◌, ◌++◌, refl, sym, ap, subst, inl, inr}
+use Rattle.std.specs.Prelude.{◌⊎◌}
 use Rattle.pmem_base.specs.declared.commands.Command.{Command}
 use Rattle.pmem_base.specs.declared.answers.Mark.{Mark}
 use Rattle.pmem_base.specs.Shape.{Shape}
@@ -13,7 +14,7 @@ use Rattle.plain_model.proofs.Views.{view_after_marks-append}
 use Rattle.pmem_replay.specs.World.{WorldState, setup_of_world, view_in}
 use Rattle.pmem_replay.specs.Stepped.{IsNewWorld, HasStepped, AddsFewSteps}
 use Rattle.pmem_cli.specs.Standing.{Standing, standing_of, AreStepped, StandingAfter}
-use Rattle.pmem_cli.specs.Turns.{HasReplied}
+use Rattle.pmem_cli.specs.Replies.{HasReplied}
 
 pub machine_after_all-append : (setup : Setup) (machine : Machine) (xs ys : List Step)
     → machine_after_all setup machine (xs ++ ys) ≡ machine_after_all setup (machine_after_all setup machine xs) ys
@@ -65,6 +66,13 @@ StandingAfter-step f old new step stepped few hidden = record {
   running = stepped.shown ∙ hidden;
   chain = (new, record { stepped = stepped; few = few }, refl);
 }
+
+-- so the run goes on, unless the reply is an exhibit
+pub goes_or_shown : (v : Bool) (f : List ℕ → Formulas) (old new : WorldState) (step : Step) → is_shown step.reply.answer ≡ v
+    → HasStepped (setup_of_world f old) old step.command step.reply new → AddsFewSteps old new
+    → (is_shown step.reply.answer ≡ true) ⊎ StandingAfter (standing_of f old) (standing_of f new) (step ∷ [])
+goes_or_shown true f old new step shown stepped few = inl shown
+goes_or_shown false f old new step hidden stepped few = inr (StandingAfter-step f old new step stepped few hidden)
 
 -- the world's reply as the command's
 pub HasReplied-step : (f : List ℕ → Formulas) (old new : WorldState) (command : Command) (reply : Reply) → HasStepped (setup_of_world f old) old command reply new → AddsFewSteps old new

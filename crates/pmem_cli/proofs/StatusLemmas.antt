@@ -1,11 +1,10 @@
 -- What a run's status says, by its stop and its last line.
 use Rattle.std.proofs.lemmas.Grind.{common_steps}
-use Rattle.std.proofs.Common.{rules, ◌≡◌, ◌≢◌, ◌∙◌, ◌+◌, ◌≤◌, ℕ, List, [], ◌++◌, refl, sym, ap, subst, inl, inr, append-nil, arith}
-use Rattle.std.proofs.lemmas.Bool.{cases_eq}
-use Rattle.std.specs.Prelude.{◌⊎◌, Option, None, Some, IfSome}
+use Rattle.std.proofs.Common.{rules, ◌≡◌, ◌≢◌, ◌∙◌, ◌+◌, ◌≤◌, ℕ, List, [], ◌++◌, refl, ap, subst, inl, inr, arith}
+use Rattle.std.specs.Prelude.{◌⊎◌, Option}
 use Rattle.suite.specs.Setup.{Setup}
 use Rattle.plain_model.specs.declared.Stop.{Stop}
-use Rattle.plain_model.specs.declared.Stop.TheVariants.{Finished, ReadFault, WriteFault}
+use Rattle.plain_model.specs.declared.Stop.TheVariants.{ReadFault, WriteFault}
 use Rattle.plain_model.specs.Run.{Ends, start, steps_text, stop_text}
 use Rattle.pmem_base.specs.declared.commands.Command.{Command}
 use Rattle.std.specs.Io.KnownBytes.{Appends}
@@ -21,17 +20,16 @@ use Rattle.pmem_cli.specs.declared.ending.Ending.{Ending}
 use Rattle.pmem_cli.specs.declared.ending.Ending.TheVariants.{Stopped}
 use Rattle.pmem_cli.specs.Endings.{ending_text, ending_status}
 use Rattle.pmem_cli.specs.HasRun.{HasRun, HasPut, HasSampled, HasTold, TaskOutcome, TextOutcome, HasReplayed, HasRunSample, CheckEnds, HasEnded}
+use Rattle.trace_text.specs.Conversations.{Protocol, texts_of}
 use Rattle.pmem_cli.specs.Sums.{AreStepSums}
+use Rattle.pmem_cli.specs.Talked.{HasTalked}
+use Rattle.pmem_cli.specs.Turns.{HasStopped}
 use Rattle.pmem_cli.specs.Untampered.{IsUntampered}
+use Rattle.pmem_cli.proofs.SampleLemmas.{sample_answered}
 use Rattle.pmem_cli.proofs.StepSums.{summed}
-use Rattle.pmem_cli.proofs.PrintLemmas.{Prints-trans, Prints-whole, PrintsFront-trans, PrintsFront-more}
 use Rattle.pmem_cli.proofs.RunLemmas.{ends_answered}
+use Rattle.pmem_cli.proofs.TurnLemmas.{IfSome-map}
 use Rattle.pmem_cli.proofs.Untampering.{untampered}
-
--- what follows from a fact of what there is
-pub IfSome-map : {T : Type 0} (a : Option T) (P Q : T → Type 0) → ((x : T) → a ≡ Some x → P x → Q x) → IfSome a P → IfSome a Q
-IfSome-map None P Q follows holds = tt
-IfSome-map (Some x) P Q follows holds = follows x refl holds
 
 is_write_fault : (stop : Stop) → (stop ≡ WriteFault) ⊎ (stop ≢ WriteFault)
 is_write_fault WriteFault = inl refl
@@ -77,6 +75,23 @@ run_done setup stop status pull_failed trace left before after between run read 
   front = said_front stop status before after between (steps_text run.steps) run.said finished;
 }
 
+-- a session's trace came to its stop
+pub talk_done : {S X : Type 0} (p : Protocol S X) (first : S) (stop : Stop) (status : ℕ) (pull_failed : Type 0) (trace left before after : Option (List ℕ)) (between : Output)
+    → HasStopped p stop trace left first (with_waiting before []) between 0 → (Stopped stop ≡ Stopped ReadFault → pull_failed) → IsFinished (Stopped stop) status between after
+    → HasTalked p first status pull_failed trace left before after
+talk_done p first stop status pull_failed trace left before after between stopped read finished =
+    let said : HasSaid stop (with_waiting before []) between (texts_of p stopped.replies) = record { whole = stopped.whole; front = stopped.front } in
+    record {
+      stop = stop;
+      replies = stopped.replies;
+      ends = stopped.ends;
+      given = stopped.given;
+      read = λ same. read (ap Stopped same);
+      its_status = finished.its_status;
+      whole = said_whole stop status before after between (texts_of p stopped.replies) said finished;
+      front = said_front stop status before after between (texts_of p stopped.replies) said finished;
+    }
+
 sample_done : (setup : Setup) (commands : List Command) (stop : Stop) (status : ℕ) (before after : Option (List ℕ)) (between : Output)
     → HasRunSample setup commands stop (with_waiting before []) between → IsFinished (Stopped stop) status between after → HasSampled setup commands status before after
 sample_done setup commands stop status before after between run finished = record {
@@ -85,6 +100,8 @@ sample_done setup commands stop status before after between run finished = recor
   text = run.text;
   ends = run.ends;
   replayed = run.replayed;
+  untampered = untampered setup run.steps (sample_answered setup (start setup) commands stop run.steps run.text run.ends);
+  summed = run.summed;
   its_status = finished.its_status;
   whole = said_whole stop status before after between run.text run.said finished;
   front = said_front stop status before after between run.text run.said finished;

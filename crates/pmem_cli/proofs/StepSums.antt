@@ -1,11 +1,10 @@
 -- No run is long enough for the sum of its persist steps to stand still.
-use Rattle.std.proofs.Common.{◌≡◌, ◌∙◌, ◌+◌, ◌*◌, ◌-◌, ◌^◌, ◌<◌, ◌≤◌, ℕ, false, List, [], ◌∷◌, ◌++◌, length, refl, sym, ap, subst, arith, append-nil, length-append, inl, inr}
+use Rattle.std.proofs.Common.{◌≡◌, ◌∙◌, ◌+◌, ◌*◌, ◌-◌, ◌^◌, ◌<◌, ◌≤◌, ℕ, false, List, [], ◌∷◌, ◌++◌, length, sym, ap, subst, arith, append-nil, length-append, inl, inr}
 use Rattle.std.specs.Prelude.{All, Option, None, Some, Ok, Err}
 use Rattle.std.proofs.lemmas.List.{length-map}
 use Rattle.std.proofs.lemmas.List.Elements.{All-head, All-tail}
 use Rattle.pmem_base.specs.declared.answers.Answer.{Answer}
 use Rattle.pmem_base.specs.declared.answers.Answer.TheVariants as Say
-use Rattle.pmem_base.specs.declared.answers.Exhibit.{Exhibit}
 use Rattle.suite.specs.Setup.{Setup}
 use Rattle.plain_model.specs.declared.Stop.{Stop}
 use Rattle.plain_model.specs.declared.Stop.TheVariants.{Finished, Memory, Words, ReadFault, WriteFault, Refused, Shown, TooManyLines}
@@ -15,11 +14,12 @@ use Rattle.plain_model.specs.Answers.{is_shown}
 use Rattle.plain_model.specs.Fits.{AreStepsCounted}
 use Rattle.plain_model.specs.Grammar.{Reading, reading_of}
 use Rattle.plain_model.specs.Lines.{lines_of}
-use Rattle.plain_model.specs.Run.{Machine, Step, start, machine_after, machine_after_all, AreAnswered, commands_asked, commands_of, IsRunFrom, IsShownFrom, IsMemoryWanted, Ends, line_limit}
+use Rattle.plain_model.specs.Run.{Machine, Step, start, machine_after, AreAnswered, commands_asked, commands_of, IsRunFrom, IsShownFrom, IsMemoryWanted, Ends, line_limit}
 use Rattle.pmem_replay.specs.World.{WorldState}
 use Rattle.pmem_replay.specs.Stepped.{most_steps}
 use Rattle.pmem_cli.specs.Standing.{AreStepped, IsReplayed}
 use Rattle.pmem_cli.specs.Sums.{IsStepSum, AreStepSums}
+use Rattle.pmem_cli.proofs.RunLemmas.{shown_answered}
 
 -- ---- lines and steps
 
@@ -48,13 +48,16 @@ sum_here : (state : PlainState) (answer : Answer) → state.steps < 2 ^ 64 - 1 �
 sum_here state (Say.Counts counts) small counted = counted small
 sum_here state answer small counted = tt
 
--- each of these commands adds few steps to those before it
-sums_from : (setup : Setup) (machine : Machine) (world last : WorldState) (steps more : List Step) (n : ℕ) → machine.state ≡ world.state
-    → AreStepped setup world (steps ++ more) last → AreAnswered setup machine steps → All (λ step. is_shown step.reply.answer ≡ false) steps
-    → machine.state.steps ≤ n * most_steps → n + length steps ≤ line_limit → AreStepSums setup machine steps
+-- each of these commands adds few steps to those before it, and none but the last ends the run
+sums_from : (setup : Setup) (machine : Machine) (world last : WorldState) (steps tail : List Step) (n : ℕ) → machine.state ≡ world.state
+    → AreStepped setup world (steps ++ tail) last → AreAnswered setup machine (steps ++ tail) → All (λ step. is_shown step.reply.answer ≡ false) steps → length tail ≤ 1
+    → machine.state.steps ≤ n * most_steps → n + length steps ≤ 2 ^ 40 → AreStepSums setup machine (steps ++ tail)
 unfolding machine_after
-sums_from setup machine world last [] more n same chain answered none few count = tt
-sums_from setup machine world last (step ∷ steps) more n same (next, taken, chain) answered none few count =
+sums_from setup machine world last [] [] n same chain answered none one few count = tt
+sums_from setup machine world last [] (step ∷ []) n same chain answered none one few count =
+    (sum_here machine.state step.reply.answer (omega (arith, few, count)) answered.0.fits.steps_counted, tt)
+sums_from setup machine world last [] (step ∷ more ∷ rest) n same chain answered none one few count = absurd (omega (arith, one))
+sums_from setup machine world last (step ∷ steps) tail n same (next, taken, chain) answered none one few count =
     let quiet : is_shown step.reply.answer ≡ false = All-head (λ step. is_shown step.reply.answer ≡ false) step steps none in
     let after : (machine_after setup machine step).state ≡ next.state =
     ap (λ (s : PlainState). state_after setup.shape s step.command step.reply) same ∙ sym (taken.stepped.state quiet) in
@@ -64,44 +67,32 @@ sums_from setup machine world last (step ∷ steps) more n same (next, taken, ch
     let here : machine.state.steps < 2 ^ 64 - 1 = omega (arith, few, count) in
     let later : (machine_after setup machine step).state.steps ≤ (n + 1) * most_steps = omega (arith, few, added, before, now) in (
       sum_here machine.state step.reply.answer here answered.0.fits.steps_counted,
-      sums_from setup (machine_after setup machine step) next last steps more (n + 1) after chain answered.1
-          (All-tail (λ step. is_shown step.reply.answer ≡ false) step steps none) later (omega (arith, count)),
+      sums_from setup (machine_after setup machine step) next last steps tail (n + 1) after chain answered.1
+          (All-tail (λ step. is_shown step.reply.answer ≡ false) step steps none) one later (omega (arith, count)),
     )
 
-sums_none : (setup : Setup) (machine : Machine) (steps more : List Step) → steps ++ more ≡ [] → AreStepSums setup machine steps
-sums_none setup machine [] more none = tt
-sums_none setup machine (step ∷ steps) more none = absurd (cc none)
-
--- the steps of these lines, which a formatted world answered
-sums_run : (setup : Setup) (lines : List (List ℕ)) (steps more : List Step) → IsRunFrom setup (start setup) lines steps → length lines ≤ line_limit
-    → IsReplayed setup (steps ++ more) → AreStepSums setup (start setup) steps
+-- so it is over a formatted world
+pub sums_run : (setup : Setup) (all steps tail : List Step) → all ≡ steps ++ tail → AreAnswered setup (start setup) all
+    → All (λ step. is_shown step.reply.answer ≡ false) steps → length tail ≤ 1 → length steps ≤ 2 ^ 40 → IsReplayed setup all → AreStepSums setup (start setup) all
 unfolding start start_state
-sums_run setup lines steps more run short (inl none) = sums_none setup (start setup) steps more none
-sums_run setup lines steps more run short (inr (first, last, is, chain)) =
-    let few = few_steps setup (start setup) lines steps run in
-    sums_from setup (start setup) first last steps more 0 (sym is.state) chain run.answered run.none_shown (omega arith) (omega (arith, few, short))
+sums_run setup all steps tail is answered none one short (inl empty) = subst (λ (xs : List Step). AreStepSums setup (start setup) xs) (sym empty) tt
+sums_run setup all steps tail is answered none one short (inr (first, last, new, chain)) =
+    subst (λ (xs : List Step). AreStepSums setup (start setup) xs) (sym is)
+    (sums_from setup (start setup) first last steps tail 0 (sym new.state) (subst (λ (xs : List Step). AreStepped setup first xs last) is chain)
+    (subst (λ (xs : List Step). AreAnswered setup (start setup) xs) is answered) none one (omega arith) (omega (arith, short)))
 
 sums_whole : (setup : Setup) (lines : List (List ℕ)) (steps : List Step) → IsRunFrom setup (start setup) lines steps → length lines ≤ line_limit → IsReplayed setup steps
     → AreStepSums setup (start setup) steps
 sums_whole setup lines steps run short replayed =
-    sums_run setup lines steps [] run short (subst (λ (all : List Step). IsReplayed setup all) (sym (append-nil steps)) replayed)
-
-sums_on : (setup : Setup) (machine : Machine) (xs ys : List Step) → AreStepSums setup machine xs → AreStepSums setup (machine_after_all setup machine xs) ys
-    → AreStepSums setup machine (xs ++ ys)
-sums_on setup machine [] ys first second = second
-sums_on setup machine (x ∷ xs) ys first second = (first.0, sums_on setup (machine_after setup machine x) xs ys first.1 second)
-
-sum_shown : (state : PlainState) (answer : Answer) (exhibit : Exhibit) → answer ≡ Say.Shown exhibit → IsStepSum state answer
-sum_shown state answer exhibit is = subst (λ (a : Answer). IsStepSum state a) (sym is) tt
+    let few = few_steps setup (start setup) lines steps run in
+    sums_run setup steps steps [] (sym (append-nil steps)) run.answered run.none_shown (omega arith) (omega (arith, few, short)) replayed
 
 sums_shown : (setup : Setup) (lines : List (List ℕ)) (steps : List Step) → IsShownFrom setup (start setup) 0 lines steps → IsReplayed setup steps
     → AreStepSums setup (start setup) steps
 sums_shown setup lines steps ends replayed =
-    subst (λ (all : List Step). AreStepSums setup (start setup) all) (sym ends.all)
-    (sums_on setup (start setup) ends.first (ends.last ∷ [])
-    (sums_run setup ends.before ends.first (ends.last ∷ []) ends.run (omega (arith, ends.counted))
-    (subst (λ (all : List Step). IsReplayed setup all) ends.all replayed))
-    (sum_shown (machine_after_all setup (start setup) ends.first).state ends.last.reply.answer ends.exhibit ends.shown, tt))
+    let few = few_steps setup (start setup) ends.before ends.first ends.run in
+    sums_run setup steps ends.first (ends.last ∷ []) ends.all (shown_answered setup lines steps ends) ends.run.none_shown (omega arith)
+    (omega (arith, few, ends.counted)) replayed
 
 -- ---- by the stop
 

@@ -55,6 +55,8 @@ pub record HasSampled (setup : Setup) (commands : List Command) (status : ℕ) (
   pub text : List ℕ
   pub ends : SampleEnds setup (start setup) commands stop steps text
   pub replayed : IsReplayed setup steps
+  pub untampered : IsUntampered setup steps
+  pub summed : AreStepSums setup (start setup) steps
   pub its_status : status ≢ 4 → status ≡ status_of stop
   pub whole : status ≢ 4 → Appends put_before put_after (text ++ stop_text stop)
   pub front : AppendsFront put_before put_after (text ++ stop_text stop)
@@ -116,6 +118,7 @@ pub record HasRunSample (setup : Setup) (commands : List Command) (stop : Stop) 
   pub text : List ℕ
   pub ends : SampleEnds setup (start setup) commands stop steps text
   pub replayed : IsReplayed setup steps
+  pub summed : AreStepSums setup (start setup) steps
   pub said : HasSaid stop from to text
 
 -- a run came to its stop

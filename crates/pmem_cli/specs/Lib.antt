@@ -6,12 +6,14 @@ pub mod Printed
 pub mod Pieces
 pub mod Words
 pub mod Keys
-pub mod Prompt
+pub mod RepliesFirst
 pub mod Endings
 pub mod Standing
+pub mod Replies
 pub mod Turns
 pub mod Checked
 pub mod Untampered
 pub mod Sums
 pub mod Sampled
 pub mod HasRun
+pub mod Talked

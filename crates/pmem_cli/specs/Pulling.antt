@@ -24,8 +24,8 @@ abbrev pub IsInTime : Pulls → Pulls → Type 0
 IsInTime before now = before ≡ Open → now ≢ Late
 
 -- what is remembered, if anything, was left then
-abbrev pub Recalls : Option (List ℕ) → Option (List ℕ) → Type 0
-Recalls remembered left = IfSome remembered (λ bytes. left ≡ Some bytes)
+abbrev pub RemembersLeft : Option (List ℕ) → Option (List ℕ) → Type 0
+RemembersLeft remembered left = IfSome remembered (λ bytes. left ≡ Some bytes)
 
 -- where nothing stopped, more may follow
 pub record PullsInTime (stop : Option Stop) (before now : Pulls) : Type 0 where

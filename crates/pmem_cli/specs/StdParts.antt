@@ -7,6 +7,10 @@ use Rattle.pmem_cli.specs.declared.sink.StdSink.{StdSink}
 abbrev pub reader_of : {R : Type 0} → StdSource R → R
 reader_of source = source.inner
 
+-- as it was before the last pull, and at first as it is
+abbrev pub reader_before : {R : Type 0} → StdSource R → R
+reader_before source = source.before.value
+
 -- how often a pull failed
 abbrev pub pull_faults : {R : Type 0} → StdSource R → ℕ
 pull_faults source = source.faults

@@ -1,4 +1,5 @@
-//! The whole program: traces answered, sample traces made, exhibits checked.
+//! The whole program: traces answered, sample traces made, exhibits checked. Traces of other languages, answered
+//! by any session.
 #![tactic(auto)]
 
 mod checking;
@@ -10,13 +11,14 @@ mod printer;
 mod program;
 mod pulls;
 mod sampling;
+mod serving;
 mod session;
 mod sink;
 mod source;
-#[cfg(test)]
-mod tests;
+mod talking;
 
 pub use program::run;
 pub use pulls::Pulls;
 pub use sink::{MemSink, Sink, StdSink};
 pub use source::{Failed, MemSource, Source, StdSource};
+pub use talking::talk_all;

@@ -4,8 +4,8 @@ ghost use Rattle.std.specs.List.{position_or_len};
 ghost use Rattle.std.specs.Io.KnownBytes.{Keeps, IsAtEnd, prepend_known};
 ghost use Rattle.plain_model.specs.Lines.{is_line_end};
 ghost use Rattle.pmem_cli.specs.Causes.{HasCause};
-ghost use Rattle.pmem_cli.specs.Pulling.{is_last, pulls_after, StaysOpen, IsInTime, Recalls};
-ghost use Rattle.pmem_cli.specs.Prompt.{HasAskedIn};
+ghost use Rattle.pmem_cli.specs.Pulling.{is_last, pulls_after, StaysOpen, IsInTime, RemembersLeft};
+ghost use Rattle.pmem_cli.specs.RepliesFirst.{PullsWithinLine};
 
 use crate::source::{Failed, Source};
 use arrayvec::ArrayVec;
@@ -119,7 +119,7 @@ impl LineReader {
         ensures err { OnErr result (self.new ≡ []) }
         ensures cause { HasCause (S.faults source.old) (S.faults source.new) result }
         ensures pulls { S.pulls source.new ≡ pulls_after (S.pulls source.old) (is_last result 16384) }
-        ensures recalls { Recalls (S.left_before source.new) (S.left source.old) }
+        ensures remembers { RemembersLeft (S.left_before source.new) (S.left source.old) }
     {
         self.at = 0;
         self.end = 0;
@@ -139,7 +139,7 @@ impl LineReader {
         ensures cause { HasCause (S.faults source.old) (S.faults source.new) result }
         ensures may_pull { IfOk result (λ ended. ended ≡ false → StaysOpen (S.pulls source.old) (S.pulls source.new)) }
         ensures in_time { IsInTime (S.pulls source.old) (S.pulls source.new) }
-        ensures asked { (source.new ≡ source.old) ⊎ ((self.old ≡ []) × Recalls (S.left_before source.new) (S.left source.old)) }
+        ensures last_pull { (source.new ≡ source.old) ⊎ ((self.old ≡ []) × RemembersLeft (S.left_before source.new) (S.left source.old)) }
     {
         if !self.is_empty() {
             return Ok(false);
@@ -180,8 +180,8 @@ impl LineReader {
         ensures cause { HasCause (S.faults source.old) (S.faults source.new) result }
         ensures may_pull { IfOk result (λ found. found ≡ Line → StaysOpen (S.pulls source.old) (S.pulls source.new)) }
         ensures in_time { IsInTime (S.pulls source.old) (S.pulls source.new) }
-        ensures asked { (source.new ≡ source.old)
-            ⊎ HasAskedIn (prepend_known self.old (S.left source.old)) (S.left_before source.new) }
+        ensures last_pull { (source.new ≡ source.old)
+            ⊎ PullsWithinLine (prepend_known self.old (S.left source.old)) (S.left_before source.new) }
     {
         line.clear();
         'pieces: loop {

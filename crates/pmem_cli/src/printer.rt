@@ -98,6 +98,19 @@ impl Printer {
         print_text(&mut self.waiting, out, text)
     }
 
+    /// Prints a text as a line, with its LF.
+    pub fn print_line<K: Sink>(&mut self, out: &mut K, text: &[u8]) -> Result<(), Failed>
+        requires { length text.now ≤ 65536 }
+        ensures ok { OnOk result (Prints (with_waiting (K.put out.old) self.old) (with_waiting (K.put out.new) self.new)
+            (as_line text.now)) }
+        ensures err { OnErr result (PrintsFront (with_waiting (K.put out.old) self.old) (with_waiting (K.put out.new) self.new)
+            (as_line text.now)) }
+        ensures cause { HasCause (K.faults out.old) (K.faults out.new) result }
+    {
+        self.print(out, text)?;
+        self.print(out, b"\n")
+    }
+
     /// Prints the text of an answer, with its LF.
     pub fn print_answer<K: Sink>(&mut self, out: &mut K, answer: &Answer) -> Result<(), Failed>
         requires { HasSmallMinors answer.now }

@@ -10,7 +10,7 @@ ghost use Rattle.pmem_cli.specs.declared.ending.Ending.TheVariants.{Stopped};
 ghost use Rattle.pmem_cli.specs.Keys.{setup_chosen};
 ghost use Rattle.pmem_cli.specs.Words.{task_of, AreChosen, HasChosen, PullsNothing};
 ghost use Rattle.pmem_cli.specs.Printed.{with_waiting};
-ghost use Rattle.pmem_cli.specs.Prompt.{IsPrompt, RepliesFirst};
+ghost use Rattle.pmem_cli.specs.RepliesFirst.{HasRepliedFirst, TaskRepliesFirst};
 ghost use Rattle.pmem_cli.specs.Turns.{StopsByCause};
 ghost use Rattle.pmem_cli.specs.HasRun.{TaskOutcome, HasEnded, HasReplayed, IsComplete, AreRefusedWords};
 
@@ -42,8 +42,8 @@ fn run_with<U: Counted + Drop, S: Source, K: Sink>(
         (with_waiting (K.put out.old) printer.old) (with_waiting (K.put out.new) printer.new) }
     ensures cause { StopsByCause (Some result) (S.faults trace.old) (S.faults trace.new) (K.faults out.old) (K.faults out.new) }
     ensures in_time { IsInTime (S.pulls trace.old) (S.pulls trace.new) }
-    ensures prompt { let setup : Setup = record { shape = shape_of geo; formulas = U.formulas_of (U.keys suite) } in (trace.new ≡ trace.old)
-        ⊎ IsPrompt setup (start setup) (S.left trace.old) (S.left_before trace.new) (with_waiting (K.put out.old) printer.old) (K.put out.new) }
+    ensures replies_first { let setup : Setup = record { shape = shape_of geo; formulas = U.formulas_of (U.keys suite) } in (trace.new ≡ trace.old)
+        ⊎ HasRepliedFirst setup (start setup) (S.left trace.old) (S.left_before trace.new) (with_waiting (K.put out.old) printer.old) (K.put out.new) }
 {
     match World::new(alloc, geo, suite) {
         Ok(mut world) => serve_all(alloc, &mut world, trace, printer, out),
@@ -64,8 +64,8 @@ fn run_trace<S: Source, K: Sink>(
         (with_waiting (K.put out.old) printer.old) (with_waiting (K.put out.new) printer.new) }
     ensures cause { StopsByCause (Some result) (S.faults trace.old) (S.faults trace.new) (K.faults out.old) (K.faults out.new) }
     ensures in_time { IsInTime (S.pulls trace.old) (S.pulls trace.new) }
-    ensures prompt { let setup = setup_chosen choices.now in (trace.new ≡ trace.old)
-        ⊎ IsPrompt setup (start setup) (S.left trace.old) (S.left_before trace.new) (with_waiting (K.put out.old) printer.old) (K.put out.new) }
+    ensures replies_first { let setup = setup_chosen choices.now in (trace.new ≡ trace.old)
+        ⊎ HasRepliedFirst setup (start setup) (S.left trace.old) (S.left_before trace.new) (with_waiting (K.put out.old) printer.old) (K.put out.new) }
 {
     let geo = choices.geometry();
     match choices.suite_name() {
@@ -90,7 +90,7 @@ fn do_task<S: Source, K: Sink>(
     ensures reads { CountsFault (result ≡ Stopped Stop.ReadFault) (S.faults trace.old) (S.faults trace.new) }
     ensures writes { CountsFault (result ≡ Stopped Stop.WriteFault) (K.faults out.old) (K.faults out.new) }
     ensures in_time { IsInTime (S.pulls trace.old) (S.pulls trace.new) }
-    ensures prompt { RepliesFirst task (S.left trace.old) (S.left trace.new) (S.left_before trace.new)
+    ensures replies_first { TaskRepliesFirst task (S.left trace.old) (S.left trace.new) (S.left_before trace.new)
         (with_waiting (K.put out.old) printer.old) (K.put out.new) }
     ensures unread { PullsNothing task → trace.new ≡ trace.old }
 {
@@ -122,8 +122,8 @@ fn do_words<S: Source, K: Sink>(
     ensures reads { CountsFault (result ≡ Stopped Stop.ReadFault) (S.faults trace.old) (S.faults trace.new) }
     ensures writes { CountsFault (result ≡ Stopped Stop.WriteFault) (K.faults out.old) (K.faults out.new) }
     ensures in_time { IsInTime (S.pulls trace.old) (S.pulls trace.new) }
-    ensures prompt { IfSome (task_of (map string_bytes words.now)) (λ task.
-        RepliesFirst task (S.left trace.old) (S.left trace.new) (S.left_before trace.new)
+    ensures replies_first { IfSome (task_of (map string_bytes words.now)) (λ task.
+        TaskRepliesFirst task (S.left trace.old) (S.left trace.new) (S.left_before trace.new)
         (with_waiting (K.put out.old) printer.old) (K.put out.new)) }
     ensures unread { IfSome (task_of (map string_bytes words.now)) (λ task. PullsNothing task → trace.new ≡ trace.old) }
 {
@@ -166,8 +166,8 @@ pub fn run<S: Source, K: Sink>(alloc: Global, words: &[String], trace: &mut S, o
 
     // No reply waits while a pull is made: the replies to all whole lines that the source had given before its
     // last pull were put, also where a push failed since. A sink may fail at any push.
-    ensures prompt { IfSome (task_of (map string_bytes words.now)) (λ task.
-        RepliesFirst task (S.left trace.old) (S.left trace.new) (S.left_before trace.new) (with_waiting (K.put out.old) []) (K.put out.new)) }
+    ensures replies_first { IfSome (task_of (map string_bytes words.now)) (λ task.
+        TaskRepliesFirst task (S.left trace.old) (S.left trace.new) (S.left_before trace.new) (with_waiting (K.put out.old) []) (K.put out.new)) }
 {
     let mut printer = Printer::new();
     let ending = do_words(alloc, words, trace, &mut printer, out);

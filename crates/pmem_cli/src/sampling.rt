@@ -12,7 +12,7 @@ ghost use Rattle.pmem_cli.specs.Standing.{standing_of};
 
 use crate::options::Choices;
 use crate::printer::Printer;
-use crate::session::is_shown;
+use crate::serving::is_shown;
 use crate::sink::Sink;
 use crate::source::Failed;
 use plain_model::Stop;

@@ -6,11 +6,12 @@ ghost use Rattle.pmem_base.specs.Counts.{risen};
 ghost use Rattle.pmem_cli.specs.Causes.{HasCause};
 ghost use Rattle.pmem_cli.specs.declared.pulls.Pulls.{Pulls};
 ghost use Rattle.pmem_cli.specs.declared.pulls.Pulls.TheVariants.{Open};
-ghost use Rattle.pmem_cli.specs.Pulling.{is_last, pulls_after, Recalls};
+ghost use Rattle.pmem_cli.specs.Pulling.{is_last, pulls_after, RemembersLeft};
 
 use crate::pulls::{Pulls, next_pulls};
 use std::io::Read;
 use std::marker::Model;
+use std::snapshot::Snapshot;
 
 /// A pull or a push failed, and moved no byte.
 #[derive(Clone, Copy, Debug, PartialEq, Eq)]
@@ -37,7 +38,7 @@ pub trait Source {
         ensures bytes { ReadConsumes (left self.old) (left self.new) result buf.new }
         ensures cause { HasCause (faults self.old) (faults self.new) result }
         ensures pulls { pulls self.new ≡ pulls_after (pulls self.old) (is_last result (length buf.old)) }
-        ensures recalls { Recalls (left_before self.new) (left self.old) };
+        ensures remembers { RemembersLeft (left_before self.new) (left self.old) };
 }
 
 /// Copies as many bytes as fit, and answers how many.
@@ -128,7 +129,7 @@ impl Source for MemSource {
         ensures bytes { ReadConsumes (Some self.old.left) (Some self.new.left) result buf.new }
         ensures cause { HasCause self.old.faults self.new.faults result }
         ensures pulls { self.new.pulls ≡ pulls_after self.old.pulls (is_last result (length buf.old)) }
-        ensures recalls { Recalls (Some self.new.left_before) (Some self.old.left) }
+        ensures remembers { RemembersLeft (Some self.new.left_before) (Some self.old.left) }
 
         ensures failed { IsErr result ↔ Contains self.old.failing self.old.calls }
         ensures count { IfOk result (λ count. count ≡ min (length self.old.left) (length buf.old)) }
@@ -151,25 +152,30 @@ impl Source for MemSource {
     }
 }
 
-/// Any reader. It tells what the reader tells.
+/// Any reader. It tells what the reader tells, and remembers what that was before the last pull: a snapshot
+/// has no bytes, and clauses alone read it.
 #[derive(Drop)]
 pub struct StdSource<R> {
     inner: R,
+    before: Snapshot<R>,
     faults: u64,
     pulls: Pulls,
 }
 
 impl<R: Read> StdSource<R> {
-    ghost use Rattle.pmem_cli.specs.StdParts.{reader_of, pull_faults, pulls_made};
+    ghost use Rattle.pmem_cli.specs.StdParts.{reader_of, reader_before, pull_faults, pulls_made};
 
     /// A source of what the reader gives. No pull has failed yet.
     pub fn new(inner: R) -> Self
         ensures reader { reader_of result ≡ inner }
+        ensures before { reader_before result ≡ inner }
         ensures faults { pull_faults result ≡ 0 }
         ensures pulls { pulls_made result ≡ Open }
     {
+        let before = Snapshot::of(&inner);
         StdSource {
             inner,
+            before,
             faults: 0,
             pulls: Pulls::Open,
         }
@@ -177,7 +183,7 @@ impl<R: Read> StdSource<R> {
 }
 
 impl<R: Read> Source for StdSource<R> {
-    ghost use Rattle.pmem_cli.specs.StdParts.{reader_of, pull_faults, pulls_made};
+    ghost use Rattle.pmem_cli.specs.StdParts.{reader_of, reader_before, pull_faults, pulls_made};
 
     ghost left = { λ source. R.remaining (reader_of source) };
 
@@ -185,7 +191,10 @@ impl<R: Read> Source for StdSource<R> {
 
     ghost pulls = { pulls_made };
 
+    ghost left_before = { λ source. R.remaining (reader_before source) };
+
     fn pull(&mut self, buf: &mut [u8]) -> Result<usize, Failed> {
+        self.before = Snapshot::of(&self.inner);
         match self.inner.read(buf) {
             Ok(count) => {
                 self.pulls = next_pulls(self.pulls, count == 0 && !buf.is_empty());

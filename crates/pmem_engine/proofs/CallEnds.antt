@@ -8,4 +8,3 @@ pub mod EndedEngines
 pub mod ExactWork
 pub mod MetaLines
 pub mod UsableParts
-pub mod TestBenches

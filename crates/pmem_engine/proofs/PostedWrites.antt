@@ -7,6 +7,7 @@ pub mod WriteSteps
 pub mod WriteBegins
 pub mod WriteWorks
 pub mod WriteRefusals
+pub mod WriteCuts
 pub mod WriteExits
 pub mod WriteSeals
 pub mod WriteOutcomes

@@ -25,8 +25,9 @@ use Rattle.meta_cache.specs.declared.slot.Slot.{Slot}
 use Rattle.meta_cache.specs.Banks.{Banks, set_of, is_cached, is_cached_dirty}
 use Rattle.meta_cache.specs.State.{bank_of, oldest_dirty}
 use Rattle.shadow_tables.specs.Entries.{slot_entry}
-use Rattle.meta_path.specs.Blocks.{path_at, line_in, IsPathCached, bank_dirty_count, dirty_count}
+use Rattle.meta_path.specs.Blocks.{path_at, slots_at, line_in, IsPathCached, bank_dirty_count, dirty_count}
 use Rattle.meta_path.specs.Naming.{path_number, named_path, naming_writes, ArePathEntries}
+use Rattle.meta_path.specs.Levels.{HasDirtyVictim}
 use Rattle.meta_path.specs.Storing.{IsCleaned}
 use Rattle.meta_path.specs.Work.{told_line, FetchState}
 use Rattle.meta_path.specs.Fetching.{absent_count, spilled, HasFetchedSets}
@@ -253,12 +254,25 @@ abbrev pub IsFetchedAsFar : {T : Type 0} → Shape → Parts → Parts → Resul
 IsFetchedAsFar g old new (Err (Fail.Meta x)) levels = levels ≡ level_of x
 IsFetchedAsFar g old new answer levels = IsPastFetch old new answer → levels ≡ path_length g
 
+-- the path's next level isn't cached, and a dirty block has to give way to it
+pub record IsWriteBackDue (g : Shape) (page levels : ℕ) (old : Parts) : Type 0 where
+  pub on_path : levels < path_length g
+  pub absent : is_cached g old.engine.cache levels (path_at g page levels) ≡ false
+  pub victim : HasDirtyVictim g (slots_at g old.engine.cache levels (path_at g page levels))
+
+-- a cut comes before such a write-back alone
+abbrev pub IsCutWhereDue : {T : Type 0} → Shape → ℕ → ℕ → Parts → Result T Fault → Type 0
+IsCutWhereDue g page levels old (Err Fail.Cut) = IsWriteBackDue g page levels old
+IsCutWhereDue g page levels old answer = ⊤
+
 -- what is fetched of the path, whatever the answer
 pub record HasFetchedSome {T : Type 0} (g : Shape) (page : ℕ) (old new : Parts) (answer : Result T Fault) :
     Type 0 where
   pub levels : ℕ
   pub fetched : HasFetchedLevels g page levels old new
   pub as_far : IsFetchedAsFar g old new answer levels
+  -- no other step is due, so power that is on is cut nowhere else
+  pub due : old.device.live ≡ true → IsCutWhereDue g page levels old answer
 
 -- ---- reads
 
@@ -440,6 +454,8 @@ pub record HasFlushed (setup : Setup) (old new : Parts) (answer : Result (Option
   pub work : old.engine.down ≡ false → IfOk answer (λ found. IsFlushWork setup.shape found old new)
   pub same_ledger : new.ledger ≡ old.ledger
   pub same_reads : new.device.reads ≡ old.device.reads
+  pub tags : new.tags ≡ old.tags
+  pub digests : new.digests ≡ old.digests
   -- which blocks are cached stays
   pub cached :
       (bank x : ℕ) → is_cached setup.shape new.engine.cache bank x ≡ is_cached setup.shape old.engine.cache bank x
@@ -659,6 +675,31 @@ pub record IsWriteWork (g : Shape) (write : Posted) (ctr : Ctr) (made : List Mar
       new.device.lines
   pub work : IsWork (write_work g write ctr made old fetched) old new
 
+-- ---- a cut of a write
+
+-- Power was cut in the fetch: no mark was made, no block was named, and nothing but the fetch's
+-- write-backs was written.
+pub record IsCutInFetch (g : Shape) (page : ℕ) (made : List Mark) (old new : Parts) : Type 0 where
+  pub none_made : made ≡ []
+  pub some : HasFetchedSome {T = Ctr} g page old new (Err Fail.Cut)
+  pub shadow : KeepsShadow g old new
+
+-- Or it was cut later: the path was fetched, and no block came in or gave way since. The counter isn't
+-- used up, so the steps of the write's own seal were due.
+pub record IsCutPastFetch (setup : Setup) (write : Posted) (old new : Parts) : Type 0 where
+  pub fetched : Banks
+  pub path_fetched : IsPathFetchedInto setup.shape (page_of write.at) old fetched
+  pub kept : KeepsButPath setup.shape (page_of write.at) fetched new.engine.cache
+  pub unspent :
+      AreTrusted setup old → (memory : Memory)
+      → IsSome (marks_of_write setup.formulas (moment_in setup memory old) write)
+
+-- where a write was cut
+abbrev pub IsCutOfWrite : Setup → Posted → List Mark → Parts → Parts → Result Ctr Fault → Type 0
+IsCutOfWrite setup write made old new (Err Fail.Cut) =
+    IsCutInFetch setup.shape (page_of write.at) made old new ⊎ IsCutPastFetch setup write old new
+IsCutOfWrite setup write made old new answer = ⊤
+
 pub record HasWrittenLine (setup : Setup) (write : Posted) (old new : Parts) (answer : Result Ctr Fault) :
     Type 0 where
   pub made : List Mark
@@ -687,6 +728,11 @@ pub record HasWrittenLine (setup : Setup) (write : Posted) (old new : Parts) (an
   pub meta_uncached : IsMetaUncached setup.shape (page_of write.at) old answer
   pub names : HasNamedSome setup.shape (page_of write.at) old new
   pub refused : old.engine.down ≡ false → IsRefusedAsFetched setup.shape (page_of write.at) old new answer
+  pub cut : old.engine.down ≡ false → IsCutOfWrite setup write made old new answer
+  -- a cut leaves the group of the write's own seal armed, where that was made
+  pub own_armed :
+      AreTrusted setup old → (memory : Memory) → IsMemory setup memory old → answer ≡ Err Fail.Cut
+      → IsTrue (is_sealed_by made write.at) → (regs_of new).group.items ≢ []
   -- whatever the chip is: the marks, and the steps of 65 seals, a begin and the path
   pub order : AreInWriteOrder write.at made
   pub few_marks : length made ≤ 66
@@ -795,5 +841,7 @@ pub record HasSetLoss (setup : Setup) (n : ℕ) (old new : Parts) (answer : Resu
   pub shadow : KeepsShadow setup.shape old new
   pub same_ledger : new.ledger ≡ old.ledger
   pub same_reads : new.device.reads ≡ old.device.reads
+  pub tags : new.tags ≡ old.tags
+  pub digests : new.digests ≡ old.digests
   pub cached :
       (bank x : ℕ) → is_cached setup.shape new.engine.cache bank x ≡ is_cached setup.shape old.engine.cache bank x

@@ -1,5 +1,5 @@
 -- What a commit with a page's new path makes: a seal of a line under its next counter, and a page's begin.
-use Rattle.std.specs.Prelude.{ℕ, ◌≡◌, ◌≤◌, ◌+◌, ◌%◌, ◌==◌, ◌⊎◌, Bool, true, false, List, [], ◌∷◌, ◌++◌, length, if◌then◌else◌, Some, IfOk, IsOk, Result, Ok, Err}
+use Rattle.std.specs.Prelude.{ℕ, ◌≡◌, ◌≢◌, ◌≤◌, ◌+◌, ◌%◌, ◌==◌, ◌⊎◌, Bool, true, false, List, [], ◌∷◌, ◌++◌, length, if◌then◌else◌, Some, IfOk, IsOk, Result, Ok, Err}
 use Rattle.std.specs.List.{list_any}
 use Rattle.pmem_base.specs.declared.lines.Line.{Line}
 use Rattle.pmem_base.specs.declared.lines.Ctr.{Ctr}
@@ -194,7 +194,9 @@ pub record HasSealedNext (setup : Setup) (at : ℕ) (plain : Line) (old new : Pa
   pub steps :
       TakesSealSteps (seal_steps (regs_of old).loss (next_counter_of setup.shape old.engine at)) old new answer
   pub work : IfOk answer (λ ctr. IsWork (seal_work setup.shape (regs_of old).loss ctr) old new)
-  pub cache : IsOk answer → KeepsButPath setup.shape (page_of at) old.engine.cache new.engine.cache
+  pub cache : KeepsButPath setup.shape (page_of at) old.engine.cache new.engine.cache
+  -- a cut leaves the group armed where the mark was made
+  pub armed : answer ≡ Err Fail.Cut → (made ≡ []) ⊎ ((regs_of new).group.items ≢ [])
   pub meta_lines : IsOk answer → KeepsOtherMeta setup.shape (page_of at) old.device.lines new.device.lines
   pub block_kept :
       (regs_of old).group.items ≡ [] → list_any (is_persisting (regs_of old).loss at) made ≡ false
@@ -244,7 +246,7 @@ pub record HasBegunPage (setup : Setup) (page : ℕ) (old new : Parts) (answer :
   pub down : new.engine.down ≡ old.engine.down
   pub steps : TakesBeginSteps old new answer
   pub work : IsOk answer → IsWork (begin_work setup.shape 1) old new
-  pub cache : IsOk answer → KeepsButPath setup.shape page old.engine.cache new.engine.cache
+  pub cache : KeepsButPath setup.shape page old.engine.cache new.engine.cache
   pub meta_lines : IsOk answer → KeepsOtherMeta setup.shape page old.device.lines new.device.lines
   pub reads : new.device.reads ≡ old.device.reads
   pub tags : new.tags ≡ old.tags

@@ -26,7 +26,7 @@ use Rattle.pmem_engine.specs.declared.fault.Fault.TheVariants as Fail
 use Rattle.pmem_engine.specs.Parts.{Parts, regs_of, AreTrusted, AreSound, HoldsSeal, meta_line_in}
 use Rattle.pmem_engine.specs.Outcomes.{shown, outcome_of, is_sealed_by, OneLossEffect, TakesSteps, TakesAtMost, TakesFewer, is_seal_of}
 use Rattle.pmem_engine.specs.Faults.{IsTagRefused, IsForgedShown}
-use Rattle.pmem_engine.specs.Calls.{IsMemory, IsDownAnswer, IsUnrefused, IsLeftAlone, moment_in, AreMarksOfWrite, memory_after, AnswersWrite, TakesSpent, IsPathNamedInMirror, TakesOfWrite, is_persisting, IsBlockTrue, KeepsShadow, IsMetaUncached, IsPastFetch, HasNamedSome, AreUnderMinorZero, AreInWriteOrder, IsWork, unseal_work, reseal_work, unsealed_count, KeepsMetaLines, IsWriteWork, IsRefusedAsFetched}
+use Rattle.pmem_engine.specs.Calls.{IsMemory, IsDownAnswer, IsUnrefused, IsLeftAlone, moment_in, AreMarksOfWrite, memory_after, AnswersWrite, TakesSpent, IsPathNamedInMirror, TakesOfWrite, is_persisting, IsBlockTrue, KeepsShadow, IsMetaUncached, IsPastFetch, HasNamedSome, AreUnderMinorZero, AreInWriteOrder, IsWork, unseal_work, reseal_work, unsealed_count, KeepsMetaLines, IsWriteWork, IsRefusedAsFetched, IsCutOfWrite}
 use Rattle.pmem_engine.specs.Resealing.{register_in}
 use Rattle.pmem_engine.specs.Sealing.{HasBegunPage}
 
@@ -234,6 +234,10 @@ pub record UpWriteOutcome (setup : Setup) (write : Posted) (old new : Parts) (an
   pub meta_uncached : IsMetaUncached setup.shape (page_of write.at) old answer
   pub names : HasNamedSome setup.shape (page_of write.at) old new
   pub refused : IsRefusedAsFetched setup.shape (page_of write.at) old new answer
+  pub cut : IsCutOfWrite setup write made old new answer
+  pub own_armed :
+      AreTrusted setup old → (memory : Memory) → IsMemory setup memory old → answer ≡ Err Fail.Cut
+      → IsTrue (is_sealed_by made write.at) → (regs_of new).group.items ≢ []
   pub order : AreInWriteOrder write.at made
   pub own_sealed : IsOk answer → IsTrue (is_sealed_by made write.at)
   pub few_steps : TakesAtMost (2 * path_length setup.shape + 264) old.device new.device

@@ -66,6 +66,13 @@ impl Engine {
         }
     }
 
+    /// The geometry of the memory.
+    pub fn geo(&self) -> &Geo
+        ensures { shape_of result.now ≡ self.now.shape }
+    {
+        &self.geo
+    }
+
     /// A law: the cache's slots stand in the banks, sets and ways of the engine's shape; those of a set
     /// differ in their ways and positions, and each has a position of its set and a line.
     pub fn has_banks(&self)

@@ -1,4 +1,3 @@
--- The watched board, and flags.
-pub mod WatchLemmas
+-- Flags.
 pub mod StampLemmas
 pub mod FlagLemmas

@@ -18,10 +18,11 @@ use Rattle.pmem_engine.specs.Engine.{EngineState}
 use Rattle.pmem_engine.specs.Outcomes.{is_sealed_by}
 use Rattle.pmem_engine.specs.Calls.{HasWrittenLine}
 use Rattle.pmem_replay.specs.World.{WorldState, IsWorld}
-use Rattle.pmem_replay.specs.declared.taken.Taken.{Taken}
+use Rattle.watched_board.specs.declared.taken.Taken.{Taken}
 use Rattle.pmem_replay.specs.declared.draining.Gave.{Gave}
 use Rattle.pmem_replay.specs.declared.draining.Gave.TheVariants.{Put, Refused, Spent, Kept, Lost, Shown}
-use Rattle.pmem_replay.specs.During.{AreInCount, FollowsOn, none_taken, steps_in, parts_in}
+use Rattle.watched_board.specs.Watching.{AreInCount, FollowsOn, none_taken, steps_in}
+use Rattle.pmem_replay.specs.During.{parts_in}
 
 -- the front write is put or not, and power stays on or not; what its marks leave dirty comes after
 abbrev pub given_state : PlainState → ℕ → Posted → List Posted → ℕ → Bool → Bool → PlainState

@@ -43,9 +43,10 @@ use Rattle.pmem_recovery.specs.Fixed.{found_root}
 use Rattle.pmem_recovery.specs.Parts.{SuiteState}
 use Rattle.pmem_recovery.specs.Recovered.{HasRecovered}
 use Rattle.pmem_replay.specs.World.{WorldState, AreExact, IsWorld, view_in, lines_in}
-use Rattle.pmem_replay.specs.declared.taken.Taken.{Taken}
+use Rattle.watched_board.specs.declared.taken.Taken.{Taken}
 use Rattle.pmem_replay.specs.declared.world.Reply as replies
-use Rattle.pmem_replay.specs.During.{none_taken, steps_in, step_limit, device_during, counted, cuts_after, parts_in}
+use Rattle.watched_board.specs.Watching.{none_taken, steps_in, step_limit, device_during, counted, cuts_after}
+use Rattle.pmem_replay.specs.During.{parts_in}
 
 -- ---- what the table's answers do to the board and to the engine
 

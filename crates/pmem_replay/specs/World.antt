@@ -20,7 +20,7 @@ use Rattle.meta_cache.specs.Banks.{IsBanksOf, is_cached_dirty}
 use Rattle.suite.specs.Formulas.{Formulas, AreInRange}
 use Rattle.suite.specs.Setup.{Setup}
 use Rattle.plain_model.specs.State.{PlainState, is_flagged, has_flags}
-use Rattle.plain_model.specs.View.{DeviceView, view_of, plain_line}
+use Rattle.plain_model.specs.View.{DeviceView, IsMemoryOf, view_of, plain_memory}
 use Rattle.plain_model.specs.Bounds.{can_be_dirty}
 use Rattle.pmem_replay.specs.Flagged.{Tampering, Dirtying}
 use Rattle.pmem_engine.specs.Engine.{EngineState}
@@ -55,12 +55,6 @@ abbrev pub lines_in : WorldState → List Line
 lines_in world = redone world.board.regs.group.items world.board.lines
 
 -- ---- a world of its parts
-
--- plain memory isn't kept: it is the plain lines of the marks
-unfoldable pub plain_memory : Setup → List Mark → List Line
-plain_memory setup marks =
-    map (λ a. unwrap_or (plain_line setup.formulas marks a) zero_line)
-    (range_with_len 0 (layout.data_lines setup.shape))
 
 -- what the program keeps of a world beside the geometry
 pub record WorldParts : Type 0 where
@@ -112,13 +106,6 @@ world_of setup parts =
     }
 
 -- ---- parts of what it holds
-
--- so many lines, each the plain line that it was last sealed with
-pub record IsMemoryOf (setup : Setup) (marks : List Mark) (memory : List Line) : Type 0 where
-  pub count : length memory ≡ layout.data_lines setup.shape
-  pub each :
-      (a : ℕ) → a < layout.data_lines setup.shape
-      → plain_line setup.formulas marks a ≡ Some (line_at memory a)
 
 -- the line isn't the cipher that data line a was last sealed as
 abbrev pub IsOtherCipher : List Mark → ℕ → Line → Type 0

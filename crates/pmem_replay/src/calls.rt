@@ -14,11 +14,9 @@ ghost use Rattle.seal_ledger.specs.View.{ledger_of};
 ghost use Rattle.pmem_engine.specs.Parts.{parts_of};
 ghost use Rattle.pmem_engine.specs.Calls.{IsReady, IsUsable, HasReadLine, HasTurned, HasFlushed, HasSetLoss, HasWrittenLine};
 ghost use Rattle.pmem_recovery.specs.Parts.{suite_state};
-ghost use Rattle.pmem_replay.specs.During.{IsWatched, WasFormatted, IsTakenApart, WasRecovered, device_during, none_taken};
+ghost use Rattle.watched_board.specs.Watching.{IsWatched, device_during, none_taken};
+ghost use Rattle.pmem_replay.specs.During.{WasFormatted, IsTakenApart, WasRecovered};
 
-use crate::kept::{Kept, Made};
-use crate::taken::Taken;
-use crate::watched::{Left, Start, Watched};
 use board::MemBoard;
 use pmem_base::{Ctr, Geo, Line, MemFault, Posted};
 use pmem_engine::{Engine, Fault};
@@ -27,6 +25,7 @@ use seal_ledger::Ledger;
 use std::alloc::Global;
 use std::marker::Brand;
 use suite::Suite;
+use watched_board::{Kept, Left, Made, Start, Taken, Watched};
 
 /// A call's answer, and the steps that it took.
 #[derive(Drop)]

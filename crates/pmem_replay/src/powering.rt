@@ -6,12 +6,12 @@ ghost use Rattle.pmem_replay.specs.World.{setup_of_world};
 ghost use Rattle.pmem_replay.specs.Replies.{without_marks};
 ghost use Rattle.pmem_replay.specs.Stepped.{HasStepped, CanWantMemory};
 
-use crate::numbers::is_number;
 use crate::{World, calls};
 use pmem_base::{Answer, Exhibit, MemFault, Tag};
 use pmem_recovery::RecFault;
 use std::alloc::Global;
 use suite::Counted;
+use watched_board::is_number;
 
 impl<S: Counted + Drop> World<S> {
     /// Power is to be cut after `n` more persist steps.

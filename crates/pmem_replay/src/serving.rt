@@ -7,13 +7,13 @@ ghost use Rattle.pmem_replay.specs.World.{setup_of_world};
 ghost use Rattle.pmem_replay.specs.Replies.{without_marks, with_marks_since};
 ghost use Rattle.pmem_replay.specs.Stepped.{HasStepped, CanWantMemory};
 
-use crate::numbers::is_byte;
 use crate::{World, calls};
 use board::Board;
 use pmem_base::{Answer, Exhibit, MemFault, Place};
 use pmem_engine::Fault;
 use seal_ledger::{Audit, Ledger};
 use suite::Counted;
+use watched_board::is_byte;
 use write_ports::overlay;
 
 impl<S: Counted + Drop> World<S> {

@@ -1,15 +1,16 @@
 -- A wear's record and the wear that it records.
-use Rattle.std.proofs.Common.{ℕ, ◌≡◌, ◌<◌, ◌≤◌, ◌-◌, ◌^◌, true, List, ◌++◌, length, take, drop, replicate, Some, None, refl, sym, ap, subst, ◌∙◌, arith}
+use Rattle.std.proofs.Common.{ℕ, ◌≡◌, ◌<◌, ◌≤◌, ◌-◌, ◌^◌, Bool, true, false, cond, List, ◌++◌, length, take, drop, replicate, Some, None, refl, sym, ap, subst, ◌∙◌, arith, lit<}
 use Rattle.std.specs.Prelude.{slice_range, nat_lt as ltb, nat_le as leb, ◌&&◌}
 use Rattle.std.specs.Int.{w32, to_be_bytes}
 use borrow.Rule.Slice.PartMut.{put_mid}
 use Rattle.std.proofs.lemmas.List.{length-append, length-drop, length-take-le, take-append-drop, append_assoc, drop-drop}
-use Rattle.std.proofs.lemmas.List.Elements.{All-take, All-drop}
-use Rattle.std.proofs.lemmas.Bool.{cond-true, cond-false, and_from, and_parts, false_from_ne_true, lt-ltb, le-leb}
+use Rattle.std.proofs.lemmas.List.Elements.{All-append, All-take, All-drop, All-replicate}
+use Rattle.std.proofs.lemmas.Bool.{cond-true, cond-false, and_from, and_parts, false_from_ne_true, lt-ltb, ltb-true, le-leb}
+use Rattle.std.proofs.lemmas.Option.{same_Some, none-some}
 use Rattle.std.proofs.Math.Seq.{drop-append_seam}
 use Rattle.pmem_base.specs.declared.lines.Line.{Line}
 use Rattle.pmem_base.specs.Lines.{IsLine, line_of, big_endian, from_big_endian, same_bytes}
-use Rattle.pmem_base.proofs.ByteLaws.{same_bytes-from, same_bytes-true}
+use Rattle.pmem_base.proofs.ByteLaws.{same_bytes-from, same_bytes-true, big_endian-AreBytes}
 use Rattle.pmem_base.proofs.Digits.{bytes_of_four, from_big_endian-big_endian, big_endian-from_big_endian}
 use Rattle.start_gap.specs.declared.wear.Wear.{Wear}
 use Rattle.start_gap.specs.Wear.{IsWear}
@@ -127,3 +128,29 @@ recorded_record n wear small its =
     ap (λ (z : ℕ). record { start = z; gap = n - from_big_endian (big_endian 4 (n - wear.gap)) }) s
     ∙ ap (λ (z : ℕ). record { start = wear.start; gap = z }) gap in
     grind (arith, test, same)
+
+-- a record is a line
+pub wear_record-IsLine : (n : ℕ) (wear : Wear) → IsLine (wear_record n wear)
+unfolding wear_record
+wear_record-IsLine n wear =
+    record {
+      long = refl;
+      bytes =
+          All-append (λ b. b < 256) (big_endian 4 wear.start ++ big_endian 4 (n - wear.gap)) (replicate 56 0)
+          (All-append (λ b. b < 256) (big_endian 4 wear.start) (big_endian 4 (n - wear.gap)) (big_endian-AreBytes 4 wear.start)
+          (big_endian-AreBytes 4 (n - wear.gap)))
+          (All-replicate (λ b. b < 256) 56 0 (lit< tt));
+    }
+
+-- what is recorded is a wear
+pub recorded-IsWear : (n : ℕ) (line : Line) (wear : Wear) → recorded n line ≡ Some wear → IsWear n wear
+recorded-IsWear n line wear = go (is_record n line) refl
+  where
+    go : (b : Bool) → is_record n line ≡ b
+        → cond b (Some (record { start = start_in line; gap = n - moved_in line })) None ≡ Some wear → IsWear n wear
+    go true e is =
+        let tests = and_parts (ltb (start_in line) n && leb (moved_in line) n) (same_bytes (drop 8 line.0) (replicate 56 0)) e in
+        let low = ltb-true (start_in line) n (and_parts (ltb (start_in line) n) (leb (moved_in line) n) tests.0).0 in
+        let it : IsWear n (record { start = start_in line; gap = n - moved_in line }) = record { start = low; gap = omega arith } in
+        subst (IsWear n) (same_Some _ _ is) it
+    go false e is = absurd (none-some wear is)

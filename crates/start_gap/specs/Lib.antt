@@ -1,3 +1,4 @@
 pub mod Wear
 pub mod Record
 pub mod Logical
+pub mod Gapped

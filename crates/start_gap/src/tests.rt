@@ -1,4 +1,6 @@
 //! Worked wears: a memory of three lines through each move of a turn, and records.
+mod levelled;
+
 use crate::{Wear, next, place, read_wear, source, wear_line};
 use pmem_base::Line;
 

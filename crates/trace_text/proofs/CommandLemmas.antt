@@ -8,7 +8,7 @@ use Rattle.hex.proofs.HexLemmas.{length-encode_with}
 use Rattle.pmem_base.specs.declared.lines.Line.{Line}
 use Rattle.pmem_base.specs.declared.commands.Command.{Command}
 use Rattle.pmem_base.specs.declared.commands.Command.TheVariants as Do
-use Rattle.pmem_base.specs.Lines.{IsLine, AreBytes, line_of}
+use Rattle.pmem_base.specs.Lines.{AreBytes, line_of}
 use Rattle.pmem_base.specs.Ranges.{IsCommand, IsPort, IsU64, IsPartLine}
 use Rattle.collision_witness.specs.Words.{Word, number_of, words_of, without_return, some_hex_bytes}
 use Rattle.collision_witness.specs.Texts.{sentence, hex_text, line_text}

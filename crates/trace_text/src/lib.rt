@@ -1,5 +1,5 @@
 //! The language of traces both ways: the commands and answers that lines spell, their texts and those
-//! of marks, and sample traces.
+//! of marks, and sample traces. What a session of a language of its own is.
 #![tactic(auto)]
 
 mod answers;
@@ -8,8 +8,7 @@ mod ranges;
 mod reading;
 mod samples;
 mod spelling;
-#[cfg(test)]
-mod tests;
+mod talk;
 mod values;
 mod writing;
 
@@ -18,5 +17,6 @@ pub use collision_witness::{push_bytes, push_number};
 pub use reading::read_command;
 pub use samples::Maker;
 pub use spelling::write_command;
+pub use talk::{Halt, TEXT_BYTES, Talk};
 pub use values::read_part;
 pub use writing::{push_answer, write_answer, write_mark};

@@ -225,5 +225,7 @@ module _ (setup : Setup) (old new : EngineState) (before after : Device) (ledger
         work = λ up. flush_work answer it;
         same_ledger = refl;
         same_reads = reads;
+        tags = refl;
+        digests = refl;
         cached = flush_cached answer it;
       }

@@ -461,6 +461,8 @@ module _ (setup : Setup) (n : ℕ) (old new : EngineState) (before after : Devic
         shadow = record { mirror = (loss_shadow answer it).mirror; lines = (loss_shadow answer it).lines };
         same_ledger = refl;
         same_reads = loss_reads answer it;
+        tags = refl;
+        digests = refl;
         cached = loss_cached answer it;
       }
 
@@ -483,5 +485,7 @@ set_down setup n parts down =
       shadow = shadow_still setup.shape parts parts refl refl;
       same_ledger = refl;
       same_reads = refl;
+      tags = refl;
+      digests = refl;
       cached = λ bank x. refl;
     }

@@ -111,6 +111,7 @@ module _ (setup : Setup) (page : ℕ) (old new : EngineState) (ledger noted : Le
                     regs = over.regs;
                   };
               as_far = λ past. refl;
+              due = λ live. tt;
             };
         mirror = mirror;
         down = down;
@@ -195,6 +196,9 @@ module _ (setup : Setup) (page : ℕ) (old new : EngineState) (ledger noted : Le
                     regs = over.regs;
                   };
               as_far = λ past. absurd past;
+              due =
+                  λ live.
+                  record { on_path = omega (arith, it.on_path); absent = it.absent; victim = it.victim live };
             };
         mirror = mirror;
         down = down;
@@ -308,6 +312,7 @@ module _ (setup : Setup) (page : ℕ) (old new : EngineState) (ledger noted : Le
                   };
               as_far =
                   sym (ap level_of it.position ∙ path_at-level setup.shape page it.n its_page few_levels it.read.on_path);
+              due = λ live. tt;
             };
         mirror = mirror;
         down = down;
@@ -376,6 +381,7 @@ module _ (setup : Setup) (page : ℕ) (old new : EngineState) (ledger noted : Le
                     regs = over.regs;
                   };
               as_far = λ past. absurd (never_past past);
+              due = λ live. tt;
             };
         mirror = mirror;
         down = down;

@@ -20,7 +20,7 @@ use Rattle.pmem_engine.specs.declared.fault.Fault.TheVariants as Fail
 use Rattle.pmem_engine.specs.declared.reading.Unsealed.{Unsealed}
 use Rattle.pmem_engine.specs.Parts.{Parts, AreTrusted, AreSound}
 use Rattle.pmem_engine.specs.Outcomes.{Outcome, going, cut_short, shown, is_going, outcome_of, outcome_of_fault, OneLossEffect, TakesSteps, TakesAtMost}
-use Rattle.pmem_engine.specs.Calls.{IsDownAnswer, IsUnrefused, TakesWithin, TakesWithinOfLive, IsMetaUncached, fetch_state, path_spilled, fetch_work, unseal_work, IsPathFetched, IsPastFetch, IsAnswerOfRead, IsReadWork, AnswersRead, IsReadOfCached, HasFetchedLevels, IsFetchedAsFar}
+use Rattle.pmem_engine.specs.Calls.{IsDownAnswer, IsUnrefused, TakesWithin, TakesWithinOfLive, IsMetaUncached, fetch_state, path_spilled, fetch_work, unseal_work, IsPathFetched, IsPastFetch, IsAnswerOfRead, IsReadWork, AnswersRead, IsReadOfCached, HasFetchedLevels, IsFetchedAsFar, IsCutWhereDue}
 use Rattle.pmem_engine.specs.Inner.{HasFetched, HasUnsealed, IsAnswerOfFetch, AnswersFetch, IsAnswerOfUnseal, UpReadOutcome, IsLastCounter, AnswersUnseal, StandsStill}
 use Rattle.pmem_engine.proofs.CallEnds.CallChains.{done_chained}
 use Rattle.pmem_engine.proofs.CallEnds.EndedEngines.{with_engine}
@@ -125,7 +125,13 @@ module _ (setup : Setup) (a : ℕ) (ctr : Ctr) (old mid new : Parts) (its_shape 
             shadow_chained setup.shape old mid new fetched.shadow
             (shadow_still setup.shape mid new unsealed.engine unsealed.lines);
         work = work answer unsealed;
-        fetched = record { levels = path_length setup.shape; fetched = all_fetched; as_far = as_far answer unsealed.possible };
+        fetched =
+            record {
+              levels = path_length setup.shape;
+              fetched = all_fetched;
+              as_far = as_far answer unsealed.possible;
+              due = due answer unsealed;
+            };
         mirror = ap (λ engine. engine.mirror) unsealed.engine ∙ fetched.mirror;
         down = ap (λ engine. engine.down) unsealed.engine ∙ fetched.down;
         of_cached = of_cached;
@@ -180,6 +186,17 @@ module _ (setup : Setup) (a : ℕ) (ctr : Ctr) (old mid new : Parts) (its_shape 
       as_far (Err (Fail.Tag b)) it = λ past. refl
       as_far (Err (Fail.Spent page)) it = λ past. refl
       as_far (Err Fail.Shown) it = λ past. refl
+
+      -- a live board isn't cut at the unsealing's reads
+      due : (reply : Result Unsealed Fault) → HasUnsealed setup a ctr mid new reply → old.device.live ≡ true
+          → IsCutWhereDue setup.shape (page_of a) (path_length setup.shape) old (plain_answer reply)
+      due (Ok opened) it live = tt
+      due (Err Fail.Cut) it live = absurd (true≢false (sym (fetched.done.gone.power.1 live) ∙ it.cut_unpowered refl))
+      due (Err Fail.Down) it live = tt
+      due (Err (Fail.Meta x)) it live = tt
+      due (Err (Fail.Tag b)) it live = tt
+      due (Err (Fail.Spent page)) it live = tt
+      due (Err Fail.Shown) it live = tt
 
       ok_before : (reply : Result Unsealed Fault) → IsOk (plain_answer reply) → IsOk reply
       ok_before (Ok opened) ok = ok
@@ -262,6 +279,15 @@ as_far_fault T U g old new (Fail.Meta x) levels it = it
 as_far_fault T U g old new (Fail.Tag b) levels it = it
 as_far_fault T U g old new (Fail.Spent page) levels it = it
 
+pub due_fault : (T U : Type 0) (g : Shape) (page levels : ℕ) (old : Parts) (fault : Fault)
+    → IsCutWhereDue {T = T} g page levels old (Err fault) → IsCutWhereDue {T = U} g page levels old (Err fault)
+due_fault T U g page levels old Fail.Cut it = it
+due_fault T U g page levels old Fail.Down it = tt
+due_fault T U g page levels old Fail.Shown it = tt
+due_fault T U g page levels old (Fail.Meta x) it = tt
+due_fault T U g page levels old (Fail.Tag b) it = tt
+due_fault T U g page levels old (Fail.Spent spent) it = tt
+
 module _ (setup : Setup) (a : ℕ) (old new : Parts) where
   unfetched_says : (fault : Fault) → AnswersFetch setup (page_of a) old new (Err fault) → AnswersRead setup a old new (Err fault)
   unfetched_says Fail.Cut it = tt
@@ -313,6 +339,7 @@ module _ (setup : Setup) (a : ℕ) (old new : Parts) where
               levels = it.fetched.levels;
               fetched = it.fetched.fetched;
               as_far = as_far_fault Unit Line setup.shape old new fault it.fetched.levels it.fetched.as_far;
+              due = λ live. due_fault Unit Line setup.shape (page_of a) it.fetched.levels old fault (it.fetched.due live);
             };
         mirror = it.mirror;
         down = it.down;

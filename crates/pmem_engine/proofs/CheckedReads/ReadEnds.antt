@@ -154,7 +154,7 @@ as_far_ended g old new (Err (Fail.Meta x)) end levels it = it
 as_far_ended g old new (Err (Fail.Tag b)) end levels it = it
 as_far_ended g old new (Err (Fail.Spent page)) end levels it = it
 
-fetched_ended : {T : Type 0} (g : Shape) (page : ℕ) (old new : Parts) (answer : Result T Fault) (end : Outcome)
+pub fetched_ended : {T : Type 0} (g : Shape) (page : ℕ) (old new : Parts) (answer : Result T Fault) (end : Outcome)
     → HasFetchedSome g page old new answer → HasFetchedSome g page old (ended_parts new end) answer
 fetched_ended g page old new answer end it =
     record {
@@ -169,6 +169,7 @@ fetched_ended g page old new answer end it =
             regs = it.fetched.regs;
           };
       as_far = as_far_ended g old new answer end it.levels it.as_far;
+      due = it.due;
     }
 
 answers_read_ended : (setup : Setup) (a : ℕ) (old new : Parts) (answer : Result Line Fault) (outcome : Outcome)

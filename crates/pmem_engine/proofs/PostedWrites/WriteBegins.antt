@@ -1,5 +1,5 @@
 -- The page that a write begins, or none, and the line's next counter then.
-use Rattle.std.proofs.Common.{rules, ℕ, ◌≡◌, ◌≤◌, ◌+◌, ◌*◌, ◌++◌, ◌⊎◌, inl, inr, Bool, true, false, List, [], ◌∷◌, length, map, Result, Ok, Err, refl, sym, ap, subst, ◌∙◌, arith}
+use Rattle.std.proofs.Common.{rules, ℕ, ◌≡◌, ◌≤◌, ◌+◌, ◌*◌, ◌++◌, ◌⊎◌, inl, inr, Bool, true, false, List, [], ◌∷◌, length, Result, Ok, Err, refl, sym, ap, subst, ◌∙◌, arith}
 use Rattle.std.specs.Prelude.{IsOk}
 use Rattle.std.proofs.lemmas.List.Elements.{All-nil, All-cons}
 use Rattle.pmem_base.specs.declared.lines.Ctr.{Ctr}
@@ -10,8 +10,6 @@ use Rattle.split_counters.specs.declared.Block.{Block}
 use Rattle.split_counters.specs.Blocks.{minor_of}
 use Rattle.split_counters.proofs.Packing.{zero_minors-zero}
 use Rattle.board.specs.Device.{Device}
-use Rattle.meta_cache.specs.Banks.{set_of}
-use Rattle.meta_path.specs.Blocks.{path_at}
 use Rattle.meta_path.specs.Work.{told_line}
 use Rattle.meta_path.specs.Naming.{path_number}
 use Rattle.suite.specs.Setup.{Setup}
@@ -20,10 +18,11 @@ use Rattle.pmem_engine.specs.declared.fault.Fault.TheVariants as Fail
 use Rattle.pmem_engine.specs.Parts.{Parts, AreTrusted}
 use Rattle.pmem_engine.specs.Engine.{EngineState}
 use Rattle.pmem_engine.specs.Outcomes.{outcome_of, TakesSteps, TakesAtMost, TakesFewer}
-use Rattle.pmem_engine.specs.Calls.{KeepsShadow, IsWork, begin_work, masked, KeepsButPath, KeepsOtherMeta, IsUnderMinorZero, AreUnderMinorZero}
+use Rattle.pmem_engine.specs.Calls.{KeepsShadow, IsWork, begin_work, KeepsButPath, KeepsOtherMeta, IsUnderMinorZero, AreUnderMinorZero}
 use Rattle.pmem_engine.specs.Inner.{cached_block}
 use Rattle.pmem_engine.specs.Sealing.{KeepsNumbers, next_counter_of, HasBeginMarks, TakesBeginSteps, HasBegunPage}
 use Rattle.pmem_engine.specs.Writing.{HasLeftOut, IsFrontOf, HasBegunFor}
+use Rattle.pmem_engine.proofs.Seals.KeptSlots.{kept_same}
 use Rattle.pmem_engine.proofs.PostedWrites.WriteParts.{IsWritePart, alone_part, begin_part}
 use Rattle.pmem_engine.proofs.PostedWrites.WriteSteps.{begin_asked, steps_most, fewer_most, more_most}
 use Rattle.pmem_engine.proofs.CallEnds.ShadowLines.{shadow_still}
@@ -56,7 +55,7 @@ pub record HasBegunSome (setup : Setup) (at : ℕ) (asked : List Mark) (ctr : Ct
   pub numbers : KeepsNumbers setup.shape (page_of at) old.engine new.engine
   pub few_steps : TakesAtMost 3 old.device new.device
   pub work : IsOk answer → IsWork (begin_work setup.shape (length asked)) old new
-  pub cache : IsOk answer → KeepsButPath setup.shape (page_of at) old.engine.cache new.engine.cache
+  pub cache : KeepsButPath setup.shape (page_of at) old.engine.cache new.engine.cache
   pub meta_lines : IsOk answer → KeepsOtherMeta setup.shape (page_of at) old.device.lines new.device.lines
   pub next : IsOk answer → AreTrusted setup old → next_counter_of setup.shape new.engine at ≡ ctr
 
@@ -79,8 +78,8 @@ module _ (setup : Setup) (at : ℕ) (old new : Parts) (answer : Result Unit Faul
             λ ok.
             work_alone (begin_work setup.shape 0) old new refl refl (omega arith) refl (omega arith) it.alone;
         cache =
-            λ ok bank set.
-            ap (λ (e : EngineState). map (masked (path_at setup.shape (page_of at) bank)) (set_of e.cache bank set)) it.alone.engine;
+            kept_same setup.shape (page_of at) old.engine.cache new.engine.cache
+            (ap (λ (e : EngineState). e.cache) it.alone.engine);
         meta_lines =
             λ ok x within apart.
             ap (λ (d : Device). told_line d.lines (meta_line setup.shape x)) it.alone.device;

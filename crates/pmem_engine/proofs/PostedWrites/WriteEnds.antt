@@ -22,6 +22,7 @@ use Rattle.pmem_engine.proofs.CheckedReads.ReadEnds.{ended_parts, done_ended, an
 use Rattle.pmem_engine.proofs.CallEnds.ShadowLines.{shadow_still}
 use Rattle.pmem_engine.proofs.PathNaming.ShadowNames.{none_named}
 use Rattle.pmem_engine.proofs.PostedWrites.WriteRefusals.{refused_ended}
+use Rattle.pmem_engine.proofs.PostedWrites.WriteCuts.{cut_ended}
 use Rattle.pmem_engine.proofs.PostedWrites.WriteExits.{none_order}
 
 -- a whole line is posted
@@ -57,6 +58,8 @@ written_down setup write parts down =
       meta_uncached = tt;
       names = none_named setup.shape (page_of write.at) parts parts (shadow_still setup.shape parts parts refl refl);
       refused = λ up. tt;
+      cut = λ up. tt;
+      own_armed = λ trusted memory was is sealed. absurd (true≢false (sym sealed));
       order = none_order write.at;
       few_marks = omega arith;
       own_sealed = λ ok. absurd (true≢false (sym ok));
@@ -144,6 +147,8 @@ written_ended setup write old new answer was no_group it =
       meta_uncached = it.meta_uncached;
       names = names_ended setup.shape (page_of write.at) old new (outcome_of answer) it.names;
       refused = λ up. refused_ended setup.shape (page_of write.at) old new answer (outcome_of answer) it.refused;
+      cut = λ up. cut_ended setup write it.made old new answer (outcome_of answer) it.cut;
+      own_armed = it.own_armed;
       order = it.order;
       few_marks = few_in_order write.at it.made it.order;
       own_sealed = it.own_sealed;

@@ -25,10 +25,15 @@ use Rattle.pmem_engine.specs.declared.fault.Fault.{Fault}
 use Rattle.pmem_engine.specs.declared.fault.Fault.TheVariants as Fail
 use Rattle.pmem_engine.specs.Parts.{Parts, AreTrusted, AreSound}
 use Rattle.pmem_engine.specs.Outcomes.{outcome_of_fault, is_seal_of, is_sealed_by, TakesAtMost}
-use Rattle.pmem_engine.specs.Calls.{IsMemory, IsDownAnswer, IsUnrefused, TakesWithin, TakesWithinOfLive, moment_in, IsPartOf, IsRefusedLine, AreMarksOfWrite, AnswersWrite, write_bound, TakesSpent, TakesOfWrite, IsMetaUncached, IsPastFetch, HasNamedSome, IsRefusedAsFetched, IsUnderMinorZero, AreUnderMinorZero, IsOwnSeal, AreInWriteOrder}
-use Rattle.pmem_engine.specs.Inner.{AnswersFetch}
+use Rattle.pmem_engine.specs.Calls.{IsMemory, IsDownAnswer, IsUnrefused, TakesWithin, TakesWithinOfLive, moment_in, IsPartOf, IsRefusedLine, AreMarksOfWrite, AnswersWrite, write_bound, TakesSpent, TakesOfWrite, IsMetaUncached, IsPastFetch, HasNamedSome, IsRefusedAsFetched, IsCutOfWrite, IsUnderMinorZero, AreUnderMinorZero, IsOwnSeal, AreInWriteOrder}
+use Rattle.pmem_engine.specs.Inner.{AnswersFetch, HasFetched}
 use Rattle.pmem_engine.specs.Writing.{IsAnswerOfPlain, IsAnswerOfFinish, AnswersPlain, IsFrontOf, IsStoppedAt, HasFinishMarks, AnswersFinish, CountsFinish, UpWriteOutcome}
-use Rattle.pmem_engine.proofs.PostedWrites.WriteParts.{IsWritePart}
+use Rattle.pmem_engine.proofs.CheckedReads.LineReads.{past_fault, meta_fault, most_of_within}
+use Rattle.pmem_engine.proofs.PathNaming.ShadowNames.{none_named}
+use Rattle.pmem_engine.proofs.PostedWrites.WriteParts.{IsWritePart, fetch_part}
+use Rattle.pmem_engine.proofs.PostedWrites.WriteRefusals.{refused_in_fetch}
+use Rattle.pmem_engine.proofs.PostedWrites.WriteCuts.{cut_in_fetch}
+use Rattle.pmem_engine.proofs.PostedWrites.WriteSteps.{more_most}
 use Rattle.pmem_engine.proofs.PostedWrites.WriteFinishes.{finish_front}
 
 -- ---- marks left
@@ -95,6 +100,7 @@ pub record IsExit (setup : Setup) (write : Posted) (old new : Parts) (made : Lis
   pub meta_uncached : IsMetaUncached {T = Ctr} setup.shape (page_of write.at) old (Err fault)
   pub names : HasNamedSome setup.shape (page_of write.at) old new
   pub refused : IsRefusedAsFetched setup.shape (page_of write.at) old new (Err fault)
+  pub cut : IsCutOfWrite setup write made old new (Err fault)
   pub order : AreInWriteOrder write.at made
   pub few_steps : TakesAtMost (2 * path_length setup.shape + 264) old.device new.device
 
@@ -167,6 +173,9 @@ stopped setup write old new made fault part exit marks answered unrefused not_do
       meta_uncached = exit.meta_uncached;
       names = exit.names;
       refused = exit.refused;
+      cut = exit.cut;
+      own_armed =
+          λ trusted memory was cut sealed. absurd (true≢false (sym sealed ∙ part.not_own trusted memory was));
       order = exit.order;
       own_sealed = λ ok. absurd (true≢false (sym ok));
       few_steps = exit.few_steps;
@@ -188,20 +197,48 @@ fault_down v0 v1 v2 it = search rules
 
 -- ---- in the fetch
 
-pub unfetched_marks : (setup : Setup) (write : Posted) (old new : Parts) (asked : Option (List Mark)) (fault : Fault) → IsSomeAsked asked
+unfetched_marks : (setup : Setup) (write : Posted) (old new : Parts) (asked : Option (List Mark)) (fault : Fault) → IsSomeAsked asked
     → AnswersFetch setup (page_of write.at) old new (Err fault) → AreMarksOfWrite asked [] write (Err fault)
 unfetched_marks setup write old new asked v5 some it = search rules
 
-pub unfetched_answers : (setup : Setup) (write : Posted) (old new : Parts) (asked : Option (List Mark)) (fault : Fault)
+unfetched_answers : (setup : Setup) (write : Posted) (old new : Parts) (asked : Option (List Mark)) (fault : Fault)
     → AnswersFetch setup (page_of write.at) old new (Err fault) → AnswersWrite setup asked [] write old new (Err fault)
 unfetched_answers setup write old new asked v5 it = search rules
 
-pub unfetched_steps : (setup : Setup) (write : Posted) (old new : Parts) (asked : Option (List Mark)) (fault : Fault)
+unfetched_steps : (setup : Setup) (write : Posted) (old new : Parts) (asked : Option (List Mark)) (fault : Fault)
     → AnswersFetch setup (page_of write.at) old new (Err fault)
     → TakesWithin (outcome_of_fault fault) (path_length setup.shape) old new
     → TakesWithinOfLive (outcome_of_fault fault) (dirty_count setup.shape old.engine.cache) old new
     → TakesOfWrite setup.shape asked [] old new (Err fault)
 unfetched_steps setup write old new v4 v5 says path dirty = search rules
+
+pub written_unfetched : (setup : Setup) (write : Posted) (old new : Parts) (fault : Fault)
+    → HasFetched setup (page_of write.at) old new (Err fault) → UpWriteOutcome setup write old new (Err fault)
+written_unfetched setup write old new fault it =
+    stopped setup write old new [] fault (fetch_part setup write.at old new (Err fault) it)
+    (record {
+      path_fetched = λ past. it.path_fetched (past_fault Ctr Unit old new fault past);
+      meta_uncached = meta_fault Unit Ctr setup.shape (page_of write.at) old fault it.meta_uncached;
+      names = none_named setup.shape (page_of write.at) old new it.shadow;
+      refused = refused_in_fetch setup (page_of write.at) old new fault it;
+      cut = cut_in_fetch setup write [] old new fault refl it;
+      order = none_order write.at;
+      few_steps =
+          more_most (path_length setup.shape) (2 * path_length setup.shape + 264) old.device new.device (omega arith)
+          (most_of_within (outcome_of_fault fault) (path_length setup.shape) old new it.steps_of_path);
+    })
+    (λ trusted memory was.
+    unfetched_marks setup write old new (asked memory) fault
+    (some_asked setup.formulas (moment_in setup memory old) write) (it.answered trusted))
+    (λ trusted memory was. unfetched_answers setup write old new (asked memory) fault (it.answered trusted))
+    (λ sound. fault_unrefused Unit Ctr fault (it.unrefused sound))
+    (λ is. it.not_down (fault_down Ctr Unit fault is))
+    (λ trusted memory was.
+    unfetched_steps setup write old new (asked memory) fault (it.answered trusted) it.steps_of_path it.steps_of_dirty)
+    (λ trusted memory was none. (it.steps_of_path, it.steps_of_dirty))
+  where
+    asked : Memory → Option (List Mark)
+    asked memory = marks_of_write setup.formulas (moment_in setup memory old) write
 
 -- ---- in the plain line; the counter isn't used up
 

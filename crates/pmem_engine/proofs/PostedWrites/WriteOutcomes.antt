@@ -22,7 +22,7 @@ use Rattle.pmem_engine.specs.declared.fault.Fault.{Fault}
 use Rattle.pmem_engine.specs.declared.fault.Fault.TheVariants as Fail
 use Rattle.pmem_engine.specs.Parts.{Parts, regs_of, AreTrusted}
 use Rattle.pmem_engine.specs.Outcomes.{going, cut_short, is_going, outcome_of_fault, TakesSteps, TakesAtMost}
-use Rattle.pmem_engine.specs.Calls.{IsMemory, IsPathNamedInMirror, moment_in, AreMarksOfWrite, AnswersWrite, write_bound, TakesSpent, TakesOfWrite, KeepsShadow, IsUnderMinorZero}
+use Rattle.pmem_engine.specs.Calls.{IsMemory, IsPathNamedInMirror, moment_in, AreMarksOfWrite, AnswersWrite, write_bound, TakesSpent, TakesOfWrite, KeepsShadow, KeepsButPath, IsUnderMinorZero}
 use Rattle.pmem_engine.specs.Inner.{cached_block, StandsStill, HasFetched, HasNamedAll, HasNamedPath}
 use Rattle.pmem_engine.specs.Sealing.{next_counter_of, HasSealedNext}
 use Rattle.pmem_engine.specs.Writing.{overflow_of, HasFinishMarks, HasMadePlain, HasFinishedFor, HasBegunFor, UpWriteOutcome}
@@ -32,12 +32,12 @@ use Rattle.pmem_engine.proofs.PostedWrites.WriteFinishes.{HasFinishedSome, finis
 use Rattle.pmem_engine.proofs.PostedWrites.WriteWorks.{IsWorkBefore, worked_before}
 use Rattle.pmem_engine.proofs.PostedWrites.WriteSeals.{written_with_seal}
 use Rattle.pmem_engine.proofs.CallEnds.ShadowLines.{shadow_still, shadow_chained}
-use Rattle.pmem_engine.proofs.CheckedReads.LineReads.{past_fault, meta_fault, most_of_within}
 use Rattle.pmem_engine.proofs.PathNaming.ShadowNames.{none_named, then_named, then_all, named_then}
 use Rattle.pmem_engine.proofs.PostedWrites.WriteSteps.{only_last, most_then, fewer_most, more_most, fewer_then, steps_most, more_fewer, begin_asked, bound_whole}
 use Rattle.pmem_engine.proofs.PostedWrites.WriteBegins.{HasBegunSome, begin_counter, begun_for}
-use Rattle.pmem_engine.proofs.PostedWrites.WriteRefusals.{all_fetched, refused_in_fetch, refused_plain, refused_finish}
-use Rattle.pmem_engine.proofs.PostedWrites.WriteExits.{none_order, unsealed_order, plain_meta, finish_meta, some_after, some_asked, part_of_front, unnamed_front, stopped, fault_unrefused, fault_down, unfetched_marks, unfetched_answers, unfetched_steps, unplain_marks, unplain_answers, unplain_steps, unfinished_marks, unfinished_answers, unfinished_steps}
+use Rattle.pmem_engine.proofs.PostedWrites.WriteRefusals.{all_fetched, refused_plain, refused_finish}
+use Rattle.pmem_engine.proofs.PostedWrites.WriteCuts.{cut_past, cut_still}
+use Rattle.pmem_engine.proofs.PostedWrites.WriteExits.{none_order, unsealed_order, plain_meta, finish_meta, some_after, some_asked, part_of_front, unnamed_front, stopped, fault_unrefused, fault_down, unplain_marks, unplain_answers, unplain_steps, unfinished_marks, unfinished_answers, unfinished_steps}
 
 module _ (setup : Setup) (write : Posted) (within : write.at < layout.data_lines setup.shape) (old : Parts) where
   abbrev page : ℕ
@@ -52,32 +52,6 @@ module _ (setup : Setup) (write : Posted) (within : write.at < layout.data_lines
   -- it asks for the same where the ledger is the same
   asked_same : (memory : Memory) (before after : Parts) → after.ledger ≡ before.ledger → asked memory before ≡ asked memory after
   asked_same memory before after same = search rules
-
-  -- ---- the path isn't fetched
-
-  pub written_unfetched : (new : Parts) (fault : Fault) → HasFetched setup page old new (Err fault)
-      → UpWriteOutcome setup write old new (Err fault)
-  written_unfetched new fault it =
-      stopped setup write old new [] fault (fetch_part setup write.at old new (Err fault) it)
-      (record {
-        path_fetched = λ past. it.path_fetched (past_fault Ctr Unit old new fault past);
-        meta_uncached = meta_fault Unit Ctr setup.shape page old fault it.meta_uncached;
-        names = none_named setup.shape page old new it.shadow;
-        refused = refused_in_fetch setup page old new fault it;
-        order = none_order write.at;
-        few_steps =
-            more_most path (2 * path + 264) old.device new.device (omega arith)
-            (most_of_within (outcome_of_fault fault) path old new it.steps_of_path);
-      })
-      (λ trusted memory was.
-      unfetched_marks setup write old new (asked memory old) fault
-      (some_asked setup.formulas (moment_in setup memory old) write) (it.answered trusted))
-      (λ trusted memory was. unfetched_answers setup write old new (asked memory old) fault (it.answered trusted))
-      (λ sound. fault_unrefused Unit Ctr fault (it.unrefused sound))
-      (λ is. it.not_down (fault_down Ctr Unit fault is))
-      (λ trusted memory was.
-      unfetched_steps setup write old new (asked memory old) fault (it.answered trusted) it.steps_of_path it.steps_of_dirty)
-      (λ trusted memory was none. (it.steps_of_path, it.steps_of_dirty))
 
   module _ (p1 : Parts) (fetched : HasFetched setup page old p1 (Ok tt)) where
     trusted1 : AreTrusted setup old → AreTrusted setup p1
@@ -109,6 +83,7 @@ module _ (setup : Setup) (write : Posted) (within : write.at < layout.data_lines
           meta_uncached = tt;
           names = none_named setup.shape page old p1 fetched.shadow;
           refused = all_fetched setup page old p1 fetched;
+          cut = tt;
           order = none_order write.at;
           few_steps = more_most path (2 * path + 264) old.device p1.device (omega arith) fetched.steps_of_path;
         })
@@ -154,6 +129,7 @@ module _ (setup : Setup) (write : Posted) (within : write.at < layout.data_lines
                 none_named setup.shape page old new
                 (shadow_chained setup.shape old p1 new fetched.shadow (shadow_still setup.shape p1 new it.engine it.lines));
             refused = refused_plain setup page old p1 new fault fetched it.engine it.lines it.possible;
+            cut = cut_still setup write [] old p1 new fetched (ap (λ engine. engine.cache) it.engine) unspent (Err fault);
             order = none_order write.at;
             few_steps = more_most path (2 * path + 264) old.device new.device (omega arith) (path_alone new it.no_steps);
           })
@@ -240,6 +216,9 @@ module _ (setup : Setup) (write : Posted) (within : write.at < layout.data_lines
               meta_uncached = finish_meta setup.shape page old fault it.possible;
               names = none_named setup.shape page old new (shadow_chained setup.shape old p2 new shadow2 it.shadow);
               refused = refused_finish setup page old p1 p2 new fault fetched (it.engine ∙ made_plain.engine) shadow2 it.shadow it.possible;
+              cut =
+                  cut_still setup write it.made old p1 new fetched (ap (λ engine. engine.cache) (it.engine ∙ made_plain.engine)) unspent
+                  (Err fault);
               order = unsealed_order write.at it.made (let few = it.few in omega (arith, few)) it.minors;
               few_steps =
                   more_most (path + 256) (2 * path + 264) old.device new.device (omega arith)
@@ -286,6 +265,9 @@ module _ (setup : Setup) (write : Posted) (within : write.at < layout.data_lines
               (steps_most (4 * length some3.made) p2.device p3.device
               (some3.counts (trusted2 trusted) memory (part2.memory_kept trusted memory was))))
 
+          cache3 : p3.engine.cache ≡ p1.engine.cache
+          cache3 = ap (λ engine. engine.cache) (some3.engine ∙ made_plain.engine)
+
           shadow3 : KeepsShadow setup.shape old p3
           shadow3 = shadow_chained setup.shape old p2 p3 shadow2 some3.shadow
 
@@ -304,6 +286,7 @@ module _ (setup : Setup) (write : Posted) (within : write.at < layout.data_lines
                 meta_uncached = tt;
                 names = then_named setup.shape page old p3 new shadow3 it.names;
                 refused = tt;
+                cut = cut_still setup write (some3.made ++ []) old p1 new fetched (it.cache ∙ cache3) unspent (Err Fail.Cut);
                 order =
                     unsealed_order write.at (some3.made ++ [])
                     (let few = some3.few in let both = length-append some3.made [] in omega (arith, few, both))
@@ -368,6 +351,10 @@ module _ (setup : Setup) (write : Posted) (within : write.at < layout.data_lines
                   meta_uncached = tt;
                   names = (named_then setup.shape page old p4 new names4 it.shadow it.numbers).some;
                   refused = tt;
+                  cut =
+                      cut_past setup write (some3.made ++ it.made) old new p1.engine.cache (fetched.work refl).cache
+                      (subst (λ cache. KeepsButPath setup.shape page cache new.engine.cache) (named.cache ∙ cache3) it.cache) unspent
+                      (Err Fail.Cut);
                   order =
                       unsealed_order write.at (some3.made ++ it.made)
                       (let few = some3.few in let one = it.few in let both = length-append some3.made it.made in

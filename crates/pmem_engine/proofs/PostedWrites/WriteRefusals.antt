@@ -88,7 +88,7 @@ levels_ended g page levels old new end it =
       regs = it.regs;
     }
 
-shadow_ended : (g : Shape) (old new : Parts) (end : Outcome) → KeepsShadow g old new → KeepsShadow g old (ended_parts new end)
+pub shadow_ended : (g : Shape) (old new : Parts) (end : Outcome) → KeepsShadow g old new → KeepsShadow g old (ended_parts new end)
 shadow_ended g old new end it = record { mirror = it.mirror; lines = it.lines }
 
 pub refused_ended : (g : Shape) (page : ℕ) (old new : Parts) (answer : Result Ctr Fault) (end : Outcome)

@@ -1,6 +1,6 @@
 -- A write's own seal, after the parts before it: its marks, memory, steps and counter block.
 use Rattle.std.proofs.Common.{rules, ℕ, ◌≡◌, ◌≢◌, ◌<◌, ◌≤◌, ◌+◌, ◌%◌, ◌++◌, ◌⊎◌, inl, inr, Bool, true, false, cond, List, [], ◌∷◌, length, IsTrue, Option, Some, Result, Ok, Err, refl, sym, ap, ap₂, subst, ◌∙◌, arith}
-use Rattle.std.specs.Prelude.{◌==◌, ◌||◌, ◌*◌, All, option_map, IsOk, IfOk}
+use Rattle.std.specs.Prelude.{◌==◌, ◌||◌, ◌*◌, All, option_map, is_some, IsOk, IfOk}
 use Rattle.plain_model.specs.Bounds.{path_length, is_seal, seal_count}
 use Rattle.pmem_engine.proofs.PathNaming.ShadowNames.{named_then}
 use Rattle.std.specs.List.{list_any}
@@ -39,6 +39,7 @@ use Rattle.pmem_engine.proofs.CallEnds.ExactWork.{work_then}
 use Rattle.pmem_engine.specs.Inner.{HasNamedAll}
 use Rattle.pmem_engine.proofs.PostedWrites.WriteParts.{IsWritePart}
 use Rattle.pmem_engine.proofs.PostedWrites.WriteSteps.{most_then, fewer_then, steps_most, fewer_most, more_most, more_fewer}
+use Rattle.pmem_engine.proofs.PostedWrites.WriteCuts.{cut_past}
 use Rattle.pmem_engine.proofs.PostedWrites.WriteExits.{some_after}
 use Rattle.pmem_engine.proofs.PostedWrites.WriteWorks.{named_work, work_before, IsWorkBefore}
 
@@ -371,14 +372,14 @@ module _ (setup : Setup) (write : Posted) (within : write.at < layout.data_lines
 
   whole_work : (reply : Result Ctr Fault) → HasNextMarks setup.formulas write.at next plain it.made reply
       → IfOk reply (λ ctr. IsWork (seal_work setup.shape (regs_of p5).loss ctr) p5 new)
-      → (IsOk reply → KeepsButPath setup.shape page p5.engine.cache new.engine.cache)
+      → KeepsButPath setup.shape page p5.engine.cache new.engine.cache
       → (IsOk reply → KeepsOtherMeta setup.shape page p5.device.lines new.device.lines)
       → IfOk reply (λ ctr. IsWriteWork setup.shape write ctr (before ++ it.made) old new)
   whole_work (Ok ctr) marks did kept meta =
       record {
         fetched = work5.fetched;
         path_fetched = work5.path_fetched;
-        cache = λ bank set. kept refl bank set ∙ work5.kept bank set;
+        cache = λ bank set. kept bank set ∙ work5.kept bank set;
         lines = λ x inside apart. meta refl x inside apart ∙ work5.lines x inside apart;
         work =
             subst (λ work. IsWork work old new) (same_work ctr marks.1)
@@ -409,6 +410,15 @@ module _ (setup : Setup) (write : Posted) (within : write.at < layout.data_lines
         meta_uncached = seal_meta answer it.marks;
         names = (named_then setup.shape page old p5 new names5 it.shadow it.numbers).some;
         refused = seal_refused answer it.marks;
+        cut =
+            cut_past setup write (before ++ it.made) old new work5.fetched work5.path_fetched
+            (λ bank set. it.cache bank set ∙ work5.kept bank set) (λ trusted memory. ap is_some (asked_is trusted memory)) answer;
+        own_armed =
+            λ trusted memory was cut sealed.
+            elim (it.armed cut) [
+              | inl none ↦ absurd (true≢false (sym sealed ∙ own_sealed trusted memory was ∙ none_sealed none write.at))
+              | inr some ↦ some
+            ];
         order = order;
         own_sealed = own_seal answer it.marks;
         few_steps =

@@ -121,7 +121,7 @@ module _ (setup : Setup) (write : Posted) (old p1 p2 p3 p4 p5 : Parts) (plain : 
       record {
         fetched = banks;
         path_fetched = (fetched.work refl).cache;
-        kept = subst (λ cache. KeepsButPath g page cache p5.engine.cache) (named.cache ∙ cache3) (some5.cache refl);
+        kept = subst (λ cache. KeepsButPath g page cache p5.engine.cache) (named.cache ∙ cache3) some5.cache;
         lines =
             λ x within apart.
             some5.meta_lines refl x within apart

@@ -35,6 +35,7 @@ use Rattle.pmem_engine.specs.Inner.{cached_block}
 use Rattle.pmem_engine.specs.Sealing.{begin_group, HasPageBegun, HasBeginCommitted, IsNothingDone, IsBeginCut, HasBegunPage}
 use Rattle.pmem_engine.proofs.CallEnds.ExactWork.{still_rise}
 use Rattle.pmem_engine.proofs.Seals.NextPaths.{times_never_fall}
+use Rattle.pmem_engine.proofs.Seals.KeptSlots.{kept_same}
 use Rattle.pmem_engine.proofs.Seals.StoredPaths.{cached_true_line, cached_lines_true, path_number_kept, kept_named}
 use Rattle.pmem_engine.proofs.CallEnds.MetaLines.{committed_at, begin_off_meta}
 use Rattle.pmem_engine.proofs.CallEnds.ShadowLines.{shadow_still, committed_off, armed_off, begin_off}
@@ -96,7 +97,7 @@ module _ (setup : Setup) (page : ℕ) (engine engine_now : EngineState) (old new
         steps =
             search rules;
         work = λ ok. absurd (true≢false (sym ok));
-        cache = λ ok. absurd (true≢false (sym ok));
+        cache = kept_same setup.shape page engine.cache engine_now.cache (ap (λ (e : EngineState). e.cache) was.engine);
         meta_lines = λ ok. absurd (true≢false (sym ok));
         reads = was.device.reads;
         tags = same_tags;
@@ -163,7 +164,7 @@ module _ (setup : Setup) (page : ℕ) (engine engine_now : EngineState) (old new
           steps =
               search rules;
           work = λ ok. absurd (true≢false (sym ok));
-          cache = λ ok. absurd (true≢false (sym ok));
+          cache = done.stored.kept;
           meta_lines = λ ok. absurd (true≢false (sym ok));
           reads = armed.reads;
           tags = same_tags;
@@ -233,7 +234,7 @@ module _ (setup : Setup) (page : ℕ) (engine engine_now : EngineState) (old new
                 tags = same_tags;
                 digests = more_digests ∙ ap (λ n. risen_times n digests) (omega arith);
               };
-          cache = λ ok. done.stored.kept;
+          cache = done.stored.kept;
           meta_lines =
               λ ok x within apart.
               committed_at (begin_group setup.shape page block) old new (layout.meta_line setup.shape x)

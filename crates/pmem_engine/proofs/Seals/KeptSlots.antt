@@ -6,7 +6,7 @@ use Rattle.pmem_base.specs.declared.lines.Line.{Line}
 use Rattle.pmem_base.specs.Lines.{zero_line}
 use Rattle.pmem_base.specs.Shape.{Shape}
 use Rattle.meta_cache.specs.declared.slot.Slot.{Slot}
-use Rattle.meta_cache.specs.Banks.{set_of, set_index, IsBanksOf}
+use Rattle.meta_cache.specs.Banks.{Banks, set_of, set_index, IsBanksOf}
 use Rattle.meta_cache.specs.Sets.{lined, slot_marked, with_slot_line, with_mark}
 use Rattle.meta_cache.specs.State.{CacheState}
 use Rattle.meta_path.specs.Blocks.{path_at, slots_at, IsPathCached}
@@ -43,6 +43,11 @@ masked_mark (slot ∷ slots) x dirty = ap₂ (λ s ss. s ∷ ss) (by (slot.posit
 masked_stored : (slots : List Slot) (x : ℕ) (line : Line) (dirty : Bool)
     → map (masked x) (stored_set slots x line dirty) ≡ map (masked x) slots
 masked_stored slots x line dirty = masked_mark (with_slot_line slots x line) x dirty ∙ masked_line slots x line
+
+-- a cache that stays
+pub kept_same : (g : Shape) (page : ℕ) (old new : Banks) → new ≡ old → KeepsButPath g page old new
+kept_same g page old new same bank set =
+    ap (λ (banks : Banks). map (masked (path_at g page bank)) (set_of banks bank set)) same
 
 pub kept_but_path : (g : Shape) (page : ℕ) (persisted : Bool) (lines : List (ℕ × Line)) (old new : CacheState)
     → IsStoredTo g page persisted lines (g.levels + 1) old new → KeepsButPath g page old.banks new.banks

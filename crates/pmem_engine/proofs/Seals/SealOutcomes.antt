@@ -34,7 +34,7 @@ use Rattle.pmem_engine.specs.Engine.{EngineState}
 use Rattle.pmem_engine.specs.Truth.{true_block}
 use Rattle.pmem_engine.specs.Invariants.{IsTrusted, stored_meta}
 use Rattle.pmem_engine.specs.Parts.{Parts, parts_of, lines_redone, AreTrusted, meta_line_in}
-use Rattle.pmem_engine.specs.Outcomes.{going, cut_short, is_sealed_by, NeverFalls, OneLossEffect}
+use Rattle.pmem_engine.specs.Outcomes.{going, cut_short, is_going, outcome_of, is_sealed_by, NeverFalls, OneLossEffect}
 use Rattle.pmem_engine.specs.Calls.{IsUsable, IsPathNamedInMirror, is_persisting}
 use Rattle.pmem_engine.specs.Committing.{next_seal_of, HasCommitted, IsCutArmed}
 use Rattle.pmem_engine.specs.Inner.{cached_block}
@@ -44,6 +44,7 @@ use Rattle.pmem_engine.proofs.Laws.PlainLines.{plain_line-sealed, plain_line-oth
 use Rattle.pmem_engine.proofs.CheckedReads.UnsealedLines.{risen_never_falls}
 use Rattle.pmem_engine.proofs.PageLines.LineReseals.{sealed_here, unsealed_other}
 use Rattle.pmem_engine.proofs.Seals.NextPaths.{times_never_fall}
+use Rattle.pmem_engine.proofs.Seals.KeptSlots.{kept_same}
 use Rattle.pmem_engine.proofs.Seals.StoredPaths.{cached_true_line, cached_lines_true, path_number_kept, kept_named}
 use Rattle.pmem_engine.proofs.CallEnds.MetaLines.{committed_at, seal_off_meta}
 use Rattle.pmem_engine.proofs.CallEnds.ShadowLines.{shadow_still, committed_off, armed_off, seal_off, told_off, undue_off}
@@ -74,7 +75,8 @@ module _ (setup : Setup) (at : ℕ) (plain : Line) (engine : EngineState) (old :
         steps =
             search rules;
         work = tt;
-        cache = λ ok. absurd (true≢false (sym ok));
+        cache = kept_same setup.shape (page_of at) engine.cache engine.cache refl;
+        armed = λ cut. inl refl;
         meta_lines = λ ok. absurd (true≢false (sym ok));
         block_kept =
             search rules;
@@ -253,7 +255,12 @@ module _ (setup : Setup) (at : ℕ) (plain tag_line : Line) (persisted : Bool) (
           steps =
               search rules;
           work = tt;
-          cache = λ ok. absurd (true≢false (sym ok));
+          cache = done.stored.kept;
+          armed =
+              λ cut.
+              inr (λ none.
+              some_written persisted (length group) (group_length setup.shape next block persisted)
+              (ap length (sym armed.armed ∙ none)));
           meta_lines = λ ok. absurd (true≢false (sym ok));
           block_kept =
               block_as_it_was (ap (λ items. redone_told items new.lines) armed.armed ∙ armed.again);
@@ -298,7 +305,8 @@ module _ (setup : Setup) (at : ℕ) (plain tag_line : Line) (persisted : Bool) (
                 tags = more_tags;
                 digests = more_digests;
               };
-          cache = λ ok. done.stored.kept;
+          cache = done.stored.kept;
+          armed = λ cut. absurd (true≢false (ap (λ reply. is_going (outcome_of reply)) cut));
           meta_lines =
               λ ok x within apart.
               committed_at group mid new (layout.meta_line setup.shape x)
@@ -343,7 +351,9 @@ module _ (setup : Setup) (at : ℕ) (plain tag_line : Line) (persisted : Bool) (
         steps =
             search rules;
         work = tt;
-        cache = λ ok. absurd (true≢false (sym ok));
+        cache =
+            kept_same setup.shape (page_of at) engine.cache engine_now.cache (ap (λ (e : EngineState). e.cache) was.engine);
+        armed = λ cut. inl refl;
         meta_lines = λ ok. absurd (true≢false (sym ok));
         block_kept =
             search rules;

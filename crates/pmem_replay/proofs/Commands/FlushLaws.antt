@@ -21,8 +21,9 @@ use Rattle.pmem_engine.specs.Engine.{EngineState}
 use Rattle.pmem_engine.specs.Invariants.{IsTrusted, IsTrueSlot}
 use Rattle.pmem_engine.specs.Calls.{HasFlushed, IsLeftAlone}
 use Rattle.pmem_replay.specs.World.{WorldState, IsOn, IsWorld}
-use Rattle.pmem_replay.specs.declared.taken.Taken.{Taken}
-use Rattle.pmem_replay.specs.During.{none_taken, parts_in, steps_in}
+use Rattle.watched_board.specs.declared.taken.Taken.{Taken}
+use Rattle.watched_board.specs.Watching.{none_taken, steps_in}
+use Rattle.pmem_replay.specs.During.{parts_in}
 use Rattle.pmem_replay.proofs.Steps.WorldsAfterCalls.{on_in, IsCall, cut_at_fuse, within_fuse}
 use Rattle.pmem_replay.proofs.Steps.MarklessCalls.{exactly, flagged_state, flags-going}
 use Rattle.pmem_replay.proofs.Steps.FaultCauses.{zero_within}

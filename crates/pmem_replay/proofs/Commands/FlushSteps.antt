@@ -19,7 +19,8 @@ use Rattle.pmem_engine.specs.Outcomes.{going, OneLossEffect}
 use Rattle.pmem_engine.specs.Calls.{HasFlushed}
 use Rattle.pmem_replay.specs.Flagged.{Dirtying, HasDirtyingOf, with_dirtying}
 use Rattle.pmem_replay.specs.World.{WorldState, WorldParts, IsOn, state_in, world_of}
-use Rattle.pmem_replay.specs.During.{none_taken, steps_in, parts_in}
+use Rattle.watched_board.specs.Watching.{none_taken, steps_in}
+use Rattle.pmem_replay.specs.During.{parts_in}
 use Rattle.pmem_replay.specs.Replies.{without_marks}
 use Rattle.pmem_replay.proofs.Steps.MarklessCalls.{counted_state, cut_state, quiet-cut}
 use Rattle.pmem_replay.proofs.Commands.FlushLaws as laws

@@ -14,13 +14,15 @@ use Rattle.suite.specs.Setup.{Setup}
 use Rattle.plain_model.specs.State.{PlainState}
 use Rattle.plain_model.specs.After.{steps_with}
 use Rattle.plain_model.specs.Bounds.{can_be_dirty, dirty_bound, AreAllWithin}
+use Rattle.plain_model.specs.View.{IsMemoryOf}
 use Rattle.pmem_engine.specs.declared.fault.Fault.TheVariants as Fail
 use Rattle.pmem_engine.specs.Engine.{EngineState}
 use Rattle.pmem_engine.specs.Outcomes.{TakesFewer}
 use Rattle.pmem_engine.specs.Calls.{HasSetLoss}
-use Rattle.pmem_replay.specs.World.{WorldState, IsMemoryOf, HasFlags, HasQueues, IsOn, IsWorld}
-use Rattle.pmem_replay.specs.declared.taken.Taken.{Taken}
-use Rattle.pmem_replay.specs.During.{none_taken, parts_in, device_during, steps_in}
+use Rattle.pmem_replay.specs.World.{WorldState, HasFlags, HasQueues, IsOn, IsWorld}
+use Rattle.watched_board.specs.declared.taken.Taken.{Taken}
+use Rattle.watched_board.specs.Watching.{none_taken, device_during, steps_in}
+use Rattle.pmem_replay.specs.During.{parts_in}
 use Rattle.pmem_replay.proofs.Steps.WorldsAfterCalls.{on_in, IsCall, IsHealed-same, cut_at_fuse, within_fuse, world-going, world-cut}
 use Rattle.pmem_replay.proofs.Marks.DirtyBlocks.{dirty_blocks-le, dirty_slots-le}
 use Rattle.pmem_replay.proofs.Steps.MarklessCalls.{fewer, exactly, cut_state, accounted_in, HasQueues-none, same_flags}

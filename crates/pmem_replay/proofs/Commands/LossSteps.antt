@@ -11,11 +11,13 @@ use Rattle.pmem_base.specs.Shape.{is_loss}
 use Rattle.pmem_base.specs.WaitingWrites.{no_writes}
 use Rattle.suite.specs.Setup.{Setup}
 use Rattle.plain_model.specs.Answers.{decided_answer}
+use Rattle.plain_model.specs.View.{plain_memory}
 use Rattle.pmem_engine.specs.declared.fault.Fault.{Fault}
 use Rattle.pmem_engine.specs.declared.fault.Fault.TheVariants as Fail
 use Rattle.pmem_engine.specs.Calls.{HasSetLoss}
-use Rattle.pmem_replay.specs.World.{WorldState, WorldParts, IsOn, plain_memory, state_in, world_of}
-use Rattle.pmem_replay.specs.During.{none_taken, steps_in, parts_in}
+use Rattle.pmem_replay.specs.World.{WorldState, WorldParts, IsOn, state_in, world_of}
+use Rattle.watched_board.specs.Watching.{none_taken, steps_in}
+use Rattle.pmem_replay.specs.During.{parts_in}
 use Rattle.pmem_replay.specs.Replies.{without_marks}
 use Rattle.pmem_replay.proofs.Steps.MarklessCalls.{cut_state}
 use Rattle.pmem_replay.proofs.Commands.LossLaws as laws

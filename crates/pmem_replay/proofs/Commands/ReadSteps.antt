@@ -26,7 +26,8 @@ use Rattle.pmem_engine.specs.Outcomes.{going, outcome_of, OneLossEffect}
 use Rattle.pmem_engine.specs.Invariants.{IsTrusted, IsSealStored}
 use Rattle.pmem_engine.specs.Calls.{HasReadLine}
 use Rattle.pmem_replay.specs.World.{WorldState, WorldParts, IsOn, state_in, world_of}
-use Rattle.pmem_replay.specs.During.{none_taken, steps_in, parts_in}
+use Rattle.watched_board.specs.Watching.{none_taken, steps_in}
+use Rattle.pmem_replay.specs.During.{parts_in}
 use Rattle.pmem_replay.specs.Stepped.{IsReadAnswer, IsSeenOnDevice, IsTagWrong, IsExhibitSeen}
 use Rattle.pmem_replay.proofs.Steps.WorldsAfterCalls.{IsCall}
 use Rattle.pmem_replay.proofs.Steps.FaultCauses.{on_path-within}

@@ -22,14 +22,16 @@ use Rattle.plain_model.specs.Asked.{Moment, moment_of}
 use Rattle.plain_model.specs.Shown.{IsShown}
 use Rattle.plain_model.specs.Fits.{IsTurnMark, oldest_page}
 use Rattle.plain_model.specs.Bounds.{can_be_dirty}
+use Rattle.plain_model.specs.View.{IsMemoryOf}
 use Rattle.pmem_engine.specs.declared.fault.Fault.{Fault}
 use Rattle.pmem_engine.specs.declared.fault.Fault.TheVariants as Fail
 use Rattle.pmem_engine.specs.Engine.{EngineState}
 use Rattle.pmem_engine.specs.Outcomes.{going, shown, is_sealed_by, OneLossEffect, KeepsPlaces}
 use Rattle.pmem_engine.specs.Calls.{HasTurned}
-use Rattle.pmem_replay.specs.World.{WorldState, IsMemoryOf, HasFlags, HasQueues, IsOn, IsWorld, view_in, lines_in}
-use Rattle.pmem_replay.specs.declared.taken.Taken.{Taken}
-use Rattle.pmem_replay.specs.During.{none_taken, parts_in, steps_in}
+use Rattle.pmem_replay.specs.World.{WorldState, HasFlags, HasQueues, IsOn, IsWorld, view_in, lines_in}
+use Rattle.watched_board.specs.declared.taken.Taken.{Taken}
+use Rattle.watched_board.specs.Watching.{none_taken, steps_in}
+use Rattle.pmem_replay.specs.During.{parts_in}
 use Rattle.pmem_replay.proofs.Steps.WorldsAfterCalls.{on_in, IsCall, IsHealed, cut_at_fuse, within_fuse, world-going, world-cut}
 use Rattle.pmem_replay.proofs.Steps.FaultCauses.{stored_unspoiled, hurt_before, tag_unstored, forged_unstored, forged_other, zero_within, shown_uncut}
 use Rattle.pmem_replay.proofs.Steps.MarklessCalls.{fewer, exactly, counted_state, cut_state, quiet-going, HasQueues-none, same_flags}

@@ -16,12 +16,14 @@ use Rattle.seal_ledger.specs.Ledger.{IsMark}
 use Rattle.suite.specs.Setup.{Setup}
 use Rattle.plain_model.specs.After.{after_marks}
 use Rattle.plain_model.specs.Answers.{decided_answer}
+use Rattle.plain_model.specs.View.{plain_memory}
 use Rattle.pmem_engine.specs.declared.fault.Fault.{Fault}
 use Rattle.pmem_engine.specs.declared.fault.Fault.TheVariants as Fail
 use Rattle.pmem_engine.specs.Outcomes.{going, OneLossEffect, KeepsPlaces}
 use Rattle.pmem_engine.specs.Calls.{HasTurned}
-use Rattle.pmem_replay.specs.World.{WorldState, WorldParts, IsOn, plain_memory, world_of, view_in}
-use Rattle.pmem_replay.specs.During.{none_taken, steps_in, parts_in}
+use Rattle.pmem_replay.specs.World.{WorldState, WorldParts, IsOn, world_of, view_in}
+use Rattle.watched_board.specs.Watching.{none_taken, steps_in}
+use Rattle.pmem_replay.specs.During.{parts_in}
 use Rattle.pmem_replay.specs.Stepped.{IsExhibitSeen}
 use Rattle.pmem_replay.proofs.Steps.WorldsAfterCalls.{IsCall}
 use Rattle.pmem_replay.proofs.Marks.OpenPages.{turn_mark, reseal_quiet, lowest_within, whole_pages}
@@ -30,7 +32,8 @@ use Rattle.pmem_replay.proofs.Commands.FlushLaws.{left_alone-steps}
 use Rattle.pmem_replay.proofs.Commands.TurnLaws as laws
 use Rattle.pmem_replay.proofs.Steps.DeviceEvidence.{tag_wrong, small_line, forged_sight}
 use Rattle.pmem_replay.proofs.Table.UnchangedSteps.{lit_in}
-use Rattle.pmem_replay.proofs.Steps.CallSurroundings.{state_called, state_cut_with, memory_is, few_steps}
+use Rattle.pmem_replay.proofs.Steps.CallSurroundings.{state_called, state_cut_with, few_steps}
+use Rattle.plain_model.proofs.PlainMemory.{memory_is}
 use Rattle.pmem_replay.proofs.Steps.PartsOfWorld.{Ends}
 use Rattle.pmem_replay.proofs.Steps.EngineCalls.{EngineCall, setup_at, first_world, old_world, parts_left, on_before, its_banks, call_to, was_called, returned}
 

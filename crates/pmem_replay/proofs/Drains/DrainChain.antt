@@ -27,8 +27,9 @@ use Rattle.pmem_engine.specs.Engine.{EngineState}
 use Rattle.pmem_engine.specs.Outcomes.{is_sealed_by}
 use Rattle.pmem_engine.specs.Calls.{HasWrittenLine, write_bound}
 use Rattle.pmem_replay.specs.World.{WorldState, IsOn, IsWorld, view_in, lines_in}
-use Rattle.pmem_replay.specs.declared.taken.Taken.{Taken}
-use Rattle.pmem_replay.specs.During.{none_taken, parts_in, steps_in}
+use Rattle.watched_board.specs.declared.taken.Taken.{Taken}
+use Rattle.watched_board.specs.Watching.{none_taken, steps_in}
+use Rattle.pmem_replay.specs.During.{parts_in}
 use Rattle.pmem_replay.proofs.Steps.WorldsAfterCalls.{on_in, IsCall, within_fuse}
 use Rattle.pmem_replay.proofs.Steps.FaultCauses.{stored_unspoiled, zero_within}
 use Rattle.pmem_replay.proofs.Steps.MarklessCalls.{at_most, counted_state}

@@ -17,14 +17,16 @@ use Rattle.seal_ledger.specs.Ledger.{IsMark}
 use Rattle.suite.specs.Setup.{Setup}
 use Rattle.plain_model.specs.State.{PlainState, memory_with, without_flag}
 use Rattle.plain_model.specs.After.{after_marks}
+use Rattle.plain_model.specs.View.{plain_memory}
 use Rattle.pmem_engine.specs.declared.fault.Fault.{Fault}
 use Rattle.pmem_engine.specs.declared.fault.Fault.TheVariants as Fail
 use Rattle.pmem_engine.specs.Engine.{EngineState}
 use Rattle.pmem_engine.specs.Outcomes.{going, cut_short, outcome_of, is_sealed_by, OneLossEffect, LeavesTrusted}
 use Rattle.pmem_engine.specs.Calls.{HasWrittenLine}
 use Rattle.pmem_replay.specs.Flagged.{Tampering, Dirtying, with_tampering, with_dirtying}
-use Rattle.pmem_replay.specs.World.{WorldState, WorldParts, IsOn, IsWorld, plain_memory, state_in, world_of}
-use Rattle.pmem_replay.specs.During.{none_taken, steps_in, parts_in}
+use Rattle.pmem_replay.specs.World.{WorldState, WorldParts, IsOn, IsWorld, state_in, world_of}
+use Rattle.watched_board.specs.Watching.{none_taken, steps_in}
+use Rattle.pmem_replay.specs.During.{parts_in}
 use Rattle.pmem_replay.specs.Given.{given_state, WasGiven, IsGiven, IsGivenShown, HasGiven, IsGave, is_fault_shown, is_fault_cut, is_fault_down}
 use Rattle.pmem_replay.specs.declared.draining.Gave.{Gave}
 use Rattle.pmem_replay.specs.declared.draining.Gave.TheVariants.{Put, Refused, Spent, Kept, Lost, Shown}
@@ -33,7 +35,8 @@ use Rattle.pmem_replay.proofs.Steps.WorldsAfterCalls.{IsCall}
 use Rattle.pmem_replay.proofs.Steps.PartsOfWorld.{none_wait}
 use Rattle.pmem_replay.proofs.Steps.MarklessCalls.{counted_state, cut_state}
 use Rattle.pmem_replay.proofs.Steps.EngineCalls.{EngineCall, setup_at, old_world, parts_left, on_before, call_to}
-use Rattle.pmem_replay.proofs.Steps.CallSurroundings.{state_called, state_cut_with, memory_is}
+use Rattle.pmem_replay.proofs.Steps.CallSurroundings.{state_called, state_cut_with}
+use Rattle.plain_model.proofs.PlainMemory.{memory_is}
 use Rattle.pmem_replay.proofs.Drains.DrainChain.{IsDrainedTo, drained_none, ok_sealed}
 use Rattle.pmem_replay.proofs.Drains.WriteLaws.{meta-unsealed, tag-unsealed, spent-unsealed}
 use Rattle.pmem_replay.proofs.Drains.WriteReplies.{drain_is_writing}

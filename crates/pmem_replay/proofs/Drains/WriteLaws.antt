@@ -37,8 +37,9 @@ use Rattle.pmem_engine.specs.Faults.{IsClashShown}
 use Rattle.pmem_engine.specs.Calls.{HasWrittenLine, IsPartOf, IsRefusedLine, TakesOfWrite, TakesSpent, write_bound, IsForgedInWrite}
 use Rattle.pmem_engine.proofs.Laws.TrueLines.{true_line-is}
 use Rattle.pmem_replay.specs.World.{WorldState, IsOn, IsWorld, view_in, lines_in}
-use Rattle.pmem_replay.specs.declared.taken.Taken.{Taken}
-use Rattle.pmem_replay.specs.During.{none_taken, parts_in, steps_in, step_limit}
+use Rattle.watched_board.specs.declared.taken.Taken.{Taken}
+use Rattle.watched_board.specs.Watching.{none_taken, steps_in, step_limit}
+use Rattle.pmem_replay.specs.During.{parts_in}
 use Rattle.pmem_engine.proofs.PostedWrites.WriteParts.{last_seal-unsealed}
 use Rattle.pmem_replay.proofs.Marks.SealedLines.{counter_now}
 use Rattle.pmem_replay.proofs.Steps.WorldsAfterCalls.{on_in, IsCall, cut_at_fuse, within_fuse}

@@ -18,13 +18,15 @@ use Rattle.suite.specs.Setup.{Setup}
 use Rattle.plain_model.specs.State.{PlainState, is_flagged, without_flag, memory_with}
 use Rattle.plain_model.specs.After.{steps_with}
 use Rattle.plain_model.specs.Bounds.{can_be_dirty}
+use Rattle.plain_model.specs.View.{IsMemoryOf}
 use Rattle.pmem_engine.specs.declared.fault.Fault.{Fault}
 use Rattle.pmem_engine.specs.Engine.{EngineState}
 use Rattle.pmem_engine.specs.Outcomes.{going, cut_short, outcome_of, is_sealed_by, OneLossEffect}
 use Rattle.pmem_engine.specs.Calls.{HasWrittenLine, IsMemory}
-use Rattle.pmem_replay.specs.World.{WorldState, IsMemoryOf, HasFlags, HasQueues, IsOn, IsWorld, lines_in}
-use Rattle.pmem_replay.specs.declared.taken.Taken.{Taken}
-use Rattle.pmem_replay.specs.During.{none_taken, parts_in, steps_in}
+use Rattle.pmem_replay.specs.World.{WorldState, HasFlags, HasQueues, IsOn, IsWorld, lines_in}
+use Rattle.watched_board.specs.declared.taken.Taken.{Taken}
+use Rattle.watched_board.specs.Watching.{none_taken, steps_in}
+use Rattle.pmem_replay.specs.During.{parts_in}
 use Rattle.pmem_replay.proofs.Steps.WorldsAfterCalls.{on_in, IsCall, IsHealed, world-going, world-cut}
 use Rattle.pmem_replay.proofs.Steps.FaultCauses.{stored_unspoiled}
 use Rattle.pmem_replay.proofs.Steps.MarklessCalls.{HasQueues-none}

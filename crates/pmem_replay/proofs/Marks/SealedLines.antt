@@ -16,11 +16,10 @@ use Rattle.seal_ledger.proofs.MarkLemmas.{last_seal_has}
 use Rattle.suite.specs.Formulas.{AreInRange, cipher_of}
 use Rattle.suite.proofs.CipherLemmas.{cipher_of-back}
 use Rattle.suite.specs.Setup.{Setup}
-use Rattle.plain_model.specs.View.{start_view, view_of, view_after_marks, counter_at, true_lines, plain_of_seal}
+use Rattle.plain_model.specs.View.{start_view, view_of, view_after_marks, counter_at, true_lines, plain_of_seal, IsMemoryOf}
 use Rattle.plain_model.proofs.Views.{view_after_marks-append, counter_at-last}
 use Rattle.pmem_engine.specs.Invariants.{IsAnchored}
 use Rattle.pmem_engine.proofs.Laws.TrueLines.{true_lines-are}
-use Rattle.pmem_replay.specs.World.{IsMemoryOf}
 
 -- the cipher of a line's last seal is memory's line under the seal's counter
 pub last_cipher : (setup : Setup) (regs : Regs) (ledger : LedgerState) (memory : List Line) (a : ℕ) (seal : SealOf)

@@ -20,21 +20,21 @@ use Rattle.meta_cache.specs.Banks.{IsBanksOf, is_cached_dirty}
 use Rattle.suite.specs.Formulas.{AreInRange}
 use Rattle.suite.specs.Setup.{Setup}
 use Rattle.plain_model.specs.State.{no_flags, is_flagged, start_state}
-use Rattle.plain_model.specs.View.{OpenPage, start_view, view_of}
+use Rattle.plain_model.specs.View.{OpenPage, start_view, view_of, IsMemoryOf, plain_memory}
 use Rattle.plain_model.proofs.Views.{length-view_of, counter_at-last}
 use Rattle.pmem_engine.specs.Engine.{EngineState}
 use Rattle.pmem_engine.specs.Invariants.{IsSound, register_page, stored_meta}
 use Rattle.pmem_engine.specs.Mendable.{new_engine}
 use Rattle.pmem_recovery.specs.Formatting.{HasFormatted, first_regs, first_counter}
 use Rattle.pmem_replay.specs.Flagged.{Tampering, Dirtying, no_tampering, no_dirtying}
-use Rattle.pmem_replay.specs.World.{WorldState, WorldParts, IsMemoryOf, IsOn, IsPowered, IsWorld, plain_memory, state_in, world_of, lines_in}
+use Rattle.pmem_replay.specs.World.{WorldState, WorldParts, IsOn, IsPowered, IsWorld, state_in, world_of, lines_in}
 use Rattle.pmem_replay.specs.During.{WasFormatted}
 use Rattle.pmem_replay.specs.Stepped.{IsNewWorld}
 use Rattle.pmem_replay.proofs.Marks.AfterMarks.{length-no_flags, unflagged}
 use Rattle.pmem_replay.proofs.Power.OnLaws.{nothing_dirty}
 use Rattle.pmem_replay.proofs.Power.RecoveryCalls.{whole_empty}
 use Rattle.pmem_replay.proofs.Steps.MarklessCalls.{HasQueues-none}
-use Rattle.pmem_replay.proofs.Steps.CallSurroundings.{memory_is}
+use Rattle.plain_model.proofs.PlainMemory.{memory_is}
 
 -- what formatting leaves beside the device
 pub record IsJustMade (setup : Setup) (p : WorldParts) (old : Device) : Type 0 where

@@ -33,8 +33,8 @@ use Rattle.pmem_recovery.specs.declared.faults.RecFault.TheVariants as Fail
 use Rattle.pmem_recovery.specs.Parts.{SuiteState}
 use Rattle.pmem_recovery.specs.Recovered.{HasRecovered, HasMended}
 use Rattle.pmem_replay.specs.World.{WorldState, AreKept, HasSteps, IsOn, IsOff, IsWorld, IsPowered, IsOtherCipher}
-use Rattle.pmem_replay.specs.declared.taken.Taken.{Taken}
-use Rattle.pmem_replay.specs.During.{AreInCount, none_taken, steps_in, device_during, FollowsOn}
+use Rattle.watched_board.specs.declared.taken.Taken.{Taken}
+use Rattle.watched_board.specs.Watching.{AreInCount, none_taken, steps_in, device_during, FollowsOn}
 use Rattle.pmem_replay.proofs.Steps.WorldsAfterCalls.{steps-taken}
 use Rattle.pmem_replay.proofs.Marks.AfterMarks.{length-no_flags}
 use Rattle.pmem_replay.proofs.Steps.MarklessCalls.{HasQueues-none}

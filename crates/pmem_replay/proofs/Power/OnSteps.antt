@@ -36,7 +36,8 @@ use Rattle.pmem_recovery.specs.Fixed.{found_root}
 use Rattle.pmem_recovery.specs.Recovered.{HasRecovered, HasOnlyRedone}
 use Rattle.pmem_replay.specs.Flagged.{Tampering, Dirtying, HasDirtyingOf, with_tampering, with_dirtying}
 use Rattle.pmem_replay.specs.World.{WorldState, WorldParts, IsOff, IsWorld, state_in, world_of, lines_in}
-use Rattle.pmem_replay.specs.During.{none_taken, steps_in, device_during, IsTakenApart}
+use Rattle.watched_board.specs.Watching.{none_taken, steps_in, device_during}
+use Rattle.pmem_replay.specs.During.{IsTakenApart}
 use Rattle.pmem_replay.specs.Replies.{without_marks}
 use Rattle.pmem_replay.specs.Stepped.{HasStepped, IsOnAnswer, IsSeenOnDevice, engine_given}
 use Rattle.pmem_replay.proofs.Steps.GoodReplies.{IsGood}

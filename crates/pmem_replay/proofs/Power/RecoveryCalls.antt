@@ -15,8 +15,9 @@ use Rattle.pmem_recovery.specs.declared.faults.RecFault.{RecFault}
 use Rattle.pmem_recovery.specs.Parts.{suite_state}
 use Rattle.meta_path.proofs.PathFacts.{set_of-empty_banks}
 use Rattle.pmem_replay.specs.World.{WorldState, WorldParts, world_of}
-use Rattle.pmem_replay.specs.declared.taken.Taken.{Taken}
-use Rattle.pmem_replay.specs.During.{none_taken, steps_in, device_during, IsWatched, IsTakenApart, WasRecovered}
+use Rattle.watched_board.specs.declared.taken.Taken.{Taken}
+use Rattle.watched_board.specs.Watching.{none_taken, steps_in, device_during, IsWatched}
+use Rattle.pmem_replay.specs.During.{IsTakenApart, WasRecovered}
 use Rattle.pmem_replay.proofs.Power.OnLaws.{lit}
 use Rattle.suite.specs.Formulas.{Formulas}
 use Rattle.pmem_replay.proofs.Steps.PartsOfWorld.{setup_in}

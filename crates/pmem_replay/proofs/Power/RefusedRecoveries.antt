@@ -35,8 +35,8 @@ use Rattle.pmem_recovery.specs.declared.faults.RecFault.TheVariants as Fail
 use Rattle.pmem_recovery.specs.Trials.{first_undecided, named_pages, lines_tried, tried_minors, IsTwinOfLastSeal}
 use Rattle.pmem_recovery.specs.Recovered.{HasOnlyRedone}
 use Rattle.pmem_replay.specs.World.{WorldState, AreKept, IsOff, IsWorld, view_in, lines_in}
-use Rattle.pmem_replay.specs.declared.taken.Taken.{Taken}
-use Rattle.pmem_replay.specs.During.{none_taken, steps_in, device_during}
+use Rattle.watched_board.specs.declared.taken.Taken.{Taken}
+use Rattle.watched_board.specs.Watching.{none_taken, steps_in, device_during}
 use Rattle.pmem_replay.proofs.Marks.SealedLines.{last_cipher}
 use Rattle.pmem_replay.proofs.Steps.FaultCauses.{zero_within, counter_position-within}
 use Rattle.pmem_replay.proofs.Steps.MarklessCalls.{counted_state}
@@ -255,12 +255,12 @@ module _ (setup : Setup) (old new : WorldState) (left : BoardMemory) (taken : Ta
 twin_of_seal : (setup : Setup) (old : WorldState) (regs : Regs) (loss a major low high : ℕ) (cipher : Line) (tag : List ℕ)
     → IsWorld setup old → IsAnchored setup regs old.ledger → a < layout.data_lines setup.shape → loss ≡ old.state.loss
     → IsTwinOfLastSeal loss old.ledger a major low high cipher tag
-    → IsTwinOfSeal setup old.state (view_in setup old) a major low high cipher tag
+    → IsTwinOfSeal setup old.state.memory old.state.loss (view_in setup old) a major low high cipher tag
 twin_of_seal setup old regs loss a major low high cipher tag world anchored within same twin =
     by_seal (last_seal old.ledger.marks a) refl
   where
     by_seal : (seal : Option SealOf) → last_seal old.ledger.marks a ≡ seal
-        → IsTwinOfSeal setup old.state (view_in setup old) a major low high cipher tag
+        → IsTwinOfSeal setup old.state.memory old.state.loss (view_in setup old) a major low high cipher tag
     by_seal None none = absurd (none-some cipher (ap (option_map (λ s. s.cipher)) (sym none) ∙ twin.its_cipher))
     by_seal (Some seal) there =
         let ctr : counter_at (view_in setup old) a ≡ seal.ctr =

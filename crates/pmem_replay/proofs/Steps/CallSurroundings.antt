@@ -13,17 +13,15 @@ use Rattle.pmem_base.specs.WaitingWrites.{no_writes}
 use Rattle.board.specs.Memory.{BoardMemory}
 use Rattle.seal_ledger.specs.Ledger.{LedgerState}
 use Rattle.suite.specs.Setup.{Setup}
-use Rattle.plain_model.specs.View.{plain_line}
+use Rattle.plain_model.specs.View.{plain_line, IsMemoryOf, plain_memory}
 use Rattle.plain_model.specs.After.{steps_with}
 use Rattle.pmem_engine.specs.Engine.{EngineState}
-use Rattle.pmem_replay.specs.World.{WorldState, WorldParts, IsMemoryOf, plain_memory, state_in, world_of}
-use Rattle.pmem_replay.specs.declared.taken.Taken.{Taken}
-use Rattle.pmem_replay.specs.During.{steps_in, FollowsOn, IsWatched}
+use Rattle.pmem_replay.specs.World.{WorldState, WorldParts, state_in, world_of}
+use Rattle.watched_board.specs.declared.taken.Taken.{Taken}
+use Rattle.watched_board.specs.Watching.{steps_in, FollowsOn, IsWatched}
 use Rattle.pmem_replay.proofs.Steps.WorldsAfterCalls.{IsCall}
 use Rattle.pmem_replay.proofs.Steps.MarklessCalls.{counted_state, cut_state}
 use Rattle.pmem_replay.proofs.Table.UnchangedSteps.{IsGoingOn, lit_in}
-
--- ---- what the engine asks
 
 -- ---- after a call
 
@@ -55,21 +53,6 @@ call_of setup p keys board steps engine after taken served new shape start is =
       in_count = served.watched.in_count;
       each_line = subst (λ (b : BoardMemory). All IsLine b.lines) (sym is) served.watched.each_line;
     }
-
--- memory is the plain lines of the marks
-pub memory_is : (setup : Setup) (marks : List Mark) (memory : List Line) → IsMemoryOf setup marks memory → plain_memory setup marks ≡ memory
-unfolding plain_memory
-memory_is setup marks memory its =
-    let count : length (map plain (range_with_len 0 (layout.data_lines setup.shape))) ≡ layout.data_lines setup.shape =
-    length-map-range_with_len plain 0 (layout.data_lines setup.shape) in
-    ext_get_or zero_line (map plain (range_with_len 0 (layout.data_lines setup.shape))) memory (count ∙ sym its.count)
-    (λ i within.
-    let small : i < layout.data_lines setup.shape = omega (arith, within, count) in
-    get_or-map-range_with_len plain 0 (layout.data_lines setup.shape) i i zero_line small (zero-add i)
-    ∙ ap (λ (found : Option Line). unwrap_or found zero_line) (its.each i small))
-  where
-    plain : ℕ → Line
-    plain a = unwrap_or (plain_line setup.formulas marks a) zero_line
 
 -- the state after a call that goes on
 pub state_called : (setup : Setup) (p : WorldParts) (keys : List ℕ) (board : BoardMemory) (ledger : LedgerState) (engine : Option EngineState)

@@ -23,8 +23,9 @@ use Rattle.suite.specs.Setup.{Setup}
 use Rattle.pmem_engine.specs.Engine.{EngineState}
 use Rattle.pmem_engine.specs.Faults.{IsTagRefused, IsClashShown, IsForgedShown}
 use Rattle.pmem_replay.specs.World.{WorldState}
-use Rattle.pmem_replay.specs.declared.taken.Taken.{Taken}
-use Rattle.pmem_replay.specs.During.{none_taken, parts_in}
+use Rattle.watched_board.specs.declared.taken.Taken.{Taken}
+use Rattle.watched_board.specs.Watching.{none_taken}
+use Rattle.pmem_replay.specs.During.{parts_in}
 use Rattle.pmem_replay.specs.Stepped.{IsTagWrong, IsExhibitSeen}
 use Rattle.pmem_replay.proofs.Steps.FaultCauses.{on_path-within}
 

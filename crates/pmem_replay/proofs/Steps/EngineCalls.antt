@@ -16,11 +16,13 @@ use Rattle.suite.specs.Setup.{Setup}
 use Rattle.plain_model.specs.State.{PlainState, Reply}
 use Rattle.plain_model.specs.After.{state_after, steps_of, is_cut}
 use Rattle.plain_model.specs.Answers.{decided_answer, is_shown}
+use Rattle.plain_model.specs.View.{plain_memory}
 use Rattle.pmem_engine.specs.Engine.{EngineState}
 use Rattle.pmem_engine.specs.Parts.{Parts}
-use Rattle.pmem_replay.specs.World.{WorldState, WorldParts, IsOn, IsWorld, plain_memory, state_in, world_of}
-use Rattle.pmem_replay.specs.declared.taken.Taken.{Taken}
-use Rattle.pmem_replay.specs.During.{none_taken, steps_in, parts_in}
+use Rattle.pmem_replay.specs.World.{WorldState, WorldParts, IsOn, IsWorld, state_in, world_of}
+use Rattle.watched_board.specs.declared.taken.Taken.{Taken}
+use Rattle.watched_board.specs.Watching.{none_taken, steps_in}
+use Rattle.pmem_replay.specs.During.{parts_in}
 use Rattle.pmem_replay.specs.Stepped.{HasCalled, IsCommandDone, IsSeenOnDevice}
 use Rattle.pmem_replay.proofs.Steps.WorldsAfterCalls.{on_in, IsCall, cut_counted, uncut_counted}
 use Rattle.pmem_replay.proofs.Steps.GoodReplies.{IsGood}

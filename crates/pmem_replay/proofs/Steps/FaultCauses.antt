@@ -25,13 +25,15 @@ use Rattle.suite.specs.Formulas.{AreInRange, cipher_of}
 use Rattle.suite.specs.Setup.{Setup}
 use Rattle.plain_model.specs.State.{PlainState, is_flagged}
 use Rattle.plain_model.specs.Legal.{MayDiffer}
+use Rattle.plain_model.specs.View.{IsMemoryOf}
 use Rattle.pmem_engine.specs.Engine.{EngineState}
 use Rattle.pmem_engine.specs.Invariants.{IsAnchored, IsTrusted, IsSealStored, IsSealTagged, stored_meta}
 use Rattle.pmem_engine.specs.Outcomes.{Outcome, going, cut_short, shown, is_sealed_by, KeepsPlaces, CallEffect}
 use Rattle.pmem_engine.specs.Faults.{IsFetchedLine, IsTagRefused, IsForgedShown}
-use Rattle.pmem_replay.specs.World.{WorldState, AreKept, IsMemoryOf, IsOn, lines_in}
-use Rattle.pmem_replay.specs.declared.taken.Taken.{Taken}
-use Rattle.pmem_replay.specs.During.{none_taken, parts_in}
+use Rattle.pmem_replay.specs.World.{WorldState, AreKept, IsOn, lines_in}
+use Rattle.watched_board.specs.declared.taken.Taken.{Taken}
+use Rattle.watched_board.specs.Watching.{none_taken}
+use Rattle.pmem_replay.specs.During.{parts_in}
 use Rattle.meta_path.proofs.WriteLemmas.{dirty_is_cached}
 use Rattle.pmem_engine.proofs.PostedWrites.WriteParts.{last_seal-unsealed}
 use Rattle.pmem_replay.proofs.Marks.SealedLines.{same_truth, last_cipher}

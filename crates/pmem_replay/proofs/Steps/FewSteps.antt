@@ -21,7 +21,7 @@ use Rattle.pmem_engine.specs.Parts.{Parts}
 use Rattle.plain_model.specs.Legal.{front_of}
 use Rattle.plain_model.specs.Shown.{IsEngineReply}
 use Rattle.pmem_replay.specs.World.{WorldState, IsWorld, view_in}
-use Rattle.pmem_replay.specs.During.{step_limit}
+use Rattle.watched_board.specs.Watching.{step_limit}
 use Rattle.pmem_replay.specs.Stepped.{HasCalled, HasDrained, EndsFence, HasFenced, HasPoweredOn, IsStatAnswer, IsByTable, IsCommandDone, HasStepped, most_steps, AddsFewSteps}
 use Rattle.pmem_replay.proofs.Marks.AfterMarks.{after_marks-is}
 

@@ -20,12 +20,13 @@ use Rattle.plain_model.specs.Bounds.{can_be_dirty}
 use Rattle.plain_model.specs.Shown.{IsLegal, IsEngineReply}
 use Rattle.plain_model.specs.Answers.{decided_answer}
 use Rattle.plain_model.specs.State.{Reply}
-use Rattle.plain_model.specs.View.{DeviceView}
+use Rattle.plain_model.specs.View.{DeviceView, IsMemoryOf}
 use Rattle.pmem_engine.specs.Engine.{EngineState}
 use Rattle.pmem_engine.specs.Outcomes.{going, cut_short, OneLossEffect, TakesAtMost, TakesFewer, TakesSteps}
-use Rattle.pmem_replay.specs.World.{WorldState, IsMemoryOf, HasFlags, HasQueues, IsOn, IsWorld}
-use Rattle.pmem_replay.specs.declared.taken.Taken.{Taken}
-use Rattle.pmem_replay.specs.During.{none_taken, parts_in, device_during, steps_in, step_limit}
+use Rattle.pmem_replay.specs.World.{WorldState, HasFlags, HasQueues, IsOn, IsWorld}
+use Rattle.watched_board.specs.declared.taken.Taken.{Taken}
+use Rattle.watched_board.specs.Watching.{none_taken, device_during, steps_in, step_limit}
+use Rattle.pmem_replay.specs.During.{parts_in}
 use Rattle.pmem_replay.proofs.Steps.WorldsAfterCalls.{on_in, IsHealed-same, IsCall, world-going, world-cut}
 use Rattle.pmem_replay.proofs.Marks.DirtyBlocks.{AreAccounted}
 

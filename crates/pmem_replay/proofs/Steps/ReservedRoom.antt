@@ -10,9 +10,10 @@ use Rattle.seal_ledger.specs.Ledger.{LedgerState}
 use Rattle.seal_ledger.specs.Notes.{HasRoom}
 use Rattle.suite.specs.Setup.{Setup}
 use Rattle.plain_model.specs.State.{Reply}
+use Rattle.plain_model.specs.View.{plain_memory}
 use Rattle.pmem_engine.specs.Engine.{EngineState}
 use Rattle.pmem_engine.specs.Invariants.{IsAnchored, IsTrusted, IsMendable, IsDurable, IsSound}
-use Rattle.pmem_replay.specs.World.{WorldState, WorldParts, IsWorld, IsPowered, plain_memory, state_in, world_of}
+use Rattle.pmem_replay.specs.World.{WorldState, WorldParts, IsWorld, IsPowered, state_in, world_of}
 use Rattle.pmem_replay.specs.Given.{HasMarkRoom}
 use Rattle.pmem_replay.proofs.Steps.GoodReplies.{IsGood}
 use Rattle.pmem_replay.proofs.Table.UnchangedSteps.{IsGoingOn}

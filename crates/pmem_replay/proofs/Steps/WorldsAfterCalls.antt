@@ -17,13 +17,15 @@ use Rattle.suite.specs.Setup.{Setup}
 use Rattle.plain_model.specs.State.{PlainState, is_flagged, has_flags}
 use Rattle.plain_model.specs.After.{steps_with}
 use Rattle.plain_model.specs.Bounds.{can_be_dirty}
+use Rattle.plain_model.specs.View.{IsMemoryOf}
 use Rattle.pmem_engine.specs.Engine.{EngineState}
 use Rattle.pmem_engine.specs.Invariants.{IsCounterStored}
 use Rattle.pmem_engine.specs.Parts.{Parts}
 use Rattle.pmem_engine.specs.Outcomes.{going, cut_short, is_going, is_sealed_by, KeepsPlaces, CallEffect}
-use Rattle.pmem_replay.specs.World.{WorldState, AreKept, IsMemoryOf, HasFlags, HasQueues, HasBoard, HasSteps, IsOn, IsOff, IsWorld, IsPowered, IsOtherCipher, lines_in}
-use Rattle.pmem_replay.specs.declared.taken.Taken.{Taken}
-use Rattle.pmem_replay.specs.During.{none_taken, parts_in, steps_in, step_limit, counted, cuts_after, AreInCount, FollowsOn}
+use Rattle.pmem_replay.specs.World.{WorldState, AreKept, HasFlags, HasQueues, HasBoard, HasSteps, IsOn, IsOff, IsWorld, IsPowered, IsOtherCipher, lines_in}
+use Rattle.watched_board.specs.declared.taken.Taken.{Taken}
+use Rattle.watched_board.specs.Watching.{none_taken, steps_in, step_limit, counted, cuts_after, AreInCount, FollowsOn}
+use Rattle.pmem_replay.specs.During.{parts_in}
 use Rattle.pmem_engine.proofs.PostedWrites.WriteParts.{last_seal-unsealed}
 
 -- a world with power on

@@ -74,8 +74,8 @@ module _ (setup : Setup) (world : WorldState) (whole : IsWorld setup world) (eng
 
   -- a line that isn't hurt has memory's line, sealed, and its tag
   record IsShownSealed (a : ℕ) : Type 0 where
-    cipher : line_at world.board.lines a ≡ sealed_line setup.formulas world.state (view_in setup world) a
-    tag : tag_slot (line_at world.board.lines (tag_line setup.shape a)) a ≡ sealed_tag setup.formulas world.state (view_in setup world) a
+    cipher : line_at world.board.lines a ≡ sealed_line setup.formulas world.state.memory (view_in setup world) a
+    tag : tag_slot (line_at world.board.lines (tag_line setup.shape a)) a ≡ sealed_tag setup.formulas world.state.memory (view_in setup world) a
 
   shown_sealed : (a : ℕ) → a < data_lines setup.shape → is_flagged world.state.hurt a ≡ false → IsShownSealed a
   shown_sealed a within unhurt = by_seal (last_seal world.ledger.marks a) refl
@@ -89,10 +89,10 @@ module _ (setup : Setup) (world : WorldState) (whole : IsWorld setup world) (eng
       by_seal (Some seal) there =
           let ctr : counter_at (view_in setup world) a ≡ seal.ctr =
           counter_at-last setup.shape world.ledger.marks a seal.ctr within (ap (option_map (λ s. s.ctr)) there) in
-          let cipher : seal.cipher ≡ sealed_line setup.formulas world.state (view_in setup world) a =
+          let cipher : seal.cipher ≡ sealed_line setup.formulas world.state.memory (view_in setup world) a =
           last_cipher setup world.board.regs world.ledger world.state.memory a seal whole.whole_formulas on.trusted.anchored whole.memory within there
           ∙ ap (λ (c : Ctr). cipher_of setup.formulas a c (line_at world.state.memory a)) (sym ctr) in
-          let tag : seal.tag ≡ sealed_tag setup.formulas world.state (view_in setup world) a =
+          let tag : seal.tag ≡ sealed_tag setup.formulas world.state.memory (view_in setup world) a =
           sym (last_seal_has (IsSealTagged setup.formulas) world.ledger.marks a seal on.trusted.anchored.seals_tagged there)
           ∙ ap₂ (λ c l. setup.formulas.tag_of a c l) (sym ctr) cipher in
           record {
@@ -110,7 +110,7 @@ module _ (setup : Setup) (world : WorldState) (whole : IsWorld setup world) (eng
   -- the four tags of a tag line
   shown_tags : (d : ℕ) → data_lines setup.shape ≤ d → d < meta_line setup.shape 0
       → is_any_hurt world.state (4 * (d - data_lines setup.shape)) ≡ false
-      → line_at world.board.lines d ≡ sealed_tags setup.formulas world.state (view_in setup world) (4 * (d - data_lines setup.shape))
+      → line_at world.board.lines d ≡ sealed_tags setup.formulas world.state.memory (view_in setup world) (4 * (d - data_lines setup.shape))
   shown_tags d low high unhurt =
       four_slots (line_at world.board.lines d) (IsLine-line_at world.board.lines d whole.whole_lines.each)
       ∙ ap line_of
@@ -139,7 +139,7 @@ module _ (setup : Setup) (world : WorldState) (whole : IsWorld setup world) (eng
       fourth = or_parts (hurt (a + 1 + 1 + 1)) false third.1
 
       slot : (i b : ℕ) → i < 4 → b ≡ a + i → b < data_lines setup.shape → hurt b ≡ false
-          → slice_range (line_at world.board.lines d).0 (16 * i) (16 * i + 16) ≡ sealed_tag setup.formulas world.state (view_in setup world) b
+          → slice_range (line_at world.board.lines d).0 (16 * i) (16 * i + 16) ≡ sealed_tag setup.formulas world.state.memory (view_in setup world) b
       slot i b small is within whole_line =
           let place : b % 4 ≡ i = omega (arith, small, is) in
           let line : tag_line setup.shape b ≡ d = omega (arith, small, is, low) in

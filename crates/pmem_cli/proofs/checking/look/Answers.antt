@@ -1,7 +1,7 @@
 use Rattle.std.proofs.Common.{rules, ◌≡◌, ◌∙◌, [], refl, ap, arith}
 use Rattle.std.specs.Prelude.{Some, false}
 use Rattle.std.specs.Io.KnownBytes.{prepend_known}
-use Rattle.std.proofs.KnownBytes.{prepend_known-nil, Consumes-nil, Consumes-kept}
+use Rattle.std.proofs.KnownBytes.{Consumes-nil, Consumes-kept}
 use Rattle.std.proofs.lemmas.List.Elements.{All-nil}
 use Rattle.plain_model.specs.declared.Stop.TheVariants.{Finished, ReadFault, TooManyLines}
 use Rattle.plain_model.specs.Lines.{is_line_end}

@@ -2,8 +2,8 @@ use Rattle.std.proofs.Common.{arith, ◌∙◌, [], subst, append-nil}
 use Rattle.std.proofs.lemmas.Grind.{common_steps}
 use Rattle.pmem_cli.specs.Endings.{ending_text}
 use Rattle.pmem_cli.specs.Printed.{PrintsFront, Prints, with_waiting}
-use Rattle.std.proofs.lemmas.Result.{on_err_weaker, on_ok_weaker}
-use Rattle.pmem_cli.proofs.PrintLemmas.{Prints-trans, PrintsFront-trans}
+use Rattle.std.proofs.lemmas.Result.{on_err_weaker}
+use Rattle.pmem_cli.proofs.PrintLemmas.{PrintsFront-trans}
 use Rattle.pmem_cli.proofs.ending.tell.Goals as goal
 
 pub returns-clause-err : goal.returns-clause-err

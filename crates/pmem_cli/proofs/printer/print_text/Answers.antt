@@ -1,8 +1,5 @@
-use Rattle.std.proofs.Common.{arith, []}
+use Rattle.std.proofs.Common.{arith}
 use Rattle.std.proofs.lemmas.Grind.{common_steps}
-use Rattle.pmem_cli.specs.Printed.{with_waiting}
-use Rattle.std.proofs.lemmas.Result.{err_from_is_err_and}
-use Rattle.pmem_cli.proofs.PrintLemmas.{PrintsFront-more}
 use Rattle.pmem_cli.proofs.printer.print_text.Goals as goal
 
 -- a front of what waited is a front of that and the text

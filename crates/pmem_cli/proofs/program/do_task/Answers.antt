@@ -24,6 +24,6 @@ returns-in-Sample-clause-writes g c = CountsFault-map _ _ _ _ _ (λ same. cc) (�
 pub returns-in-Check-clause-writes : goal.returns-in-Check-clause-writes
 returns-in-Check-clause-writes g c = CountsFault-none _ _ _ c.check.ensures.write refl
 
-pub returns-in-Run-clause-prompt : goal.returns-in-Run-clause-prompt
-returns-in-Run-clause-prompt g c =
-    rw c.in-Run.is (λ given. elim c.run_trace.ensures.prompt [ inl same ↦ absurd (given (ap g.S.Source.left same)) | inr prompt ↦ prompt ])
+pub returns-in-Run-clause-replies_first : goal.returns-in-Run-clause-replies_first
+returns-in-Run-clause-replies_first g c =
+    rw c.in-Run.is (λ given. elim c.run_trace.ensures.replies_first [ inl same ↦ absurd (given (ap g.S.Source.left same)) | inr replied ↦ replied ])

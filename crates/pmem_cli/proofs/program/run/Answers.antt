@@ -6,10 +6,11 @@ use Rattle.pmem_cli.specs.Words.{task_of}
 use Rattle.pmem_cli.specs.Printed.{with_waiting}
 use Rattle.pmem_cli.specs.Causes.{Rose}
 use Rattle.pmem_cli.specs.HasRun.{TaskOutcome, HasEnded, IsComplete}
-use Rattle.pmem_cli.specs.Prompt.{RepliesFirst}
+use Rattle.pmem_cli.specs.RepliesFirst.{TaskRepliesFirst}
 use Rattle.pmem_cli.proofs.Completing.{complete}
-use Rattle.pmem_cli.proofs.PromptLemmas.{ending_appends, replies_more}
-use Rattle.pmem_cli.proofs.StatusLemmas.{IfSome-map, TaskOutcome-finished, pull_told, push_told, push_once}
+use Rattle.pmem_cli.proofs.ReplyLemmas.{ending_appends, task_replied_more}
+use Rattle.pmem_cli.proofs.StatusLemmas.{TaskOutcome-finished, pull_told, push_told, push_once}
+use Rattle.pmem_cli.proofs.TurnLemmas.{IfSome-map}
 use Rattle.pmem_cli.proofs.program.run.Goals as goal
 
 pub returns-clause-told : goal.returns-clause-told
@@ -68,8 +69,8 @@ returns-clause-complete g c =
     complete task status trace left before after reads writes done (returns-clause-read g c) (returns-clause-write g c))
     (returns-clause-told g c)
 
-pub returns-clause-prompt : goal.returns-clause-prompt
-returns-clause-prompt g c =
+pub returns-clause-replies_first : goal.returns-clause-replies_first
+returns-clause-replies_first g c =
     let words = map string_bytes c.args.words.now in
     let trace = g.S.Source.left c.args.trace.now in
     let left = g.S.Source.left c.do_words-ending.new.trace in
@@ -79,7 +80,7 @@ returns-clause-prompt g c =
     let after = g.K.Sink.put c.finish.new.out in
     let grown = ending_appends c.do_words-ending.result (with_waiting put c.do_words-ending.new.printer) after
     (λ same. ap (g.K.Sink.put) (c.finish.ensures.kept same)) c.finish.ensures.front in
-    IfSome-map (task_of words) (λ (task : Task). RepliesFirst task trace left told from put) (λ (task : Task). RepliesFirst task trace left told from after)
-    (λ (task : Task) (some : task_of words ≡ Some task) (replies : RepliesFirst task trace left told from put).
-    replies_more task trace left told from put after grown.0 replies grown.1)
-    (rw c.new-printer.ensures at c.do_words-ending.ensures.prompt)
+    IfSome-map (task_of words) (λ (task : Task). TaskRepliesFirst task trace left told from put) (λ (task : Task). TaskRepliesFirst task trace left told from after)
+    (λ (task : Task) (some : task_of words ≡ Some task) (replies : TaskRepliesFirst task trace left told from put).
+    task_replied_more task trace left told from put after grown.0 replies grown.1)
+    (rw c.new-printer.ensures at c.do_words-ending.ensures.replies_first)

@@ -9,7 +9,7 @@ use Rattle.pmem_cli.specs.declared.options.Choices.{Choices}
 use Rattle.pmem_cli.specs.Keys.{setup_chosen, shape_chosen, formulas_of}
 use Rattle.pmem_cli.specs.Printed.{Output}
 use Rattle.pmem_cli.specs.HasRun.{HasReplayed}
-use Rattle.pmem_cli.specs.Prompt.{IsPrompt}
+use Rattle.pmem_cli.specs.RepliesFirst.{HasRepliedFirst}
 use Rattle.pmem_cli.proofs.KeyLemmas.{formulas_aes, formulas_weak, formulas_blur, setup_same}
 use Rattle.pmem_cli.proofs.program.run_trace.Goals as goal
 
@@ -20,12 +20,12 @@ same_setup : (c : Choices) (shape : Shape) (formulas : Formulas) (stop : Stop) (
 same_setup c shape formulas stop trace left p q its_shape its_formulas =
     subst (λ (setup : Setup). HasReplayed setup stop trace left p q) (setup_same c shape formulas its_shape its_formulas)
 
-same_prompt : {T : Type 0} (first last : T) (c : Choices) (shape : Shape) (formulas : Formulas) (trace told : Option (List ℕ)) (p : Output) (put : Option (List ℕ))
+same_replied : {T : Type 0} (first last : T) (c : Choices) (shape : Shape) (formulas : Formulas) (trace told : Option (List ℕ)) (p : Output) (put : Option (List ℕ))
     → shape ≡ shape_chosen c → formulas ≡ formulas_of c
-    → (last ≡ first) ⊎ IsPrompt (record { shape = shape; formulas = formulas }) (start (record { shape = shape; formulas = formulas })) trace told p put
-    → (last ≡ first) ⊎ IsPrompt (setup_chosen c) (start (setup_chosen c)) trace told p put
-same_prompt first last c shape formulas trace told p put its_shape its_formulas =
-    subst (λ (setup : Setup). (last ≡ first) ⊎ IsPrompt setup (start setup) trace told p put) (setup_same c shape formulas its_shape its_formulas)
+    → (last ≡ first) ⊎ HasRepliedFirst (record { shape = shape; formulas = formulas }) (start (record { shape = shape; formulas = formulas })) trace told p put
+    → (last ≡ first) ⊎ HasRepliedFirst (setup_chosen c) (start (setup_chosen c)) trace told p put
+same_replied first last c shape formulas trace told p put its_shape its_formulas =
+    subst (λ (setup : Setup). (last ≡ first) ⊎ HasRepliedFirst setup (start setup) trace told p put) (setup_same c shape formulas its_shape its_formulas)
 
 pub returns-in-Aes-clause-run : goal.returns-in-Aes-clause-run
 returns-in-Aes-clause-run g c =
@@ -42,17 +42,17 @@ returns-in-Blur-clause-run g c =
     same_setup c.args.choices.now _ _ c.run_with-in-Blur.result _ _ _ _ c.geometry-geo.ensures
     (formulas_blur c.args.choices.now _ (sym c.suite_name.ensures ∙ c.in-Blur.is) c.weak_suite-in-Blur.ensures) c.run_with-in-Blur.ensures.run
 
-pub returns-in-Aes-clause-prompt : goal.returns-in-Aes-clause-prompt
-returns-in-Aes-clause-prompt g c =
-    same_prompt _ _ c.args.choices.now _ _ _ _ _ _ c.geometry-geo.ensures
-    (formulas_aes c.args.choices.now _ (sym c.suite_name.ensures ∙ c.in-Aes.is) c.aes_suite.ensures) c.run_with.ensures.prompt
+pub returns-in-Aes-clause-replies_first : goal.returns-in-Aes-clause-replies_first
+returns-in-Aes-clause-replies_first g c =
+    same_replied _ _ c.args.choices.now _ _ _ _ _ _ c.geometry-geo.ensures
+    (formulas_aes c.args.choices.now _ (sym c.suite_name.ensures ∙ c.in-Aes.is) c.aes_suite.ensures) c.run_with.ensures.replies_first
 
-pub returns-in-Weak-clause-prompt : goal.returns-in-Weak-clause-prompt
-returns-in-Weak-clause-prompt g c =
-    same_prompt _ _ c.args.choices.now _ _ _ _ _ _ c.geometry-geo.ensures
-    (formulas_weak c.args.choices.now _ (sym c.suite_name.ensures ∙ c.in-Weak.is) c.weak_suite.ensures) c.run_with-in-Weak.ensures.prompt
+pub returns-in-Weak-clause-replies_first : goal.returns-in-Weak-clause-replies_first
+returns-in-Weak-clause-replies_first g c =
+    same_replied _ _ c.args.choices.now _ _ _ _ _ _ c.geometry-geo.ensures
+    (formulas_weak c.args.choices.now _ (sym c.suite_name.ensures ∙ c.in-Weak.is) c.weak_suite.ensures) c.run_with-in-Weak.ensures.replies_first
 
-pub returns-in-Blur-clause-prompt : goal.returns-in-Blur-clause-prompt
-returns-in-Blur-clause-prompt g c =
-    same_prompt _ _ c.args.choices.now _ _ _ _ _ _ c.geometry-geo.ensures
-    (formulas_blur c.args.choices.now _ (sym c.suite_name.ensures ∙ c.in-Blur.is) c.weak_suite-in-Blur.ensures) c.run_with-in-Blur.ensures.prompt
+pub returns-in-Blur-clause-replies_first : goal.returns-in-Blur-clause-replies_first
+returns-in-Blur-clause-replies_first g c =
+    same_replied _ _ c.args.choices.now _ _ _ _ _ _ c.geometry-geo.ensures
+    (formulas_blur c.args.choices.now _ (sym c.suite_name.ensures ∙ c.in-Blur.is) c.weak_suite-in-Blur.ensures) c.run_with-in-Blur.ensures.replies_first

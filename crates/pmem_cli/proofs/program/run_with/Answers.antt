@@ -1,4 +1,4 @@
-use Rattle.pmem_cli.proofs.PromptLemmas.{prompt_new}
+use Rattle.pmem_cli.proofs.ReplyLemmas.{replied_new}
 use Rattle.pmem_cli.proofs.ReplayLemmas.{HasReplayed-memory, HasReplayed-served}
 use Rattle.pmem_cli.proofs.program.run_with.Goals as goal
 
@@ -9,6 +9,6 @@ pub returns-in-Ok-clause-run : goal.returns-in-Ok-clause-run
 returns-in-Ok-clause-run g c =
     HasReplayed-served g.U.Suite.formulas_of _ _ c.in-Ok.world c.serve_all.result _ _ _ _ c.in-Ok.ensures.new c.in-Ok.ensures.keys c.serve_all.ensures.stopped
 
-pub returns-in-Ok-clause-prompt : goal.returns-in-Ok-clause-prompt
-returns-in-Ok-clause-prompt g c =
-    prompt_new _ _ g.U.Suite.formulas_of _ _ c.in-Ok.world _ _ _ _ c.in-Ok.ensures.new c.in-Ok.ensures.keys c.serve_all.ensures.prompt
+pub returns-in-Ok-clause-replies_first : goal.returns-in-Ok-clause-replies_first
+returns-in-Ok-clause-replies_first g c =
+    replied_new _ _ g.U.Suite.formulas_of _ _ c.in-Ok.world _ _ _ _ c.in-Ok.ensures.new c.in-Ok.ensures.keys c.serve_all.ensures.replies_first

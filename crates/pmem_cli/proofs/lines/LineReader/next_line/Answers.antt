@@ -4,7 +4,7 @@ use Rattle.std.proofs.KnownBytes.{Consumes-trans, Consumes-kept}
 use Rattle.std.proofs.lemmas.List.Elements.{All-append}
 use Rattle.plain_model.specs.Lines.{is_line_end}
 use Rattle.pmem_cli.proofs.PieceLemmas.{Consumes-front, no_end_within}
-use Rattle.pmem_cli.proofs.PromptLemmas.{asked_in}
+use Rattle.pmem_cli.proofs.ReplyLemmas.{pulled_within_line}
 use Rattle.pmem_cli.proofs.lines.LineReader.next_line.Goals as goal
 
 pub returns-in-TooLong-clause-found : goal.returns-in-TooLong-clause-found
@@ -47,5 +47,5 @@ pieces-preserved g c =
           let kept = is_ended.at_hand (rw same (omega (arith, end.1))) in
           absurd (no_end_within unread within (rw (kept, same) end));
       unpulled = λ end. is_ended.unpulled (rw (before.at_hand end) (omega (arith, end.1))) ∙ before.unpulled end;
-      asked = asked_in _ _ _ g.S.Source.left g.S.Source.left_before _ _ _ before.taken before.within before.asked is_ended.asked;
+      last_pull = pulled_within_line _ _ _ g.S.Source.left g.S.Source.left_before _ _ _ before.taken before.within before.last_pull is_ended.last_pull;
     }

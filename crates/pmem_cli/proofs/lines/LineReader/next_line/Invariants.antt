@@ -2,7 +2,7 @@ use Rattle.std.proofs.Common.{◌≡◌, ◌≤◌, ◌-◌, length}
 use Rattle.std.specs.Prelude.{◌⊎◌, Contains}
 use Rattle.std.specs.Io.KnownBytes.{Consumes, prepend_known}
 use Rattle.plain_model.specs.Lines.{IsWithin}
-use Rattle.pmem_cli.specs.Prompt.{HasAskedIn}
+use Rattle.pmem_cli.specs.RepliesFirst.{PullsWithinLine}
 use Rattle.pmem_cli.specs.Pulling.{StaysOpen}
 use Rattle.pmem_cli.proofs.lines.LineReader.next_line.Given as goal
 
@@ -17,9 +17,9 @@ invariant-pieces g l =
       may_pull : StaysOpen (g.S.Source.pulls l.initial.source) (g.S.Source.pulls l.source);
       at_hand : Contains l.initial.self 10 → l.self ≡ l.initial.self;
       unpulled : Contains l.initial.self 10 → l.source ≡ l.initial.source;
-      asked :
+      last_pull :
           (l.source ≡ l.initial.source)
-          ⊎ HasAskedIn (prepend_known l.initial.self (g.S.Source.left l.initial.source)) (g.S.Source.left_before l.source);
+          ⊎ PullsWithinLine (prepend_known l.initial.self (g.S.Source.left l.initial.source)) (g.S.Source.left_before l.source);
     }
 
 abbrev pub decreases-pieces : goal.decreases-pieces

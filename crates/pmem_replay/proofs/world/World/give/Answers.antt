@@ -15,7 +15,8 @@ use Rattle.pmem_engine.specs.Outcomes.{is_sealed_by}
 use Rattle.pmem_engine.specs.Calls.{HasWrittenLine}
 use Rattle.pmem_replay.specs.Flagged.{with_dirtying}
 use Rattle.pmem_replay.specs.World.{WorldParts, WorldState, IsWorld, setup_of_world, world_of}
-use Rattle.pmem_replay.specs.During.{none_taken, parts_in}
+use Rattle.watched_board.specs.Watching.{none_taken}
+use Rattle.pmem_replay.specs.During.{parts_in}
 use Rattle.pmem_replay.specs.Given.{HasGiven, IsGivenShown}
 use Rattle.pmem_replay.proofs.Steps.EngineCalls.{EngineCall, setup_at, old_world, parts_left, its_banks}
 use Rattle.pmem_replay.proofs.Steps.PartsOfWorld.{held, setup_in, going_in, shape_in}

@@ -7,7 +7,8 @@ use Rattle.board.specs.Memory.{BoardMemory}
 use Rattle.seal_ledger.specs.View.{ledger_of}
 use Rattle.pmem_recovery.specs.Parts.{suite_state}
 use Rattle.pmem_replay.specs.World.{WorldParts, WorldState, IsWorld, world_of}
-use Rattle.pmem_replay.specs.During.{none_taken, device_during, IsWatched, WasRecovered}
+use Rattle.watched_board.specs.Watching.{none_taken, device_during, IsWatched}
+use Rattle.pmem_replay.specs.During.{WasRecovered}
 use Rattle.pmem_replay.proofs.Power.OnLaws.{lit}
 use Rattle.pmem_replay.proofs.Power.RecoveryCalls.{RecoveryCall, none_there}
 use Rattle.pmem_replay.proofs.Power.OnSteps.{on-recovered, on-cut, on-counter, on-root, on-twin, on-memory}

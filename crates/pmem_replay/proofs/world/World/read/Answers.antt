@@ -11,7 +11,8 @@ use Rattle.plain_model.specs.Answers.{is_covered}
 use Rattle.pmem_engine.specs.declared.fault.Fault.{Fault}
 use Rattle.pmem_engine.specs.declared.fault.Fault.TheVariants as Fail
 use Rattle.pmem_engine.specs.Calls.{HasReadLine}
-use Rattle.pmem_replay.specs.During.{parts_in, none_taken}
+use Rattle.watched_board.specs.Watching.{none_taken}
+use Rattle.pmem_replay.specs.During.{parts_in}
 use Rattle.pmem_replay.specs.World.{WorldParts, state_in, world_of}
 use Rattle.pmem_replay.proofs.Steps.EngineCalls.{EngineCall, setup_at, old_world, parts_left}
 use Rattle.pmem_replay.proofs.Steps.PartsOfWorld.{held, setup_in, going_in, shape_in, none_wait, seen_from, same_engine}

@@ -1,0 +1,200 @@
+-- The end of a call: a cut and an exhibit take the engine down.
+use Rattle.std.proofs.Common.{ℕ, ◌≡◌, Bool, true, false, List, length, None, refl, sym, ap, subst, inl, inr, ◌∙◌}
+use Rattle.std.specs.Prelude.{Option, Result, Err, IsSome, slice_index_or, not, ◌||◌}
+use Rattle.std.proofs.lemmas.Bool.{true≢false}
+use Rattle.pmem_base.specs.declared.lines.Line.{Line}
+use Rattle.pmem_base.specs.declared.registers.Regs.{Regs}
+use Rattle.pmem_base.specs.Registers.{IsGroup}
+use Rattle.pmem_base.specs.Shape.{Shape}
+use Rattle.suite.specs.Setup.{Setup}
+use Rattle.board.specs.Device.{Device}
+use Rattle.pmem_engine.specs.Outcomes.{Outcome, cut_short, shown, is_going}
+use Rattle.counter_tree.specs.declared.watch.LineSeal.{LineSeal}
+use Rattle.counter_tree.specs.Layout.{tree_size}
+use Rattle.counter_tree.specs.Shadow.{ChipTree}
+use Rattle.counter_tree.specs.Watch.{WatchState}
+use Rattle.asit_shadow.specs.declared.cache.CachedNode.{CachedNode}
+use Rattle.asit_shadow.specs.declared.fault.TreeFault.{TreeFault}
+use Rattle.asit_shadow.specs.declared.fault.TreeFault.TheVariants as Fail
+use Rattle.asit_shadow.specs.State.{TreeState}
+use Rattle.asit_shadow.specs.Parts.{Parts, parts_of, IsWatchReady, IsBoardReady, IsUsable}
+use Rattle.asit_shadow.specs.Calls.{outcome_of, outcome_of_fault, CallEffect, KeepsWatch, IsDownAnswer, IsNodeLineRead, IsNodeShown, IsPathAccepted, IsLineShown, IsLineRead, AnswersDown}
+
+engine_same : (a b : TreeState) → a.shape ≡ b.shape → a.cache ≡ b.cache → a.tree ≡ b.tree → a.down ≡ b.down → a ≡ b
+engine_same a b shape cache tree down =
+    let first : a ≡ record { shape = b.shape; cache = a.cache; tree = a.tree; down = a.down } =
+    ap (λ (s : Shape). record { shape = s; cache = a.cache; tree = a.tree; down = a.down }) shape in
+    let second : record { shape = b.shape; cache = a.cache; tree = a.tree; down = a.down } ≡ record { shape = b.shape; cache = b.cache; tree = a.tree; down = a.down } =
+    ap (λ (c : List (Option CachedNode)). record { shape = b.shape; cache = c; tree = a.tree; down = a.down }) cache in
+    let third : record { shape = b.shape; cache = b.cache; tree = a.tree; down = a.down } ≡ record { shape = b.shape; cache = b.cache; tree = b.tree; down = a.down } =
+    ap (λ (t : ChipTree). record { shape = b.shape; cache = b.cache; tree = t; down = a.down }) tree in
+    let last : record { shape = b.shape; cache = b.cache; tree = b.tree; down = a.down } ≡ b =
+    ap (λ (d : Bool). record { shape = b.shape; cache = b.cache; tree = b.tree; down = d }) down in
+    first ∙ (second ∙ (third ∙ last))
+
+-- the engine after the end of a call that was refused
+pub record HasEnded (fault : TreeFault) (old new : TreeState) : Type 0 where
+  pub shape : new.shape ≡ old.shape
+  pub cache : new.cache ≡ old.cache
+  pub tree : new.tree ≡ old.tree
+  pub down : new.down ≡ (old.down || not (is_going (outcome_of_fault fault)))
+
+or_false : (b : Bool) → (b || false) ≡ b
+or_false true = refl
+or_false false = refl
+
+-- where it goes on, nothing was changed
+pub ended-going : (fault : TreeFault) (old new : TreeState) → is_going (outcome_of_fault fault) ≡ true → HasEnded fault old new → new ≡ old
+ended-going fault old new goes it =
+    engine_same new old it.shape it.cache it.tree (it.down ∙ (ap (λ b. old.down || not b) goes ∙ or_false old.down))
+
+-- ---- an effect of an end doesn't rest on the engine
+
+pub effect-cut : (setup : Setup) (old mid : Parts) (engine : TreeState) → engine.shape ≡ mid.engine.shape → CallEffect setup cut_short old mid → CallEffect setup cut_short old (parts_of engine mid.device mid.watch)
+effect-cut setup old mid engine shape it =
+    record {
+      shape = shape ∙ it.shape;
+      size = it.size;
+      power = it.power;
+      trusted = it.trusted;
+      sound = it.sound;
+      places = λ trusted. record { seals = (it.places trusted).seals; slots = (it.places trusted).slots; nodes = (it.places trusted).nodes };
+    }
+
+pub effect-shown : (setup : Setup) (old mid : Parts) (engine : TreeState) → engine.shape ≡ mid.engine.shape → CallEffect setup shown old mid → CallEffect setup shown old (parts_of engine mid.device mid.watch)
+effect-shown setup old mid engine shape it =
+    record {
+      shape = shape ∙ it.shape;
+      size = it.size;
+      power = it.power;
+      trusted = it.trusted;
+      sound = it.sound;
+      places = λ trusted. record { seals = (it.places trusted).seals; slots = (it.places trusted).slots; nodes = tt };
+    }
+
+-- ---- nor does what was read
+
+line_read-ended : (setup : Setup) (a x : ℕ) (line : Line) (old mid : Parts) (engine : TreeState) → IsNodeLineRead setup a x line old mid → IsNodeLineRead setup a x line old (parts_of engine mid.device mid.watch)
+line_read-ended setup a x line old mid engine it =
+    record { on_path = it.on_path; below_top = it.below_top; uncached = it.uncached; read = it.read }
+
+pub node_shown-ended : (setup : Setup) (a : ℕ) (old mid : Parts) (engine : TreeState) → IsNodeShown setup a old mid → IsNodeShown setup a old (parts_of engine mid.device mid.watch)
+node_shown-ended setup a old mid engine it =
+    record {
+      x = it.x;
+      line = it.line;
+      node = it.node;
+      its = line_read-ended setup a it.x it.line old mid engine it.its;
+      accepted = it.accepted;
+      other = it.other;
+      exhibit = it.exhibit;
+    }
+
+accepted-ended : (setup : Setup) (a : ℕ) (old mid : Parts) (engine : TreeState) → IsPathAccepted setup a old mid → IsPathAccepted setup a old (parts_of engine mid.device mid.watch)
+accepted-ended setup a old mid engine it =
+    record {
+      each =
+          λ x on.
+          elim (it.each x on) [
+            | inl cached ↦ inl cached
+            | inr read ↦
+                inr (record { line = read.line; its = line_read-ended setup a x read.line old mid engine read.its; accepted = read.accepted })
+          ];
+    }
+
+line_shown-ended : (setup : Setup) (a : ℕ) (old mid : Parts) (engine : TreeState) → IsLineShown setup a old mid → IsLineShown setup a old (parts_of engine mid.device mid.watch)
+line_shown-ended setup a old mid engine it =
+    record {
+      cipher = it.cipher;
+      tags = it.tags;
+      its = record { cipher_read = it.its.cipher_read; tags_read = it.its.tags_read };
+      fits = it.fits;
+      other = it.other;
+      exhibit = it.exhibit;
+    }
+
+-- ---- a read
+
+pub read-ended : (setup : Setup) (a : ℕ) (old mid : Parts) (engine : TreeState) (fault : TreeFault) → HasEnded fault mid.engine engine → IsLineRead setup a old mid (Err fault) → IsLineRead setup a old (parts_of engine mid.device mid.watch) (Err fault)
+read-ended setup a old mid engine Fail.Cut ended it =
+    record {
+      kind = it.kind;
+      up = it.up;
+      effect = effect-cut setup old mid engine ended.shape it.effect;
+      watch = it.watch;
+      regs = it.regs;
+      steps = it.steps;
+      answered = it.answered;
+      unrefused = it.unrefused;
+    }
+read-ended setup a old mid engine Fail.Shown ended it =
+    record {
+      kind = it.kind;
+      up = it.up;
+      effect = effect-shown setup old mid engine ended.shape it.effect;
+      watch = it.watch;
+      regs = it.regs;
+      steps = it.steps;
+      answered =
+          λ trusted.
+          elim (it.answered trusted) [
+            | inl node ↦ inl (node_shown-ended setup a old mid engine node)
+            | inr (accepted, line) ↦ inr (accepted-ended setup a old mid engine accepted, line_shown-ended setup a old mid engine line)
+          ];
+      unrefused = it.unrefused;
+    }
+read-ended setup a old mid engine Fail.Down ended it =
+    subst (λ e. IsLineRead setup a old (parts_of e mid.device mid.watch) (Err Fail.Down)) (sym (ended-going Fail.Down mid.engine engine refl ended)) it
+read-ended setup a old mid engine (Fail.Node x) ended it =
+    subst (λ e. IsLineRead setup a old (parts_of e mid.device mid.watch) (Err (Fail.Node x))) (sym (ended-going (Fail.Node x) mid.engine engine refl ended)) it
+read-ended setup a old mid engine (Fail.Tag at) ended it =
+    subst (λ e. IsLineRead setup a old (parts_of e mid.device mid.watch) (Err (Fail.Tag at))) (sym (ended-going (Fail.Tag at) mid.engine engine refl ended)) it
+read-ended setup a old mid engine Fail.Spent ended it =
+    subst (λ e. IsLineRead setup a old (parts_of e mid.device mid.watch) (Err Fail.Spent)) (sym (ended-going Fail.Spent mid.engine engine refl ended)) it
+
+-- ---- what calls ask stays true
+
+pub ready-kept : (g : Shape) (outcome : Outcome) (old new : WatchState) → KeepsWatch outcome old new → IsWatchReady g old → IsWatchReady g new
+ready-kept g outcome old new kept ready =
+    record {
+      seal_count = ap length kept.seals ∙ ready.seal_count;
+      node_count = ap length kept.nodes ∙ ready.node_count;
+      slot_count = ap length kept.slots ∙ ready.slot_count;
+      each_sealed = λ a inside. subst (λ (seals : List (Option LineSeal)). IsSome (slice_index_or seals a None)) (sym kept.seals) (ready.each_sealed a inside);
+    }
+
+pub board-kept : (g : Shape) (old new : Device) → new.size ≡ old.size → new.regs ≡ old.regs → IsBoardReady g old → IsBoardReady g new
+board-kept g old new size regs ready =
+    record {
+      its_size = size ∙ ready.its_size;
+      group = subst (λ (r : Regs). IsGroup (tree_size g) r.group.items) (sym regs) ready.group;
+    }
+
+pub read-usable : (setup : Setup) (a : ℕ) (old new : Parts) (answer : Result Line TreeFault) → old.engine.down ≡ false → IsUsable setup.shape old → IsLineRead setup a old new answer → IsUsable setup.shape new
+read-usable setup a old new answer up usable it =
+    record {
+      watch = ready-kept setup.shape (outcome_of answer) old.watch new.watch it.watch usable.watch;
+      board = board-kept setup.shape old.device new.device it.effect.size it.regs usable.board;
+      no_group = λ _. ap (λ (r : Regs). r.group.items) it.regs ∙ usable.no_group up;
+    }
+
+-- ---- the engine is down, or not
+
+pub answers-down : {T : Type 0} (old : Parts) (answer : Result T TreeFault) → old.engine.down ≡ true → IsDownAnswer answer → is_going (outcome_of answer) ≡ true → AnswersDown old old answer
+answers-down old answer down is goes =
+    record {
+      exactly = (λ _. down, λ _. is);
+      still = λ _. refl;
+      after = sym (ap (λ b. old.engine.down || not b) goes ∙ or_false old.engine.down);
+    }
+
+pub answers-up : {T : Type 0} (old new : Parts) (answer : Result T TreeFault) → old.engine.down ≡ false → (IsDownAnswer answer → ⊥) → new.engine.down ≡ (old.engine.down || not (is_going (outcome_of answer))) → AnswersDown old new answer
+answers-up old new answer up other after =
+    record {
+      exactly = (λ e. absurd (other e), λ down. absurd (true≢false (sym down ∙ up)));
+      still = λ e. absurd (other e);
+      after = after;
+    }
+
+pub stays-up : (old new : Bool) → new ≡ old → new ≡ (old || false)
+stays-up old new same = same ∙ sym (or_false old)

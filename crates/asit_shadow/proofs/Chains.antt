@@ -1,0 +1,87 @@
+-- One part of a call after another: what holds of both.
+use Rattle.std.proofs.Common.{rules, ℕ, ◌≡◌, ◌≢◌, ◌+◌, Bool, true, false, List, [], refl, sym, ap, subst, ◌∙◌, arith}
+use Rattle.std.specs.Prelude.{Option, Some, IfSome, is_some}
+use Rattle.std.proofs.lemmas.Bool.{true≢false}
+use Rattle.pmem_base.specs.declared.lines.Line.{Line}
+use Rattle.pmem_base.specs.Counts.{HasRisen}
+use Rattle.suite.specs.Setup.{Setup}
+use Rattle.board.specs.Device.{Device}
+use Rattle.board.proofs.CountLemmas.{RisesBy-then}
+use Rattle.pmem_engine.specs.Outcomes.{Outcome, going, cut_short, shown, is_going, HasPower}
+use Rattle.pmem_engine.proofs.CallEnds.ToldLines.{told_cases, unarmed}
+use Rattle.asit_shadow.specs.Parts.{Parts, lines_redone}
+use Rattle.asit_shadow.specs.Calls.{KeepsNodes, KeepsPlaces, CallEffect, TakesWriteBacks}
+
+pub power-then : (outcome : Outcome) (old mid new : Device) → HasPower going old mid → HasPower outcome mid new → HasPower outcome old new
+power-then going old mid new first second =
+    (λ was. second.0 (first.0 was), λ was. second.1 (first.1 was), second.2 ∙ first.2)
+power-then shown old mid new first second =
+    (λ was. second.0 (first.0 was), λ was. second.1 (first.1 was), second.2 ∙ first.2)
+power-then cut_short old mid new first second =
+    (unsteady old.steady refl, second.1, subst (λ n. HasRisen n new.cuts) first.2 second.2)
+  where
+    unsteady : (b : Bool) → old.steady ≡ b → old.steady ≡ false
+    unsteady v0 it = search rules
+
+pub write_backs-then : (m n : ℕ) (outcome : Outcome) (old mid new : Device) → (old.live ≡ true → mid.live ≡ true) → TakesWriteBacks m going old mid → TakesWriteBacks n outcome mid new → TakesWriteBacks (m + n) outcome old new
+write_backs-then m n outcome old mid new live first second =
+    record {
+      count = first.count + second.count;
+      at_most = omega (arith, first.at_most, second.at_most);
+      fewer = λ cut was. omega (arith, first.at_most, second.fewer cut (live was));
+      writes = RisesBy-then first.count second.count old.writes mid.writes new.writes first.writes second.writes;
+      latches = second.latches ∙ first.latches;
+    }
+
+nodes-then : (setup : Setup) (outcome : Outcome) (old mid new : Parts) → KeepsNodes setup going old mid → KeepsNodes setup outcome mid new → KeepsNodes setup outcome old new
+nodes-then setup going old mid new first second = λ x inside it. second x inside (first x inside it)
+nodes-then setup cut_short old mid new first second = λ x inside it. second x inside (first x inside it)
+nodes-then setup shown old mid new first second = second
+
+pub places-then : (setup : Setup) (outcome : Outcome) (old mid new : Parts) → KeepsPlaces setup going old mid → KeepsPlaces setup outcome mid new → KeepsPlaces setup outcome old new
+places-then setup outcome old mid new first second =
+    record {
+      seals = λ a inside it. second.seals a inside (first.seals a inside it);
+      slots = λ i inside it. second.slots i inside (first.slots i inside it);
+      nodes = nodes-then setup outcome old mid new first.nodes second.nodes;
+    }
+
+pub effect-then : (setup : Setup) (outcome : Outcome) (old mid new : Parts) → CallEffect setup going old mid → CallEffect setup outcome mid new → CallEffect setup outcome old new
+effect-then setup outcome old mid new first second =
+    record {
+      shape = second.shape ∙ first.shape;
+      size = second.size ∙ first.size;
+      power = power-then outcome old.device mid.device new.device first.power second.power;
+      trusted = λ was. second.trusted (first.trusted was);
+      sound = λ was. second.sound (first.sound was);
+      places = λ was. places-then setup outcome old mid new (first.places was) (second.places (first.trusted was));
+    }
+
+-- with no group armed before and after, what holds of lines that are told gives what holds of those
+-- that are told then
+pub held-told : (P Q : List Line → Type 0) (old new : Parts) → old.device.regs.group.items ≡ [] → new.device.regs.group.items ≡ [] → is_some new.device.lines ≡ is_some old.device.lines
+    → ((lines then : List Line) → old.device.lines ≡ Some lines → new.device.lines ≡ Some then → P lines → Q then) → IfSome (lines_redone old) P → IfSome (lines_redone new) Q
+held-told P Q old new before after same give it =
+    subst (λ (o : Option (List Line)). IfSome o Q) (sym (unarmed new.device.regs.group.items new.device.lines after))
+    (told_cases P Q old.device.lines new.device.lines same give
+    (subst (λ (o : Option (List Line)). IfSome o P) (unarmed old.device.regs.group.items old.device.lines before) it))
+
+pub told-of : (P : List Line → Type 0) (parts : Parts) → parts.device.regs.group.items ≡ [] → IfSome (lines_redone parts) P → IfSome parts.device.lines P
+told-of P parts none it =
+    subst (λ (o : Option (List Line)). IfSome o P) (unarmed parts.device.regs.group.items parts.device.lines none) it
+
+-- ---- two ends are two
+
+pub going-uncut : going ≢ cut_short
+going-uncut e = absurd (true≢false (ap is_going e))
+
+pub going-unshown : going ≢ shown
+going-unshown e = absurd (true≢false (ap is_going e))
+
+pub cut-unshown : cut_short ≢ shown
+cut-unshown e = absurd (true≢false (ap is_cut e))
+  where
+    is_cut : Outcome → Bool
+    is_cut going = false
+    is_cut cut_short = true
+    is_cut shown = false

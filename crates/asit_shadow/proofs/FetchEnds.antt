@@ -1,0 +1,359 @@
+-- How a fetch ends: with its path, or with a cut, a refused node or an exhibit.
+use Rattle.std.proofs.Common.{ℕ, ◌≡◌, ◌≢◌, Bool, true, false, List, Some, None, refl, sym, ap, subst, ◌∙◌, arith}
+use Rattle.std.specs.Prelude.{Option, All, IsNone, IsSome, IfSome, MatchOption}
+use Rattle.std.proofs.lemmas.Bool.{true≢false}
+use Rattle.std.proofs.lemmas.Option.{same_Some, none-some}
+use Rattle.pmem_base.specs.declared.lines.Line.{Line}
+use Rattle.pmem_base.specs.declared.registers.Regs.{Regs}
+use Rattle.pmem_base.specs.declared.answers.Exhibit.{Exhibit}
+use Rattle.pmem_base.specs.Counts.{HasRisen}
+use Rattle.pmem_base.specs.Lines.{line_at}
+use Rattle.suite.specs.Setup.{Setup}
+use Rattle.board.specs.Device.{Device}
+use Rattle.board.specs.Counts.{RisesBy}
+use Rattle.board.specs.Steps.{HasRead, Tells}
+use Rattle.collision_witness.specs.Exhibits.{IsExhibit}
+use Rattle.commit_regs.specs.Groups.{redone_told}
+use Rattle.pmem_engine.specs.Outcomes.{Outcome, going, cut_short, shown, HasPower}
+use Rattle.counter_tree.specs.Nodes.{total, node_read}
+use Rattle.counter_tree.specs.Layout.{line_of_node}
+use Rattle.counter_tree.specs.Trees.{node_at, entry_for}
+use Rattle.counter_tree.specs.Watch.{WatchState, first_shown, forged_node}
+use Rattle.counter_tree.specs.Accepted.{IsNodeUnaccepted, IsNodeForged}
+use Rattle.asit_shadow.specs.declared.fault.TreeFault.{TreeFault}
+use Rattle.asit_shadow.specs.declared.fault.TreeFault.TheVariants as Fail
+use Rattle.asit_shadow.specs.State.{TreeState, IsCached}
+use Rattle.asit_shadow.specs.Invariants.{IsAnchored, IsTrusted, IsDurable, IsSound, IsSealStored, IsSlotStored}
+use Rattle.asit_shadow.specs.Places.{IsNodeHeld, IsNodeHeldBy}
+use Rattle.asit_shadow.specs.Parts.{Parts, AreTrusted, AreSound, HoldsSeal, HoldsSlot, HoldsNode, lines_redone}
+use Rattle.asit_shadow.specs.Calls.{CallEffect, KeepsWatch, TakesWriteBacks, IsNodeLineRead}
+use Rattle.asit_shadow.specs.Fetching.{IsNodeCutOff, IsNodeMissed, IsFetchStopped}
+use Rattle.asit_shadow.proofs.Chains.{effect-then, going-unshown, cut-unshown}
+use Rattle.asit_shadow.proofs.FetchLaws.{forged_node-holds, node_read-sound}
+use Rattle.asit_shadow.proofs.PlaceLaws.{powered_off-place}
+use Rattle.asit_shadow.proofs.LevelSteps.{IsLevelReady}
+use Rattle.asit_shadow.proofs.PathSteps.{IsNextLevel, level-ready, next-on_path, cached-after}
+
+-- ---- parts of which nothing was written
+
+pub record AreUnwritten (old new : Device) : Type 0 where
+  pub lines : new.lines ≡ old.lines
+  pub regs : new.regs ≡ old.regs
+  pub size : new.size ≡ old.size
+  pub writes : new.writes ≡ old.writes
+  pub latches : new.latches ≡ old.latches
+
+pub read-unwritten : (old new : Device) (at : ℕ) (line : Line) → HasRead old at line new → AreUnwritten old new
+read-unwritten old new at line read =
+    record { lines = read.lines; regs = read.regs; size = read.size; writes = read.writes; latches = read.latches }
+
+cut-unwritten : (old new : Parts) → IsNodeCutOff old new → AreUnwritten old.device new.device
+cut-unwritten old new cut =
+    record {
+      lines = cut.cut.lines ∙ cut.lines;
+      regs = cut.cut.regs ∙ cut.regs;
+      size = cut.cut.size ∙ cut.size;
+      writes = cut.cut.writes ∙ cut.writes;
+      latches = cut.cut.latches ∙ cut.latches;
+    }
+
+pub same_redone : (old new : Parts) → AreUnwritten old.device new.device → lines_redone new ≡ lines_redone old
+same_redone old new same =
+    ap (λ (r : Regs). redone_told r.group.items new.device.lines) same.regs
+    ∙ ap (λ (o : Option (List Line)). redone_told old.device.regs.group.items o) same.lines
+
+pub some_map : (P Q : List Line → Type 0) (told : Option (List Line)) → ((lines : List Line) → P lines → Q lines) → IfSome told P → IfSome told Q
+some_map P Q None give it = tt
+some_map P Q (Some lines) give it = give lines it
+
+pub same-seals : (setup : Setup) (old new : Parts) (a : ℕ) → AreUnwritten old.device new.device → new.watch.seals ≡ old.watch.seals → HoldsSeal setup.shape old a → HoldsSeal setup.shape new a
+same-seals setup old new a same watch it =
+    subst (λ (o : Option (List Line)). IfSome o (λ lines. IsSealStored setup.shape lines new.watch a)) (sym (same_redone old new same))
+    (some_map (λ lines. IsSealStored setup.shape lines old.watch a) (λ lines. IsSealStored setup.shape lines new.watch a) (lines_redone old)
+    (λ lines stored.
+    record {
+      seal = stored.seal;
+      last = ap (λ (seals : List (Option Rattle.counter_tree.specs.declared.watch.LineSeal.LineSeal)). Rattle.std.specs.Prelude.slice_index_or seals a None) watch ∙ stored.last;
+      cipher = stored.cipher;
+      tag = stored.tag;
+    })
+    it)
+
+pub same-slots : (setup : Setup) (old new : Parts) (i : ℕ) → AreUnwritten old.device new.device → new.watch.slots ≡ old.watch.slots → HoldsSlot setup.shape old i → HoldsSlot setup.shape new i
+same-slots setup old new i same watch it =
+    subst (λ (o : Option (List Line)). IfSome o (λ lines. IsSlotStored setup.shape lines new.watch i)) (sym (same_redone old new same))
+    (some_map (λ lines. IsSlotStored setup.shape lines old.watch i) (λ lines. IsSlotStored setup.shape lines new.watch i) (lines_redone old)
+    (λ lines stored. stored ∙ ap (λ slots. line_at slots i) (sym watch))
+    it)
+
+same-nodes : (setup : Setup) (old new : Parts) (x : ℕ) → AreUnwritten old.device new.device → new.engine ≡ old.engine → new.watch ≡ old.watch → HoldsNode setup old x → HoldsNode setup new x
+same-nodes setup old new x same engine watch it =
+    subst (λ (o : Option (List Line)). IfSome o (λ lines. IsNodeHeldBy setup new.engine lines new.watch x)) (sym (same_redone old new same))
+    (subst (λ (e : TreeState). IfSome (lines_redone old) (λ lines. IsNodeHeldBy setup e lines new.watch x)) (sym engine)
+    (subst (λ (w : WatchState). IfSome (lines_redone old) (λ lines. IsNodeHeldBy setup old.engine lines w x)) (sym watch) it))
+
+-- ---- a refused node
+
+same-trusted : (setup : Setup) (old new : Parts) → AreUnwritten old.device new.device → new.engine ≡ old.engine → new.watch ≡ old.watch → AreTrusted setup old → AreTrusted setup new
+same-trusted setup old new same engine watch trusted =
+    subst (λ (e : TreeState). IsTrusted setup e new.device.regs new.watch) (sym engine)
+    (subst (λ (r : Regs). IsTrusted setup old.engine r new.watch) (sym same.regs)
+    (subst (λ (w : WatchState). IsTrusted setup old.engine old.device.regs w) (sym watch) trusted))
+
+same-sound : (setup : Setup) (old new : Parts) → AreUnwritten old.device new.device → new.engine ≡ old.engine → new.watch ≡ old.watch → AreSound setup old → AreSound setup new
+same-sound setup old new same engine watch sound =
+    subst (λ (o : Option (List Line)). MatchOption o ⊥ (λ lines. IsSound setup new.engine lines new.device.regs new.watch)) (sym same.lines)
+    (subst (λ (e : TreeState). MatchOption old.device.lines ⊥ (λ lines. IsSound setup e lines new.device.regs new.watch)) (sym engine)
+    (subst (λ (r : Regs). MatchOption old.device.lines ⊥ (λ lines. IsSound setup old.engine lines r new.watch)) (sym same.regs)
+    (subst (λ (w : WatchState). MatchOption old.device.lines ⊥ (λ lines. IsSound setup old.engine lines old.device.regs w)) (sym watch) sound)))
+
+pub refused-effect : (setup : Setup) (old new : Parts) → AreUnwritten old.device new.device → HasPower going old.device new.device → new.engine ≡ old.engine → new.watch ≡ old.watch → CallEffect setup going old new
+refused-effect setup old new same power engine watch =
+    record {
+      shape = ap (λ (e : TreeState). e.shape) engine;
+      size = same.size;
+      power = power;
+      trusted = same-trusted setup old new same engine watch;
+      sound = same-sound setup old new same engine watch;
+      places =
+          λ trusted.
+          record {
+            seals = λ a inside it. same-seals setup old new a same (ap (λ (w : WatchState). w.seals) watch) it;
+            slots = λ i inside it. same-slots setup old new i same (ap (λ (w : WatchState). w.slots) watch) it;
+            nodes = λ x inside it. same-nodes setup old new x same engine watch it;
+          };
+    }
+
+-- ---- a cut
+
+pub still-steady : (before between : Bool) → (before ≡ true → between ≡ true) → between ≡ false → before ≡ false
+still-steady true between keeps is = absurd (true≢false (sym (keeps refl) ∙ is))
+still-steady false between keeps is = refl
+
+pub cut-effect : (setup : Setup) (old new : Parts) → AreUnwritten old.device new.device → HasPower cut_short old.device new.device → new.engine.shape ≡ old.engine.shape → new.watch ≡ old.watch → CallEffect setup cut_short old new
+cut-effect setup old new same power shape watch =
+    record {
+      shape = shape;
+      size = same.size;
+      power = power;
+      trusted =
+          λ trusted.
+          subst (λ (r : Regs). IsAnchored setup r new.watch) (sym same.regs)
+          (subst (λ (w : WatchState). IsAnchored setup old.device.regs w) (sym watch) trusted.anchored);
+      sound =
+          λ sound.
+          subst (λ (o : Option (List Line)). MatchOption o ⊥ (λ lines. IsDurable setup lines new.device.regs new.watch)) (sym same.lines)
+          (subst (λ (r : Regs). MatchOption old.device.lines ⊥ (λ lines. IsDurable setup lines r new.watch)) (sym same.regs)
+          (subst (λ (w : WatchState). MatchOption old.device.lines ⊥ (λ lines. IsDurable setup lines old.device.regs w)) (sym watch)
+          (durable_of old.device.lines sound)));
+      places =
+          λ trusted.
+          record {
+            seals = λ a inside it. same-seals setup old new a same (ap (λ (w : WatchState). w.seals) watch) it;
+            slots = λ i inside it. same-slots setup old new i same (ap (λ (w : WatchState). w.slots) watch) it;
+            nodes =
+                λ x inside it.
+                subst (λ (o : Option (List Line)). IfSome o (λ lines. IsNodeHeld setup lines new.watch x)) (sym (same_redone old new same))
+                (subst (λ (w : WatchState). IfSome (lines_redone old) (λ lines. IsNodeHeld setup lines w x)) (sym watch)
+                (some_map (λ lines. IsNodeHeldBy setup old.engine lines old.watch x) (λ lines. IsNodeHeld setup lines old.watch x) (lines_redone old)
+                (λ lines held. powered_off-place setup old.engine lines old.device.regs old.watch x trusted held) it));
+          };
+    }
+  where
+    durable_of : (told : Option (List Line)) → MatchOption told ⊥ (λ lines. IsSound setup old.engine lines old.device.regs old.watch) → MatchOption told ⊥ (λ lines. IsDurable setup lines old.device.regs old.watch)
+    durable_of None it = absurd it
+    durable_of (Some lines) it = it.durable
+
+cut-power : (old new : Parts) → IsNodeCutOff old new → HasPower cut_short old.device new.device
+cut-power old new cut = (
+  still-steady old.device.steady cut.between.steady cut.steady cut.cut.unsteady,
+  cut.cut.off,
+  subst (λ n. HasRisen n new.device.cuts) cut.cuts cut.cut.rose,
+)
+
+-- ---- an exhibit
+
+pub first-none : (before : Option Exhibit) (it : Exhibit) → IsNone before → first_shown before it ≡ Some it
+first-none None it none = refl
+first-none (Some other) it none = absurd cc
+
+pub shown-some : (before : Option Exhibit) (it : Exhibit) → IsSome (first_shown before it)
+shown-some None it = refl
+shown-some (Some other) it = refl
+
+-- over a sound engine the node is read as the true one
+sound-read : (setup : Setup) (x version : ℕ) (line : Line) (now : Parts) → IsLevelReady setup x version now → (IsCached setup.shape now.engine.cache x → ⊥) → Tells now.device.lines (line_of_node setup.shape x) line → AreSound setup now
+    → node_read setup.formulas x line version ≡ Some (node_at now.watch.nodes x)
+sound-read setup x version line now ready uncached tells sound =
+    read_of now.device.lines sound tells
+  where
+    read_of : (told : Option (List Line)) → MatchOption told ⊥ (λ lines. IsSound setup now.engine lines now.device.regs now.watch) → Tells told (line_of_node setup.shape x) line → node_read setup.formulas x line version ≡ Some (node_at now.watch.nodes x)
+    read_of None it is = absurd it
+    read_of (Some lines) it is =
+        ap (node_read setup.formulas x line) (ready.version_true it.trusted)
+        ∙ (ap (λ l. node_read setup.formulas x l (entry_for now.watch.nodes x)) is
+        ∙ (node_read-sound setup now.engine lines now.device.regs now.watch x ready.shape ready.in_range it (omega (arith, ready.not_top)) ready.on_tree uncached).0)
+
+shown-effect : (setup : Setup) (x version : ℕ) (now new : Parts) → IsLevelReady setup x version now → (IsCached setup.shape now.engine.cache x → ⊥) → new.engine ≡ now.engine → IsNodeForged setup x version now.device new.device now.watch new.watch → CallEffect setup shown now new
+shown-effect setup x version now new ready uncached engine forged =
+    let same = read-unwritten now.device new.device (line_of_node setup.shape x) forged.line forged.read in
+    record {
+      shape = ap (λ (e : TreeState). e.shape) engine;
+      size = same.size;
+      power = (forged.read.steady, forged.read.live, forged.read.cuts);
+      trusted =
+          λ trusted.
+          subst (λ (o : Option Exhibit). IfSome o (IsExhibit setup.formulas))
+          (sym (forged.exhibit.exhibit ∙ first-none now.watch.exhibit (forged_node now.watch x forged.line) trusted.anchored.no_exhibit))
+          (forged_node-holds setup now.device.regs now.watch x forged.line forged.node trusted.anchored (omega (arith, ready.not_top)) ready.on_tree
+          (subst (λ v. node_read setup.formulas x forged.line v ≡ Some forged.node) (ready.version_true trusted) forged.accepted));
+      sound =
+          λ sound.
+          forged.other (same_Some forged.node (node_at now.watch.nodes x)
+          (sym forged.accepted ∙ sound-read setup x version forged.line now ready uncached forged.read.tells sound));
+      places =
+          λ trusted.
+          record {
+            seals = λ a inside it. same-seals setup now new a same forged.exhibit.seals it;
+            slots = λ i inside it. same-slots setup now new i same forged.exhibit.slots it;
+            nodes = tt;
+          };
+    }
+
+-- ---- a level that wasn't had ends the fetch
+
+stopped-steps : (setup : Setup) (a j x version : ℕ) (outcome : Outcome) (old now new : Parts) → IsNextLevel setup a j x version old now → AreUnwritten now.device new.device → TakesWriteBacks setup.shape.levels outcome old.device new.device
+stopped-steps setup a j x version outcome old now new next same =
+    record {
+      count = next.before.steps.count;
+      at_most = omega (arith, next.before.steps.at_most, next.level);
+      fewer = λ cut live. omega (arith, next.before.steps.at_most, next.level);
+      writes = subst (λ n. RisesBy next.before.steps.count old.device.writes n) (sym same.writes) next.before.steps.writes;
+      latches = same.latches ∙ next.before.steps.latches;
+    }
+
+pub kept-watch : (outcome : Outcome) (old new : WatchState) → outcome ≢ shown → new ≡ old → KeepsWatch outcome old new
+kept-watch outcome old new other same =
+    record {
+      setup = ap (λ (w : WatchState). w.setup) same;
+      seals = ap (λ (w : WatchState). w.seals) same;
+      nodes = ap (λ (w : WatchState). w.nodes) same;
+      slots = ap (λ (w : WatchState). w.slots) same;
+      exhibit = λ _. ap (λ (w : WatchState). w.exhibit) same;
+      stopped = λ is. absurd (other is);
+    }
+
+cut_stop : (setup : Setup) (a j x version : ℕ) (old now new : Parts) → IsNextLevel setup a j x version old now → IsNodeCutOff now new → IsFetchStopped setup a old new Fail.Cut
+cut_stop setup a j x version old now new next cut =
+    let same = cut-unwritten now new cut in
+    record {
+      kind = tt;
+      effect =
+          effect-then setup cut_short old now new next.before.effect
+          (cut-effect setup now new same (cut-power now new cut) (ap (λ (e : TreeState). e.shape) cut.engine) cut.watch);
+      down = ap (λ (e : TreeState). e.down) cut.engine ∙ next.before.down;
+      regs = same.regs ∙ next.before.regs;
+      steps = stopped-steps setup a j x version cut_short old now new next same;
+      watch = kept-watch cut_short old.watch new.watch cut-unshown (cut.watch ∙ next.before.watch);
+      same_watch = cut.watch ∙ next.before.watch;
+      answered = λ trusted. tt;
+      unrefused = λ sound. tt;
+    }
+
+-- the line read at the node that the fetch stopped at
+stopped-read : (setup : Setup) (a j x version : ℕ) (line : Line) (old now new : Parts) → IsNextLevel setup a j x version old now → (IsCached setup.shape now.engine.cache x → ⊥) → HasRead now.device (line_of_node setup.shape x) line new.device → IsNodeLineRead setup a x line old new
+stopped-read setup a j x version line old now new next uncached read =
+    let ready = level-ready setup a j x version old now next in
+    record {
+      on_path = next-on_path setup.shape a j x next.level next.place;
+      below_top = omega (arith, ready.not_top);
+      uncached = λ it. uncached (cached-after setup a j x version old now next it);
+      read = subst (λ (o : Option (List Line)). Tells o (line_of_node setup.shape x) line) (sym read.lines) read.tells;
+    }
+
+-- the version is the true node's
+true_version : (setup : Setup) (a j x version : ℕ) (old now : Parts) → IsNextLevel setup a j x version old now → AreTrusted setup old → version ≡ total (node_at old.watch.nodes x)
+true_version setup a j x version old now next trusted =
+    let ready = level-ready setup a j x version old now next in
+    let here = next.before.effect.trusted trusted in
+    next.version_true here
+    ∙ (sym (here.anchored.tree.versions x (omega (arith, ready.not_top)) ready.on_tree)
+    ∙ ap (λ (w : WatchState). total (node_at w.nodes x)) next.before.watch)
+
+refused_stop : (setup : Setup) (a j x version : ℕ) (old now new : Parts) → IsNextLevel setup a j x version old now → (IsCached setup.shape now.engine.cache x → ⊥) → new.engine ≡ now.engine
+    → IsNodeUnaccepted setup x version now.device new.device now.watch new.watch → IsFetchStopped setup a old new (Fail.Node x)
+refused_stop setup a j x version old now new next uncached engine it =
+    let ready = level-ready setup a j x version old now next in
+    let same = read-unwritten now.device new.device (line_of_node setup.shape x) it.line it.read in
+    record {
+      kind = tt;
+      effect =
+          effect-then setup going old now new next.before.effect
+          (refused-effect setup now new same (it.read.steady, it.read.live, it.read.cuts) engine it.watch_kept);
+      down = ap (λ (e : TreeState). e.down) engine ∙ next.before.down;
+      regs = same.regs ∙ next.before.regs;
+      steps = stopped-steps setup a j x version going old now new next same;
+      watch = kept-watch going old.watch new.watch going-unshown (it.watch_kept ∙ next.before.watch);
+      same_watch = it.watch_kept ∙ next.before.watch;
+      answered =
+          λ trusted.
+          record {
+            line = it.line;
+            its = stopped-read setup a j x version it.line old now new next uncached it.read;
+            refused = ap (node_read setup.formulas x it.line) (sym (true_version setup a j x version old now next trusted)) ∙ it.refused;
+          };
+      unrefused =
+          λ sound.
+          none-some (node_at now.watch.nodes x)
+          (sym it.refused ∙ sound-read setup x version it.line now ready uncached it.read.tells (next.before.effect.sound sound));
+    }
+
+shown_stop : (setup : Setup) (a j x version : ℕ) (old now new : Parts) → IsNextLevel setup a j x version old now → (IsCached setup.shape now.engine.cache x → ⊥) → new.engine ≡ now.engine
+    → IsNodeForged setup x version now.device new.device now.watch new.watch → IsFetchStopped setup a old new Fail.Shown
+shown_stop setup a j x version old now new next uncached engine it =
+    let ready = level-ready setup a j x version old now next in
+    let same = read-unwritten now.device new.device (line_of_node setup.shape x) it.line it.read in
+    let effect = shown-effect setup x version now new ready uncached engine it in
+    record {
+      kind = tt;
+      effect = effect-then setup shown old now new next.before.effect effect;
+      down = ap (λ (e : TreeState). e.down) engine ∙ next.before.down;
+      regs = same.regs ∙ next.before.regs;
+      steps = stopped-steps setup a j x version shown old now new next same;
+      watch =
+          record {
+            setup = it.exhibit.setup ∙ ap (λ (w : WatchState). w.setup) next.before.watch;
+            seals = it.exhibit.seals ∙ ap (λ (w : WatchState). w.seals) next.before.watch;
+            nodes = it.exhibit.nodes ∙ ap (λ (w : WatchState). w.nodes) next.before.watch;
+            slots = it.exhibit.slots ∙ ap (λ (w : WatchState). w.slots) next.before.watch;
+            exhibit = λ other. absurd (other refl);
+            stopped = λ _. subst IsSome (sym it.exhibit.exhibit) (shown-some now.watch.exhibit (forged_node now.watch x it.line));
+          };
+      same_watch = tt;
+      answered =
+          λ trusted.
+          record {
+            x = x;
+            line = it.line;
+            node = it.node;
+            its = stopped-read setup a j x version it.line old now new next uncached it.read;
+            accepted = ap (node_read setup.formulas x it.line) (sym (true_version setup a j x version old now next trusted)) ∙ it.accepted;
+            other = λ same_node. it.other (same_node ∙ ap (λ (w : WatchState). node_at w.nodes x) (sym next.before.watch));
+            exhibit =
+                it.exhibit.exhibit
+                ∙ (first-none now.watch.exhibit (forged_node now.watch x it.line) (next.before.effect.trusted trusted).anchored.no_exhibit
+                ∙ ap (λ (w : WatchState). Some (forged_node w x it.line)) next.before.watch);
+          };
+      unrefused = λ sound. effect.sound (next.before.effect.sound sound);
+    }
+
+pub fetch-stopped : (setup : Setup) (a j x version : ℕ) (old now new : Parts) (fault : TreeFault) → IsNextLevel setup a j x version old now → IsNodeMissed setup x version now new fault → IsFetchStopped setup a old new fault
+fetch-stopped setup a j x version old now new Fail.Cut next missed = cut_stop setup a j x version old now new next missed
+fetch-stopped setup a j x version old now new (Fail.Node y) next missed =
+    subst (λ z. IsFetchStopped setup a old new (Fail.Node z)) (sym missed.0)
+    (refused_stop setup a j x version old now new next missed.1 missed.2 missed.3)
+fetch-stopped setup a j x version old now new Fail.Shown next missed =
+    shown_stop setup a j x version old now new next missed.0 missed.1 missed.2
+fetch-stopped setup a j x version old now new Fail.Down next missed = absurd missed
+fetch-stopped setup a j x version old now new (Fail.Tag at) next missed = absurd missed
+fetch-stopped setup a j x version old now new Fail.Spent next missed = absurd missed

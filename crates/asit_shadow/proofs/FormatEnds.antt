@@ -1,0 +1,160 @@
+-- What formatting leaves.
+use Rattle.std.proofs.Common.{ℕ, ◌≡◌, ◌<◌, ◌+◌, ◌*◌, List, [], length, Some, None, refl, sym, ap, subst, ◌∙◌, arith, lit<, replicate}
+use Rattle.std.specs.Prelude.{Option, All, IfSome, IsNone, IsSome, option_map, true, false}
+use Rattle.std.proofs.lemmas.List.{length-replicate, length-set}
+use Rattle.std.proofs.lemmas.Option.{none-some}
+use Rattle.pmem_base.specs.declared.lines.Line.{Line}
+use Rattle.pmem_base.specs.declared.registers.Regs.{Regs}
+use Rattle.pmem_base.specs.declared.answers.Exhibit.{Exhibit}
+use Rattle.counter_tree.specs.declared.watch.LineSeal.{LineSeal}
+use Rattle.pmem_base.specs.Layout.{meta_lines}
+use Rattle.pmem_base.specs.Lines.{IsLine}
+use Rattle.pmem_base.specs.Registers.{IsGroup, empty_regs}
+use Rattle.pmem_base.specs.Shape.{Shape, IsShape}
+use Rattle.board.specs.Counts.{RisesBy}
+use Rattle.board.specs.Device.{Device, AreToldLines}
+use Rattle.board.specs.Steps.{HasLatched}
+use Rattle.suite.specs.Formulas.{AreInRange}
+use Rattle.suite.specs.Setup.{Setup}
+use Rattle.pmem_engine.proofs.Laws.AnchoredLatches.{IsGroup-nil}
+use Rattle.pmem_recovery.specs.Formatting.{StaysSteady}
+use Rattle.pmem_recovery.proofs.FormatSteps.{StaysSteady-then}
+use Rattle.counter_tree.specs.declared.nodes.Node.{Node}
+use Rattle.counter_tree.specs.Nodes.{zero_node}
+use Rattle.counter_tree.specs.Layout.{tree_lines, tree_slots, tree_size}
+use Rattle.counter_tree.proofs.NodeLaws.{IsNode-zero_node}
+use Rattle.bonsai_tree.proofs.Levels.{meta_lines-level, level_start-suc}
+use Rattle.counter_tree.specs.Shadow.{ChipTree, IsChipTree, IsShadowTree, root_of, shadow_height, shadow_root}
+use Rattle.counter_tree.specs.Watch.{WatchState}
+use Rattle.asit_shadow.specs.declared.cache.CachedNode.{CachedNode}
+use Rattle.asit_shadow.specs.State.{TreeState, IsHeldNode, IsTreeEngine}
+use Rattle.asit_shadow.specs.Invariants.{IsSound}
+use Rattle.asit_shadow.specs.Parts.{parts_of, IsUsable}
+use Rattle.asit_shadow.specs.Recovering.{Rest}
+use Rattle.asit_shadow.specs.Formatting.{first_held, first_cache, first_slots, sealed_lines, node_lines_written, slot_lines_written, AreSealsTold, AreNodesTold, AreSlotsTold, IsChipFormatted, IsFirstEngine, AreLinesFormatted, HasDeviceFormatted, HasTreeFormatted}
+use Rattle.asit_shadow.proofs.FormatLaws.{replicate-default, IsTrusted-formatted, IsSound-formatted}
+use Rattle.asit_shadow.proofs.EngineLemmas.{held-set}
+use Rattle.asit_shadow.proofs.FormatSteps.{lines_formatted, formatted-told, told-mapped, mapped-then, first_slots-count, told-all}
+
+-- the device and the watch in three turns, and a latch
+pub record IsFilled (setup : Setup) (old new : Rest) (sealed noded slotted : Device) (sealing noding : WatchState) (root : List ℕ) : Type 0 where
+  pub its_size : old.device.size ≡ tree_size setup.shape
+  pub steady : old.device.steady ≡ true
+  pub seal_count : length old.watch.seals ≡ tree_lines setup.shape
+  pub node_count : length old.watch.nodes ≡ meta_lines setup.shape
+  pub slot_count : length old.watch.slots ≡ tree_slots setup.shape
+  pub was_whole : AreToldLines old.device.size old.device.lines
+  pub whole : AreToldLines new.device.size new.device.lines
+  pub seals_steady : StaysSteady (2 * tree_lines setup.shape) old.device sealed
+  pub seals_written : sealed.lines ≡ option_map (sealed_lines setup (tree_lines setup.shape)) old.device.lines
+  pub seals_told : AreSealsTold setup.formulas (tree_lines setup.shape) old.watch sealing
+  pub nodes_steady : StaysSteady (meta_lines setup.shape) sealed noded
+  pub nodes_written : noded.lines ≡ option_map (node_lines_written setup (meta_lines setup.shape)) sealed.lines
+  pub nodes_told : AreNodesTold (meta_lines setup.shape) sealing noding
+  pub slots_steady : StaysSteady (tree_slots setup.shape) noded slotted
+  pub slots_written : slotted.lines ≡ option_map (slot_lines_written setup.shape (first_slots setup.shape) (tree_slots setup.shape)) noded.lines
+  pub slots_told : AreSlotsTold (first_slots setup.shape) (tree_slots setup.shape) noding new.watch
+  pub latched : HasLatched slotted (record empty_regs { root = root }) new.device
+  pub its_root : root ≡ root_of setup.formulas (shadow_height setup.shape) (first_slots setup.shape)
+
+lines-written : (setup : Setup) (old sealed noded slotted : Option (List Line)) → sealed ≡ option_map (sealed_lines setup (tree_lines setup.shape)) old → noded ≡ option_map (node_lines_written setup (meta_lines setup.shape)) sealed
+    → slotted ≡ option_map (slot_lines_written setup.shape (first_slots setup.shape) (tree_slots setup.shape)) noded → slotted ≡ option_map (lines_formatted setup) old
+unfolding lines_formatted
+lines-written setup old sealed noded slotted first second third =
+    mapped-then (λ lines. node_lines_written setup (meta_lines setup.shape) (sealed_lines setup (tree_lines setup.shape) lines)) (slot_lines_written setup.shape (first_slots setup.shape) (tree_slots setup.shape)) (lines_formatted setup) old noded slotted
+    (mapped-then (sealed_lines setup (tree_lines setup.shape)) (node_lines_written setup (meta_lines setup.shape)) (λ lines. node_lines_written setup (meta_lines setup.shape) (sealed_lines setup (tree_lines setup.shape) lines)) old sealed noded first second (λ lines. refl)) third (λ lines. refl)
+
+pub device-formatted : (setup : Setup) (old new : Rest) (sealed noded slotted : Device) (sealing noding : WatchState) (root : List ℕ) (tree : ChipTree) → IsFilled setup old new sealed noded slotted sealing noding root → tree.height ≡ shadow_height setup.shape → IsShadowTree setup.formulas (shadow_height setup.shape) (first_slots setup.shape) tree.lines
+    → HasDeviceFormatted setup old new tree
+unfolding shadow_root
+device-formatted setup old new sealed noded slotted sealing noding root tree it height over =
+    let all = StaysSteady-then (2 * tree_lines setup.shape + meta_lines setup.shape) (tree_slots setup.shape) old.device noded slotted (StaysSteady-then (2 * tree_lines setup.shape) (meta_lines setup.shape) old.device sealed noded it.seals_steady it.nodes_steady) it.slots_steady in
+    let lines : new.device.lines ≡ option_map (lines_formatted setup) old.device.lines =
+    it.latched.lines ∙ lines-written setup old.device.lines sealed.lines noded.lines slotted.lines it.seals_written it.nodes_written it.slots_written in
+    let size : new.device.size ≡ old.device.size = it.latched.size ∙ all.size in
+    record {
+      told = told-all setup old.watch sealing noding new.watch it.seal_count it.node_count it.slot_count it.seals_told it.nodes_told it.slots_told;
+      lines =
+          formatted-told setup old.device.lines new.device.lines (subst (λ n. AreToldLines n old.device.lines) it.its_size it.was_whole)
+          (subst (λ n. AreToldLines n new.device.lines) (size ∙ it.its_size) it.whole) lines;
+      lines_told = told-mapped (lines_formatted setup) old.device.lines new.device.lines lines;
+      regs = it.latched.regs ∙ ap (λ (r : List ℕ). record empty_regs { root = r }) it.its_root;
+      over = over;
+      height = height;
+      size = size;
+      steady = it.latched.steady (all.steady it.steady);
+      live = λ on. it.latched.live (all.live on);
+      writes = subst (λ n. RisesBy (tree_size setup.shape) old.device.writes n) (sym it.latched.writes) all.writes;
+      latches = subst (λ n. RisesBy 1 n new.device.latches) all.latches it.latched.latches;
+      reads = it.latched.reads ∙ all.reads;
+      cuts = it.latched.cuts ∙ all.cuts;
+    }
+
+-- with its engine
+pub tree-formatted : (setup : Setup) (old new : Rest) (engine : TreeState) → IsShape setup.shape → AreInRange setup.formulas → length old.watch.seals ≡ tree_lines setup.shape → All IsLine new.watch.slots → IsFirstEngine setup engine → HasDeviceFormatted setup old new engine.tree → HasTreeFormatted setup old new engine
+tree-formatted setup old new engine shape in_range seals whole first it =
+    record {
+      engine_new = first;
+      device = it;
+      trusted = λ its none. IsTrusted-formatted setup engine new.device.regs new.watch shape in_range (chip its none);
+      sound = λ its none. each new.device.lines it.lines (chip its none);
+    }
+  where
+    chip : old.watch.setup ≡ setup → IsNone old.watch.exhibit → IsChipFormatted setup engine new.device.regs new.watch
+    chip its none =
+        record {
+          of_setup =
+              record {
+                its_setup = it.told.its_setup ∙ its;
+                seal_count = it.told.seal_count ∙ seals;
+                node_count = ap length it.told.nodes ∙ length-replicate {A = Node} (meta_lines setup.shape) zero_node;
+                slot_count = ap length it.told.slots ∙ first_slots-count setup.shape;
+                whole_slots = whole;
+              };
+          no_exhibit = subst (λ (e : Option Exhibit). IsNone e) (sym it.told.exhibit) none;
+          seals = it.told.seals;
+          nodes = it.told.nodes;
+          slots = it.told.slots;
+          engine_new = first;
+          tree = it.over;
+          its_regs = it.regs;
+        }
+
+    each : (lines : Option (List Line)) → IfSome lines (AreLinesFormatted setup) → IsChipFormatted setup engine new.device.regs new.watch → IfSome lines (λ l. IsSound setup engine l new.device.regs new.watch)
+    each None written made = tt
+    each (Some lines) written made = IsSound-formatted setup engine lines new.device.regs new.watch shape in_range made written
+
+-- and its calls can begin
+pub formatted-usable : (setup : Setup) (old new : Rest) (engine : TreeState) → old.device.size ≡ tree_size setup.shape → length old.watch.seals ≡ tree_lines setup.shape → HasTreeFormatted setup old new engine → IsUsable setup.shape (parts_of engine new.device new.watch)
+formatted-usable setup old new engine size seals it =
+    let none : new.device.regs.group.items ≡ [] = ap (λ (r : Regs). r.group.items) it.device.regs in
+    record {
+      watch =
+          record {
+            seal_count = it.device.told.seal_count ∙ seals;
+            node_count = ap length it.device.told.nodes ∙ length-replicate {A = Node} (meta_lines setup.shape) zero_node;
+            slot_count = ap length it.device.told.slots ∙ first_slots-count setup.shape;
+            each_sealed = λ a inside. subst (λ (s : Option LineSeal). IsSome s) (sym (it.device.told.seals a inside)) refl;
+          };
+      board =
+          record {
+            its_size = it.device.size ∙ size;
+            group = subst (IsGroup (tree_size setup.shape)) (sym none) (IsGroup-nil (tree_size setup.shape));
+          };
+      no_group = λ up. none;
+    }
+
+-- the engine is whole
+pub first-engine : (g : Shape) (tree : ChipTree) → IsChipTree tree → tree.height ≡ shadow_height g → IsTreeEngine (record { shape = g; cache = first_cache g; tree = tree; down = false })
+first-engine g tree whole height =
+    let long = length-replicate {A = Option CachedNode} (tree_slots g) None in
+    let positive : 0 < meta_lines g = omega (arith, meta_lines-level g, level_start-suc g.levels) in
+    let held : IsHeldNode g first_held = record { on_tree = positive; node_whole = IsNode-zero_node; has_version = lit< tt } in
+    record {
+      slot_count = length-set (replicate (tree_slots g) None) 0 (Some first_held) ∙ long;
+      each_held =
+          held-set g (replicate (tree_slots g) None) 0 first_held (omega (arith, long)) held
+          (λ j one here. absurd (none-some one (sym (replicate-default {X = Option CachedNode} (tree_slots g) j None) ∙ here)));
+      tree_whole = whole;
+      tree_height = height;
+    }

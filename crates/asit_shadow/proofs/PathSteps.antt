@@ -1,0 +1,420 @@
+-- The levels of a path that are fetched, one after another.
+use Rattle.std.proofs.Common.{ℕ, suc, ◌≡◌, ◌≢◌, ◌<◌, ◌≤◌, ◌+◌, ◌/◌, ◌⊎◌, true, false, List, length, Some, None, refl, sym, ap, subst, inl, inr, ◌∙◌, arith}
+use Rattle.std.specs.Prelude.{Option, slice_index}
+use Rattle.std.proofs.lemmas.Bool.{cases_eq}
+use Rattle.std.proofs.lemmas.List.{length-set, get_or-set_same, get_or-set_other}
+use Rattle.pmem_base.specs.declared.lines.Line.{Line}
+use Rattle.pmem_base.specs.Shape.{Shape, IsShape}
+use Rattle.suite.specs.Formulas.{AreInRange}
+use Rattle.suite.specs.Setup.{Setup}
+use Rattle.board.specs.Device.{Device, AreToldLines}
+use Rattle.board.specs.Steps.{Tells}
+use Rattle.bonsai_tree.specs.Positions.{level_of, parent, child_slot, path_of, counter_position}
+use Rattle.bonsai_tree.proofs.PathPositions.{on_path-level, path_of-top, path_of-block, path_of-parent, path_of-on_path, path_of-level}
+use Rattle.pmem_engine.specs.Outcomes.{going}
+use Rattle.counter_tree.specs.declared.nodes.Node.{Node}
+use Rattle.counter_tree.specs.Nodes.{counter, total, node_read}
+use Rattle.counter_tree.specs.Layout.{tree_lines, tree_slots, tree_size, line_of_node}
+use Rattle.counter_tree.specs.Trees.{node_at, entry_for, is_on_line_path}
+use Rattle.counter_tree.specs.Slots.{slot_of}
+use Rattle.counter_tree.specs.Watch.{WatchState}
+use Rattle.asit_shadow.specs.declared.cache.CachedNode.{CachedNode}
+use Rattle.asit_shadow.specs.State.{TreeState, cache_at, IsCached, IsCachedAs}
+use Rattle.asit_shadow.specs.Parts.{Parts, AreTrusted}
+use Rattle.asit_shadow.specs.Paths.{line_path}
+use Rattle.asit_shadow.specs.Calls.{CallEffect, IsNodeRead, TakesWriteBacks}
+use Rattle.asit_shadow.specs.Fetching.{IsNodeFound, IsNodeHad, KeepsPathLines, IsPathFetchedTo}
+use Rattle.asit_shadow.proofs.SlotPlaces.{slot_of-inside, page_of_line, on_path-inside, path_slots-apart}
+use Rattle.asit_shadow.proofs.Chains.{write_backs-then, effect-then, going-uncut}
+use Rattle.asit_shadow.proofs.LevelSteps.{IsRoomStep, IsLevelReady, found-step, found-effect, found-path_lines}
+
+-- what is known as a fetch begins
+pub record IsFetchReady (setup : Setup) (a : ℕ) (old : Parts) : Type 0 where
+  pub shape : IsShape setup.shape
+  pub in_range : AreInRange setup.formulas
+  pub its_line : a < tree_lines setup.shape
+  pub its_size : old.device.size ≡ tree_size setup.shape
+  pub slots : length old.engine.cache ≡ tree_slots setup.shape
+
+-- the levels to j are fetched, and x is next
+pub record IsNextLevel (setup : Setup) (a j x version : ℕ) (old now : Parts) : Type 0 where
+  pub ready : IsFetchReady setup a old
+  pub before : IsPathFetchedTo setup a j old now
+  pub told : AreToldLines now.device.size now.device.lines
+  pub level : j < setup.shape.levels
+  pub place : x ≡ slice_index (line_path setup.shape a) (suc j)
+  pub version_true : AreTrusted setup now → version ≡ entry_for now.watch.nodes x
+
+-- ---- positions
+
+pub next-on_path : (g : Shape) (a j x : ℕ) → j < g.levels → x ≡ slice_index (line_path g a) (suc j) → is_on_line_path g a x ≡ true
+next-on_path g a j x inside place =
+    subst (λ z. is_on_line_path g a z ≡ true) (sym place) (path_of-on_path g (a / 4) (suc j) (omega (arith, inside)))
+
+pub next-level : (g : Shape) (a j x : ℕ) → IsShape g → a < tree_lines g → j < g.levels → x ≡ slice_index (line_path g a) (suc j) → level_of x ≡ suc j
+next-level g a j x shape in_a inside place =
+    ap level_of place ∙ path_of-level g (a / 4) (suc j) shape.at_most_six_levels (page_of_line g a in_a) (omega (arith, inside))
+
+-- a node of the path at its level is the next one
+at_level : (g : Shape) (a j x y : ℕ) → IsShape g → a < tree_lines g → x ≡ slice_index (line_path g a) (suc j) → is_on_line_path g a y ≡ true → level_of y ≡ suc j → y ≡ x
+at_level g a j x y shape in_a place on level =
+    let its = on_path-level g (a / 4) y shape.at_most_six_levels (page_of_line g a in_a) on in
+    sym its.1 ∙ (ap (slice_index (line_path g a)) level ∙ sym place)
+
+pub next-low : (g : Shape) (a j x : ℕ) → IsShape g → a < tree_lines g → j < g.levels → x ≡ slice_index (line_path g a) (suc j) → x ≢ 0
+next-low g a j x shape in_a inside place top =
+    let level = next-level g a j x shape in_a inside place in
+    let zero_level : level_of 0 ≡ 0 = refl in
+    omega (arith, level, ap level_of top, zero_level)
+
+pub level-ready : (setup : Setup) (a j x version : ℕ) (old now : Parts) → IsNextLevel setup a j x version old now → IsLevelReady setup x version now
+level-ready setup a j x version old now next =
+    let on = next-on_path setup.shape a j x next.level next.place in
+    record {
+      shape = next.ready.shape;
+      in_range = next.ready.in_range;
+      told = next.told;
+      its_size = next.before.effect.size ∙ next.ready.its_size;
+      on_tree = on_path-inside setup.shape a x next.ready.its_line on;
+      not_top = next-low setup.shape a j x next.ready.shape next.ready.its_line next.level next.place;
+      version_true = next.version_true;
+    }
+
+-- ---- the first level
+
+no_write_backs : (n : ℕ) (device : Device) → TakesWriteBacks n going device device
+no_write_backs n device =
+    record {
+      count = 0;
+      at_most = omega arith;
+      fewer = λ cut live. absurd (going-uncut cut);
+      writes = record { never_falls = omega arith; exact = λ _. omega arith };
+      latches = refl;
+    }
+
+still_effect : (setup : Setup) (old : Parts) → CallEffect setup going old old
+still_effect setup old =
+    record {
+      shape = refl;
+      size = refl;
+      power = (λ was. was, λ was. was, refl);
+      trusted = λ was. was;
+      sound = λ was. was;
+      places = λ was. record { seals = λ a inside it. it; slots = λ i inside it. it; nodes = λ x inside it. it };
+    }
+
+pub same_lines : (g : Shape) (a : ℕ) (told : Option (List Line)) → KeepsPathLines g a told told
+same_lines g a None = refl
+same_lines g a (Some lines) = λ x on. refl
+
+top-cached : (setup : Setup) (a x : ℕ) (old : Parts) → IsFetchReady setup a old → AreTrusted setup old → is_on_line_path setup.shape a x ≡ true → level_of x ≤ 0 → IsCached setup.shape old.engine.cache x
+top-cached setup a x old ready trusted on top =
+    let page = page_of_line setup.shape a ready.its_line in
+    let its = on_path-level setup.shape (a / 4) x ready.shape.at_most_six_levels page on in
+    let level : level_of x ≡ 0 = omega (arith, top) in
+    let zero : x ≡ 0 = sym its.1 ∙ (ap (slice_index (line_path setup.shape a)) level ∙ path_of-top setup.shape (a / 4) page) in
+    subst (IsCached setup.shape old.engine.cache) (sym zero)
+    (record { held = trusted.top_cached.held; stands = trusted.top_cached.stands; position = trusted.top_cached.position })
+
+pub path-start : (setup : Setup) (a : ℕ) (old : Parts) → IsFetchReady setup a old → IsPathFetchedTo setup a 0 old old
+path-start setup a old ready =
+    record {
+      effect = still_effect setup old;
+      tree = refl;
+      down = refl;
+      slot_count = refl;
+      slots_below = λ x on low. refl;
+      regs = refl;
+      steps = no_write_backs 0 old.device;
+      watch = refl;
+      path_lines = λ trusted. same_lines setup.shape a old.device.lines;
+      cached = λ trusted x on top. top-cached setup a x old ready trusted on top;
+      read = λ trusted x on top. inl (top-cached setup a x old ready trusted on top);
+    }
+
+-- the top, where the engine is trusted
+pub top-in : (setup : Setup) (old : Parts) → AreTrusted setup old → IsCachedAs setup.shape old.engine.cache 0 (Rattle.asit_shadow.specs.State.top_node old.engine.cache)
+top-in setup old trusted =
+    let top = trusted.top_cached in
+    record {
+      held = top.held;
+      stands = top.stands;
+      position = top.position;
+      its_node = ap Rattle.asit_shadow.specs.State.top_of top.stands;
+    }
+
+-- ---- what was read stays on the device
+
+tells-kept : (g : Shape) (a x : ℕ) (line : Line) (old new : Option (List Line)) → is_on_line_path g a x ≡ true → KeepsPathLines g a old new → Tells old (line_of_node g x) line → Tells new (line_of_node g x) line
+tells-kept g a x line None new on kept tells = subst (λ told. Tells told (line_of_node g x) line) (sym kept) tt
+tells-kept g a x line (Some old) None on kept tells = absurd kept
+tells-kept g a x line (Some old) (Some new) on kept tells = tells ∙ sym (kept x on)
+
+pub lines-then : (g : Shape) (a : ℕ) (old mid new : Option (List Line)) → KeepsPathLines g a old mid → KeepsPathLines g a mid new → KeepsPathLines g a old new
+lines-then g a None mid new first second = none_then mid first second
+  where
+    none_then : (told : Option (List Line)) → told ≡ None → KeepsPathLines g a told new → new ≡ None
+    none_then None is kept = kept
+    none_then (Some lines) is kept = absurd cc
+lines-then g a (Some old) None new first second = absurd first
+lines-then g a (Some old) (Some mid) None first second = absurd second
+lines-then g a (Some old) (Some mid) (Some new) first second = λ x on. second x on ∙ first x on
+
+pub read-kept : (setup : Setup) (a x : ℕ) (old mid new : Parts) → KeepsPathLines setup.shape a mid.device.lines new.device.lines → IsNodeRead setup a x old mid → IsNodeRead setup a x old new
+read-kept setup a x old mid new kept it =
+    record {
+      line = it.line;
+      its =
+          record {
+            on_path = it.its.on_path;
+            below_top = it.its.below_top;
+            uncached = it.its.uncached;
+            read = tells-kept setup.shape a x it.line mid.device.lines new.device.lines it.its.on_path kept it.its.read;
+          };
+      accepted = it.accepted;
+    }
+
+-- ---- a level that was cached
+
+-- a level is one before, or the next
+up_to : (n j : ℕ) → n ≤ suc j → (n ≤ j) ⊎ (n ≡ suc j)
+up_to n j most = elim (cases_eq n (suc j)) [ inl same ↦ inr same | inr other ↦ inl (omega (arith, most, other)) ]
+
+-- a slot of a level below is as it was before
+cached-before : (setup : Setup) (a j x version : ℕ) (old now : Parts) → IsNextLevel setup a j x version old now → IsCached setup.shape now.engine.cache x → IsCached setup.shape old.engine.cache x
+cached-before setup a j x version old now next it =
+    let on = next-on_path setup.shape a j x next.level next.place in
+    let level = next-level setup.shape a j x next.ready.shape next.ready.its_line next.level next.place in
+    record {
+      held = it.held;
+      stands = sym (next.before.slots_below x on (omega (arith, level))) ∙ it.stands;
+      position = it.position;
+    }
+
+pub cached-after : (setup : Setup) (a j x version : ℕ) (old now : Parts) → IsNextLevel setup a j x version old now → IsCached setup.shape old.engine.cache x → IsCached setup.shape now.engine.cache x
+cached-after setup a j x version old now next it =
+    let on = next-on_path setup.shape a j x next.level next.place in
+    let level = next-level setup.shape a j x next.ready.shape next.ready.its_line next.level next.place in
+    record {
+      held = it.held;
+      stands = next.before.slots_below x on (omega (arith, level)) ∙ it.stands;
+      position = it.position;
+    }
+
+next-cached : (setup : Setup) (a j x version : ℕ) (node : Node) (old now : Parts) → IsNextLevel setup a j x version old now → IsCachedAs setup.shape now.engine.cache x node → IsPathFetchedTo setup a (suc j) old now
+next-cached setup a j x version node old now next in_slot =
+    let before = next.before in
+    let it : IsCached setup.shape now.engine.cache x = record { held = in_slot.held; stands = in_slot.stands; position = in_slot.position } in
+    record {
+      effect = before.effect;
+      tree = before.tree;
+      down = before.down;
+      slot_count = before.slot_count;
+      slots_below = λ y on low. before.slots_below y on (omega (arith, low));
+      regs = before.regs;
+      steps =
+          record {
+            count = before.steps.count;
+            at_most = omega (arith, before.steps.at_most);
+            fewer = λ cut live. absurd (going-uncut cut);
+            writes = before.steps.writes;
+            latches = before.steps.latches;
+          };
+      watch = before.watch;
+      path_lines = before.path_lines;
+      cached =
+          λ trusted y on most.
+          elim (up_to (level_of y) j most) [
+            | inl above ↦ before.cached trusted y on above
+            | inr here ↦
+                subst (IsCached setup.shape now.engine.cache)
+                (sym (at_level setup.shape a j x y next.ready.shape next.ready.its_line next.place on here)) it
+          ];
+      read =
+          λ trusted y on most.
+          elim (up_to (level_of y) j most) [
+            | inl above ↦ before.read trusted y on above
+            | inr here ↦
+                inl (subst (IsCached setup.shape old.engine.cache)
+                (sym (at_level setup.shape a j x y next.ready.shape next.ready.its_line next.place on here))
+                (cached-before setup a j x version old now next it))
+          ];
+    }
+
+-- ---- a level that was found
+
+step_write_backs : (setup : Setup) (slot : Option CachedNode) (old new : Device) → IsRoomStep setup slot old new → TakesWriteBacks 1 going old new
+step_write_backs setup slot old new step =
+    record {
+      count = step.count;
+      at_most = step.at_most;
+      fewer = λ cut live. absurd (going-uncut cut);
+      writes = step.writes;
+      latches = step.latches;
+    }
+
+-- the slots of the other nodes of the path are as they were
+other_slot : (setup : Setup) (a j x version : ℕ) (node : Node) (old now new : Parts) (y : ℕ) → IsNextLevel setup a j x version old now → IsNodeFound setup x version node now new → is_on_line_path setup.shape a y ≡ true → level_of y ≢ suc j
+    → cache_at new.engine.cache (slot_of setup.shape y) ≡ cache_at now.engine.cache (slot_of setup.shape y)
+other_slot setup a j x version node old now new y next found on_y other =
+    let on = next-on_path setup.shape a j x next.level next.place in
+    let level = next-level setup.shape a j x next.ready.shape next.ready.its_line next.level next.place in
+    let apart : slot_of setup.shape y ≢ slot_of setup.shape x =
+    λ same. other (ap level_of (path_slots-apart setup.shape a y x next.ready.shape next.ready.its_line on_y on same) ∙ level) in
+    ap (λ (c : List (Option CachedNode)). cache_at c (slot_of setup.shape y)) found.cache
+    ∙ get_or-set_other now.engine.cache (slot_of setup.shape x) (slot_of setup.shape y) (Some (record { x = x; node = node; dirty = false })) None apart
+
+found-in : (setup : Setup) (a j x version : ℕ) (node : Node) (old now new : Parts) → IsNextLevel setup a j x version old now → IsNodeFound setup x version node now new → IsCachedAs setup.shape new.engine.cache x node
+found-in setup a j x version node old now new next found =
+    let on = next-on_path setup.shape a j x next.level next.place in
+    let room : slot_of setup.shape x < length now.engine.cache =
+    omega (arith, slot_of-inside setup.shape x next.ready.shape (on_path-inside setup.shape a x next.ready.its_line on), next.before.slot_count, next.ready.slots) in
+    record {
+      held = record { x = x; node = node; dirty = false };
+      stands =
+          ap (λ (c : List (Option CachedNode)). cache_at c (slot_of setup.shape x)) found.cache
+          ∙ get_or-set_same now.engine.cache (slot_of setup.shape x) (Some (record { x = x; node = node; dirty = false })) None room;
+      position = refl;
+      its_node = refl;
+    }
+
+found-read : (setup : Setup) (a j x version : ℕ) (node : Node) (old now new : Parts) → IsNextLevel setup a j x version old now → IsNodeFound setup x version node now new → AreTrusted setup now → IsNodeRead setup a x old new
+found-read setup a j x version node old now new next found trusted =
+    let on = next-on_path setup.shape a j x next.level next.place in
+    let ready = level-ready setup a j x version old now next in
+    let low : 1 ≤ x = omega (arith, ready.not_top) in
+    let is_version : version ≡ total (node_at now.watch.nodes x) =
+    next.version_true trusted ∙ sym (trusted.anchored.tree.versions x low ready.on_tree) in
+    record {
+      line = found.taken.line;
+      its =
+          record {
+            on_path = on;
+            below_top = low;
+            uncached = λ it. found.uncached (cached-after setup a j x version old now next it);
+            read =
+                tells-kept setup.shape a x found.taken.line now.device.lines new.device.lines on
+                (found-path_lines setup a x version node now new ready next.ready.its_line on found trusted) found.taken.read.tells;
+          };
+      accepted =
+          subst (λ (watch : WatchState). node_read setup.formulas x found.taken.line (total (node_at watch.nodes x)) ≡ Some (node_at watch.nodes x)) next.before.watch
+          (ap (node_read setup.formulas x found.taken.line) (sym is_version) ∙ (found.taken.accepted ∙ ap Some found.taken.seen));
+    }
+
+next-found : (setup : Setup) (a j x version : ℕ) (node : Node) (old now new : Parts) → IsNextLevel setup a j x version old now → IsNodeFound setup x version node now new → IsPathFetchedTo setup a (suc j) old new
+next-found setup a j x version node old now new next found =
+    let before = next.before in
+    let ready = level-ready setup a j x version old now next in
+    let on = next-on_path setup.shape a j x next.level next.place in
+    let step = found-step setup x version node now new found in
+    let kept = λ (trusted : AreTrusted setup now). found-path_lines setup a x version node now new ready next.ready.its_line on found trusted in
+    let one : j + 1 ≡ suc j = omega arith in
+    record {
+      effect = effect-then setup going old now new before.effect (found-effect setup x version node now new ready found);
+      tree = found.tree ∙ before.tree;
+      down = found.down ∙ before.down;
+      slot_count =
+          ap length found.cache
+          ∙ (length-set now.engine.cache (slot_of setup.shape x) (Some (record { x = x; node = node; dirty = false })) ∙ before.slot_count);
+      slots_below =
+          λ y on_y low.
+          other_slot setup a j x version node old now new y next found on_y (λ e. omega (arith, low, e))
+          ∙ before.slots_below y on_y (omega (arith, low));
+      regs = step.regs ∙ before.regs;
+      steps =
+          subst (λ n. TakesWriteBacks n going old.device new.device) one
+          (write_backs-then j 1 going old.device now.device new.device before.effect.power.1 before.steps
+          (step_write_backs setup (cache_at now.engine.cache (slot_of setup.shape x)) now.device new.device step));
+      watch = found.taken.watch_kept ∙ before.watch;
+      path_lines =
+          λ trusted.
+          lines-then setup.shape a old.device.lines now.device.lines new.device.lines (before.path_lines trusted) (kept (before.effect.trusted trusted));
+      cached =
+          λ trusted y on_y most.
+          elim (up_to (level_of y) j most) [
+            | inl above ↦
+                let it = before.cached trusted y on_y above in
+                record {
+                  held = it.held;
+                  stands = other_slot setup a j x version node old now new y next found on_y (λ e. omega (arith, above, e)) ∙ it.stands;
+                  position = it.position;
+                }
+            | inr here ↦
+                let it = found-in setup a j x version node old now new next found in
+                subst (IsCached setup.shape new.engine.cache)
+                (sym (at_level setup.shape a j x y next.ready.shape next.ready.its_line next.place on_y here))
+                (record { held = it.held; stands = it.stands; position = it.position })
+          ];
+      read =
+          λ trusted y on_y most.
+          elim (up_to (level_of y) j most) [
+            | inl above ↦ elim (before.read trusted y on_y above) [
+              | inl cached ↦ inl cached
+              | inr it ↦ inr (read-kept setup a y old now new (kept (before.effect.trusted trusted)) it)
+            ]
+            | inr here ↦
+                inr (subst (λ z. IsNodeRead setup a z old new)
+                (sym (at_level setup.shape a j x y next.ready.shape next.ready.its_line next.place on_y here))
+                (found-read setup a j x version node old now new next found (before.effect.trusted trusted)))
+          ];
+    }
+
+-- ---- a level that was had
+
+pub path-next : (setup : Setup) (a j x version : ℕ) (node : Node) (old now new : Parts) → IsNextLevel setup a j x version old now → IsNodeHad setup x version now new node → IsPathFetchedTo setup a (suc j) old new
+path-next setup a j x version node old now new next had =
+    elim had [
+      | inl (in_slot, same) ↦
+          subst (IsPathFetchedTo setup a (suc j) old) (sym same) (next-cached setup a j x version node old now next in_slot)
+      | inr found ↦ next-found setup a j x version node old now new next found
+    ]
+
+pub had-in : (setup : Setup) (a j x version : ℕ) (node : Node) (old now new : Parts) → IsNextLevel setup a j x version old now → IsNodeHad setup x version now new node → IsCachedAs setup.shape new.engine.cache x node
+had-in setup a j x version node old now new next had =
+    elim had [
+      | inl (in_slot, same) ↦
+          subst (λ (parts : Parts). IsCachedAs setup.shape parts.engine.cache x node) (sym same) in_slot
+      | inr found ↦ found-in setup a j x version node old now new next found
+    ]
+
+-- a cached node is the true one, and has the counter under which its child is read
+pub in-true : (setup : Setup) (x : ℕ) (node : Node) (parts : Parts) → AreTrusted setup parts → IsCachedAs setup.shape parts.engine.cache x node → node ≡ node_at parts.watch.nodes x
+in-true setup x node parts trusted it =
+    it.its_node ∙ ((trusted.cached_true (slot_of setup.shape x) it.held it.stands).true_node ∙ ap (node_at parts.watch.nodes) it.position)
+
+pub in-entry : (setup : Setup) (y : ℕ) (node : Node) (parts : Parts) → AreTrusted setup parts → IsCachedAs setup.shape parts.engine.cache (parent y) node → counter node (child_slot y) ≡ entry_for parts.watch.nodes y
+in-entry setup y node parts trusted it =
+    ap (λ (n : Node). counter n (child_slot y)) (in-true setup (parent y) node parts trusted it)
+
+-- ---- the code's places and versions
+
+-- the position that the code takes from the path
+pub place-is : (g h : Shape) (a level from : ℕ) (items seen : List ℕ) → seen ≡ items → items ≡ path_of h (a / 4) → h ≡ g → from ≡ level → slice_index seen (from + 1) ≡ slice_index (line_path g a) (suc level)
+place-is g h a level from items seen of_items of_path same at =
+    let next : from + 1 ≡ suc level = omega (arith, at) in
+    ap (λ (xs : List ℕ). slice_index xs (from + 1)) (of_items ∙ of_path)
+    ∙ (ap (λ (k : Shape). slice_index (path_of k (a / 4)) (from + 1)) same ∙ ap (slice_index (line_path g a)) next)
+
+-- the version that the code takes from the node above
+pub version-is : (setup : Setup) (a j x version : ℕ) (node : Node) (now : Parts) → j < setup.shape.levels → x ≡ slice_index (line_path setup.shape a) (suc j) → version ≡ counter node (child_slot x)
+    → (AreTrusted setup now → IsCachedAs setup.shape now.engine.cache (slice_index (line_path setup.shape a) j) node) → AreTrusted setup now → version ≡ entry_for now.watch.nodes x
+version-is setup a j x version node now inside place is last trusted =
+    let above : slice_index (line_path setup.shape a) j ≡ parent x =
+    sym (path_of-parent setup.shape (a / 4) j inside) ∙ ap parent (sym place) in
+    is ∙ in-entry setup x node now trusted (subst (λ p. IsCachedAs setup.shape now.engine.cache p node) above (last trusted))
+
+-- the top as the fetch begins
+pub last-start : (setup : Setup) (a : ℕ) (node : Node) (old : Parts) → IsFetchReady setup a old → node ≡ Rattle.asit_shadow.specs.State.top_node old.engine.cache → AreTrusted setup old → IsCachedAs setup.shape old.engine.cache (slice_index (line_path setup.shape a) 0) node
+last-start setup a node old ready is trusted =
+    let top : 0 ≡ slice_index (line_path setup.shape a) 0 = sym (path_of-top setup.shape (a / 4) (page_of_line setup.shape a ready.its_line)) in
+    subst (λ p. IsCachedAs setup.shape old.engine.cache p node) top
+    (subst (IsCachedAs setup.shape old.engine.cache 0) (sym is) (top-in setup old trusted))
+
+-- the last node as it ends
+pub last-end : (setup : Setup) (a : ℕ) (node : Node) (old now : Parts) → IsPathFetchedTo setup a setup.shape.levels old now → (AreTrusted setup now → IsCachedAs setup.shape now.engine.cache (slice_index (line_path setup.shape a) setup.shape.levels) node) → AreTrusted setup old
+    → node ≡ node_at old.watch.nodes (counter_position setup.shape (a / 4))
+last-end setup a node old now path last trusted =
+    let here = path.effect.trusted trusted in
+    in-true setup (slice_index (line_path setup.shape a) setup.shape.levels) node now here (last here)
+    ∙ (ap (λ (w : WatchState). node_at w.nodes (slice_index (line_path setup.shape a) setup.shape.levels)) path.watch
+    ∙ ap (node_at old.watch.nodes) (path_of-block setup.shape (a / 4)))

@@ -1,0 +1,93 @@
+-- A path's nodes as they are raised, from the top down.
+use Rattle.std.proofs.Common.{ℕ, suc, ◌≡◌, ◌<◌, ◌≤◌, ◌+◌, ◌/◌, ◌-◌, ◌^◌, ◌++◌, ◌∷◌, List, [], take, true, refl, sym, ap, subst, inl, inr, ◌∙◌, arith}
+use Rattle.std.specs.Prelude.{Option, ◌==◌}
+use Rattle.std.proofs.lemmas.Bool.{cases_eq, cond-true, cond-false, eq-eqb, ne_eqb}
+use Rattle.std.proofs.lemmas.List.{get_or_append_left, length-append, map-append, take_all, take_more}
+use Rattle.std.proofs.lemmas.List.Elements.{All-nil, All-push}
+use Rattle.std.proofs.Math.Seq.{get_or-append_seam}
+use Rattle.std.proofs.lemmas.Option.{same_Some}
+use Rattle.pmem_base.specs.Shape.{Shape, IsShape}
+use Rattle.bonsai_tree.specs.Positions.{child_slot}
+use Rattle.bonsai_tree.proofs.Levels.{meta_lines-level, level_start-suc}
+use Rattle.bonsai_tree.proofs.PathPositions.{length-path_of}
+use Rattle.counter_tree.specs.declared.nodes.Node.{Node}
+use Rattle.counter_tree.specs.Layout.{tree_lines}
+use Rattle.counter_tree.specs.Nodes.{total, zero_node}
+use Rattle.counter_tree.specs.Trees.{raised, line_position}
+use Rattle.asit_shadow.specs.declared.cache.CachedNode.{CachedNode}
+use Rattle.asit_shadow.specs.State.{IsCached, IsCachedAs, IsHeldNode}
+use Rattle.asit_shadow.specs.Paths.{line_path}
+use Rattle.asit_shadow.specs.Fetching.{path_node}
+use Rattle.asit_shadow.specs.Writing.{IsPathRaised, IsRaisedTo, pair_at, position_below}
+use Rattle.asit_shadow.proofs.PathSteps.{next-low}
+
+-- no level yet
+pub raised-none : (g : Shape) (cache : List (Option CachedNode)) (a : ℕ) → IsRaisedTo g cache a 0 []
+raised-none g cache a =
+    record {
+      count = refl;
+      positions = refl;
+      whole = All-nil (λ (pair : ℕ × Node). IsHeldNode g (record { x = pair.0; node = pair.1; dirty = true }));
+      each_raised = λ level node low. absurd (omega (arith, low));
+    }
+
+-- what a slot holds is one node
+same-cached : (g : Shape) (cache : List (Option CachedNode)) (x : ℕ) (first second : Node) → IsCachedAs g cache x first → IsCachedAs g cache x second → first ≡ second
+same-cached g cache x first second one two =
+    one.its_node ∙ (ap (λ (held : CachedNode). held.node) (same_Some one.held two.held (sym one.stands ∙ two.stands)) ∙ sym two.its_node)
+
+-- a node that was read from its slot, and raised
+pub node-raised : (g : Shape) (cache : List (Option CachedNode)) (x slot : ℕ) (read made old : Node) → (IsCached g cache x → IsCachedAs g cache x read) → (total read < 2 ^ 64 - 1 → made ≡ raised read slot) → IsCachedAs g cache x old → total old < 2 ^ 64 - 1 → made ≡ raised old slot
+node-raised g cache x slot read made old reads raises cached small =
+    let same = same-cached g cache x read old (reads (record { held = cached.held; stands = cached.stands; position = cached.position })) cached in
+    raises (subst (λ (n : Node). total n < 2 ^ 64 - 1) (sym same) small) ∙ ap (λ n. raised n slot) same
+
+-- one level more
+pub raised-more : (g : Shape) (cache : List (Option CachedNode)) (a n : ℕ) (pairs : List (ℕ × Node)) (x : ℕ) (node : Node) → n ≤ g.levels → x ≡ path_node g a n → IsHeldNode g (record { x = x; node = node; dirty = true })
+    → ((old : Node) → IsCachedAs g cache x old → total old < 2 ^ 64 - 1 → node ≡ raised old (child_slot (position_below g a n))) → IsRaisedTo g cache a n pairs → IsRaisedTo g cache a (n + 1) (pairs ++ (x, node) ∷ [])
+raised-more g cache a n pairs x node within place held made before =
+    let long = length-path_of g (a / 4) in
+    record {
+      count = length-append pairs ((x, node) ∷ []) ∙ omega (arith, before.count);
+      positions =
+          map-append (λ (pair : ℕ × Node). pair.0) pairs ((x, node) ∷ [])
+          ∙ (ap (λ (xs : List ℕ). xs ++ x ∷ []) before.positions
+          ∙ (ap (λ y. take n (line_path g a) ++ y ∷ []) place ∙ sym (take_more (line_path g a) n 0 (omega (arith, long, within)))));
+      whole = All-push (λ (pair : ℕ × Node). IsHeldNode g (record { x = pair.0; node = pair.1; dirty = true })) pairs (x, node) before.whole held;
+      each_raised =
+          λ level old low cached small.
+          elim (cases_eq level n) [
+            | inl same ↦
+                subst (λ m. (pair_at (pairs ++ (x, node) ∷ []) m).1 ≡ raised old (child_slot (position_below g a m))) (sym same)
+                (ap (λ m. (pair_at (pairs ++ (x, node) ∷ []) m).1) (sym before.count)
+                ∙ (ap (λ (p : ℕ × Node). p.1) (get_or-append_seam pairs (x, node) [] (0, zero_node))
+                ∙ made old (subst (λ p. IsCachedAs g cache p old) (ap (path_node g a) same ∙ sym place) cached) small))
+            | inr other ↦
+                ap (λ (p : ℕ × Node). p.1) (get_or_append_left pairs ((x, node) ∷ []) (0, zero_node) level (omega (arith, low, other, before.count)))
+                ∙ before.each_raised level old (omega (arith, low, other)) cached small
+          ];
+    }
+
+-- all levels
+pub raised-all : (g : Shape) (cache : List (Option CachedNode)) (a n : ℕ) (pairs : List (ℕ × Node)) → n ≡ g.levels + 1 → IsRaisedTo g cache a n pairs → IsPathRaised g cache a pairs
+raised-all g cache a n pairs all it =
+    record {
+      positions = it.positions ∙ take_all n (line_path g a) (omega (arith, length-path_of g (a / 4), all));
+      whole = it.whole;
+      each_raised = λ level node within cached small. it.each_raised level node (omega (arith, within, all)) cached small;
+    }
+
+-- the position below a level isn't the top
+pub below-low : (g : Shape) (a n : ℕ) → IsShape g → a < tree_lines g → n ≤ g.levels → 1 ≤ position_below g a n
+below-low g a n shape inside within =
+    elim (cases_eq n g.levels) [
+      | inl last ↦
+          subst (λ p. 1 ≤ p) (sym (cond-true (n == g.levels) (line_position g a) (path_node g a (n + 1)) (eq-eqb n g.levels last))) (line_low g a shape)
+      | inr other ↦
+          let next : n + 1 ≡ suc n = omega arith in
+          let low = next-low g a n (path_node g a (n + 1)) shape inside (omega (arith, within, other)) (ap (path_node g a) next) in
+          subst (λ p. 1 ≤ p) (sym (cond-false (n == g.levels) (line_position g a) (path_node g a (n + 1)) (ne_eqb n g.levels other))) (omega (arith, low))
+    ]
+  where
+    line_low : (g : Shape) (a : ℕ) → IsShape g → 1 ≤ line_position g a
+    line_low g a shape = omega (arith, meta_lines-level g, level_start-suc g.levels)

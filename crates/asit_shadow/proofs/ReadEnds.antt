@@ -1,0 +1,319 @@
+-- How a read ends.
+use Rattle.std.proofs.Common.{ℕ, ◌≡◌, ◌≢◌, ◌<◌, ◌/◌, ◌%◌, List, false, Some, None, refl, sym, ap, subst, inl, inr, ◌∙◌, arith}
+use Rattle.std.specs.Prelude.{Option, Ok, Err, IfSome, IsSome, MatchOption}
+use Rattle.std.proofs.lemmas.Bool.{true≢false}
+use Rattle.std.proofs.lemmas.Option.{same_Some}
+use Rattle.pmem_base.specs.declared.lines.Line.{Line}
+use Rattle.pmem_base.specs.declared.registers.Regs.{Regs}
+use Rattle.pmem_base.specs.declared.answers.Exhibit.{Exhibit}
+use Rattle.pmem_base.specs.declared.answers.Exhibit.TheVariants.{Forged}
+use Rattle.pmem_base.specs.Lines.{tag_slot, xor_lines}
+use Rattle.pmem_base.specs.Shape.{Shape, IsShape}
+use Rattle.pmem_base.specs.Counts.{HasRisen}
+use Rattle.suite.specs.Setup.{Setup}
+use Rattle.board.specs.Counts.{RisesBy}
+use Rattle.board.specs.Device.{Device}
+use Rattle.board.specs.Steps.{Tells}
+use Rattle.collision_witness.specs.Exhibits.{IsExhibit}
+use Rattle.bonsai_tree.specs.Positions.{child_slot, counter_position, parent}
+use Rattle.bonsai_tree.proofs.Levels.{level_start-suc, meta_lines-level}
+use Rattle.bonsai_tree.proofs.PathPositions.{on_path-level}
+use Rattle.pmem_engine.specs.Outcomes.{Outcome, going, cut_short, shown, HasPower}
+use Rattle.counter_tree.specs.declared.nodes.Node.{Node}
+use Rattle.counter_tree.specs.declared.watch.LineSeal.{LineSeal}
+use Rattle.counter_tree.specs.Accepted.{HasLineRead, IsCutReading, IsLineAccepted, IsLineUnaccepted, IsLineForged}
+use Rattle.counter_tree.specs.Nodes.{counter, version_counter}
+use Rattle.counter_tree.specs.Layout.{tree_lines, line_of_tag}
+use Rattle.counter_tree.specs.Trees.{node_at, line_counter, line_position}
+use Rattle.counter_tree.specs.Watch.{WatchState, HasShown, last_seal_of}
+use Rattle.counter_tree.proofs.TreeLaws.{line_position-parent}
+use Rattle.asit_shadow.specs.declared.fault.TreeFault.{TreeFault}
+use Rattle.asit_shadow.specs.declared.fault.TreeFault.TheVariants as Fail
+use Rattle.asit_shadow.specs.State.{TreeState}
+use Rattle.asit_shadow.specs.Invariants.{IsSound}
+use Rattle.asit_shadow.specs.Parts.{Parts, AreTrusted, AreSound}
+use Rattle.asit_shadow.specs.Calls.{IsPathAccepted, IsDataLineRead, TakesWriteBacks, IsLineRead}
+use Rattle.asit_shadow.specs.Fetching.{KeepsPathLines, IsPathFetchedTo, IsFetchStopped}
+use Rattle.asit_shadow.proofs.SlotPlaces.{page_of_line}
+use Rattle.asit_shadow.proofs.Chains.{power-then, places-then, effect-then, going-uncut, going-unshown, cut-unshown}
+use Rattle.asit_shadow.proofs.ReadLaws.{read-plain, forged_line-holds, line-sound}
+use Rattle.asit_shadow.proofs.LevelSteps.{kept_lines}
+use Rattle.asit_shadow.proofs.PathSteps.{read-kept}
+use Rattle.asit_shadow.proofs.FetchEnds.{AreUnwritten, kept-watch, refused-effect, cut-effect, still-steady, first-none, shown-some, same-seals, same-slots}
+
+-- ---- the counter
+
+-- the last node of the path has the line's counter
+pub line_counter-is : (g : Shape) (a : ℕ) (nodes : List Node) (node : Node) → node ≡ node_at nodes (counter_position g (a / 4)) → counter node (a % 4) ≡ line_counter g nodes a
+line_counter-is g a nodes node is =
+    let place : child_slot (line_position g a) ≡ a % 4 = omega (arith, meta_lines-level g, level_start-suc g.levels) in
+    ap (λ n. counter n (a % 4)) (is ∙ ap (node_at nodes) (sym (line_position-parent g a)))
+    ∙ ap (counter (node_at nodes (parent (line_position g a)))) (sym place)
+
+-- ---- a path accepted
+
+pub path-accepted : (setup : Setup) (a : ℕ) (old mid new : Parts) → IsShape setup.shape → a < tree_lines setup.shape → AreTrusted setup old → IsPathFetchedTo setup a setup.shape.levels old mid → KeepsPathLines setup.shape a mid.device.lines new.device.lines → IsPathAccepted setup a old new
+path-accepted setup a old mid new shape inside trusted path kept =
+    record {
+      each =
+          λ x on.
+          let level = on_path-level setup.shape (a / 4) x shape.at_most_six_levels (page_of_line setup.shape a inside) on in
+          elim (path.read trusted x on level.0) [
+            | inl cached ↦ inl cached
+            | inr read ↦ inr (read-kept setup a x old mid new kept read)
+          ];
+    }
+
+-- ---- a fetch that stopped
+
+pub read-stopped : (setup : Setup) (a : ℕ) (old new : Parts) (fault : TreeFault) → IsFetchStopped setup a old new fault → IsLineRead setup a old new (Err fault)
+read-stopped setup a old new Fail.Cut it =
+    record { kind = tt; up = λ e. e; effect = it.effect; watch = it.watch; regs = it.regs; steps = it.steps; answered = λ trusted. tt; unrefused = it.unrefused }
+read-stopped setup a old new Fail.Down it = absurd it.kind
+read-stopped setup a old new (Fail.Node x) it =
+    record { kind = tt; up = λ e. e; effect = it.effect; watch = it.watch; regs = it.regs; steps = it.steps; answered = it.answered; unrefused = it.unrefused }
+read-stopped setup a old new (Fail.Tag b) it = absurd it.kind
+read-stopped setup a old new Fail.Spent it = absurd it.kind
+read-stopped setup a old new Fail.Shown it =
+    record { kind = tt; up = λ e. e; effect = it.effect; watch = it.watch; regs = it.regs; steps = it.steps; answered = λ trusted. inl (it.answered trusted); unrefused = it.unrefused }
+
+-- ---- both lines of a data line are read
+
+-- what is known as they are read
+pub record IsPathHad (setup : Setup) (a count : ℕ) (old mid new : Parts) : Type 0 where
+  pub shape : IsShape setup.shape
+  pub its_line : a < tree_lines setup.shape
+  pub path : IsPathFetchedTo setup a setup.shape.levels old mid
+  pub counted : AreTrusted setup old → count ≡ line_counter setup.shape old.watch.nodes a
+  pub engine : new.engine ≡ mid.engine
+
+both-unwritten : (setup : Setup) (a : ℕ) (cipher tags : Line) (old new : Device) → HasLineRead setup a cipher tags old new → AreUnwritten old new
+both-unwritten setup a cipher tags old new it =
+    record {
+      lines = it.second.lines ∙ it.first.lines;
+      regs = it.second.regs ∙ it.first.regs;
+      size = it.second.size ∙ it.first.size;
+      writes = it.second.writes ∙ it.first.writes;
+      latches = it.second.latches ∙ it.first.latches;
+    }
+
+both-power : (setup : Setup) (a : ℕ) (cipher tags : Line) (old new : Device) → HasLineRead setup a cipher tags old new → HasPower going old new
+both-power setup a cipher tags old new it =
+    (λ was. it.second.steady (it.first.steady was), λ was. it.second.live (it.first.live was), it.second.cuts ∙ it.first.cuts)
+
+line-told : (setup : Setup) (a : ℕ) (cipher tags : Line) (mid new : Parts) → HasLineRead setup a cipher tags mid.device new.device → IsDataLineRead setup a cipher tags new
+line-told setup a cipher tags mid new read =
+    record {
+      cipher_read = subst (λ told. Tells told a cipher) (sym (read.second.lines ∙ read.first.lines)) read.first.tells;
+      tags_read = subst (λ told. Tells told (line_of_tag setup.shape a) tags) (sym read.second.lines) read.second.tells;
+    }
+
+steps-kept : (setup : Setup) (outcome : Outcome) (old mid new : Device) → AreUnwritten mid new → (outcome ≡ cut_short → mid.live ≡ false) → HasPower going old mid → TakesWriteBacks setup.shape.levels going old mid → TakesWriteBacks setup.shape.levels outcome old new
+steps-kept setup outcome old mid new same off power steps =
+    record {
+      count = steps.count;
+      at_most = steps.at_most;
+      fewer = λ cut live. absurd (true≢false (sym (power.1 live) ∙ off cut));
+      writes = subst (λ n. RisesBy steps.count old.writes n) (sym same.writes) steps.writes;
+      latches = same.latches ∙ steps.latches;
+    }
+
+-- the plain line is read
+pub read-ok : (setup : Setup) (a count : ℕ) (old mid new : Parts) (plain : Line) → IsPathHad setup a count old mid new → IsLineAccepted setup a count mid.device new.device mid.watch new.watch plain → IsLineRead setup a old new (Ok plain)
+read-ok setup a count old mid new plain had it =
+    let same = both-unwritten setup a it.cipher it.tags mid.device new.device it.read in
+    let seen : IfSome (last_seal_of old.watch a) (λ seal. it.cipher ≡ seal.cipher) =
+    subst (λ (w : WatchState). IfSome (last_seal_of w a) (λ seal. it.cipher ≡ seal.cipher)) had.path.watch it.seen in
+    record {
+      kind = tt;
+      up = λ e. e;
+      effect =
+          effect-then setup going old mid new had.path.effect
+          (refused-effect setup mid new same (both-power setup a it.cipher it.tags mid.device new.device it.read) had.engine it.watch_kept);
+      watch = kept-watch going old.watch new.watch going-unshown (it.watch_kept ∙ had.path.watch);
+      regs = same.regs ∙ had.path.regs;
+      steps = steps-kept setup going old.device mid.device new.device same (λ e. absurd (going-uncut e)) had.path.effect.power had.path.steps;
+      answered =
+          λ trusted. (
+            it.its_plain
+                ∙ (ap (λ c. xor_lines it.cipher (setup.formulas.pad_of a (version_counter c))) (had.counted trusted)
+                ∙ read-plain setup old.device.regs old.watch a it.cipher trusted.anchored had.its_line seen),
+            path-accepted setup a old mid new had.shape had.its_line trusted had.path (kept_lines setup.shape a mid.device.lines new.device.lines same.lines),
+            (record {
+              cipher = it.cipher;
+              tags = it.tags;
+              its = line-told setup a it.cipher it.tags mid new it.read;
+              fits = subst (λ c. setup.formulas.tag_of a (version_counter c) it.cipher ≡ tag_slot it.tags 0) (had.counted trusted) it.fits;
+              last = seen;
+            }),
+          );
+      unrefused = λ sound. tt;
+    }
+
+-- a cut: of a board that was live it comes before any read
+pub read-cut : (setup : Setup) (a count : ℕ) (old mid new : Parts) → IsPathHad setup a count old mid new → IsCutReading mid.device new.device → mid.device.live ≡ false → new.watch ≡ mid.watch → IsLineRead setup a old new (Err Fail.Cut)
+read-cut setup a count old mid new had cut off watch =
+    let same : AreUnwritten mid.device new.device =
+    record {
+      lines = cut.cut.lines ∙ cut.lines;
+      regs = cut.cut.regs ∙ cut.regs;
+      size = cut.cut.size ∙ cut.size;
+      writes = cut.cut.writes ∙ cut.writes;
+      latches = cut.cut.latches ∙ cut.latches;
+    } in
+    let power : HasPower cut_short mid.device new.device = (
+      still-steady mid.device.steady cut.between.steady cut.steady cut.cut.unsteady,
+      cut.cut.off,
+      subst (λ n. HasRisen n new.device.cuts) cut.cuts cut.cut.rose,
+    ) in
+    record {
+      kind = tt;
+      up = λ e. e;
+      effect =
+          effect-then setup cut_short old mid new had.path.effect
+          (cut-effect setup mid new same power (ap (λ (e : TreeState). e.shape) had.engine) watch);
+      watch = kept-watch cut_short old.watch new.watch cut-unshown (watch ∙ had.path.watch);
+      regs = same.regs ∙ had.path.regs;
+      steps = steps-kept setup cut_short old.device mid.device new.device same (λ e. off) had.path.effect.power had.path.steps;
+      answered = λ trusted. tt;
+      unrefused = λ sound. tt;
+    }
+
+-- over a sound engine the tag fits, and the cipher is the last seal's
+sound-line : (setup : Setup) (engine : TreeState) (told : Option (List Line)) (regs : Regs) (watch : WatchState) (a : ℕ) (cipher tags : Line) → a < tree_lines setup.shape → MatchOption told ⊥ (λ lines. IsSound setup engine lines regs watch) → Tells told a cipher → Tells told (line_of_tag setup.shape a) tags
+    → (setup.formulas.tag_of a (version_counter (line_counter setup.shape watch.nodes a)) cipher ≡ tag_slot tags 0) × IfSome (last_seal_of watch a) (λ seal. cipher ≡ seal.cipher)
+sound-line setup engine None regs watch a cipher tags inside sound here there = absurd sound
+sound-line setup engine (Some lines) regs watch a cipher tags inside sound here there =
+    let it = line-sound setup engine lines regs watch a sound inside in (
+      ap (setup.formulas.tag_of a (version_counter (line_counter setup.shape watch.nodes a))) here ∙ (it.0 ∙ ap (λ l. tag_slot l 0) (sym there)),
+      subst (λ c. IfSome (last_seal_of watch a) (λ seal. c ≡ seal.cipher)) (sym here) it.1,
+    )
+
+sound-read : (setup : Setup) (a : ℕ) (cipher tags : Line) (mid : Parts) (new : Device) → a < tree_lines setup.shape → AreSound setup mid → HasLineRead setup a cipher tags mid.device new
+    → (setup.formulas.tag_of a (version_counter (line_counter setup.shape mid.watch.nodes a)) cipher ≡ tag_slot tags 0) × IfSome (last_seal_of mid.watch a) (λ seal. cipher ≡ seal.cipher)
+sound-read setup a cipher tags mid new inside sound read =
+    sound-line setup mid.engine mid.device.lines mid.device.regs mid.watch a cipher tags inside sound read.first.tells
+    (subst (λ told. Tells told (line_of_tag setup.shape a) tags) read.first.lines read.second.tells)
+
+-- a sound engine is trusted
+pub sound-trusted : (setup : Setup) (parts : Parts) → AreSound setup parts → AreTrusted setup parts
+sound-trusted setup parts sound = of parts.device.lines sound
+  where
+    of : (told : Option (List Line)) → MatchOption told ⊥ (λ lines. IsSound setup parts.engine lines parts.device.regs parts.watch) → AreTrusted setup parts
+    of None it = absurd it
+    of (Some lines) it = it.trusted
+
+-- the tag doesn't fit
+pub read-refused : (setup : Setup) (a count : ℕ) (old mid new : Parts) → IsPathHad setup a count old mid new → IsLineUnaccepted setup a count mid.device new.device mid.watch new.watch → IsLineRead setup a old new (Err (Fail.Tag a))
+read-refused setup a count old mid new had it =
+    let same = both-unwritten setup a it.cipher it.tags mid.device new.device it.read in
+    record {
+      kind = refl;
+      up = λ e. e;
+      effect =
+          effect-then setup going old mid new had.path.effect
+          (refused-effect setup mid new same (both-power setup a it.cipher it.tags mid.device new.device it.read) had.engine it.watch_kept);
+      watch = kept-watch going old.watch new.watch going-unshown (it.watch_kept ∙ had.path.watch);
+      regs = same.regs ∙ had.path.regs;
+      steps = steps-kept setup going old.device mid.device new.device same (λ e. absurd (going-uncut e)) had.path.effect.power had.path.steps;
+      answered =
+          λ trusted. (
+            refl,
+            path-accepted setup a old mid new had.shape had.its_line trusted had.path (kept_lines setup.shape a mid.device.lines new.device.lines same.lines),
+            (record {
+              cipher = it.cipher;
+              tags = it.tags;
+              its = line-told setup a it.cipher it.tags mid new it.read;
+              fails = subst (λ c. setup.formulas.tag_of a (version_counter c) it.cipher ≢ tag_slot it.tags 0) (had.counted trusted) it.fails;
+            }),
+          );
+      unrefused =
+          λ sound.
+          let now : count ≡ line_counter setup.shape mid.watch.nodes a =
+          had.counted (sound-trusted setup old sound) ∙ ap (λ (w : WatchState). line_counter setup.shape w.nodes a) (sym had.path.watch) in
+          it.fails (ap (λ c. setup.formulas.tag_of a (version_counter c) it.cipher) now
+          ∙ (sound-read setup a it.cipher it.tags mid new.device had.its_line (had.path.effect.sound sound) it.read).0);
+    }
+
+-- ---- an exhibit is shown
+
+-- what holds of a seal that there is
+some-taken : {X : Type 0} (P : X → Type 0) (seal : Option X) → IsSome seal → IfSome seal P → (one : X) × (seal ≡ Some one) × P one
+some-taken P None there was = absurd cc
+some-taken P (Some one) there was = (one, refl, was)
+
+pub read-shown : (setup : Setup) (a count : ℕ) (old mid new : Parts) → IsPathHad setup a count old mid new → IsSome (last_seal_of mid.watch a) → IsLineForged setup a count mid.device new.device mid.watch new.watch → IsLineRead setup a old new (Err Fail.Shown)
+read-shown setup a count old mid new had sealed it =
+    let same = both-unwritten setup a it.cipher it.tags mid.device new.device it.read in
+    let now : AreTrusted setup old → count ≡ line_counter setup.shape mid.watch.nodes a =
+    λ trusted. had.counted trusted ∙ ap (λ (w : WatchState). line_counter setup.shape w.nodes a) (sym had.path.watch) in
+    let taken = some-taken (λ (seal : LineSeal). (it.cipher ≢ seal.cipher) × HasShown mid.watch new.watch (Forged a (version_counter seal.counter) it.cipher (tag_slot it.tags 0))) (last_seal_of mid.watch a) sealed it.exhibit in
+    let seal : LineSeal = taken.0 in
+    let never : AreSound setup mid → ⊥ =
+    λ sound.
+    taken.2.0 (subst (λ s. IfSome s (λ seal. it.cipher ≡ seal.cipher)) taken.1
+    (sound-read setup a it.cipher it.tags mid new.device had.its_line sound it.read).1) in
+    let same_counter : AreTrusted setup mid → taken.0.counter ≡ line_counter setup.shape mid.watch.nodes a =
+    λ trusted.
+    let its_seal = trusted.anchored.seals a had.its_line in
+    ap (λ (s : LineSeal). s.counter) (same_Some taken.0 its_seal.seal (sym taken.1 ∙ its_seal.last)) ∙ its_seal.counter in
+    record {
+      kind = tt;
+      up = λ e. e;
+      effect =
+          record {
+            shape = ap (λ (e : TreeState). e.shape) had.engine ∙ had.path.effect.shape;
+            size = same.size ∙ had.path.effect.size;
+            power =
+                power-then shown old.device mid.device new.device had.path.effect.power
+                (both-power setup a it.cipher it.tags mid.device new.device it.read);
+            trusted =
+                λ trusted.
+                let here = had.path.effect.trusted trusted in
+                subst (λ (o : Option Exhibit). IfSome o (IsExhibit setup.formulas))
+                (sym (taken.2.1.exhibit
+                ∙ first-none mid.watch.exhibit (Forged a (version_counter taken.0.counter) it.cipher (tag_slot it.tags 0)) here.anchored.no_exhibit))
+                (forged_line-holds setup mid.device.regs mid.watch a it.cipher (tag_slot it.tags 0) taken.0 here.anchored had.its_line taken.1
+                (subst (λ c. setup.formulas.tag_of a (version_counter c) it.cipher ≡ tag_slot it.tags 0) (now trusted) it.fits));
+            sound = λ sound. never (had.path.effect.sound sound);
+            places =
+                λ trusted.
+                places-then setup shown old mid new (had.path.effect.places trusted)
+                (record {
+                  seals = λ b inside was. same-seals setup mid new b same taken.2.1.seals was;
+                  slots = λ i inside was. same-slots setup mid new i same taken.2.1.slots was;
+                  nodes = tt;
+                });
+          };
+      watch =
+          record {
+            setup = taken.2.1.setup ∙ ap (λ (w : WatchState). w.setup) had.path.watch;
+            seals = taken.2.1.seals ∙ ap (λ (w : WatchState). w.seals) had.path.watch;
+            nodes = taken.2.1.nodes ∙ ap (λ (w : WatchState). w.nodes) had.path.watch;
+            slots = taken.2.1.slots ∙ ap (λ (w : WatchState). w.slots) had.path.watch;
+            exhibit = λ other. absurd (other refl);
+            stopped = λ _. subst IsSome (sym taken.2.1.exhibit) (shown-some mid.watch.exhibit (Forged a (version_counter taken.0.counter) it.cipher (tag_slot it.tags 0)));
+          };
+      regs = same.regs ∙ had.path.regs;
+      steps = steps-kept setup shown old.device mid.device new.device same (λ e. absurd (cut-unshown (sym e))) had.path.effect.power had.path.steps;
+      answered =
+          λ trusted.
+          inr (
+            path-accepted setup a old mid new had.shape had.its_line trusted had.path (kept_lines setup.shape a mid.device.lines new.device.lines same.lines),
+            (record {
+              cipher = it.cipher;
+              tags = it.tags;
+              its = line-told setup a it.cipher it.tags mid new it.read;
+              fits = subst (λ c. setup.formulas.tag_of a (version_counter c) it.cipher ≡ tag_slot it.tags 0) (had.counted trusted) it.fits;
+              other =
+                  subst (λ (w : WatchState). IfSome (last_seal_of w a) (λ seal. it.cipher ≢ seal.cipher)) had.path.watch
+                  (subst (λ s. IfSome s (λ (seal : LineSeal). it.cipher ≢ seal.cipher)) (sym taken.1) taken.2.0);
+              exhibit =
+                  taken.2.1.exhibit
+                  ∙ (first-none mid.watch.exhibit (Forged a (version_counter taken.0.counter) it.cipher (tag_slot it.tags 0)) (had.path.effect.trusted trusted).anchored.no_exhibit
+                  ∙ ap (λ c. Some (Forged a (version_counter c) it.cipher (tag_slot it.tags 0)))
+                  (same_counter (had.path.effect.trusted trusted) ∙ ap (λ (w : WatchState). line_counter setup.shape w.nodes a) had.path.watch));
+            }),
+          );
+      unrefused = λ sound. never (had.path.effect.sound sound);
+    }

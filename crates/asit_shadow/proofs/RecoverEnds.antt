@@ -1,0 +1,413 @@
+-- How a recovery ends.
+use Rattle.std.proofs.Common.{◌++◌, take, drop, ℕ, ◌≡◌, ◌≢◌, ◌<◌, false, List, [], length, Some, None, refl, sym, ap, subst, inl, inr, ◌∙◌, arith}
+use Rattle.std.specs.Prelude.{Option, Result, Ok, Err, All, IfSome, MatchOption}
+use Rattle.std.proofs.lemmas.Option.{same_Some}
+use Rattle.std.proofs.lemmas.List.{append-nil, take_all, drop_all}
+use Rattle.pmem_base.specs.declared.lines.Line.{Line}
+use Rattle.pmem_base.specs.declared.registers.Regs.{Regs}
+use Rattle.pmem_base.specs.declared.answers.Exhibit.{Exhibit}
+use Rattle.pmem_base.specs.Counts.{HasRisen, risen_times}
+use Rattle.pmem_base.specs.Registers.{without_group}
+use Rattle.pmem_base.specs.Lines.{IsLine, line_at}
+use Rattle.pmem_base.specs.Shape.{Shape, IsShape}
+use Rattle.suite.specs.Formulas.{Formulas, AreInRange}
+use Rattle.suite.specs.Setup.{Setup}
+use Rattle.board.specs.Counts.{RisesBy}
+use Rattle.board.specs.Device.{Device, AreToldLines}
+use Rattle.board.specs.Steps.{Tells}
+use Rattle.collision_witness.specs.Exhibits.{IsExhibit}
+use Rattle.commit_regs.specs.Groups.{redone, redone_told, HasFinished, IsInterrupted}
+use Rattle.pmem_engine.specs.Outcomes.{going}
+use Rattle.pmem_engine.proofs.CallEnds.ToldLines.{unarmed}
+use Rattle.pmem_recovery.specs.declared.faults.Work.{Work}
+use Rattle.counter_tree.specs.Accepted.{IsCutReading}
+use Rattle.counter_tree.specs.Nodes.{node_line}
+use Rattle.counter_tree.specs.Layout.{tree_slots, tree_size, line_of_slot}
+use Rattle.counter_tree.specs.Trees.{node_at}
+use Rattle.counter_tree.specs.Slots.{slot_of, slot_line, slot_read}
+use Rattle.counter_tree.specs.Shadow.{ChipTree, shadow_height, root_of, shadow_root, shadow_digests}
+use Rattle.counter_tree.specs.Watch.{WatchState, HasShown, IsSlotClash}
+use Rattle.counter_tree.proofs.Positions.{meta_lines-most}
+use Rattle.counter_tree.proofs.SlotLaws.{slot_read-slot_line, slot_read-zero}
+use Rattle.counter_tree.proofs.TreeLaws.{tree-version, tree-IsNode}
+use Rattle.asit_shadow.specs.declared.recovery.TreeRec.TheVariants as Fail
+use Rattle.asit_shadow.specs.declared.cache.CachedNode.{CachedNode}
+use Rattle.asit_shadow.specs.State.{TreeState, IsTreeEngine}
+use Rattle.asit_shadow.specs.Invariants.{IsAnchored, IsDurable, IsSound, IsSealStored, IsSlotStored}
+use Rattle.asit_shadow.specs.Places.{IsNodeHeld, IsNodeHeldBy}
+use Rattle.asit_shadow.specs.Steps.{IsEmptied, IsRecovered, slots_read}
+use Rattle.asit_shadow.specs.Recovering.{Rest, rest_redone, IsRestAnchored, IsRestDurable, HasOnlyRead, AreSlotsRead, IsTreeWork, IsReadFinished, IsRoomFilled, KeepsRestPlaces, HasTreeRecovered, IsNameable}
+use Rattle.asit_shadow.proofs.ArmLaws.{IsAnchored-emptied}
+use Rattle.asit_shadow.proofs.GroupLaws.{IsDurable-again, IsDurable-finished}
+use Rattle.asit_shadow.proofs.PlaceLaws.{recovered-place}
+use Rattle.asit_shadow.proofs.RecoverLaws.{clash-holds, IsTrusted-recovered, slots-sound, IsSound-recovered, lines-equal, length-slots_read, line_at-slots_read}
+use Rattle.asit_shadow.proofs.Chains.{power-then}
+use Rattle.asit_shadow.proofs.FetchEnds.{some_map, still-steady, first-none}
+
+-- ---- what a true slot line names can be cached
+
+pub true-nameable : (setup : Setup) (regs : Regs) (watch : WatchState) (i : ℕ) → IsShape setup.shape → IsAnchored setup regs watch → i < tree_slots setup.shape → IsNameable setup.shape (slot_read (line_at watch.slots i))
+true-nameable setup regs watch i shape anchored inside =
+    elim (anchored.slots i inside) [
+      | inl zeros ↦ subst (IsNameable setup.shape) (sym (ap slot_read zeros ∙ slot_read-zero)) tt
+      | inr names ↦
+          let most = meta_lines-most setup.shape shape.at_most_six_levels in
+          subst (IsNameable setup.shape)
+          (sym (ap slot_read names.line
+          ∙ slot_read-slot_line names.x (node_at watch.nodes names.x) (omega (arith, most, names.on_tree)) (tree-IsNode setup.shape watch.nodes names.x anchored.tree names.on_tree)))
+          (names.on_tree, tree-version setup.shape watch.nodes names.x anchored.tree names.on_tree)
+    ]
+
+-- ---- places where nothing but an exhibit was changed
+
+-- the watch knows the same
+pub record KnowsSame (old new : WatchState) : Type 0 where
+  pub seals : new.seals ≡ old.seals
+  pub nodes : new.nodes ≡ old.nodes
+  pub slots : new.slots ≡ old.slots
+
+knows_same : (old new : WatchState) → new ≡ old → KnowsSame old new
+knows_same old new same =
+    record { seals = ap (λ (w : WatchState). w.seals) same; nodes = ap (λ (w : WatchState). w.nodes) same; slots = ap (λ (w : WatchState). w.slots) same }
+
+held-same : (setup : Setup) (lines : List Line) (old new : WatchState) (x : ℕ) → KnowsSame old new → IsNodeHeld setup lines old x → IsNodeHeld setup lines new x
+held-same setup lines old new x same held =
+    elim held [
+      | inl stored ↦ inl (stored ∙ ap (λ nodes. node_line setup.formulas x (node_at nodes x)) (sym same.nodes))
+      | inr named ↦
+          inr (ap (λ slots. line_at slots (slot_of setup.shape x)) same.slots
+          ∙ (named ∙ ap (λ nodes. slot_line x (node_at nodes x)) (sym same.nodes)))
+    ]
+
+rest-seals : (setup : Setup) (old new : Rest) (a : ℕ) → rest_redone new ≡ rest_redone old → KnowsSame old.watch new.watch → IfSome (rest_redone old) (λ lines. IsSealStored setup.shape lines old.watch a) → IfSome (rest_redone new) (λ lines. IsSealStored setup.shape lines new.watch a)
+rest-seals setup old new a lines same it =
+    subst (λ (o : Option (List Line)). IfSome o (λ ls. IsSealStored setup.shape ls new.watch a)) (sym lines)
+    (some_map (λ ls. IsSealStored setup.shape ls old.watch a) (λ ls. IsSealStored setup.shape ls new.watch a) (rest_redone old)
+    (λ ls stored.
+    record {
+      seal = stored.seal;
+      last = ap (λ (seals : List (Option Rattle.counter_tree.specs.declared.watch.LineSeal.LineSeal)). Rattle.std.specs.Prelude.slice_index_or seals a None) same.seals ∙ stored.last;
+      cipher = stored.cipher;
+      tag = stored.tag;
+    })
+    it)
+
+rest-slots : (setup : Setup) (old new : Rest) (i : ℕ) → rest_redone new ≡ rest_redone old → KnowsSame old.watch new.watch → IfSome (rest_redone old) (λ lines. IsSlotStored setup.shape lines old.watch i) → IfSome (rest_redone new) (λ lines. IsSlotStored setup.shape lines new.watch i)
+rest-slots setup old new i lines same it =
+    subst (λ (o : Option (List Line)). IfSome o (λ ls. IsSlotStored setup.shape ls new.watch i)) (sym lines)
+    (some_map (λ ls. IsSlotStored setup.shape ls old.watch i) (λ ls. IsSlotStored setup.shape ls new.watch i) (rest_redone old)
+    (λ ls stored. stored ∙ ap (λ slots. line_at slots i) (sym same.slots)) it)
+
+rest-nodes : (setup : Setup) (old new : Rest) (x : ℕ) → rest_redone new ≡ rest_redone old → KnowsSame old.watch new.watch → IfSome (rest_redone old) (λ lines. IsNodeHeld setup lines old.watch x) → IfSome (rest_redone new) (λ lines. IsNodeHeld setup lines new.watch x)
+rest-nodes setup old new x lines same it =
+    subst (λ (o : Option (List Line)). IfSome o (λ ls. IsNodeHeld setup ls new.watch x)) (sym lines)
+    (some_map (λ ls. IsNodeHeld setup ls old.watch x) (λ ls. IsNodeHeld setup ls new.watch x) (rest_redone old)
+    (λ ls held. held-same setup ls old.watch new.watch x same held) it)
+
+-- ---- the group is finished, and lines are read
+
+pub read_finished : (old mid new : Device) → HasFinished old mid → HasOnlyRead mid new → IsReadFinished old new
+read_finished old mid new first second =
+    record {
+      lines = second.lines ∙ first.lines;
+      regs = second.regs ∙ first.regs;
+      size = second.size ∙ first.size;
+      group =
+          record {
+            regs = second.regs ∙ first.regs;
+            writes = subst (λ n. RisesBy (length old.regs.group.items) old.writes n) (sym second.writes) first.writes;
+            latches = subst (λ n. RisesBy (Rattle.commit_regs.specs.Groups.finishing_latches old.regs.group.items) old.latches n) (sym second.latches) first.latches;
+          };
+      power = power-then going old mid new (first.steady, first.live, first.cuts) second.power;
+    }
+
+finished-emptied : (old new : Regs) → new ≡ without_group old → IsEmptied old new
+finished-emptied old new is =
+    record { root = ap (λ (r : Regs). r.root) is; no_group = ap (λ (r : Regs). r.group.items) is }
+
+finished-redone : (old new : Rest) → new.device.regs ≡ without_group old.device.regs → new.device.lines ≡ redone_told old.device.regs.group.items old.device.lines → rest_redone new ≡ rest_redone old
+finished-redone old new regs lines =
+    unarmed new.device.regs.group.items new.device.lines (ap (λ (r : Regs). r.group.items) regs) ∙ lines
+
+finished-anchored : (setup : Setup) (old : Rest) (regs : Regs) (watch : WatchState) → regs ≡ without_group old.device.regs → watch ≡ old.watch → IsRestAnchored setup old → IsAnchored setup regs watch
+finished-anchored setup old regs watch emptied same anchored =
+    subst (IsAnchored setup regs) (sym same) (IsAnchored-emptied setup old.device.regs regs old.watch (finished-emptied old.device.regs regs emptied) anchored)
+
+finished-durable : (setup : Setup) (old : Rest) (told : Option (List Line)) (regs : Regs) (watch : WatchState) → regs ≡ without_group old.device.regs → watch ≡ old.watch → told ≡ redone_told old.device.regs.group.items old.device.lines → IsRestDurable setup old → MatchOption told ⊥ (λ lines. IsDurable setup lines regs watch)
+finished-durable setup old told regs watch emptied same lines durable =
+    subst (λ (o : Option (List Line)). MatchOption o ⊥ (λ ls. IsDurable setup ls regs watch)) (sym lines)
+    (subst (λ (w : WatchState). MatchOption (redone_told old.device.regs.group.items old.device.lines) ⊥ (λ ls. IsDurable setup ls regs w)) (sym same)
+    (of old.device.lines durable))
+  where
+    of : (o : Option (List Line)) → MatchOption o ⊥ (λ ls. IsDurable setup ls old.device.regs old.watch) → MatchOption (redone_told old.device.regs.group.items o) ⊥ (λ ls. IsDurable setup ls regs old.watch)
+    of None it = absurd it
+    of (Some ls) it = IsDurable-finished setup ls old.device.regs regs old.watch (finished-emptied old.device.regs regs emptied) it
+
+durable-anchored : (setup : Setup) (rest : Rest) → IsRestDurable setup rest → IsRestAnchored setup rest
+durable-anchored setup rest durable = of rest.device.lines durable
+  where
+    of : (o : Option (List Line)) → MatchOption o ⊥ (λ ls. IsDurable setup ls rest.device.regs rest.watch) → IsRestAnchored setup rest
+    of None it = absurd it
+    of (Some ls) it = it.mendable.anchored
+
+-- over a durable device the slot lines read are the true ones
+slots-true : (setup : Setup) (slots : List Line) (old new : Rest) → IsReadFinished old.device new.device → AreSlotsRead setup.shape slots new.device → IsRestDurable setup old → slots ≡ old.watch.slots
+slots-true setup slots old new finished read durable =
+    of new.device.lines (finished-durable setup old new.device.lines new.device.regs old.watch finished.regs refl finished.lines durable) read.told
+  where
+    of : (o : Option (List Line)) → MatchOption o ⊥ (λ ls. IsDurable setup ls new.device.regs old.watch) → ((i : ℕ) → i < tree_slots setup.shape → Tells o (line_of_slot setup.shape i) (line_at slots i)) → slots ≡ old.watch.slots
+    of None it told = absurd it
+    of (Some ls) it told =
+        let size = it.device_whole.count in
+        let same : slots ≡ slots_read setup.shape ls =
+        lines-equal slots (slots_read setup.shape ls) (read.count ∙ sym (length-slots_read setup.shape ls size))
+        (λ i low.
+        let inside : i < tree_slots setup.shape = omega (arith, low, read.count) in
+        told i inside ∙ sym (line_at-slots_read setup.shape ls i inside)) in
+        same ∙ (slots-sound setup ls new.device.regs old.watch it (ap (λ (r : Regs). r.group.items) finished.regs)).0
+
+-- ---- the ends
+
+pub memory_end : (setup : Setup) (rest : Rest) (count : ℕ) → HasTreeRecovered setup rest rest count count (Err Fail.Memory)
+memory_end setup rest count =
+    record {
+      size = refl;
+      lines = refl;
+      root = refl;
+      group = refl;
+      power = (λ was. was, λ was. was, refl);
+      answered = refl;
+      trusted = λ anchored. anchored;
+      sound = λ durable. durable;
+      places = λ anchored. record { seals = λ a inside it. it; slots = λ i inside it. it; nodes = λ x inside it. it };
+    }
+
+-- power was cut, and the group makes the same of the lines
+cut_places : (setup : Setup) (old new : Rest) → rest_redone new ≡ rest_redone old → new.watch ≡ old.watch → KeepsRestPlaces setup old new (Err Fail.Cut)
+cut_places setup old new lines watch =
+    let same = knows_same old.watch new.watch watch in
+    record {
+      seals = λ a inside it. rest-seals setup old new a lines same it;
+      slots = λ i inside it. rest-slots setup old new i lines same it;
+      nodes = λ x inside it. rest-nodes setup old new x lines same it;
+    }
+
+pub finish_cut : (setup : Setup) (old new : Rest) (before after : ℕ) → AreToldLines new.device.size new.device.lines → old.device.size ≡ tree_size setup.shape → IsInterrupted old.device.regs.group.items old.device new.device → new.watch ≡ old.watch → HasTreeRecovered setup old new before after (Err Fail.Cut)
+finish_cut setup old new before after told its_size cut watch =
+    let lines : rest_redone new ≡ rest_redone old =
+    ap (λ (r : Regs). redone_told r.group.items new.device.lines) cut.regs ∙ cut.again in
+    record {
+      size = cut.size;
+      lines = lines;
+      root = ap (λ (r : Regs). r.root) cut.regs;
+      group = inl (record { regs = cut.regs; writes = cut.writes; latches = cut.latches });
+      power = (cut.unsteady, cut.off, cut.rose);
+      answered = watch;
+      trusted =
+          λ anchored.
+          subst (λ (r : Regs). IsAnchored setup r new.watch) (sym cut.regs) (subst (IsAnchored setup old.device.regs) (sym watch) anchored);
+      sound =
+          λ durable.
+          subst (λ (r : Regs). MatchOption new.device.lines ⊥ (λ ls. IsDurable setup ls r new.watch)) (sym cut.regs)
+          (subst (λ (w : WatchState). MatchOption new.device.lines ⊥ (λ ls. IsDurable setup ls old.device.regs w)) (sym watch)
+          (of old.device.lines new.device.lines durable cut.again told));
+      places = λ anchored. cut_places setup old new lines watch;
+    }
+  where
+    of : (before_lines after_lines : Option (List Line)) → MatchOption before_lines ⊥ (λ ls. IsDurable setup ls old.device.regs old.watch) → redone_told old.device.regs.group.items after_lines ≡ redone_told old.device.regs.group.items before_lines → AreToldLines new.device.size after_lines
+        → MatchOption after_lines ⊥ (λ ls. IsDurable setup ls old.device.regs old.watch)
+    of None after_lines it again whole = absurd it
+    of (Some ls) None it again whole = absurd cc
+    of (Some ls) (Some now) it again whole =
+        IsDurable-again setup ls now old.device.regs old.watch
+        (subst (λ n. Rattle.board.specs.Device.AreLinesOf n now) (cut.size ∙ its_size) whole)
+        (same_Some (redone old.device.regs.group.items now) (redone old.device.regs.group.items ls) again) it
+
+pub read_cut : (setup : Setup) (old : Rest) (mid : Device) (new : Rest) (before after : ℕ) → HasFinished old.device mid → IsCutReading mid new.device → new.watch ≡ old.watch → HasTreeRecovered setup old new before after (Err Fail.Cut)
+read_cut setup old mid new before after finished cut watch =
+    let regs : new.device.regs ≡ without_group old.device.regs = cut.cut.regs ∙ (cut.regs ∙ finished.regs) in
+    let told : new.device.lines ≡ redone_told old.device.regs.group.items old.device.lines = cut.cut.lines ∙ (cut.lines ∙ finished.lines) in
+    let lines = finished-redone old new regs told in
+    record {
+      size = cut.cut.size ∙ (cut.size ∙ finished.size);
+      lines = lines;
+      root = ap (λ (r : Regs). r.root) regs;
+      group =
+          inr (record {
+            regs = regs;
+            writes = subst (λ n. RisesBy (length old.device.regs.group.items) old.device.writes n) (sym (cut.cut.writes ∙ cut.writes)) finished.writes;
+            latches =
+                subst (λ n. RisesBy (Rattle.commit_regs.specs.Groups.finishing_latches old.device.regs.group.items) old.device.latches n)
+                (sym (cut.cut.latches ∙ cut.latches)) finished.latches;
+          });
+      power = (
+        still-steady old.device.steady cut.between.steady (λ was. cut.steady (finished.steady was)) cut.cut.unsteady,
+        cut.cut.off,
+        subst (λ n. HasRisen n new.device.cuts) (cut.cuts ∙ finished.cuts) cut.cut.rose,
+      );
+      answered = watch;
+      trusted = λ anchored. finished-anchored setup old new.device.regs new.watch regs watch anchored;
+      sound = λ durable. finished-durable setup old new.device.lines new.device.regs new.watch regs watch told durable;
+      places = λ anchored. cut_places setup old new lines watch;
+    }
+
+pub refused_end : (setup : Setup) (kept found : List ℕ) (slots : List Line) (old new : Rest) (before after : ℕ) → IsReadFinished old.device new.device → AreSlotsRead setup.shape slots new.device
+    → kept ≡ new.device.regs.root → found ≡ shadow_root setup.shape setup.formulas slots → kept ≢ found → new.watch ≡ old.watch → HasTreeRecovered setup old new before after (Err (Fail.Shadow kept found))
+refused_end setup kept found slots old new before after finished read is_kept is_found differ watch =
+    let lines = finished-redone old new finished.regs finished.lines in
+    let root : new.device.regs.root ≡ old.device.regs.root = ap (λ (r : Regs). r.root) finished.regs in
+    let same = knows_same old.watch new.watch watch in
+    record {
+      size = finished.size;
+      lines = lines;
+      root = root;
+      group = finished.group;
+      power = finished.power;
+      answered = (
+        (record { slots = slots; read = read; register = is_kept ∙ root; root = is_found; differ = differ }),
+        watch,
+      );
+      trusted = λ anchored. finished-anchored setup old new.device.regs new.watch finished.regs watch anchored;
+      sound =
+          λ durable.
+          differ (is_kept ∙ (root ∙ ((durable-anchored setup old durable).root
+          ∙ (ap (shadow_root setup.shape setup.formulas) (sym (slots-true setup slots old new finished read durable)) ∙ sym is_found))));
+      places =
+          λ anchored.
+          record {
+            seals = λ a inside it. rest-seals setup old new a lines same it;
+            slots = λ i inside it. rest-slots setup old new i lines same it;
+            nodes = λ x inside it. rest-nodes setup old new x lines same it;
+          };
+    }
+
+pub shown_end : (setup : Setup) (slots : List Line) (at : Exhibit) (old new : Rest) (before after : ℕ) → IsShape setup.shape → AreInRange setup.formulas → IsReadFinished old.device new.device → AreSlotsRead setup.shape slots new.device
+    → shadow_root setup.shape setup.formulas slots ≡ new.device.regs.root → slots ≢ old.watch.slots → IsSlotClash old.watch slots at → HasShown old.watch new.watch at → HasTreeRecovered setup old new before after (Err Fail.Shown)
+shown_end setup slots at old new before after shape in_range finished read is_root other clash seen =
+    let lines = finished-redone old new finished.regs finished.lines in
+    let root : new.device.regs.root ≡ old.device.regs.root = ap (λ (r : Regs). r.root) finished.regs in
+    let same : KnowsSame old.watch new.watch = record { seals = seen.seals; nodes = seen.nodes; slots = seen.slots } in
+    record {
+      size = finished.size;
+      lines = lines;
+      root = root;
+      group = finished.group;
+      power = finished.power;
+      answered = record { slots = slots; read = read; root = is_root ∙ root; other = other; place = (at, clash, seen) };
+      trusted =
+          λ anchored.
+          subst (λ (o : Option Exhibit). IfSome o (IsExhibit setup.formulas)) (sym (seen.exhibit ∙ first-none old.watch.exhibit at anchored.no_exhibit))
+          (clash-holds setup old.device.regs old.watch slots at shape in_range anchored read.count read.whole (is_root ∙ root) clash);
+      sound = λ durable. other (slots-true setup slots old new finished read durable);
+      places =
+          λ anchored.
+          record {
+            seals = λ a inside it. rest-seals setup old new a lines same it;
+            slots = λ i inside it. rest-slots setup old new i lines same it;
+            nodes = λ x inside it. rest-nodes setup old new x lines same it;
+          };
+    }
+
+-- ---- an engine is made
+
+pub recovered_end : (setup : Setup) (slots : List Line) (engine : TreeState) (work : Work) (old new : Rest) (before after : ℕ) → IsShape setup.shape → IsReadFinished old.device new.device → AreSlotsRead setup.shape slots new.device
+    → shadow_root setup.shape setup.formulas slots ≡ new.device.regs.root → slots ≡ old.watch.slots → new.watch ≡ old.watch → IsTreeWork setup.shape work before after → (IsRestAnchored setup old → IsRecovered setup slots engine)
+    → HasTreeRecovered setup old new before after (Ok (engine, work))
+recovered_end setup slots engine work old new before after shape finished read is_root is_true watch worked made =
+    let lines = finished-redone old new finished.regs finished.lines in
+    let root : new.device.regs.root ≡ old.device.regs.root = ap (λ (r : Regs). r.root) finished.regs in
+    let same = knows_same old.watch new.watch watch in
+    let none : new.device.regs.group.items ≡ [] = ap (λ (r : Regs). r.group.items) finished.regs in
+    let is_made : IsRestAnchored setup old → IsRecovered setup new.watch.slots engine =
+    λ anchored. subst (λ (ls : List Line). IsRecovered setup ls engine) (is_true ∙ ap (λ (w : WatchState). w.slots) (sym watch)) (made anchored) in
+    record {
+      size = finished.size;
+      lines = lines;
+      root = root;
+      group = finished.group;
+      power = finished.power;
+      answered = (
+        (record { slots = slots; read = read; root = is_root ∙ root; true_slots = is_true; same = watch }),
+        worked,
+      );
+      trusted =
+          λ anchored.
+          IsTrusted-recovered setup engine new.device.regs new.watch shape
+          (finished-anchored setup old new.device.regs new.watch finished.regs watch anchored) none (is_made anchored);
+      sound =
+          λ durable.
+          sound_of new.device.lines
+          (finished-durable setup old new.device.lines new.device.regs new.watch finished.regs watch finished.lines durable)
+          (is_made (durable-anchored setup old durable));
+      places =
+          λ anchored.
+          record {
+            seals = λ a inside it. rest-seals setup old new a lines same it;
+            slots = λ i inside it. rest-slots setup old new i lines same it;
+            nodes =
+                λ x inside it.
+                some_map (λ ls. IsNodeHeld setup ls new.watch x) (λ ls. IsNodeHeldBy setup engine ls new.watch x) (rest_redone new)
+                (λ ls held.
+                recovered-place setup engine ls new.device.regs new.watch x shape
+                (finished-anchored setup old new.device.regs new.watch finished.regs watch anchored) (is_made anchored) inside held)
+                (rest-nodes setup old new x lines same it);
+          };
+    }
+  where
+    sound_of : (o : Option (List Line)) → MatchOption o ⊥ (λ ls. IsDurable setup ls new.device.regs new.watch) → IsRecovered setup new.watch.slots engine → MatchOption o ⊥ (λ ls. IsSound setup engine ls new.device.regs new.watch)
+    sound_of None it is = absurd it
+    sound_of (Some ls) it is =
+        let empty : new.device.regs.group.items ≡ [] = ap (λ (r : Regs). r.group.items) finished.regs in
+        IsSound-recovered setup engine ls new.device.regs new.watch shape it empty
+        (subst (λ (k : List Line). IsRecovered setup k engine) (sym (slots-sound setup ls new.device.regs new.watch it empty).0) is)
+
+-- ---- the code's parts
+
+-- the slot lines read are those of the device as it is left
+pub slots-read : (g : Shape) (slots : List Line) (mid new : Device) → length slots ≡ tree_slots g → All IsLine slots → ((i : ℕ) → i < tree_slots g → Tells mid.lines (line_of_slot g i) (line_at slots i)) → HasOnlyRead mid new → AreSlotsRead g slots new
+slots-read g slots mid new count whole told read =
+    record {
+      count = count;
+      whole = whole;
+      told = λ i inside. subst (λ (o : Option (List Line)). Tells o (line_of_slot g i) (line_at slots i)) (sym read.lines) (told i inside);
+    }
+
+pub root-is : (g : Shape) (f : Formulas) (h : ℕ) (slots : List Line) (found : List ℕ) → h ≡ shadow_height g → found ≡ root_of f h slots → found ≡ shadow_root g f slots
+unfolding shadow_root
+root-is g f h slots found height is = is ∙ ap (λ n. root_of f n slots) height
+
+-- the filled memory makes an engine
+pub filled-engine : (setup : Setup) (old new : Rest) (before after : ℕ) (cache : List (Option CachedNode)) (tree : ChipTree) → IsRoomFilled setup old new before after cache tree → IsTreeEngine (record { shape = setup.shape; cache = cache; tree = tree; down = false })
+filled-engine setup old new before after cache tree it =
+    record { slot_count = it.count; each_held = it.each_held; tree_whole = it.tree_whole; tree_height = it.tree_height }
+
+pub filled-recovered : (setup : Setup) (old new : Rest) (before after : ℕ) (cache : List (Option CachedNode)) (tree : ChipTree) → IsShape setup.shape → IsRoomFilled setup old new before after cache tree → IsRestAnchored setup old → IsRecovered setup old.watch.slots (record { shape = setup.shape; cache = cache; tree = tree; down = false })
+filled-recovered setup old new before after cache tree shape it anchored =
+    record {
+      shape = refl;
+      down = refl;
+      count = it.count ∙ sym anchored.of_setup.slot_count;
+      cache =
+          λ i low.
+          let inside : i < tree_slots setup.shape = omega (arith, low, anchored.of_setup.slot_count) in
+          it.named i inside (true-nameable setup old.device.regs old.watch i shape anchored inside);
+      tree = it.over;
+    }
+
+pub filled-end : (setup : Setup) (old new : Rest) (before after : ℕ) (cache : List (Option CachedNode)) (tree : ChipTree) (work : Work) → IsShape setup.shape → IsRoomFilled setup old new before after cache tree → work.trials ≡ 0 → work.digests ≡ shadow_digests setup.shape
+    → HasTreeRecovered setup old new before after (Ok (record { shape = setup.shape; cache = cache; tree = tree; down = false }, work))
+filled-end setup old new before after cache tree work shape it trials digests =
+    let slots = it.accepted.slots in
+    let root : new.device.regs.root ≡ old.device.regs.root = ap (λ (r : Regs). r.root) it.finished.regs in
+    recovered_end setup it.accepted.slots (record { shape = setup.shape; cache = cache; tree = tree; down = false }) work old new before after shape it.finished it.accepted.read
+    (it.accepted.root ∙ sym root) it.accepted.true_slots it.accepted.same
+    (record { trials = trials; digests = digests; counted = it.counted ∙ ap (λ n. risen_times n before) (sym digests) })
+    (λ anchored.
+    subst (λ (ls : List Line). IsRecovered setup ls (record { shape = setup.shape; cache = cache; tree = tree; down = false })) (sym it.accepted.true_slots)
+    (filled-recovered setup old new before after cache tree shape it anchored))
+
+-- a list that was written whole through a slice
+pub written-whole : {X : Type 0} (n : ℕ) (new old : List X) → length new ≡ length old → n ≡ length old → take n (new ++ drop (length new) old) ≡ new
+written-whole n new old count long =
+    let rest : drop (length new) old ≡ [] = drop_all (length new) old (omega (arith, count)) in
+    ap (λ xs. take n (new ++ xs)) rest ∙ (ap (take n) (append-nil new) ∙ take_all n new (omega (arith, count, long)))

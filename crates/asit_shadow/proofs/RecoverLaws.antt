@@ -1,0 +1,154 @@
+-- Recovery: with the right root the slot lines are the true ones or show a clash, and the true ones make
+-- a trusted engine, which over a durable device is sound.
+use Rattle.std.proofs.Common.{ℕ, suc, ◌≡◌, ◌<◌, ◌+◌, ◌-◌, List, [], ◌∷◌, length, drop, true, Some, None, refl, sym, ap, subst, inl, inr, ◌∙◌, arith}
+use Rattle.std.specs.Prelude.{All}
+use Rattle.std.proofs.lemmas.Bool.{cases_lt}
+use Rattle.std.proofs.lemmas.List.{get_or_past, get_or-take, get_or-drop, length-drop, length-take-le}
+use Rattle.std.proofs.lemmas.Option.{same_Some, none-some}
+use Rattle.pmem_base.specs.declared.lines.Line.{Line}
+use Rattle.pmem_base.specs.declared.registers.Regs.{Regs}
+use Rattle.pmem_base.specs.declared.answers.Exhibit.{Exhibit}
+use Rattle.pmem_base.specs.Lines.{IsLine, line_at, zero_line}
+use Rattle.pmem_base.specs.Shape.{Shape, IsShape}
+use Rattle.pmem_base.specs.Layout.{meta_lines}
+use Rattle.suite.specs.Formulas.{AreInRange}
+use Rattle.suite.specs.Setup.{Setup}
+use Rattle.collision_witness.specs.Exhibits.{IsExhibit}
+use Rattle.commit_regs.specs.Groups.{redone}
+use Rattle.counter_tree.specs.Layout.{tree_slots, tree_size, line_of_slot}
+use Rattle.counter_tree.specs.Trees.{node_at}
+use Rattle.counter_tree.specs.Slots.{slot_of, slot_read}
+use Rattle.counter_tree.specs.Shadow.{shadow_root, shadow_height, shadow_line}
+use Rattle.counter_tree.specs.Watch.{WatchState, IsSlotClash}
+use Rattle.counter_tree.proofs.ShadowLaws.{shadow_clash, shadow_height-room}
+use Rattle.counter_tree.proofs.SlotLaws.{slot_read-slot_line, slot_read-zero}
+use Rattle.counter_tree.proofs.TreeLaws.{tree-IsNode}
+use Rattle.counter_tree.proofs.Positions.{meta_lines-most}
+use Rattle.asit_shadow.specs.State.{TreeState}
+use Rattle.asit_shadow.specs.declared.cache.CachedNode.{CachedNode}
+use Rattle.asit_shadow.specs.Invariants.{NamesTrueNode, IsAnchored, IsTrueCached, IsTrusted, IsMendable, IsDurable, IsSound}
+use Rattle.asit_shadow.specs.Steps.{held_of, IsRecovered, slots_read}
+use Rattle.asit_shadow.proofs.SlotPlaces.{slot_of-inside}
+
+-- ---- lists of lines
+
+pub lines-equal : (a b : List Line) → length a ≡ length b → ((i : ℕ) → i < length a → line_at a i ≡ line_at b i) → a ≡ b
+lines-equal [] [] same each = refl
+lines-equal [] (y ∷ b) same each = absurd (omega (arith, same))
+lines-equal (x ∷ a) [] same each = absurd (omega (arith, same))
+lines-equal (x ∷ a) (y ∷ b) same each =
+    let first : x ≡ y = each 0 (omega arith) in
+    let rest : a ≡ b = lines-equal a b (omega (arith, same)) (λ i low. each (suc i) (omega (arith, low))) in
+    cc
+
+pub length-slots_read : (g : Shape) (lines : List Line) → length lines ≡ tree_size g → length (slots_read g lines) ≡ tree_slots g
+length-slots_read g lines size =
+    let count : tree_size g - line_of_slot g 0 ≡ tree_slots g = omega arith in
+    length-take-le (tree_size g - line_of_slot g 0) (drop (line_of_slot g 0) lines) (omega (arith, length-drop (line_of_slot g 0) lines, size, count)) ∙ count
+
+pub line_at-slots_read : (g : Shape) (lines : List Line) (i : ℕ) → i < tree_slots g → line_at (slots_read g lines) i ≡ line_at lines (line_of_slot g i)
+line_at-slots_read g lines i inside =
+    let place : line_of_slot g 0 + i ≡ line_of_slot g i = omega arith in
+    get_or-take (tree_size g - line_of_slot g 0) (drop (line_of_slot g 0) lines) i zero_line (omega (arith, inside))
+    ∙ (get_or-drop (line_of_slot g 0) lines i zero_line ∙ ap (line_at lines) place)
+
+-- ---- any board
+
+-- the law: slot lines under the register's root that aren't the true ones show a clash that holds
+pub clash-holds : (setup : Setup) (regs : Regs) (watch : WatchState) (slots : List Line) (shown : Exhibit) → IsShape setup.shape → AreInRange setup.formulas → IsAnchored setup regs watch → length slots ≡ tree_slots setup.shape → All IsLine slots → shadow_root setup.shape setup.formulas slots ≡ regs.root → IsSlotClash watch slots shown → IsExhibit setup.formulas shown
+unfolding shadow_root
+clash-holds setup regs watch slots shown shape in_range anchored size whole root clash =
+    let h = shadow_height setup.shape in
+    let same = anchored.of_setup.its_setup in
+    let place = subst (λ (s : Setup). Rattle.counter_tree.specs.Shadow.IsShadowDifference s.formulas (shadow_height s.shape) slots watch.slots clash.slot clash.height clash.position) same clash.place in
+    let its = subst (λ (s : Setup). shown ≡ Rattle.pmem_base.specs.declared.answers.Exhibit.TheVariants.Clash clash.position (shadow_line s.formulas (shadow_height s.shape) slots clash.height clash.position) (shadow_line s.formulas (shadow_height s.shape) watch.slots clash.height clash.position)) same clash.its in
+    let digest = shadow_clash setup.formulas (shadow_height setup.shape) slots watch.slots clash.slot clash.height clash.position in_range whole anchored.of_setup.whole_slots
+    (omega (arith, size, shadow_height-room setup.shape shape)) (root ∙ anchored.root) place in
+    subst (IsExhibit setup.formulas) (sym its) (record { differ = place.differ; one_digest = digest })
+
+-- what a true slot line gives
+pub slot-named : (setup : Setup) (regs : Regs) (watch : WatchState) (i : ℕ) → IsShape setup.shape → IsAnchored setup regs watch → (names : NamesTrueNode setup.shape watch i) → held_of (slot_read (line_at watch.slots i)) ≡ Some (record { x = names.x; node = node_at watch.nodes names.x; dirty = true })
+slot-named setup regs watch i shape anchored names =
+    let most = meta_lines-most setup.shape shape.at_most_six_levels in
+    ap held_of (ap slot_read names.line ∙ slot_read-slot_line names.x (node_at watch.nodes names.x) (omega (arith, most, names.on_tree)) (tree-IsNode setup.shape watch.nodes names.x anchored.tree names.on_tree))
+
+-- the law: the true slot lines make a trusted engine
+pub IsTrusted-recovered : (setup : Setup) (engine : TreeState) (regs : Regs) (watch : WatchState) → IsShape setup.shape → IsAnchored setup regs watch → regs.group.items ≡ [] → IsRecovered setup watch.slots engine → IsTrusted setup engine regs watch
+IsTrusted-recovered setup engine regs watch shape anchored no_group recovered =
+    let count = recovered.count ∙ anchored.of_setup.slot_count in
+    let top : NamesTrueNode setup.shape watch 0 = record { x = 0; on_tree = top_inside setup.shape shape; its_slot = refl; line = anchored.top_named } in
+    record {
+      its_shape = recovered.shape;
+      anchored = anchored;
+      no_group = no_group;
+      not_down = recovered.down;
+      slot_count = count;
+      cached_true =
+          λ i held here.
+          elim (cases_lt i (tree_slots setup.shape)) [
+            | inr past ↦ absurd (none-some held (sym (get_or_past engine.cache i None (omega (arith, past, count))) ∙ here))
+            | inl inside ↦
+                let is = recovered.cache i (omega (arith, inside, anchored.of_setup.slot_count)) in
+                elim (anchored.slots i inside) [
+                  | inl zeros ↦ absurd (none-some held (sym (ap held_of (ap slot_read zeros ∙ slot_read-zero)) ∙ (sym is ∙ here)))
+                  | inr names ↦
+                      let named : CachedNode = record { x = names.x; node = node_at watch.nodes names.x; dirty = true } in
+                      let one : named ≡ held = same_Some named held (sym (slot-named setup regs watch i shape anchored names) ∙ (sym is ∙ here)) in
+                      subst (IsTrueCached setup.shape watch i) one
+                      (let it : IsTrueCached setup.shape watch i named =
+                      record { on_tree = names.on_tree; its_slot = names.its_slot; true_node = refl; named = λ _. names.line } in
+                      it)
+                ]
+          ];
+      top_cached =
+          record {
+            held = record { x = 0; node = node_at watch.nodes 0; dirty = true };
+            stands = recovered.cache 0 (omega (arith, anchored.of_setup.slot_count)) ∙ slot-named setup regs watch 0 shape anchored top;
+            position = refl;
+          };
+      tree_true = recovered.tree;
+    }
+  where
+    top_inside : (g : Shape) → IsShape g → 0 < meta_lines g
+    top_inside g shape = omega (arith, Rattle.bonsai_tree.proofs.Levels.meta_lines-level g, Rattle.bonsai_tree.proofs.Levels.level_start-suc g.levels)
+
+-- ---- an untampered board, the group being redone
+
+-- the law: the slot lines read are the true ones, so their root is the register's
+pub slots-sound : (setup : Setup) (lines : List Line) (regs : Regs) (watch : WatchState) → IsDurable setup lines regs watch → regs.group.items ≡ [] → (slots_read setup.shape lines ≡ watch.slots) × (shadow_root setup.shape setup.formulas (slots_read setup.shape lines) ≡ regs.root)
+slots-sound setup lines regs watch durable no_group =
+    let before : IsMendable setup lines regs watch = subst (λ group. IsMendable setup (redone group lines) regs watch) no_group durable.mendable in
+    let count = length-slots_read setup.shape lines durable.device_whole.count in
+    let anchored = before.anchored in
+    let same : slots_read setup.shape lines ≡ watch.slots =
+    lines-equal (slots_read setup.shape lines) watch.slots (count ∙ sym anchored.of_setup.slot_count)
+    (λ i low.
+    let inside : i < tree_slots setup.shape = omega (arith, low, count) in
+    line_at-slots_read setup.shape lines i inside ∙ before.slots_stored i inside) in
+    (same, ap (shadow_root setup.shape setup.formulas) same ∙ sym anchored.root)
+
+-- the law: the recovered engine is sound
+pub IsSound-recovered : (setup : Setup) (engine : TreeState) (lines : List Line) (regs : Regs) (watch : WatchState) → IsShape setup.shape → IsDurable setup lines regs watch → regs.group.items ≡ [] → IsRecovered setup (slots_read setup.shape lines) engine → IsSound setup engine lines regs watch
+IsSound-recovered setup engine lines regs watch shape durable no_group recovered =
+    let before : IsMendable setup lines regs watch = subst (λ group. IsMendable setup (redone group lines) regs watch) no_group durable.mendable in
+    let same = (slots-sound setup lines regs watch durable no_group).0 in
+    let moved : IsRecovered setup watch.slots engine = subst (λ slots. IsRecovered setup slots engine) same recovered in
+    let anchored = before.anchored in
+    record {
+      trusted = IsTrusted-recovered setup engine regs watch shape anchored no_group moved;
+      durable = durable;
+      true_or_dirty =
+          λ x in_x.
+          elim (before.true_or_named x in_x) [
+            | inl stored ↦ inl stored
+            | inr line ↦
+                let inside = slot_of-inside setup.shape x shape in_x in
+                let names : NamesTrueNode setup.shape watch (slot_of setup.shape x) = record { x = x; on_tree = in_x; its_slot = refl; line = line } in
+                inr (record {
+                  held = record { x = x; node = node_at watch.nodes x; dirty = true };
+                  stands = moved.cache (slot_of setup.shape x) (omega (arith, inside, anchored.of_setup.slot_count)) ∙ slot-named setup regs watch (slot_of setup.shape x) shape anchored names;
+                  position = refl;
+                  dirty = refl;
+                })
+          ];
+    }

@@ -1,0 +1,122 @@
+-- Which slot a node has.
+use Rattle.std.proofs.Common.{ℕ, suc, ◌≡◌, ◌≢◌, ◌<◌, ◌≤◌, ◌+◌, ◌-◌, ◌*◌, ◌/◌, ◌%◌, ◌^◌, List, [], ◌∷◌, Bool, true, refl, sym, ap, subst, inl, inr, ◌∙◌, arith}
+use Rattle.std.specs.Prelude.{◌==◌, ◌||◌, slice_index}
+use Rattle.std.specs.List.{list_any}
+use Rattle.std.proofs.lemmas.Bool.{cases_Bool, cases_eq, cond-false, ne_eqb, eq-eqb, eqb-true, or_left, or_right}
+use Rattle.std.proofs.lemmas.Nat.{div-mul-add, mod_below}
+use Rattle.std.proofs.Math.Nat.{mul-le-mul_right, pow-suc}
+use Rattle.pmem_base.specs.Shape.{Shape, IsShape}
+use Rattle.pmem_base.specs.Layout.{pages, meta_lines, level_start}
+use Rattle.bonsai_tree.specs.Positions.{level_of, path_of, is_on_path}
+use Rattle.bonsai_tree.proofs.Levels.{level_of-IsAtLevel, level_of-le, level_start-le, meta_lines-level}
+use Rattle.bonsai_tree.proofs.PathPositions.{path_position-IsAtLevel, on_path-position, on_path-level, path_position-top, path_position-on_path}
+use Rattle.counter_tree.specs.Layout.{tree_lines, tree_slots}
+use Rattle.counter_tree.specs.Trees.{is_on_line_path}
+use Rattle.counter_tree.specs.Slots.{slot_of}
+use Rattle.asit_shadow.specs.Paths.{line_path, is_path_slot}
+
+pub slot_of-below : (g : Shape) (x : ℕ) → x ≢ 0 → slot_of g x ≡ 1 + (level_of x - 1) * g.sets + x % g.sets
+slot_of-below g x low = cond-false (x == 0) 0 (1 + (level_of x - 1) * g.sets + x % g.sets) (ne_eqb x 0 low)
+
+pub level_of-low : (g : Shape) (x : ℕ) → IsShape g → x < meta_lines g → x ≢ 0 → 1 ≤ level_of x
+level_of-low g x shape inside low =
+    elim (cases_eq (level_of x) 0) [
+      | inl top ↦
+          let at = level_of-IsAtLevel g x shape.at_most_six_levels inside in
+          let below : x < level_start 1 = subst (λ n. x < level_start (suc n)) top at.below in
+          absurd (low (omega (arith, below)))
+      | inr other ↦ omega (arith, other)
+    ]
+
+pub slot_of-inside : (g : Shape) (x : ℕ) → IsShape g → x < meta_lines g → slot_of g x < tree_slots g
+slot_of-inside g x shape inside =
+    elim (cases_eq x 0) [
+      | inl top ↦ subst (λ z. slot_of g z < tree_slots g) (sym top) (omega arith)
+      | inr low ↦
+          let level = level_of-le g x shape.at_most_six_levels inside in
+          let some = level_of-low g x shape inside low in
+          let small = mod_below x g.sets (omega (arith, shape.at_least_one_set)) in
+          let most : (level_of x - 1 + 1) * g.sets ≤ g.levels * g.sets = mul-le-mul_right g.sets (omega (arith, level, some)) in
+          let split : (level_of x - 1 + 1) * g.sets ≡ (level_of x - 1) * g.sets + g.sets = omega arith in
+          subst (λ n. n < tree_slots g) (sym (slot_of-below g x low)) (omega (arith, most, split, small))
+    ]
+
+-- nodes of one slot are of one level
+pub slot_of-level : (g : Shape) (x y : ℕ) → IsShape g → x < meta_lines g → y < meta_lines g → slot_of g x ≡ slot_of g y → level_of x ≡ level_of y
+slot_of-level g x y shape in_x in_y same =
+    elim (cases_eq x 0) [
+      | inl top ↦ elim (cases_eq y 0) [
+        | inl also ↦ ap level_of (top ∙ sym also)
+        | inr low ↦ absurd (omega (arith, slot_of-below g y low, sym (ap (slot_of g) top) ∙ same))
+      ]
+      | inr low ↦ elim (cases_eq y 0) [
+        | inl top ↦ absurd (omega (arith, slot_of-below g x low, same ∙ ap (slot_of g) top))
+        | inr also ↦
+            let a = slot_of-below g x low in
+            let b = slot_of-below g y also in
+            let rows : (level_of x - 1) * g.sets + x % g.sets ≡ (level_of y - 1) * g.sets + y % g.sets = omega (arith, a, b, same) in
+            let one = div-mul-add (level_of x - 1) g.sets (x % g.sets) (mod_below x g.sets (omega (arith, shape.at_least_one_set))) in
+            let two = div-mul-add (level_of y - 1) g.sets (y % g.sets) (mod_below y g.sets (omega (arith, shape.at_least_one_set))) in
+            let row : level_of x - 1 ≡ level_of y - 1 = sym one ∙ (ap (λ n. n / g.sets) rows ∙ two) in
+            omega (arith, row, level_of-low g x shape in_x low, level_of-low g y shape in_y also)
+      ]
+    ]
+
+-- ---- the nodes of a path
+
+pub page_of_line : (g : Shape) (a : ℕ) → a < tree_lines g → a / 4 < pages g
+page_of_line g a inside = omega (arith, inside, pow-suc 4 g.levels, more)
+  where
+    more : 4 ^ (g.levels + 1) ≡ 4 ^ suc g.levels
+    more = ap (λ n. 4 ^ n) (omega arith)
+
+pub on_path-inside : (g : Shape) (a x : ℕ) → a < tree_lines g → is_on_line_path g a x ≡ true → x < meta_lines g
+on_path-inside g a x inside on =
+    let found = on_path-position g (a / 4) x on in
+    let at = path_position-IsAtLevel g (a / 4) found.0 (page_of_line g a inside) found.1 in
+    let deep = level_start-le (suc found.0) (suc g.levels) (omega (arith, found.1)) in
+    omega (arith, at.below, deep, meta_lines-level g, found.2)
+
+pub path_slots-apart : (g : Shape) (a x y : ℕ) → IsShape g → a < tree_lines g → is_on_line_path g a x ≡ true → is_on_line_path g a y ≡ true → slot_of g x ≡ slot_of g y → x ≡ y
+path_slots-apart g a x y shape inside on_x on_y same =
+    let page = page_of_line g a inside in
+    let level = slot_of-level g x y shape (on_path-inside g a x inside on_x) (on_path-inside g a y inside on_y) same in
+    let its_x = on_path-level g (a / 4) x shape.at_most_six_levels page on_x in
+    let its_y = on_path-level g (a / 4) y shape.at_most_six_levels page on_y in
+    sym its_x.1 ∙ (ap (slice_index (path_of g (a / 4))) level ∙ its_y.1)
+
+pub top_on_path : (g : Shape) (a : ℕ) → a < tree_lines g → is_on_line_path g a 0 ≡ true
+top_on_path g a inside =
+    subst (λ z. is_on_path g (a / 4) z ≡ true) (path_position-top g (a / 4) (page_of_line g a inside))
+    (path_position-on_path g (a / 4) 0 (omega arith))
+
+-- ---- whether a slot is one of a path's
+
+-- a number that passes is in the list
+pub any_from : (q : ℕ → Bool) (xs : List ℕ) → list_any q xs ≡ true → (x : ℕ) × (list_any (λ z. z == x) xs ≡ true) × (q x ≡ true)
+any_from q [] any = absurd cc
+any_from q (y ∷ ys) any =
+    elim (cases_Bool (q y)) [
+      | inl here ↦ (y, or_left (y == y) (list_any (λ z. z == y) ys) (eq-eqb y y refl), here)
+      | inr not ↦
+          let rest : list_any q ys ≡ true = sym (ap (λ b. b || list_any q ys) not) ∙ any in
+          let found = any_from q ys rest in
+          (found.0, or_right (y == found.0) (list_any (λ z. z == found.0) ys) found.1, found.2)
+    ]
+
+-- and a number of the list that passes makes some pass
+pub any_of : (q : ℕ → Bool) (xs : List ℕ) (x : ℕ) → list_any (λ z. z == x) xs ≡ true → q x ≡ true → list_any q xs ≡ true
+any_of q [] x here fits = absurd cc
+any_of q (y ∷ ys) x here fits =
+    elim (cases_Bool (y == x)) [
+      | inl same ↦ or_left (q y) (list_any q ys) (ap q (eqb-true y x same) ∙ fits)
+      | inr other ↦ or_right (q y) (list_any q ys) (any_of q ys x (sym (ap (λ b. b || list_any (λ z. z == x) ys) other) ∙ here) fits)
+    ]
+
+pub path_slot-of : (g : Shape) (a x : ℕ) → is_on_line_path g a x ≡ true → is_path_slot g a (slot_of g x) ≡ true
+path_slot-of g a x on = any_of (λ z. slot_of g z == slot_of g x) (line_path g a) x on (eq-eqb (slot_of g x) (slot_of g x) refl)
+
+pub path_slot-from : (g : Shape) (a i : ℕ) → is_path_slot g a i ≡ true → (x : ℕ) × (is_on_line_path g a x ≡ true) × (slot_of g x ≡ i)
+path_slot-from g a i it =
+    let found = any_from (λ z. slot_of g z == i) (line_path g a) it in
+    (found.0, found.1, eqb-true (slot_of g found.0) i found.2)

@@ -1,0 +1,418 @@
+-- A write that was armed: kept at a cut, or done.
+use Rattle.std.proofs.Common.{ℕ, ◌≡◌, ◌≢◌, ◌<◌, ◌≤◌, ◌+◌, ◌-◌, ◌^◌, List, [], ◌∷◌, length, true, Some, None, refl, sym, ap, subst, inl, inr, ◌∙◌, arith}
+use Rattle.std.specs.Prelude.{Option, Ok, Err, IfSome, IsSome, slice_set, slice_index_or}
+use Rattle.std.proofs.lemmas.Bool.{cases_eq, true≢false, false_from_ne_true}
+use Rattle.std.proofs.lemmas.List.{length-set, length-map, get_or-set_same, get_or-set_other}
+use Rattle.pmem_base.specs.declared.lines.Line.{Line}
+use Rattle.pmem_base.specs.declared.registers.Regs.{Regs}
+use Rattle.pmem_base.specs.Counts.{HasRisen}
+use Rattle.pmem_base.specs.Lines.{line_at}
+use Rattle.pmem_base.specs.Registers.{IsGroup}
+use Rattle.pmem_base.specs.Shape.{Shape, IsShape}
+use Rattle.pmem_base.proofs.LineSets.{length-put_lines}
+use Rattle.suite.specs.Setup.{Setup}
+use Rattle.board.proofs.CountLemmas.{RisesBy-then}
+use Rattle.board.specs.Counts.{RisesBy}
+use Rattle.board.specs.Device.{Device, AreLinesOf, AreToldLines}
+use Rattle.board.specs.Steps.{HasLatched, Tells}
+use Rattle.commit_regs.specs.Groups.{HasFinished, IsInterrupted, RisesAtMost, redone, redone_told, finishing_latches}
+use Rattle.commit_regs.proofs.GroupLemmas.{redone-nil}
+use Rattle.pmem_engine.proofs.Laws.AnchoredLatches.{IsGroup-nil}
+use Rattle.pmem_engine.specs.Outcomes.{cut_short}
+use Rattle.counter_tree.specs.declared.nodes.Node.{Node}
+use Rattle.counter_tree.specs.declared.watch.LineSeal.{LineSeal}
+use Rattle.counter_tree.specs.Layout.{tree_lines, tree_slots, tree_size, line_of_node, line_of_slot}
+use Rattle.counter_tree.specs.Slots.{slot_of, slot_line}
+use Rattle.counter_tree.specs.Nodes.{total}
+use Rattle.counter_tree.specs.Trees.{node_at}
+use Rattle.counter_tree.specs.Watch.{WatchState}
+use Rattle.asit_shadow.specs.declared.fault.TreeFault.TheVariants as Fail
+use Rattle.asit_shadow.specs.State.{IsTreeEngine}
+use Rattle.asit_shadow.specs.Invariants.{IsAnchored, IsDurable, IsSound, IsSealStored, IsSlotStored}
+use Rattle.asit_shadow.specs.Places.{IsNodeHeld, IsNodeHeldBy}
+use Rattle.asit_shadow.specs.Parts.{Parts, lines_redone, AreTrusted, AreSound, AreToldWith, IsWatchReady, HoldsSeal, HoldsSlot}
+use Rattle.asit_shadow.specs.Steps.{IsArmed, IsEmptied}
+use Rattle.asit_shadow.specs.Calls.{IsPathAccepted, IsUsedUp}
+use Rattle.asit_shadow.specs.Fetching.{IsPathFetched}
+use Rattle.asit_shadow.specs.Writing.{HasWrittenUp, IsWriteMade, IsWriteTold, slot_entries}
+use Rattle.asit_shadow.proofs.ArmLaws.{armed-made, IsAnchored-armed, IsDurable-armed, IsTrusted-written, IsSound-written}
+use Rattle.asit_shadow.proofs.GroupLaws.{IsDurable-again}
+use Rattle.asit_shadow.proofs.PairSets.{length-set_pairs, pairs-count}
+use Rattle.asit_shadow.proofs.SlotPlaces.{on_path-inside}
+use Rattle.asit_shadow.proofs.PlaceLaws.{armed-places, written-place}
+use Rattle.asit_shadow.proofs.ToldLemmas.{told-as, told-match}
+use Rattle.asit_shadow.proofs.Chains.{power-then, told-of}
+use Rattle.asit_shadow.proofs.PathSteps.{same_lines}
+use Rattle.asit_shadow.proofs.ReadEnds.{path-accepted, sound-trusted}
+use Rattle.asit_shadow.proofs.ArmedWrites.{IsArmedAndStored, armed-and_stored}
+use Rattle.asit_shadow.proofs.WriteEnds.{path-cached}
+
+-- ---- lines under an armed group
+
+-- where the group is redone over told lines
+redone-if : (P Q : List Line → Type 0) (n : ℕ) (group : List (ℕ × Line)) (told : Option (List Line)) → AreToldLines n told → ((lines : List Line) → AreLinesOf n lines → P lines → Q (redone group lines)) → IfSome told P → IfSome (redone_told group told) Q
+redone-if P Q n group None whole each was = tt
+redone-if P Q n group (Some lines) whole each was = each lines whole was
+
+any-told : (told : Option (List Line)) → IfSome told (λ lines. Unit {0})
+any-told None = tt
+any-told (Some lines) = tt
+
+-- the lines that a group makes of those before
+pub redone-over : (P Q : List Line → Type 0) (n : ℕ) (group : List (ℕ × Line)) (mid new : Parts) → mid.device.regs.group.items ≡ [] → lines_redone new ≡ redone_told group mid.device.lines → AreToldLines n mid.device.lines → ((lines : List Line) → AreLinesOf n lines → P lines → Q (redone group lines)) → IfSome (lines_redone mid) P → IfSome (lines_redone new) Q
+redone-over P Q n group mid new none made whole each was =
+    subst (λ told. IfSome told Q) (sym made) (redone-if P Q n group mid.device.lines whole each (told-of P mid none was))
+
+pub redone-own : (Q : List Line → Type 0) (n : ℕ) (group : List (ℕ × Line)) (mid new : Parts) → lines_redone new ≡ redone_told group mid.device.lines → AreToldLines n mid.device.lines → ((lines : List Line) → AreLinesOf n lines → Q (redone group lines)) → IfSome (lines_redone new) Q
+redone-own Q n group mid new made whole each =
+    subst (λ told. IfSome told Q) (sym made) (redone-if (λ lines. Unit {0}) Q n group mid.device.lines whole (λ lines are was. each lines are) (any-told mid.device.lines))
+
+told-redone : (n : ℕ) (group : List (ℕ × Line)) (told new : Option (List Line)) → AreToldLines n told → new ≡ redone_told group told → AreToldWith (λ x y. (AreLinesOf n x) × (y ≡ redone group x)) told new
+told-redone n group told new whole same = subst (AreToldWith (λ x y. (AreLinesOf n x) × (y ≡ redone group x)) told) (sym same) (itself told whole)
+  where
+    itself : (told : Option (List Line)) → AreToldLines n told → AreToldWith (λ x y. (AreLinesOf n x) × (y ≡ redone group x)) told (redone_told group told)
+    itself None whole = tt
+    itself (Some lines) whole = (whole, refl)
+
+told-again : (n : ℕ) (group : List (ℕ × Line)) (told new : Option (List Line)) → AreToldLines n new → redone_told group new ≡ redone_told group told → AreToldWith (λ x y. (AreLinesOf n y) × (redone group y ≡ redone group x)) told new
+told-again n group None None whole same = tt
+told-again n group None (Some y) whole same = absurd cc
+told-again n group (Some x) None whole same = absurd cc
+told-again n group (Some x) (Some y) whole same = (whole, cc)
+
+-- a line that the group leaves as it was
+tells-redone : (n : ℕ) (group : List (ℕ × Line)) (told new : Option (List Line)) (place : ℕ) (line : Line) → AreToldLines n told → new ≡ redone_told group told → ((lines : List Line) → AreLinesOf n lines → line_at (redone group lines) place ≡ line_at lines place) → Tells told place line → Tells new place line
+tells-redone n group told new place line whole same kept tells =
+    subst (λ t. Tells t place line) (sym same) (itself told whole tells)
+  where
+    itself : (told : Option (List Line)) → AreToldLines n told → Tells told place line → Tells (redone_told group told) place line
+    itself None whole tells = tt
+    itself (Some lines) whole tells = tells ∙ sym (kept lines whole)
+
+-- ---- what an armed write makes
+
+-- a write over a fetched path, armed by one latch
+pub record IsArmedWrite (setup : Setup) (a : ℕ) (plain : Line) (seal : LineSeal) (pairs : List (ℕ × Node)) (regs : Regs) (old mid new : Parts) (armed : Device) : Type 0 where
+  pub shape : IsShape setup.shape
+  pub inside : a < tree_lines setup.shape
+  pub engine : IsTreeEngine mid.engine
+  pub whole : AreToldLines (tree_size setup.shape) mid.device.lines
+  pub node : Node
+  pub fetched : IsPathFetched setup a old mid node
+  pub unspent : AreTrusted setup old → IsUsedUp old → ⊥
+  pub made : IsWriteMade setup a plain seal pairs regs mid new
+  pub latched : HasLatched mid.device regs armed
+  pub group : IsGroup (tree_size setup.shape) regs.group.items
+
+-- from a trusted chip on it is as the laws ask
+armed-of : (setup : Setup) (a : ℕ) (plain : Line) (seal : LineSeal) (pairs : List (ℕ × Node)) (regs : Regs) (old mid new : Parts) (armed : Device) → IsArmedWrite setup a plain seal pairs regs old mid new armed → AreTrusted setup old → IsArmedAndStored setup a seal regs mid new
+armed-of setup a plain seal pairs regs old mid new armed it trusted =
+    let now = it.fetched.path.effect.trusted trusted in
+    let top : total (node_at mid.watch.nodes 0) < 2 ^ 64 = now.anchored.tree.top in
+    let apart : total (node_at mid.watch.nodes 0) ≢ 2 ^ 64 - 1 =
+    λ e. it.unspent trusted (ap (λ (w : WatchState). total (node_at w.nodes 0)) (sym it.fetched.path.watch) ∙ e) in
+    armed-and_stored setup a plain seal pairs regs mid new it.shape it.inside it.engine now (path-cached setup a old mid it.shape it.inside trusted it.fetched.path) (omega (arith, top, apart)) it.made
+
+seals-over : (setup : Setup) (a : ℕ) (plain : Line) (seal : LineSeal) (pairs : List (ℕ × Node)) (regs : Regs) (old mid new : Parts) (armed : Device) → IsArmedWrite setup a plain seal pairs regs old mid new armed → AreTrusted setup old → lines_redone new ≡ redone_told regs.group.items mid.device.lines
+    → (b : ℕ) → b < tree_lines setup.shape → HoldsSeal setup.shape old b → HoldsSeal setup.shape new b
+seals-over setup a plain seal pairs regs old mid new armed it trusted made b inside was =
+    let now = it.fetched.path.effect.trusted trusted in
+    let its = armed-of setup a plain seal pairs regs old mid new armed it trusted in
+    redone-over (λ lines. IsSealStored setup.shape lines mid.watch b) (λ lines. IsSealStored setup.shape lines new.watch b) (tree_size setup.shape) regs.group.items mid new now.no_group made it.whole
+    (λ lines are. (armed-places setup a seal mid.engine lines mid.device.regs regs mid.watch new.watch it.shape are.count now (path-cached setup a old mid it.shape it.inside trusted it.fetched.path) its.armed).seals b inside)
+    ((it.fetched.path.effect.places trusted).seals b inside was)
+
+slots-over : (setup : Setup) (a : ℕ) (plain : Line) (seal : LineSeal) (pairs : List (ℕ × Node)) (regs : Regs) (old mid new : Parts) (armed : Device) → IsArmedWrite setup a plain seal pairs regs old mid new armed → AreTrusted setup old → lines_redone new ≡ redone_told regs.group.items mid.device.lines
+    → (i : ℕ) → i < tree_slots setup.shape → HoldsSlot setup.shape old i → HoldsSlot setup.shape new i
+slots-over setup a plain seal pairs regs old mid new armed it trusted made i inside was =
+    let now = it.fetched.path.effect.trusted trusted in
+    let its = armed-of setup a plain seal pairs regs old mid new armed it trusted in
+    redone-over (λ lines. IsSlotStored setup.shape lines mid.watch i) (λ lines. IsSlotStored setup.shape lines new.watch i) (tree_size setup.shape) regs.group.items mid new now.no_group made it.whole
+    (λ lines are. (armed-places setup a seal mid.engine lines mid.device.regs regs mid.watch new.watch it.shape are.count now (path-cached setup a old mid it.shape it.inside trusted it.fetched.path) its.armed).slots i)
+    ((it.fetched.path.effect.places trusted).slots i inside was)
+
+own-seal : (setup : Setup) (a : ℕ) (plain : Line) (seal : LineSeal) (pairs : List (ℕ × Node)) (regs : Regs) (old mid new : Parts) (armed : Device) → IsArmedWrite setup a plain seal pairs regs old mid new armed → AreTrusted setup old → lines_redone new ≡ redone_told regs.group.items mid.device.lines → HoldsSeal setup.shape new a
+own-seal setup a plain seal pairs regs old mid new armed it trusted made =
+    let now = it.fetched.path.effect.trusted trusted in
+    let its = armed-of setup a plain seal pairs regs old mid new armed it trusted in
+    redone-own (λ lines. IsSealStored setup.shape lines new.watch a) (tree_size setup.shape) regs.group.items mid new made it.whole
+    (λ lines are. (armed-places setup a seal mid.engine lines mid.device.regs regs mid.watch new.watch it.shape are.count now (path-cached setup a old mid it.shape it.inside trusted it.fetched.path) its.armed).own_seal)
+
+-- the watch has its counts and a seal of each line
+pub told-ready : (g : Shape) (a : ℕ) (seal : LineSeal) (pairs : List (ℕ × Node)) (old new : WatchState) → a < tree_lines g → IsWriteTold g a seal pairs old new → IsWatchReady g old → IsWatchReady g new
+told-ready g a seal pairs old new inside told ready =
+    record {
+      seal_count = ap length told.seals ∙ (length-set old.seals a (Some seal) ∙ ready.seal_count);
+      node_count = ap length told.nodes ∙ (length-set_pairs pairs old.nodes ∙ ready.node_count);
+      slot_count = ap length told.slots ∙ (length-put_lines (slot_entries g (λ i. i) pairs) old.slots ∙ ready.slot_count);
+      each_sealed =
+          λ b in_b.
+          subst (λ (seals : List (Option LineSeal)). IsSome (slice_index_or seals b None)) (sym told.seals)
+          (elim (cases_eq b a) [
+            | inl same ↦
+                subst (λ c. IsSome (slice_index_or (slice_set old.seals a (Some seal)) c None)) (sym same)
+                (subst (λ (s : Option LineSeal). IsSome s) (sym (get_or-set_same old.seals a (Some seal) None (omega (arith, inside, ready.seal_count)))) refl)
+            | inr other ↦ subst (λ (s : Option LineSeal). IsSome s) (sym (get_or-set_other old.seals a b (Some seal) None other)) (ready.each_sealed b in_b)
+          ]);
+    }
+
+-- the group has three lines and one for each level
+group-count : (setup : Setup) (a : ℕ) (plain : Line) (seal : LineSeal) (pairs : List (ℕ × Node)) (regs : Regs) (mid new : Parts) → IsWriteMade setup a plain seal pairs regs mid new → length regs.group.items ≡ setup.shape.levels + 3
+group-count setup a plain seal pairs regs mid new made =
+    let count = pairs-count setup.shape a pairs made.raised.positions in
+    let rest : length (slot_entries setup.shape (line_of_slot setup.shape) pairs) ≡ length pairs = length-map {B = ℕ × Line} pairs (λ (pair : ℕ × Node). (line_of_slot setup.shape (slot_of setup.shape pair.0), slot_line pair.0 pair.1)) in
+    omega (arith, ap length made.group, count, rest)
+
+one-latch : (group : List (ℕ × Line)) → 1 ≤ length group → finishing_latches group ≡ 1
+one-latch [] some = absurd (omega (arith, some))
+one-latch (entry ∷ rest) some = refl
+
+-- ---- a cut amid the group: the write is kept
+
+pub write-kept : (setup : Setup) (a : ℕ) (plain : Line) (seal : LineSeal) (pairs : List (ℕ × Node)) (regs : Regs) (old mid new : Parts) (armed : Device) → IsArmedWrite setup a plain seal pairs regs old mid new armed → AreToldLines (tree_size setup.shape) new.device.lines → IsInterrupted armed.regs.group.items armed new.device → HasWrittenUp setup a plain old new (Err Fail.Cut)
+write-kept setup a plain seal pairs regs old mid new armed it told_new cut =
+    let path = it.fetched.path in
+    let new_regs : new.device.regs ≡ regs = cut.regs ∙ it.latched.regs in
+    let again : redone_told regs.group.items new.device.lines ≡ redone_told regs.group.items mid.device.lines =
+    subst (λ (r : Regs). redone_told r.group.items new.device.lines ≡ redone_told r.group.items mid.device.lines) it.latched.regs
+    (cut.again ∙ ap (redone_told armed.regs.group.items) it.latched.lines) in
+    let made : lines_redone new ≡ redone_told regs.group.items mid.device.lines =
+    ap (λ (r : Regs). redone_told r.group.items new.device.lines) new_regs ∙ again in
+    let count = group-count setup a plain seal pairs regs mid new it.made in
+    let cuts : RisesAtMost (length regs.group.items) armed.writes new.device.writes =
+    subst (λ (r : Regs). RisesAtMost (length r.group.items) armed.writes new.device.writes) it.latched.regs cut.writes in
+    record {
+      kind = tt;
+      up = λ e. e;
+      down = it.made.down ∙ path.down;
+      effect =
+          record {
+            shape = it.made.shape ∙ path.effect.shape;
+            size = cut.size ∙ (it.latched.size ∙ path.effect.size);
+            power =
+                power-then cut_short old.device mid.device new.device path.effect.power (
+                  false_from_ne_true mid.device.steady (λ was. true≢false (sym (it.latched.steady was) ∙ cut.unsteady)),
+                  cut.off,
+                  subst (λ c. HasRisen c new.device.cuts) it.latched.cuts cut.rose,
+                );
+            trusted =
+                λ trusted.
+                subst (λ r. IsAnchored setup r new.watch) (sym new_regs)
+                (IsAnchored-armed setup a seal mid.device.regs regs mid.watch new.watch it.shape (path.effect.trusted trusted).anchored
+                (armed-of setup a plain seal pairs regs old mid new armed it trusted).armed);
+            sound =
+                λ sound.
+                let trusted = sound-trusted setup old sound in
+                let its = armed-of setup a plain seal pairs regs old mid new armed it trusted in
+                let mid_sound : AreSound setup mid = path.effect.sound sound in
+                told-match (λ lines. IsSound setup mid.engine lines mid.device.regs mid.watch) (λ lines. IsDurable setup lines new.device.regs new.watch) mid.device.lines new.device.lines
+                (told-as (λ x y. (AreLinesOf (tree_size setup.shape) y) × (redone regs.group.items y ≡ redone regs.group.items x)) (λ x y. IsSound setup mid.engine x mid.device.regs mid.watch → IsDurable setup y new.device.regs new.watch) mid.device.lines new.device.lines
+                (λ x y both was.
+                subst (λ r. IsDurable setup y r new.watch) (sym new_regs)
+                (IsDurable-again setup x y regs new.watch both.0 both.1
+                (IsDurable-armed setup a seal mid.engine x mid.device.regs regs mid.watch new.watch it.shape was (path-cached setup a old mid it.shape it.inside trusted path) its.armed)))
+                (told-again (tree_size setup.shape) regs.group.items mid.device.lines new.device.lines told_new again))
+                mid_sound;
+            places =
+                λ trusted.
+                record {
+                  seals = seals-over setup a plain seal pairs regs old mid new armed it trusted made;
+                  slots = slots-over setup a plain seal pairs regs old mid new armed it trusted made;
+                  nodes =
+                      λ x in_x was.
+                      let now = path.effect.trusted trusted in
+                      let its = armed-of setup a plain seal pairs regs old mid new armed it trusted in
+                      redone-over (λ lines. IsNodeHeldBy setup mid.engine lines mid.watch x) (λ lines. IsNodeHeld setup lines new.watch x) (tree_size setup.shape) regs.group.items mid new now.no_group made it.whole
+                      (λ lines are. (armed-places setup a seal mid.engine lines mid.device.regs regs mid.watch new.watch it.shape are.count now (path-cached setup a old mid it.shape it.inside trusted path) its.armed).nodes x in_x)
+                      ((path.effect.places trusted).nodes x in_x was);
+                };
+          };
+      steps =
+          record {
+            writes =
+                record {
+                  never_falls = omega (arith, path.steps.writes.never_falls, cuts.never_falls, it.latched.writes);
+                  bound =
+                      λ below.
+                      omega (arith, cuts.bound below, path.steps.writes.exact (omega (arith, cuts.never_falls, it.latched.writes, below)), it.latched.writes, count, path.steps.at_most);
+                };
+            latches =
+                record {
+                  never_falls = omega (arith, it.latched.latches.never_falls, cut.latches, path.steps.latches);
+                  bound = λ below. omega (arith, it.latched.latches.exact (omega (arith, below, cut.latches)), cut.latches, path.steps.latches);
+                };
+          };
+      answered =
+          λ trusted.
+          let its = armed-of setup a plain seal pairs regs old mid new armed it trusted in (
+            it.unspent trusted,
+            inr (record {
+              seal = seal;
+              armed =
+                  record {
+                    armed = kept_armed its;
+                    sealed = it.made.made.cipher;
+                  };
+              stored = own-seal setup a plain seal pairs regs old mid new armed it trusted made;
+              latches =
+                  subst (λ n. RisesBy 1 n new.device.latches) path.steps.latches
+                  (subst (λ n. RisesBy 1 mid.device.latches n) (sym cut.latches) it.latched.latches);
+            }),
+          );
+      unrefused = λ sound. tt;
+      watch = λ e. absurd e;
+      ready = λ ready. told-ready setup.shape a seal pairs mid.watch new.watch it.inside it.made.told (subst (IsWatchReady setup.shape) (sym path.watch) ready);
+      board =
+          λ ready.
+          record {
+            its_size = cut.size ∙ (it.latched.size ∙ (path.effect.size ∙ ready.its_size));
+            group = subst (λ (r : Regs). IsGroup (tree_size setup.shape) r.group.items) (sym new_regs) it.group;
+          };
+      no_group = λ e. absurd (true≢false (sym e));
+    }
+  where
+    kept_armed : IsArmedAndStored setup a seal regs mid new → IsArmed setup a seal old.device.regs new.device.regs old.watch new.watch
+    kept_armed its =
+        subst (λ r. IsArmed setup a seal old.device.regs r old.watch new.watch) (sym (cut.regs ∙ it.latched.regs))
+        (subst (λ w. IsArmed setup a seal old.device.regs regs w new.watch) it.fetched.path.watch
+        (subst (λ r. IsArmed setup a seal r regs mid.watch new.watch) it.fetched.path.regs its.armed))
+
+-- ---- the group written and emptied: the write is done
+
+pub write-done : (setup : Setup) (a : ℕ) (plain : Line) (seal : LineSeal) (pairs : List (ℕ × Node)) (regs : Regs) (old mid new : Parts) (armed : Device) → IsArmedWrite setup a plain seal pairs regs old mid new armed → HasFinished armed new.device → HasWrittenUp setup a plain old new (Ok seal.counter)
+write-done setup a plain seal pairs regs old mid new armed it done =
+    let path = it.fetched.path in
+    let lines : new.device.lines ≡ redone_told regs.group.items mid.device.lines =
+    done.lines ∙ (ap (λ (r : Regs). redone_told r.group.items armed.lines) it.latched.regs ∙ ap (redone_told regs.group.items) it.latched.lines) in
+    let no_new : new.device.regs.group.items ≡ [] = ap (λ (r : Regs). r.group.items) done.regs in
+    let made : lines_redone new ≡ redone_told regs.group.items mid.device.lines =
+    ap (λ group. redone_told group new.device.lines) no_new ∙ (redone-nil new.device.lines ∙ lines) in
+    let emptied : IsEmptied regs new.device.regs =
+    record { root = ap (λ (r : Regs). r.root) done.regs ∙ ap (λ (r : Regs). r.root) it.latched.regs; no_group = no_new } in
+    let count = group-count setup a plain seal pairs regs mid new it.made in
+    let writes : RisesBy (length regs.group.items) armed.writes new.device.writes =
+    subst (λ (r : Regs). RisesBy (length r.group.items) armed.writes new.device.writes) it.latched.regs done.writes in
+    let latches : RisesBy 1 armed.latches new.device.latches =
+    subst (λ n. RisesBy n armed.latches new.device.latches) (one-latch regs.group.items (omega (arith, count)))
+    (subst (λ (r : Regs). RisesBy (finishing_latches r.group.items) armed.latches new.device.latches) it.latched.regs done.latches) in
+    record {
+      kind = tt;
+      up = λ e. e;
+      down = it.made.down ∙ path.down;
+      effect =
+          record {
+            shape = it.made.shape ∙ path.effect.shape;
+            size = done.size ∙ (it.latched.size ∙ path.effect.size);
+            power = (
+              λ was. done.steady (it.latched.steady (path.effect.power.0 was)),
+              λ was. done.live (it.latched.live (path.effect.power.1 was)),
+              done.cuts ∙ (it.latched.cuts ∙ path.effect.power.2),
+            );
+            trusted =
+                λ trusted.
+                let its = armed-of setup a plain seal pairs regs old mid new armed it trusted in
+                IsTrusted-written setup a seal mid.engine new.engine mid.device.regs regs new.device.regs mid.watch new.watch it.shape (path.effect.trusted trusted) its.armed its.stored emptied;
+            sound =
+                λ sound.
+                let trusted = sound-trusted setup old sound in
+                let its = armed-of setup a plain seal pairs regs old mid new armed it trusted in
+                let mid_sound : AreSound setup mid = path.effect.sound sound in
+                told-match (λ lines. IsSound setup mid.engine lines mid.device.regs mid.watch) (λ lines. IsSound setup new.engine lines new.device.regs new.watch) mid.device.lines new.device.lines
+                (told-as (λ x y. (AreLinesOf (tree_size setup.shape) x) × (y ≡ redone regs.group.items x)) (λ x y. IsSound setup mid.engine x mid.device.regs mid.watch → IsSound setup new.engine y new.device.regs new.watch) mid.device.lines new.device.lines
+                (λ x y both was.
+                subst (λ l. IsSound setup new.engine l new.device.regs new.watch) (sym both.1)
+                (IsSound-written setup a seal mid.engine new.engine x mid.device.regs regs new.device.regs mid.watch new.watch it.shape was (path-cached setup a old mid it.shape it.inside trusted path) its.armed its.stored emptied))
+                (told-redone (tree_size setup.shape) regs.group.items mid.device.lines new.device.lines it.whole lines))
+                mid_sound;
+            places =
+                λ trusted.
+                record {
+                  seals = seals-over setup a plain seal pairs regs old mid new armed it trusted made;
+                  slots = slots-over setup a plain seal pairs regs old mid new armed it trusted made;
+                  nodes =
+                      λ x in_x was.
+                      let now = path.effect.trusted trusted in
+                      let its = armed-of setup a plain seal pairs regs old mid new armed it trusted in
+                      redone-over (λ lines. IsNodeHeldBy setup mid.engine lines mid.watch x) (λ lines. IsNodeHeldBy setup new.engine lines new.watch x) (tree_size setup.shape) regs.group.items mid new now.no_group made it.whole
+                      (λ lines are.
+                      written-place setup a seal mid.engine new.engine lines mid.device.regs regs mid.watch new.watch x it.shape are.count now (path-cached setup a old mid it.shape it.inside trusted path) its.armed its.stored in_x)
+                      ((path.effect.places trusted).nodes x in_x was);
+                };
+          };
+      steps =
+          record {
+            count = path.steps.count;
+            at_most = path.steps.at_most;
+            writes =
+                RisesBy-then path.steps.count (setup.shape.levels + 3) old.device.writes mid.device.writes new.device.writes path.steps.writes
+                (subst (λ n. RisesBy n mid.device.writes new.device.writes) count (subst (λ n. RisesBy (length regs.group.items) n new.device.writes) it.latched.writes writes));
+            latches =
+                RisesBy-then 1 1 old.device.latches armed.latches new.device.latches
+                (subst (λ n. RisesBy 1 n armed.latches) path.steps.latches it.latched.latches) latches;
+          };
+      answered =
+          λ trusted.
+          let its = armed-of setup a plain seal pairs regs old mid new armed it trusted in (
+            it.unspent trusted,
+            accepted trusted,
+            (record {
+              seal = seal;
+              armed_regs = regs;
+              armed =
+                  record {
+                    armed =
+                        subst (λ w. IsArmed setup a seal old.device.regs regs w new.watch) path.watch
+                        (subst (λ r. IsArmed setup a seal r regs mid.watch new.watch) path.regs its.armed);
+                    sealed = it.made.made.cipher;
+                  };
+              its_counter = refl;
+              emptied = emptied;
+              stored = own-seal setup a plain seal pairs regs old mid new armed it trusted made;
+              path =
+                  record {
+                    each =
+                        λ x on.
+                        record { held = record { x = x; node = node_at new.watch.nodes x; dirty = true }; stands = its.stored.cache.on_path x on; position = refl };
+                  };
+            }),
+          );
+      unrefused = λ sound. tt;
+      watch = λ e. absurd e;
+      ready = λ ready. told-ready setup.shape a seal pairs mid.watch new.watch it.inside it.made.told (subst (IsWatchReady setup.shape) (sym path.watch) ready);
+      board =
+          λ ready.
+          record {
+            its_size = done.size ∙ (it.latched.size ∙ (path.effect.size ∙ ready.its_size));
+            group = subst (IsGroup (tree_size setup.shape)) (sym no_new) (IsGroup-nil (tree_size setup.shape));
+          };
+      no_group = λ e none. no_new;
+    }
+  where
+    accepted : AreTrusted setup old → IsPathAccepted setup a old new
+    accepted trusted =
+        let its = armed-of setup a plain seal pairs regs old mid new armed it trusted in
+        let lines : new.device.lines ≡ redone_told regs.group.items mid.device.lines =
+        done.lines ∙ (ap (λ (r : Regs). redone_told r.group.items armed.lines) it.latched.regs ∙ ap (redone_told regs.group.items) it.latched.lines) in
+        let were = path-accepted setup a old mid mid it.shape it.inside trusted it.fetched.path (same_lines setup.shape a mid.device.lines) in
+        record {
+          each =
+              λ x on.
+              elim (were.each x on) [
+                | inl cached ↦ inl cached
+                | inr read ↦
+                    inr (record {
+                      line = read.line;
+                      its =
+                          record {
+                            on_path = read.its.on_path;
+                            below_top = read.its.below_top;
+                            uncached = read.its.uncached;
+                            read =
+                                tells-redone (tree_size setup.shape) regs.group.items mid.device.lines new.device.lines (line_of_node setup.shape x) read.line it.whole lines
+                                (λ l are. (armed-made setup a seal l mid.device.regs regs mid.watch new.watch it.shape are.count its.armed).node_lines x (on_path-inside setup.shape a x it.inside on))
+                                read.its.read;
+                          };
+                      accepted = read.accepted;
+                    })
+              ];
+        }

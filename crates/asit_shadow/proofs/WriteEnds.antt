@@ -1,0 +1,171 @@
+-- How a write ends.
+use Rattle.std.proofs.Common.{ℕ, ◌≡◌, ◌<◌, ◌≤◌, ◌+◌, ◌*◌, ◌/◌, refl, sym, ap, subst, inl, ◌∙◌, arith}
+use Rattle.std.specs.Prelude.{Err}
+use Rattle.std.proofs.lemmas.Bool.{true≢false}
+use Rattle.pmem_base.specs.declared.lines.Line.{Line}
+use Rattle.pmem_base.specs.declared.registers.Regs.{Regs}
+use Rattle.pmem_base.specs.Shape.{IsShape}
+use Rattle.bonsai_tree.proofs.PathPositions.{on_path-level}
+use Rattle.suite.specs.Setup.{Setup}
+use Rattle.board.specs.Counts.{RisesBy}
+use Rattle.board.specs.Device.{Device}
+use Rattle.board.specs.Steps.{WasCut}
+use Rattle.commit_regs.specs.Groups.{RisesAtMost}
+use Rattle.pmem_engine.specs.Outcomes.{going, cut_short, shown}
+use Rattle.counter_tree.specs.declared.nodes.Node.{Node}
+use Rattle.counter_tree.specs.Layout.{tree_lines}
+use Rattle.counter_tree.specs.Watch.{WatchState}
+use Rattle.asit_shadow.specs.declared.fault.TreeFault.{TreeFault}
+use Rattle.asit_shadow.specs.declared.fault.TreeFault.TheVariants as Fail
+use Rattle.asit_shadow.specs.Parts.{Parts, AreTrusted}
+use Rattle.asit_shadow.specs.Paths.{IsPathCached}
+use Rattle.asit_shadow.specs.Calls.{IsUsedUp, KeepsWatch}
+use Rattle.asit_shadow.specs.Fetching.{IsFetchStopped, IsPathFetched, IsPathFetchedTo}
+use Rattle.asit_shadow.specs.Writing.{HasWrittenUp}
+use Rattle.asit_shadow.proofs.SlotPlaces.{page_of_line}
+use Rattle.asit_shadow.proofs.Chains.{going-uncut, going-unshown, cut-unshown, effect-then}
+use Rattle.asit_shadow.proofs.FetchEnds.{AreUnwritten, cut-effect, kept-watch}
+use Rattle.asit_shadow.proofs.CallEnds.{ready-kept, board-kept}
+
+-- ---- what comes before the arming latch
+
+pub path-cached : (setup : Setup) (a : ℕ) (old mid : Parts) → IsShape setup.shape → a < tree_lines setup.shape → AreTrusted setup old → IsPathFetchedTo setup a setup.shape.levels old mid → IsPathCached setup.shape a mid.engine.cache
+path-cached setup a old mid shape inside trusted path =
+    record {
+      each =
+          λ x on.
+          path.cached trusted x on (on_path-level setup.shape (a / 4) x shape.at_most_six_levels (page_of_line setup.shape a inside) on).0;
+    }
+
+fewer : (n count : ℕ) (old new : Device) → count ≤ n → RisesBy count old.writes new.writes → RisesAtMost n old.writes new.writes
+fewer n count old new most rises = record { never_falls = rises.never_falls; bound = λ below. omega (arith, rises.exact below, most) }
+
+none-at_most : (n before after : ℕ) → after ≡ before → RisesAtMost n before after
+none-at_most n before after same = record { never_falls = omega (arith, same); bound = λ below. omega (arith, same) }
+
+-- a fetch that stopped
+pub write-stopped : (setup : Setup) (a : ℕ) (plain : Line) (old new : Parts) (fault : TreeFault) → (AreTrusted setup old → IsUsedUp old → ⊥) → IsFetchStopped setup a old new fault → HasWrittenUp setup a plain old new (Err fault)
+write-stopped setup a plain old new Fail.Cut unspent it =
+    record {
+      kind = tt;
+      up = λ e. e;
+      down = it.down;
+      effect = it.effect;
+      steps =
+          record {
+            writes = fewer (2 * setup.shape.levels + 3) it.steps.count old.device new.device (omega (arith, it.steps.at_most)) it.steps.writes;
+            latches = none-at_most 1 old.device.latches new.device.latches it.steps.latches;
+          };
+      answered =
+          λ trusted. (
+            unspent trusted,
+            inl (record {
+              watch = same_watch old.watch new.watch it.watch;
+              regs = it.regs;
+              latches = it.steps.latches;
+            }),
+          );
+      unrefused = it.unrefused;
+      watch = λ e. absurd e;
+      ready = ready-kept setup.shape cut_short old.watch new.watch it.watch;
+      board = board-kept setup.shape old.device new.device it.effect.size it.regs;
+      no_group = λ e. absurd (true≢false (sym e));
+    }
+  where
+    same_watch : (old new : WatchState) → KeepsWatch cut_short old new → new ≡ old
+    same_watch old new kept =
+        ap (λ x. record { setup = x; seals = new.seals; nodes = new.nodes; slots = new.slots; exhibit = new.exhibit }) kept.setup
+        ∙ (ap (λ x. record { setup = old.setup; seals = x; nodes = new.nodes; slots = new.slots; exhibit = new.exhibit }) kept.seals
+        ∙ (ap (λ x. record { setup = old.setup; seals = old.seals; nodes = x; slots = new.slots; exhibit = new.exhibit }) kept.nodes
+        ∙ (ap (λ x. record { setup = old.setup; seals = old.seals; nodes = old.nodes; slots = x; exhibit = new.exhibit }) kept.slots
+        ∙ ap (λ x. record { setup = old.setup; seals = old.seals; nodes = old.nodes; slots = old.slots; exhibit = x }) (kept.exhibit cut-unshown))))
+write-stopped setup a plain old new Fail.Down unspent it = absurd it.kind
+write-stopped setup a plain old new (Fail.Node x) unspent it =
+    record {
+      kind = tt;
+      up = λ e. e;
+      down = it.down;
+      effect = it.effect;
+      steps = it.steps;
+      answered = λ trusted. (unspent trusted, it.answered trusted);
+      unrefused = it.unrefused;
+      watch = λ e. it.watch;
+      ready = ready-kept setup.shape going old.watch new.watch it.watch;
+      board = board-kept setup.shape old.device new.device it.effect.size it.regs;
+      no_group = λ e none. ap (λ (r : Regs). r.group.items) it.regs ∙ none;
+    }
+write-stopped setup a plain old new (Fail.Tag b) unspent it = absurd it.kind
+write-stopped setup a plain old new Fail.Spent unspent it = absurd it.kind
+write-stopped setup a plain old new Fail.Shown unspent it =
+    record {
+      kind = tt;
+      up = λ e. e;
+      down = it.down;
+      effect = it.effect;
+      steps =
+          record {
+            count = it.steps.count;
+            at_most = it.steps.at_most;
+            fewer = λ e. absurd (going-uncut e);
+            writes = it.steps.writes;
+            latches = it.steps.latches;
+          };
+      answered = λ trusted. (unspent trusted, it.answered trusted);
+      unrefused = it.unrefused;
+      watch = λ e. it.watch;
+      ready = ready-kept setup.shape shown old.watch new.watch it.watch;
+      board = board-kept setup.shape old.device new.device it.effect.size it.regs;
+      no_group = λ e. absurd (true≢false (sym e));
+    }
+
+-- the top's version can't rise: nothing is done
+pub write-spent : (setup : Setup) (a : ℕ) (plain : Line) (old : Parts) → (AreTrusted setup old → IsUsedUp old) → HasWrittenUp setup a plain old old (Err Fail.Spent)
+write-spent setup a plain old used =
+    record {
+      kind = tt;
+      up = λ e. e;
+      down = refl;
+      effect =
+          record {
+            shape = refl;
+            size = refl;
+            power = (λ was. was, λ was. was, refl);
+            trusted = λ trusted. trusted;
+            sound = λ sound. sound;
+            places = λ trusted. record { seals = λ b inside was. was; slots = λ i inside was. was; nodes = λ x inside was. was };
+          };
+      steps = refl;
+      answered = λ trusted. (used trusted, refl);
+      unrefused = λ sound. tt;
+      watch = λ e. kept-watch going old.watch old.watch going-unshown refl;
+      ready = λ was. was;
+      board = λ was. was;
+      no_group = λ e none. none;
+    }
+
+-- a cut at the arming latch: the write is lost
+pub write-lost : (setup : Setup) (a : ℕ) (plain : Line) (old mid new : Parts) (node : Node) → (AreTrusted setup old → IsUsedUp old → ⊥) → IsPathFetched setup a old mid node → new.engine.shape ≡ mid.engine.shape → new.engine.down ≡ mid.engine.down → WasCut mid.device new.device → new.watch ≡ mid.watch → HasWrittenUp setup a plain old new (Err Fail.Cut)
+write-lost setup a plain old mid new node unspent fetched shape down cut watch =
+    let same : AreUnwritten mid.device new.device =
+    record { lines = cut.lines; regs = cut.regs; size = cut.size; writes = cut.writes; latches = cut.latches } in
+    let path = fetched.path in
+    let kept : KeepsWatch cut_short old.watch new.watch = kept-watch cut_short old.watch new.watch cut-unshown (watch ∙ path.watch) in
+    record {
+      kind = tt;
+      up = λ e. e;
+      down = down ∙ path.down;
+      effect = effect-then setup cut_short old mid new path.effect (cut-effect setup mid new same (cut.unsteady, cut.off, cut.rose) shape watch);
+      steps =
+          record {
+            writes =
+                fewer (2 * setup.shape.levels + 3) path.steps.count old.device new.device (omega (arith, path.steps.at_most))
+                (subst (RisesBy path.steps.count old.device.writes) (sym cut.writes) path.steps.writes);
+            latches = none-at_most 1 old.device.latches new.device.latches (cut.latches ∙ path.steps.latches);
+          };
+      answered = λ trusted. (unspent trusted, inl (record { watch = watch ∙ path.watch; regs = cut.regs ∙ path.regs; latches = cut.latches ∙ path.steps.latches }));
+      unrefused = λ sound. tt;
+      watch = λ e. absurd e;
+      ready = ready-kept setup.shape cut_short old.watch new.watch kept;
+      board = board-kept setup.shape old.device new.device (cut.size ∙ path.effect.size) (cut.regs ∙ path.regs);
+      no_group = λ e. absurd (true≢false (sym e));
+    }

@@ -1,0 +1,134 @@
+-- One node of a path more: what is told, stored and named of it.
+use Rattle.std.proofs.Common.{ℕ, ◌≡◌, ◌<◌, ◌^◌, ◌++◌, ◌∷◌, ◌+◌, List, [], length, take, get_or, Some, true, sym, ap, subst, subst₂, ◌∙◌, arith}
+use Rattle.std.specs.Prelude.{Option, slice_set}
+use Rattle.std.proofs.lemmas.List.{map-append, take_more}
+use Rattle.pmem_base.specs.declared.lines.Line.{Line}
+use Rattle.pmem_base.specs.Lines.{IsLine, put_lines}
+use Rattle.pmem_base.specs.Shape.{Shape}
+use Rattle.pmem_base.proofs.LineSets.{put_lines-append, length-put_lines}
+use Rattle.suite.specs.Formulas.{Formulas, AreInRange}
+use Rattle.counter_tree.specs.declared.nodes.Node.{Node}
+use Rattle.counter_tree.specs.declared.watch.LineSeal.{LineSeal}
+use Rattle.counter_tree.specs.Shadow.{ChipTree, IsShadowTree, root_of, tree_with, tree_root_with}
+use Rattle.counter_tree.specs.Layout.{line_of_slot, line_of_tag}
+use Rattle.counter_tree.specs.Slots.{slot_of, slot_line}
+use Rattle.counter_tree.proofs.SlotLaws.{slot_line-IsLine}
+use Rattle.counter_tree.specs.Watch.{WatchState, HasNodeNoted, HasSlotNoted, HasSealNoted}
+use Rattle.counter_tree.proofs.ChipTree.{chip-with, chip-root_with}
+use Rattle.asit_shadow.specs.declared.cache.CachedNode.{CachedNode}
+use Rattle.asit_shadow.specs.Paths.{tag_only}
+use Rattle.asit_shadow.specs.Writing.{armed_lines, set_pairs, slot_entries, dirty_entries, IsTreeNamed, IsWriteTold}
+use Rattle.asit_shadow.proofs.PairSets.{set_pairs-append}
+
+-- a slot line more
+pub entries-more : (g : Shape) (place : ℕ → ℕ) (pairs : List (ℕ × Node)) (x : ℕ) (node : Node) → slot_entries g place (pairs ++ (x, node) ∷ []) ≡ slot_entries g place pairs ++ (place (slot_of g x), slot_line x node) ∷ []
+entries-more g place pairs x node =
+    map-append (λ (pair : ℕ × Node). (place (slot_of g pair.0), slot_line pair.0 pair.1)) pairs ((x, node) ∷ [])
+
+pub slots-more : (g : Shape) (pairs : List (ℕ × Node)) (x : ℕ) (node : Node) (slots : List Line) → put_lines (slot_entries g (λ i. i) (pairs ++ (x, node) ∷ [])) slots ≡ slice_set (put_lines (slot_entries g (λ i. i) pairs) slots) (slot_of g x) (slot_line x node)
+slots-more g pairs x node slots =
+    ap (λ entries. put_lines entries slots) (entries-more g (λ i. i) pairs x node)
+    ∙ put_lines-append (slot_entries g (λ i. i) pairs) ((slot_of g x, slot_line x node) ∷ []) slots
+
+-- what the watch is told
+pub told-none : (g : Shape) (a : ℕ) (seal : LineSeal) (old new : WatchState) → HasSealNoted old new a seal → IsWriteTold g a seal [] old new
+told-none g a seal old new it =
+    record { setup = it.setup; seals = it.seals; nodes = it.nodes; slots = it.slots; exhibit = it.exhibit }
+
+pub told-more : (g : Shape) (a : ℕ) (seal : LineSeal) (pairs : List (ℕ × Node)) (x : ℕ) (node : Node) (old mid between new : WatchState) → IsWriteTold g a seal pairs old mid → HasNodeNoted mid between x node → HasSlotNoted between new (slot_of g x) (slot_line x node)
+    → IsWriteTold g a seal (pairs ++ (x, node) ∷ []) old new
+told-more g a seal pairs x node old mid between new before first second =
+    record {
+      setup = second.setup ∙ (first.setup ∙ before.setup);
+      seals = second.seals ∙ (first.seals ∙ before.seals);
+      nodes =
+          second.nodes ∙ (first.nodes ∙ (ap (λ (nodes : List Node). slice_set nodes x node) before.nodes
+          ∙ sym (set_pairs-append pairs ((x, node) ∷ []) old.nodes)));
+      slots =
+          second.slots ∙ (ap (λ (slots : List Line). slice_set slots (slot_of g x) (slot_line x node)) (first.slots ∙ before.slots)
+          ∙ sym (slots-more g pairs x node old.slots));
+      exhibit = second.exhibit ∙ (first.exhibit ∙ before.exhibit);
+    }
+
+-- what the cache holds
+pub stored-more : (g : Shape) (pairs : List (ℕ × Node)) (x : ℕ) (node : Node) (old mid new : List (Option CachedNode)) → mid ≡ set_pairs (dirty_entries g pairs) old → new ≡ slice_set mid (slot_of g x) (Some (record { x = x; node = node; dirty = true }))
+    → new ≡ set_pairs (dirty_entries g (pairs ++ (x, node) ∷ [])) old
+stored-more g pairs x node old mid new before step =
+    step
+    ∙ (ap (λ (cache : List (Option CachedNode)). slice_set cache (slot_of g x) (Some (record { x = x; node = node; dirty = true }))) before
+    ∙ sym (ap (λ entries. set_pairs entries old)
+    (map-append (λ (pair : ℕ × Node). (slot_of g pair.0, Some (record { x = pair.0; node = pair.1; dirty = true }))) pairs ((x, node) ∷ []))
+    ∙ set_pairs-append (dirty_entries g pairs) ((slot_of g x, Some (record { x = x; node = node; dirty = true })) ∷ []) old))
+
+-- the shadow tree, and its root
+pub named-more : (f : Formulas) (g : Shape) (pairs : List (ℕ × Node)) (x : ℕ) (node : Node) (slots : List Line) (old mid new : ChipTree) (root : List ℕ) → AreInRange f → slot_of g x < 4 ^ old.height → slot_of g x < length slots → IsLine (slot_line x node) → mid.height ≡ old.height
+    → IsShadowTree f old.height (put_lines (slot_entries g (λ i. i) pairs) slots) mid.lines → new.lines ≡ tree_with f mid.height mid.lines (slot_of g x) (slot_line x node) → root ≡ tree_root_with f mid.height mid.lines (slot_of g x) (slot_line x node)
+    → IsTreeNamed f g (pairs ++ (x, node) ∷ []) old new root slots
+named-more f g pairs x node slots old mid new root in_range leaf inside good height before lines is_root =
+    let at = put_lines (slot_entries g (λ i. i) pairs) slots in
+    let room : slot_of g x < length (put_lines (slot_entries g (λ i. i) pairs) slots) = omega (arith, inside, length-put_lines (slot_entries g (λ i. i) pairs) slots) in
+    record {
+      tree =
+          subst (IsShadowTree f old.height (put_lines (slot_entries g (λ i. i) (pairs ++ (x, node) ∷ [])) slots)) (sym (lines ∙ ap (λ h. tree_with f h mid.lines (slot_of g x) (slot_line x node)) height))
+          (subst (λ ls. IsShadowTree f old.height ls (tree_with f old.height mid.lines (slot_of g x) (slot_line x node))) (sym (slots-more g pairs x node slots))
+          (chip-with f old.height (put_lines (slot_entries g (λ i. i) pairs) slots) mid.lines (slot_of g x) (slot_line x node) in_range before leaf room good));
+      its_root =
+          is_root
+          ∙ (ap (λ h. tree_root_with f h mid.lines (slot_of g x) (slot_line x node)) height
+          ∙ (chip-root_with f old.height (put_lines (slot_entries g (λ i. i) pairs) slots) mid.lines (slot_of g x) (slot_line x node) in_range before leaf room good
+          ∙ ap (root_of f old.height) (sym (slots-more g pairs x node slots))));
+    }
+
+-- ---- the next node that a loop over the pairs has seen
+
+pub told-next : (g : Shape) (a : ℕ) (seal : LineSeal) (pairs seen : List (ℕ × Node)) (i slot : ℕ) (line : Line) (d : ℕ × Node) (old mid between new : WatchState) → seen ≡ pairs → i < length seen → slot ≡ slot_of g (get_or seen i d).0 → line ≡ slot_line (get_or seen i d).0 (get_or seen i d).1 → IsWriteTold g a seal (take i pairs) old mid
+    → HasNodeNoted mid between (get_or seen i d).0 (get_or seen i d).1 → HasSlotNoted between new slot line → IsWriteTold g a seal (take (i + 1) pairs) old new
+told-next g a seal pairs seen i slot line d old mid between new same inside at is before first second =
+    subst (λ (ps : List (ℕ × Node)). IsWriteTold g a seal (take (i + 1) ps) old new) same
+    (subst (λ (ps : List (ℕ × Node)). IsWriteTold g a seal ps old new) (sym (take_more seen i d inside))
+    (told-more g a seal (take i seen) (get_or seen i d).0 (get_or seen i d).1 old mid between new
+    (subst (λ (ps : List (ℕ × Node)). IsWriteTold g a seal (take i ps) old mid) (sym same) before) first
+    (subst₂ (λ n l. HasSlotNoted between new n l) at is second)))
+
+pub stored-next : (g : Shape) (pairs seen : List (ℕ × Node)) (i slot : ℕ) (d : ℕ × Node) (old mid new : List (Option CachedNode)) → seen ≡ pairs → i < length seen → slot ≡ slot_of g (get_or seen i d).0 → mid ≡ set_pairs (dirty_entries g (take i pairs)) old
+    → new ≡ slice_set mid slot (Some (record { x = (get_or seen i d).0; node = (get_or seen i d).1; dirty = true })) → new ≡ set_pairs (dirty_entries g (take (i + 1) pairs)) old
+stored-next g pairs seen i slot d old mid new same inside at before step =
+    subst (λ (ps : List (ℕ × Node)). new ≡ set_pairs (dirty_entries g (take (i + 1) ps)) old) same
+    (subst (λ (ps : List (ℕ × Node)). new ≡ set_pairs (dirty_entries g ps) old) (sym (take_more seen i d inside))
+    (stored-more g (take i seen) (get_or seen i d).0 (get_or seen i d).1 old mid new
+    (subst (λ (ps : List (ℕ × Node)). mid ≡ set_pairs (dirty_entries g (take i ps)) old) (sym same) before)
+    (step ∙ ap (λ n. slice_set mid n (Some (record { x = (get_or seen i d).0; node = (get_or seen i d).1; dirty = true }))) at)))
+
+-- the group
+pub armed-none : (g : Shape) (a tags_place : ℕ) (seal : LineSeal) (tags : Line) (none one two : List (ℕ × Line)) → none ≡ [] → tags_place ≡ line_of_tag g a → tags ≡ tag_only seal.tag → one ≡ none ++ (a, seal.cipher) ∷ [] → two ≡ one ++ (tags_place, tags) ∷ [] → two ≡ armed_lines g a seal []
+armed-none g a tags_place seal tags none one two empty place line first second =
+    second
+    ∙ (ap (λ (ls : List (ℕ × Line)). ls ++ (tags_place, tags) ∷ []) (first ∙ ap (λ (ls : List (ℕ × Line)). ls ++ (a, seal.cipher) ∷ []) empty)
+    ∙ (ap (λ (n : ℕ). (a, seal.cipher) ∷ (n, tags) ∷ []) place
+    ∙ ap (λ (l : Line). (a, seal.cipher) ∷ (line_of_tag g a, l) ∷ []) line))
+
+pub armed-next : (g : Shape) (a place slot : ℕ) (seal : LineSeal) (pairs seen : List (ℕ × Node)) (i : ℕ) (line : Line) (d : ℕ × Node) (old new : List (ℕ × Line)) → seen ≡ pairs → i < length seen → place ≡ line_of_slot g slot → slot ≡ slot_of g (get_or seen i d).0 → line ≡ slot_line (get_or seen i d).0 (get_or seen i d).1
+    → old ≡ armed_lines g a seal (take i pairs) → new ≡ old ++ (place, line) ∷ [] → new ≡ armed_lines g a seal (take (i + 1) pairs)
+armed-next g a place slot seal pairs seen i line d old new same inside at here is before step =
+    let entry : (place, line) ≡ (line_of_slot g (slot_of g (get_or seen i d).0), slot_line (get_or seen i d).0 (get_or seen i d).1) =
+    ap (λ (n : ℕ). (n, line)) (at ∙ ap (line_of_slot g) here) ∙ ap (λ (l : Line). (line_of_slot g (slot_of g (get_or seen i d).0), l)) is in
+    subst (λ (ps : List (ℕ × Node)). new ≡ armed_lines g a seal (take (i + 1) ps)) same
+    (subst (λ (ps : List (ℕ × Node)). new ≡ armed_lines g a seal ps) (sym (take_more seen i d inside))
+    (step
+    ∙ (ap (λ (ls : List (ℕ × Line)). ls ++ (place, line) ∷ []) (before ∙ ap (λ (ps : List (ℕ × Node)). armed_lines g a seal (take i ps)) (sym same))
+    ∙ (ap (λ (e : ℕ × Line). armed_lines g a seal (take i seen) ++ e ∷ []) entry
+    ∙ sym (ap (λ (rest : List (ℕ × Line)). (a, seal.cipher) ∷ (line_of_tag g a, tag_only seal.tag) ∷ rest)
+    (entries-more g (line_of_slot g) (take i seen) (get_or seen i d).0 (get_or seen i d).1))))))
+
+-- the shadow tree, and its root
+pub named-next : (f : Formulas) (g : Shape) (pairs seen : List (ℕ × Node)) (i slot : ℕ) (line : Line) (d : ℕ × Node) (slots : List Line) (old mid new : ChipTree) (root : List ℕ) → AreInRange f → seen ≡ pairs → i < length seen → slot ≡ slot_of g (get_or seen i d).0 → line ≡ slot_line (get_or seen i d).0 (get_or seen i d).1
+    → slot < 4 ^ old.height → slot < length slots → mid.height ≡ old.height → IsShadowTree f old.height (put_lines (slot_entries g (λ n. n) (take i pairs)) slots) mid.lines
+    → new.lines ≡ tree_with f mid.height mid.lines slot line → root ≡ tree_root_with f mid.height mid.lines slot line → IsTreeNamed f g (take (i + 1) pairs) old new root slots
+named-next f g pairs seen i slot line d slots old mid new root in_range same inside at is leaf room height before lines is_root =
+    subst (λ (ps : List (ℕ × Node)). IsTreeNamed f g (take (i + 1) ps) old new root slots) same
+    (subst (λ (ps : List (ℕ × Node)). IsTreeNamed f g ps old new root slots) (sym (take_more seen i d inside))
+    (named-more f g (take i seen) (get_or seen i d).0 (get_or seen i d).1 slots old mid new root in_range
+    (subst (λ n. n < 4 ^ old.height) at leaf) (subst (λ n. n < length slots) at room) (slot_line-IsLine (get_or seen i d).0 (get_or seen i d).1) height
+    (subst (λ (ps : List (ℕ × Node)). IsShadowTree f old.height (put_lines (slot_entries g (λ n. n) (take i ps)) slots) mid.lines) (sym same) before)
+    (lines ∙ (ap (λ n. tree_with f mid.height mid.lines n line) at ∙ ap (tree_with f mid.height mid.lines (slot_of g (get_or seen i d).0)) is))
+    (is_root ∙ (ap (λ n. tree_root_with f mid.height mid.lines n line) at ∙ ap (tree_root_with f mid.height mid.lines (slot_of g (get_or seen i d).0)) is))))

@@ -1,0 +1,133 @@
+-- The levels so far and the next one, whether it is had or not.
+use Rattle.std.proofs.Common.{ℕ, suc, ◌≡◌, ◌<◌, ◌+◌, List, refl, ap, subst, subst₂, ◌∙◌, arith}
+use Rattle.std.specs.Prelude.{slice_index}
+use Rattle.pmem_base.specs.Geo.{shape_of}
+use Rattle.pmem_base.specs.Shape.{Shape}
+use Rattle.suite.specs.Setup.{Setup}
+use Rattle.bonsai_tree.specs.Positions.{child_slot}
+use Rattle.counter_tree.specs.Nodes.{counter}
+use Rattle.asit_shadow.specs.State.{TreeState, IsCachedAs}
+use Rattle.asit_shadow.specs.Parts.{Parts, parts_of, AreTrusted}
+use Rattle.asit_shadow.specs.Paths.{line_path}
+use Rattle.asit_shadow.specs.Fetching.{IsNodeHad, IsNodeMissed, IsPathFetchedTo}
+use Rattle.asit_shadow.proofs.PathSteps.{IsFetchReady, IsNextLevel, path-start, last-start, last-end, place-is, version-is, next-low, path-next, had-in}
+use Rattle.asit_shadow.proofs.FetchEnds.{fetch-stopped}
+use Rattle.asit_shadow.proofs.engine.TreeEngine.fetch.Given.{Over}
+use Rattle.asit_shadow.proofs.engine.TreeEngine.fetch.Goals.{After-from}
+use Rattle.asit_shadow.proofs.engine.TreeEngine.fetch.Goals as goal
+
+-- what the fetch works on at a moment
+abbrev at : (g : Over) → TreeState → g.row.B.Denot → g.row.W.Denot → Parts
+at g engine board watch = parts_of engine (g.B.Board.device board) (g.W.Watch.watched watch)
+
+abbrev under : (g : Over) → TreeState → g.row.S.Denot → Setup
+under g engine suite = record { shape = engine.shape; formulas = g.S.Suite.formulas_of (g.S.Suite.keys suite) }
+
+pub levels-init : goal.levels-init
+levels-init g c =
+    let ready : IsFetchReady (under g c.args.self.now c.args.suite.now) c.args.at (at g c.args.self.now c.args.board.now c.args.watch.now) =
+    record {
+      shape = c.is_whole.ensures.shape;
+      in_range = g.met.S.Suite.in_range c.args.suite.now;
+      its_line = c.requires.line;
+      its_size = c.requires.usable.board.its_size;
+      slots = c.is_whole.ensures.engine.slot_count;
+    } in
+    record {
+      fetched = path-start (under g c.args.self.now c.args.suite.now) c.args.at (at g c.args.self.now c.args.board.now c.args.watch.now) ready;
+      last =
+          λ trusted.
+          last-start (under g c.args.self.now c.args.suite.now) c.args.at c.top-node.result (at g c.args.self.now c.args.board.now c.args.watch.now) ready
+          c.top-node.ensures.value trusted;
+      keys = refl;
+    }
+
+-- ---- before a level
+
+module _ (g : Over) (c : After-from g) where
+  setup : Setup
+  setup = under g c.args.self.now c.args.suite.now
+
+  place : slice_index c.as_slice.result.now (c.from.result + 1) ≡ slice_index (line_path c.args.self.now.shape c.args.at) (suc c.levels.level)
+  place =
+      place-is c.args.self.now.shape (shape_of c.geo-geo.result) c.args.at c.levels.level c.from.result c.path-path.result.items c.as_slice.result.now
+      c.as_slice.ensures.value c.path-path.ensures.value c.geo-geo.ensures c.from.ensures
+
+  below : c.levels.level < c.args.self.now.shape.levels
+  below = omega (arith, c.levels-test.true, c.levels-level-end.ensures, ap (λ (k : Shape). k.levels) c.geo-geo.ensures)
+
+  ready : IsFetchReady (under g c.args.self.now c.args.suite.now) c.args.at (at g c.args.self.now c.args.board.now c.args.watch.now)
+  ready =
+      record {
+        shape = c.is_whole.ensures.shape;
+        in_range = g.met.S.Suite.in_range c.args.suite.now;
+        its_line = c.requires.line;
+        its_size = c.requires.usable.board.its_size;
+        slots = c.is_whole.ensures.engine.slot_count;
+      }
+
+  next : (version : ℕ) → version ≡ counter c.levels.node (child_slot (slice_index c.as_slice.result.now (c.from.result + 1)))
+      → IsNextLevel (under g c.args.self.now c.args.suite.now) c.args.at c.levels.level (slice_index c.as_slice.result.now (c.from.result + 1)) version
+      (at g c.args.self.now c.args.board.now c.args.watch.now) (at g c.levels.self c.levels.board c.levels.watch)
+  next version is =
+      record {
+        ready = ready;
+        before = c.levels.invariant.fetched;
+        told = g.met.B.Board.whole c.levels.board;
+        level = below;
+        place = place;
+        version_true =
+            version-is (under g c.args.self.now c.args.suite.now) c.args.at c.levels.level (slice_index c.as_slice.result.now (c.from.result + 1)) version c.levels.node
+            (at g c.levels.self c.levels.board c.levels.watch) below place is c.levels.invariant.last;
+      }
+
+pub child_slot-requires : goal.child_slot-requires
+child_slot-requires g c =
+    let before = (goal.at.child_slot-requires g c).After-from in
+    let low = next-low c.args.self.now.shape c.args.at c.levels.level (slice_index c.as_slice.result.now (c.from.result + 1)) c.is_whole.ensures.shape c.requires.line (below g before) (place g before) in
+    omega (arith, low)
+
+pub returns-in-Err-clause-stopped : goal.returns-in-Err-clause-stopped
+returns-in-Err-clause-stopped g c =
+    let before = (goal.at.returns-in-Err-clause-stopped g c).After-from in
+    let missed = subst₂ (λ (shape : Shape) (keys : List ℕ). IsNodeMissed (record { shape = shape; formulas = g.S.Suite.formulas_of keys }) (slice_index c.as_slice.result.now (c.from.result + 1))
+    (slice_index c.levels.node.0 c.from-in-levels.result) (at g c.levels.self c.levels.board c.levels.watch) (at g c.node_of.new.self c.node_of.new.board c.node_of.new.watch) c.in-Err.fault)
+    c.levels.invariant.fetched.effect.shape c.levels.invariant.keys c.in-Err.ensures.missed in
+    fetch-stopped (under g c.args.self.now c.args.suite.now) c.args.at c.levels.level (slice_index c.as_slice.result.now (c.from.result + 1)) (slice_index c.levels.node.0 c.from-in-levels.result)
+    (at g c.args.self.now c.args.board.now c.args.watch.now) (at g c.levels.self c.levels.board c.levels.watch) (at g c.node_of.new.self c.node_of.new.board c.node_of.new.watch) c.in-Err.fault
+    (next g before (slice_index c.levels.node.0 c.from-in-levels.result) (ap (slice_index c.levels.node.0) (c.from-in-levels.ensures ∙ c.child_slot.ensures.value))) missed
+
+pub levels-preserved : goal.levels-preserved
+levels-preserved g c =
+    let before = (goal.at.levels-preserved g c).After-from in
+    let more : suc c.levels.level ≡ c.levels.level + 1 = omega arith in
+    let its = next g before (slice_index c.levels.node.0 c.from-in-levels.result) (ap (slice_index c.levels.node.0) (c.from-in-levels.ensures ∙ c.child_slot.ensures.value)) in
+    let had = subst₂ (λ (shape : Shape) (keys : List ℕ). IsNodeHad (record { shape = shape; formulas = g.S.Suite.formulas_of keys }) (slice_index c.as_slice.result.now (c.from.result + 1))
+    (slice_index c.levels.node.0 c.from-in-levels.result) (at g c.levels.self c.levels.board c.levels.watch) (at g c.node_of.new.self c.node_of.new.board c.node_of.new.watch) c.in-Ok.node)
+    c.levels.invariant.fetched.effect.shape c.levels.invariant.keys c.in-Ok.ensures.had in
+    record {
+      fetched =
+          subst (λ n. IsPathFetchedTo (under g c.args.self.now c.args.suite.now) c.args.at n (at g c.args.self.now c.args.board.now c.args.watch.now) (at g c.node_of.new.self c.node_of.new.board c.node_of.new.watch)) more
+          (path-next (under g c.args.self.now c.args.suite.now) c.args.at c.levels.level (slice_index c.as_slice.result.now (c.from.result + 1)) (slice_index c.levels.node.0 c.from-in-levels.result) c.in-Ok.node
+          (at g c.args.self.now c.args.board.now c.args.watch.now) (at g c.levels.self c.levels.board c.levels.watch) (at g c.node_of.new.self c.node_of.new.board c.node_of.new.watch) its had);
+      last =
+          λ trusted.
+          subst (λ p. IsCachedAs c.args.self.now.shape c.node_of.new.self.cache p c.in-Ok.node)
+          (place g before ∙ ap (slice_index (line_path c.args.self.now.shape c.args.at)) more)
+          (had-in (under g c.args.self.now c.args.suite.now) c.args.at c.levels.level (slice_index c.as_slice.result.now (c.from.result + 1)) (slice_index c.levels.node.0 c.from-in-levels.result) c.in-Ok.node
+          (at g c.args.self.now c.args.board.now c.args.watch.now) (at g c.levels.self c.levels.board c.levels.watch) (at g c.node_of.new.self c.node_of.new.board c.node_of.new.watch) its had);
+      keys = c.in-Ok.ensures.keys ∙ c.levels.invariant.keys;
+    }
+
+pub returns-clause-fetched : goal.returns-clause-fetched
+returns-clause-fetched g c =
+    let all : c.levels.level ≡ c.args.self.now.shape.levels =
+    omega (arith, c.levels-test.false, c.levels.auto.level-end, c.levels-level-end.ensures, ap (λ (k : Shape). k.levels) c.geo-geo.ensures) in
+    let path = subst (λ n. IsPathFetchedTo (under g c.args.self.now c.args.suite.now) c.args.at n (at g c.args.self.now c.args.board.now c.args.watch.now) (at g c.levels.self c.levels.board c.levels.watch)) all c.levels.invariant.fetched in
+    record {
+      path = path;
+      last =
+          last-end (under g c.args.self.now c.args.suite.now) c.args.at c.levels.node (at g c.args.self.now c.args.board.now c.args.watch.now) (at g c.levels.self c.levels.board c.levels.watch) path
+          (subst (λ n. AreTrusted (under g c.args.self.now c.args.suite.now) (at g c.levels.self c.levels.board c.levels.watch)
+          → IsCachedAs c.args.self.now.shape c.levels.self.cache (slice_index (line_path c.args.self.now.shape c.args.at) n) c.levels.node) all c.levels.invariant.last);
+    }

@@ -1,0 +1,22 @@
+-- The path to a level.
+use Rattle.std.proofs.Common.{◌≡◌}
+use Rattle.std.specs.Prelude.{slice_index}
+use Rattle.asit_shadow.specs.State.{IsCachedAs}
+use Rattle.asit_shadow.specs.Parts.{parts_of, AreTrusted}
+use Rattle.asit_shadow.specs.Paths.{line_path}
+use Rattle.asit_shadow.specs.Fetching.{IsPathFetchedTo}
+use Rattle.asit_shadow.proofs.engine.TreeEngine.fetch.Given as goal
+
+abbrev pub invariant-levels : goal.invariant-levels
+invariant-levels g l =
+    record {
+      fetched :
+          IsPathFetchedTo (record { shape = l.fn.self.shape; formulas = g.S.Suite.formulas_of (g.S.Suite.keys l.fn.suite) }) l.fn.at l.level
+          (parts_of l.fn.self (g.B.Board.device l.fn.board) (g.W.Watch.watched l.fn.watch))
+          (parts_of l.self (g.B.Board.device l.board) (g.W.Watch.watched l.watch));
+      last :
+          AreTrusted (record { shape = l.fn.self.shape; formulas = g.S.Suite.formulas_of (g.S.Suite.keys l.fn.suite) })
+          (parts_of l.self (g.B.Board.device l.board) (g.W.Watch.watched l.watch))
+          → IsCachedAs l.fn.self.shape l.self.cache (slice_index (line_path l.fn.self.shape l.fn.at) l.level) l.node;
+      keys : g.S.Suite.keys l.suite ≡ g.S.Suite.keys l.fn.suite;
+    }

@@ -1,0 +1,65 @@
+-- A level raised more.
+use Rattle.std.proofs.Common.{rules, ℕ, ◌≡◌, ◌<◌, ◌≤◌, ◌+◌, ◌/◌, List, [], sym, ap, subst, ◌∙◌, arith}
+use Rattle.std.specs.Prelude.{slice_index}
+use Rattle.pmem_base.specs.Layout.{meta_lines}
+use Rattle.pmem_base.specs.Shape.{Shape, IsShape}
+use Rattle.bonsai_tree.specs.Positions.{child_slot, path_of}
+use Rattle.bonsai_tree.proofs.PathPositions.{path_of-on_path}
+use Rattle.counter_tree.specs.declared.nodes.Node.{Node}
+use Rattle.counter_tree.specs.Trees.{raised}
+use Rattle.asit_shadow.specs.Fetching.{path_node}
+use Rattle.asit_shadow.specs.Writing.{position_below, IsRaisedTo}
+use Rattle.asit_shadow.proofs.SlotPlaces.{on_path-inside}
+use Rattle.asit_shadow.proofs.RaisedPaths.{raised-none, raised-more, raised-all, node-raised, below-low}
+use Rattle.asit_shadow.proofs.engine.TreeEngine.raised.Goals.{After-from}
+use Rattle.asit_shadow.proofs.engine.TreeEngine.raised.Goals as goal
+
+pub levels-init : goal.levels-init
+levels-init c =
+    let none : c.new-raised.result.items ≡ [] = search rules in
+    subst (λ (ps : List (ℕ × Node)). IsRaisedTo c.args.self.now.shape c.args.self.now.cache c.args.at 0 ps) (sym none) (raised-none c.args.self.now.shape c.args.self.now.cache c.args.at)
+
+module _ (c : After-from) where
+  within : c.levels.level ≤ c.args.self.now.shape.levels
+  within = omega (arith, c.levels-test.true, ap (λ (k : Shape). k.levels) c.geo-geo.ensures)
+
+  place : slice_index c.as_slice.result.now c.from.result ≡ path_node c.args.self.now.shape c.args.at c.levels.level
+  place =
+      ap (λ (xs : List ℕ). slice_index xs c.from.result) (c.as_slice.ensures.value ∙ c.path-path.ensures.value)
+      ∙ (ap (λ (k : Shape). slice_index (path_of k (c.args.at / 4)) c.from.result) c.geo-geo.ensures ∙ ap (slice_index (path_of c.args.self.now.shape (c.args.at / 4))) c.from.ensures)
+
+  inside : path_node c.args.self.now.shape c.args.at c.levels.level < meta_lines c.args.self.now.shape
+  inside =
+      on_path-inside c.args.self.now.shape c.args.at (path_node c.args.self.now.shape c.args.at c.levels.level) c.requires
+      (path_of-on_path c.args.self.now.shape (c.args.at / 4) c.levels.level within)
+
+  shape : IsShape c.args.self.now.shape
+  shape = subst IsShape c.geo-geo.ensures c.layout_is_one_to_one.ensures.ranges
+
+pub node-requires : goal.node-requires
+node-requires c =
+    let before = (goal.at.node-requires c).After-from in
+    omega (arith, place before, inside before)
+
+pub child_slot-requires : goal.child_slot-requires
+child_slot-requires c =
+    let before = (goal.at.child_slot-requires c).After-from in
+    let below = c.position_below-below.ensures.value ∙ ap (λ (k : Shape). position_below k c.args.at c.levels.level) c.geo-geo.ensures in
+    omega (arith, below, below-low c.args.self.now.shape c.args.at c.levels.level (shape before) c.requires (within before))
+
+pub levels-preserved : goal.levels-preserved
+levels-preserved c =
+    let before = (goal.at.levels-preserved c).After-from in
+    let below = c.position_below-below.ensures.value ∙ ap (λ (k : Shape). position_below k c.args.at c.levels.level) c.geo-geo.ensures in
+    subst (λ (ps : List (ℕ × Node)). IsRaisedTo c.args.self.now.shape c.args.self.now.cache c.args.at (c.levels.level + 1) ps) (sym c.push.ensures.items)
+    (raised-more c.args.self.now.shape c.args.self.now.cache c.args.at c.levels.level c.levels.raised.items (slice_index c.as_slice.result.now c.from.result) c.raise.result (within before) (place before)
+    (record { on_tree = omega (arith, place before, inside before); node_whole = c.raise.ensures.whole; has_version = c.raise.ensures.version })
+    (λ old cached small.
+    node-raised c.args.self.now.shape c.args.self.now.cache (slice_index c.as_slice.result.now c.from.result) c.child_slot.result c.node.result c.raise.result old c.node.ensures.cached c.raise.ensures.raised cached small
+    ∙ ap (raised old) (c.child_slot.ensures.value ∙ ap child_slot below))
+    c.levels.invariant)
+
+pub returns : goal.returns
+returns c =
+    let all : c.levels.level ≡ c.args.self.now.shape.levels + 1 = omega (arith, ap (λ (k : Shape). k.levels) c.geo-geo.ensures) in
+    raised-all c.args.self.now.shape c.args.self.now.cache c.args.at c.levels.level c.levels.raised.items all c.levels.invariant

@@ -1,0 +1,6 @@
+-- The levels so far.
+use Rattle.asit_shadow.specs.Writing.{IsRaisedTo}
+use Rattle.asit_shadow.proofs.engine.TreeEngine.raised.Given as goal
+
+abbrev pub invariant-levels : goal.invariant-levels
+invariant-levels l = IsRaisedTo l.fn.self.shape l.fn.self.cache l.fn.at l.level l.raised.items

@@ -1,0 +1,87 @@
+-- The line is read after its path.
+use Rattle.std.proofs.Common.{ℕ, ◌%◌, List, refl, sym, subst, subst₂, ◌∙◌}
+use Rattle.std.specs.Prelude.{Result, Ok, Err, IsSome, slice_index}
+use Rattle.pmem_base.specs.declared.lines.Line.{Line}
+use Rattle.pmem_base.specs.Geo.{shape_of}
+use Rattle.pmem_base.specs.Shape.{Shape}
+use Rattle.suite.specs.Setup.{Setup}
+use Rattle.counter_tree.specs.declared.accepted.FetchFault.{FetchFault}
+use Rattle.counter_tree.specs.declared.accepted.FetchFault.TheVariants as Missed
+use Rattle.counter_tree.specs.Accepted.{IsLineFetched}
+use Rattle.counter_tree.specs.Watch.{WatchState, last_seal_of}
+use Rattle.asit_shadow.specs.State.{TreeState}
+use Rattle.asit_shadow.specs.Parts.{Parts, parts_of}
+use Rattle.asit_shadow.proofs.ReadEnds.{IsPathHad, line_counter-is, read-ok, read-cut, read-refused, read-shown}
+use Rattle.asit_shadow.proofs.engine.TreeEngine.read_line.Given.{Over}
+use Rattle.asit_shadow.proofs.engine.TreeEngine.read_line.Goals.{After-fetch_line}
+use Rattle.asit_shadow.proofs.engine.TreeEngine.read_line.Goals as goal
+
+abbrev at : (g : Over) → TreeState → g.row.B.Denot → g.row.W.Denot → Parts
+at g engine board watch = parts_of engine (g.B.Board.device board) (g.W.Watch.watched watch)
+
+abbrev under : (g : Over) → TreeState → g.row.S.Denot → Setup
+under g engine suite = record { shape = engine.shape; formulas = g.S.Suite.formulas_of (g.S.Suite.keys suite) }
+
+module _ (g : Over) (c : After-fetch_line g) where
+  had : IsPathHad (under g c.args.self.now c.args.suite.now) c.args.at (slice_index c.in-Ok.node.0 (c.args.at % 4))
+      (at g c.args.self.now c.args.board.now c.args.watch.now) (at g c.fetch.new.self c.fetch.new.board c.fetch.new.watch)
+      (at g c.fetch.new.self c.fetch_line.new.board c.fetch_line.new.watch)
+  had =
+      record {
+        shape = c.is_whole.ensures.shape;
+        its_line = c.requires.line;
+        path = c.in-Ok.ensures.fetched.path;
+        counted =
+            λ trusted.
+            line_counter-is c.args.self.now.shape c.args.at (g.W.Watch.watched c.args.watch.now).nodes c.in-Ok.node (c.in-Ok.ensures.fetched.last trusted);
+        engine = refl;
+      }
+
+  -- what was read is read under the formulas as the call begins
+  read : (answer : Result Line FetchFault)
+      → IsLineFetched (record { shape = shape_of c.geo.result; formulas = g.S.Suite.formulas_of (g.S.Suite.keys c.fetch.new.suite) }) c.args.at (slice_index c.in-Ok.node.0 (c.args.at % 4))
+      (g.B.Board.device c.fetch.new.board) (g.B.Board.device c.fetch_line.new.board) (g.W.Watch.watched c.fetch.new.watch) (g.W.Watch.watched c.fetch_line.new.watch) answer
+      → IsLineFetched (under g c.args.self.now c.args.suite.now) c.args.at (slice_index c.in-Ok.node.0 (c.args.at % 4))
+      (g.B.Board.device c.fetch.new.board) (g.B.Board.device c.fetch_line.new.board) (g.W.Watch.watched c.fetch.new.watch) (g.W.Watch.watched c.fetch_line.new.watch) answer
+  read answer it =
+      subst₂ (λ (shape : Shape) (keys : List ℕ). IsLineFetched (record { shape = shape; formulas = g.S.Suite.formulas_of keys }) c.args.at (slice_index c.in-Ok.node.0 (c.args.at % 4))
+      (g.B.Board.device c.fetch.new.board) (g.B.Board.device c.fetch_line.new.board) (g.W.Watch.watched c.fetch.new.watch) (g.W.Watch.watched c.fetch_line.new.watch) answer)
+      (c.geo.ensures ∙ c.in-Ok.ensures.fetched.path.effect.shape) c.in-Ok.ensures.keys it
+
+pub returns-in-Ok-fetch_line-clause-read : goal.returns-in-Ok-fetch_line-clause-read
+returns-in-Ok-fetch_line-clause-read g c =
+    let before = (goal.at.returns-in-Ok-fetch_line-clause-read g c).After-fetch_line in
+    read-ok (under g c.args.self.now c.args.suite.now) c.args.at (slice_index c.in-Ok.node.0 (c.args.at % 4)) (at g c.args.self.now c.args.board.now c.args.watch.now)
+    (at g c.fetch.new.self c.fetch.new.board c.fetch.new.watch) (at g c.fetch.new.self c.fetch_line.new.board c.fetch_line.new.watch) c.in-Ok-fetch_line.plain
+    (had g before) (read g before (Ok c.in-Ok-fetch_line.plain) c.in-Ok-fetch_line.ensures.fetched)
+
+pub returns-in-Err-Cut-clause-read : goal.returns-in-Err-Cut-clause-read
+returns-in-Err-Cut-clause-read g c =
+    let before = (goal.at.returns-in-Err-Cut-clause-read g c).After-fetch_line in
+    let it = read g before (Err Missed.Cut)
+    (subst (λ fault. IsLineFetched (record { shape = shape_of c.geo.result; formulas = g.S.Suite.formulas_of (g.S.Suite.keys c.fetch.new.suite) }) c.args.at (slice_index c.in-Ok.node.0 (c.args.at % 4))
+    (g.B.Board.device c.fetch.new.board) (g.B.Board.device c.fetch_line.new.board) (g.W.Watch.watched c.fetch.new.watch) (g.W.Watch.watched c.fetch_line.new.watch) (Err fault)) c.in-Err-Cut.field-0-is c.in-Err-Cut.ensures.fetched) in
+    read-cut (under g c.args.self.now c.args.suite.now) c.args.at (slice_index c.in-Ok.node.0 (c.args.at % 4)) (at g c.args.self.now c.args.board.now c.args.watch.now)
+    (at g c.fetch.new.self c.fetch.new.board c.fetch.new.watch) (at g c.fetch.new.self c.fetch_line.new.board c.fetch_line.new.watch)
+    (had g before) it.0 it.1 it.2
+
+pub returns-in-Err-Refused-clause-read : goal.returns-in-Err-Refused-clause-read
+returns-in-Err-Refused-clause-read g c =
+    let before = (goal.at.returns-in-Err-Refused-clause-read g c).After-fetch_line in
+    let it = read g before (Err Missed.Refused)
+    (subst (λ fault. IsLineFetched (record { shape = shape_of c.geo.result; formulas = g.S.Suite.formulas_of (g.S.Suite.keys c.fetch.new.suite) }) c.args.at (slice_index c.in-Ok.node.0 (c.args.at % 4))
+    (g.B.Board.device c.fetch.new.board) (g.B.Board.device c.fetch_line.new.board) (g.W.Watch.watched c.fetch.new.watch) (g.W.Watch.watched c.fetch_line.new.watch) (Err fault)) c.in-Err-Refused.field-0-is c.in-Err-Refused.ensures.fetched) in
+    read-refused (under g c.args.self.now c.args.suite.now) c.args.at (slice_index c.in-Ok.node.0 (c.args.at % 4)) (at g c.args.self.now c.args.board.now c.args.watch.now)
+    (at g c.fetch.new.self c.fetch.new.board c.fetch.new.watch) (at g c.fetch.new.self c.fetch_line.new.board c.fetch_line.new.watch)
+    (had g before) it
+
+pub returns-in-Err-Shown-clause-read : goal.returns-in-Err-Shown-clause-read
+returns-in-Err-Shown-clause-read g c =
+    let before = (goal.at.returns-in-Err-Shown-clause-read g c).After-fetch_line in
+    let it = read g before (Err Missed.Shown)
+    (subst (λ fault. IsLineFetched (record { shape = shape_of c.geo.result; formulas = g.S.Suite.formulas_of (g.S.Suite.keys c.fetch.new.suite) }) c.args.at (slice_index c.in-Ok.node.0 (c.args.at % 4))
+    (g.B.Board.device c.fetch.new.board) (g.B.Board.device c.fetch_line.new.board) (g.W.Watch.watched c.fetch.new.watch) (g.W.Watch.watched c.fetch_line.new.watch) (Err fault)) c.in-Err-Shown.field-0-is c.in-Err-Shown.ensures.fetched) in
+    let sealed = subst (λ (w : WatchState). IsSome (last_seal_of w c.args.at)) (sym c.in-Ok.ensures.fetched.path.watch) (c.requires.usable.watch.each_sealed c.args.at c.requires.line) in
+    read-shown (under g c.args.self.now c.args.suite.now) c.args.at (slice_index c.in-Ok.node.0 (c.args.at % 4)) (at g c.args.self.now c.args.board.now c.args.watch.now)
+    (at g c.fetch.new.self c.fetch.new.board c.fetch.new.watch) (at g c.fetch.new.self c.fetch_line.new.board c.fetch_line.new.watch)
+    (had g before) sealed it

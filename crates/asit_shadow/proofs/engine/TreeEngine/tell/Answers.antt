@@ -1,0 +1,45 @@
+-- A node told more.
+use Rattle.std.proofs.Common.{ℕ, ◌<◌, ◌≤◌, List, [], length, take, get_or, sym, ap, subst, ◌∙◌, arith}
+use Rattle.std.proofs.lemmas.List.{take_all}
+use Rattle.pmem_base.specs.declared.lines.Line.{Line}
+use Rattle.pmem_base.specs.Layout.{meta_lines}
+use Rattle.pmem_base.specs.Shape.{Shape}
+use Rattle.pmem_base.proofs.LineSets.{length-put_lines}
+use Rattle.counter_tree.specs.Layout.{tree_slots}
+use Rattle.counter_tree.specs.declared.nodes.Node.{Node}
+use Rattle.counter_tree.specs.Slots.{slot_of}
+use Rattle.asit_shadow.specs.Writing.{slot_entries, IsWriteTold}
+use Rattle.asit_shadow.proofs.PairSets.{length-set_pairs}
+use Rattle.asit_shadow.proofs.WriteLoops.{told-none, told-next}
+use Rattle.asit_shadow.proofs.engine.TreeEngine.tell.Goals as goal
+
+pub levels-init : goal.levels-init
+levels-init g c = told-none c.args.self.now.shape c.args.at c.args.seal.now (g.W.Watch.watched c.args.watch.now) (g.W.Watch.watched c.note_seal.new.self) c.note_seal.ensures
+
+pub note_node-requires : goal.note_node-requires
+note_node-requires g c =
+    let none : ℕ × Node = (0, record { 0 = [] }) in
+    let low : (get_or c.as_slice-x-items.result.now c.levels.x-index none).0 < meta_lines c.args.self.now.shape =
+    subst (λ (ps : List (ℕ × Node)). c.levels.x-index < length ps → (get_or ps c.levels.x-index none).0 < meta_lines c.args.self.now.shape) (sym c.as_slice-x-items.ensures.value)
+    (c.requires.nodes c.levels.x-index none) c.levels-test.true in
+    let count = length-set_pairs (take c.levels.x-index c.args.nodes.now.items) (g.W.Watch.watched c.args.watch.now).nodes in
+    omega (arith, low, count, c.requires.ready.node_count, ap (λ (nodes : List Node). length nodes) c.levels.invariant.nodes)
+
+pub note_slot-requires : goal.note_slot-requires
+note_slot-requires g c =
+    let count = length-put_lines (slot_entries c.args.self.now.shape (λ i. i) (take c.levels.x-index c.args.nodes.now.items)) (g.W.Watch.watched c.args.watch.now).slots in
+    let same = ap (λ (slots : List Line). length slots) (c.note_node.ensures.noted.slots ∙ c.levels.invariant.slots) in
+    let low : c.slot_of.result < tree_slots c.args.self.now.shape = subst (λ (k : Shape). c.slot_of.result < tree_slots k) c.geo-geo.ensures c.slot_of.ensures.within in
+    omega (arith, low, count, same, c.requires.ready.slot_count)
+
+pub levels-preserved : goal.levels-preserved
+levels-preserved g c =
+    let none : ℕ × Node = (0, record { 0 = [] }) in
+    told-next c.args.self.now.shape c.args.at c.args.seal.now c.args.nodes.now.items c.as_slice-x-items.result.now c.levels.x-index c.slot_of.result c.slot_line.result none
+    (g.W.Watch.watched c.args.watch.now) (g.W.Watch.watched c.levels.watch) (g.W.Watch.watched c.note_node.new.self) (g.W.Watch.watched c.note_slot.new.self) c.as_slice-x-items.ensures.value c.levels-test.true
+    (c.slot_of.ensures.value ∙ ap (λ (k : Shape). slot_of k (get_or c.as_slice-x-items.result.now c.levels.x-index none).0) c.geo-geo.ensures) c.slot_line.ensures c.levels.invariant c.note_node.ensures.noted c.note_slot.ensures.noted
+
+pub returns : goal.returns
+returns g c =
+    subst (λ (ps : List (ℕ × Node)). IsWriteTold c.args.self.now.shape c.args.at c.args.seal.now ps (g.W.Watch.watched c.args.watch.now) (g.W.Watch.watched c.levels.watch))
+    (take_all c.levels.x-index c.args.nodes.now.items (subst (λ (ps : List (ℕ × Node)). length ps ≤ c.levels.x-index) c.as_slice-x-items.ensures.value c.levels-test.false)) c.levels.invariant

@@ -1,0 +1,243 @@
+-- A write: spent, stopped as its path is fetched, cut at the arming latch, cut after it, or done.
+use Rattle.std.proofs.Common.{ℕ, ◌≡◌, ◌≢◌, ◌<◌, ◌-◌, ◌%◌, ◌^◌, List, length, refl, sym, ap, subst, subst₂, ◌∙◌, arith}
+use Rattle.std.specs.Prelude.{All, ◌==◌, true, false, slice_index_or}
+use Rattle.std.proofs.lemmas.Bool.{eqb-true, eqb-false}
+use Rattle.pmem_base.specs.declared.lines.Line.{Line}
+use Rattle.pmem_base.specs.declared.registers.Regs.{Regs}
+use Rattle.pmem_base.specs.Shape.{Shape}
+use Rattle.pmem_base.specs.Layout.{meta_lines}
+use Rattle.pmem_base.specs.Registers.{IsGroup}
+use Rattle.board.specs.Device.{Device, AreToldLines}
+use Rattle.board.specs.Steps.{HasLatched}
+use Rattle.suite.specs.Setup.{Setup}
+use Rattle.counter_tree.specs.declared.nodes.Node.{Node}
+use Rattle.counter_tree.specs.Layout.{tree_slots, tree_size}
+use Rattle.counter_tree.specs.Nodes.{counter, total}
+use Rattle.counter_tree.specs.Shadow.{ChipTree, IsShadowTree}
+use Rattle.counter_tree.specs.Watch.{WatchState}
+use Rattle.asit_shadow.specs.State.{TreeState, IsHeldNode, top_node}
+use Rattle.asit_shadow.specs.Parts.{Parts, parts_of, AreTrusted, IsWatchReady}
+use Rattle.asit_shadow.specs.Calls.{IsUsedUp}
+use Rattle.asit_shadow.specs.Writing.{armed_lines, dirty_entries, pair_at, set_pairs, IsPathRaised, IsSealMade, IsTreeNamed, IsWriteTold, IsWriteMade}
+use Rattle.asit_shadow.proofs.PairSets.{pairs-count}
+use Rattle.asit_shadow.proofs.WriteCalls.{top-used_up, fetch-unspent, armed-IsGroup}
+use Rattle.asit_shadow.proofs.WriteEnds.{write-spent, write-stopped, write-lost}
+use Rattle.asit_shadow.proofs.WriteDone.{IsArmedWrite, write-kept, write-done}
+use Rattle.asit_shadow.proofs.engine.TreeEngine.write_line.Given.{Over}
+use Rattle.asit_shadow.proofs.engine.TreeEngine.write_line.Goals.{After-is_used_up, After-next_regs-regs}
+use Rattle.asit_shadow.proofs.engine.TreeEngine.write_line.Goals as goal
+
+abbrev at : (g : Over) → TreeState → g.row.B.Denot → g.row.W.Denot → Parts
+at g engine board watch = parts_of engine (g.B.Board.device board) (g.W.Watch.watched watch)
+
+abbrev under : (g : Over) → TreeState → g.row.S.Denot → Setup
+under g engine suite = record { shape = engine.shape; formulas = g.S.Suite.formulas_of (g.S.Suite.keys suite) }
+
+-- ---- before the latch
+
+module _ (g : Over) (c : After-is_used_up g) where
+  -- the top's version, as the code tests it
+  tested : c.is_used_up.result ≡ (total (top_node c.args.self.now.cache) == 2 ^ 64 - 1)
+  tested = c.is_used_up.ensures ∙ ap (λ (n : Node). total n == 2 ^ 64 - 1) c.top.ensures.value
+
+  spent : c.is_used_up.result ≡ true → total (top_node c.args.self.now.cache) ≡ 2 ^ 64 - 1
+  spent is = eqb-true (total (top_node c.args.self.now.cache)) (2 ^ 64 - 1) (sym tested ∙ is)
+
+  unspent : c.is_used_up.result ≡ false → total (top_node c.args.self.now.cache) ≢ 2 ^ 64 - 1
+  unspent is = eqb-false (total (top_node c.args.self.now.cache)) (2 ^ 64 - 1) (sym tested ∙ is)
+
+  used_up : c.is_used_up.result ≡ true → AreTrusted (under g c.args.self.now c.args.suite.now) (at g c.args.self.now c.args.board.now c.args.watch.now)
+      → IsUsedUp (at g c.args.self.now c.args.board.now c.args.watch.now)
+  used_up is trusted =
+      sym (top-used_up (under g c.args.self.now c.args.suite.now) (at g c.args.self.now c.args.board.now c.args.watch.now) trusted) ∙ spent is
+
+  unused : c.is_used_up.result ≡ false → AreTrusted (under g c.args.self.now c.args.suite.now) (at g c.args.self.now c.args.board.now c.args.watch.now)
+      → IsUsedUp (at g c.args.self.now c.args.board.now c.args.watch.now) → ⊥
+  unused is trusted up =
+      unspent is (top-used_up (under g c.args.self.now c.args.suite.now) (at g c.args.self.now c.args.board.now c.args.watch.now) trusted ∙ up)
+
+pub returns-then-is_used_up-clause-written : goal.returns-then-is_used_up-clause-written
+returns-then-is_used_up-clause-written g c =
+    let before = (goal.at.returns-then-is_used_up-clause-written g c).After-is_used_up in
+    write-spent (under g c.args.self.now c.args.suite.now) c.args.at c.args.line.now (at g c.args.self.now c.args.board.now c.args.watch.now) (used_up g before c.if-is_used_up.true)
+
+pub returns-then-is_used_up-clause-spent : goal.returns-then-is_used_up-clause-spent
+returns-then-is_used_up-clause-spent g c =
+    let before = (goal.at.returns-then-is_used_up-clause-spent g c).After-is_used_up in
+    (λ _. spent g before c.if-is_used_up.true, λ _. tt)
+
+pub returns-in-Err-clause-written : goal.returns-in-Err-clause-written
+returns-in-Err-clause-written g c =
+    let before = (goal.at.returns-in-Err-clause-written g c).After-is_used_up in
+    write-stopped (under g c.args.self.now c.args.suite.now) c.args.at c.args.line.now (at g c.args.self.now c.args.board.now c.args.watch.now) (at g c.fetch.new.self c.fetch.new.board c.fetch.new.watch) c.in-Err.fault
+    (unused g before c.if-is_used_up.false) c.in-Err.ensures.stopped
+
+pub returns-in-Err-clause-spent : goal.returns-in-Err-clause-spent
+returns-in-Err-clause-spent g c =
+    let before = (goal.at.returns-in-Err-clause-spent g c).After-is_used_up in
+    (λ is. absurd (fetch-unspent c.in-Err.fault c.in-Err.ensures.stopped.kind is), λ e. absurd (unspent g before c.if-is_used_up.false e))
+
+-- ---- the registers
+
+module _ (g : Over) (c : After-next_regs-regs g) where
+  -- the engine's shape and the keys are those as the call begins
+  shape : c.fetch.new.self.shape ≡ c.args.self.now.shape
+  shape = c.in-Ok.ensures.fetched.path.effect.shape
+
+  raised : IsPathRaised c.args.self.now.shape c.fetch.new.self.cache c.args.at c.raised-nodes.result.items
+  raised = subst (λ (k : Shape). IsPathRaised k c.fetch.new.self.cache c.args.at c.raised-nodes.result.items) shape c.raised-nodes.ensures
+
+  sealed_as : IsSealMade (g.S.Suite.formulas_of (g.S.Suite.keys c.args.suite.now)) c.args.at c.last_counter.result c.args.line.now c.sealed-seal.result
+  sealed_as =
+      subst (λ (keys : List ℕ). IsSealMade (g.S.Suite.formulas_of keys) c.args.at c.last_counter.result c.args.line.now c.sealed-seal.result)
+      c.in-Ok.ensures.keys c.sealed-seal.ensures.made
+
+  keys : g.S.Suite.keys c.sealed-seal.new.suite ≡ g.S.Suite.keys c.args.suite.now
+  keys = c.sealed-seal.ensures.keys ∙ c.in-Ok.ensures.keys
+
+  group : c.next_regs-regs.result.group.items ≡ armed_lines c.args.self.now.shape c.args.at c.sealed-seal.result c.raised-nodes.result.items
+  group = c.next_regs-regs.ensures.group ∙ ap (λ (k : Shape). armed_lines k c.args.at c.sealed-seal.result c.raised-nodes.result.items) shape
+
+  is_group : IsGroup (tree_size c.args.self.now.shape) c.next_regs-regs.result.group.items
+  is_group =
+      subst (IsGroup (tree_size c.args.self.now.shape)) (sym group)
+      (armed-IsGroup c.args.self.now.shape c.args.at c.sealed-seal.result c.raised-nodes.result.items c.is_whole.ensures.shape c.requires.line sealed_as.in_range raised.positions)
+
+  root : (slots : List Line) → length slots ≡ tree_slots c.args.self.now.shape
+      → IsShadowTree (g.S.Suite.formulas_of (g.S.Suite.keys c.args.suite.now)) c.fetch.new.self.tree.height slots c.fetch.new.self.tree.lines
+      → IsTreeNamed (g.S.Suite.formulas_of (g.S.Suite.keys c.args.suite.now)) c.args.self.now.shape c.raised-nodes.result.items c.fetch.new.self.tree c.next_regs-regs.new.self.tree c.next_regs-regs.result.root slots
+  root =
+      subst₂ (λ (k : Shape) (keys : List ℕ). (slots : List Line) → length slots ≡ tree_slots k
+      → IsShadowTree (g.S.Suite.formulas_of keys) c.fetch.new.self.tree.height slots c.fetch.new.self.tree.lines
+      → IsTreeNamed (g.S.Suite.formulas_of keys) k c.raised-nodes.result.items c.fetch.new.self.tree c.next_regs-regs.new.self.tree c.next_regs-regs.result.root slots) shape keys c.next_regs-regs.ensures.root
+
+  -- the write, told and stored
+  write_made : (engine : TreeState) (device : Device) (watch : WatchState)
+      → IsWriteTold c.next_regs-regs.new.self.shape c.args.at c.sealed-seal.result c.raised-nodes.result.items (g.W.Watch.watched c.fetch.new.watch) watch
+      → engine.cache ≡ set_pairs (dirty_entries c.next_regs-regs.new.self.shape c.raised-nodes.result.items) c.next_regs-regs.new.self.cache
+      → engine.shape ≡ c.next_regs-regs.new.self.shape → engine.tree ≡ c.next_regs-regs.new.self.tree → engine.down ≡ c.next_regs-regs.new.self.down
+      → IsWriteMade (under g c.args.self.now c.args.suite.now) c.args.at c.args.line.now c.sealed-seal.result c.raised-nodes.result.items c.next_regs-regs.result
+      (at g c.fetch.new.self c.fetch.new.board c.fetch.new.watch) (parts_of engine device watch)
+  write_made engine device watch told cache its_shape tree down =
+      let count = pairs-count c.args.self.now.shape c.args.at c.raised-nodes.result.items raised.positions in
+      let same : c.next_regs-regs.new.self.shape ≡ c.args.self.now.shape = c.next_regs-regs.ensures.shape ∙ shape in
+      record {
+        raised = raised;
+        made = subst (λ n. IsSealMade (g.S.Suite.formulas_of (g.S.Suite.keys c.args.suite.now)) c.args.at n c.args.line.now c.sealed-seal.result) (sym sealed_as.its_counter) sealed_as;
+        counted =
+            sealed_as.its_counter ∙ (c.last_counter.ensures
+            ∙ ap (λ n. counter (pair_at c.raised-nodes.result.items n).1 (c.args.at % 4)) (omega (arith, count)));
+        group = group;
+        root =
+            λ slots long over.
+            subst (λ (t : ChipTree). IsTreeNamed (g.S.Suite.formulas_of (g.S.Suite.keys c.args.suite.now)) c.args.self.now.shape c.raised-nodes.result.items c.fetch.new.self.tree t c.next_regs-regs.result.root slots) (sym tree)
+            (root slots long over);
+        told =
+            subst (λ (k : Shape). IsWriteTold k c.args.at c.sealed-seal.result c.raised-nodes.result.items (g.W.Watch.watched c.fetch.new.watch) watch) same told;
+        cache =
+            cache
+            ∙ (ap (λ (k : Shape). set_pairs (dirty_entries k c.raised-nodes.result.items) c.next_regs-regs.new.self.cache) same
+            ∙ ap (set_pairs (dirty_entries c.args.self.now.shape c.raised-nodes.result.items)) c.next_regs-regs.ensures.cache);
+        height = ap (λ (t : ChipTree). t.height) tree ∙ c.next_regs-regs.ensures.height;
+        shape = its_shape ∙ c.next_regs-regs.ensures.shape;
+        down = down ∙ c.next_regs-regs.ensures.down;
+      }
+
+  armed : (new : Parts) (device : Device)
+      → (AreTrusted (under g c.args.self.now c.args.suite.now) (at g c.args.self.now c.args.board.now c.args.watch.now) → IsUsedUp (at g c.args.self.now c.args.board.now c.args.watch.now) → ⊥)
+      → HasLatched (g.B.Board.device c.fetch.new.board) c.next_regs-regs.result device
+      → IsWriteMade (under g c.args.self.now c.args.suite.now) c.args.at c.args.line.now c.sealed-seal.result c.raised-nodes.result.items c.next_regs-regs.result
+      (at g c.fetch.new.self c.fetch.new.board c.fetch.new.watch) new
+      → IsArmedWrite (under g c.args.self.now c.args.suite.now) c.args.at c.args.line.now c.sealed-seal.result c.raised-nodes.result.items c.next_regs-regs.result
+      (at g c.args.self.now c.args.board.now c.args.watch.now) (at g c.fetch.new.self c.fetch.new.board c.fetch.new.watch) new device
+  armed new device unspent latched made =
+      record {
+        shape = c.is_whole.ensures.shape;
+        inside = c.requires.line;
+        engine = c.is_whole-2.ensures.engine;
+        whole = subst (λ n. AreToldLines n (g.B.Board.device c.fetch.new.board).lines) (c.in-Ok.ensures.fetched.path.effect.size ∙ c.requires.usable.board.its_size) (g.met.B.Board.whole c.fetch.new.board);
+        node = c.in-Ok.field-0;
+        fetched = c.in-Ok.ensures.fetched;
+        unspent = unspent;
+        made = made;
+        latched = latched;
+        group = is_group;
+      }
+
+-- ---- what the calls ask
+
+pub last_counter-requires : goal.last_counter-requires
+last_counter-requires g c =
+    omega (arith, pairs-count c.fetch.new.self.shape c.args.at c.raised-nodes.result.items c.raised-nodes.ensures.positions)
+
+pub next_regs-regs-requires-clause-nodes : goal.next_regs-regs-requires-clause-nodes
+next_regs-regs-requires-clause-nodes g c =
+    λ k d inside. (c.raised-nodes.ensures.whole k d inside).on_tree
+
+pub next_regs-regs-requires-clause-some : goal.next_regs-regs-requires-clause-some
+next_regs-regs-requires-clause-some g c =
+    omega (arith, pairs-count c.fetch.new.self.shape c.args.at c.raised-nodes.result.items c.raised-nodes.ensures.positions)
+
+pub arm-requires-clause-group : goal.arm-requires-clause-group
+arm-requires-clause-group g c =
+    let before = (goal.at.arm-requires-clause-group g c).After-next_regs-regs in
+    subst (λ n. IsGroup n c.next_regs-regs.result.group.items) (sym (c.in-Ok.ensures.fetched.path.effect.size ∙ c.requires.usable.board.its_size)) (is_group g before)
+
+pub finish-requires : goal.finish-requires
+finish-requires g c =
+    let before = (goal.at.finish-requires g c).After-next_regs-regs in
+    let latched = c.in-Ok-arm.ensures.ok in
+    subst (λ (r : Regs). IsGroup (g.B.Board.device c.arm.new.board).size r.group.items) (sym latched.regs)
+    (subst (λ n. IsGroup n c.next_regs-regs.result.group.items) (sym (latched.size ∙ (c.in-Ok.ensures.fetched.path.effect.size ∙ c.requires.usable.board.its_size))) (is_group g before))
+
+pub tell-requires-clause-nodes : goal.tell-requires-clause-nodes
+tell-requires-clause-nodes g c =
+    λ k d inside.
+    subst (λ (e : Shape). (slice_index_or c.raised-nodes.result.items k d).0 < meta_lines e) (sym c.next_regs-regs.ensures.shape)
+    (c.raised-nodes.ensures.whole k d inside).on_tree
+
+pub tell-requires-clause-ready : goal.tell-requires-clause-ready
+tell-requires-clause-ready g c =
+    let before = (goal.at.tell-requires-clause-ready g c).After-next_regs-regs in
+    subst₂ (λ (e : Shape) (w : WatchState). IsWatchReady e w) (sym (c.next_regs-regs.ensures.shape ∙ shape g before)) (sym c.in-Ok.ensures.fetched.path.watch) c.requires.usable.watch
+
+pub store-requires : goal.store-requires
+store-requires g c =
+    subst (λ (e : Shape). All (λ (pair : ℕ × Node). IsHeldNode e (record { x = pair.0; node = pair.1; dirty = true })) c.raised-nodes.result.items) (sym c.next_regs-regs.ensures.shape)
+    c.raised-nodes.ensures.whole
+
+-- ---- the returns
+
+pub returns-in-Err-arm-clause-written : goal.returns-in-Err-arm-clause-written
+returns-in-Err-arm-clause-written g c =
+    let before = (goal.at.returns-in-Err-arm-clause-written g c).After-is_used_up in
+    write-lost (under g c.args.self.now c.args.suite.now) c.args.at c.args.line.now (at g c.args.self.now c.args.board.now c.args.watch.now) (at g c.fetch.new.self c.fetch.new.board c.fetch.new.watch) (at g c.next_regs-regs.new.self c.arm.new.board c.fetch.new.watch) c.in-Ok.field-0
+    (unused g before c.if-is_used_up.false) c.in-Ok.ensures.fetched c.next_regs-regs.ensures.shape c.next_regs-regs.ensures.down c.in-Err-arm.ensures.cut refl
+
+pub returns-in-Err-finish-clause-written : goal.returns-in-Err-finish-clause-written
+returns-in-Err-finish-clause-written g c =
+    let first = (goal.at.returns-in-Err-finish-clause-written g c).After-is_used_up in
+    let before = (goal.at.returns-in-Err-finish-clause-written g c).After-next_regs-regs in
+    let latched = c.in-Ok-arm.ensures.ok in
+    let cut = c.in-Err-finish.ensures.cut in
+    write-kept (under g c.args.self.now c.args.suite.now) c.args.at c.args.line.now c.sealed-seal.result c.raised-nodes.result.items c.next_regs-regs.result
+    (at g c.args.self.now c.args.board.now c.args.watch.now) (at g c.fetch.new.self c.fetch.new.board c.fetch.new.watch) (at g c.store.new.self c.finish.new.board c.tell.new.watch) (g.B.Board.device c.arm.new.board)
+    (armed g before (at g c.store.new.self c.finish.new.board c.tell.new.watch) (g.B.Board.device c.arm.new.board) (unused g first c.if-is_used_up.false) latched
+    (write_made g before c.store.new.self (g.B.Board.device c.finish.new.board) (g.W.Watch.watched c.tell.new.watch) c.tell.ensures c.store.ensures.cache c.store.ensures.shape c.store.ensures.tree c.store.ensures.down))
+    (subst (λ n. AreToldLines n (g.B.Board.device c.finish.new.board).lines) (cut.size ∙ (latched.size ∙ (c.in-Ok.ensures.fetched.path.effect.size ∙ c.requires.usable.board.its_size))) (g.met.B.Board.whole c.finish.new.board))
+    cut
+
+pub returns-clause-written : goal.returns-clause-written
+returns-clause-written g c =
+    let first = (goal.at.returns-clause-written g c).After-is_used_up in
+    let before = (goal.at.returns-clause-written g c).After-next_regs-regs in
+    write-done (under g c.args.self.now c.args.suite.now) c.args.at c.args.line.now c.sealed-seal.result c.raised-nodes.result.items c.next_regs-regs.result
+    (at g c.args.self.now c.args.board.now c.args.watch.now) (at g c.fetch.new.self c.fetch.new.board c.fetch.new.watch) (at g c.store.new.self c.finish.new.board c.tell.new.watch) (g.B.Board.device c.arm.new.board)
+    (armed g before (at g c.store.new.self c.finish.new.board c.tell.new.watch) (g.B.Board.device c.arm.new.board) (unused g first c.if-is_used_up.false) c.in-Ok-arm.ensures.ok
+    (write_made g before c.store.new.self (g.B.Board.device c.finish.new.board) (g.W.Watch.watched c.tell.new.watch) c.tell.ensures c.store.ensures.cache c.store.ensures.shape c.store.ensures.tree c.store.ensures.down))
+    c.in-Ok-finish.ensures.ok
+
+pub returns-clause-spent : goal.returns-clause-spent
+returns-clause-spent g c =
+    let first = (goal.at.returns-clause-spent g c).After-is_used_up in
+    (λ is. absurd is, λ e. absurd (unspent g first c.if-is_used_up.false e))

@@ -1,0 +1,60 @@
+-- A line sealed more.
+use Rattle.std.proofs.Common.{ℕ, ◌≡◌, ◌+◌, ◌*◌, List, length, Some, ap, subst, ◌∙◌, arith}
+use Rattle.std.specs.Prelude.{Option, option_map}
+use Rattle.pmem_base.specs.Geo.{shape_of}
+use Rattle.board.specs.Steps.{with_line}
+use Rattle.counter_tree.specs.declared.watch.LineSeal.{LineSeal}
+use Rattle.counter_tree.specs.Layout.{tree_lines, line_of_tag}
+use Rattle.counter_tree.specs.Watch.{HasSealNoted}
+use Rattle.pmem_recovery.specs.Formatting.{StaysSteady}
+use Rattle.pmem_recovery.proofs.FormatSteps.{StaysSteady-then}
+use Rattle.pmem_recovery.proofs.PartLaws.{SuiteRise-then, SuiteRise-as}
+use Rattle.asit_shadow.specs.Paths.{tag_only}
+use Rattle.asit_shadow.specs.Formatting.{first_seal, sealed_lines, AreSealsTold}
+use Rattle.asit_shadow.proofs.FormatSteps.{length-set_first, sealed-more, seals-more}
+use Rattle.asit_shadow.proofs.formatting.seal_lines.Goals as goal
+
+pub seal_one-requires-clause-seals : goal.seal_one-requires-clause-seals
+seal_one-requires-clause-seals g c =
+    ap (λ (seals : List (Option LineSeal)). length seals) c.lines.invariant.told.seals
+    ∙ (length-set_first (λ a. a) (λ a. Some (first_seal (g.S.Suite.formulas_of (g.S.Suite.keys c.args.suite.now)) a)) c.lines.at (g.W.Watch.watched c.args.watch.now).seals ∙ c.requires.seals)
+
+pub lines-preserved : goal.lines-preserved
+lines-preserved g c =
+    let two : 2 * c.lines.at + 2 ≡ 2 * (c.lines.at + 1) = omega arith in
+    record {
+      steady =
+          subst (λ n. StaysSteady n (g.B.Board.device c.args.board.now) (g.B.Board.device c.seal_one.new.board)) two
+          (StaysSteady-then (2 * c.lines.at) 2 (g.B.Board.device c.args.board.now) (g.B.Board.device c.lines.board) (g.B.Board.device c.seal_one.new.board) c.lines.invariant.steady c.seal_one.ensures.steady);
+      lines =
+          sealed-more (record { shape = shape_of c.args.geo.now; formulas = g.S.Suite.formulas_of (g.S.Suite.keys c.args.suite.now) }) c.lines.at (g.B.Board.device c.args.board.now).lines (g.B.Board.device c.lines.board).lines (g.B.Board.device c.seal_one.new.board).lines
+          c.lines.invariant.lines
+          (subst (λ (keys : List ℕ). (g.B.Board.device c.seal_one.new.board).lines
+          ≡ with_line (with_line (g.B.Board.device c.lines.board).lines c.lines.at (first_seal (g.S.Suite.formulas_of keys) c.lines.at).cipher) (line_of_tag (shape_of c.args.geo.now) c.lines.at) (tag_only (first_seal (g.S.Suite.formulas_of keys) c.lines.at).tag)) c.lines.invariant.keys c.seal_one.ensures.lines);
+      told =
+          seals-more (g.S.Suite.formulas_of (g.S.Suite.keys c.args.suite.now)) c.lines.at (g.W.Watch.watched c.args.watch.now) (g.W.Watch.watched c.lines.watch) (g.W.Watch.watched c.seal_one.new.watch) c.lines.invariant.told
+          (subst (λ (keys : List ℕ). HasSealNoted (g.W.Watch.watched c.lines.watch) (g.W.Watch.watched c.seal_one.new.watch) c.lines.at (first_seal (g.S.Suite.formulas_of keys) c.lines.at)) c.lines.invariant.keys c.seal_one.ensures.noted);
+      counts = SuiteRise-then c.lines.at c.lines.at 0 1 1 0 _ _ _ c.lines.invariant.counts c.seal_one.ensures.counts;
+      keys = c.seal_one.ensures.keys ∙ c.lines.invariant.keys;
+    }
+
+pub returns-clause-steady : goal.returns-clause-steady
+returns-clause-steady g c =
+    let all : c.lines.at ≡ tree_lines (shape_of c.args.geo.now) = omega arith in
+    subst (λ n. StaysSteady (2 * n) (g.B.Board.device c.args.board.now) (g.B.Board.device c.lines.board)) all c.lines.invariant.steady
+
+pub returns-clause-lines : goal.returns-clause-lines
+returns-clause-lines g c =
+    let all : c.lines.at ≡ tree_lines (shape_of c.args.geo.now) = omega arith in
+    subst (λ n. (g.B.Board.device c.lines.board).lines ≡ option_map (sealed_lines (record { shape = shape_of c.args.geo.now; formulas = g.S.Suite.formulas_of (g.S.Suite.keys c.args.suite.now) }) n) (g.B.Board.device c.args.board.now).lines) all c.lines.invariant.lines
+
+pub returns-clause-told : goal.returns-clause-told
+returns-clause-told g c =
+    let all : c.lines.at ≡ tree_lines (shape_of c.args.geo.now) = omega arith in
+    subst (λ n. AreSealsTold (g.S.Suite.formulas_of (g.S.Suite.keys c.args.suite.now)) n (g.W.Watch.watched c.args.watch.now) (g.W.Watch.watched c.lines.watch)) all c.lines.invariant.told
+
+pub returns-clause-counts : goal.returns-clause-counts
+returns-clause-counts g c =
+    let all : c.lines.at ≡ tree_lines (shape_of c.args.geo.now) = omega arith in
+    let none : 0 ≡ 0 = omega arith in
+    SuiteRise-as _ _ 0 _ _ 0 _ _ all all none c.lines.invariant.counts

@@ -1,0 +1,89 @@
+-- The ends of a recovery before an engine is made.
+use Rattle.std.proofs.Common.{ℕ, suc, ◌≡◌, ◌<◌, ◌≤◌, ◌^◌, length, List, refl, sym, ap, subst, ◌∙◌, arith}
+use Rattle.std.proofs.lemmas.Bool.{true≢false}
+use Rattle.pmem_base.specs.declared.lines.Line.{Line}
+use Rattle.pmem_base.specs.declared.registers.Regs.{Regs}
+use Rattle.pmem_base.specs.Geo.{shape_of}
+use Rattle.suite.specs.Setup.{Setup}
+use Rattle.counter_tree.specs.Shadow.{IsShadowTree, shadow_height, shadow_root}
+use Rattle.counter_tree.proofs.ShadowLaws.{shadow_height-room}
+use Rattle.asit_shadow.specs.Recovering.{Rest, rest_of, AreSlotsRead, IsReadFinished}
+use Rattle.asit_shadow.proofs.RecoverEnds.{read_finished, slots-read, root-is, refused_end, shown_end}
+use Rattle.asit_shadow.proofs.recovery.fill_room.Given.{Over}
+use Rattle.asit_shadow.proofs.recovery.fill_room.Goals.{After-regs}
+use Rattle.asit_shadow.proofs.recovery.fill_room.Goals as goal
+
+pub fill-found-requires : goal.fill-found-requires
+fill-found-requires g c =
+    let room = shadow_height-room (shape_of c.args.geo.now) c.layout_is_one_to_one.ensures.ranges in
+    subst (λ h. length c.read_slots.new.slots ≤ 4 ^ h) (sym c.requires.height)
+    (omega (arith, room, c.requires.slots, c.read_slots.auto.slots))
+
+module _ (g : Over) (c : After-regs g) where
+  setup : Setup
+  setup = record { shape = shape_of c.args.geo.now; formulas = g.S.Suite.formulas_of (g.S.Suite.keys c.args.suite.now) }
+
+  finished : IsReadFinished (g.B.Board.device c.args.board.now) (g.B.Board.device c.read_slots.new.board)
+  finished =
+      read_finished (g.B.Board.device c.args.board.now) (g.B.Board.device c.finish.new.board) (g.B.Board.device c.read_slots.new.board)
+      c.in-Ok.ensures.ok c.in-Ok-read_slots.ensures.ok
+
+  read : AreSlotsRead (shape_of c.args.geo.now) c.read_slots.new.slots (g.B.Board.device c.read_slots.new.board)
+  read =
+      slots-read (shape_of c.args.geo.now) c.read_slots.new.slots (g.B.Board.device c.finish.new.board) (g.B.Board.device c.read_slots.new.board)
+      (c.read_slots.auto.slots ∙ c.requires.slots) c.in-Ok-read_slots.ensures.whole c.in-Ok-read_slots.ensures.told c.in-Ok-read_slots.ensures.ok
+
+  root : c.fill-found.result ≡ shadow_root (shape_of c.args.geo.now) (g.S.Suite.formulas_of (g.S.Suite.keys c.args.suite.now)) c.read_slots.new.slots
+  root =
+      root-is (shape_of c.args.geo.now) (g.S.Suite.formulas_of (g.S.Suite.keys c.args.suite.now)) c.args.tree.now.height c.read_slots.new.slots c.fill-found.result
+      c.requires.height c.fill-found.ensures.root
+
+  kept : c.regs.result.now.root ≡ (g.B.Board.device c.read_slots.new.board).regs.root
+  kept = ap (λ (r : Regs). r.root) c.regs.ensures
+
+pub returns-then-not-is_kept-clause-filled : goal.returns-then-not-is_kept-clause-filled
+unfolding setup
+returns-then-not-is_kept-clause-filled g c =
+    let before = (goal.at.returns-then-not-is_kept-clause-filled g c).After-regs in
+    refused_end (setup g before) c.regs.result.now.root c.fill-found.result c.read_slots.new.slots
+    (rest_of (g.B.Board.device c.args.board.now) (g.W.Watch.watched c.args.watch.now)) (rest_of (g.B.Board.device c.read_slots.new.board) (g.W.Watch.watched c.args.watch.now))
+    (g.S.Suite.digests c.args.suite.now) (g.S.Suite.digests c.fill-found.new.suite) (finished g before) (read g before) (kept g before) (root g before)
+    (λ same. true≢false (sym (c.is_kept.ensures.1 same) ∙ c.if-not-is_kept.true)) refl
+
+pub returns-in-Stop-clause-filled : goal.returns-in-Stop-clause-filled
+unfolding setup
+returns-in-Stop-clause-filled g c =
+    let before = (goal.at.returns-in-Stop-clause-filled g c).After-regs in
+    let same : c.regs.result.now.root ≡ c.fill-found.result = c.is_kept.ensures.0 c.if-not-is_kept.false in
+    shown_end (setup g before) c.read_slots.new.slots c.in-Stop.ensures.1.0
+    (rest_of (g.B.Board.device c.args.board.now) (g.W.Watch.watched c.args.watch.now)) (rest_of (g.B.Board.device c.read_slots.new.board) (g.W.Watch.watched c.see_slots.new.self))
+    (g.S.Suite.digests c.args.suite.now) (g.S.Suite.digests c.fill-found.new.suite) c.layout_is_one_to_one.ensures.ranges (g.met.S.Suite.in_range c.args.suite.now)
+    (finished g before) (read g before) (sym (root g before) ∙ (sym same ∙ kept g before)) c.in-Stop.ensures.0 c.in-Stop.ensures.1.1 c.in-Stop.ensures.1.2
+
+pub returns-clause-filled : goal.returns-clause-filled
+returns-clause-filled g c =
+    let before = (goal.at.returns-clause-filled g c).After-regs in
+    let same : c.regs.result.now.root ≡ c.fill-found.result = c.is_kept.ensures.0 c.if-not-is_kept.false in
+    let root_old : (g.B.Board.device c.read_slots.new.board).regs.root ≡ (g.B.Board.device c.args.board.now).regs.root = ap (λ (r : Regs). r.root) (finished g before).regs in
+    record {
+      finished = finished g before;
+      accepted =
+          record {
+            slots = c.read_slots.new.slots;
+            read = read g before;
+            root = sym (root g before) ∙ (sym same ∙ (kept g before ∙ root_old));
+            true_slots = c.in-On.ensures.0;
+            same = c.in-On.ensures.1;
+          };
+      counted = subst (λ h. g.S.Suite.digests c.fill-found.new.suite ≡ Rattle.pmem_base.specs.Counts.risen_times (Rattle.pmem_base.specs.Layout.level_start (suc h)) (g.S.Suite.digests c.args.suite.now)) c.requires.height c.fill-found.ensures.digests;
+      count = c.put_named.auto.cache ∙ c.requires.cache;
+      each_held = c.put_named.ensures.held;
+      named =
+          subst (λ (slots : List Line). (i : ℕ) → i < Rattle.counter_tree.specs.Layout.tree_slots (shape_of c.args.geo.now) → Rattle.asit_shadow.specs.Recovering.IsNameable (shape_of c.args.geo.now) (Rattle.counter_tree.specs.Slots.slot_read (Rattle.pmem_base.specs.Lines.line_at slots i))
+          → Rattle.asit_shadow.specs.State.cache_at c.put_named.new.cache i ≡ Rattle.asit_shadow.specs.Steps.held_of (Rattle.counter_tree.specs.Slots.slot_read (Rattle.pmem_base.specs.Lines.line_at slots i))) c.in-On.ensures.0 c.put_named.ensures.named;
+      tree_whole = c.is_whole.ensures;
+      tree_height = c.fill-found.ensures.height ∙ c.requires.height;
+      over =
+          subst (λ (slots : List Line). IsShadowTree (g.S.Suite.formulas_of (g.S.Suite.keys c.args.suite.now)) (shadow_height (shape_of c.args.geo.now)) slots c.fill-found.new.self.lines) c.in-On.ensures.0
+          (subst (λ h. IsShadowTree (g.S.Suite.formulas_of (g.S.Suite.keys c.args.suite.now)) h c.read_slots.new.slots c.fill-found.new.self.lines) c.requires.height c.fill-found.ensures.tree);
+    }

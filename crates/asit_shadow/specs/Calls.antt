@@ -1,0 +1,324 @@
+-- What each call of the engine makes of its parts: one relation a call.
+use Rattle.std.specs.Prelude.{ℕ, ◌≡◌, ◌≢◌, ◌<◌, ◌≤◌, ◌+◌, ◌-◌, ◌*◌, ◌^◌, ◌⊎◌, ◌↔◌, true, false, not, ◌||◌, Some, None, IfSome, IsSome, Result, Ok, Err, ⊤}
+use Rattle.pmem_base.specs.declared.lines.Line.{Line}
+use Rattle.pmem_base.specs.declared.registers.Regs.{Regs}
+use Rattle.pmem_base.specs.declared.answers.Exhibit.TheVariants.{Forged}
+use Rattle.pmem_base.specs.Shape.{Shape}
+use Rattle.pmem_base.specs.Layout.{meta_lines}
+use Rattle.pmem_base.specs.Lines.{tag_slot}
+use Rattle.suite.specs.Setup.{Setup}
+use Rattle.suite.specs.Formulas.{cipher_of}
+use Rattle.board.specs.Counts.{RisesBy}
+use Rattle.board.specs.Device.{Device}
+use Rattle.board.specs.Steps.{Tells}
+use Rattle.collision_witness.specs.Exhibits.{IsExhibit}
+use Rattle.commit_regs.specs.Groups.{RisesAtMost}
+use Rattle.pmem_engine.specs.Outcomes.{Outcome, going, cut_short, shown, is_going, HasPower}
+use Rattle.counter_tree.specs.declared.nodes.Node.{Node}
+use Rattle.counter_tree.specs.declared.watch.LineSeal.{LineSeal}
+use Rattle.counter_tree.specs.Nodes.{total, version_counter, node_read}
+use Rattle.counter_tree.specs.Layout.{tree_lines, tree_slots, line_of_tag, line_of_node}
+use Rattle.counter_tree.specs.Trees.{node_at, line_counter, is_on_line_path}
+use Rattle.counter_tree.specs.Watch.{WatchState, last_seal_of, forged_node}
+use Rattle.asit_shadow.specs.declared.fault.TreeFault.{TreeFault}
+use Rattle.asit_shadow.specs.declared.fault.TreeFault.TheVariants as Fail
+use Rattle.asit_shadow.specs.State.{top_node, IsCached}
+use Rattle.asit_shadow.specs.Paths.{IsPathCached}
+use Rattle.asit_shadow.specs.Steps.{IsArmed, IsEmptied, plain_line}
+use Rattle.asit_shadow.specs.Parts.{Parts, AreAnchored, AreTrusted, AreDurable, AreSound, HoldsSeal, HoldsSlot, HoldsNode, KeepsNode}
+
+-- ---- ends of a call
+
+abbrev pub outcome_of_fault : TreeFault → Outcome
+outcome_of_fault Fail.Cut = cut_short
+outcome_of_fault Fail.Shown = shown
+outcome_of_fault fault = going
+
+abbrev pub outcome_of : {T : Type 0} → Result T TreeFault → Outcome
+outcome_of (Ok value) = going
+outcome_of (Err fault) = outcome_of_fault fault
+
+abbrev pub IsDownAnswer : {T : Type 0} → Result T TreeFault → Type 0
+IsDownAnswer (Err Fail.Down) = ⊤
+IsDownAnswer answer = ⊥
+
+-- no refusal of a node or a tag, and no exhibit
+abbrev pub IsUnrefusedFault : TreeFault → Type 0
+IsUnrefusedFault Fail.Cut = ⊤
+IsUnrefusedFault Fail.Spent = ⊤
+IsUnrefusedFault fault = ⊥
+
+abbrev pub IsUnrefused : {T : Type 0} → Result T TreeFault → Type 0
+IsUnrefused (Ok value) = ⊤
+IsUnrefused (Err fault) = IsUnrefusedFault fault
+
+-- neither done nor cut
+abbrev pub IsRefusal : {T : Type 0} → Result T TreeFault → Type 0
+IsRefusal (Ok value) = ⊥
+IsRefusal (Err Fail.Cut) = ⊥
+IsRefusal (Err fault) = ⊤
+
+-- what a read answers at all: never Spent, and Tag of its own line alone
+abbrev pub IsReadAnswer : ℕ → Result Line TreeFault → Type 0
+IsReadAnswer a (Err Fail.Spent) = ⊥
+IsReadAnswer a (Err (Fail.Tag b)) = b ≡ a
+IsReadAnswer a answer = ⊤
+
+-- what a write answers at all: never Tag
+abbrev pub IsWriteAnswer : Result ℕ TreeFault → Type 0
+IsWriteAnswer (Err (Fail.Tag b)) = ⊥
+IsWriteAnswer answer = ⊤
+
+abbrev pub IsSpentAnswer : {T : Type 0} → Result T TreeFault → Type 0
+IsSpentAnswer (Err Fail.Spent) = ⊤
+IsSpentAnswer answer = ⊥
+
+-- Down comes exactly of an engine that is down, and does nothing; a cut and an exhibit take it down
+pub record AnswersDown {T : Type 0} (old new : Parts) (answer : Result T TreeFault) : Type 0 where
+  pub exactly : IsDownAnswer answer ↔ (old.engine.down ≡ true)
+  pub still : IsDownAnswer answer → new ≡ old
+  pub after : new.engine.down ≡ (old.engine.down || not (is_going (outcome_of answer)))
+
+-- what is trusted afterwards; an exhibit ends it
+abbrev pub LeavesTrusted : Setup → Outcome → Parts → Type 0
+LeavesTrusted setup going new = AreTrusted setup new
+LeavesTrusted setup cut_short new = AreAnchored setup new
+LeavesTrusted setup shown new = IfSome new.watch.exhibit (IsExhibit setup.formulas)
+
+-- what is sound afterwards; no exhibit comes of what was sound
+abbrev pub LeavesSound : Setup → Outcome → Parts → Type 0
+LeavesSound setup going new = AreSound setup new
+LeavesSound setup cut_short new = AreDurable setup new
+LeavesSound setup shown new = ⊥
+
+-- each node that was held is held, with power on or off
+abbrev pub KeepsNodes : Setup → Outcome → Parts → Parts → Type 0
+KeepsNodes setup going old new =
+    (x : ℕ) → x < meta_lines setup.shape → HoldsNode setup old x → HoldsNode setup new x
+KeepsNodes setup cut_short old new =
+    (x : ℕ) → x < meta_lines setup.shape → HoldsNode setup old x → KeepsNode setup new x
+KeepsNodes setup shown old new = ⊤
+
+-- what is stored of each place by itself stays, and what was written is stored
+pub record KeepsPlaces (setup : Setup) (outcome : Outcome) (old new : Parts) : Type 0 where
+  pub seals : (a : ℕ) → a < tree_lines setup.shape → HoldsSeal setup.shape old a → HoldsSeal setup.shape new a
+  pub slots : (i : ℕ) → i < tree_slots setup.shape → HoldsSlot setup.shape old i → HoldsSlot setup.shape new i
+  pub nodes : KeepsNodes setup outcome old new
+
+-- what every end of a call leaves
+pub record CallEffect (setup : Setup) (outcome : Outcome) (old new : Parts) : Type 0 where
+  pub shape : new.engine.shape ≡ old.engine.shape
+  pub size : new.device.size ≡ old.device.size
+  pub power : HasPower outcome old.device new.device
+  pub trusted : AreTrusted setup old → LeavesTrusted setup outcome new
+  pub sound : AreSound setup old → LeavesSound setup outcome new
+  pub places : AreTrusted setup old → KeepsPlaces setup outcome old new
+
+-- ---- what is read on the path of data line a
+
+-- a line was read at node x of the path, which wasn't cached: the device has it now
+pub record IsNodeLineRead (setup : Setup) (a x : ℕ) (line : Line) (old new : Parts) : Type 0 where
+  pub on_path : is_on_line_path setup.shape a x ≡ true
+  pub below_top : 1 ≤ x
+  pub uncached : IsCached setup.shape old.engine.cache x → ⊥
+  pub read : Tells new.device.lines (line_of_node setup.shape x) line
+
+-- a line read at a node of the path isn't one of the node's true version
+pub record IsNodeRefused (setup : Setup) (a x : ℕ) (old new : Parts) : Type 0 where
+  pub line : Line
+  pub its : IsNodeLineRead setup a x line old new
+  pub refused : node_read setup.formulas x line (total (node_at old.watch.nodes x)) ≡ None
+
+-- the exhibit is a line read at a node of the path that passes for one of the node's true version, and
+-- has other counters
+pub record IsNodeShown (setup : Setup) (a : ℕ) (old new : Parts) : Type 0 where
+  pub x : ℕ
+  pub line : Line
+  pub node : Node
+  pub its : IsNodeLineRead setup a x line old new
+  pub accepted : node_read setup.formulas x line (total (node_at old.watch.nodes x)) ≡ Some node
+  pub other : node ≢ node_at old.watch.nodes x
+  pub exhibit : new.watch.exhibit ≡ Some (forged_node old.watch x line)
+
+-- a line read at a node of the path is the node's, under its true version
+pub record IsNodeRead (setup : Setup) (a x : ℕ) (old new : Parts) : Type 0 where
+  pub line : Line
+  pub its : IsNodeLineRead setup a x line old new
+  pub accepted :
+      node_read setup.formulas x line (total (node_at old.watch.nodes x)) ≡ Some (node_at old.watch.nodes x)
+
+-- each node of the path was cached, or so read
+pub record IsPathAccepted (setup : Setup) (a : ℕ) (old new : Parts) : Type 0 where
+  pub each :
+      (x : ℕ) → is_on_line_path setup.shape a x ≡ true
+      → IsCached setup.shape old.engine.cache x ⊎ IsNodeRead setup a x old new
+
+-- ---- what is read of data line a
+
+-- its cipher and its tag line were read: the device has them now
+pub record IsDataLineRead (setup : Setup) (a : ℕ) (cipher tags : Line) (new : Parts) : Type 0 where
+  pub cipher_read : Tells new.device.lines a cipher
+  pub tags_read : Tells new.device.lines (line_of_tag setup.shape a) tags
+
+-- the tag read isn't that of the cipher read under the line's true counter
+pub record IsTagRefused (setup : Setup) (a : ℕ) (old new : Parts) : Type 0 where
+  pub cipher : Line
+  pub tags : Line
+  pub its : IsDataLineRead setup a cipher tags new
+  pub fails :
+      setup.formulas.tag_of a (version_counter (line_counter setup.shape old.watch.nodes a)) cipher
+      ≢ tag_slot tags 0
+
+-- the tag is right, and the cipher is that of the last seal
+pub record IsLineAccepted (setup : Setup) (a : ℕ) (old new : Parts) : Type 0 where
+  pub cipher : Line
+  pub tags : Line
+  pub its : IsDataLineRead setup a cipher tags new
+  pub fits :
+      setup.formulas.tag_of a (version_counter (line_counter setup.shape old.watch.nodes a)) cipher
+      ≡ tag_slot tags 0
+  pub last : IfSome (last_seal_of old.watch a) (λ seal. cipher ≡ seal.cipher)
+
+-- the exhibit is a cipher with its right tag that isn't that of the last seal
+pub record IsLineShown (setup : Setup) (a : ℕ) (old new : Parts) : Type 0 where
+  pub cipher : Line
+  pub tags : Line
+  pub its : IsDataLineRead setup a cipher tags new
+  pub fits :
+      setup.formulas.tag_of a (version_counter (line_counter setup.shape old.watch.nodes a)) cipher
+      ≡ tag_slot tags 0
+  pub other : IfSome (last_seal_of old.watch a) (λ seal. cipher ≢ seal.cipher)
+  pub exhibit :
+      new.watch.exhibit
+      ≡ Some (Forged a (version_counter (line_counter setup.shape old.watch.nodes a)) cipher (tag_slot tags 0))
+
+-- ---- steps
+
+-- so many line writes at most, and no latch; at a cut of a live board fewer
+pub record TakesWriteBacks (n : ℕ) (outcome : Outcome) (old new : Device) : Type 0 where
+  pub count : ℕ
+  pub at_most : count ≤ n
+  pub fewer : outcome ≡ cut_short → old.live ≡ true → count < n
+  pub writes : RisesBy count old.writes new.writes
+  pub latches : new.latches ≡ old.latches
+
+-- ---- reads
+
+-- what a read's answer says, from a trusted chip on
+abbrev pub AnswersRead : Setup → ℕ → Parts → Parts → Result Line TreeFault → Type 0
+AnswersRead setup a old new (Ok line) =
+    (line ≡ plain_line setup.formulas old.watch a) × IsPathAccepted setup a old new × IsLineAccepted setup a old new
+AnswersRead setup a old new (Err Fail.Cut) = ⊤
+AnswersRead setup a old new (Err Fail.Down) = ⊥
+AnswersRead setup a old new (Err (Fail.Node x)) = IsNodeRefused setup a x old new
+AnswersRead setup a old new (Err (Fail.Tag b)) =
+    (b ≡ a) × IsPathAccepted setup a old new × IsTagRefused setup a old new
+AnswersRead setup a old new (Err Fail.Spent) = ⊥
+AnswersRead setup a old new (Err Fail.Shown) =
+    IsNodeShown setup a old new ⊎ (IsPathAccepted setup a old new × IsLineShown setup a old new)
+
+-- the watch knows what it knew; an exhibit comes exactly where it stopped the engine
+pub record KeepsWatch (outcome : Outcome) (old new : WatchState) : Type 0 where
+  pub setup : new.setup ≡ old.setup
+  pub seals : new.seals ≡ old.seals
+  pub nodes : new.nodes ≡ old.nodes
+  pub slots : new.slots ≡ old.slots
+  pub exhibit : outcome ≢ shown → new.exhibit ≡ old.exhibit
+  pub stopped : outcome ≡ shown → IsSome new.exhibit
+
+-- a read of an engine that isn't down
+pub record IsLineRead (setup : Setup) (a : ℕ) (old new : Parts) (answer : Result Line TreeFault) : Type 0 where
+  pub kind : IsReadAnswer a answer
+  pub up : IsDownAnswer answer → ⊥
+  pub effect : CallEffect setup (outcome_of answer) old new
+  pub watch : KeepsWatch (outcome_of answer) old.watch new.watch
+  pub regs : new.device.regs ≡ old.device.regs
+  pub steps : TakesWriteBacks setup.shape.levels (outcome_of answer) old.device new.device
+  pub answered : AreTrusted setup old → AnswersRead setup a old new answer
+  pub unrefused : AreSound setup old → IsUnrefused answer
+
+pub record HasReadLine (setup : Setup) (a : ℕ) (old new : Parts) (answer : Result Line TreeFault) : Type 0 where
+  pub down : AnswersDown old new answer
+  pub done : old.engine.down ≡ false → IsLineRead setup a old new answer
+
+-- ---- writes
+
+-- the arming latch was done: this seal of the plain line is the line's last one, its path is raised, and
+-- the slots of the path are named anew
+pub record IsWriteArmed (setup : Setup) (a : ℕ) (plain : Line) (seal : LineSeal) (regs : Regs) (old new : Parts) : Type 0 where
+  pub armed : IsArmed setup a seal old.device.regs regs old.watch new.watch
+  pub sealed : seal.cipher ≡ cipher_of setup.formulas a (version_counter seal.counter) plain
+
+-- a write that was done: armed, written and emptied
+pub record IsWriteDone (setup : Setup) (a : ℕ) (plain : Line) (counter : ℕ) (old new : Parts) : Type 0 where
+  pub seal : LineSeal
+  pub armed_regs : Regs
+  pub armed : IsWriteArmed setup a plain seal armed_regs old new
+  pub its_counter : seal.counter ≡ counter
+  pub emptied : IsEmptied armed_regs new.device.regs
+  pub stored : HoldsSeal setup.shape new a
+  pub path : IsPathCached setup.shape a new.engine.cache
+
+-- a cut after the arming latch: the write is kept, and its group is armed
+pub record IsWriteKept (setup : Setup) (a : ℕ) (plain : Line) (old new : Parts) : Type 0 where
+  pub seal : LineSeal
+  pub armed : IsWriteArmed setup a plain seal new.device.regs old new
+  pub stored : HoldsSeal setup.shape new a
+  pub latches : RisesBy 1 old.device.latches new.device.latches
+
+-- a cut before it: the write is lost
+pub record IsWriteLost (old new : Parts) : Type 0 where
+  pub watch : new.watch ≡ old.watch
+  pub regs : new.device.regs ≡ old.device.regs
+  pub latches : new.device.latches ≡ old.device.latches
+
+-- node 0's version has no number above it
+abbrev pub IsUsedUp : Parts → Type 0
+IsUsedUp parts = total (node_at parts.watch.nodes 0) ≡ 2 ^ 64 - 1
+
+-- what a write's answer says, from a trusted chip on
+abbrev pub AnswersWrite : Setup → ℕ → Line → Parts → Parts → Result ℕ TreeFault → Type 0
+AnswersWrite setup a plain old new (Ok counter) =
+    (IsUsedUp old → ⊥) × IsPathAccepted setup a old new × IsWriteDone setup a plain counter old new
+AnswersWrite setup a plain old new (Err Fail.Cut) =
+    (IsUsedUp old → ⊥) × (IsWriteLost old new ⊎ IsWriteKept setup a plain old new)
+AnswersWrite setup a plain old new (Err Fail.Down) = ⊥
+AnswersWrite setup a plain old new (Err (Fail.Node x)) = (IsUsedUp old → ⊥) × IsNodeRefused setup a x old new
+AnswersWrite setup a plain old new (Err (Fail.Tag b)) = ⊥
+AnswersWrite setup a plain old new (Err Fail.Spent) = IsUsedUp old × (new ≡ old)
+AnswersWrite setup a plain old new (Err Fail.Shown) = (IsUsedUp old → ⊥) × IsNodeShown setup a old new
+
+-- the steps of a write: one for each node that gives way, a latch, the lines of its group, a latch
+pub record TakesWriteSteps (g : Shape) (old new : Device) : Type 0 where
+  pub count : ℕ
+  pub at_most : count ≤ g.levels
+  pub writes : RisesBy (count + (g.levels + 3)) old.writes new.writes
+  pub latches : RisesBy 2 old.latches new.latches
+
+-- a cut takes at most the line writes, and one latch at most
+pub record TakesFewerSteps (g : Shape) (old new : Device) : Type 0 where
+  pub writes : RisesAtMost (2 * g.levels + 3) old.writes new.writes
+  pub latches : RisesAtMost 1 old.latches new.latches
+
+abbrev pub StepsOfWrite : Shape → Result ℕ TreeFault → Device → Device → Type 0
+StepsOfWrite g (Ok counter) old new = TakesWriteSteps g old new
+StepsOfWrite g (Err Fail.Cut) old new = TakesFewerSteps g old new
+StepsOfWrite g (Err Fail.Spent) old new = new ≡ old
+StepsOfWrite g (Err fault) old new = TakesWriteBacks g.levels going old new
+
+-- a write by an engine that isn't down
+pub record IsLineWritten (setup : Setup) (a : ℕ) (plain : Line) (old new : Parts) (answer : Result ℕ TreeFault) : Type 0 where
+  pub kind : IsWriteAnswer answer
+  pub up : IsDownAnswer answer → ⊥
+  -- Spent comes exactly where the version of the engine's top is the greatest number
+  pub spent : IsSpentAnswer answer ↔ (total (top_node old.engine.cache) ≡ 2 ^ 64 - 1)
+  pub effect : CallEffect setup (outcome_of answer) old new
+  pub steps : StepsOfWrite setup.shape answer old.device new.device
+  pub answered : AreTrusted setup old → AnswersWrite setup a plain old new answer
+  pub unrefused : AreSound setup old → IsUnrefused answer
+  -- whatever the board was: a call that isn't done leaves what the watch knew
+  pub watch : IsRefusal answer → KeepsWatch (outcome_of answer) old.watch new.watch
+
+pub record HasWrittenLine (setup : Setup) (a : ℕ) (plain : Line) (old new : Parts) (answer : Result ℕ TreeFault) : Type 0 where
+  pub down : AnswersDown old new answer
+  pub done : old.engine.down ≡ false → IsLineWritten setup a plain old new answer

@@ -1,0 +1,15 @@
+pub mod State
+pub mod Invariants
+pub mod Paths
+pub mod Steps
+pub mod Laws
+pub mod Plain
+pub mod Session
+pub mod Places
+pub mod PlaceLaws
+pub mod Parts
+pub mod Calls
+pub mod Fetching
+pub mod Recovering
+pub mod Writing
+pub mod Formatting

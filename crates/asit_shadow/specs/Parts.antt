@@ -1,0 +1,90 @@
+-- The parts that a call of the engine works on, and what is trusted, durable and sound of them.
+use Rattle.std.specs.Prelude.{ℕ, ◌≡◌, ◌<◌, false, List, [], Option, Some, None, MatchOption, IfSome, IsSome, length, ⊤}
+use Rattle.pmem_base.specs.declared.lines.Line.{Line}
+use Rattle.pmem_base.specs.Registers.{IsGroup}
+use Rattle.pmem_base.specs.Shape.{Shape}
+use Rattle.pmem_base.specs.Layout.{meta_lines}
+use Rattle.suite.specs.Setup.{Setup}
+use Rattle.board.specs.Device.{Device}
+use Rattle.commit_regs.specs.Groups.{redone_told}
+use Rattle.counter_tree.specs.Layout.{tree_lines, tree_slots, tree_size}
+use Rattle.counter_tree.specs.Watch.{WatchState, last_seal_of}
+use Rattle.asit_shadow.specs.State.{TreeState}
+use Rattle.asit_shadow.specs.Invariants.{IsAnchored, IsTrusted, IsDurable, IsSound, IsSealStored, IsSlotStored}
+use Rattle.asit_shadow.specs.Places.{IsNodeHeld, IsNodeHeldBy}
+
+-- what is on the chip, the device with its registers, and the watch that is told
+pub record Parts : Type 0 where
+  pub engine : TreeState
+  pub device : Device
+  pub watch : WatchState
+
+abbrev pub parts_of : TreeState → Device → WatchState → Parts
+parts_of engine device watch = record { engine = engine; device = device; watch = watch }
+
+-- the device's lines with the armed group redone, where they are told
+abbrev pub lines_redone : Parts → Option (List Line)
+lines_redone parts = redone_told parts.device.regs.group.items parts.device.lines
+
+-- lines of a device before and after: told of both or of none, and where told as said
+abbrev pub AreToldWith : (List Line → List Line → Type 0) → Option (List Line) → Option (List Line) → Type 0
+AreToldWith R None None = ⊤
+AreToldWith R None (Some new) = ⊥
+AreToldWith R (Some old) None = ⊥
+AreToldWith R (Some old) (Some new) = R old new
+
+-- ---- what a call asks of its parts
+
+-- the watch is of the geometry, and has a seal of each data line
+pub record IsWatchReady (g : Shape) (watch : WatchState) : Type 0 where
+  pub seal_count : length watch.seals ≡ tree_lines g
+  pub node_count : length watch.nodes ≡ meta_lines g
+  pub slot_count : length watch.slots ≡ tree_slots g
+  pub each_sealed : (a : ℕ) → a < tree_lines g → IsSome (last_seal_of watch a)
+
+-- the board has the geometry's size, and its group can be written
+pub record IsBoardReady (g : Shape) (device : Device) : Type 0 where
+  pub its_size : device.size ≡ tree_size g
+  pub group : IsGroup (tree_size g) device.regs.group.items
+
+-- both, and no group is armed, unless the engine is down
+pub record IsUsable (g : Shape) (parts : Parts) : Type 0 where
+  pub watch : IsWatchReady g parts.watch
+  pub board : IsBoardReady g parts.device
+  pub no_group : parts.engine.down ≡ false → parts.device.regs.group.items ≡ []
+
+-- ---- the whole
+
+abbrev pub AreAnchored : Setup → Parts → Type 0
+AreAnchored setup parts = IsAnchored setup parts.device.regs parts.watch
+
+abbrev pub AreTrusted : Setup → Parts → Type 0
+AreTrusted setup parts = IsTrusted setup parts.engine parts.device.regs parts.watch
+
+-- the lines are told, and durable
+abbrev pub AreDurable : Setup → Parts → Type 0
+AreDurable setup parts =
+    MatchOption parts.device.lines ⊥ (λ lines. IsDurable setup lines parts.device.regs parts.watch)
+
+-- the lines are told, and sound
+abbrev pub AreSound : Setup → Parts → Type 0
+AreSound setup parts =
+    MatchOption parts.device.lines ⊥ (λ lines. IsSound setup parts.engine lines parts.device.regs parts.watch)
+
+-- ---- place by place, where the lines are told: what the device holds once the armed group is redone
+
+-- the last seal of data line a
+abbrev pub HoldsSeal : Shape → Parts → ℕ → Type 0
+HoldsSeal g parts a = IfSome (lines_redone parts) (λ lines. IsSealStored g lines parts.watch a)
+
+-- the true line of slot i
+abbrev pub HoldsSlot : Shape → Parts → ℕ → Type 0
+HoldsSlot g parts i = IfSome (lines_redone parts) (λ lines. IsSlotStored g lines parts.watch i)
+
+-- node x, with power on: it is true on the device, or cached dirty
+abbrev pub HoldsNode : Setup → Parts → ℕ → Type 0
+HoldsNode setup parts x = IfSome (lines_redone parts) (λ lines. IsNodeHeldBy setup parts.engine lines parts.watch x)
+
+-- node x, with power off: it is true on the device, or named by its slot
+abbrev pub KeepsNode : Setup → Parts → ℕ → Type 0
+KeepsNode setup parts x = IfSome (lines_redone parts) (λ lines. IsNodeHeld setup lines parts.watch x)

@@ -1,0 +1,4 @@
+//! Each layer over a device in memory.
+mod engine;
+mod paths;
+mod recovery;

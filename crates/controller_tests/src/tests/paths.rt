@@ -1,0 +1,239 @@
+//! Paths fetched, tampered with, renewed and written back, for 16 pages.
+ghost use Rattle.std.specs.Prelude.{◌≡◌, ◌<◌, length};
+ghost use Rattle.pmem_base.specs.Geo.{shape_of};
+ghost use Rattle.pmem_base.specs.Layout.{meta_lines, shadow_lines, device_lines};
+ghost use Rattle.board.specs.MemBoard.{memory_of};
+ghost use Rattle.seal_ledger.specs.View.{ledger_of};
+ghost use Rattle.meta_path.specs.Blocks.{AreInTheirBanks};
+
+use board::{Board, MemBoard};
+use bonsai_tree::node_of;
+use meta_cache::Cache;
+use meta_path::{PathFault, fetch_path, make_dirty, next_path, store_path, write_back_one};
+use pmem_base::{Exhibit, Geo, Line, Regs, Tag};
+use seal_ledger::{Audit, Ledger};
+use shadow_tables::Mirror;
+use std::alloc::Global;
+use std::process::Abort;
+use std::test::Fail;
+use suite::{Counted, Suite, WeakSuite};
+
+/// What the calls work on.
+#[derive(Drop)]
+struct Bench {
+    geo: Geo,
+    cache: Cache,
+    mirror: Mirror,
+    board: MemBoard,
+    suite: WeakSuite,
+    ledger: Ledger,
+    ghost its_shape: { cache.shape ≡ shape_of geo },
+    ghost its_banks: { AreInTheirBanks (shape_of geo) cache.banks },
+    ghost its_mirror: { length mirror ≡ shadow_lines (shape_of geo) },
+    ghost its_truth: { length (ledger_of ledger).truth ≡ meta_lines (shape_of geo) },
+    ghost its_size: { length (memory_of board).lines ≡ device_lines (shape_of geo) },
+}
+
+/// Fifteen zeros and one byte.
+fn short(byte: u8) -> Tag {
+    let mut digest = [0; 16];
+    digest[15] = byte;
+    digest
+}
+
+/// An empty cache over a memory of 16 pages, whose tree stands over counter blocks of zeros.
+fn formatted(rt: &impl Abort, alloc: Global, sets: u8, ways: u8) -> Result<Bench, Fail> {
+    let geo = Geo::new(2, sets, ways, 4, 0)?;
+    let mut bench = Bench {
+        geo,
+        cache: Cache::new(alloc, &geo)?,
+        mirror: Mirror::new(alloc, &geo)?,
+        board: MemBoard::new(alloc, geo.size())?,
+        suite: WeakSuite::new(&[0; 16], &[0x10], false),
+        ledger: Ledger::new(alloc, &geo)?,
+    };
+    for x in [4, 3, 2, 1, 0] {
+        grow(rt, &mut bench, x);
+    }
+    let top = *line(rt, &bench, 0);
+    let mut regs = Regs::empty();
+    regs.root = bench.suite.digest(0, &top);
+    assert_eq!(rt; bench.board.latch(&regs), Ok(()));
+    Ok(bench)
+}
+
+/// Makes the node at `x`, below 5, of the digests of its children.
+fn grow(rt: &impl Abort, bench: &mut Bench, x: u8) {
+    let mut digests = [[0; 16]; 4];
+    for i in 0..4_u8 {
+        let child = 4 * u32::from(x) + 1 + u32::from(i);
+        let below = *line(rt, bench, child);
+        digests[usize::from(i)] = bench.suite.digest(child, &below);
+    }
+    let node = node_of(&digests);
+    put(rt, bench, u32::from(x), &node);
+    bench.ledger.note_meta(u32::from(x), &node);
+}
+
+/// The device line of the metadata line at `x`.
+fn place(rt: &impl Abort, bench: &Bench, x: u32) -> u32
+    ensures meta { x < meta_lines (shape_of bench.now.geo) }
+    ensures within { result < device_lines (shape_of bench.now.geo) }
+{
+    assert!(rt; x < bench.geo.metas());
+    bench.geo.meta_line(x)
+}
+
+/// The metadata line at `x` on the device.
+fn line<'a>(rt: &impl Abort, bench: &'a Bench, x: u32) -> &'a Line {
+    bench.board.peek(place(rt, bench, x))
+}
+
+/// Writes the metadata line at `x` past the controller.
+fn put(rt: &impl Abort, bench: &mut Bench, x: u32, line: &Line)
+    ensures { x < meta_lines (shape_of bench.new.geo) }
+{
+    let at = place(rt, bench, x);
+    bench.board.poke(at, line);
+}
+
+/// The counts of reads, line writes and digests.
+fn counts(bench: &Bench) -> (u64, u64, u64) {
+    let (reads, writes, _) = bench.board.counts();
+    (reads, writes, bench.suite.counts().2)
+}
+
+/// Fetches a page's path. The numbers are those of reads, line writes and digests that it took.
+fn fetch(
+    rt: &impl Abort,
+    bench: &mut Bench,
+    page: u32,
+) -> (Result<(), PathFault>, (u64, u64, u64)) {
+    assert!(rt; page < bench.geo.pages());
+    let before = counts(bench);
+    let answer = fetch_path(
+        &bench.geo,
+        &mut bench.cache,
+        &mut bench.board,
+        &mut bench.suite,
+        &mut bench.ledger,
+        page,
+    );
+    let after = counts(bench);
+    let took = (
+        after.0.abs_diff(before.0),
+        after.1.abs_diff(before.1),
+        after.2.abs_diff(before.2),
+    );
+    (answer, took)
+}
+
+/// Fetches the path of page 0 and names its blocks. The answer is how many lines that wrote, where it
+/// wasn't cut.
+fn name(rt: &impl Abort, bench: &mut Bench) -> Result<u64, PathFault> {
+    assert!(rt; 0 < bench.geo.pages());
+    fetch_path(
+        &bench.geo,
+        &mut bench.cache,
+        &mut bench.board,
+        &mut bench.suite,
+        &mut bench.ledger,
+        0,
+    )?;
+    let before = bench.board.counts().1;
+    make_dirty(
+        &bench.geo,
+        &bench.cache,
+        &mut bench.mirror,
+        &mut bench.board,
+        0,
+    )?;
+    Ok(bench.board.counts().1.abs_diff(before))
+}
+
+/// Fetches the path of page 0 and gives it a counter block with the first minor 1. The answer is the
+/// new root.
+fn renew(rt: &impl Abort, bench: &mut Bench, persisted: bool) -> Result<Tag, PathFault> {
+    assert!(rt; 0 < bench.geo.pages());
+    fetch_path(
+        &bench.geo,
+        &mut bench.cache,
+        &mut bench.board,
+        &mut bench.suite,
+        &mut bench.ledger,
+        0,
+    )?;
+    let mut block = Line::default();
+    block.0[8] = 2;
+    let path = next_path(&bench.geo, &bench.cache, &mut bench.suite, 0, &block);
+    store_path(&mut bench.cache, &mut bench.ledger, &path, persisted);
+    Ok(path.root)
+}
+
+/// Writes the oldest dirty block back.
+fn flush(bench: &mut Bench) -> Option<u32> {
+    write_back_one(&bench.geo, &mut bench.cache, &mut bench.board).unwrap_or(None)
+}
+
+#[test]
+fn fetches(rt: HostRuntime) -> Result<(), Fail> {
+    let mut bench = formatted(&rt, rt.alloc(), 4, 2)?;
+    assert_eq!(rt; bench.board.regs().root, short(0x15));
+    assert_eq!(rt; fetch(&rt, &mut bench, 0), (Ok(()), (3, 0, 3)), "cold");
+    assert_eq!(rt; fetch(&rt, &mut bench, 0), (Ok(()), (0, 0, 0)), "warm");
+    assert_eq!(rt; fetch(&rt, &mut bench, 1), (Ok(()), (1, 0, 1)), "one block");
+    let mut bench = formatted(&rt, rt.alloc(), 1, 1)?;
+    assert_eq!(rt; renew(&rt, &mut bench, false), Ok(short(0x17)));
+    let two = (Ok(()), (2, 2, 2));
+    assert_eq!(rt; fetch(&rt, &mut bench, 15), two, "two give way");
+    assert_eq!(rt; line(&rt, &bench, 5).0[8], 2, "what gave way is written");
+    assert_eq!(rt; fetch(&rt, &mut bench, 0), (Ok(()), (2, 0, 2)), "and right");
+    Ok(())
+}
+
+#[test]
+fn tampered_lines(rt: HostRuntime) -> Result<(), Fail> {
+    let mut bench = formatted(&rt, rt.alloc(), 4, 2)?;
+    let second = *line(&rt, &bench, 1);
+    let mut first = second;
+    first.0[15] ^= 1;
+    put(&rt, &mut bench, 1, &first);
+    let refused = (Err(PathFault::Meta { x: 1 }), (2, 0, 2));
+    assert_eq!(rt; fetch(&rt, &mut bench, 0), refused);
+    // Under the weak digest the order of the bytes doesn't count.
+    first = second;
+    first.0.swap(14, 15);
+    put(&rt, &mut bench, 1, &first);
+    assert_eq!(rt;
+        fetch(&rt, &mut bench, 0),
+        (Err(PathFault::Shown), (1, 0, 1))
+    );
+    let clash = Exhibit::Clash {
+        x: 1,
+        first,
+        second,
+    };
+    assert_eq!(rt; bench.ledger.exhibit(), Some(&clash));
+    Ok(())
+}
+
+#[test]
+fn named_and_flushed(rt: HostRuntime) -> Result<(), Fail> {
+    let mut bench = formatted(&rt, rt.alloc(), 4, 2)?;
+    assert_eq!(rt; name(&rt, &mut bench), Ok(3));
+    assert_eq!(rt; name(&rt, &mut bench), Ok(0));
+    for (persisted, order) in [
+        (false, [Some(0), Some(1), Some(5), None]),
+        (true, [Some(0), Some(1), None, None]),
+    ] {
+        assert_eq!(rt; renew(&rt, &mut bench, persisted), Ok(short(0x17)));
+        for x in order {
+            assert_eq!(rt; flush(&mut bench), x);
+        }
+    }
+    let mut bench = formatted(&rt, rt.alloc(), 4, 2)?;
+    bench.board.arm(1);
+    assert_eq!(rt; name(&rt, &mut bench), Err(PathFault::Cut));
+    assert_eq!(rt; counts(&bench).1, 1);
+    Ok(())
+}

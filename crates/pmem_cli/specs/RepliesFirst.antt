@@ -1,0 +1,36 @@
+-- Replies that are put before the source is pulled for more of the trace.
+use Rattle.std.specs.Prelude.{◌≡◌, ◌≢◌, ◌++◌, ⊤, ℕ, List, All, Option, Some, IfSome}
+use Rattle.std.specs.List.{flat_map}
+use Rattle.std.specs.Io.KnownBytes.{Consumes}
+use Rattle.suite.specs.Setup.{Setup}
+use Rattle.plain_model.specs.Lines.{IsWithin, ended}
+use Rattle.plain_model.specs.Run.{Machine, Step, start, steps_text, IsRunFrom}
+use Rattle.pmem_cli.specs.declared.options.Task.{Task}
+use Rattle.pmem_cli.specs.Keys.{setup_chosen}
+use Rattle.pmem_cli.specs.Printed.{Output, PutsAtLeast}
+
+-- Before the last pull no more than a part of a line had been taken of what was ahead. The source may not
+-- remember what was left then.
+abbrev pub PullsWithinLine : Option (List ℕ) → Option (List ℕ) → Type 0
+PullsWithinLine ahead left_before = IfSome left_before (λ behind. (part : List ℕ) × Consumes ahead (Some behind) part × IsWithin part)
+
+-- The whole lines of these bytes were answered, and all their replies were put.
+pub record AreReplied (setup : Setup) (machine : Machine) (given : List ℕ) (from : Output) (put : Option (List ℕ)) : Type 0 where
+  pub lines : List (List ℕ)
+  pub part : List ℕ
+  pub cut : given ≡ flat_map ended lines ++ part
+  pub whole : All IsWithin lines
+  pub unfinished : IsWithin part
+  pub steps : List Step
+  pub run : IsRunFrom setup machine lines steps
+  pub replied : PutsAtLeast from put (steps_text steps)
+
+-- So it is of the bytes that the source had given before its last pull.
+abbrev pub HasRepliedFirst : Setup → Machine → Option (List ℕ) → Option (List ℕ) → Output → Option (List ℕ) → Type 0
+HasRepliedFirst setup machine trace left_before from put =
+    IfSome trace (λ bytes. IfSome left_before (λ behind. (given : List ℕ) × (bytes ≡ given ++ behind) × AreReplied setup machine given from put))
+
+-- A run that was given any byte is so, whatever its status.
+abbrev pub TaskRepliesFirst : Task → Option (List ℕ) → Option (List ℕ) → Option (List ℕ) → Output → Option (List ℕ) → Type 0
+TaskRepliesFirst (Task.Run c) trace left left_before from put = left ≢ trace → HasRepliedFirst (setup_chosen c) (start (setup_chosen c)) trace left_before from put
+TaskRepliesFirst task trace left left_before from put = ⊤

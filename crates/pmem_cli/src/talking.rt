@@ -1,0 +1,123 @@
+//! A session in a language of its own, over a whole trace.
+ghost use Rattle.std.specs.Prelude.{◌≡◌, ◌≢◌, ◌≤◌, ◌+◌, ◌⊎◌, [], ℕ, List, Some};
+ghost use Rattle.plain_model.specs.declared.Stop.TheVariants as Stop;
+ghost use Rattle.trace_text.specs.Conversations.{talk_protocol};
+ghost use Rattle.pmem_cli.specs.Causes.{Rose};
+ghost use Rattle.pmem_cli.specs.Printed.{with_waiting};
+ghost use Rattle.pmem_cli.specs.Pulling.{IsInTime};
+ghost use Rattle.pmem_cli.specs.Talked.{HasTalked, IsTalkComplete, HasToldFirst};
+ghost use Rattle.pmem_cli.specs.Turns.{HasStopped, StopsByCause};
+
+use crate::ending::{Ending, finish};
+use crate::printer::Printer;
+use crate::serving::Serve;
+use crate::session::serve_all;
+use crate::sink::Sink;
+use crate::source::{Failed, Source};
+use plain_model::Stop;
+use pmem_base::Answer;
+use std::alloc::Global;
+use std::marker::Model;
+use trace_text::{Halt, Talk};
+
+/// A session that answers a trace. Contracts see the session.
+#[derive(Drop)]
+struct Talker<T: Talk> {
+    session: T,
+}
+
+impl<T: Talk> Model for Talker<T> {
+    ghost Value = { T };
+
+    ghost view = { λ talker. talker.session };
+}
+
+/// A reply of a session is the text of an answer, which is printed as a line.
+impl<T: Talk> Serve for Talker<T> {
+    ghost ReplyData = { List ℕ };
+
+    ghost protocol = { talk_protocol T.sort_of T.answers T.shows };
+
+    fn serve_line<K: Sink>(
+        &mut self,
+        alloc: Global,
+        number: u32,
+        line: &[u8],
+        printer: &mut Printer,
+        out: &mut K,
+    ) -> Option<Stop> {
+        match self.session.talk(alloc, line) {
+            Err(Halt::Memory) => Some(Stop::Memory),
+            Err(Halt::Line(kind)) => Some(Stop::Refused { number, kind }),
+            Err(Halt::Shown(exhibit)) => {
+                match printer.print_answer(out, &Answer::Shown(exhibit)) {
+                    Err(Failed) => Some(Stop::WriteFault),
+                    Ok(()) => Some(Stop::Shown),
+                }
+            }
+            Ok(None) => None,
+            Ok(Some(text)) => match printer.print_line(out, text.as_slice()) {
+                Err(Failed) => Some(Stop::WriteFault),
+                Ok(()) => None,
+            },
+        }
+    }
+}
+
+/// Answers a trace by a session, and says why that stops.
+fn talk_trace<T: Talk + Drop, S: Source, K: Sink>(
+    alloc: Global,
+    session: T,
+    trace: &mut S,
+    printer: &mut Printer,
+    out: &mut K,
+) -> Stop
+    ensures stopped { HasStopped (talk_protocol T.sort_of T.answers T.shows) result (S.left trace.old) (S.left trace.new) session
+        (with_waiting (K.put out.old) printer.old) (with_waiting (K.put out.new) printer.new) 0 }
+    ensures cause { StopsByCause (Some result) (S.faults trace.old) (S.faults trace.new) (K.faults out.old) (K.faults out.new) }
+    ensures in_time { IsInTime (S.pulls trace.old) (S.pulls trace.new) }
+    ensures replies_first { (trace.new ≡ trace.old) ⊎ HasToldFirst (talk_protocol T.sort_of T.answers T.shows) session
+        (S.left trace.old) (S.left_before trace.new) (with_waiting (K.put out.old) printer.old) (K.put out.new) }
+{
+    let mut talker = Talker { session };
+    serve_all(alloc, &mut talker, trace, printer, out)
+}
+
+/// Answers a trace by a session, prints the last line, and gives the status: each as `run` does with a world.
+pub fn talk_all<T: Talk + Drop, S: Source, K: Sink>(
+    alloc: Global,
+    session: T,
+    trace: &mut S,
+    out: &mut K,
+) -> u8
+    // What was put is the texts of the answers to the trace's lines, each in the state that those before it left,
+    // and the last line, as the status says.
+    ensures told { HasTalked (talk_protocol T.sort_of T.answers T.shows) session result (Rose (S.faults trace.old) (S.faults trace.new))
+        (S.left trace.old) (S.left trace.new) (K.put out.old) (K.put out.new) }
+    ensures words { result ≢ 2 }
+
+    // A trace in the session's grammar and within the limits goes through, unless source or sink fails.
+    ensures complete { IsTalkComplete (talk_protocol T.sort_of T.answers T.shows) result (S.left trace.old)
+        (Rose (S.faults trace.old) (S.faults trace.new) ⊎ Rose (K.faults out.old) (K.faults out.new)) }
+
+    // The statuses for faults come only where source or sink failed. A push that fails gives 4, a pull that fails
+    // gives 3 or 4, and neither is made again.
+    ensures read { result ≡ 3 → Rose (S.faults trace.old) (S.faults trace.new) }
+    ensures write { result ≡ 4 → Rose (K.faults out.old) (K.faults out.new) }
+    ensures failed_pull { S.faults trace.new ≢ S.faults trace.old → (result ≡ 3) ⊎ (result ≡ 4) }
+    ensures failed_push { K.faults out.new ≢ K.faults out.old → result ≡ 4 }
+    ensures one_failed_pull { S.faults trace.new ≤ S.faults trace.old + 1 }
+    ensures one_failed_push { K.faults out.new ≤ K.faults out.old + 1 }
+
+    // No pull follows one that failed or gave the end.
+    ensures in_time { IsInTime (S.pulls trace.old) (S.pulls trace.new) }
+
+    // No answer waits while a pull is made: the answers to all whole lines that the source had given before its
+    // last pull were put, also where a push failed since. A sink may fail at any push.
+    ensures replies_first { (trace.new ≡ trace.old) ⊎ HasToldFirst (talk_protocol T.sort_of T.answers T.shows) session
+        (S.left trace.old) (S.left_before trace.new) (with_waiting (K.put out.old) []) (K.put out.new) }
+{
+    let mut printer = Printer::new();
+    let stop = talk_trace(alloc, session, trace, &mut printer, out);
+    finish(Ending::Stopped(stop), &mut printer, out)
+}

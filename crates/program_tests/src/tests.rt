@@ -1,0 +1,5 @@
+//! Each layer over memory.
+mod runs;
+mod talks;
+mod texts;
+mod world;

@@ -1,0 +1,173 @@
+//! Sessions in a language of their own, over memory.
+ghost use Rattle.std.specs.Prelude.{ℕ, List, [], ◌∷◌, ◌++◌, ◌≡◌, ◌+◌, ◌%◌, ⊤};
+ghost use Rattle.program_tests.specs.Echoes.{sort_of_echo};
+
+use super::runs::{ByteSink, ByteSource};
+use arrayvec::ArrayVec;
+use pmem_base::{Exhibit, Kind, Line};
+use pmem_cli::{MemSink, MemSource, talk_all};
+use std::alloc::Global;
+use std::process::Abort;
+use std::test::Fail;
+use trace_text::{Halt, TEXT_BYTES, Talk};
+
+/// The number of a call that never comes.
+const NEVER: u64 = 1_000_000_000;
+
+/// The smallest session: it says a line of one byte back, with the number of lines said before, modulo 10. It
+/// wants memory for `m`, and shows two equal lines for `x`.
+#[derive(Clone, Copy, Debug, PartialEq, Eq, Drop)]
+struct Echo {
+    said: u8,
+}
+
+impl Talk for Echo {
+    ghost sort_of = { sort_of_echo };
+
+    ghost answers = { λ old line text new. (text ≡ line ++ (48 + old.said % 10) ∷ []) × (new.said ≡ (old.said + 1) % 256) };
+
+    ghost shows = { λ old line exhibit. ⊤ };
+
+    fn talk(
+        &mut self,
+        _alloc: Global,
+        line: &[u8],
+    ) -> Result<Option<ArrayVec<u8, TEXT_BYTES>>, Halt> {
+        if line.is_empty() {
+            return Ok(None);
+        }
+        if line.len() > 1 {
+            return Err(Halt::Line(Kind::Word));
+        }
+        if line[0] == b'm' {
+            return Err(Halt::Memory);
+        }
+        if line[0] == b'x' {
+            let zeros = Line([0; 64]);
+            return Err(Halt::Shown(Exhibit::Clash {
+                x: 0,
+                first: zeros,
+                second: zeros,
+            }));
+        }
+        let mut text = ArrayVec::new();
+        text.push(line[0]);
+        text.push(b'0' + self.said % 10);
+        self.said = self.said.wrapping_add(1);
+        Ok(Some(text))
+    }
+}
+
+/// Answers a trace by a session over memory. Of the pulls and of the pushes those of these numbers fail. Gives
+/// the status and what was put.
+fn talked<R: AllocGlobal>(
+    rt: &R,
+    trace: &[u8],
+    (pull, push): (u64, u64),
+) -> Result<(u8, Vec<u8>), Fail> {
+    let alloc = rt.alloc();
+    let mut source = MemSource::new(trace.to_vec(alloc)?, vec![in alloc; pull]?);
+    let mut sink = MemSink::new(vec![in alloc; 0u8; 4_000]?, vec![in alloc; push]?);
+    let status = talk_all(alloc, Echo { said: 0 }, &mut source, &mut sink);
+    Ok((status, sink.put().to_vec(alloc)?))
+}
+
+/// The same a byte at a time.
+fn talked_by_bytes<R: AllocGlobal>(
+    rt: &R,
+    trace: &[u8],
+    (pull, push): (u64, u64),
+) -> Result<(u8, Vec<u8>), Fail> {
+    let alloc = rt.alloc();
+    let mut source = ByteSource {
+        inner: MemSource::new(trace.to_vec(alloc)?, vec![in alloc; pull]?),
+    };
+    let mut sink = ByteSink {
+        inner: MemSink::new(vec![in alloc; 0u8; 4_000]?, vec![in alloc; push]?),
+    };
+    let status = talk_all(alloc, Echo { said: 0 }, &mut source, &mut sink);
+    Ok((status, sink.inner.put().to_vec(alloc)?))
+}
+
+/// Compares the status and the output with those that are due.
+fn check_talk<R: Abort>(rt: &R, at: &str, found: (u8, Vec<u8>), status: u8, output: &str) {
+    let (ended, put) = found;
+    assert_eq!(rt; ended, status, "the status at {at}");
+    assert_eq!(rt; put.as_slice(), output.as_bytes(), "the output at {at}");
+}
+
+/// The trace, the status and the output, in great chunks and a byte at a time.
+#[test]
+fn answers_lines(rt: HostRuntime) -> Result<(), Fail> {
+    let zeros = "0".repeat(rt.alloc(), 128)?;
+    let shown = format!(in rt.alloc(); "a0\nclash 0 {zeros} {zeros}\n")?;
+    for (trace, status, output) in [
+        ("", 0, ""),
+        ("a", 0, "a0\n"),
+        ("a\nb\n", 0, "a0\nb1\n"),
+        ("a\n\nb", 0, "a0\nb1\n"),
+        (
+            "a\nb\nc\nd\ne\nf\ng\nh\ni\nj\nk\n",
+            0,
+            "a0\nb1\nc2\nd3\ne4\nf5\ng6\nh7\ni8\nj9\nk0\n",
+        ),
+        ("a\nbb\nc\n", 5, "a0\nstop line 2 1\n"),
+        ("\n\nbb", 5, "stop line 3 1\n"),
+        ("a\nm\nc\n", 1, "a0\nstop memory\n"),
+        ("m", 1, "stop memory\n"),
+        ("a\nx\nc\n", 6, shown.as_str()),
+        ("a\nx", 6, shown.as_str()),
+    ] {
+        let found = talked(&rt, trace.as_bytes(), (NEVER, NEVER))?;
+        check_talk(&rt, trace, found, status, output);
+        let found = talked_by_bytes(&rt, trace.as_bytes(), (NEVER, NEVER))?;
+        check_talk(&rt, trace, found, status, output);
+    }
+    Ok(())
+}
+
+/// The limits on lines: a byte so many times, the status and the output.
+#[test]
+fn keeps_its_limits(rt: HostRuntime) -> Result<(), Fail> {
+    let alloc = rt.alloc();
+    for (byte, count, status, output) in [
+        (b'a', 1_024, 5, "stop line 1 1\n"),
+        (b'a', 1_025, 5, "stop line 1 6\n"),
+        (b'\n', 1_000_001, 7, "stop lines\n"),
+    ] {
+        let trace = vec![in alloc; byte; count]?;
+        let found = talked(&rt, trace.as_slice(), (NEVER, NEVER))?;
+        check_talk(&rt, output, found, status, output);
+    }
+    Ok(())
+}
+
+/// Each pull and each push fails in turn, a byte at a time.
+#[test]
+fn tells_each_fault(rt: HostRuntime) -> Result<(), Fail> {
+    for (pull, output) in [
+        (0, "stop read\n"),
+        (1, "stop read\n"),
+        (2, "a0\nstop read\n"),
+        (3, "a0\nstop read\n"),
+        (4, "a0\nstop read\n"),
+        (5, "a0\nb1\nstop read\n"),
+    ] {
+        let found = talked_by_bytes(&rt, b"a\n\nb\n", (pull, NEVER))?;
+        check_talk(&rt, output, found, 3, output);
+    }
+    for (push, output) in [
+        (0, ""),
+        (1, "a"),
+        (2, "a0"),
+        (3, "a0\n"),
+        (4, "a0\ns"),
+        (16, "a0\nstop line 2 1"),
+    ] {
+        let found = talked_by_bytes(&rt, b"a\nbb\nc\n", (NEVER, push))?;
+        check_talk(&rt, output, found, 4, output);
+    }
+    let found = talked_by_bytes(&rt, b"a\nbb\nc\n", (NEVER, 17))?;
+    check_talk(&rt, "the end", found, 5, "a0\nstop line 2 1\n");
+    Ok(())
+}

@@ -1,0 +1,379 @@
+//! Lines with what they ask for, and answers with their texts.
+ghost use Rattle.std.specs.Prelude.{IsTrue};
+ghost use Rattle.plain_model.specs.Answers.{is_answer_to};
+ghost use Rattle.trace_text.specs.Answers.{HasSmallMinors};
+
+use arrayvec::ArrayVec;
+use pmem_base::{Answer, Command, Ctr, Exhibit, Kind, Line, Mark, Place, Stat};
+use rand_xoshiro::SplitMix64;
+use rand_xoshiro::rand_core::SeedableRng;
+use rand_xoshiro::rand_core::utils::NextWord;
+use std::alloc::{AllocError, Global};
+use std::process::Abort;
+use std::test::Fail;
+use trace_text::{
+    Maker, push_bytes, push_number, read_answer, read_command, write_answer, write_command,
+    write_mark,
+};
+
+/// A text with its short signs spelled out: `%` stands for 126 hex digits, and `$` for 1,020
+/// letters.
+fn spelled(alloc: Global, line: &str) -> Result<String, AllocError> {
+    let mut text = String::new(alloc);
+    for c in line.chars() {
+        let (piece, times) = match c {
+            '%' => ("ab", 63),
+            '$' => ("abcdefghij", 102),
+            _ => ("", 0),
+        };
+        for _ in 0..times {
+            text.push_str(piece)?;
+        }
+        if times == 0 {
+            text.push(c)?;
+        }
+    }
+    Ok(text)
+}
+
+#[test]
+fn reads_lines(rt: HostRuntime) -> Result<(), Fail> {
+    let alloc = rt.alloc();
+    let read = Ok(Some(Command::Read { port: 0, at: 7 }));
+    let last = Ok(Some(Command::Read {
+        port: 0,
+        at: u64::MAX,
+    }));
+    let drain = Ok(Some(Command::Drain { port: 0 }));
+    let post = Ok(Some(Command::Post {
+        port: 0,
+        at: 5,
+        line: Line([0xab; 64]),
+    }));
+    for (line, wanted) in [
+        ("", Ok(None)),
+        ("\r", Ok(None)),
+        (" \t", Ok(None)),
+        ("  # read 0", Ok(None)),
+        ("#$abc", Ok(None)),
+        ("#$abcd", Err(Kind::Long)),
+        ("$abcd", Err(Kind::Word)),
+        ("$abcde", Err(Kind::Long)),
+        ("$abcd\r", Err(Kind::Long)),
+        ("  read\t0  7\r", read),
+        ("read 00 00000000000000000007 ", read),
+        ("read 0 000000000000000000007", Err(Kind::Number)),
+        ("read 0 18446744073709551615", last),
+        ("read 0 18446744073709551616", Err(Kind::Number)),
+        ("read 8 0", Err(Kind::Port)),
+        ("read 7 7", Ok(Some(Command::Read { port: 7, at: 7 }))),
+        ("read x 0", Err(Kind::Number)),
+        ("read 9 x", Err(Kind::Port)),
+        ("read 0", Err(Kind::Count)),
+        ("read x", Err(Kind::Count)),
+        ("read 0 7 0", Err(Kind::Count)),
+        ("read 0 7\r\r", Err(Kind::Number)),
+        ("READ 0 7", Err(Kind::Word)),
+        ("re\tad 0 7", Err(Kind::Word)),
+        ("turn", Ok(Some(Command::Turn))),
+        ("drain 000", drain),
+        ("drain", Err(Kind::Count)),
+        ("post 0 5 %aB", post),
+        ("post 0 5 %a", Err(Kind::Hex)),
+        ("post 0 5 %aBc", Err(Kind::Hex)),
+        ("post 0 5 %ag", Err(Kind::Hex)),
+    ] {
+        let given = spelled(alloc, line)?;
+        assert_eq!(rt; read_command(given.as_bytes()), wanted, "at {line}");
+    }
+    Ok(())
+}
+
+#[test]
+fn reads_and_writes_commands(rt: HostRuntime) -> Result<(), Fail> {
+    let alloc = rt.alloc();
+    for (line, wanted) in [
+        (
+            "post 07 18446744073709551615 %AB",
+            Ok("post 7 18446744073709551615 %ab"),
+        ),
+        ("part 1 5 62 aaBB", Ok("part 1 5 62 aabb")),
+        ("part 0 0 0 %ab", Ok("part 0 0 0 %ab")),
+        ("part 0 0 0 a", Err(Kind::Hex)),
+        ("part 0 0 0 aab", Err(Kind::Hex)),
+        ("part 0 0 0 %abab", Err(Kind::Hex)),
+        ("part 0 0 x zz", Err(Kind::Number)),
+        ("part 0 0 aa", Err(Kind::Count)),
+        ("drain 7", Ok("drain 7")),
+        ("drain 8", Err(Kind::Port)),
+        ("fence 00", Ok("fence 0")),
+        ("fence 0 0", Err(Kind::Count)),
+        ("read 3 1", Ok("read 3 1")),
+        (" turn ", Ok("turn")),
+        ("turn 1", Err(Kind::Count)),
+        ("flush", Ok("flush")),
+        ("cut 003", Ok("cut 3")),
+        ("cut -1", Err(Kind::Number)),
+        ("off", Ok("off")),
+        ("on\r", Ok("on")),
+        ("poke 1303 %ab", Ok("poke 1303 %ab")),
+        ("poke x %", Err(Kind::Number)),
+        ("poke 0 %", Err(Kind::Hex)),
+        ("flip 5 511", Ok("flip 5 511")),
+        ("move 2 0", Ok("move 2 0")),
+        ("move 2", Err(Kind::Count)),
+        ("snap", Ok("snap")),
+        ("back 1301", Ok("back 1301")),
+        ("peek\t0", Ok("peek 0")),
+        ("stat", Ok("stat")),
+        ("loss 16", Ok("loss 16")),
+        ("lose 16", Err(Kind::Word)),
+    ] {
+        let given = spelled(alloc, line)?;
+        match (read_command(given.as_bytes()), wanted) {
+            (Ok(Some(command)), Ok(text)) => {
+                let text = spelled(alloc, text)?;
+                assert_eq!(rt;
+                    write_command(&command).as_slice(),
+                    text.as_bytes(),
+                    "at {line}"
+                );
+            }
+            (Err(kind), wanted) => assert_eq!(rt; Some(kind), wanted.err(), "at {line}"),
+            _ => assert_eq!(rt; "nothing or a command", "the other", "at {line}"),
+        }
+    }
+    Ok(())
+}
+
+/// Writes an answer and reads it back.
+fn check_answer<R: Abort>(rt: &R, command: Command, answer: Answer, text: &str)
+    requires listed { IsTrue (is_answer_to command answer) }
+    requires minors { HasSmallMinors answer }
+{
+    assert_eq!(rt;
+        write_answer(&command, &answer).as_slice(),
+        text.as_bytes(),
+        "{text}"
+    );
+    assert_eq!(rt;
+        read_answer(&command, text.as_bytes()),
+        Some(answer),
+        "{text}"
+    );
+}
+
+#[test]
+fn refuses_texts(rt: HostRuntime) -> Result<(), Fail> {
+    let alloc = rt.alloc();
+    let (drain, fence) = (Command::Drain { port: 0 }, Command::Fence { port: 0 });
+    let (read, on) = (Command::Read { port: 0, at: 7 }, Command::On);
+    for (command, line) in [
+        (drain, ""),
+        (drain, "ok"),
+        (drain, "ok 07"),
+        (drain, "ok  7"),
+        (drain, " ok 7"),
+        (drain, "ok 7 "),
+        (drain, "ok 7\r"),
+        (drain, "OK 7"),
+        (drain, "ok 18446744073709551616"),
+        (drain, "ok 3 16"),
+        (drain, "cut 4"),
+        (drain, "cut kept 2 4"),
+        (drain, "refused 0 data 5 0"),
+        (drain, "refused page 5 0"),
+        (drain, "refused data 4294967296 0"),
+        (drain, "idle"),
+        (fence, "ok 7"),
+        (fence, "ok 256 7"),
+        (fence, "cut kept 4"),
+        (fence, "refused data 5 0"),
+        (fence, "spent 0 0"),
+        (fence, "empty"),
+        (read, "line %AB 0"),
+        (read, "line %a 0"),
+        (read, "already"),
+        (on, "on 1 2"),
+        (on, "refused counter 5"),
+        (on, "twin 0 0 0 128 %ab 00000000000000000000000000000050"),
+        (on, "clash 05 %ab %ab"),
+        (on, "clash 5 %ab %AB"),
+        (Command::Flush, "ok 4294967296 1"),
+        (Command::Turn, "ok 256 1"),
+        (Command::Stat, "stat 1 2 3 4"),
+        (Command::Cut { n: 0 }, "ok 0"),
+        (Command::Loss { n: 4 }, "ok"),
+        (Command::Flush, "clash 5 %ab %ab"),
+    ] {
+        let given = spelled(alloc, line)?;
+        assert_eq!(rt; read_answer(&command, given.as_bytes()), None, "at {line}");
+    }
+    Ok(())
+}
+
+#[test]
+fn makes_samples(rt: HostRuntime) {
+    let mut words = SplitMix64::from_seed([0; 8]);
+    for word in [
+        0xe220_a839_7b1d_cdaf,
+        0x6e78_9e6a_a1b9_65f4,
+        0x06c4_5d18_8009_454f,
+        0xf88b_b8a8_724c_81ec,
+        0x1b39_896a_51a8_749b,
+    ] {
+        assert_eq!(rt; words.next_word(), word);
+    }
+    let mut maker = Maker::new(0);
+    for command in [
+        Command::Flush,
+        Command::Post {
+            port: 7,
+            at: 357,
+            line: Line([0x78; 64]),
+        },
+        Command::Flush,
+        Command::Read { port: 6, at: 129 },
+        Command::Drain { port: 1 },
+    ] {
+        assert_eq!(rt; maker.next(), command);
+    }
+    let mut maker = Maker::new(7);
+    for _ in 0..506 {
+        let _ = maker.next();
+    }
+    for command in [
+        Command::Drain { port: 1 },
+        Command::Cut { n: 2 },
+        Command::Post {
+            port: 0,
+            at: 515,
+            line: Line([0xb3; 64]),
+        },
+        Command::Fence { port: 0 },
+        Command::Off,
+        Command::On,
+        Command::Read { port: 3, at: 1 },
+    ] {
+        assert_eq!(rt; maker.next(), command);
+    }
+}
+
+#[test]
+fn writes_texts(rt: HostRuntime) {
+    let drain = Command::Drain { port: 0 };
+    let fence = Command::Fence { port: 0 };
+    check_answer(&rt, drain, Answer::Drained { steps: 7 }, "ok 7");
+    check_answer(
+        &rt,
+        fence,
+        Answer::Fenced {
+            drained: 3,
+            steps: 16,
+        },
+        "ok 3 16",
+    );
+    check_answer(
+        &rt,
+        drain,
+        Answer::CutKept {
+            drained: None,
+            steps: 4,
+        },
+        "cut kept 4",
+    );
+    check_answer(
+        &rt,
+        fence,
+        Answer::CutLost {
+            drained: Some(2),
+            steps: 3,
+        },
+        "cut lost 2 3",
+    );
+    let data = Answer::Refused {
+        drained: None,
+        place: Place::Line { at: 5 },
+        steps: 0,
+    };
+    check_answer(&rt, Command::Turn, data, "refused data 5 0");
+    let meta = Answer::Refused {
+        drained: Some(1),
+        place: Place::Meta { x: 5 },
+        steps: 0,
+    };
+    check_answer(&rt, fence, meta, "refused 1 meta 5 0");
+    check_answer(
+        &rt,
+        drain,
+        Answer::Spent {
+            drained: None,
+            page: 0,
+            steps: 0,
+        },
+        "spent 0 0",
+    );
+    let root = Answer::WrongRoot {
+        kept: [0x1f; 16],
+        found: [0; 16],
+        steps: 10,
+    };
+    let root_text =
+        "refused root 1f1f1f1f1f1f1f1f1f1f1f1f1f1f1f1f 00000000000000000000000000000000 10";
+    check_answer(&rt, Command::On, root, root_text);
+    let recovered = Answer::Recovered {
+        trials: 256,
+        digests: 9,
+        steps: 8,
+    };
+    check_answer(&rt, Command::On, recovered, "on 256 9 8");
+    check_answer(&rt, Command::Back { at: 1 }, Answer::NoSnap, "none");
+    let counts = Answer::Counts(Stat {
+        reads: 4,
+        writes: 5,
+        latches: 2,
+        tags: 1,
+        digests: 6,
+    });
+    check_answer(&rt, Command::Stat, counts, "stat 4 5 2 1 6");
+    let turned = Answer::Turned { left: 62, steps: 4 };
+    check_answer(&rt, Command::Turn, turned, "ok 62 4");
+    check_answer(
+        &rt,
+        Command::Flush,
+        Answer::Flushed { x: 5, steps: 1 },
+        "ok 5 1",
+    );
+    let twin = Exhibit::Twin {
+        at: 0,
+        major: 0,
+        low: 0,
+        high: 1,
+        cipher: Line([0x5a; 64]),
+        tag: [0x50; 16],
+    };
+    let twin_text =
+        "twin 0 0 0 1 5a5a5a5a5a5a5a5a5a5a5a5a5a5a5a5a5a5a5a5a5a5a5a5a5a5a5a5a5a5a5a5a5a5a5a5a5a5a5a5a5a5a5a5a5a5a5a5a5a5a5a5a5a5a5a5a5a5a5a5a5a5a5a5a 50505050505050505050505050505050";
+    check_answer(&rt, Command::On, Answer::Shown(twin), twin_text);
+
+    assert_eq!(rt;
+        write_mark(&Mark::Begin { page: 0 }).as_slice(),
+        b"begin 0".as_slice()
+    );
+    let seal = Mark::Seal {
+        at: 0,
+        ctr: Ctr { major: 0, minor: 1 },
+        cipher: Line([0; 64]),
+        tag: [0x51; 16],
+    };
+    let seal_text = b"seal 0 0.1 51515151515151515151515151515151";
+    assert_eq!(rt; write_mark(&seal).as_slice(), seal_text.as_slice());
+
+    let mut text = ArrayVec::new();
+    push_bytes(&mut text, b"stop line ");
+    push_number(&mut text, 18_446_744_073_709_551_615);
+    assert_eq!(rt;
+        text.as_slice(),
+        b"stop line 18446744073709551615".as_slice()
+    );
+}

@@ -1,0 +1,146 @@
+//! A world that is asked a table of commands.
+ghost use Rattle.std.specs.Prelude.{◌≡◌, ◌<◌, ◌^◌, true, false, OnOk, IfOk};
+ghost use Rattle.pmem_base.specs.Ranges.{IsCommand, IsPartLine};
+ghost use Rattle.plain_model.specs.Answers as answers;
+ghost use Rattle.pmem_replay.specs.World.{WorldState};
+
+use pmem_base::{Answer, Command, Geo, Line};
+use pmem_replay::World;
+use std::alloc::Global;
+use std::process::Abort;
+use std::test::Fail;
+use suite::WeakSuite;
+
+/// A command, how many marks its reply has, and its answer.
+pub(crate) type Row = (Command, usize, Answer);
+
+/// A formatted world of four pages, with one set of one way in each bank, the stop-loss number 2, and this
+/// first major. Where the suite blurs, two minors have one tag.
+pub(crate) fn small_world(alloc: Global, major: u64, blur: bool) -> Result<World<WeakSuite>, Fail>
+    ensures { IfOk result (λ (world : WorldState). world.shown ≡ false) }
+{
+    let suite = WeakSuite::new(&[0; 16], &[0], blur);
+    Ok(World::new(alloc, Geo::new(1, 1, 1, 2, major)?, suite)?)
+}
+
+/// A line of zeros with a first byte.
+pub(crate) fn first_byte(byte: u8) -> Line
+    ensures { IsPartLine 1 result }
+{
+    let mut line = Line([0; 64]);
+    line.0[0] = byte;
+    line.is_whole();
+    line
+}
+
+/// A law: a number of 64 bits is in its range.
+fn is_number(n: u64)
+    ensures { n < 2 ^ 64 }
+{
+    let _ = n;
+}
+
+/// Whether a trace can hold the command. Of parts it takes those of one byte.
+fn is_command(command: &Command) -> bool
+    ensures { result ≡ true → IsCommand command.now }
+{
+    let command = *command;
+    match command {
+        Command::Post { port, line, .. } => {
+            line.is_whole();
+            port < 8
+        }
+        Command::Part {
+            port,
+            count,
+            line,
+            ..
+        } => port < 8 && count == 1 && line == first_byte(line.0[0]),
+        Command::Poke { line, .. } => {
+            line.is_whole();
+            true
+        }
+        Command::Drain { port } => port < 8,
+        Command::Fence { port } => port < 8,
+        Command::Read { port, .. } => port < 8,
+        Command::Cut { n } => {
+            is_number(n);
+            true
+        }
+        Command::Flip { at, bit } => {
+            is_number(at);
+            is_number(bit);
+            true
+        }
+        Command::Move { from, to } => {
+            is_number(from);
+            is_number(to);
+            true
+        }
+        Command::Back { at } => {
+            is_number(at);
+            true
+        }
+        Command::Peek { at } => {
+            is_number(at);
+            true
+        }
+        Command::Loss { n } => {
+            is_number(n);
+            true
+        }
+        Command::Turn => true,
+        Command::Flush => true,
+        Command::Off => true,
+        Command::On => true,
+        Command::Snap => true,
+        Command::Stat => true,
+    }
+}
+
+/// Whether an answer is an exhibit.
+fn is_shown(answer: &Answer) -> bool
+    ensures { result ≡ answers.is_shown answer.now }
+{
+    match answer {
+        Answer::Shown(_) => true,
+        _ => false,
+    }
+}
+
+/// A command is answered as wanted, with so many marks, and by no exhibit.
+pub(crate) fn ask<R: Abort + AllocGlobal>(
+    rt: &R,
+    world: &mut World<WeakSuite>,
+    row: &Row,
+) -> Result<(), Fail>
+    requires running { world.old.shown ≡ false }
+    ensures { OnOk result (world.new.shown ≡ false) }
+{
+    let (command, marks, wanted) = *row;
+    assert!(rt; is_command(&command));
+    let reply = world.step(rt.alloc(), &command)?;
+    assert!(rt; !is_shown(&reply.answer));
+    assert_eq!(rt; reply.answer, wanted, "to {command:?}");
+    assert_eq!(rt;
+        reply.to.saturating_sub(reply.from),
+        marks,
+        "marks of {command:?}"
+    );
+    Ok(())
+}
+
+/// Each command of a table is.
+pub(crate) fn ask_all<R: Abort + AllocGlobal>(
+    rt: &R,
+    world: &mut World<WeakSuite>,
+    rows: &[Row],
+) -> Result<(), Fail>
+    requires running { world.old.shown ≡ false }
+    ensures { OnOk result (world.new.shown ≡ false) }
+{
+    'rows: for row in rows {
+        ask(rt, world, row)?;
+    }
+    Ok(())
+}

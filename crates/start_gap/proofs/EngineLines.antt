@@ -1,0 +1,145 @@
+-- What the engine's calls make of the lines, each as it was last sealed.
+use Rattle.std.proofs.Common.{rules, ℕ, ◌≡◌, ◌<◌, ◌≤◌, ◌+◌, ◌^◌, ◌⊎◌, inl, inr, Bool, true, false, cond, List, [], length, Result, Ok, Err, refl, sym, ap, subst, ◌∙◌, arith}
+use Rattle.std.specs.Prelude.{slice_set, IsOk, ◌↔◌}
+use Rattle.std.proofs.lemmas.Bool.{cases_Bool, true≢false}
+use Rattle.std.proofs.lemmas.List.{length-set, append-nil}
+use Rattle.std.proofs.lemmas.Option.{same_Some}
+use Rattle.pmem_base.specs.declared.lines.Line.{Line}
+use Rattle.pmem_base.specs.declared.lines.Ctr.{Ctr}
+use Rattle.pmem_base.specs.declared.commands.Posted.{Posted}
+use Rattle.pmem_base.specs.Layout.{data_lines}
+use Rattle.pmem_base.specs.Lines.{IsLine, line_at}
+use Rattle.pmem_base.proofs.LineLemmas.{IsLine-line_at, All-lines_set}
+use Rattle.suite.specs.Setup.{Setup}
+use Rattle.plain_model.specs.State.{memory_with}
+use Rattle.plain_model.specs.View.{plain_line}
+use Rattle.pmem_engine.specs.declared.fault.Fault.{Fault}
+use Rattle.pmem_engine.specs.declared.fault.Fault.TheVariants as Fail
+use Rattle.pmem_engine.specs.Parts.{Parts, AreTrusted, AreSound}
+use Rattle.pmem_engine.specs.Outcomes.{outcome_of, is_sealed_by, LeavesTrusted, LeavesSound}
+use Rattle.pmem_engine.specs.Calls.{IsMemory, IsUnrefused, IsDownAnswer, whole_write, HasReadLine, HasWrittenLine}
+use Rattle.pmem_engine.proofs.CallEnds.StillParts.{sound_trusted}
+use Rattle.pmem_engine.proofs.PostedWrites.PlainMakings.{put_whole}
+use Rattle.pmem_engine.proofs.PostedWrites.WriteEnds.{whole_posted}
+use Rattle.start_gap.specs.Gapped.{HasLines}
+
+-- ---- a call that was answered
+
+-- an engine that is down answers nothing but that
+up_of : (down : Bool) (IsDown : Type 0) → IsDown ↔ (down ≡ true) → (IsDown → ⊥) → down ≡ false
+up_of down IsDown exactly not = elim (cases_Bool down) [ inl is ↦ absurd (not (exactly.1 is)) | inr is ↦ is ]
+
+-- ---- a write
+
+module _ (setup : Setup) (write : Posted) (old new : Parts) (answer : Result Ctr Fault)
+    (it : HasWrittenLine setup write old new answer) where
+  pub trusted_after_write : AreTrusted setup old → LeavesTrusted setup (outcome_of answer) new
+  trusted_after_write trusted = (it.done trusted.not_down).gone.trusted trusted
+
+  pub sound_after_write : AreSound setup old → LeavesSound setup (outcome_of answer) new × IsUnrefused answer
+  sound_after_write sound =
+      let up = (sound_trusted setup old sound).not_down in ((it.done up).gone.sound sound, it.unrefused up sound)
+
+module _ (setup : Setup) (at : ℕ) (plain : Line) (old new : Parts) (answer : Result Ctr Fault)
+    (it : HasWrittenLine setup (whole_write at plain) old new answer) (lines : List Line)
+    (low : at < 2 ^ 32) (inside : at < data_lines setup.shape) (whole : IsLine plain)
+    (had : HasLines setup lines old) (trusted : AreTrusted setup old) where
+  put_line : memory_with lines (whole_write at plain) ≡ slice_set lines at plain
+  put_line =
+      let is = IsLine-line_at lines at had.whole.each in
+      ap (slice_set lines at)
+      (sym (put_whole (line_at lines at) (whole_write at plain) (omega (arith, is.long)) (whole_posted at plain low whole) refl))
+
+  its_memory : IsMemory setup (cond (is_sealed_by it.made at) (memory_with lines (whole_write at plain)) lines) new
+  its_memory = it.memory trusted lines (omega (arith, inside, had.whole.count)) had.sealed
+
+  pub sealed_lines : is_sealed_by it.made at ≡ true → HasLines setup (slice_set lines at plain) new
+  sealed_lines sealed =
+      record {
+        whole =
+            record {
+              count = length-set lines at plain ∙ had.whole.count;
+              each = All-lines_set lines at plain whole had.whole.each;
+            };
+        sealed =
+            subst (λ now. IsMemory setup now new) put_line
+            (subst (λ b. IsMemory setup (cond b (memory_with lines (whole_write at plain)) lines) new) sealed its_memory);
+      }
+
+  pub unsealed_lines : is_sealed_by it.made at ≡ false → HasLines setup lines new
+  unsealed_lines unsealed =
+      record {
+        whole = had.whole;
+        sealed = subst (λ b. IsMemory setup (cond b (memory_with lines (whole_write at plain)) lines) new) unsealed its_memory;
+      }
+
+  -- the line is there whole, or as it was
+  pub either_lines : HasLines setup lines new ⊎ HasLines setup (slice_set lines at plain) new
+  either_lines =
+      elim (cases_Bool (is_sealed_by it.made at)) [
+        | inl sealed ↦ inr (sealed_lines sealed)
+        | inr unsealed ↦ inl (unsealed_lines unsealed)
+      ]
+
+pub written_lines : (setup : Setup) (at : ℕ) (plain : Line) (old new : Parts) (ctr : Ctr) (lines : List Line)
+    → at < 2 ^ 32 → at < data_lines setup.shape → IsLine plain → HasLines setup lines old → AreTrusted setup old
+    → HasWrittenLine setup (whole_write at plain) old new (Ok ctr) → HasLines setup (slice_set lines at plain) new
+written_lines setup at plain old new ctr lines low inside whole had trusted it =
+    sealed_lines setup at plain old new (Ok ctr) it lines low inside whole had trusted (it.own_sealed (search rules))
+
+pub spent_lines : (setup : Setup) (at : ℕ) (plain : Line) (old new : Parts) (page : ℕ) (lines : List Line)
+    → at < 2 ^ 32 → at < data_lines setup.shape → IsLine plain → HasLines setup lines old → AreTrusted setup old
+    → HasWrittenLine setup (whole_write at plain) old new (Err (Fail.Spent page)) → HasLines setup lines new
+spent_lines setup at plain old new page lines low inside whole had trusted it =
+    let none = it.marks trusted.not_down trusted lines had.sealed in
+    unsealed_lines setup at plain old new (Err (Fail.Spent page)) it lines low inside whole had trusted
+    (ap (λ made. is_sealed_by made at) none.1)
+
+-- ---- room for marks
+
+pub up_before_write : (setup : Setup) (write : Posted) (old new : Parts) (ctr : Ctr) → HasWrittenLine setup write old new (Ok ctr)
+    → old.engine.down ≡ false
+up_before_write setup write old new ctr it = up_of old.engine.down _ it.down.exactly (λ h. h)
+
+pub room_after_write : (setup : Setup) (write : Posted) (old new : Parts) (ctr : Ctr) (k : ℕ)
+    → HasWrittenLine setup write old new (Ok ctr) → k + 66 ≤ old.ledger.spare → k ≤ new.ledger.spare
+room_after_write setup write old new ctr k it room =
+    let spare = (it.done (up_before_write setup write old new ctr it)).gone.spare in
+    let few = it.few_marks in
+    omega (arith, spare, few, room)
+
+pub up_before_read : (setup : Setup) (at : ℕ) (old new : Parts) (line : Line) → HasReadLine setup at old new (Ok line)
+    → old.engine.down ≡ false
+up_before_read setup at old new line it = up_of old.engine.down _ it.down.exactly (λ h. h)
+
+pub room_after_read : (setup : Setup) (at : ℕ) (old new : Parts) (line : Line) (k : ℕ)
+    → HasReadLine setup at old new (Ok line) → k ≤ old.ledger.spare → k ≤ new.ledger.spare
+room_after_read setup at old new line k it room =
+    let spare = (it.done (up_before_read setup at old new line it)).gone.spare in
+    omega (arith, spare, room)
+
+-- ---- a read
+
+module _ (setup : Setup) (at : ℕ) (old new : Parts) (answer : Result Line Fault) (it : HasReadLine setup at old new answer) where
+  pub trusted_after_read : AreTrusted setup old → LeavesTrusted setup (outcome_of answer) new
+  trusted_after_read trusted = (it.done trusted.not_down).gone.trusted trusted
+
+  pub sound_after_read : AreSound setup old → LeavesSound setup (outcome_of answer) new × IsUnrefused answer
+  sound_after_read sound =
+      let up = (sound_trusted setup old sound).not_down in ((it.done up).gone.sound sound, it.unrefused up sound)
+
+  -- no line changes
+  pub lines_after_read : (lines : List Line) → HasLines setup lines old → AreTrusted setup old → HasLines setup lines new
+  lines_after_read lines had trusted =
+      let same : new.ledger.marks ≡ old.ledger.marks = (it.done trusted.not_down).gone.marks ∙ append-nil old.ledger.marks in
+      record {
+        whole = had.whole;
+        sealed = λ a inside. ap (λ marks. plain_line setup.formulas marks a) same ∙ had.sealed a inside;
+      }
+
+-- the line that is read is the one at the place
+pub line_read : (setup : Setup) (at : ℕ) (old new : Parts) (line : Line) (lines : List Line) → at < data_lines setup.shape
+    → HasLines setup lines old → AreTrusted setup old → HasReadLine setup at old new (Ok line) → line ≡ line_at lines at
+line_read setup at old new line lines inside had trusted it =
+    let answered = it.answered trusted.not_down trusted in
+    same_Some _ _ (sym answered.0 ∙ had.sealed at inside)

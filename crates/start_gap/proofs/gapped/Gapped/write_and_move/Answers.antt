@@ -1,0 +1,37 @@
+-- The line was written, and then a move is due or not.
+use Rattle.std.proofs.Common.{◌≡◌, ◌≤◌, ◌<◌, ◌+◌, refl, arith}
+use Rattle.suite.specs.Setup.{Setup}
+use Rattle.pmem_engine.specs.Engine.{EngineState}
+use Rattle.pmem_engine.specs.Parts.{Parts, parts_of}
+use Rattle.start_gap.proofs.LevelledCalls.{write_as, move_as, wear_over, counted, tried_as}
+use Rattle.start_gap.proofs.gapped.Gapped.write_and_move.Given.{Over}
+use Rattle.start_gap.proofs.gapped.Gapped.write_and_move.Goals as goal
+
+-- the formulas and the parts at a moment of the call
+abbrev setup_at : (g : Over) → EngineState → g.row.S.Denot → Setup
+setup_at g engine suite = record { shape = engine.shape; formulas = g.S.Suite.formulas_of (g.S.Suite.keys suite) }
+
+abbrev at : (g : Over) → EngineState → g.row.B.Denot → g.row.S.Denot → g.row.A.Denot → Parts
+at g engine board suite audit =
+    parts_of engine (g.B.Board.device board) (g.A.Audit.ledger audit) (g.S.Suite.tags suite) (g.S.Suite.digests suite)
+
+pub returns-then-self-clause-written : goal.returns-then-self-clause-written
+returns-then-self-clause-written g c =
+    counted (setup_at g c.args.self.now.engine c.args.suite.now) c.args.line c.args.plain.now c.args.self.now _
+    (at g c.args.self.now.engine c.args.board.now c.args.suite.now c.args.audit.now)
+    (at g c.write.new.self c.write.new.board c.write.new.suite c.write.new.audit) c.write.result c.in_default.not-Err (omega arith)
+    (write_as g.S.Suite.formulas_of c.args.self.now.engine.shape (g.S.Suite.keys c.args.suite.now) _ _ _ _ _ _ _ _ _ refl refl
+    c.place-at.ensures.place refl c.write.ensures.written)
+    (record { its_lines = refl; its_every = refl; its_wear = refl; its_count = refl })
+
+pub returns-clause-written : goal.returns-clause-written
+returns-clause-written g c =
+    tried_as (setup_at g c.args.self.now.engine c.args.suite.now) c.args.line c.args.plain.now c.args.self.now _
+    (at g c.args.self.now.engine c.args.board.now c.args.suite.now c.args.audit.now)
+    (at g c.write.new.self c.write.new.board c.write.new.suite c.write.new.audit) _ c.write.result c.move_gap-tried.result _
+    c.in_default.not-Err (omega arith)
+    (write_as g.S.Suite.formulas_of c.args.self.now.engine.shape (g.S.Suite.keys c.args.suite.now) _ _ _ _ _ _ _ _ _ refl refl
+    c.place-at.ensures.place refl c.write.ensures.written)
+    (move_as g.S.Suite.formulas_of c.args.self.now.engine.shape (g.S.Suite.keys c.args.suite.now) c.write.new.self.shape
+    (g.S.Suite.keys c.write.new.suite) _ _ _ _ _ c.write.ensures.shape c.write.ensures.keys c.move_gap-tried.ensures.moved)
+    (wear_over _ _ c.args.self.now _ _ c.move_gap-tried.ensures.wear refl refl) c.answer_of_move.ensures

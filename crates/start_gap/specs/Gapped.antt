@@ -1,0 +1,209 @@
+-- What a call of levelled lines makes of the engine, device and ledger: which calls of the engine it is made
+-- of, in order, and what becomes of the logical lines.
+use Rattle.std.specs.Prelude.{ℕ, ◌≡◌, ◌<◌, ◌+◌, ◌-◌, nat_lt, true, false, List, Result, Ok, Err, Some, None, MatchBool, ⊤}
+use Rattle.pmem_base.specs.declared.lines.Line.{Line}
+use Rattle.pmem_base.specs.declared.lines.Ctr.{Ctr}
+use Rattle.pmem_base.specs.Shape.{Shape}
+use Rattle.pmem_base.specs.Layout.{data_lines}
+use Rattle.suite.specs.Setup.{Setup}
+use Rattle.board.specs.Device.{AreLinesOf}
+use Rattle.pmem_engine.specs.declared.fault.Fault.{Fault}
+use Rattle.pmem_engine.specs.declared.fault.Fault.TheVariants as Fail
+use Rattle.pmem_engine.specs.Engine.{EngineState}
+use Rattle.pmem_engine.specs.Parts.{Parts}
+use Rattle.pmem_engine.specs.Outcomes.{Outcome, going, outcome_of_fault}
+use Rattle.pmem_engine.specs.Calls.{IsMemory, whole_write, HasReadLine, HasWrittenLine}
+use Rattle.start_gap.specs.declared.wear.Wear.{Wear}
+use Rattle.start_gap.specs.declared.gapped.Gapped.{Gapped}
+use Rattle.start_gap.specs.declared.gapped.GapFault.{GapFault}
+use Rattle.start_gap.specs.declared.gapped.GapFault.TheVariants.{Engine, BadWear}
+use Rattle.start_gap.specs.declared.gapped.Moved.{Moved}
+use Rattle.start_gap.specs.declared.gapped.Moved.TheVariants as Move
+use Rattle.start_gap.specs.declared.gapped.WriteFault.{WriteFault}
+use Rattle.start_gap.specs.Record.{recorded, wear_record}
+use Rattle.start_gap.specs.Wear.{place_of, next_wear, source_of}
+use Rattle.start_gap.specs.Logical.{IsLevelled, Stage, begun, written, copied, moved, lines_at, memory_at, wear_at}
+
+-- the logical lines of a memory: two of its data lines are the gap's and the record's
+abbrev pub logical_lines : Shape → ℕ
+logical_lines g = data_lines g - 2
+
+-- these are the data lines as they were last sealed
+pub record HasLines (setup : Setup) (lines : List Line) (parts : Parts) : Type 0 where
+  pub whole : AreLinesOf (data_lines setup.shape) lines
+  pub sealed : IsMemory setup lines parts
+
+-- ---- opening
+
+-- the wear of a record that was read, and no write yet
+pub record HasReadRecord (setup : Setup) (every : ℕ) (line : Line) (old new : Parts) (gapped : Gapped) : Type 0 where
+  pub was_read : HasReadLine setup (gapped.lines + 1) old new (Ok line)
+  pub its_wear : recorded gapped.lines line ≡ Some gapped.wear
+  pub its_lines : gapped.lines ≡ logical_lines setup.shape
+  pub its_every : gapped.every ≡ every
+  pub no_writes : gapped.count ≡ 0
+
+-- The line of the record is read, and nothing else is done. What the parts are then is said of an engine: of
+-- the one that is kept, or of the one that is dropped.
+abbrev pub HasOpened : Setup → ℕ → Parts → (EngineState → Parts) → Result Gapped GapFault → Type 0
+HasOpened setup every old now (Ok gapped) =
+    (line : Line) × HasReadRecord setup every line old (now gapped.engine) gapped
+HasOpened setup every old now (Err (Engine fault)) =
+    (dropped : EngineState) × HasReadLine setup (logical_lines setup.shape + 1) old (now dropped) (Err fault)
+HasOpened setup every old now (Err (BadWear line)) =
+    (dropped : EngineState) × HasReadLine setup (logical_lines setup.shape + 1) old (now dropped) (Ok line)
+    × (recorded (logical_lines setup.shape) line ≡ None)
+
+-- over lines that hold a logical memory the wear is the one that they record
+abbrev pub HasWearOf : Wear → Result Gapped GapFault → Type 0
+HasWearOf wear (Ok gapped) = gapped.wear ≡ wear
+HasWearOf wear (Err (Engine fault)) = ⊤
+HasWearOf wear (Err (BadWear line)) = ⊥
+
+-- ---- the calls of a move
+
+-- an engine's write, without the counter
+abbrev pub done_as : Result Ctr Fault → Result (Unit {0}) Fault
+done_as (Ok ctr) = Ok tt
+done_as (Err fault) = Err fault
+
+-- the next wear is recorded
+pub record HasRecorded (setup : Setup) (n : ℕ) (wear : Wear) (old new : Parts) (answer : Result (Unit {0}) Fault) :
+    Type 0 where
+  pub made : Result Ctr Fault
+  pub was_written : HasWrittenLine setup (whole_write (n + 1) (wear_record n (next_wear n wear))) old new made
+  pub its_answer : answer ≡ done_as made
+
+-- what follows the copy
+abbrev pub HasRecordedAfter :
+    Result Ctr Fault → Setup → ℕ → Wear → Parts → Parts → Result (Unit {0}) Fault → Type 0
+HasRecordedAfter (Ok ctr) setup n wear old new answer = HasRecorded setup n wear old new answer
+HasRecordedAfter (Err fault) setup n wear old new answer = (answer ≡ Err fault) × (new ≡ old)
+
+-- a line is copied into the gap, and then the next wear is recorded
+pub record HasCopied (setup : Setup) (n : ℕ) (wear : Wear) (copy : Line) (old new : Parts)
+    (answer : Result (Unit {0}) Fault) : Type 0 where
+  pub made : Result Ctr Fault
+  pub between : Parts
+  pub was_written : HasWrittenLine setup (whole_write wear.gap copy) old between made
+  pub then : HasRecordedAfter made setup n wear between new answer
+
+-- what follows the reading of the source
+abbrev pub HasCopiedAfter :
+    Result Line Fault → Setup → ℕ → Wear → Parts → Parts → Result (Unit {0}) Fault → Type 0
+HasCopiedAfter (Ok copy) setup n wear old new answer = HasCopied setup n wear copy old new answer
+HasCopiedAfter (Err fault) setup n wear old new answer = (answer ≡ Err fault) × (new ≡ old)
+
+-- the source is read, and then its line copied
+pub record HasMovedGap (setup : Setup) (n : ℕ) (wear : Wear) (old new : Parts) (answer : Result (Unit {0}) Fault) :
+    Type 0 where
+  pub read : Result Line Fault
+  pub between : Parts
+  pub was_read : HasReadLine setup (source_of n wear) old between read
+  pub then : HasCopiedAfter read setup n wear between new answer
+
+-- ---- the calls of a write
+
+-- the wear after a move
+abbrev pub wear_by : Result (Unit {0}) Fault → ℕ → Wear → Wear
+wear_by (Ok done) n wear = next_wear n wear
+wear_by (Err fault) n wear = wear
+
+-- the answer of a write whose own line was written, by that of its move
+abbrev pub answer_by : Result (Unit {0}) Fault → Result Moved WriteFault
+answer_by (Ok done) = Ok Move.Made
+answer_by (Err (Fail.Spent page)) = Ok (Move.Held page)
+answer_by (Err fault) = Err (record { fault = fault; written = true })
+
+-- this wear and this count, and else as it was
+pub record HasWear (wear : Wear) (count : ℕ) (old new : Gapped) : Type 0 where
+  pub its_lines : new.lines ≡ old.lines
+  pub its_every : new.every ≡ old.every
+  pub its_wear : new.wear ≡ wear
+  pub its_count : new.count ≡ count
+
+-- a move is made, and writes are counted anew
+pub record HasTriedMove (setup : Setup) (old new : Gapped) (from to : Parts) (answer : Result Moved WriteFault) :
+    Type 0 where
+  pub tried : Result (Unit {0}) Fault
+  pub was_tried : HasMovedGap setup old.lines old.wear from to tried
+  pub its_answer : answer ≡ answer_by tried
+  pub its_wear : HasWear (wear_by tried old.lines old.wear) 0 old new
+
+-- no move is due yet
+pub record HasCounted (old new : Gapped) (from to : Parts) (answer : Result Moved WriteFault) : Type 0 where
+  pub its_answer : answer ≡ Ok Move.Not
+  pub its_wear : HasWear old.wear (old.count + 1) old new
+  pub nothing_else : to ≡ from
+
+-- the line wasn't written, and nothing else was done
+pub record HasRefused (fault : Fault) (old new : Gapped) (from to : Parts) (answer : Result Moved WriteFault) : Type 0 where
+  pub its_answer : answer ≡ Err (record { fault = fault; written = false })
+  pub its_wear : HasWear old.wear old.count old new
+  pub nothing_else : to ≡ from
+
+-- what follows the line's own write: at each `every`th write a move
+abbrev pub HasGoneOn :
+    Result Ctr Fault → Setup → Gapped → Gapped → Parts → Parts → Result Moved WriteFault → Type 0
+HasGoneOn (Ok ctr) setup old new from to answer =
+    MatchBool (nat_lt (old.count + 1) old.every) (HasCounted old new from to answer)
+    (HasTriedMove setup old new from to answer)
+HasGoneOn (Err fault) setup old new from to answer = HasRefused fault old new from to answer
+
+-- the line is written to its place, and then what is due is done
+pub record HasLevelledWrite (setup : Setup) (a : ℕ) (plain : Line) (old new : Gapped) (from to : Parts)
+    (answer : Result Moved WriteFault) : Type 0 where
+  pub made : Result Ctr Fault
+  pub between : Parts
+  pub was_written : HasWrittenLine setup (whole_write (place_of old.lines old.wear a) plain) from between made
+  pub then : HasGoneOn made setup old new between to answer
+
+-- ---- what becomes of the logical lines
+
+abbrev pub IsUnspent : Fault → Type 0
+IsUnspent (Fail.Spent page) = ⊥
+IsUnspent fault = ⊤
+
+-- the stages at which a write may end, by its answer; nothing is written where its line is spent
+abbrev pub IsEnd : Result Moved WriteFault → Stage → Type 0
+IsEnd (Ok Move.Not) written = ⊤
+IsEnd (Ok Move.Made) moved = ⊤
+IsEnd (Ok (Move.Held page)) written = ⊤
+IsEnd (Ok (Move.Held page)) copied = ⊤
+IsEnd (Err fault) begun = fault.written ≡ false
+IsEnd (Err fault) written = IsUnspent fault.fault
+IsEnd (Err fault) copied = (fault.written ≡ true) × IsUnspent fault.fault
+IsEnd (Err fault) moved = (fault.written ≡ true) × IsUnspent fault.fault
+IsEnd answer stage = ⊥
+
+-- Where the lines were these, they are at a stage of the write now: its own line is there whole or as it was. And
+-- where they held a logical memory, they hold it without the line or with it, under the wear that they record.
+pub record IsLeftLevelled (setup : Setup) (a : ℕ) (plain : Line) (old : Gapped) (lines : List Line) (to : Parts)
+    (answer : Result Moved WriteFault) : Type 0 where
+  pub stage : Stage
+  pub ended : IsEnd answer stage
+  pub its_lines : HasLines setup (lines_at stage old.lines old.wear a plain lines) to
+  pub levelled :
+      (memory : List Line) → IsLevelled old.lines lines old.wear memory
+      → IsLevelled old.lines (lines_at stage old.lines old.wear a plain lines)
+      (wear_at stage old.lines old.wear) (memory_at stage a plain memory)
+
+-- how the engine stands after a write
+abbrev pub outcome_by : Result Moved WriteFault → Outcome
+outcome_by (Ok what) = going
+outcome_by (Err fault) = outcome_of_fault fault.fault
+
+-- a write whose own line was written isn't spent: its move is held
+abbrev pub IsSpentUnwritten : Result Moved WriteFault → Type 0
+IsSpentUnwritten (Ok what) = ⊤
+IsSpentUnwritten (Err fault) = fault.written ≡ true → IsUnspent fault.fault
+
+-- over a sound device a write is done, or cut, or its own line is spent
+abbrev pub IsCutOrSpent : Fault → Type 0
+IsCutOrSpent Fail.Cut = ⊤
+IsCutOrSpent (Fail.Spent page) = ⊤
+IsCutOrSpent fault = ⊥
+
+abbrev pub IsSoundAnswer : Result Moved WriteFault → Type 0
+IsSoundAnswer (Ok what) = ⊤
+IsSoundAnswer (Err fault) = IsCutOrSpent fault.fault

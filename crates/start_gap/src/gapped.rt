@@ -1,0 +1,279 @@
+//! Levelled lines over an engine: reads and writes of logical lines, and a gap move at each so many writes.
+ghost use Rattle.std.specs.Prelude.{◌≡◌, ◌≤◌, ◌<◌, ◌+◌, ◌^◌, List, IfOk};
+ghost use Rattle.pmem_base.specs.declared.lines.Line.{Line};
+ghost use Rattle.pmem_base.specs.Layout.{data_lines};
+ghost use Rattle.pmem_base.specs.Lines.{line_at};
+ghost use Rattle.pmem_engine.specs.Engine.{EngineState};
+ghost use Rattle.pmem_engine.specs.Parts.{parts_of, AreTrusted, AreSound};
+ghost use Rattle.pmem_engine.specs.Outcomes.{LeavesTrusted, LeavesSound};
+ghost use Rattle.pmem_engine.specs.Calls.{IsUsable, HasReadLine};
+ghost use Rattle.start_gap.specs.declared.wear.Wear.{Wear};
+ghost use Rattle.start_gap.specs.Wear.{IsWear, place_of};
+ghost use Rattle.start_gap.specs.Logical.{IsLevelled};
+
+use crate::record::{read_wear, wear_line};
+use crate::wear::{Wear, next, place, source};
+use board::Board;
+use pmem_base::Line;
+use pmem_engine::{Engine, Fault};
+use seal_ledger::Audit;
+use suite::Suite;
+
+/// What became of the move at a write whose own line was written.
+#[derive(Clone, Copy, Debug, PartialEq, Eq)]
+pub enum Moved {
+    /// No move was due.
+    Not,
+    /// The gap moved.
+    Made,
+    /// A line of the move is spent: the gap stays, and the next move is tried `every` writes later.
+    Held { page: u32 },
+}
+
+/// Why a write ended: the fault of the engine's call, and whether the line's own write had been answered Ok.
+#[derive(Clone, Copy, Debug, PartialEq, Eq)]
+pub struct WriteFault {
+    pub fault: Fault,
+    pub written: bool,
+}
+
+/// Why no lines were opened. The engine is dropped; recovery over the board makes another.
+#[derive(Clone, Copy, Debug, PartialEq, Eq)]
+pub enum GapFault {
+    /// The record wasn't read.
+    Engine(Fault),
+    /// The line of the record is no record.
+    BadWear { line: Line },
+}
+
+/// An engine whose data lines are levelled: n = L - 2 logical lines lie in the places 0 to n, and data line
+/// n + 1 holds the record of the wear. At each `every`th write since opening the gap moves.
+#[derive(Drop)]
+pub struct Gapped {
+    engine: Engine,
+    lines: u32,
+    wear: Wear,
+    every: u32,
+    count: u32,
+    pub ghost its_lines: { lines + 2 ≡ data_lines engine.shape },
+    pub ghost few_lines: { lines ≤ 2 ^ 30 },
+    pub ghost its_wear: { IsWear lines wear },
+    pub ghost not_due: { count < every },
+}
+
+impl Gapped {
+    ghost use Rattle.start_gap.specs.Gapped.{HasLines, HasOpened, HasWearOf, HasMovedGap, HasLevelledWrite, IsLeftLevelled, IsSoundAnswer, IsSpentUnwritten, HasWear, logical_lines, answer_by, outcome_by, wear_by};
+
+    /// Reads the record of the wear. `BadWear` comes exactly where its line is no record.
+    pub fn open<B: Board, S: Suite, A: Audit>(
+        engine: Engine,
+        board: &mut B,
+        suite: &mut S,
+        audit: &mut A,
+        every: u32,
+    ) -> Result<Gapped, GapFault>
+        requires every { 1 ≤ every }
+        requires usable { IsUsable engine.shape engine (B.device board.old) (A.ledger audit.old) }
+        ensures opened { HasOpened (record { shape = engine.shape; formulas = S.formulas_of (S.keys suite.old) }) every
+            (parts_of engine (B.device board.old) (A.ledger audit.old) (S.tags suite.old) (S.digests suite.old))
+            (λ now. parts_of now (B.device board.new) (A.ledger audit.new) (S.tags suite.new) (S.digests suite.new)) result }
+        ensures levelled { AreTrusted (record { shape = engine.shape; formulas = S.formulas_of (S.keys suite.old) })
+            (parts_of engine (B.device board.old) (A.ledger audit.old) (S.tags suite.old) (S.digests suite.old))
+            → (lines memory : List Line) (wear : Wear)
+            → HasLines (record { shape = engine.shape; formulas = S.formulas_of (S.keys suite.old) }) lines
+            (parts_of engine (B.device board.old) (A.ledger audit.old) (S.tags suite.old) (S.digests suite.old))
+            → IsLevelled (logical_lines engine.shape) lines wear memory → HasWearOf wear result }
+        ensures keys { S.keys suite.new ≡ S.keys suite.old }
+        ensures usable { IfOk result (λ gapped. IsUsable engine.shape gapped.engine (B.device board.new) (A.ledger audit.new)) }
+        ensures shape { IfOk result (λ gapped. gapped.engine.shape ≡ engine.shape) }
+        ensures left { (last : EngineState) × IsUsable engine.shape last (B.device board.new) (A.ledger audit.new) }
+    {
+        let mut engine = engine;
+        let lines = engine.geo().lines() - 2;
+        let line = match engine.read(board, suite, audit, lines + 1) {
+            Err(fault) => return Err(GapFault::Engine(fault)),
+            Ok(line) => line,
+        };
+        match read_wear(lines, &line) {
+            None => Err(GapFault::BadWear { line }),
+            Some(wear) => Ok(Gapped {
+                engine,
+                lines,
+                wear,
+                every,
+                count: 0,
+            }),
+        }
+    }
+
+    /// The wear that is recorded.
+    pub fn wear(&self) -> &Wear
+        ensures { result.now ≡ self.now.wear }
+    {
+        &self.wear
+    }
+
+    /// How many logical lines there are.
+    pub fn lines(&self) -> u32
+        ensures value { result ≡ self.now.lines }
+        ensures levelled { result + 2 ≡ data_lines self.now.engine.shape }
+    {
+        self.lines
+    }
+
+    /// A logical line, read at its place.
+    pub fn read<B: Board, S: Suite, A: Audit>(
+        &mut self,
+        board: &mut B,
+        suite: &mut S,
+        audit: &mut A,
+        line: u32,
+    ) -> Result<Line, Fault>
+        requires line { line < self.old.lines }
+        requires usable { IsUsable self.old.engine.shape self.old.engine (B.device board.old) (A.ledger audit.old) }
+        ensures read { HasReadLine (record { shape = self.old.engine.shape; formulas = S.formulas_of (S.keys suite.old) })
+            (place_of self.old.lines self.old.wear line)
+            (parts_of self.old.engine (B.device board.old) (A.ledger audit.old) (S.tags suite.old) (S.digests suite.old))
+            (parts_of self.new.engine (B.device board.new) (A.ledger audit.new) (S.tags suite.new) (S.digests suite.new)) result }
+        ensures levelled { AreTrusted (record { shape = self.old.engine.shape; formulas = S.formulas_of (S.keys suite.old) })
+            (parts_of self.old.engine (B.device board.old) (A.ledger audit.old) (S.tags suite.old) (S.digests suite.old))
+            → (lines memory : List Line)
+            → HasLines (record { shape = self.old.engine.shape; formulas = S.formulas_of (S.keys suite.old) }) lines
+            (parts_of self.old.engine (B.device board.old) (A.ledger audit.old) (S.tags suite.old) (S.digests suite.old))
+            → IsLevelled self.old.lines lines self.old.wear memory
+            → IfOk result (λ read. read ≡ line_at memory line) }
+        ensures wear { HasWear self.old.wear self.old.count self.old self.new }
+        ensures keys { S.keys suite.new ≡ S.keys suite.old }
+        ensures usable { IsUsable self.old.engine.shape self.new.engine (B.device board.new) (A.ledger audit.new) }
+        ensures shape { self.new.engine.shape ≡ self.old.engine.shape }
+    {
+        let at = place(self.lines, &self.wear, line);
+        self.engine.read(board, suite, audit, at)
+    }
+
+    /// Writes a logical line to its place, and moves the gap where that is due. Wherever the write ends, the
+    /// line is there whole or as it was, and so is every other.
+    pub fn write<B: Board, S: Suite, A: Audit>(
+        &mut self,
+        board: &mut B,
+        suite: &mut S,
+        audit: &mut A,
+        line: u32,
+        plain: &Line,
+    ) -> Result<Moved, WriteFault>
+        requires line { line < self.old.lines }
+        requires room { 198 ≤ (A.ledger audit.old).spare }
+        requires usable { IsUsable self.old.engine.shape self.old.engine (B.device board.old) (A.ledger audit.old) }
+        ensures written { HasLevelledWrite (record { shape = self.old.engine.shape; formulas = S.formulas_of (S.keys suite.old) })
+            line plain.now self.old self.new
+            (parts_of self.old.engine (B.device board.old) (A.ledger audit.old) (S.tags suite.old) (S.digests suite.old))
+            (parts_of self.new.engine (B.device board.new) (A.ledger audit.new) (S.tags suite.new) (S.digests suite.new)) result }
+        ensures levelled { AreTrusted (record { shape = self.old.engine.shape; formulas = S.formulas_of (S.keys suite.old) })
+            (parts_of self.old.engine (B.device board.old) (A.ledger audit.old) (S.tags suite.old) (S.digests suite.old))
+            → (lines : List Line)
+            → HasLines (record { shape = self.old.engine.shape; formulas = S.formulas_of (S.keys suite.old) }) lines
+            (parts_of self.old.engine (B.device board.old) (A.ledger audit.old) (S.tags suite.old) (S.digests suite.old))
+            → IsLeftLevelled (record { shape = self.old.engine.shape; formulas = S.formulas_of (S.keys suite.old) })
+            line plain.now self.old lines
+            (parts_of self.new.engine (B.device board.new) (A.ledger audit.new) (S.tags suite.new) (S.digests suite.new)) result }
+        ensures trusted { AreTrusted (record { shape = self.old.engine.shape; formulas = S.formulas_of (S.keys suite.old) })
+            (parts_of self.old.engine (B.device board.old) (A.ledger audit.old) (S.tags suite.old) (S.digests suite.old))
+            → LeavesTrusted (record { shape = self.old.engine.shape; formulas = S.formulas_of (S.keys suite.old) }) (outcome_by result)
+            (parts_of self.new.engine (B.device board.new) (A.ledger audit.new) (S.tags suite.new) (S.digests suite.new)) }
+        ensures sound { AreSound (record { shape = self.old.engine.shape; formulas = S.formulas_of (S.keys suite.old) })
+            (parts_of self.old.engine (B.device board.old) (A.ledger audit.old) (S.tags suite.old) (S.digests suite.old))
+            → LeavesSound (record { shape = self.old.engine.shape; formulas = S.formulas_of (S.keys suite.old) }) (outcome_by result)
+            (parts_of self.new.engine (B.device board.new) (A.ledger audit.new) (S.tags suite.new) (S.digests suite.new))
+            × IsSoundAnswer result }
+        ensures spent { IsSpentUnwritten result }
+        ensures keys { S.keys suite.new ≡ S.keys suite.old }
+        ensures usable { IsUsable self.old.engine.shape self.new.engine (B.device board.new) (A.ledger audit.new) }
+        ensures shape { self.new.engine.shape ≡ self.old.engine.shape }
+    {
+        plain.is_whole();
+        self.write_and_move(board, suite, audit, line, plain)
+    }
+
+    // The line's own write, and then the move where that is due.
+    fn write_and_move<B: Board, S: Suite, A: Audit>(
+        &mut self,
+        board: &mut B,
+        suite: &mut S,
+        audit: &mut A,
+        line: u32,
+        plain: &Line,
+    ) -> Result<Moved, WriteFault>
+        requires line { line < self.old.lines }
+        requires room { 198 ≤ (A.ledger audit.old).spare }
+        requires usable { IsUsable self.old.engine.shape self.old.engine (B.device board.old) (A.ledger audit.old) }
+        ensures written { HasLevelledWrite (record { shape = self.old.engine.shape; formulas = S.formulas_of (S.keys suite.old) })
+            line plain.now self.old self.new
+            (parts_of self.old.engine (B.device board.old) (A.ledger audit.old) (S.tags suite.old) (S.digests suite.old))
+            (parts_of self.new.engine (B.device board.new) (A.ledger audit.new) (S.tags suite.new) (S.digests suite.new)) result }
+        ensures keys { S.keys suite.new ≡ S.keys suite.old }
+        ensures usable { IsUsable self.old.engine.shape self.new.engine (B.device board.new) (A.ledger audit.new) }
+        ensures shape { self.new.engine.shape ≡ self.old.engine.shape }
+    {
+        let at = place(self.lines, &self.wear, line);
+        if let Err(fault) = self.engine.write(board, suite, audit, at, plain) {
+            return Err(WriteFault {
+                fault,
+                written: false,
+            });
+        }
+        if self.count + 1 < self.every {
+            self.count += 1;
+            return Ok(Moved::Not);
+        }
+        self.count = 0;
+        let tried = self.move_gap(board, suite, audit);
+        Gapped::answer_of_move(tried)
+    }
+
+    // Copies the line of the source into the gap, and then records the next wear.
+    fn move_gap<B: Board, S: Suite, A: Audit>(
+        &mut self,
+        board: &mut B,
+        suite: &mut S,
+        audit: &mut A,
+    ) -> Result<(), Fault>
+        requires room { 132 ≤ (A.ledger audit.old).spare }
+        requires usable { IsUsable self.old.engine.shape self.old.engine (B.device board.old) (A.ledger audit.old) }
+        ensures moved { HasMovedGap (record { shape = self.old.engine.shape; formulas = S.formulas_of (S.keys suite.old) })
+            self.old.lines self.old.wear
+            (parts_of self.old.engine (B.device board.old) (A.ledger audit.old) (S.tags suite.old) (S.digests suite.old))
+            (parts_of self.new.engine (B.device board.new) (A.ledger audit.new) (S.tags suite.new) (S.digests suite.new)) result }
+        ensures wear { HasWear (wear_by result self.old.lines self.old.wear) self.old.count self.old self.new }
+        ensures keys { S.keys suite.new ≡ S.keys suite.old }
+        ensures usable { IsUsable self.old.engine.shape self.new.engine (B.device board.new) (A.ledger audit.new) }
+        ensures shape { self.new.engine.shape ≡ self.old.engine.shape }
+    {
+        let copy = self
+            .engine
+            .read(board, suite, audit, source(self.lines, &self.wear))?;
+        self.engine
+            .write(board, suite, audit, self.wear.gap, &copy)?;
+        let moved = next(self.lines, &self.wear);
+        let record = wear_line(self.lines, &moved);
+        self.engine
+            .write(board, suite, audit, self.lines + 1, &record)?;
+        self.wear = moved;
+        Ok(())
+    }
+
+    // The answer of a write whose own line was written, by that of its move.
+    fn answer_of_move(tried: Result<(), Fault>) -> Result<Moved, WriteFault>
+        ensures { result ≡ answer_by tried }
+    {
+        match tried {
+            Ok(()) => Ok(Moved::Made),
+            Err(fault) => match fault {
+                Fault::Spent { page } => Ok(Moved::Held { page }),
+                _ => Err(WriteFault {
+                    fault,
+                    written: true,
+                }),
+            },
+        }
+    }
+}

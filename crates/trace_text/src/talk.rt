@@ -1,0 +1,45 @@
+//! What a session is asked, and what it answers.
+ghost use Rattle.std.specs.Prelude.{◌≡◌, ℕ, List};
+ghost use Rattle.pmem_base.specs.declared.answers.Exhibit.{Exhibit};
+ghost use Rattle.collision_witness.specs.Exhibits.{AreSmallMinors};
+ghost use Rattle.trace_text.specs.Talks.{Sort, IsOfSort, IfText, IfShown, IfNothing};
+
+use arrayvec::ArrayVec;
+use pmem_base::{Exhibit, Kind};
+use std::alloc::Global;
+
+/// The most bytes of an answer's text.
+pub const TEXT_BYTES: usize = 512;
+
+/// Why a session stops at a line.
+#[derive(Clone, Copy, Debug, PartialEq, Eq)]
+pub enum Halt {
+    /// Memory couldn't be had for the answer.
+    Memory,
+    /// The line isn't in the session's grammar.
+    Line(Kind),
+    /// The answer is an exhibit.
+    Shown(Exhibit),
+}
+
+/// A session, which answers the lines of a trace in its own grammar. Contracts see its state, which is plain
+/// data, as the session itself.
+pub trait Talk {
+    /// The session's grammar: whether a line is skipped, asks for an answer, or is faulty.
+    ghost sort_of: { List ℕ → Sort };
+
+    /// The state before, a line that asks, the text of an answer to it without its LF, and the state after.
+    ghost answers: { Self → List ℕ → List ℕ → Self → Type 0 };
+
+    /// The state before, a line that asks, and an exhibit that stands in place of its answer.
+    ghost shows: { Self → List ℕ → Exhibit → Type 0 };
+
+    /// Answers a line of at most 1,024 bytes, without its LF. None comes exactly of a skipped line, and `Line`
+    /// exactly of a faulty one. These, and `Memory`, leave the state as it was. After `Shown` no call follows.
+    fn talk(&mut self, alloc: Global, line: &[u8]) -> Result<Option<ArrayVec<u8, TEXT_BYTES>>, Halt>
+        ensures sort { IsOfSort result (sort_of line.now) }
+        ensures text { IfText result (λ text. answers self.old line.now text self.new) }
+        ensures shown { IfShown result (λ exhibit. shows self.old line.now exhibit) }
+        ensures minors { IfShown result AreSmallMinors }
+        ensures unchanged { IfNothing result (self.new ≡ self.old) };
+}
