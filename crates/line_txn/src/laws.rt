@@ -1,0 +1,33 @@
+//! Laws of headers, and of a memory with a log.
+ghost use Rattle.std.specs.Prelude.{◌+◌, [], replicate};
+ghost use Rattle.pmem_base.specs.Lines.{zero_line};
+ghost use Rattle.line_txn.specs.Header.{IsNamedOnce};
+ghost use Rattle.line_txn.specs.Logged.{IsLogged, IsWholeAtEachStage, IsKeptByRedo, IsKeptByTarget, IsKeptByOpening, IsReadThroughLog};
+
+/// A law: a line is the header of one list of targets at most.
+pub fn headers_name_one_list(n: u32)
+    ensures { IsNamedOnce n }
+{
+    let _ = n;
+}
+
+/// A law: a commit that is cut off leaves memory without its transaction, until its header is written, and with
+/// the whole of it from then on. A redo of the header in force keeps memory however far it comes, also where it
+/// is begun again; so does a write of any line at a target, and an opening, wherever it ends. Under a header a
+/// target is read from its body, and every other line from its place.
+pub fn transactions_are_whole(n: u32)
+    ensures each { IsWholeAtEachStage n }
+    ensures redo { IsKeptByRedo n }
+    ensures target { IsKeptByTarget n }
+    ensures opening { IsKeptByOpening n }
+    ensures read { IsReadThroughLog n }
+{
+    let _ = n;
+}
+
+/// A law: n + 16 zero lines hold n zero lines, and no transaction is in force.
+pub fn zero_lines_are_logged(n: u32)
+    ensures { IsLogged n (replicate (n + 16) zero_line) [] (replicate n zero_line) }
+{
+    let _ = n;
+}
