@@ -136,7 +136,7 @@ raised_up-IsTreeBut g (suc j) y nodes at room tree =
     (with_raised-IsTreeBut g y nodes (omega (arith, at.from, next)) (omega (arith, above.below, room)) tree)
 
 -- nodes as deep as y stay
-raised_up-deep : (j y x : ℕ) (nodes : List Node) → IsAtLevel j y → level_start j ≤ x → node_at (raised_up j y nodes) x ≡ node_at nodes x
+pub raised_up-deep : (j y x : ℕ) (nodes : List Node) → IsAtLevel j y → level_start j ≤ x → node_at (raised_up j y nodes) x ≡ node_at nodes x
 raised_up-deep zero y x nodes at deep = refl
 raised_up-deep (suc j) y x nodes at deep =
     let next = level_start-suc j in

@@ -1,6 +1,6 @@
 -- A call of the engine or of recovery within a command: what it works on, and what formatting and
 -- recovery leave where the engine is put in its place.
-use Rattle.std.specs.Prelude.{ℕ, ◌≡◌, Option, Some, None, Result, Ok, Err, MatchOption}
+use Rattle.std.specs.Prelude.{◌≡◌, Option, Some, None, Result, Ok, Err, MatchOption}
 use Rattle.board.specs.Device.{Device}
 use Rattle.watched_board.specs.declared.taken.Taken.{Taken}
 use Rattle.watched_board.specs.Watching.{device_during}

@@ -23,11 +23,11 @@ use Rattle.start_gap.proofs.EngineLines.{trusted_after_write, sound_after_write,
 use Rattle.start_gap.proofs.LevelledWrites.{due_cases}
 
 -- what holds after a move and after a write: P, or what E says of the fault
-abbrev AfterMove : (Parts → Type 0) → (Fault → Parts → Type 0) → Result (Unit {0}) Fault → Parts → Type 0
+abbrev pub AfterMove : (Parts → Type 0) → (Fault → Parts → Type 0) → Result (Unit {0}) Fault → Parts → Type 0
 AfterMove P E (Ok done) to = P to
 AfterMove P E (Err fault) to = E fault to
 
-abbrev AfterWrite : (Parts → Type 0) → (Fault → Parts → Type 0) → Result Moved WriteFault → Parts → Type 0
+abbrev pub AfterWrite : (Parts → Type 0) → (Fault → Parts → Type 0) → Result Moved WriteFault → Parts → Type 0
 AfterWrite P E (Ok Move.Not) to = P to
 AfterWrite P E (Ok Move.Made) to = P to
 AfterWrite P E (Ok (Move.Held page)) to = E (Fail.Spent page) to
@@ -79,7 +79,7 @@ module _ (setup : Setup) (P : Parts → Type 0) (E : Fault → Parts → Type 0)
   tried_ends (Err (Fail.Spent page)) to it = it
   tried_ends (Err fault) to it = it
 
-  write_ends : (a : ℕ) (plain : Line) (old new : Gapped) (from to : Parts) (answer : Result Moved WriteFault) → P from
+  pub write_ends : (a : ℕ) (plain : Line) (old new : Gapped) (from to : Parts) (answer : Result Moved WriteFault) → P from
       → HasLevelledWrite setup a plain old new from to answer → AfterWrite P E answer to
   write_ends a plain old new from to answer had it = go it.made it.was_written it.then
     where

@@ -14,9 +14,9 @@ mod writing;
 
 pub use answers::read_answer;
 pub use collision_witness::{push_bytes, push_number};
-pub use reading::read_command;
+pub use reading::{first_word, has_no_word, read_command, read_poke};
 pub use samples::Maker;
 pub use spelling::write_command;
 pub use talk::{Halt, TEXT_BYTES, Talk};
-pub use values::read_part;
+pub use values::{read_one_number, read_part};
 pub use writing::{push_answer, write_answer, write_mark};

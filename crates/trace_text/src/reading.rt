@@ -1,10 +1,11 @@
 //! What a line of a trace asks for.
-ghost use Rattle.std.specs.Prelude.{◌≡◌, ◌≤◌, ◌∷◌, [], true, false, Ok, None, Some, Err, IsTrue, IfOk, IfSome, OnOk};
+ghost use Rattle.std.specs.Prelude.{◌≡◌, ◌≤◌, ◌∷◌, [], true, false, Ok, None, Some, Err, IsTrue, IfOk, IfSome, OnOk, option_map};
 ghost use Rattle.pmem_base.specs.declared.commands.Kind.TheVariants as Kind;
 ghost use Rattle.pmem_base.specs.Ranges.{IsCommand, IsPartLine};
 ghost use Rattle.collision_witness.specs.Words.{words_of, without_return, no_word};
 ghost use Rattle.collision_witness.specs.Views.{map_ok};
 ghost use Rattle.plain_model.specs.Words.{last_port};
+ghost use Rattle.trace_text.specs.Entries.{entry_of};
 ghost use Rattle.plain_model.specs.Grammar.{Reading, verbs, command_among, reading_of, post_values, part_values, read_values, poke_values};
 ghost use Rattle.trace_text.specs.Commands.{HasPortWithin, HasPartAtFront, IsWritable};
 
@@ -18,8 +19,8 @@ use pmem_base::{Command, Kind, Line};
 /// The greatest of the eight ports.
 const LAST_PORT: u8 = 7;
 
-/// Whether a text has no word.
-pub(crate) fn has_no_word(text: &[u8]) -> Result<(), Kind>
+/// That a text has no word.
+pub fn has_no_word(text: &[u8]) -> Result<(), Kind>
     ensures { map_ok (λ found. []) result ≡ no_word (words_of text.now) }
 {
     match next_word(text) {
@@ -66,7 +67,7 @@ fn read_read(most: u8, text: &[u8]) -> Result<(u8, u64), Kind>
 }
 
 /// The words behind `poke`: a number and a line.
-fn read_poke(text: &[u8]) -> Result<(u64, Line), Kind>
+pub fn read_poke(text: &[u8]) -> Result<(u64, Line), Kind>
     ensures { result ≡ poke_values (words_of text.now) }
 {
     let (at, line) = two_words(text)?;
@@ -177,14 +178,11 @@ pub(crate) fn is_in_range(command: Command)
     }
 }
 
-/// The command of a line, which is its bytes before its LF or the end of the trace, with its CR. A
-/// blank line and a comment have none. An error tells the first rule that the line breaks. What
-/// `write_command` writes is read back.
-#[tactic(auto, unfolding(plain_model::specs::Grammar::reading_among, plain_model::specs::Grammar::reading_of_words))]
-pub fn read_command(line: &[u8]) -> Result<Option<Command>, Kind>
-    ensures reading { result ≡ reading_of line.now }
-    ensures range { IfOk result (λ found. IfSome found IsCommand) }
-    ensures writable { IfOk result (λ found. IfSome found IsWritable) }
+/// The first word of a line, and the text behind it. The line is its bytes before its LF or the end of the trace,
+/// with its CR. A blank line and a comment have none.
+#[tactic(auto, unfolding(crate::specs::Entries::entry_of))]
+pub fn first_word(line: &[u8]) -> Result<Option<(&[u8], &[u8])>, Kind>
+    ensures { map_ok (option_map (λ found. (found.0.now, words_of found.1.now))) result ≡ entry_of line.now }
 {
     if line.len() > 1024 {
         return Err(Kind::Long);
@@ -195,6 +193,21 @@ pub fn read_command(line: &[u8]) -> Result<Option<Command>, Kind>
     if verb.first() == Some(&b'#') {
         return Ok(None);
     }
+    Ok(Some((verb, rest)))
+}
+
+/// The command of a line, which is its bytes before its LF or the end of the trace, with its CR. A
+/// blank line and a comment have none. An error tells the first rule that the line breaks. What
+/// `write_command` writes is read back.
+#[tactic(auto, unfolding(plain_model::specs::Grammar::reading_among, plain_model::specs::Grammar::reading_of_words, crate::specs::Entries::entry_of))]
+pub fn read_command(line: &[u8]) -> Result<Option<Command>, Kind>
+    ensures reading { result ≡ reading_of line.now }
+    ensures range { IfOk result (λ found. IfSome found IsCommand) }
+    ensures writable { IfOk result (λ found. IfSome found IsWritable) }
+{
+    let Some((verb, rest)) = first_word(line)? else {
+        return Ok(None);
+    };
     let command = read_verb(LAST_PORT, verb, rest)?;
     is_in_range(command);
     Ok(Some(command))

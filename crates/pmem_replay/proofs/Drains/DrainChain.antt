@@ -36,7 +36,8 @@ use Rattle.pmem_replay.proofs.Steps.MarklessCalls.{at_most, counted_state}
 use Rattle.pmem_replay.proofs.Marks.AfterMarks.{with_flags, touched_after, flushed_after, touched_after_mark, flushed_after_mark}
 use Rattle.pmem_replay.proofs.Marks.OpenPages.{whole_pages}
 use Rattle.pmem_replay.proofs.Marks.AskedMarks.{asked_form, asked_seals}
-use Rattle.pmem_replay.proofs.Drains.DrainLists.{marks_of_writes-more, moment_view, slice_get-drop, take-next, queue_after, drains_more, can_put_more, drains_memory, writing_bound-append}
+use Rattle.plain_model.proofs.WriteMarks.{marks_of_writes-more, moment_view, writing_bound-append}
+use Rattle.pmem_replay.proofs.Drains.DrainLists.{slice_get-drop, take-next, queue_after, drains_more, can_put_more, drains_memory}
 use Rattle.pmem_replay.proofs.Drains.WriteWorlds.{put_state, put-world, front_on_memory}
 
 -- ---- steps and fuses

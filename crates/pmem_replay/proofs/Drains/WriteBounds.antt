@@ -25,7 +25,8 @@ use Rattle.pmem_base.specs.WaitingWrites.{queue_of}
 use Rattle.plain_model.specs.Asked.{seal_mark, moment_of, marks_of_write, marks_of_writes}
 use Rattle.pmem_replay.proofs.Marks.OpenPages.{IsWholePage}
 use Rattle.pmem_replay.proofs.Marks.AskedMarks.{asked_form}
-use Rattle.pmem_replay.proofs.Drains.DrainLists.{writing_bound-append, marks_of_writes-more, take-next}
+use Rattle.plain_model.proofs.WriteMarks.{writing_bound-append, marks_of_writes-more}
+use Rattle.pmem_replay.proofs.Drains.DrainLists.{take-next}
 use Rattle.pmem_replay.proofs.Drains.DrainChain.{IsDrainedTo, IsNext}
 
 -- ---- the steps of a refused write

@@ -48,7 +48,8 @@ use Rattle.pmem_replay.proofs.Marks.DirtyBlocks.{dirty_count-le}
 use Rattle.pmem_replay.proofs.Steps.MarklessCalls.{at_most, fewer, accounted_in}
 use Rattle.pmem_replay.proofs.Marks.OpenPages.{IsWholePage, whole_pages}
 use Rattle.pmem_replay.proofs.Marks.AskedMarks.{asked_form, asked_seals, asked_few, refused_within, part_apart}
-use Rattle.pmem_replay.proofs.Drains.DrainLists.{writing_bound-append, writing_bound-few}
+use Rattle.plain_model.proofs.WriteMarks.{writing_bound-append}
+use Rattle.pmem_replay.proofs.Drains.DrainLists.{writing_bound-few}
 use Rattle.pmem_replay.proofs.Drains.WriteWorlds.{front_on_memory}
 use Rattle.pmem_replay.proofs.Drains.DrainChain.{IsDrainedTo, IsNext, next-known, next-short, can-more, marks-more, fuse_more, fuse_cut, drains_fuse}
 use Rattle.pmem_replay.proofs.Drains.WriteReplies.{IsWriting, part_none, stopped, place_refused, meta_refused, refused_part}
