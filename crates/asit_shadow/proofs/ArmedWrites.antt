@@ -20,9 +20,8 @@ use Rattle.counter_tree.specs.Trees.{node_at, line_position, raised, raised_node
 use Rattle.counter_tree.proofs.TreeLaws.{raised-same, raised_nodes-IsRaised, versions_down}
 use Rattle.asit_shadow.specs.State.{IsCached, IsCachedAs, IsTreeEngine}
 use Rattle.asit_shadow.specs.Parts.{Parts, AreTrusted}
-use Rattle.asit_shadow.specs.Paths.{slots_with, HasPathNamed, HasPathCached, IsPathCached}
+use Rattle.asit_shadow.specs.Paths.{slots_with, HasPathNamed, HasPathCached, IsPathCached, path_node}
 use Rattle.asit_shadow.specs.Steps.{IsArmed, HasPathStored}
-use Rattle.asit_shadow.specs.Fetching.{path_node}
 use Rattle.asit_shadow.specs.Writing.{set_pairs, slot_entries, position_below, IsWriteMade}
 use Rattle.asit_shadow.proofs.SlotPlaces.{on_path-inside}
 use Rattle.asit_shadow.proofs.PutLaws.{slots_with-HasPathNamed}

@@ -18,6 +18,8 @@ use Rattle.asit_shadow.specs.declared.fault.TreeFault.{TreeFault}
 use Rattle.asit_shadow.specs.declared.fault.TreeFault.TheVariants as Fail
 use Rattle.asit_shadow.specs.State.{TreeState}
 use Rattle.asit_shadow.specs.Parts.{Parts, parts_of, IsWatchReady, IsBoardReady, IsUsable}
+use Rattle.asit_shadow.specs.Work.{HasFetchedLevels, HasFetchedPath, IsShownAt, IsCutInFetch}
+use Rattle.asit_shadow.proofs.LevelWork.{levels-kept}
 use Rattle.asit_shadow.specs.Calls.{outcome_of, outcome_of_fault, CallEffect, KeepsWatch, IsDownAnswer, IsNodeLineRead, IsNodeShown, IsPathAccepted, IsLineShown, IsLineRead, AnswersDown}
 
 engine_same : (a b : TreeState) → a.shape ≡ b.shape → a.cache ≡ b.cache → a.tree ≡ b.tree → a.down ≡ b.down → a ≡ b
@@ -88,6 +90,7 @@ node_shown-ended setup a old mid engine it =
       accepted = it.accepted;
       other = it.other;
       exhibit = it.exhibit;
+      unheld = it.unheld;
     }
 
 accepted-ended : (setup : Setup) (a : ℕ) (old mid : Parts) (engine : TreeState) → IsPathAccepted setup a old mid → IsPathAccepted setup a old (parts_of engine mid.device mid.watch)
@@ -113,6 +116,43 @@ line_shown-ended setup a old mid engine it =
       exhibit = it.exhibit;
     }
 
+-- ---- nor does what was done, but for the cache
+
+levels-ended : (setup : Setup) (a n : ℕ) (old mid : Parts) (engine : TreeState) → engine.cache ≡ mid.engine.cache → HasFetchedLevels setup a n old mid → HasFetchedLevels setup a n old (parts_of engine mid.device mid.watch)
+levels-ended setup a n old mid engine cache it = levels-kept setup a n old mid (parts_of engine mid.device mid.watch) cache refl refl refl refl it
+
+pub path_work-ended : (setup : Setup) (a more : ℕ) (old mid : Parts) (engine : TreeState) → engine.cache ≡ mid.engine.cache → HasFetchedPath setup a more old mid → HasFetchedPath setup a more old (parts_of engine mid.device mid.watch)
+path_work-ended setup a more old mid engine cache it =
+    record { fetched = levels-ended setup a setup.shape.levels old mid engine cache it.fetched; reads = it.reads }
+
+pub shown_at-ended : (setup : Setup) (a : ℕ) (old mid : Parts) (engine : TreeState) → engine.cache ≡ mid.engine.cache → IsShownAt setup a old mid → IsShownAt setup a old (parts_of engine mid.device mid.watch)
+shown_at-ended setup a old mid engine cache it =
+    record {
+      x = it.x;
+      line = it.line;
+      stopped =
+          record {
+            levels = it.stopped.levels;
+            below = it.stopped.below;
+            next = it.stopped.next;
+            absent = it.stopped.absent;
+            fetched = levels-ended setup a it.stopped.levels old mid engine cache it.stopped.fetched;
+            reads = it.stopped.reads;
+          };
+      shown = it.shown;
+    }
+
+pub cut_work-ended : (setup : Setup) (a : ℕ) (old mid : Parts) (engine : TreeState) → engine.cache ≡ mid.engine.cache → IsCutInFetch setup a old mid → IsCutInFetch setup a old (parts_of engine mid.device mid.watch)
+cut_work-ended setup a old mid engine cache it =
+    record {
+      levels = it.levels;
+      fetched = levels-ended setup a it.levels old mid engine cache it.fetched;
+      due =
+          λ live.
+          let was = it.due live in
+          record { below = was.below; absent = was.absent; victim = was.victim; reads = was.reads };
+    }
+
 -- ---- a read
 
 pub read-ended : (setup : Setup) (a : ℕ) (old mid : Parts) (engine : TreeState) (fault : TreeFault) → HasEnded fault mid.engine engine → IsLineRead setup a old mid (Err fault) → IsLineRead setup a old (parts_of engine mid.device mid.watch) (Err fault)
@@ -124,6 +164,7 @@ read-ended setup a old mid engine Fail.Cut ended it =
       watch = it.watch;
       regs = it.regs;
       steps = it.steps;
+      work = cut_work-ended setup a old mid engine ended.cache it.work;
       answered = it.answered;
       unrefused = it.unrefused;
     }
@@ -135,6 +176,19 @@ read-ended setup a old mid engine Fail.Shown ended it =
       watch = it.watch;
       regs = it.regs;
       steps = it.steps;
+      work =
+          elim it.work [
+            | inl node ↦ inl (shown_at-ended setup a old mid engine ended.cache node)
+            | inr line ↦
+                inr (record {
+                  cipher = line.cipher;
+                  tags = line.tags;
+                  seal = line.seal;
+                  last = line.last;
+                  path = path_work-ended setup a 2 old mid engine ended.cache line.path;
+                  shown = line.shown;
+                })
+          ];
       answered =
           λ trusted.
           elim (it.answered trusted) [

@@ -8,31 +8,36 @@ use Rattle.pmem_base.specs.declared.registers.Regs.{Regs}
 use Rattle.pmem_base.specs.declared.answers.Exhibit.{Exhibit}
 use Rattle.pmem_base.specs.Counts.{HasRisen}
 use Rattle.pmem_base.specs.Lines.{line_at}
+use Rattle.pmem_base.specs.Shape.{Shape}
 use Rattle.suite.specs.Setup.{Setup}
 use Rattle.board.specs.Device.{Device}
 use Rattle.board.specs.Counts.{RisesBy}
+use Rattle.board.proofs.CountLemmas.{RisesBy-then}
 use Rattle.board.specs.Steps.{HasRead, Tells}
 use Rattle.collision_witness.specs.Exhibits.{IsExhibit}
-use Rattle.commit_regs.specs.Groups.{redone_told}
+use Rattle.commit_regs.specs.Groups.{redone, redone_told}
 use Rattle.pmem_engine.specs.Outcomes.{Outcome, going, cut_short, shown, HasPower}
 use Rattle.counter_tree.specs.Nodes.{total, node_read}
 use Rattle.counter_tree.specs.Layout.{line_of_node}
 use Rattle.counter_tree.specs.Trees.{node_at, entry_for}
-use Rattle.counter_tree.specs.Watch.{WatchState, first_shown, forged_node}
+use Rattle.counter_tree.specs.Slots.{slot_of}
+use Rattle.counter_tree.specs.Watch.{WatchState, HasShown, first_shown, forged_node}
 use Rattle.counter_tree.specs.Accepted.{IsNodeUnaccepted, IsNodeForged}
 use Rattle.asit_shadow.specs.declared.fault.TreeFault.{TreeFault}
 use Rattle.asit_shadow.specs.declared.fault.TreeFault.TheVariants as Fail
-use Rattle.asit_shadow.specs.State.{TreeState, IsCached}
+use Rattle.asit_shadow.specs.State.{TreeState, IsCached, cache_at}
 use Rattle.asit_shadow.specs.Invariants.{IsAnchored, IsTrusted, IsDurable, IsSound, IsSealStored, IsSlotStored}
 use Rattle.asit_shadow.specs.Places.{IsNodeHeld, IsNodeHeldBy}
 use Rattle.asit_shadow.specs.Parts.{Parts, AreTrusted, AreSound, HoldsSeal, HoldsSlot, HoldsNode, lines_redone}
 use Rattle.asit_shadow.specs.Calls.{CallEffect, KeepsWatch, TakesWriteBacks, IsNodeLineRead}
+use Rattle.asit_shadow.specs.Work.{holds_dirty, is_cached, spilled, absent_count, HasFetchedLevels, HasStoppedAt}
 use Rattle.asit_shadow.specs.Fetching.{IsNodeCutOff, IsNodeMissed, IsFetchStopped}
-use Rattle.asit_shadow.proofs.Chains.{effect-then, going-unshown, cut-unshown}
+use Rattle.asit_shadow.proofs.Chains.{told-of, effect-then, going-unshown, cut-unshown}
 use Rattle.asit_shadow.proofs.FetchLaws.{forged_node-holds, node_read-sound}
-use Rattle.asit_shadow.proofs.PlaceLaws.{powered_off-place}
+use Rattle.asit_shadow.proofs.PlaceLaws.{powered_off-place, node_read-place}
 use Rattle.asit_shadow.proofs.LevelSteps.{IsLevelReady}
-use Rattle.asit_shadow.proofs.PathSteps.{IsNextLevel, level-ready, next-on_path, cached-after}
+use Rattle.asit_shadow.proofs.LevelWork.{next-on_path, is_cached-false, levels-kept}
+use Rattle.asit_shadow.proofs.PathSteps.{IsNextLevel, level-ready, next-work, cached-after}
 
 -- ---- parts of which nothing was written
 
@@ -47,8 +52,8 @@ pub read-unwritten : (old new : Device) (at : ℕ) (line : Line) → HasRead old
 read-unwritten old new at line read =
     record { lines = read.lines; regs = read.regs; size = read.size; writes = read.writes; latches = read.latches }
 
-cut-unwritten : (old new : Parts) → IsNodeCutOff old new → AreUnwritten old.device new.device
-cut-unwritten old new cut =
+cut-unwritten : (g : Shape) (x : ℕ) (old new : Parts) → IsNodeCutOff g x old new → AreUnwritten old.device new.device
+cut-unwritten g x old new cut =
     record {
       lines = cut.cut.lines ∙ cut.lines;
       regs = cut.cut.regs ∙ cut.regs;
@@ -164,8 +169,8 @@ cut-effect setup old new same power shape watch =
     durable_of None it = absurd it
     durable_of (Some lines) it = it.durable
 
-cut-power : (old new : Parts) → IsNodeCutOff old new → HasPower cut_short old.device new.device
-cut-power old new cut = (
+cut-power : (g : Shape) (x : ℕ) (old new : Parts) → IsNodeCutOff g x old new → HasPower cut_short old.device new.device
+cut-power g x old new cut = (
   still-steady old.device.steady cut.between.steady cut.steady cut.cut.unsteady,
   cut.cut.off,
   subst (λ n. HasRisen n new.device.cuts) cut.cuts cut.cut.rose,
@@ -220,6 +225,30 @@ shown-effect setup x version now new ready uncached engine forged =
           };
     }
 
+-- ---- the next node, where it was held as the call began
+
+told_still : (group more : List (ℕ × Line)) (old new : Option (List Line)) (lines : List Line) → redone_told group old ≡ Some lines → new ≡ redone_told more old → new ≡ None → ⊥
+told_still group more None new lines are is none = none-some lines are
+told_still group more (Some ls) new lines are is none = none-some (redone more ls) (sym none ∙ is)
+
+-- it is read as the true one
+held-read : (setup : Setup) (a j x version : ℕ) (line : Line) (old now : Parts) → IsNextLevel setup a j x version old now → (IsCached setup.shape now.engine.cache x → ⊥) → Tells now.device.lines (line_of_node setup.shape x) line → AreTrusted setup old
+    → (lines : List Line) → lines_redone old ≡ Some lines → IsNodeHeldBy setup old.engine lines old.watch x → node_read setup.formulas x line version ≡ Some (node_at now.watch.nodes x)
+held-read setup a j x version line old now next uncached tells trusted lines are held =
+    let was : HoldsNode setup old x = subst (λ (o : Option (List Line)). IfSome o (λ ls. IsNodeHeldBy setup old.engine ls old.watch x)) (sym are) held in
+    let still : HoldsNode setup now x = (next.before.effect.places trusted).nodes x (level-ready setup a j x version old now next).on_tree was in
+    read_of now.device.lines refl (told-of (λ ls. IsNodeHeldBy setup now.engine ls now.watch x) now (next.before.effect.trusted trusted).no_group still) tells
+  where
+    read_of : (told : Option (List Line)) → now.device.lines ≡ told → IfSome told (λ ls. IsNodeHeldBy setup now.engine ls now.watch x) → Tells told (line_of_node setup.shape x) line → node_read setup.formulas x line version ≡ Some (node_at now.watch.nodes x)
+    read_of None is it tells =
+        absurd (told_still old.device.regs.group.items (spilled setup old.engine.cache a j) old.device.lines now.device.lines lines are next.before.done.lines is)
+    read_of (Some ls) is it tells =
+        let ready = level-ready setup a j x version old now next in
+        let here = next.before.effect.trusted trusted in
+        ap (node_read setup.formulas x line) (ready.version_true here)
+        ∙ (ap (λ l. node_read setup.formulas x l (entry_for now.watch.nodes x)) tells
+        ∙ (node_read-place setup now.engine ls now.device.regs now.watch x ready.shape ready.in_range here (omega (arith, ready.not_top)) ready.on_tree uncached it).0)
+
 -- ---- a level that wasn't had ends the fetch
 
 stopped-steps : (setup : Setup) (a j x version : ℕ) (outcome : Outcome) (old now new : Parts) → IsNextLevel setup a j x version old now → AreUnwritten now.device new.device → TakesWriteBacks setup.shape.levels outcome old.device new.device
@@ -243,19 +272,57 @@ kept-watch outcome old new other same =
       stopped = λ is. absurd (other is);
     }
 
-cut_stop : (setup : Setup) (a j x version : ℕ) (old now new : Parts) → IsNextLevel setup a j x version old now → IsNodeCutOff now new → IsFetchStopped setup a old new Fail.Cut
+pub unwritten-levels : (setup : Setup) (a n : ℕ) (old mid new : Parts) → new.engine.cache ≡ mid.engine.cache → AreUnwritten mid.device new.device → HasFetchedLevels setup a n old mid → HasFetchedLevels setup a n old new
+unwritten-levels setup a n old mid new cache same = levels-kept setup a n old mid new cache same.lines same.writes same.latches same.regs
+
+-- the line of the next node was read
+stopped-at : (setup : Setup) (a j x version : ℕ) (line : Line) (old now new : Parts) → IsNextLevel setup a j x version old now → (IsCached setup.shape now.engine.cache x → ⊥) → new.engine ≡ now.engine → HasRead now.device (line_of_node setup.shape x) line new.device → HasStoppedAt setup a x old new
+stopped-at setup a j x version line old now new next uncached engine read =
+    let same = read-unwritten now.device new.device (line_of_node setup.shape x) line read in
+    let work = next-work setup a j x version old now next in
+    record {
+      levels = j;
+      below = next.level;
+      next = next.place;
+      absent = is_cached-false setup.shape old.engine.cache x (λ it. uncached (cached-after setup a j x version old now next it));
+      fetched = unwritten-levels setup a j old now new (ap (λ (e : TreeState). e.cache) engine) same work.done;
+      reads = RisesBy-then (absent_count setup.shape old.engine.cache a j) 1 old.device.reads now.device.reads new.device.reads work.reads read.reads;
+    }
+
+cut_stop : (setup : Setup) (a j x version : ℕ) (old now new : Parts) → IsNextLevel setup a j x version old now → IsNodeCutOff setup.shape x now new → IsFetchStopped setup a old new Fail.Cut
 cut_stop setup a j x version old now new next cut =
-    let same = cut-unwritten now new cut in
+    let same = cut-unwritten setup.shape x now new cut in
+    let work = next-work setup a j x version old now next in
     record {
       kind = tt;
       effect =
           effect-then setup cut_short old now new next.before.effect
-          (cut-effect setup now new same (cut-power now new cut) (ap (λ (e : TreeState). e.shape) cut.engine) cut.watch);
+          (cut-effect setup now new same (cut-power setup.shape x now new cut) (ap (λ (e : TreeState). e.shape) cut.engine) cut.watch);
       down = ap (λ (e : TreeState). e.down) cut.engine ∙ next.before.down;
       regs = same.regs ∙ next.before.regs;
       steps = stopped-steps setup a j x version cut_short old now new next same;
       watch = kept-watch cut_short old.watch new.watch cut-unshown (cut.watch ∙ next.before.watch);
       same_watch = cut.watch ∙ next.before.watch;
+      work =
+          record {
+            levels = j;
+            fetched = unwritten-levels setup a j old now new (ap (λ (e : TreeState). e.cache) cut.engine) same work.done;
+            due =
+                λ was.
+                let live = next.before.effect.power.1 was in
+                record {
+                  below = next.level;
+                  absent =
+                      subst (λ y. is_cached setup.shape old.engine.cache y ≡ false) next.place
+                      (is_cached-false setup.shape old.engine.cache x (λ it. cut.uncached (cached-after setup a j x version old now next it)));
+                  victim =
+                      subst (λ y. holds_dirty (cache_at old.engine.cache (slot_of setup.shape y)) ≡ true) next.place
+                      (ap holds_dirty (sym work.slot) ∙ cut.victim live);
+                  reads =
+                      RisesBy-then (absent_count setup.shape old.engine.cache a j) 1 old.device.reads now.device.reads new.device.reads work.reads
+                      (cut.one_read live);
+                };
+          };
       answered = λ trusted. tt;
       unrefused = λ sound. tt;
     }
@@ -295,12 +362,17 @@ refused_stop setup a j x version old now new next uncached engine it =
       steps = stopped-steps setup a j x version going old now new next same;
       watch = kept-watch going old.watch new.watch going-unshown (it.watch_kept ∙ next.before.watch);
       same_watch = it.watch_kept ∙ next.before.watch;
+      work = stopped-at setup a j x version it.line old now new next uncached engine it.read;
       answered =
           λ trusted.
           record {
             line = it.line;
             its = stopped-read setup a j x version it.line old now new next uncached it.read;
             refused = ap (node_read setup.formulas x it.line) (sym (true_version setup a j x version old now next trusted)) ∙ it.refused;
+            unheld =
+                λ lines are held.
+                none-some (node_at now.watch.nodes x)
+                (sym it.refused ∙ held-read setup a j x version it.line old now next uncached it.read.tells trusted lines are held);
           };
       unrefused =
           λ sound.
@@ -330,6 +402,13 @@ shown_stop setup a j x version old now new next uncached engine it =
             stopped = λ _. subst IsSome (sym it.exhibit.exhibit) (shown-some now.watch.exhibit (forged_node now.watch x it.line));
           };
       same_watch = tt;
+      work =
+          record {
+            x = x;
+            line = it.line;
+            stopped = stopped-at setup a j x version it.line old now new next uncached engine it.read;
+            shown = subst (λ (w : WatchState). HasShown w new.watch (forged_node w x it.line)) next.before.watch it.exhibit;
+          };
       answered =
           λ trusted.
           record {
@@ -343,6 +422,10 @@ shown_stop setup a j x version old now new next uncached engine it =
                 it.exhibit.exhibit
                 ∙ (first-none now.watch.exhibit (forged_node now.watch x it.line) (next.before.effect.trusted trusted).anchored.no_exhibit
                 ∙ ap (λ (w : WatchState). Some (forged_node w x it.line)) next.before.watch);
+            unheld =
+                λ lines are held.
+                it.other (same_Some it.node (node_at now.watch.nodes x)
+                (sym it.accepted ∙ held-read setup a j x version it.line old now next uncached it.read.tells trusted lines are held));
           };
       unrefused = λ sound. effect.sound (next.before.effect.sound sound);
     }

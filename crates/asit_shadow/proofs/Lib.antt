@@ -13,6 +13,7 @@ pub mod SpentLaws
 pub mod ToldLemmas
 pub mod Chains
 pub mod LevelSteps
+pub mod LevelWork
 pub mod PathSteps
 pub mod FetchEnds
 pub mod ReadEnds
@@ -21,6 +22,7 @@ pub mod RaisedNodes
 pub mod PairSets
 pub mod RaisedPaths
 pub mod ArmedWrites
+pub mod ArmedWork
 pub mod RecoverEnds
 pub mod EngineLemmas
 pub mod WriteLoops

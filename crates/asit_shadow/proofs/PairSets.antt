@@ -17,8 +17,7 @@ use Rattle.counter_tree.specs.Nodes.{zero_node}
 use Rattle.counter_tree.specs.Trees.{IsRaised, is_on_line_path, node_at, raised, raised_nodes}
 use Rattle.counter_tree.specs.Slots.{slot_of, slot_line}
 use Rattle.asit_shadow.specs.declared.cache.CachedNode.{CachedNode}
-use Rattle.asit_shadow.specs.Paths.{tag_only, line_path, path_entries, slots_with, cache_with, set_each, dirty_node, write_group}
-use Rattle.asit_shadow.specs.Fetching.{path_node}
+use Rattle.asit_shadow.specs.Paths.{tag_only, line_path, path_entries, slots_with, cache_with, set_each, dirty_node, write_group, path_node}
 use Rattle.asit_shadow.specs.Writing.{set_pairs, pair_at, position_below, slot_entries, dirty_entries, armed_lines}
 use Rattle.asit_shadow.proofs.SlotPlaces.{page_of_line, on_path-inside}
 use Rattle.asit_shadow.proofs.RaisedNodes.{raised_nodes-on_path}

@@ -1,7 +1,6 @@
 -- The levels of a path that are fetched, one after another.
-use Rattle.std.proofs.Common.{ℕ, suc, ◌≡◌, ◌≢◌, ◌<◌, ◌≤◌, ◌+◌, ◌/◌, ◌⊎◌, true, false, List, length, Some, None, refl, sym, ap, subst, inl, inr, ◌∙◌, arith}
+use Rattle.std.proofs.Common.{ℕ, suc, ◌≡◌, ◌≢◌, ◌<◌, ◌≤◌, ◌+◌, ◌/◌, true, false, List, length, Some, None, refl, sym, ap, subst, inl, inr, ◌∙◌, arith}
 use Rattle.std.specs.Prelude.{Option, slice_index}
-use Rattle.std.proofs.lemmas.Bool.{cases_eq}
 use Rattle.std.proofs.lemmas.List.{length-set, get_or-set_same, get_or-set_other}
 use Rattle.pmem_base.specs.declared.lines.Line.{Line}
 use Rattle.pmem_base.specs.Shape.{Shape, IsShape}
@@ -10,7 +9,7 @@ use Rattle.suite.specs.Setup.{Setup}
 use Rattle.board.specs.Device.{Device, AreToldLines}
 use Rattle.board.specs.Steps.{Tells}
 use Rattle.bonsai_tree.specs.Positions.{level_of, parent, child_slot, path_of, counter_position}
-use Rattle.bonsai_tree.proofs.PathPositions.{on_path-level, path_of-top, path_of-block, path_of-parent, path_of-on_path, path_of-level}
+use Rattle.bonsai_tree.proofs.PathPositions.{on_path-level, path_of-top, path_of-block, path_of-parent}
 use Rattle.pmem_engine.specs.Outcomes.{going}
 use Rattle.counter_tree.specs.declared.nodes.Node.{Node}
 use Rattle.counter_tree.specs.Nodes.{counter, total, node_read}
@@ -19,13 +18,14 @@ use Rattle.counter_tree.specs.Trees.{node_at, entry_for, is_on_line_path}
 use Rattle.counter_tree.specs.Slots.{slot_of}
 use Rattle.counter_tree.specs.Watch.{WatchState}
 use Rattle.asit_shadow.specs.declared.cache.CachedNode.{CachedNode}
-use Rattle.asit_shadow.specs.State.{TreeState, cache_at, IsCached, IsCachedAs}
+use Rattle.asit_shadow.specs.State.{cache_at, IsCached, IsCachedAs}
 use Rattle.asit_shadow.specs.Parts.{Parts, AreTrusted}
 use Rattle.asit_shadow.specs.Paths.{line_path}
 use Rattle.asit_shadow.specs.Calls.{CallEffect, IsNodeRead, TakesWriteBacks}
 use Rattle.asit_shadow.specs.Fetching.{IsNodeFound, IsNodeHad, KeepsPathLines, IsPathFetchedTo}
 use Rattle.asit_shadow.proofs.SlotPlaces.{slot_of-inside, page_of_line, on_path-inside, path_slots-apart}
 use Rattle.asit_shadow.proofs.Chains.{write_backs-then, effect-then, going-uncut}
+use Rattle.asit_shadow.proofs.LevelWork.{IsNextWork, next-on_path, next-level, at_level, up_to, is_cached-true, is_cached-false, levels-start, reads-start, levels-cached, reads-cached, levels-found, reads-found}
 use Rattle.asit_shadow.proofs.LevelSteps.{IsRoomStep, IsLevelReady, found-step, found-effect, found-path_lines}
 
 -- what is known as a fetch begins
@@ -46,20 +46,6 @@ pub record IsNextLevel (setup : Setup) (a j x version : ℕ) (old now : Parts) :
   pub version_true : AreTrusted setup now → version ≡ entry_for now.watch.nodes x
 
 -- ---- positions
-
-pub next-on_path : (g : Shape) (a j x : ℕ) → j < g.levels → x ≡ slice_index (line_path g a) (suc j) → is_on_line_path g a x ≡ true
-next-on_path g a j x inside place =
-    subst (λ z. is_on_line_path g a z ≡ true) (sym place) (path_of-on_path g (a / 4) (suc j) (omega (arith, inside)))
-
-pub next-level : (g : Shape) (a j x : ℕ) → IsShape g → a < tree_lines g → j < g.levels → x ≡ slice_index (line_path g a) (suc j) → level_of x ≡ suc j
-next-level g a j x shape in_a inside place =
-    ap level_of place ∙ path_of-level g (a / 4) (suc j) shape.at_most_six_levels (page_of_line g a in_a) (omega (arith, inside))
-
--- a node of the path at its level is the next one
-at_level : (g : Shape) (a j x y : ℕ) → IsShape g → a < tree_lines g → x ≡ slice_index (line_path g a) (suc j) → is_on_line_path g a y ≡ true → level_of y ≡ suc j → y ≡ x
-at_level g a j x y shape in_a place on level =
-    let its = on_path-level g (a / 4) y shape.at_most_six_levels (page_of_line g a in_a) on in
-    sym its.1 ∙ (ap (slice_index (line_path g a)) level ∙ sym place)
 
 pub next-low : (g : Shape) (a j x : ℕ) → IsShape g → a < tree_lines g → j < g.levels → x ≡ slice_index (line_path g a) (suc j) → x ≢ 0
 next-low g a j x shape in_a inside place top =
@@ -126,6 +112,8 @@ path-start setup a old ready =
       slots_below = λ x on low. refl;
       regs = refl;
       steps = no_write_backs 0 old.device;
+      done = levels-start setup a old;
+      reads = reads-start setup.shape old.engine.cache a old.device.reads;
       watch = refl;
       path_lines = λ trusted. same_lines setup.shape a old.device.lines;
       cached = λ trusted x on top. top-cached setup a x old ready trusted on top;
@@ -176,10 +164,6 @@ read-kept setup a x old mid new kept it =
 
 -- ---- a level that was cached
 
--- a level is one before, or the next
-up_to : (n j : ℕ) → n ≤ suc j → (n ≤ j) ⊎ (n ≡ suc j)
-up_to n j most = elim (cases_eq n (suc j)) [ inl same ↦ inr same | inr other ↦ inl (omega (arith, most, other)) ]
-
 -- a slot of a level below is as it was before
 cached-before : (setup : Setup) (a j x version : ℕ) (old now : Parts) → IsNextLevel setup a j x version old now → IsCached setup.shape now.engine.cache x → IsCached setup.shape old.engine.cache x
 cached-before setup a j x version old now next it =
@@ -201,10 +185,28 @@ cached-after setup a j x version old now next it =
       position = it.position;
     }
 
+-- what the levels so far did, as the next one's work asks
+pub next-work : (setup : Setup) (a j x version : ℕ) (old now : Parts) → IsNextLevel setup a j x version old now → IsNextWork setup a j x old now
+next-work setup a j x version old now next =
+    let on = next-on_path setup.shape a j x next.level next.place in
+    let level = next-level setup.shape a j x next.ready.shape next.ready.its_line next.level next.place in
+    record {
+      shape = next.ready.shape;
+      inside = next.ready.its_line;
+      level = next.level;
+      place = next.place;
+      slot = next.before.slots_below x on (omega (arith, level));
+      watch = next.before.watch;
+      done = next.before.done;
+      reads = next.before.reads;
+    }
+
 next-cached : (setup : Setup) (a j x version : ℕ) (node : Node) (old now : Parts) → IsNextLevel setup a j x version old now → IsCachedAs setup.shape now.engine.cache x node → IsPathFetchedTo setup a (suc j) old now
 next-cached setup a j x version node old now next in_slot =
     let before = next.before in
     let it : IsCached setup.shape now.engine.cache x = record { held = in_slot.held; stands = in_slot.stands; position = in_slot.position } in
+    let work = next-work setup a j x version old now next in
+    let was = is_cached-true setup.shape old.engine.cache x (cached-before setup a j x version old now next it) in
     record {
       effect = before.effect;
       tree = before.tree;
@@ -220,6 +222,8 @@ next-cached setup a j x version node old now next in_slot =
             writes = before.steps.writes;
             latches = before.steps.latches;
           };
+      done = levels-cached setup a j x old now work was;
+      reads = reads-cached setup a j x old now work was;
       watch = before.watch;
       path_lines = before.path_lines;
       cached =
@@ -264,11 +268,14 @@ other_slot setup a j x version node old now new y next found on_y other =
     ap (λ (c : List (Option CachedNode)). cache_at c (slot_of setup.shape y)) found.cache
     ∙ get_or-set_other now.engine.cache (slot_of setup.shape x) (slot_of setup.shape y) (Some (record { x = x; node = node; dirty = false })) None apart
 
+next-room : (setup : Setup) (a j x version : ℕ) (old now : Parts) → IsNextLevel setup a j x version old now → slot_of setup.shape x < length now.engine.cache
+next-room setup a j x version old now next =
+    let on = next-on_path setup.shape a j x next.level next.place in
+    omega (arith, slot_of-inside setup.shape x next.ready.shape (on_path-inside setup.shape a x next.ready.its_line on), next.before.slot_count, next.ready.slots)
+
 found-in : (setup : Setup) (a j x version : ℕ) (node : Node) (old now new : Parts) → IsNextLevel setup a j x version old now → IsNodeFound setup x version node now new → IsCachedAs setup.shape new.engine.cache x node
 found-in setup a j x version node old now new next found =
-    let on = next-on_path setup.shape a j x next.level next.place in
-    let room : slot_of setup.shape x < length now.engine.cache =
-    omega (arith, slot_of-inside setup.shape x next.ready.shape (on_path-inside setup.shape a x next.ready.its_line on), next.before.slot_count, next.ready.slots) in
+    let room = next-room setup a j x version old now next in
     record {
       held = record { x = x; node = node; dirty = false };
       stands =
@@ -309,6 +316,9 @@ next-found setup a j x version node old now new next found =
     let step = found-step setup x version node now new found in
     let kept = λ (trusted : AreTrusted setup now). found-path_lines setup a x version node now new ready next.ready.its_line on found trusted in
     let one : j + 1 ≡ suc j = omega arith in
+    let work = next-work setup a j x version old now next in
+    let wasnt = is_cached-false setup.shape old.engine.cache x (λ it. found.uncached (cached-after setup a j x version old now next it)) in
+    let room : slot_of setup.shape x < length now.engine.cache = next-room setup a j x version old now next in
     record {
       effect = effect-then setup going old now new before.effect (found-effect setup x version node now new ready found);
       tree = found.tree ∙ before.tree;
@@ -325,6 +335,8 @@ next-found setup a j x version node old now new next found =
           subst (λ n. TakesWriteBacks n going old.device new.device) one
           (write_backs-then j 1 going old.device now.device new.device before.effect.power.1 before.steps
           (step_write_backs setup (cache_at now.engine.cache (slot_of setup.shape x)) now.device new.device step));
+      done = levels-found setup a j x version node old now new work wasnt room step.latches step.regs found;
+      reads = reads-found setup a j x version node old now new work wasnt found;
       watch = found.taken.watch_kept ∙ before.watch;
       path_lines =
           λ trusted.

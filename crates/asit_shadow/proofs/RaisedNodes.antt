@@ -3,7 +3,7 @@ use Rattle.std.proofs.Common.{ℕ, zero, suc, ◌≡◌, ◌≢◌, ◌<◌, ◌
 use Rattle.std.specs.Prelude.{◌==◌}
 use Rattle.std.proofs.lemmas.Bool.{cond-true, cond-false, eq-eqb, ne_eqb}
 use Rattle.pmem_base.specs.Shape.{Shape}
-use Rattle.pmem_base.specs.Layout.{meta_lines, level_start}
+use Rattle.pmem_base.specs.Layout.{meta_lines}
 use Rattle.bonsai_tree.specs.Positions.{parent, child_slot}
 use Rattle.bonsai_tree.proofs.Levels.{IsAtLevel, parent-IsAtLevel, level_start-suc, level_start-le}
 use Rattle.bonsai_tree.proofs.PathPositions.{path_of-block, path_of-parent}
@@ -12,8 +12,8 @@ use Rattle.counter_tree.specs.Layout.{tree_lines}
 use Rattle.counter_tree.specs.Shadow.{up}
 use Rattle.counter_tree.specs.Trees.{node_at, raised, with_raised, raised_up, raised_nodes, line_position}
 use Rattle.counter_tree.proofs.Positions.{parent-lt}
-use Rattle.counter_tree.proofs.TreeLaws.{node_at-set_same, node_at-set_other, line_position-parent, line_position-IsAtLevel}
-use Rattle.asit_shadow.specs.Fetching.{path_node}
+use Rattle.counter_tree.proofs.TreeLaws.{node_at-set_same, node_at-set_other, line_position-parent, line_position-IsAtLevel, raised_up-deep}
+use Rattle.asit_shadow.specs.Paths.{path_node}
 use Rattle.asit_shadow.specs.Writing.{position_below}
 
 -- ---- steps up
@@ -26,20 +26,11 @@ up-at : (m k y : ℕ) → IsAtLevel (m + k) y → IsAtLevel k (up m y)
 up-at zero k y at = subst (λ n. IsAtLevel n y) (omega arith) at
 up-at (suc m) k y at = parent-IsAtLevel k (up m y) (up-at m (suc k) y (subst (λ n. IsAtLevel n y) (omega arith) at))
 
--- nodes as deep as y stay
-raised_up-still : (j y x : ℕ) (nodes : List Node) → IsAtLevel j y → level_start j ≤ x → node_at (raised_up j y nodes) x ≡ node_at nodes x
-raised_up-still zero y x nodes at deep = refl
-raised_up-still (suc j) y x nodes at deep =
-    let next = level_start-suc j in
-    let above = parent-IsAtLevel j y at in
-    raised_up-still j (parent y) x (with_raised nodes y) above (omega (arith, deep, next))
-    ∙ node_at-set_other nodes (parent y) x (raised (node_at nodes (parent y)) (child_slot y)) (omega (arith, above.below, deep))
-
 -- a node above y, which is j levels below the top
 raised_up-at : (j m d y : ℕ) (nodes : List Node) → m + suc d ≡ j → IsAtLevel j y → up (suc m) y < length nodes → parent y < length nodes → node_at (raised_up j y nodes) (up (suc m) y) ≡ raised (node_at nodes (up (suc m) y)) (child_slot (up m y))
 raised_up-at zero m d y nodes depth at inside near = absurd (omega (arith, depth))
 raised_up-at (suc j) zero d y nodes depth at inside near =
-    raised_up-still j (parent y) (parent y) (with_raised nodes y) (parent-IsAtLevel j y at) (parent-IsAtLevel j y at).from
+    raised_up-deep j (parent y) (parent y) (with_raised nodes y) (parent-IsAtLevel j y at) (parent-IsAtLevel j y at).from
     ∙ node_at-set_same nodes (parent y) (raised (node_at nodes (parent y)) (child_slot y)) near
 raised_up-at (suc j) (suc m) d y nodes depth at inside near =
     let above = parent-IsAtLevel j y at in

@@ -16,8 +16,7 @@ use Rattle.counter_tree.specs.Nodes.{total, zero_node}
 use Rattle.counter_tree.specs.Trees.{raised, line_position}
 use Rattle.asit_shadow.specs.declared.cache.CachedNode.{CachedNode}
 use Rattle.asit_shadow.specs.State.{IsCached, IsCachedAs, IsHeldNode}
-use Rattle.asit_shadow.specs.Paths.{line_path}
-use Rattle.asit_shadow.specs.Fetching.{path_node}
+use Rattle.asit_shadow.specs.Paths.{line_path, path_node}
 use Rattle.asit_shadow.specs.Writing.{IsPathRaised, IsRaisedTo, pair_at, position_below}
 use Rattle.asit_shadow.proofs.PathSteps.{next-low}
 

@@ -12,6 +12,7 @@ use Rattle.pmem_base.specs.Shape.{Shape, IsShape}
 use Rattle.pmem_base.specs.Counts.{HasRisen}
 use Rattle.suite.specs.Setup.{Setup}
 use Rattle.board.specs.Counts.{RisesBy}
+use Rattle.board.proofs.CountLemmas.{RisesBy-then}
 use Rattle.board.specs.Device.{Device}
 use Rattle.board.specs.Steps.{Tells}
 use Rattle.collision_witness.specs.Exhibits.{IsExhibit}
@@ -33,13 +34,14 @@ use Rattle.asit_shadow.specs.State.{TreeState}
 use Rattle.asit_shadow.specs.Invariants.{IsSound}
 use Rattle.asit_shadow.specs.Parts.{Parts, AreTrusted, AreSound}
 use Rattle.asit_shadow.specs.Calls.{IsPathAccepted, IsDataLineRead, TakesWriteBacks, IsLineRead}
+use Rattle.asit_shadow.specs.Work.{absent_count, HasFetchedPath}
 use Rattle.asit_shadow.specs.Fetching.{KeepsPathLines, IsPathFetchedTo, IsFetchStopped}
 use Rattle.asit_shadow.proofs.SlotPlaces.{page_of_line}
 use Rattle.asit_shadow.proofs.Chains.{power-then, places-then, effect-then, going-uncut, going-unshown, cut-unshown}
 use Rattle.asit_shadow.proofs.ReadLaws.{read-plain, forged_line-holds, line-sound}
 use Rattle.asit_shadow.proofs.LevelSteps.{kept_lines}
 use Rattle.asit_shadow.proofs.PathSteps.{read-kept}
-use Rattle.asit_shadow.proofs.FetchEnds.{AreUnwritten, kept-watch, refused-effect, cut-effect, still-steady, first-none, shown-some, same-seals, same-slots}
+use Rattle.asit_shadow.proofs.FetchEnds.{AreUnwritten, kept-watch, refused-effect, cut-effect, still-steady, first-none, shown-some, same-seals, same-slots, unwritten-levels}
 
 -- ---- the counter
 
@@ -68,14 +70,14 @@ path-accepted setup a old mid new shape inside trusted path kept =
 
 pub read-stopped : (setup : Setup) (a : ℕ) (old new : Parts) (fault : TreeFault) → IsFetchStopped setup a old new fault → IsLineRead setup a old new (Err fault)
 read-stopped setup a old new Fail.Cut it =
-    record { kind = tt; up = λ e. e; effect = it.effect; watch = it.watch; regs = it.regs; steps = it.steps; answered = λ trusted. tt; unrefused = it.unrefused }
+    record { kind = tt; up = λ e. e; effect = it.effect; watch = it.watch; regs = it.regs; steps = it.steps; work = it.work; answered = λ trusted. tt; unrefused = it.unrefused }
 read-stopped setup a old new Fail.Down it = absurd it.kind
 read-stopped setup a old new (Fail.Node x) it =
-    record { kind = tt; up = λ e. e; effect = it.effect; watch = it.watch; regs = it.regs; steps = it.steps; answered = it.answered; unrefused = it.unrefused }
+    record { kind = tt; up = λ e. e; effect = it.effect; watch = it.watch; regs = it.regs; steps = it.steps; work = it.work; answered = it.answered; unrefused = it.unrefused }
 read-stopped setup a old new (Fail.Tag b) it = absurd it.kind
 read-stopped setup a old new Fail.Spent it = absurd it.kind
 read-stopped setup a old new Fail.Shown it =
-    record { kind = tt; up = λ e. e; effect = it.effect; watch = it.watch; regs = it.regs; steps = it.steps; answered = λ trusted. inl (it.answered trusted); unrefused = it.unrefused }
+    record { kind = tt; up = λ e. e; effect = it.effect; watch = it.watch; regs = it.regs; steps = it.steps; work = inl it.work; answered = λ trusted. inl (it.answered trusted); unrefused = it.unrefused }
 
 -- ---- both lines of a data line are read
 
@@ -100,6 +102,16 @@ both-unwritten setup a cipher tags old new it =
 both-power : (setup : Setup) (a : ℕ) (cipher tags : Line) (old new : Device) → HasLineRead setup a cipher tags old new → HasPower going old new
 both-power setup a cipher tags old new it =
     (λ was. it.second.steady (it.first.steady was), λ was. it.second.live (it.first.live was), it.second.cuts ∙ it.first.cuts)
+
+-- the path was fetched, and both lines were read
+path-through : (setup : Setup) (a : ℕ) (cipher tags : Line) (old mid new : Parts) → IsPathFetchedTo setup a setup.shape.levels old mid → new.engine.cache ≡ mid.engine.cache → HasLineRead setup a cipher tags mid.device new.device → HasFetchedPath setup a 2 old new
+path-through setup a cipher tags old mid new path cache read =
+    record {
+      fetched = unwritten-levels setup a setup.shape.levels old mid new cache (both-unwritten setup a cipher tags mid.device new.device read) path.done;
+      reads =
+          RisesBy-then (absent_count setup.shape old.engine.cache a setup.shape.levels) 2 old.device.reads mid.device.reads new.device.reads path.reads
+          (RisesBy-then 1 1 mid.device.reads read.between.reads new.device.reads read.first.reads read.second.reads);
+    }
 
 line-told : (setup : Setup) (a : ℕ) (cipher tags : Line) (mid new : Parts) → HasLineRead setup a cipher tags mid.device new.device → IsDataLineRead setup a cipher tags new
 line-told setup a cipher tags mid new read =
@@ -133,6 +145,7 @@ read-ok setup a count old mid new plain had it =
       watch = kept-watch going old.watch new.watch going-unshown (it.watch_kept ∙ had.path.watch);
       regs = same.regs ∙ had.path.regs;
       steps = steps-kept setup going old.device mid.device new.device same (λ e. absurd (going-uncut e)) had.path.effect.power had.path.steps;
+      work = path-through setup a it.cipher it.tags old mid new had.path (ap (λ (e : TreeState). e.cache) had.engine) it.read;
       answered =
           λ trusted. (
             it.its_plain
@@ -175,6 +188,12 @@ read-cut setup a count old mid new had cut off watch =
       watch = kept-watch cut_short old.watch new.watch cut-unshown (watch ∙ had.path.watch);
       regs = same.regs ∙ had.path.regs;
       steps = steps-kept setup cut_short old.device mid.device new.device same (λ e. off) had.path.effect.power had.path.steps;
+      work =
+          record {
+            levels = setup.shape.levels;
+            fetched = unwritten-levels setup a setup.shape.levels old mid new (ap (λ (e : TreeState). e.cache) had.engine) same had.path.done;
+            due = λ was. absurd (true≢false (sym (had.path.effect.power.1 was) ∙ off));
+          };
       answered = λ trusted. tt;
       unrefused = λ sound. tt;
     }
@@ -216,6 +235,7 @@ read-refused setup a count old mid new had it =
       watch = kept-watch going old.watch new.watch going-unshown (it.watch_kept ∙ had.path.watch);
       regs = same.regs ∙ had.path.regs;
       steps = steps-kept setup going old.device mid.device new.device same (λ e. absurd (going-uncut e)) had.path.effect.power had.path.steps;
+      work = path-through setup a it.cipher it.tags old mid new had.path (ap (λ (e : TreeState). e.cache) had.engine) it.read;
       answered =
           λ trusted. (
             refl,
@@ -296,6 +316,17 @@ read-shown setup a count old mid new had sealed it =
           };
       regs = same.regs ∙ had.path.regs;
       steps = steps-kept setup shown old.device mid.device new.device same (λ e. absurd (cut-unshown (sym e))) had.path.effect.power had.path.steps;
+      work =
+          inr (record {
+            cipher = it.cipher;
+            tags = it.tags;
+            seal = taken.0;
+            last = subst (λ (w : WatchState). last_seal_of w a ≡ Some taken.0) had.path.watch taken.1;
+            path = path-through setup a it.cipher it.tags old mid new had.path (ap (λ (e : TreeState). e.cache) had.engine) it.read;
+            shown =
+                subst (λ (w : WatchState). HasShown w new.watch (Forged a (version_counter taken.0.counter) it.cipher (tag_slot it.tags 0))) had.path.watch
+                taken.2.1;
+          });
       answered =
           λ trusted.
           inr (

@@ -1,6 +1,7 @@
 -- How a recovery ends.
-use Rattle.std.proofs.Common.{◌++◌, take, drop, ℕ, ◌≡◌, ◌≢◌, ◌<◌, false, List, [], length, Some, None, refl, sym, ap, subst, inl, inr, ◌∙◌, arith}
-use Rattle.std.specs.Prelude.{Option, Result, Ok, Err, All, IfSome, MatchOption}
+use Rattle.std.proofs.Common.{◌++◌, take, drop, ℕ, ◌≡◌, ◌≢◌, ◌<◌, true, false, List, [], length, Some, None, refl, sym, ap, subst, inl, inr, ◌∙◌, arith}
+use Rattle.std.specs.Prelude.{Option, Ok, Err, All, IfSome, MatchOption}
+use Rattle.std.proofs.lemmas.Bool.{true≢false}
 use Rattle.std.proofs.lemmas.Option.{same_Some}
 use Rattle.std.proofs.lemmas.List.{append-nil, take_all, drop_all}
 use Rattle.pmem_base.specs.declared.lines.Line.{Line}
@@ -41,7 +42,7 @@ use Rattle.asit_shadow.proofs.ArmLaws.{IsAnchored-emptied}
 use Rattle.asit_shadow.proofs.GroupLaws.{IsDurable-again, IsDurable-finished}
 use Rattle.asit_shadow.proofs.PlaceLaws.{recovered-place}
 use Rattle.asit_shadow.proofs.RecoverLaws.{clash-holds, IsTrusted-recovered, slots-sound, IsSound-recovered, lines-equal, length-slots_read, line_at-slots_read}
-use Rattle.asit_shadow.proofs.Chains.{power-then}
+use Rattle.asit_shadow.proofs.Chains.{power-then, going-uncut, cut-unshown}
 use Rattle.asit_shadow.proofs.FetchEnds.{some_map, still-steady, first-none}
 
 -- ---- what a true slot line names can be cached
@@ -106,9 +107,10 @@ rest-nodes setup old new x lines same it =
 
 -- ---- the group is finished, and lines are read
 
-pub read_finished : (old mid new : Device) → HasFinished old mid → HasOnlyRead mid new → IsReadFinished old new
-read_finished old mid new first second =
+pub read_finished : (g : Shape) (old mid new : Device) → HasFinished old mid → HasOnlyRead (tree_slots g) mid new → IsReadFinished g old new
+read_finished g old mid new first second =
     record {
+      reads = subst (λ n. RisesBy (tree_slots g) n new.reads) first.reads second.reads;
       lines = second.lines ∙ first.lines;
       regs = second.regs ∙ first.regs;
       size = second.size ∙ first.size;
@@ -151,7 +153,7 @@ durable-anchored setup rest durable = of rest.device.lines durable
     of (Some ls) it = it.mendable.anchored
 
 -- over a durable device the slot lines read are the true ones
-slots-true : (setup : Setup) (slots : List Line) (old new : Rest) → IsReadFinished old.device new.device → AreSlotsRead setup.shape slots new.device → IsRestDurable setup old → slots ≡ old.watch.slots
+slots-true : (setup : Setup) (slots : List Line) (old new : Rest) → IsReadFinished setup.shape old.device new.device → AreSlotsRead setup.shape slots new.device → IsRestDurable setup old → slots ≡ old.watch.slots
 slots-true setup slots old new finished read durable =
     of new.device.lines (finished-durable setup old new.device.lines new.device.regs old.watch finished.regs refl finished.lines durable) read.told
   where
@@ -175,6 +177,9 @@ memory_end setup rest count =
       lines = refl;
       root = refl;
       group = refl;
+      begun = λ is. absurd (going-uncut is);
+      work = refl;
+      cached = tt;
       power = (λ was. was, λ was. was, refl);
       answered = refl;
       trusted = λ anchored. anchored;
@@ -192,8 +197,8 @@ cut_places setup old new lines watch =
       nodes = λ x inside it. rest-nodes setup old new x lines same it;
     }
 
-pub finish_cut : (setup : Setup) (old new : Rest) (before after : ℕ) → AreToldLines new.device.size new.device.lines → old.device.size ≡ tree_size setup.shape → IsInterrupted old.device.regs.group.items old.device new.device → new.watch ≡ old.watch → HasTreeRecovered setup old new before after (Err Fail.Cut)
-finish_cut setup old new before after told its_size cut watch =
+pub finish_cut : (setup : Setup) (old new : Rest) (before after : ℕ) → AreToldLines new.device.size new.device.lines → old.device.size ≡ tree_size setup.shape → IsInterrupted old.device.regs.group.items old.device new.device → new.watch ≡ old.watch → old.device.regs.group.items ≢ [] → after ≡ before → HasTreeRecovered setup old new before after (Err Fail.Cut)
+finish_cut setup old new before after told its_size cut watch armed digests =
     let lines : rest_redone new ≡ rest_redone old =
     ap (λ (r : Regs). redone_told r.group.items new.device.lines) cut.regs ∙ cut.again in
     record {
@@ -201,6 +206,14 @@ finish_cut setup old new before after told its_size cut watch =
       lines = lines;
       root = ap (λ (r : Regs). r.root) cut.regs;
       group = inl (record { regs = cut.regs; writes = cut.writes; latches = cut.latches });
+      begun = λ is live. record { regs = cut.regs; writes = cut.writes; latches = cut.latches };
+      work =
+          record {
+            no_digests = digests;
+            due = λ live. armed;
+            no_reads = λ live. cut.reads;
+          };
+      cached = tt;
       power = (cut.unsteady, cut.off, cut.rose);
       answered = watch;
       trusted =
@@ -223,8 +236,9 @@ finish_cut setup old new before after told its_size cut watch =
         (subst (λ n. Rattle.board.specs.Device.AreLinesOf n now) (cut.size ∙ its_size) whole)
         (same_Some (redone old.device.regs.group.items now) (redone old.device.regs.group.items ls) again) it
 
-pub read_cut : (setup : Setup) (old : Rest) (mid : Device) (new : Rest) (before after : ℕ) → HasFinished old.device mid → IsCutReading mid new.device → new.watch ≡ old.watch → HasTreeRecovered setup old new before after (Err Fail.Cut)
-read_cut setup old mid new before after finished cut watch =
+pub read_cut : (setup : Setup) (old : Rest) (mid : Device) (new : Rest) (before after : ℕ) → HasFinished old.device mid → IsCutReading mid new.device → mid.live ≡ false → new.watch ≡ old.watch → after ≡ before → HasTreeRecovered setup old new before after (Err Fail.Cut)
+read_cut setup old mid new before after finished cut off watch digests =
+    let dead : old.device.live ≡ true → ⊥ = λ live. true≢false (sym (finished.live live) ∙ off) in
     let regs : new.device.regs ≡ without_group old.device.regs = cut.cut.regs ∙ (cut.regs ∙ finished.regs) in
     let told : new.device.lines ≡ redone_told old.device.regs.group.items old.device.lines = cut.cut.lines ∙ (cut.lines ∙ finished.lines) in
     let lines = finished-redone old new regs told in
@@ -240,6 +254,14 @@ read_cut setup old mid new before after finished cut watch =
                 subst (λ n. RisesBy (Rattle.commit_regs.specs.Groups.finishing_latches old.device.regs.group.items) old.device.latches n)
                 (sym (cut.cut.latches ∙ cut.latches)) finished.latches;
           });
+      begun = λ is live. absurd (dead live);
+      work =
+          record {
+            no_digests = digests;
+            due = λ live. absurd (dead live);
+            no_reads = λ live. absurd (dead live);
+          };
+      cached = tt;
       power = (
         still-steady old.device.steady cut.between.steady (λ was. cut.steady (finished.steady was)) cut.cut.unsteady,
         cut.cut.off,
@@ -251,9 +273,9 @@ read_cut setup old mid new before after finished cut watch =
       places = λ anchored. cut_places setup old new lines watch;
     }
 
-pub refused_end : (setup : Setup) (kept found : List ℕ) (slots : List Line) (old new : Rest) (before after : ℕ) → IsReadFinished old.device new.device → AreSlotsRead setup.shape slots new.device
-    → kept ≡ new.device.regs.root → found ≡ shadow_root setup.shape setup.formulas slots → kept ≢ found → new.watch ≡ old.watch → HasTreeRecovered setup old new before after (Err (Fail.Shadow kept found))
-refused_end setup kept found slots old new before after finished read is_kept is_found differ watch =
+pub refused_end : (setup : Setup) (kept found : List ℕ) (slots : List Line) (old new : Rest) (before after : ℕ) → IsReadFinished setup.shape old.device new.device → AreSlotsRead setup.shape slots new.device
+    → kept ≡ new.device.regs.root → found ≡ shadow_root setup.shape setup.formulas slots → kept ≢ found → new.watch ≡ old.watch → after ≡ risen_times (shadow_digests setup.shape) before → HasTreeRecovered setup old new before after (Err (Fail.Shadow kept found))
+refused_end setup kept found slots old new before after finished read is_kept is_found differ watch counted =
     let lines = finished-redone old new finished.regs finished.lines in
     let root : new.device.regs.root ≡ old.device.regs.root = ap (λ (r : Regs). r.root) finished.regs in
     let same = knows_same old.watch new.watch watch in
@@ -262,6 +284,9 @@ refused_end setup kept found slots old new before after finished read is_kept is
       lines = lines;
       root = root;
       group = finished.group;
+      begun = λ is. absurd (going-uncut is);
+      work = record { reads = finished.reads; digests = counted };
+      cached = tt;
       power = finished.power;
       answered = (
         (record { slots = slots; read = read; register = is_kept ∙ root; root = is_found; differ = differ }),
@@ -281,9 +306,9 @@ refused_end setup kept found slots old new before after finished read is_kept is
           };
     }
 
-pub shown_end : (setup : Setup) (slots : List Line) (at : Exhibit) (old new : Rest) (before after : ℕ) → IsShape setup.shape → AreInRange setup.formulas → IsReadFinished old.device new.device → AreSlotsRead setup.shape slots new.device
-    → shadow_root setup.shape setup.formulas slots ≡ new.device.regs.root → slots ≢ old.watch.slots → IsSlotClash old.watch slots at → HasShown old.watch new.watch at → HasTreeRecovered setup old new before after (Err Fail.Shown)
-shown_end setup slots at old new before after shape in_range finished read is_root other clash seen =
+pub shown_end : (setup : Setup) (slots : List Line) (at : Exhibit) (old new : Rest) (before after : ℕ) → IsShape setup.shape → AreInRange setup.formulas → IsReadFinished setup.shape old.device new.device → AreSlotsRead setup.shape slots new.device
+    → shadow_root setup.shape setup.formulas slots ≡ new.device.regs.root → slots ≢ old.watch.slots → IsSlotClash old.watch slots at → HasShown old.watch new.watch at → after ≡ risen_times (shadow_digests setup.shape) before → HasTreeRecovered setup old new before after (Err Fail.Shown)
+shown_end setup slots at old new before after shape in_range finished read is_root other clash seen counted =
     let lines = finished-redone old new finished.regs finished.lines in
     let root : new.device.regs.root ≡ old.device.regs.root = ap (λ (r : Regs). r.root) finished.regs in
     let same : KnowsSame old.watch new.watch = record { seals = seen.seals; nodes = seen.nodes; slots = seen.slots } in
@@ -292,6 +317,9 @@ shown_end setup slots at old new before after shape in_range finished read is_ro
       lines = lines;
       root = root;
       group = finished.group;
+      begun = λ is. absurd (cut-unshown (sym is));
+      work = record { reads = finished.reads; digests = counted };
+      cached = tt;
       power = finished.power;
       answered = record { slots = slots; read = read; root = is_root ∙ root; other = other; place = (at, clash, seen) };
       trusted =
@@ -310,7 +338,7 @@ shown_end setup slots at old new before after shape in_range finished read is_ro
 
 -- ---- an engine is made
 
-pub recovered_end : (setup : Setup) (slots : List Line) (engine : TreeState) (work : Work) (old new : Rest) (before after : ℕ) → IsShape setup.shape → IsReadFinished old.device new.device → AreSlotsRead setup.shape slots new.device
+pub recovered_end : (setup : Setup) (slots : List Line) (engine : TreeState) (work : Work) (old new : Rest) (before after : ℕ) → IsShape setup.shape → IsReadFinished setup.shape old.device new.device → AreSlotsRead setup.shape slots new.device
     → shadow_root setup.shape setup.formulas slots ≡ new.device.regs.root → slots ≡ old.watch.slots → new.watch ≡ old.watch → IsTreeWork setup.shape work before after → (IsRestAnchored setup old → IsRecovered setup slots engine)
     → HasTreeRecovered setup old new before after (Ok (engine, work))
 recovered_end setup slots engine work old new before after shape finished read is_root is_true watch worked made =
@@ -325,6 +353,9 @@ recovered_end setup slots engine work old new before after shape finished read i
       lines = lines;
       root = root;
       group = finished.group;
+      begun = λ is. absurd (going-uncut is);
+      work = record { reads = finished.reads; digests = worked.counted ∙ ap (λ n. risen_times n before) worked.digests };
+      cached = λ anchored. subst (λ (ls : List Line). IsRecovered setup ls engine) is_true (made anchored);
       power = finished.power;
       answered = (
         (record { slots = slots; read = read; root = is_root ∙ root; true_slots = is_true; same = watch }),
@@ -364,7 +395,7 @@ recovered_end setup slots engine work old new before after shape finished read i
 -- ---- the code's parts
 
 -- the slot lines read are those of the device as it is left
-pub slots-read : (g : Shape) (slots : List Line) (mid new : Device) → length slots ≡ tree_slots g → All IsLine slots → ((i : ℕ) → i < tree_slots g → Tells mid.lines (line_of_slot g i) (line_at slots i)) → HasOnlyRead mid new → AreSlotsRead g slots new
+pub slots-read : (g : Shape) (slots : List Line) (mid new : Device) → length slots ≡ tree_slots g → All IsLine slots → ((i : ℕ) → i < tree_slots g → Tells mid.lines (line_of_slot g i) (line_at slots i)) → HasOnlyRead (tree_slots g) mid new → AreSlotsRead g slots new
 slots-read g slots mid new count whole told read =
     record {
       count = count;

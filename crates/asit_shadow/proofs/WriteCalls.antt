@@ -19,14 +19,15 @@ use Rattle.asit_shadow.specs.declared.fault.TreeFault.{TreeFault}
 use Rattle.asit_shadow.specs.declared.fault.TreeFault.TheVariants as Fail
 use Rattle.asit_shadow.specs.State.{TreeState, top_node}
 use Rattle.asit_shadow.specs.Parts.{Parts, parts_of, AreTrusted, IsUsable}
-use Rattle.asit_shadow.specs.Paths.{line_path}
+use Rattle.asit_shadow.specs.Paths.{line_path, HasPathCached}
+use Rattle.asit_shadow.specs.Work.{IsCutInGroup}
 use Rattle.asit_shadow.specs.Calls.{outcome_of, IsSpentAnswer, IsWriteLost, IsWriteKept, IsLineWritten}
 use Rattle.asit_shadow.specs.Fetching.{IsFetchFault}
 use Rattle.asit_shadow.specs.Writing.{armed_lines, set_pairs, HasWrittenUp}
 use Rattle.asit_shadow.proofs.PathSteps.{top-in, in-true}
 use Rattle.asit_shadow.proofs.PairSets.{pairs-are, lines-are}
 use Rattle.asit_shadow.proofs.PutLaws.{write_group-IsGroup}
-use Rattle.asit_shadow.proofs.CallEnds.{HasEnded, ended-going, effect-cut, effect-shown, node_shown-ended}
+use Rattle.asit_shadow.proofs.CallEnds.{HasEnded, ended-going, effect-cut, effect-shown, node_shown-ended, path_work-ended, shown_at-ended, cut_work-ended}
 
 -- ---- when a write is spent
 
@@ -61,6 +62,7 @@ written-up setup a plain old new answer it spent =
       spent = spent;
       effect = it.effect;
       steps = it.steps;
+      work = it.work;
       answered = it.answered;
       unrefused = it.unrefused;
       watch = it.watch;
@@ -97,6 +99,25 @@ kept-ended setup a plain old mid engine it =
       latches = it.latches;
     }
 
+cut_group-ended : (setup : Setup) (a : ℕ) (old mid : Parts) (engine : TreeState) → engine.cache ≡ mid.engine.cache → IsCutInGroup setup a old mid → IsCutInGroup setup a old (parts_of engine mid.device mid.watch)
+cut_group-ended setup a old mid engine cache it =
+    record {
+      seal = it.seal;
+      armed =
+          record {
+            last = it.armed.last;
+            cache = subst (HasPathCached setup.shape a mid.watch.nodes old.engine.cache) (sym cache) it.armed.cache;
+            lines = it.armed.lines;
+            latched = it.armed.latched;
+            reads = it.armed.reads;
+          };
+      group = it.group;
+      group_count = it.group_count;
+      armed_writes = it.armed_writes;
+      before = it.before;
+      since = it.since;
+    }
+
 pub write-ended : (setup : Setup) (a : ℕ) (plain : Line) (old mid : Parts) (engine : TreeState) (fault : TreeFault) → HasEnded fault mid.engine engine → IsLineWritten setup a plain old mid (Err fault) → IsLineWritten setup a plain old (parts_of engine mid.device mid.watch) (Err fault)
 write-ended setup a plain old mid engine Fail.Cut ended it =
     record {
@@ -105,6 +126,19 @@ write-ended setup a plain old mid engine Fail.Cut ended it =
       spent = it.spent;
       effect = effect-cut setup old mid engine ended.shape it.effect;
       steps = it.steps;
+      work =
+          elim it.work [
+            | inl before ↦
+                inl (record {
+                  at =
+                      elim before.at [
+                        | inl fetch ↦ inl (cut_work-ended setup a old mid engine ended.cache fetch)
+                        | inr path ↦ inr (path_work-ended setup a 0 old mid engine ended.cache path)
+                      ];
+                  untold = before.untold;
+                })
+            | inr group ↦ inr (cut_group-ended setup a old mid engine ended.cache group)
+          ];
       answered =
           λ trusted. (
             (it.answered trusted).0,
@@ -123,6 +157,7 @@ write-ended setup a plain old mid engine Fail.Shown ended it =
       spent = it.spent;
       effect = effect-shown setup old mid engine ended.shape it.effect;
       steps = it.steps;
+      work = shown_at-ended setup a old mid engine ended.cache it.work;
       answered = λ trusted. ((it.answered trusted).0, node_shown-ended setup a old mid engine (it.answered trusted).1);
       unrefused = it.unrefused;
       watch = it.watch;

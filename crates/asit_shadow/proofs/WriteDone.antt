@@ -33,6 +33,7 @@ use Rattle.asit_shadow.specs.Places.{IsNodeHeld, IsNodeHeldBy}
 use Rattle.asit_shadow.specs.Parts.{Parts, lines_redone, AreTrusted, AreSound, AreToldWith, IsWatchReady, HoldsSeal, HoldsSlot}
 use Rattle.asit_shadow.specs.Steps.{IsArmed, IsEmptied}
 use Rattle.asit_shadow.specs.Calls.{IsPathAccepted, IsUsedUp}
+use Rattle.asit_shadow.specs.Work.{spilled}
 use Rattle.asit_shadow.specs.Fetching.{IsPathFetched}
 use Rattle.asit_shadow.specs.Writing.{HasWrittenUp, IsWriteMade, IsWriteTold, slot_entries}
 use Rattle.asit_shadow.proofs.ArmLaws.{armed-made, IsAnchored-armed, IsDurable-armed, IsTrusted-written, IsSound-written}
@@ -44,6 +45,7 @@ use Rattle.asit_shadow.proofs.ToldLemmas.{told-as, told-match}
 use Rattle.asit_shadow.proofs.Chains.{power-then, told-of}
 use Rattle.asit_shadow.proofs.PathSteps.{same_lines}
 use Rattle.asit_shadow.proofs.ReadEnds.{path-accepted, sound-trusted}
+use Rattle.asit_shadow.proofs.ArmedWork.{IsArmedOver, armed-group, armed-path}
 use Rattle.asit_shadow.proofs.ArmedWrites.{IsArmedAndStored, armed-and_stored}
 use Rattle.asit_shadow.proofs.WriteEnds.{path-cached}
 
@@ -99,10 +101,16 @@ pub record IsArmedWrite (setup : Setup) (a : ℕ) (plain : Line) (seal : LineSea
   pub whole : AreToldLines (tree_size setup.shape) mid.device.lines
   pub node : Node
   pub fetched : IsPathFetched setup a old mid node
+  pub ready : IsWatchReady setup.shape old.watch
+  pub slots : length mid.engine.cache ≡ tree_slots setup.shape
   pub unspent : AreTrusted setup old → IsUsedUp old → ⊥
   pub made : IsWriteMade setup a plain seal pairs regs mid new
   pub latched : HasLatched mid.device regs armed
   pub group : IsGroup (tree_size setup.shape) regs.group.items
+
+armed-over : (setup : Setup) (a : ℕ) (plain : Line) (seal : LineSeal) (pairs : List (ℕ × Node)) (regs : Regs) (old mid new : Parts) (armed : Device) → IsArmedWrite setup a plain seal pairs regs old mid new armed → IsArmedOver setup a plain seal pairs regs old mid new
+armed-over setup a plain seal pairs regs old mid new armed it =
+    record { shape = it.shape; inside = it.inside; ready = it.ready; slots = it.slots; path = it.fetched.path; made = it.made }
 
 -- from a trusted chip on it is as the laws ask
 armed-of : (setup : Setup) (a : ℕ) (plain : Line) (seal : LineSeal) (pairs : List (ℕ × Node)) (regs : Regs) (old mid new : Parts) (armed : Device) → IsArmedWrite setup a plain seal pairs regs old mid new armed → AreTrusted setup old → IsArmedAndStored setup a seal regs mid new
@@ -181,6 +189,8 @@ write-kept setup a plain seal pairs regs old mid new armed it told_new cut =
     let count = group-count setup a plain seal pairs regs mid new it.made in
     let cuts : RisesAtMost (length regs.group.items) armed.writes new.device.writes =
     subst (λ (r : Regs). RisesAtMost (length r.group.items) armed.writes new.device.writes) it.latched.regs cut.writes in
+    let one_latched : RisesBy 1 old.device.latches new.device.latches =
+    subst (λ n. RisesBy 1 n new.device.latches) path.steps.latches (subst (λ n. RisesBy 1 mid.device.latches n) (sym cut.latches) it.latched.latches) in
     record {
       kind = tt;
       up = λ e. e;
@@ -242,6 +252,19 @@ write-kept setup a plain seal pairs regs old mid new armed it told_new cut =
                   bound = λ below. omega (arith, it.latched.latches.exact (omega (arith, below, cut.latches)), cut.latches, path.steps.latches);
                 };
           };
+      work =
+          let over = armed-over setup a plain seal pairs regs old mid new armed it in
+          inr (record {
+            seal = seal;
+            armed = armed-path setup a 1 plain seal pairs regs old mid new over made one_latched (cut.reads ∙ it.latched.reads);
+            group = ap (λ (r : Regs). r.group.items) new_regs ∙ armed-group setup a plain seal pairs regs old mid new over;
+            group_count = ap (λ (r : Regs). length r.group.items) new_regs ∙ count;
+            armed_writes = mid.device.writes;
+            before = path.done.writes;
+            since =
+                subst (λ n. RisesAtMost n mid.device.writes new.device.writes) count
+                (subst (λ n. RisesAtMost (length regs.group.items) n new.device.writes) it.latched.writes cuts);
+          });
       answered =
           λ trusted.
           let its = armed-of setup a plain seal pairs regs old mid new armed it trusted in (
@@ -254,9 +277,7 @@ write-kept setup a plain seal pairs regs old mid new armed it told_new cut =
                     sealed = it.made.made.cipher;
                   };
               stored = own-seal setup a plain seal pairs regs old mid new armed it trusted made;
-              latches =
-                  subst (λ n. RisesBy 1 n new.device.latches) path.steps.latches
-                  (subst (λ n. RisesBy 1 mid.device.latches n) (sym cut.latches) it.latched.latches);
+              latches = one_latched;
             }),
           );
       unrefused = λ sound. tt;
@@ -295,6 +316,10 @@ write-done setup a plain seal pairs regs old mid new armed it done =
     let latches : RisesBy 1 armed.latches new.device.latches =
     subst (λ n. RisesBy n armed.latches new.device.latches) (one-latch regs.group.items (omega (arith, count)))
     (subst (λ (r : Regs). RisesBy (finishing_latches r.group.items) armed.latches new.device.latches) it.latched.regs done.latches) in
+    let two_latched : RisesBy 2 old.device.latches new.device.latches =
+    RisesBy-then 1 1 old.device.latches armed.latches new.device.latches (subst (λ n. RisesBy 1 n armed.latches) path.steps.latches it.latched.latches) latches in
+    let group_writes : RisesBy (setup.shape.levels + 3) mid.device.writes new.device.writes =
+    subst (λ n. RisesBy n mid.device.writes new.device.writes) count (subst (λ n. RisesBy (length regs.group.items) n new.device.writes) it.latched.writes writes) in
     record {
       kind = tt;
       up = λ e. e;
@@ -344,11 +369,18 @@ write-done setup a plain seal pairs regs old mid new armed it done =
             count = path.steps.count;
             at_most = path.steps.at_most;
             writes =
-                RisesBy-then path.steps.count (setup.shape.levels + 3) old.device.writes mid.device.writes new.device.writes path.steps.writes
-                (subst (λ n. RisesBy n mid.device.writes new.device.writes) count (subst (λ n. RisesBy (length regs.group.items) n new.device.writes) it.latched.writes writes));
-            latches =
-                RisesBy-then 1 1 old.device.latches armed.latches new.device.latches
-                (subst (λ n. RisesBy 1 n armed.latches) path.steps.latches it.latched.latches) latches;
+                RisesBy-then path.steps.count (setup.shape.levels + 3) old.device.writes mid.device.writes new.device.writes path.steps.writes group_writes;
+            latches = two_latched;
+          };
+      work =
+          record {
+            seal = seal;
+            armed =
+                armed-path setup a 2 plain seal pairs regs old mid new (armed-over setup a plain seal pairs regs old mid new armed it) made two_latched
+                (done.reads ∙ it.latched.reads);
+            no_group = no_new;
+            writes =
+                RisesBy-then (length (spilled setup old.engine.cache a setup.shape.levels)) (setup.shape.levels + 3) old.device.writes mid.device.writes new.device.writes path.done.writes group_writes;
           };
       answered =
           λ trusted.

@@ -1,5 +1,5 @@
 -- How a write ends.
-use Rattle.std.proofs.Common.{ℕ, ◌≡◌, ◌<◌, ◌≤◌, ◌+◌, ◌*◌, ◌/◌, refl, sym, ap, subst, inl, ◌∙◌, arith}
+use Rattle.std.proofs.Common.{ℕ, ◌≡◌, ◌<◌, ◌≤◌, ◌+◌, ◌*◌, ◌/◌, refl, sym, ap, subst, inl, inr, ◌∙◌, arith}
 use Rattle.std.specs.Prelude.{Err}
 use Rattle.std.proofs.lemmas.Bool.{true≢false}
 use Rattle.pmem_base.specs.declared.lines.Line.{Line}
@@ -14,17 +14,17 @@ use Rattle.commit_regs.specs.Groups.{RisesAtMost}
 use Rattle.pmem_engine.specs.Outcomes.{going, cut_short, shown}
 use Rattle.counter_tree.specs.declared.nodes.Node.{Node}
 use Rattle.counter_tree.specs.Layout.{tree_lines}
-use Rattle.counter_tree.specs.Watch.{WatchState}
 use Rattle.asit_shadow.specs.declared.fault.TreeFault.{TreeFault}
 use Rattle.asit_shadow.specs.declared.fault.TreeFault.TheVariants as Fail
 use Rattle.asit_shadow.specs.Parts.{Parts, AreTrusted}
 use Rattle.asit_shadow.specs.Paths.{IsPathCached}
 use Rattle.asit_shadow.specs.Calls.{IsUsedUp, KeepsWatch}
+use Rattle.asit_shadow.specs.Work.{absent_count}
 use Rattle.asit_shadow.specs.Fetching.{IsFetchStopped, IsPathFetched, IsPathFetchedTo}
 use Rattle.asit_shadow.specs.Writing.{HasWrittenUp}
 use Rattle.asit_shadow.proofs.SlotPlaces.{page_of_line}
 use Rattle.asit_shadow.proofs.Chains.{going-uncut, going-unshown, cut-unshown, effect-then}
-use Rattle.asit_shadow.proofs.FetchEnds.{AreUnwritten, cut-effect, kept-watch}
+use Rattle.asit_shadow.proofs.FetchEnds.{AreUnwritten, cut-effect, kept-watch, unwritten-levels}
 use Rattle.asit_shadow.proofs.CallEnds.{ready-kept, board-kept}
 
 -- ---- what comes before the arming latch
@@ -56,11 +56,12 @@ write-stopped setup a plain old new Fail.Cut unspent it =
             writes = fewer (2 * setup.shape.levels + 3) it.steps.count old.device new.device (omega (arith, it.steps.at_most)) it.steps.writes;
             latches = none-at_most 1 old.device.latches new.device.latches it.steps.latches;
           };
+      work = inl (record { at = inl it.work; untold = it.same_watch });
       answered =
           λ trusted. (
             unspent trusted,
             inl (record {
-              watch = same_watch old.watch new.watch it.watch;
+              watch = it.same_watch;
               regs = it.regs;
               latches = it.steps.latches;
             }),
@@ -71,14 +72,6 @@ write-stopped setup a plain old new Fail.Cut unspent it =
       board = board-kept setup.shape old.device new.device it.effect.size it.regs;
       no_group = λ e. absurd (true≢false (sym e));
     }
-  where
-    same_watch : (old new : WatchState) → KeepsWatch cut_short old new → new ≡ old
-    same_watch old new kept =
-        ap (λ x. record { setup = x; seals = new.seals; nodes = new.nodes; slots = new.slots; exhibit = new.exhibit }) kept.setup
-        ∙ (ap (λ x. record { setup = old.setup; seals = x; nodes = new.nodes; slots = new.slots; exhibit = new.exhibit }) kept.seals
-        ∙ (ap (λ x. record { setup = old.setup; seals = old.seals; nodes = x; slots = new.slots; exhibit = new.exhibit }) kept.nodes
-        ∙ (ap (λ x. record { setup = old.setup; seals = old.seals; nodes = old.nodes; slots = x; exhibit = new.exhibit }) kept.slots
-        ∙ ap (λ x. record { setup = old.setup; seals = old.seals; nodes = old.nodes; slots = old.slots; exhibit = x }) (kept.exhibit cut-unshown))))
 write-stopped setup a plain old new Fail.Down unspent it = absurd it.kind
 write-stopped setup a plain old new (Fail.Node x) unspent it =
     record {
@@ -87,6 +80,7 @@ write-stopped setup a plain old new (Fail.Node x) unspent it =
       down = it.down;
       effect = it.effect;
       steps = it.steps;
+      work = it.work;
       answered = λ trusted. (unspent trusted, it.answered trusted);
       unrefused = it.unrefused;
       watch = λ e. it.watch;
@@ -110,6 +104,7 @@ write-stopped setup a plain old new Fail.Shown unspent it =
             writes = it.steps.writes;
             latches = it.steps.latches;
           };
+      work = it.work;
       answered = λ trusted. (unspent trusted, it.answered trusted);
       unrefused = it.unrefused;
       watch = λ e. it.watch;
@@ -135,6 +130,7 @@ write-spent setup a plain old used =
             places = λ trusted. record { seals = λ b inside was. was; slots = λ i inside was. was; nodes = λ x inside was. was };
           };
       steps = refl;
+      work = refl;
       answered = λ trusted. (used trusted, refl);
       unrefused = λ sound. tt;
       watch = λ e. kept-watch going old.watch old.watch going-unshown refl;
@@ -144,8 +140,8 @@ write-spent setup a plain old used =
     }
 
 -- a cut at the arming latch: the write is lost
-pub write-lost : (setup : Setup) (a : ℕ) (plain : Line) (old mid new : Parts) (node : Node) → (AreTrusted setup old → IsUsedUp old → ⊥) → IsPathFetched setup a old mid node → new.engine.shape ≡ mid.engine.shape → new.engine.down ≡ mid.engine.down → WasCut mid.device new.device → new.watch ≡ mid.watch → HasWrittenUp setup a plain old new (Err Fail.Cut)
-write-lost setup a plain old mid new node unspent fetched shape down cut watch =
+pub write-lost : (setup : Setup) (a : ℕ) (plain : Line) (old mid new : Parts) (node : Node) → (AreTrusted setup old → IsUsedUp old → ⊥) → IsPathFetched setup a old mid node → new.engine.shape ≡ mid.engine.shape → new.engine.cache ≡ mid.engine.cache → new.engine.down ≡ mid.engine.down → WasCut mid.device new.device → new.watch ≡ mid.watch → HasWrittenUp setup a plain old new (Err Fail.Cut)
+write-lost setup a plain old mid new node unspent fetched shape cache down cut watch =
     let same : AreUnwritten mid.device new.device =
     record { lines = cut.lines; regs = cut.regs; size = cut.size; writes = cut.writes; latches = cut.latches } in
     let path = fetched.path in
@@ -162,6 +158,17 @@ write-lost setup a plain old mid new node unspent fetched shape down cut watch =
                 (subst (RisesBy path.steps.count old.device.writes) (sym cut.writes) path.steps.writes);
             latches = none-at_most 1 old.device.latches new.device.latches (cut.latches ∙ path.steps.latches);
           };
+      work =
+          inl (record {
+            at =
+                inr (record {
+                  fetched = unwritten-levels setup a setup.shape.levels old mid new cache same path.done;
+                  reads =
+                      subst (RisesBy (absent_count setup.shape old.engine.cache a setup.shape.levels + 0) old.device.reads) (sym cut.reads)
+                      (subst (λ n. RisesBy n old.device.reads mid.device.reads) (omega arith) path.reads);
+                });
+            untold = watch ∙ path.watch;
+          });
       answered = λ trusted. (unspent trusted, inl (record { watch = watch ∙ path.watch; regs = cut.regs ∙ path.regs; latches = cut.latches ∙ path.steps.latches }));
       unrefused = λ sound. tt;
       watch = λ e. absurd e;

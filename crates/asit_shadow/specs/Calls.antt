@@ -25,7 +25,8 @@ use Rattle.asit_shadow.specs.declared.fault.TreeFault.TheVariants as Fail
 use Rattle.asit_shadow.specs.State.{top_node, IsCached}
 use Rattle.asit_shadow.specs.Paths.{IsPathCached}
 use Rattle.asit_shadow.specs.Steps.{IsArmed, IsEmptied, plain_line}
-use Rattle.asit_shadow.specs.Parts.{Parts, AreAnchored, AreTrusted, AreDurable, AreSound, HoldsSeal, HoldsSlot, HoldsNode, KeepsNode}
+use Rattle.asit_shadow.specs.Parts.{Parts, AreAnchored, AreTrusted, AreDurable, AreSound, HoldsSeal, HoldsSlot, HoldsNode, IsNodeUnheld, KeepsNode}
+use Rattle.asit_shadow.specs.Work.{WorksOfRead, WorksOfWrite}
 
 -- ---- ends of a call
 
@@ -128,6 +129,8 @@ pub record IsNodeRefused (setup : Setup) (a x : ℕ) (old new : Parts) : Type 0 
   pub line : Line
   pub its : IsNodeLineRead setup a x line old new
   pub refused : node_read setup.formulas x line (total (node_at old.watch.nodes x)) ≡ None
+  -- the device didn't have the node's true line as the call began
+  pub unheld : IsNodeUnheld setup old x
 
 -- the exhibit is a line read at a node of the path that passes for one of the node's true version, and
 -- has other counters
@@ -139,6 +142,7 @@ pub record IsNodeShown (setup : Setup) (a : ℕ) (old new : Parts) : Type 0 wher
   pub accepted : node_read setup.formulas x line (total (node_at old.watch.nodes x)) ≡ Some node
   pub other : node ≢ node_at old.watch.nodes x
   pub exhibit : new.watch.exhibit ≡ Some (forged_node old.watch x line)
+  pub unheld : IsNodeUnheld setup old x
 
 -- a line read at a node of the path is the node's, under its true version
 pub record IsNodeRead (setup : Setup) (a x : ℕ) (old new : Parts) : Type 0 where
@@ -234,6 +238,8 @@ pub record IsLineRead (setup : Setup) (a : ℕ) (old new : Parts) (answer : Resu
   pub watch : KeepsWatch (outcome_of answer) old.watch new.watch
   pub regs : new.device.regs ≡ old.device.regs
   pub steps : TakesWriteBacks setup.shape.levels (outcome_of answer) old.device new.device
+  -- exactly what it did, whatever the board and the chip: a cut comes only where a step is due
+  pub work : WorksOfRead setup a old new answer
   pub answered : AreTrusted setup old → AnswersRead setup a old new answer
   pub unrefused : AreSound setup old → IsUnrefused answer
 
@@ -314,6 +320,7 @@ pub record IsLineWritten (setup : Setup) (a : ℕ) (plain : Line) (old new : Par
   pub spent : IsSpentAnswer answer ↔ (total (top_node old.engine.cache) ≡ 2 ^ 64 - 1)
   pub effect : CallEffect setup (outcome_of answer) old new
   pub steps : StepsOfWrite setup.shape answer old.device new.device
+  pub work : WorksOfWrite setup a old new answer
   pub answered : AreTrusted setup old → AnswersWrite setup a plain old new answer
   pub unrefused : AreSound setup old → IsUnrefused answer
   -- whatever the board was: a call that isn't done leaves what the watch knew

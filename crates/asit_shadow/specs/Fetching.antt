@@ -1,10 +1,11 @@
 -- A path that is fetched from the top down: what one level gives, and what the levels so far keep.
-use Rattle.std.specs.Prelude.{ℕ, ◌≡◌, ◌<◌, ◌≤◌, ◌/◌, ◌⊎◌, Bool, true, false, List, Option, Some, None, Result, Ok, Err, length, slice_index, slice_set, ⊤}
+use Rattle.std.specs.Prelude.{ℕ, ◌≡◌, ◌<◌, ◌≤◌, ◌/◌, ◌⊎◌, Bool, true, false, List, Option, Some, None, Result, Ok, Err, length, slice_set, ⊤}
 use Rattle.pmem_base.specs.declared.lines.Line.{Line}
 use Rattle.pmem_base.specs.Shape.{Shape}
 use Rattle.pmem_base.specs.Lines.{line_at}
 use Rattle.suite.specs.Setup.{Setup}
 use Rattle.board.specs.Device.{Device}
+use Rattle.board.specs.Counts.{RisesBy}
 use Rattle.board.specs.Steps.{HasWritten, WasCut}
 use Rattle.bonsai_tree.specs.Positions.{level_of, counter_position}
 use Rattle.pmem_engine.specs.Outcomes.{going}
@@ -20,7 +21,7 @@ use Rattle.asit_shadow.specs.declared.fault.TreeFault.{TreeFault}
 use Rattle.asit_shadow.specs.declared.fault.TreeFault.TheVariants as Fail
 use Rattle.asit_shadow.specs.State.{cache_at, IsCached, IsCachedAs}
 use Rattle.asit_shadow.specs.Parts.{Parts, AreTrusted, AreSound}
-use Rattle.asit_shadow.specs.Paths.{line_path}
+use Rattle.asit_shadow.specs.Work.{holds_dirty, absent_count, HasFetchedLevels, HasStoppedAt, IsShownAt, IsCutInFetch}
 use Rattle.asit_shadow.specs.Calls.{CallEffect, IsNodeRead, IsNodeRefused, IsNodeShown, IsUnrefusedFault, KeepsWatch, TakesWriteBacks, outcome_of_fault}
 
 -- ---- one level
@@ -39,7 +40,7 @@ IsRoomMade setup (Some held) old new =
 -- how a node's line is read under a version, by the answer
 abbrev pub IsNodeTaken : Setup → ℕ → ℕ → Device → Device → WatchState → WatchState → Result Node TreeFault → Type 0
 IsNodeTaken setup x version old new watch after (Ok node) = IsNodeAccepted setup x version old new watch after node
-IsNodeTaken setup x version old new watch after (Err Fail.Cut) = WasCut old new × (after ≡ watch)
+IsNodeTaken setup x version old new watch after (Err Fail.Cut) = WasCut old new × (old.live ≡ false) × (after ≡ watch)
 IsNodeTaken setup x version old new watch after (Err (Fail.Node y)) =
     (y ≡ x) × IsNodeUnaccepted setup x version old new watch after
 IsNodeTaken setup x version old new watch after (Err Fail.Shown) = IsNodeForged setup x version old new watch after
@@ -63,8 +64,12 @@ abbrev pub IsNodeHad : Setup → ℕ → ℕ → Parts → Parts → Node → Ty
 IsNodeHad setup x version old new node =
     (IsCachedAs setup.shape old.engine.cache x node × (new ≡ old)) ⊎ IsNodeFound setup x version node old new
 
--- a cut before node x took its slot: no more than a line was read
-pub record IsNodeCutOff (old new : Parts) : Type 0 where
+-- a cut before node x, which isn't cached, took its slot: no more than a line was read
+pub record IsNodeCutOff (g : Shape) (x : ℕ) (old new : Parts) : Type 0 where
+  pub uncached : IsCached g old.engine.cache x → ⊥
+  -- where power was on, it is cut as a dirty node has to give way
+  pub victim : old.device.live ≡ true → holds_dirty (cache_at old.engine.cache (slot_of g x)) ≡ true
+  pub one_read : old.device.live ≡ true → RisesBy 1 old.device.reads new.device.reads
   pub between : Device
   pub cut : WasCut between new.device
   pub lines : between.lines ≡ old.device.lines
@@ -79,7 +84,7 @@ pub record IsNodeCutOff (old new : Parts) : Type 0 where
 
 -- why node x wasn't had
 abbrev pub IsNodeMissed : Setup → ℕ → ℕ → Parts → Parts → TreeFault → Type 0
-IsNodeMissed setup x version old new Fail.Cut = IsNodeCutOff old new
+IsNodeMissed setup x version old new Fail.Cut = IsNodeCutOff setup.shape x old new
 IsNodeMissed setup x version old new (Fail.Node y) =
     (y ≡ x) × (IsCached setup.shape old.engine.cache x → ⊥) × (new.engine ≡ old.engine)
     × IsNodeUnaccepted setup x version old.device new.device old.watch new.watch
@@ -89,10 +94,6 @@ IsNodeMissed setup x version old new Fail.Shown =
 IsNodeMissed setup x version old new fault = ⊥
 
 -- ---- the levels so far
-
--- the node at a level of the path of data line a
-abbrev pub path_node : Shape → ℕ → ℕ → ℕ
-path_node g a level = slice_index (line_path g a) level
 
 -- the device has the same lines at the nodes of the path
 abbrev pub KeepsPathLines : Shape → ℕ → Option (List Line) → Option (List Line) → Type 0
@@ -113,6 +114,8 @@ pub record IsPathFetchedTo (setup : Setup) (a levels : ℕ) (old new : Parts) : 
       → cache_at new.engine.cache (slot_of setup.shape x) ≡ cache_at old.engine.cache (slot_of setup.shape x)
   pub regs : new.device.regs ≡ old.device.regs
   pub steps : TakesWriteBacks levels going old.device new.device
+  pub done : HasFetchedLevels setup a levels old new
+  pub reads : RisesBy (absent_count setup.shape old.engine.cache a levels) old.device.reads new.device.reads
   pub watch : new.watch ≡ old.watch
   pub path_lines : AreTrusted setup old → KeepsPathLines setup.shape a old.device.lines new.device.lines
   pub cached :
@@ -134,6 +137,13 @@ StopsFetch setup a old new (Fail.Node x) = IsNodeRefused setup a x old new
 StopsFetch setup a old new Fail.Shown = IsNodeShown setup a old new
 StopsFetch setup a old new fault = ⊥
 
+-- how far it came
+abbrev pub StopsWork : Setup → ℕ → Parts → Parts → TreeFault → Type 0
+StopsWork setup a old new Fail.Cut = IsCutInFetch setup a old new
+StopsWork setup a old new (Fail.Node x) = HasStoppedAt setup a x old new
+StopsWork setup a old new Fail.Shown = IsShownAt setup a old new
+StopsWork setup a old new fault = ⊥
+
 abbrev pub IsFetchFault : TreeFault → Type 0
 IsFetchFault Fail.Cut = ⊤
 IsFetchFault (Fail.Node x) = ⊤
@@ -154,5 +164,6 @@ pub record IsFetchStopped (setup : Setup) (a : ℕ) (old new : Parts) (fault : T
   pub steps : TakesWriteBacks setup.shape.levels (outcome_of_fault fault) old.device new.device
   pub watch : KeepsWatch (outcome_of_fault fault) old.watch new.watch
   pub same_watch : LeavesWatch fault old.watch new.watch
+  pub work : StopsWork setup a old new fault
   pub answered : AreTrusted setup old → StopsFetch setup a old new fault
   pub unrefused : AreSound setup old → IsUnrefusedFault fault

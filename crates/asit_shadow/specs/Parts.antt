@@ -85,6 +85,12 @@ HoldsSlot g parts i = IfSome (lines_redone parts) (λ lines. IsSlotStored g line
 abbrev pub HoldsNode : Setup → Parts → ℕ → Type 0
 HoldsNode setup parts x = IfSome (lines_redone parts) (λ lines. IsNodeHeldBy setup parts.engine lines parts.watch x)
 
+-- where the lines are told, it is neither
+abbrev pub IsNodeUnheld : Setup → Parts → ℕ → Type 0
+IsNodeUnheld setup parts x =
+    (lines : List Line) → lines_redone parts ≡ Some lines
+    → IsNodeHeldBy setup parts.engine lines parts.watch x → ⊥
+
 -- node x, with power off: it is true on the device, or named by its slot
 abbrev pub KeepsNode : Setup → Parts → ℕ → Type 0
 KeepsNode setup parts x = IfSome (lines_redone parts) (λ lines. IsNodeHeld setup lines parts.watch x)

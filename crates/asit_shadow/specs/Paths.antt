@@ -1,5 +1,5 @@
 -- A path's nodes in their slots: the slot lines, the cache, and what a write's group writes.
-use Rattle.std.specs.Prelude.{ℕ, ◌≡◌, ◌/◌, ◌==◌, Bool, true, false, List, [], ◌∷◌, ◌++◌, map, length, replicate, slice_set, All, Option, Some}
+use Rattle.std.specs.Prelude.{ℕ, ◌≡◌, ◌/◌, ◌==◌, Bool, true, false, List, [], ◌∷◌, ◌++◌, map, length, replicate, slice_index, slice_set, All, Option, Some}
 use Rattle.std.specs.List.{list_any}
 use Rattle.pmem_base.specs.declared.lines.Line.{Line}
 use Rattle.pmem_base.specs.Lines.{IsLine, line_of, line_at, put_lines}
@@ -16,6 +16,10 @@ use Rattle.asit_shadow.specs.declared.cache.CachedNode.{CachedNode}
 -- the path of data line a, from the top down
 abbrev pub line_path : Shape → ℕ → List ℕ
 line_path g a = path_of g (a / 4)
+
+-- its node at a level
+abbrev pub path_node : Shape → ℕ → ℕ → ℕ
+path_node g a level = slice_index (line_path g a) level
 
 -- whether slot i is that of a node on the path of data line a
 abbrev pub is_path_slot : Shape → ℕ → ℕ → Bool

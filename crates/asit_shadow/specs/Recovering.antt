@@ -1,5 +1,5 @@
 -- What recovery makes of a device and its watch, by its answer.
-use Rattle.std.specs.Prelude.{ℕ, ◌≡◌, ◌≢◌, ◌<◌, ◌^◌, ◌⊎◌, List, All, Option, Some, None, IfSome, MatchOption, Result, Ok, Err, length, ⊤}
+use Rattle.std.specs.Prelude.{ℕ, ◌≡◌, ◌≢◌, ◌<◌, ◌^◌, ◌⊎◌, true, List, [], All, Option, Some, None, IfSome, MatchOption, Result, Ok, Err, length, ⊤}
 use Rattle.pmem_base.specs.declared.lines.Line.{Line}
 use Rattle.pmem_base.specs.Counts.{risen_times}
 use Rattle.pmem_base.specs.Registers.{without_group}
@@ -26,7 +26,7 @@ use Rattle.asit_shadow.specs.State.{TreeState, cache_at, IsHeldNode}
 use Rattle.asit_shadow.specs.Invariants.{IsAnchored, IsTrusted, IsDurable, IsSound, IsSealStored, IsSlotStored, IsTreeOver}
 use Rattle.asit_shadow.specs.Places.{IsNodeHeld, IsNodeHeldBy}
 use Rattle.asit_shadow.specs.Parts.{IsWatchReady, IsBoardReady}
-use Rattle.asit_shadow.specs.Steps.{held_of}
+use Rattle.asit_shadow.specs.Steps.{held_of, IsRecovered}
 
 -- a device and its watch, with no engine
 pub record Rest : Type 0 where
@@ -55,8 +55,9 @@ IsRestDurable setup rest =
 
 -- ---- reads
 
--- nothing was changed but the count of reads
-pub record HasOnlyRead (old new : Device) : Type 0 where
+-- nothing was changed but the count of reads, which rose by n
+pub record HasOnlyRead (n : ℕ) (old new : Device) : Type 0 where
+  pub reads : RisesBy n old.reads new.reads
   pub lines : new.lines ≡ old.lines
   pub regs : new.regs ≡ old.regs
   pub size : new.size ≡ old.size
@@ -135,6 +136,29 @@ FinishesGroup (Err Fail.Memory) old new = new ≡ old
 FinishesGroup (Err Fail.Cut) old new = IsGroupBegun old new ⊎ IsGroupFinished old new
 FinishesGroup answer old new = IsGroupFinished old new
 
+-- ---- what was done, exactly
+
+-- all slot lines were read, and the shadow tree was made over them: a digest for each of its lines
+pub record HasSlotsRead (g : Shape) (old new : Device) (before after : ℕ) : Type 0 where
+  pub reads : RisesBy (tree_slots g) old.reads new.reads
+  pub digests : after ≡ risen_times (shadow_digests g) before
+
+-- power was cut before a digest was made: where it was on, amid a group that was armed
+pub record IsRecoveryCut (old new : Device) (before after : ℕ) : Type 0 where
+  pub no_digests : after ≡ before
+  pub due : old.live ≡ true → old.regs.group.items ≢ []
+  pub no_reads : old.live ≡ true → new.reads ≡ old.reads
+
+abbrev pub WorksOfRecovery : Shape → Device → Device → ℕ → ℕ → Result (TreeState × Work) TreeRec → Type 0
+WorksOfRecovery g old new before after (Err Fail.Memory) = after ≡ before
+WorksOfRecovery g old new before after (Err Fail.Cut) = IsRecoveryCut old new before after
+WorksOfRecovery g old new before after answer = HasSlotsRead g old new before after
+
+-- each node that a true slot line names is in its slot, dirty, and nothing else is cached
+abbrev pub CachesNamed : Setup → Rest → Result (TreeState × Work) TreeRec → Type 0
+CachesNamed setup old (Ok made) = IsRestAnchored setup old → IsRecovered setup old.watch.slots made.0
+CachesNamed setup old answer = ⊤
+
 abbrev pub LeavesRestTrusted : Setup → Rest → Result (TreeState × Work) TreeRec → Type 0
 LeavesRestTrusted setup new (Ok made) = IsTrusted setup made.0 new.device.regs new.watch
 LeavesRestTrusted setup new (Err Fail.Shown) = IfSome new.watch.exhibit (IsExhibit setup.formulas)
@@ -173,6 +197,11 @@ pub record HasTreeRecovered (setup : Setup) (old new : Rest) (before after : ℕ
   pub lines : rest_redone new ≡ rest_redone old
   pub root : new.device.regs.root ≡ old.device.regs.root
   pub group : FinishesGroup answer old.device new.device
+  -- power that was on is cut before the group is finished
+  pub begun :
+      outcome_of_recovery answer ≡ cut_short → old.device.live ≡ true → IsGroupBegun old.device new.device
+  pub work : WorksOfRecovery setup.shape old.device new.device before after answer
+  pub cached : CachesNamed setup old answer
   pub power : HasPower (outcome_of_recovery answer) old.device new.device
   pub answered : AnswersRecovery setup old new before after answer
   pub trusted : IsRestAnchored setup old → LeavesRestTrusted setup new answer
@@ -180,7 +209,8 @@ pub record HasTreeRecovered (setup : Setup) (old new : Rest) (before after : ℕ
   pub places : IsRestAnchored setup old → KeepsRestPlaces setup old new answer
 
 -- the group was finished, and lines were read
-pub record IsReadFinished (old new : Device) : Type 0 where
+pub record IsReadFinished (g : Shape) (old new : Device) : Type 0 where
+  pub reads : RisesBy (tree_slots g) old.reads new.reads
   pub lines : new.lines ≡ redone_told old.regs.group.items old.lines
   pub regs : new.regs ≡ without_group old.regs
   pub size : new.size ≡ old.size
@@ -198,7 +228,7 @@ IsNameable g (Some named) = (named.x < meta_lines g) × (total named.node < 2 ^ 
 
 -- the true slot lines were read, and each node that they name is in its slot
 pub record IsRoomFilled (setup : Setup) (old new : Rest) (before after : ℕ) (cache : List (Option CachedNode)) (tree : ChipTree) : Type 0 where
-  pub finished : IsReadFinished old.device new.device
+  pub finished : IsReadFinished setup.shape old.device new.device
   pub accepted : AreSlotsAccepted setup old new
   pub counted : after ≡ risen_times (shadow_digests setup.shape) before
   pub count : length cache ≡ tree_slots setup.shape

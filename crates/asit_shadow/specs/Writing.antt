@@ -18,11 +18,11 @@ use Rattle.counter_tree.specs.Shadow.{ChipTree, IsShadowTree, root_of}
 use Rattle.counter_tree.specs.Watch.{WatchState, IsLineSeal}
 use Rattle.asit_shadow.specs.declared.cache.CachedNode.{CachedNode}
 use Rattle.asit_shadow.specs.State.{IsCachedAs, IsHeldNode}
-use Rattle.asit_shadow.specs.Paths.{line_path, tag_only}
+use Rattle.asit_shadow.specs.Paths.{line_path, path_node, tag_only}
 use Rattle.asit_shadow.specs.declared.fault.TreeFault.{TreeFault}
 use Rattle.asit_shadow.specs.Parts.{Parts, AreTrusted, AreSound, IsBoardReady, IsWatchReady}
 use Rattle.asit_shadow.specs.Calls.{AnswersWrite, CallEffect, IsDownAnswer, IsRefusal, IsUnrefused, IsWriteAnswer, KeepsWatch, StepsOfWrite, outcome_of}
-use Rattle.asit_shadow.specs.Fetching.{path_node}
+use Rattle.asit_shadow.specs.Work.{WorksOfWrite}
 
 -- a list with each value set at its place, in order
 abbrev pub set_pairs : {X : Type 0} → List (ℕ × X) → List X → List X
@@ -112,6 +112,7 @@ pub record HasWrittenUp (setup : Setup) (a : ℕ) (plain : Line) (old new : Part
   pub down : new.engine.down ≡ old.engine.down
   pub effect : CallEffect setup (outcome_of answer) old new
   pub steps : StepsOfWrite setup.shape answer old.device new.device
+  pub work : WorksOfWrite setup a old new answer
   pub answered : AreTrusted setup old → AnswersWrite setup a plain old new answer
   pub unrefused : AreSound setup old → IsUnrefused answer
   pub watch : IsRefusal answer → KeepsWatch (outcome_of answer) old.watch new.watch

@@ -29,6 +29,7 @@ impl TreeEngine {
             (parts_of self.new (B.device board.new) (W.watched watch.new)) result }
         ensures usable { IsUsable self.old.shape (parts_of self.new (B.device board.new) (W.watched watch.new)) }
         ensures keys { S.keys suite.new ≡ S.keys suite.old }
+        ensures digests { S.digests suite.new ≡ S.digests suite.old }
         ensures shape { self.new.shape ≡ self.old.shape }
     {
         if self.is_down() {
@@ -89,6 +90,7 @@ impl TreeEngine {
             (parts_of self.new (B.device board.new) (W.watched watch.new)) result }
         ensures down { self.new.down ≡ self.old.down }
         ensures keys { S.keys suite.new ≡ S.keys suite.old }
+        ensures digests { S.digests suite.new ≡ S.digests suite.old }
     {
         self.is_whole();
         let node = match self.fetch(board, suite, watch, at) {

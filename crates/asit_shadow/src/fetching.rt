@@ -1,12 +1,13 @@
 //! The path of a data line: fetched from the top down, each node under the version that its parent has
 //! for it.
-ghost use Rattle.std.specs.Prelude.{◌≡◌, ◌<◌, length, IfOk, IfErr, OnOk, OnErr, IfSome, IfNone};
+ghost use Rattle.std.specs.Prelude.{◌≡◌, ◌<◌, true, length, IfOk, IfErr, OnOk, OnErr, IfSome, IfNone};
 ghost use Rattle.pmem_base.specs.Geo.{shape_of};
 ghost use Rattle.pmem_base.specs.Layout.{meta_lines};
 ghost use Rattle.board.specs.Steps.{WasCut};
 ghost use Rattle.counter_tree.specs.Layout.{tree_lines, tree_slots, tree_size};
 ghost use Rattle.asit_shadow.specs.State.{cache_at, IsCached, IsCachedAs};
 ghost use Rattle.asit_shadow.specs.Parts.{parts_of, IsUsable};
+ghost use Rattle.asit_shadow.specs.Work.{holds_dirty};
 ghost use Rattle.asit_shadow.specs.Fetching.{IsRoomMade, IsNodeTaken, IsNodeHad, IsNodeMissed, IsPathFetched, IsFetchStopped};
 
 use crate::cache::CachedNode;
@@ -37,6 +38,7 @@ impl TreeEngine {
             (parts_of self.old (B.device board.old) (W.watched watch.old))
             (parts_of self.new (B.device board.new) (W.watched watch.new))) }
         ensures keys { S.keys suite.new ≡ S.keys suite.old }
+        ensures digests { S.digests suite.new ≡ S.digests suite.old }
     {
         let geo = self.geo();
         let path = path(&geo, at / 4);
@@ -73,6 +75,7 @@ impl TreeEngine {
             (parts_of self.old (B.device board.old) (W.watched watch.old))
             (parts_of self.new (B.device board.new) (W.watched watch.new))) }
         ensures keys { S.keys suite.new ≡ S.keys suite.old }
+        ensures digests { S.digests suite.new ≡ S.digests suite.old }
     {
         self.is_whole();
         if let Some(node) = self.cached(x) {
@@ -114,7 +117,9 @@ impl TreeEngine {
         ensures ok { OnOk result (IsRoomMade (record { shape = self.now.shape; formulas = S.formulas_of (S.keys suite.old) })
             (cache_at self.now.cache i) (B.device board.old) (B.device board.new)) }
         ensures cut { OnErr result (WasCut (B.device board.old) (B.device board.new)) }
+        ensures due { OnErr result (holds_dirty (cache_at self.now.cache i) ≡ true) }
         ensures keys { S.keys suite.new ≡ S.keys suite.old }
+        ensures digests { S.digests suite.new ≡ S.digests suite.old }
     {
         self.is_whole();
         let geo = self.geo();
@@ -145,6 +150,7 @@ fn taken<B: Board, S: Suite, W: Watch>(
     ensures taken { IsNodeTaken (record { shape = shape_of geo.now; formulas = S.formulas_of (S.keys suite.old) }) x version
         (B.device board.old) (B.device board.new) (W.watched watch.old) (W.watched watch.new) result }
     ensures keys { S.keys suite.new ≡ S.keys suite.old }
+    ensures digests { S.digests suite.new ≡ S.digests suite.old }
 {
     match fetch_node(geo, board, suite, watch, x, version) {
         Ok(node) => Ok(node),

@@ -1,5 +1,6 @@
 //! Laws of the cache and its shadow.
 ghost use Rattle.asit_shadow.specs.PlaceLaws.{ArmingKeepsPlaces, WritingKeepsNodes, WritingBackKeepsPlaces, FetchingKeepsPlaces, PowerOffKeepsNodes, RecoveryKeepsNodes, HeldNodesAreRead, StoredLinesAreRead, StoredSlotsAreRead, TamperingKeepsOthers, PlainNodesAreTrue, ArmingIsAWrite, TopCountsWrites};
+ghost use Rattle.asit_shadow.specs.Work.{SpillsAreFew, AbsentAreFew, CachedPathsAreFree};
 ghost use Rattle.asit_shadow.specs.Laws.{SlotsAreInside, PathSlotsAreApart, PathsAreNamed, WritesMakeGroups, ArmingKeepsAnchored, WritingKeepsTrusted, ArmingKeepsDurable, WritingKeepsSound, GroupLinesKeepDurable, InterruptionsKeepDurable, FinishingKeepsDurable, ForgedNodesHold, FetchingKeepsTrusted, SoundNodesAreRead, WritingBackKeepsSound, FetchingKeepsSound, ReadsArePlain, ForgedLinesHold, SoundLinesAreRead, WritesArePlain, WritesAreFresh, ClashesHold, RecoveryIsTrusted, DurableSlotsAreTrue, RecoveryIsSound, FormattingIsSound, PathsAreCached};
 
 /// A law: each node has a slot, and no two nodes of one path have the same.
@@ -37,6 +38,13 @@ pub fn fetches_are_true()
     ensures read { SoundNodesAreRead }
     ensures written { WritingBackKeepsSound }
     ensures sound { FetchingKeepsSound }
+{}
+
+/// A law: how many nodes of a path come in, and how many give way to them.
+pub fn fetches_are_few()
+    ensures spilled { SpillsAreFew }
+    ensures absent { AbsentAreFew }
+    ensures cached { CachedPathsAreFree }
 {}
 
 /// A law: what reads give, and what writes make of memory.

@@ -20,8 +20,8 @@ pub use engine::TreeEngine;
 pub use fault::TreeFault;
 pub use formatting::tree_format;
 pub use laws::{
-    fetches_are_true, formatting_is_sound, groups_are_durable, kept_places_are_read,
-    paths_are_named, places_are_kept, plain_machine_goes_along, reads_are_plain, recovery_restores,
-    slots_are_apart, writes_are_atomic,
+    fetches_are_few, fetches_are_true, formatting_is_sound, groups_are_durable,
+    kept_places_are_read, paths_are_named, places_are_kept, plain_machine_goes_along,
+    reads_are_plain, recovery_restores, slots_are_apart, writes_are_atomic,
 };
 pub use recovery::{TreeRec, tree_recover};

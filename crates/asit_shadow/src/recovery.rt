@@ -1,6 +1,6 @@
 //! Recovery: the armed group is redone, the slot lines are read and compared with the root, and each
 //! named node is put into its slot.
-ghost use Rattle.std.specs.Prelude.{ℕ, ◌≡◌, ◌<◌, ◌^◌, ◌↔◌, true, length, All, IsTrue, IfOk, IfSome, OnOk, OnErr, Some};
+ghost use Rattle.std.specs.Prelude.{ℕ, ◌≡◌, ◌<◌, ◌^◌, ◌↔◌, true, false, length, All, IsTrue, IfOk, IfSome, OnOk, OnErr, Some};
 ghost use Rattle.pmem_base.specs.Geo.{shape_of};
 ghost use Rattle.pmem_base.specs.Lines.{IsLine, line_at};
 ghost use Rattle.board.specs.Steps.{Tells};
@@ -80,6 +80,8 @@ pub fn tree_recover<B: Board, S: Suite, W: Watch>(
     ensures usable { IsRestUsable (shape_of geo.now) (rest_of (B.device board.new) (W.watched watch.new)) }
     ensures shape { IfOk result (λ made. made.0.shape ≡ shape_of geo.now) }
     ensures keys { S.keys suite.new ≡ S.keys suite.old }
+    ensures pads { S.pads suite.new ≡ S.pads suite.old }
+    ensures tags { S.tags suite.new ≡ S.tags suite.old }
 {
     let mut room = take_room(alloc, geo)?;
     geo.layout_is_one_to_one();
@@ -123,6 +125,8 @@ fn fill_room<B: Board, S: Suite, W: Watch>(
         (S.digests suite.old) (S.digests suite.new) cache.new tree.new result }
     ensures usable { IsRestUsable (shape_of geo.now) (rest_of (B.device board.new) (W.watched watch.new)) }
     ensures keys { S.keys suite.new ≡ S.keys suite.old }
+    ensures pads { S.pads suite.new ≡ S.pads suite.old }
+    ensures tags { S.tags suite.new ≡ S.tags suite.old }
 {
     geo.layout_is_one_to_one();
     match finish(board) {
@@ -159,11 +163,12 @@ fn read_slots<B: Board>(geo: &Geo, board: &mut B, slots: &mut [Line]) -> Result<
     requires size { (B.device board.old).size ≡ tree_size (shape_of geo.now) }
     requires slots { length slots.old ≡ tree_slots (shape_of geo.now) }
     requires whole { All IsLine slots.old }
-    ensures ok { OnOk result (HasOnlyRead (B.device board.old) (B.device board.new)) }
+    ensures ok { OnOk result (HasOnlyRead (tree_slots (shape_of geo.now)) (B.device board.old) (B.device board.new)) }
     ensures whole { OnOk result (All IsLine slots.new) }
     ensures told { OnOk result ((i : ℕ) → i < tree_slots (shape_of geo.now)
         → Tells (B.device board.old).lines (line_of_slot (shape_of geo.now) i) (line_at slots.new i)) }
     ensures cut { OnErr result (IsCutReading (B.device board.old) (B.device board.new)) }
+    ensures only_off { OnErr result ((B.device board.old).live ≡ false) }
 {
     'slots: for i in 0..tree_slots(geo) {
         let line = board.read_line(slot_place(geo, i))?;

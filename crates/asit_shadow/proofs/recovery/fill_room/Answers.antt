@@ -3,11 +3,13 @@ use Rattle.std.proofs.Common.{ℕ, suc, ◌≡◌, ◌<◌, ◌≤◌, ◌^◌, 
 use Rattle.std.proofs.lemmas.Bool.{true≢false}
 use Rattle.pmem_base.specs.declared.lines.Line.{Line}
 use Rattle.pmem_base.specs.declared.registers.Regs.{Regs}
+use Rattle.pmem_base.specs.Counts.{risen_times}
 use Rattle.pmem_base.specs.Geo.{shape_of}
+use Rattle.pmem_base.specs.Layout.{level_start}
 use Rattle.suite.specs.Setup.{Setup}
-use Rattle.counter_tree.specs.Shadow.{IsShadowTree, shadow_height, shadow_root}
+use Rattle.counter_tree.specs.Shadow.{IsShadowTree, shadow_digests, shadow_height, shadow_root}
 use Rattle.counter_tree.proofs.ShadowLaws.{shadow_height-room}
-use Rattle.asit_shadow.specs.Recovering.{Rest, rest_of, AreSlotsRead, IsReadFinished}
+use Rattle.asit_shadow.specs.Recovering.{rest_of, AreSlotsRead, IsReadFinished}
 use Rattle.asit_shadow.proofs.RecoverEnds.{read_finished, slots-read, root-is, refused_end, shown_end}
 use Rattle.asit_shadow.proofs.recovery.fill_room.Given.{Over}
 use Rattle.asit_shadow.proofs.recovery.fill_room.Goals.{After-regs}
@@ -23,9 +25,9 @@ module _ (g : Over) (c : After-regs g) where
   setup : Setup
   setup = record { shape = shape_of c.args.geo.now; formulas = g.S.Suite.formulas_of (g.S.Suite.keys c.args.suite.now) }
 
-  finished : IsReadFinished (g.B.Board.device c.args.board.now) (g.B.Board.device c.read_slots.new.board)
+  finished : IsReadFinished (shape_of c.args.geo.now) (g.B.Board.device c.args.board.now) (g.B.Board.device c.read_slots.new.board)
   finished =
-      read_finished (g.B.Board.device c.args.board.now) (g.B.Board.device c.finish.new.board) (g.B.Board.device c.read_slots.new.board)
+      read_finished (shape_of c.args.geo.now) (g.B.Board.device c.args.board.now) (g.B.Board.device c.finish.new.board) (g.B.Board.device c.read_slots.new.board)
       c.in-Ok.ensures.ok c.in-Ok-read_slots.ensures.ok
 
   read : AreSlotsRead (shape_of c.args.geo.now) c.read_slots.new.slots (g.B.Board.device c.read_slots.new.board)
@@ -41,6 +43,11 @@ module _ (g : Over) (c : After-regs g) where
   kept : c.regs.result.now.root ≡ (g.B.Board.device c.read_slots.new.board).regs.root
   kept = ap (λ (r : Regs). r.root) c.regs.ensures
 
+  counted : g.S.Suite.digests c.fill-found.new.suite ≡ risen_times (shadow_digests (shape_of c.args.geo.now)) (g.S.Suite.digests c.args.suite.now)
+  counted =
+      subst (λ h. g.S.Suite.digests c.fill-found.new.suite ≡ risen_times (level_start (suc h)) (g.S.Suite.digests c.args.suite.now)) c.requires.height
+      c.fill-found.ensures.digests
+
 pub returns-then-not-is_kept-clause-filled : goal.returns-then-not-is_kept-clause-filled
 unfolding setup
 returns-then-not-is_kept-clause-filled g c =
@@ -48,7 +55,7 @@ returns-then-not-is_kept-clause-filled g c =
     refused_end (setup g before) c.regs.result.now.root c.fill-found.result c.read_slots.new.slots
     (rest_of (g.B.Board.device c.args.board.now) (g.W.Watch.watched c.args.watch.now)) (rest_of (g.B.Board.device c.read_slots.new.board) (g.W.Watch.watched c.args.watch.now))
     (g.S.Suite.digests c.args.suite.now) (g.S.Suite.digests c.fill-found.new.suite) (finished g before) (read g before) (kept g before) (root g before)
-    (λ same. true≢false (sym (c.is_kept.ensures.1 same) ∙ c.if-not-is_kept.true)) refl
+    (λ same. true≢false (sym (c.is_kept.ensures.1 same) ∙ c.if-not-is_kept.true)) refl (counted g before)
 
 pub returns-in-Stop-clause-filled : goal.returns-in-Stop-clause-filled
 unfolding setup
@@ -58,7 +65,7 @@ returns-in-Stop-clause-filled g c =
     shown_end (setup g before) c.read_slots.new.slots c.in-Stop.ensures.1.0
     (rest_of (g.B.Board.device c.args.board.now) (g.W.Watch.watched c.args.watch.now)) (rest_of (g.B.Board.device c.read_slots.new.board) (g.W.Watch.watched c.see_slots.new.self))
     (g.S.Suite.digests c.args.suite.now) (g.S.Suite.digests c.fill-found.new.suite) c.layout_is_one_to_one.ensures.ranges (g.met.S.Suite.in_range c.args.suite.now)
-    (finished g before) (read g before) (sym (root g before) ∙ (sym same ∙ kept g before)) c.in-Stop.ensures.0 c.in-Stop.ensures.1.1 c.in-Stop.ensures.1.2
+    (finished g before) (read g before) (sym (root g before) ∙ (sym same ∙ kept g before)) c.in-Stop.ensures.0 c.in-Stop.ensures.1.1 c.in-Stop.ensures.1.2 (counted g before)
 
 pub returns-clause-filled : goal.returns-clause-filled
 returns-clause-filled g c =
@@ -75,7 +82,7 @@ returns-clause-filled g c =
             true_slots = c.in-On.ensures.0;
             same = c.in-On.ensures.1;
           };
-      counted = subst (λ h. g.S.Suite.digests c.fill-found.new.suite ≡ Rattle.pmem_base.specs.Counts.risen_times (Rattle.pmem_base.specs.Layout.level_start (suc h)) (g.S.Suite.digests c.args.suite.now)) c.requires.height c.fill-found.ensures.digests;
+      counted = counted g before;
       count = c.put_named.auto.cache ∙ c.requires.cache;
       each_held = c.put_named.ensures.held;
       named =

@@ -11,7 +11,7 @@ use Rattle.asit_shadow.proofs.recovery.read_slots.Given as goal
 abbrev pub invariant-slots : goal.invariant-slots
 invariant-slots g l =
     record {
-      read : HasOnlyRead (g.B.Board.device l.fn.board) (g.B.Board.device l.board);
+      read : HasOnlyRead l.i (g.B.Board.device l.fn.board) (g.B.Board.device l.board);
       whole : All IsLine l.slots;
       told :
           (j : ℕ) → j < l.i

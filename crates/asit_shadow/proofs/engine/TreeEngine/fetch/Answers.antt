@@ -40,6 +40,7 @@ levels-init g c =
           last-start (under g c.args.self.now c.args.suite.now) c.args.at c.top-node.result (at g c.args.self.now c.args.board.now c.args.watch.now) ready
           c.top-node.ensures.value trusted;
       keys = refl;
+      digests = refl;
     }
 
 -- ---- before a level
@@ -117,6 +118,7 @@ levels-preserved g c =
           (had-in (under g c.args.self.now c.args.suite.now) c.args.at c.levels.level (slice_index c.as_slice.result.now (c.from.result + 1)) (slice_index c.levels.node.0 c.from-in-levels.result) c.in-Ok.node
           (at g c.args.self.now c.args.board.now c.args.watch.now) (at g c.levels.self c.levels.board c.levels.watch) (at g c.node_of.new.self c.node_of.new.board c.node_of.new.watch) its had);
       keys = c.in-Ok.ensures.keys ∙ c.levels.invariant.keys;
+      digests = c.in-Ok.ensures.digests ∙ c.levels.invariant.digests;
     }
 
 pub returns-clause-fetched : goal.returns-clause-fetched

@@ -19,4 +19,5 @@ invariant-levels g l =
           (parts_of l.self (g.B.Board.device l.board) (g.W.Watch.watched l.watch))
           → IsCachedAs l.fn.self.shape l.self.cache (slice_index (line_path l.fn.self.shape l.fn.at) l.level) l.node;
       keys : g.S.Suite.keys l.suite ≡ g.S.Suite.keys l.fn.suite;
+      digests : g.S.Suite.digests l.suite ≡ g.S.Suite.digests l.fn.suite;
     }

@@ -7,7 +7,7 @@ use Rattle.bonsai_tree.specs.Positions.{child_slot, path_of}
 use Rattle.bonsai_tree.proofs.PathPositions.{path_of-on_path}
 use Rattle.counter_tree.specs.declared.nodes.Node.{Node}
 use Rattle.counter_tree.specs.Trees.{raised}
-use Rattle.asit_shadow.specs.Fetching.{path_node}
+use Rattle.asit_shadow.specs.Paths.{path_node}
 use Rattle.asit_shadow.specs.Writing.{position_below, IsRaisedTo}
 use Rattle.asit_shadow.proofs.SlotPlaces.{on_path-inside}
 use Rattle.asit_shadow.proofs.RaisedPaths.{raised-none, raised-more, raised-all, node-raised, below-low}

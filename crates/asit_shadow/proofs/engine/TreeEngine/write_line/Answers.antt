@@ -158,6 +158,8 @@ module _ (g : Over) (c : After-next_regs-regs g) where
         whole = subst (λ n. AreToldLines n (g.B.Board.device c.fetch.new.board).lines) (c.in-Ok.ensures.fetched.path.effect.size ∙ c.requires.usable.board.its_size) (g.met.B.Board.whole c.fetch.new.board);
         node = c.in-Ok.field-0;
         fetched = c.in-Ok.ensures.fetched;
+        ready = c.requires.usable.watch;
+        slots = c.is_whole-2.ensures.engine.slot_count ∙ ap tree_slots shape;
         unspent = unspent;
         made = made;
         latched = latched;
@@ -212,7 +214,7 @@ pub returns-in-Err-arm-clause-written : goal.returns-in-Err-arm-clause-written
 returns-in-Err-arm-clause-written g c =
     let before = (goal.at.returns-in-Err-arm-clause-written g c).After-is_used_up in
     write-lost (under g c.args.self.now c.args.suite.now) c.args.at c.args.line.now (at g c.args.self.now c.args.board.now c.args.watch.now) (at g c.fetch.new.self c.fetch.new.board c.fetch.new.watch) (at g c.next_regs-regs.new.self c.arm.new.board c.fetch.new.watch) c.in-Ok.field-0
-    (unused g before c.if-is_used_up.false) c.in-Ok.ensures.fetched c.next_regs-regs.ensures.shape c.next_regs-regs.ensures.down c.in-Err-arm.ensures.cut refl
+    (unused g before c.if-is_used_up.false) c.in-Ok.ensures.fetched c.next_regs-regs.ensures.shape c.next_regs-regs.ensures.cache c.next_regs-regs.ensures.down c.in-Err-arm.ensures.cut refl
 
 pub returns-in-Err-finish-clause-written : goal.returns-in-Err-finish-clause-written
 returns-in-Err-finish-clause-written g c =

@@ -1,0 +1,78 @@
+-- What a write that was armed did, exactly.
+use Rattle.std.proofs.Common.{ℕ, ◌≡◌, ◌≢◌, ◌<◌, List, length, true, false, Some, None, sym, ap, subst, ◌∙◌, arith}
+use Rattle.std.specs.Prelude.{Option, slice_index_or}
+use Rattle.std.proofs.lemmas.Bool.{false≢true}
+use Rattle.std.proofs.lemmas.List.{get_or-set_same}
+use Rattle.pmem_base.specs.declared.lines.Line.{Line}
+use Rattle.pmem_base.specs.declared.registers.Regs.{Regs}
+use Rattle.pmem_base.specs.Shape.{Shape, IsShape}
+use Rattle.suite.specs.Setup.{Setup}
+use Rattle.board.specs.Counts.{RisesBy}
+use Rattle.commit_regs.specs.Groups.{redone_told}
+use Rattle.counter_tree.specs.declared.nodes.Node.{Node}
+use Rattle.counter_tree.specs.declared.watch.LineSeal.{LineSeal}
+use Rattle.counter_tree.specs.Layout.{tree_lines, tree_slots}
+use Rattle.counter_tree.specs.Watch.{WatchState}
+use Rattle.asit_shadow.specs.declared.cache.CachedNode.{CachedNode}
+use Rattle.asit_shadow.specs.Parts.{Parts, IsWatchReady, lines_redone}
+use Rattle.asit_shadow.specs.Paths.{is_path_slot, write_group, HasPathCached}
+use Rattle.asit_shadow.specs.Work.{absent_count, HasSlotsFetched, HasArmedPath}
+use Rattle.asit_shadow.specs.Fetching.{IsPathFetchedTo}
+use Rattle.asit_shadow.specs.Writing.{IsWriteMade}
+use Rattle.asit_shadow.proofs.SlotPlaces.{path_slot-of}
+use Rattle.asit_shadow.proofs.SetLaws.{cache_with-HasPathCached}
+use Rattle.asit_shadow.proofs.PairSets.{IsPairing, pairs-are, lines-are, cache-is}
+
+-- the path's slots are all set, so it doesn't matter what was fetched into them
+cached-over : (g : Shape) (nodes after : List Node) (a n : ℕ) (old mid new : List (Option CachedNode)) → HasSlotsFetched g nodes a n old mid → HasPathCached g a after mid new → HasPathCached g a after old new
+cached-over g nodes after a n old mid new fetched it =
+    record {
+      count = it.count ∙ fetched.count;
+      on_path = it.on_path;
+      others =
+          λ i off.
+          it.others i off
+          ∙ fetched.elsewhere i
+          (λ x on low high same. false≢true (sym off ∙ (ap (is_path_slot g a) same ∙ path_slot-of g a x on)));
+    }
+
+-- what is known of it
+pub record IsArmedOver (setup : Setup) (a : ℕ) (plain : Line) (seal : LineSeal) (pairs : List (ℕ × Node)) (regs : Regs) (old mid new : Parts) : Type 0 where
+  pub shape : IsShape setup.shape
+  pub inside : a < tree_lines setup.shape
+  pub ready : IsWatchReady setup.shape old.watch
+  pub slots : length mid.engine.cache ≡ tree_slots setup.shape
+  pub path : IsPathFetchedTo setup a setup.shape.levels old mid
+  pub made : IsWriteMade setup a plain seal pairs regs mid new
+
+pairing : (setup : Setup) (a : ℕ) (plain : Line) (seal : LineSeal) (pairs : List (ℕ × Node)) (regs : Regs) (old mid new : Parts) → IsArmedOver setup a plain seal pairs regs old mid new → IsPairing setup.shape a pairs new.watch.nodes
+pairing setup a plain seal pairs regs old mid new it =
+    subst (IsPairing setup.shape a pairs) (sym it.made.told.nodes)
+    (pairs-are setup.shape a pairs mid.watch.nodes it.shape it.inside it.made.raised.positions
+    (ap (λ (w : WatchState). length w.nodes) it.path.watch ∙ it.ready.node_count))
+
+pub armed-group : (setup : Setup) (a : ℕ) (plain : Line) (seal : LineSeal) (pairs : List (ℕ × Node)) (regs : Regs) (old mid new : Parts) → IsArmedOver setup a plain seal pairs regs old mid new → regs.group.items ≡ write_group setup.shape a seal new.watch.nodes
+armed-group setup a plain seal pairs regs old mid new it =
+    it.made.group ∙ lines-are setup.shape a seal pairs new.watch.nodes (pairing setup a plain seal pairs regs old mid new it)
+
+pub armed-path : (setup : Setup) (a latches : ℕ) (plain : Line) (seal : LineSeal) (pairs : List (ℕ × Node)) (regs : Regs) (old mid new : Parts) → IsArmedOver setup a plain seal pairs regs old mid new → lines_redone new ≡ redone_told regs.group.items mid.device.lines
+    → RisesBy latches old.device.latches new.device.latches → new.device.reads ≡ mid.device.reads → HasArmedPath setup a latches seal old new
+armed-path setup a latches plain seal pairs regs old mid new it lines latched reads =
+    let mine = pairing setup a plain seal pairs regs old mid new it in
+    record {
+      last =
+          ap (λ (seals : List (Option LineSeal)). slice_index_or seals a None) it.made.told.seals
+          ∙ get_or-set_same mid.watch.seals a (Some seal) None
+          (omega (arith, it.inside, ap (λ (w : WatchState). length w.seals) it.path.watch, it.ready.seal_count));
+      cache =
+          cached-over setup.shape old.watch.nodes new.watch.nodes a setup.shape.levels old.engine.cache mid.engine.cache new.engine.cache it.path.done.cache
+          (subst (HasPathCached setup.shape a new.watch.nodes mid.engine.cache) (sym (it.made.cache ∙ cache-is setup.shape a pairs new.watch.nodes mid.engine.cache mine))
+          (cache_with-HasPathCached setup.shape a new.watch.nodes mid.engine.cache it.shape it.inside it.slots));
+      lines =
+          lines
+          ∙ (ap (λ (group : List (ℕ × Line)). redone_told group mid.device.lines) (armed-group setup a plain seal pairs regs old mid new it)
+          ∙ ap (redone_told (write_group setup.shape a seal new.watch.nodes)) it.path.done.lines);
+      latched = latched;
+      reads =
+          subst (RisesBy (absent_count setup.shape old.engine.cache a setup.shape.levels) old.device.reads) (sym reads) it.path.reads;
+    }

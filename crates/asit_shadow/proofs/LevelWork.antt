@@ -1,0 +1,335 @@
+-- What the levels fetched so far did, exactly, and what the next one does.
+use Rattle.std.proofs.Common.{ℕ, zero, suc, ◌≡◌, ◌≢◌, ◌<◌, ◌≤◌, ◌+◌, ◌/◌, ◌⊎◌, Bool, true, false, List, [], ◌∷◌, ◌++◌, append-nil, length, Some, None, refl, sym, ap, subst, inl, inr, ◌∙◌, arith}
+use Rattle.std.specs.Prelude.{Option}
+use Rattle.std.proofs.lemmas.Bool.{cases_Bool, cases_eq, cond-true, cond-false, eq-eqb, ne_eqb}
+use Rattle.std.proofs.lemmas.List.{length-append, length-set, get_or-set_same, get_or-set_other}
+use Rattle.pmem_base.specs.declared.lines.Line.{Line}
+use Rattle.pmem_base.specs.Shape.{Shape, IsShape}
+use Rattle.suite.specs.Setup.{Setup}
+use Rattle.board.specs.Counts.{RisesBy}
+use Rattle.board.specs.Device.{Device}
+use Rattle.board.specs.Steps.{with_line}
+use Rattle.board.proofs.CountLemmas.{RisesBy-then}
+use Rattle.bonsai_tree.specs.Positions.{level_of}
+use Rattle.bonsai_tree.proofs.PathPositions.{on_path-level, path_of-on_path, path_of-level}
+use Rattle.commit_regs.specs.Groups.{redone_told}
+use Rattle.commit_regs.proofs.GroupLemmas.{redone-cons, redone-nil}
+use Rattle.meta_path.proofs.WorkLemmas.{redone_told-append}
+use Rattle.counter_tree.specs.declared.nodes.Node.{Node}
+use Rattle.counter_tree.specs.Nodes.{node_line}
+use Rattle.counter_tree.specs.Layout.{tree_lines, line_of_node}
+use Rattle.counter_tree.specs.Trees.{node_at, is_on_line_path}
+use Rattle.counter_tree.specs.Slots.{slot_of}
+use Rattle.counter_tree.specs.Watch.{WatchState}
+use Rattle.asit_shadow.specs.declared.cache.CachedNode.{CachedNode}
+use Rattle.asit_shadow.specs.State.{cache_at, IsCached}
+use Rattle.asit_shadow.specs.Parts.{Parts}
+use Rattle.asit_shadow.specs.Paths.{path_node, IsPathCached}
+use Rattle.asit_shadow.specs.Fetching.{WritesWhere, IsRoomMade, IsNodeFound}
+use Rattle.asit_shadow.specs.Work.{holds_node, is_cached, write_back, level_write, level_reads, slot_fetched, spilled, absent_count, HasSlotsFetched, HasFetchedLevels}
+use Rattle.asit_shadow.proofs.SlotPlaces.{page_of_line, path_slots-apart}
+
+-- ---- positions
+
+pub next-on_path : (g : Shape) (a j x : ℕ) → j < g.levels → x ≡ path_node g a (suc j) → is_on_line_path g a x ≡ true
+next-on_path g a j x inside place =
+    subst (λ z. is_on_line_path g a z ≡ true) (sym place) (path_of-on_path g (a / 4) (suc j) (omega (arith, inside)))
+
+pub next-level : (g : Shape) (a j x : ℕ) → IsShape g → a < tree_lines g → j < g.levels → x ≡ path_node g a (suc j) → level_of x ≡ suc j
+next-level g a j x shape in_a inside place =
+    ap level_of place ∙ path_of-level g (a / 4) (suc j) shape.at_most_six_levels (page_of_line g a in_a) (omega (arith, inside))
+
+-- a node of the path at its level is the next one
+pub at_level : (g : Shape) (a j x y : ℕ) → IsShape g → a < tree_lines g → x ≡ path_node g a (suc j) → is_on_line_path g a y ≡ true → level_of y ≡ suc j → y ≡ x
+at_level g a j x y shape in_a place on level =
+    let its = on_path-level g (a / 4) y shape.at_most_six_levels (page_of_line g a in_a) on in
+    sym its.1 ∙ (ap (path_node g a) level ∙ sym place)
+
+-- a level is one before, or the next
+pub up_to : (n j : ℕ) → n ≤ suc j → (n ≤ j) ⊎ (n ≡ suc j)
+up_to n j most = elim (cases_eq n (suc j)) [ inl same ↦ inr same | inr other ↦ inl (omega (arith, most, other)) ]
+
+-- ---- whether a node is cached
+
+pub is_cached-true : (g : Shape) (cache : List (Option CachedNode)) (x : ℕ) → IsCached g cache x → is_cached g cache x ≡ true
+is_cached-true g cache x it =
+    ap (λ (slot : Option CachedNode). holds_node slot x) it.stands ∙ eq-eqb it.held.x x it.position
+
+pub is_cached-false : (g : Shape) (cache : List (Option CachedNode)) (x : ℕ) → (IsCached g cache x → ⊥) → is_cached g cache x ≡ false
+is_cached-false g cache x none = of (cache_at cache (slot_of g x)) refl
+  where
+    of : (slot : Option CachedNode) → cache_at cache (slot_of g x) ≡ slot → holds_node slot x ≡ false
+    of None stands = refl
+    of (Some held) stands = ne_eqb held.x x (λ e. none (record { held = held; stands = stands; position = e }))
+
+-- ---- room is made
+
+no_rise : (n : ℕ) → RisesBy 0 n n
+no_rise n = record { never_falls = omega arith; exact = λ _. omega arith }
+
+pub record IsRoomWritten (setup : Setup) (slot : Option CachedNode) (old new : Device) : Type 0 where
+  pub lines : new.lines ≡ redone_told (write_back setup slot) old.lines
+  pub writes : RisesBy (length (write_back setup slot)) old.writes new.writes
+  pub reads : new.reads ≡ old.reads
+
+room_still : (setup : Setup) (slot : Option CachedNode) (old new : Device) → write_back setup slot ≡ [] → new ≡ old → IsRoomWritten setup slot old new
+room_still setup slot old new none same =
+    subst (IsRoomWritten setup slot old) (sym same)
+    (record {
+      lines = sym (ap (λ (group : List (ℕ × Line)). redone_told group old.lines) none ∙ redone-nil old.lines);
+      writes =
+          subst (λ (group : List (ℕ × Line)). RisesBy (length group) old.writes old.writes) (sym none)
+          (no_rise old.writes);
+      reads = refl;
+    })
+
+room_where : (setup : Setup) (held : CachedNode) (dirty : Bool) (old new : Device) → held.dirty ≡ dirty → WritesWhere dirty old (line_of_node setup.shape held.x) (node_line setup.formulas held.x held.node) new → IsRoomWritten setup (Some held) old new
+room_where setup held true old new is made =
+    let one : write_back setup (Some held) ≡ (line_of_node setup.shape held.x, node_line setup.formulas held.x held.node) ∷ [] =
+    cond-true held.dirty ((line_of_node setup.shape held.x, node_line setup.formulas held.x held.node) ∷ []) [] is in
+    record {
+      lines =
+          made.lines
+          ∙ (sym (redone-cons (line_of_node setup.shape held.x, node_line setup.formulas held.x held.node) [] old.lines
+          ∙ redone-nil (with_line old.lines (line_of_node setup.shape held.x) (node_line setup.formulas held.x held.node)))
+          ∙ ap (λ (group : List (ℕ × Line)). redone_told group old.lines) (sym one));
+      writes = subst (λ (group : List (ℕ × Line)). RisesBy (length group) old.writes new.writes) (sym one) made.writes;
+      reads = made.reads;
+    }
+room_where setup held false old new is made =
+    room_still setup (Some held) old new
+    (cond-false held.dirty ((line_of_node setup.shape held.x, node_line setup.formulas held.x held.node) ∷ []) [] is) made
+
+pub room-written : (setup : Setup) (slot : Option CachedNode) (old new : Device) → IsRoomMade setup slot old new → IsRoomWritten setup slot old new
+room-written setup None old new made = room_still setup None old new refl made
+room-written setup (Some held) old new made = room_where setup held held.dirty old new refl made
+
+-- ---- the levels so far
+
+pub record IsNextWork (setup : Setup) (a j x : ℕ) (old now : Parts) : Type 0 where
+  pub shape : IsShape setup.shape
+  pub inside : a < tree_lines setup.shape
+  pub level : j < setup.shape.levels
+  pub place : x ≡ path_node setup.shape a (suc j)
+  pub slot : cache_at now.engine.cache (slot_of setup.shape x) ≡ cache_at old.engine.cache (slot_of setup.shape x)
+  pub watch : now.watch ≡ old.watch
+  pub done : HasFetchedLevels setup a j old now
+  pub reads : RisesBy (absent_count setup.shape old.engine.cache a j) old.device.reads now.device.reads
+
+pub reads-start : (g : Shape) (cache : List (Option CachedNode)) (a n : ℕ) → RisesBy (absent_count g cache a 0) n n
+reads-start g cache a n = no_rise n
+
+pub levels-start : (setup : Setup) (a : ℕ) (old : Parts) → HasFetchedLevels setup a 0 old old
+levels-start setup a old =
+    record {
+      on_path = omega arith;
+      cache =
+          record {
+            count = refl;
+            fetched = λ x on low high. absurd (omega (arith, low, high));
+            elsewhere = λ i apart. refl;
+          };
+      lines = sym (redone-nil old.device.lines);
+      writes = no_rise old.device.writes;
+      latches = refl;
+      regs = refl;
+    }
+
+-- nothing else was written since
+pub levels-kept : (setup : Setup) (a n : ℕ) (old mid new : Parts) → new.engine.cache ≡ mid.engine.cache → new.device.lines ≡ mid.device.lines → new.device.writes ≡ mid.device.writes → new.device.latches ≡ mid.device.latches → new.device.regs ≡ mid.device.regs
+    → HasFetchedLevels setup a n old mid → HasFetchedLevels setup a n old new
+levels-kept setup a n old mid new cache lines writes latches regs it =
+    record {
+      on_path = it.on_path;
+      cache = subst (HasSlotsFetched setup.shape old.watch.nodes a n old.engine.cache) (sym cache) it.cache;
+      lines = lines ∙ it.lines;
+      writes = subst (RisesBy (length (spilled setup old.engine.cache a n)) old.device.writes) (sym writes) it.writes;
+      latches = latches ∙ it.latches;
+      regs = regs ∙ it.regs;
+    }
+
+-- ---- the next level was cached
+
+spilled-cached : (setup : Setup) (cache : List (Option CachedNode)) (a j x : ℕ) → x ≡ path_node setup.shape a (suc j) → is_cached setup.shape cache x ≡ true → spilled setup cache a (suc j) ≡ spilled setup cache a j
+spilled-cached setup cache a j x place is =
+    ap (λ z. spilled setup cache a j ++ level_write setup cache z) (sym place)
+    ∙ (ap (λ (rest : List (ℕ × Line)). spilled setup cache a j ++ rest) (cond-true (is_cached setup.shape cache x) [] (write_back setup (cache_at cache (slot_of setup.shape x))) is)
+    ∙ append-nil (spilled setup cache a j))
+
+absent-cached : (g : Shape) (cache : List (Option CachedNode)) (a j x : ℕ) → x ≡ path_node g a (suc j) → is_cached g cache x ≡ true → absent_count g cache a (suc j) ≡ absent_count g cache a j
+absent-cached g cache a j x place is =
+    let none : level_reads g cache (path_node g a (suc j)) ≡ 0 =
+    ap (level_reads g cache) (sym place) ∙ cond-true (is_cached g cache x) 0 1 is in
+    omega (arith, none)
+
+pub levels-cached : (setup : Setup) (a j x : ℕ) (old now : Parts) → IsNextWork setup a j x old now → is_cached setup.shape old.engine.cache x ≡ true → HasFetchedLevels setup a (suc j) old now
+levels-cached setup a j x old now next is =
+    let same : spilled setup old.engine.cache a (suc j) ≡ spilled setup old.engine.cache a j = spilled-cached setup old.engine.cache a j x next.place is in
+    let before = next.done in
+    record {
+      on_path = omega (arith, next.level);
+      cache =
+          record {
+            count = before.cache.count;
+            fetched =
+                λ y on low high.
+                elim (up_to (level_of y) j high) [
+                  | inl above ↦ before.cache.fetched y on low above
+                  | inr here ↦
+                      subst (λ z. cache_at now.engine.cache (slot_of setup.shape z) ≡ slot_fetched setup.shape old.watch.nodes old.engine.cache z)
+                      (sym (at_level setup.shape a j x y next.shape next.inside next.place on here))
+                      (next.slot
+                      ∙ sym (cond-true (is_cached setup.shape old.engine.cache x) (cache_at old.engine.cache (slot_of setup.shape x)) (Some (record { x = x; node = node_at old.watch.nodes x; dirty = false })) is))
+                ];
+            elsewhere = λ i apart. before.cache.elsewhere i (λ y on low high. apart y on low (omega (arith, high)));
+          };
+      lines = before.lines ∙ ap (λ (group : List (ℕ × Line)). redone_told group old.device.lines) (sym same);
+      writes = subst (λ (group : List (ℕ × Line)). RisesBy (length group) old.device.writes now.device.writes) (sym same) before.writes;
+      latches = before.latches;
+      regs = before.regs;
+    }
+
+pub reads-cached : (setup : Setup) (a j x : ℕ) (old now : Parts) → IsNextWork setup a j x old now → is_cached setup.shape old.engine.cache x ≡ true → RisesBy (absent_count setup.shape old.engine.cache a (suc j)) old.device.reads now.device.reads
+reads-cached setup a j x old now next is =
+    subst (λ n. RisesBy n old.device.reads now.device.reads) (sym (absent-cached setup.shape old.engine.cache a j x next.place is)) next.reads
+
+-- ---- the next level was found
+
+spilled-found : (setup : Setup) (cache : List (Option CachedNode)) (a j x : ℕ) → x ≡ path_node setup.shape a (suc j) → is_cached setup.shape cache x ≡ false
+    → spilled setup cache a (suc j) ≡ spilled setup cache a j ++ write_back setup (cache_at cache (slot_of setup.shape x))
+spilled-found setup cache a j x place is =
+    ap (λ z. spilled setup cache a j ++ level_write setup cache z) (sym place)
+    ∙ ap (λ (rest : List (ℕ × Line)). spilled setup cache a j ++ rest) (cond-false (is_cached setup.shape cache x) [] (write_back setup (cache_at cache (slot_of setup.shape x))) is)
+
+absent-found : (g : Shape) (cache : List (Option CachedNode)) (a j x : ℕ) → x ≡ path_node g a (suc j) → is_cached g cache x ≡ false → absent_count g cache a (suc j) ≡ absent_count g cache a j + 1
+absent-found g cache a j x place is =
+    let one : level_reads g cache (path_node g a (suc j)) ≡ 1 =
+    ap (level_reads g cache) (sym place) ∙ cond-false (is_cached g cache x) 0 1 is in
+    omega (arith, one)
+
+pub levels-found : (setup : Setup) (a j x version : ℕ) (node : Node) (old now new : Parts) → IsNextWork setup a j x old now → is_cached setup.shape old.engine.cache x ≡ false → slot_of setup.shape x < length now.engine.cache → new.device.latches ≡ now.device.latches → new.device.regs ≡ now.device.regs
+    → IsNodeFound setup x version node now new → HasFetchedLevels setup a (suc j) old new
+levels-found setup a j x version node old now new next is room latches regs found =
+    let before = next.done in
+    let on_x = next-on_path setup.shape a j x next.level next.place in
+    let level = next-level setup.shape a j x next.shape next.inside next.level next.place in
+    let made = room-written setup (cache_at now.engine.cache (slot_of setup.shape x)) found.between new.device found.room in
+    let whose : write_back setup (cache_at now.engine.cache (slot_of setup.shape x)) ≡ write_back setup (cache_at old.engine.cache (slot_of setup.shape x)) =
+    ap (write_back setup) next.slot in
+    let all : spilled setup old.engine.cache a (suc j) ≡ spilled setup old.engine.cache a j ++ write_back setup (cache_at old.engine.cache (slot_of setup.shape x)) =
+    spilled-found setup old.engine.cache a j x next.place is in
+    let seen : node ≡ node_at old.watch.nodes x = found.taken.seen ∙ ap (λ (w : WatchState). node_at w.nodes x) next.watch in
+    let other : (i : ℕ) → i ≢ slot_of setup.shape x → cache_at new.engine.cache i ≡ cache_at now.engine.cache i =
+    λ i apart.
+    ap (λ (c : List (Option CachedNode)). cache_at c i) found.cache
+    ∙ get_or-set_other now.engine.cache (slot_of setup.shape x) i (Some (record { x = x; node = node; dirty = false })) None apart in
+    record {
+      on_path = omega (arith, next.level);
+      cache =
+          record {
+            count = ap length found.cache ∙ (length-set now.engine.cache (slot_of setup.shape x) (Some (record { x = x; node = node; dirty = false })) ∙ before.cache.count);
+            fetched =
+                λ y on low high.
+                elim (up_to (level_of y) j high) [
+                  | inl above ↦
+                      other (slot_of setup.shape y)
+                      (λ same. omega (arith, above, level, ap level_of (path_slots-apart setup.shape a y x next.shape next.inside on on_x same)))
+                      ∙ before.cache.fetched y on low above
+                  | inr at ↦
+                      subst (λ z. cache_at new.engine.cache (slot_of setup.shape z) ≡ slot_fetched setup.shape old.watch.nodes old.engine.cache z)
+                      (sym (at_level setup.shape a j x y next.shape next.inside next.place on at))
+                      (ap (λ (c : List (Option CachedNode)). cache_at c (slot_of setup.shape x)) found.cache
+                      ∙ (get_or-set_same now.engine.cache (slot_of setup.shape x) (Some (record { x = x; node = node; dirty = false })) None room
+                      ∙ (ap (λ n. Some (record { x = x; node = n; dirty = false })) seen
+                      ∙ sym (cond-false (is_cached setup.shape old.engine.cache x) (cache_at old.engine.cache (slot_of setup.shape x)) (Some (record { x = x; node = node_at old.watch.nodes x; dirty = false })) is))))
+                ];
+            elsewhere =
+                λ i apart.
+                other i (apart x on_x (omega (arith, level)) (omega (arith, level)))
+                ∙ before.cache.elsewhere i (λ y on low high. apart y on low (omega (arith, high)));
+          };
+      lines =
+          made.lines
+          ∙ (ap (λ (group : List (ℕ × Line)). redone_told group found.between.lines) whose
+          ∙ (ap (λ (told : Option (List Line)). redone_told (write_back setup (cache_at old.engine.cache (slot_of setup.shape x))) told) (found.taken.read.lines ∙ before.lines)
+          ∙ (sym (redone_told-append (spilled setup old.engine.cache a j) (write_back setup (cache_at old.engine.cache (slot_of setup.shape x))) old.device.lines)
+          ∙ ap (λ (group : List (ℕ × Line)). redone_told group old.device.lines) (sym all))));
+      writes =
+          subst (λ n. RisesBy n old.device.writes new.device.writes)
+          (sym (ap length all ∙ length-append (spilled setup old.engine.cache a j) (write_back setup (cache_at old.engine.cache (slot_of setup.shape x)))))
+          (RisesBy-then (length (spilled setup old.engine.cache a j)) (length (write_back setup (cache_at old.engine.cache (slot_of setup.shape x)))) old.device.writes now.device.writes new.device.writes before.writes
+          (subst (λ (group : List (ℕ × Line)). RisesBy (length group) now.device.writes new.device.writes) whose
+          (subst (λ n. RisesBy (length (write_back setup (cache_at now.engine.cache (slot_of setup.shape x)))) n new.device.writes) found.taken.read.writes made.writes)));
+      latches = latches ∙ before.latches;
+      regs = regs ∙ before.regs;
+    }
+
+pub reads-found : (setup : Setup) (a j x version : ℕ) (node : Node) (old now new : Parts) → IsNextWork setup a j x old now → is_cached setup.shape old.engine.cache x ≡ false
+    → IsNodeFound setup x version node now new → RisesBy (absent_count setup.shape old.engine.cache a (suc j)) old.device.reads new.device.reads
+reads-found setup a j x version node old now new next is found =
+    let made = room-written setup (cache_at now.engine.cache (slot_of setup.shape x)) found.between new.device found.room in
+    subst (λ n. RisesBy n old.device.reads new.device.reads) (sym (absent-found setup.shape old.engine.cache a j x next.place is))
+    (RisesBy-then (absent_count setup.shape old.engine.cache a j) 1 old.device.reads now.device.reads new.device.reads next.reads
+    (subst (RisesBy 1 now.device.reads) (sym made.reads) found.taken.read.reads))
+
+-- ---- how much it is at most
+
+write_back-few : (setup : Setup) (slot : Option CachedNode) → length (write_back setup slot) ≤ 1
+write_back-few setup None = omega arith
+write_back-few setup (Some held) =
+    elim (cases_Bool held.dirty) [
+      | inl dirty ↦
+          let one : length (write_back setup (Some held)) ≡ 1 =
+          ap length (cond-true held.dirty ((line_of_node setup.shape held.x, node_line setup.formulas held.x held.node) ∷ []) [] dirty) in
+          omega (arith, one)
+      | inr clean ↦
+          let none : length (write_back setup (Some held)) ≡ 0 =
+          ap length (cond-false held.dirty ((line_of_node setup.shape held.x, node_line setup.formulas held.x held.node) ∷ []) [] clean) in
+          omega (arith, none)
+    ]
+
+level-few : (setup : Setup) (cache : List (Option CachedNode)) (x : ℕ) → length (level_write setup cache x) ≤ level_reads setup.shape cache x
+level-few setup cache x =
+    elim (cases_Bool (is_cached setup.shape cache x)) [
+      | inl was ↦
+          let none : length (level_write setup cache x) ≡ 0 =
+          ap length (cond-true (is_cached setup.shape cache x) [] (write_back setup (cache_at cache (slot_of setup.shape x))) was) in
+          omega (arith, none)
+      | inr absent ↦
+          let back : length (level_write setup cache x) ≡ length (write_back setup (cache_at cache (slot_of setup.shape x))) =
+          ap length (cond-false (is_cached setup.shape cache x) [] (write_back setup (cache_at cache (slot_of setup.shape x))) absent) in
+          let one : level_reads setup.shape cache x ≡ 1 = cond-false (is_cached setup.shape cache x) 0 1 absent in
+          omega (arith, back, one, write_back-few setup (cache_at cache (slot_of setup.shape x)))
+    ]
+
+pub spilled-few : (setup : Setup) (cache : List (Option CachedNode)) (a n : ℕ) → length (spilled setup cache a n) ≤ absent_count setup.shape cache a n
+spilled-few setup cache a zero = omega arith
+spilled-few setup cache a (suc n) =
+    omega (
+      arith,
+      length-append (spilled setup cache a n) (level_write setup cache (path_node setup.shape a (suc n))),
+      spilled-few setup cache a n,
+      level-few setup cache (path_node setup.shape a (suc n)),
+    )
+
+level_reads-few : (g : Shape) (cache : List (Option CachedNode)) (x : ℕ) → level_reads g cache x ≤ 1
+level_reads-few g cache x =
+    elim (cases_Bool (is_cached g cache x)) [
+      | inl was ↦
+          let none : level_reads g cache x ≡ 0 = cond-true (is_cached g cache x) 0 1 was in
+          omega (arith, none)
+      | inr absent ↦
+          let one : level_reads g cache x ≡ 1 = cond-false (is_cached g cache x) 0 1 absent in
+          omega (arith, one)
+    ]
+
+pub absent-few : (g : Shape) (cache : List (Option CachedNode)) (a n : ℕ) → absent_count g cache a n ≤ n
+absent-few g cache a zero = omega arith
+absent-few g cache a (suc n) = omega (arith, absent-few g cache a n, level_reads-few g cache (path_node g a (suc n)))
+
+pub absent-none : (g : Shape) (cache : List (Option CachedNode)) (a n : ℕ) → n ≤ g.levels → IsPathCached g a cache → absent_count g cache a n ≡ 0
+absent-none g cache a zero within cached = refl
+absent-none g cache a (suc n) within cached =
+    let here = is_cached-true g cache (path_node g a (suc n)) (cached.each (path_node g a (suc n)) (path_of-on_path g (a / 4) (suc n) within)) in
+    let none : level_reads g cache (path_node g a (suc n)) ≡ 0 = cond-true (is_cached g cache (path_node g a (suc n))) 0 1 here in
+    omega (arith, none, absent-none g cache a n (omega (arith, within)) cached)
