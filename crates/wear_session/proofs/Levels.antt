@@ -1,0 +1,42 @@
+-- Lines that are levelled tell the wear that they record and the logical lines that they hold.
+use Rattle.std.proofs.Common.{ℕ, ◌≡◌, ◌<◌, List, length, Option, sym, ap, subst₂, ◌∙◌, arith, zero-add}
+use Rattle.std.specs.Prelude.{map, unwrap_or}
+use Rattle.std.specs.List.{range_with_len}
+use Rattle.std.proofs.lemmas.List.{ext_get_or}
+use Rattle.std.proofs.lemmas.List.FromFn.{length-map-range_with_len, get_or-map-range_with_len}
+use Rattle.pmem_base.specs.declared.lines.Line.{Line}
+use Rattle.pmem_base.specs.Lines.{line_at, zero_line}
+use Rattle.suite.specs.Setup.{Setup}
+use Rattle.plain_model.specs.View.{plain_memory}
+use Rattle.plain_model.proofs.PlainMemory.{memory_is}
+use Rattle.pmem_engine.specs.Parts.{Parts}
+use Rattle.start_gap.specs.declared.wear.Wear.{Wear}
+use Rattle.start_gap.specs.Wear.{place_of, first_wear}
+use Rattle.start_gap.specs.Logical.{IsLevelled}
+use Rattle.start_gap.specs.Gapped.{HasLines, logical_lines}
+use Rattle.wear_session.specs.World.{wear_in, logical_memory}
+
+module _ (setup : Setup) (lines memory : List Line) (wear : Wear) (it : IsLevelled (logical_lines setup.shape) lines wear memory) where
+  pub wear_is : wear_in setup lines ≡ wear
+  wear_is = ap (λ (found : Option Wear). unwrap_or found (first_wear (logical_lines setup.shape))) it.its_record
+
+  pub memory_held : logical_memory setup lines ≡ memory
+  memory_held =
+      let n = logical_lines setup.shape in
+      let count : length (map at (range_with_len 0 n)) ≡ n = length-map-range_with_len at 0 n in
+      ext_get_or zero_line (map at (range_with_len 0 n)) memory (count ∙ sym it.holds.count)
+      (λ a within.
+      let small : a < n = omega (arith, within, count) in
+      get_or-map-range_with_len at 0 n a a zero_line small (zero-add a)
+      ∙ ap (λ w. line_at lines (place_of n w a)) wear_is
+      ∙ it.holds.each a small)
+    where
+      at : ℕ → Line
+      at a = line_at lines (place_of (logical_lines setup.shape) (wear_in setup lines) a)
+
+  pub levelled_is : IsLevelled (logical_lines setup.shape) lines (wear_in setup lines) (logical_memory setup lines)
+  levelled_is = subst₂ (λ w m. IsLevelled (logical_lines setup.shape) lines w m) (sym wear_is) (sym memory_held) it
+
+-- the lines that the marks seal are plain memory
+pub lines_sealed : (setup : Setup) (lines : List Line) (parts : Parts) → HasLines setup lines parts → plain_memory setup parts.ledger.marks ≡ lines
+lines_sealed setup lines parts has = memory_is setup parts.ledger.marks lines (record { count = has.whole.count; each = has.sealed })

@@ -1,0 +1,16 @@
+pub mod Starts
+pub mod Worlds
+pub mod ReadLaws
+pub mod Seen
+pub mod Levels
+pub mod AskedWrites
+pub mod EngineWrites
+pub mod WriteEnds
+pub mod WriteLaws
+pub mod Rooms
+pub mod Written
+pub mod Turns
+pub mod Sessions
+pub mod Twins
+pub mod Opened
+pub mod NewLaws

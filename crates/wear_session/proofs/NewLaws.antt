@@ -1,0 +1,246 @@
+-- A new session: formatting, and the opening of zero lines.
+use Rattle.std.proofs.Common.{ℕ, zero, suc, ◌≡◌, ◌<◌, ◌≤◌, ◌+◌, ◌^◌, ◌++◌, true, List, [], length, replicate, Option, Some, None, Result, Ok, Err, refl, sym, ap, ap₂, subst, ◌∙◌, subst₂, arith, rules}
+use Rattle.std.specs.Prelude.{is_none, ◌&&◌, ◌==◌, if◌then◌else◌}
+use Rattle.std.proofs.lemmas.Option.{none-some}
+use Rattle.std.proofs.Math.Nat.{pow-le-pow_right}
+use Rattle.std.proofs.lemmas.Bool.{true≢false, and_parts}
+use Rattle.std.proofs.lemmas.List.{append-nil, length-replicate, get_or-replicate}
+use Rattle.std.specs.List.{list_any}
+use Rattle.pmem_base.specs.declared.lines.Line.{Line}
+use Rattle.pmem_base.specs.declared.registers.Regs.{Regs}
+use Rattle.pmem_base.specs.declared.answers.Mark.{Mark}
+use Rattle.pmem_base.specs.Layout as layout
+use Rattle.pmem_base.specs.Layout.{page_of}
+use Rattle.pmem_base.specs.Lines.{line_at, zero_line}
+use Rattle.pmem_base.specs.Shape.{Shape, IsShape}
+use Rattle.board.specs.Counts.{RisesBy}
+use Rattle.board.specs.Device.{Device}
+use Rattle.board.specs.Memory.{BoardMemory, device_of}
+use Rattle.meta_cache.specs.declared.slot.Slot.{Slot}
+use Rattle.meta_cache.specs.Banks.{set_index}
+use Rattle.meta_cache.specs.State.{empty_banks}
+use Rattle.meta_path.specs.Blocks.{path_at}
+use Rattle.meta_path.specs.Levels.{room_write}
+use Rattle.meta_path.specs.Fetching.{spilled}
+use Rattle.meta_path.proofs.PathFacts.{set_of-empty_banks}
+use Rattle.seal_ledger.specs.Ledger.{LedgerState}
+use Rattle.suite.specs.Formulas.{AreInRange}
+use Rattle.suite.specs.Setup.{Setup}
+use Rattle.plain_model.specs.View.{IsMemoryOf, plain_memory}
+use Rattle.plain_model.specs.Bounds.{path_length}
+use Rattle.plain_model.proofs.PlainMemory.{memory_is}
+use Rattle.pmem_engine.specs.declared.fault.Fault.TheVariants as Fail
+use Rattle.pmem_engine.specs.Engine.{EngineState}
+use Rattle.pmem_engine.specs.Invariants.{IsSound}
+use Rattle.pmem_engine.specs.Parts.{Parts, parts_of}
+use Rattle.pmem_engine.specs.Outcomes.{going, OneLossEffect}
+use Rattle.pmem_engine.specs.Calls.{HasReadLine}
+use Rattle.pmem_recovery.specs.Formatting.{HasFormatted}
+use Rattle.start_gap.specs.declared.gapped.Gapped.{Gapped}
+use Rattle.start_gap.specs.declared.gapped.GapFault.{GapFault}
+use Rattle.start_gap.specs.declared.gapped.GapFault.TheVariants as Gap
+use Rattle.start_gap.specs.Wear.{first_wear}
+use Rattle.start_gap.specs.Record.{recorded}
+use Rattle.start_gap.specs.Logical.{IsLevelled}
+use Rattle.start_gap.specs.Gapped.{HasOpened, HasReadRecord, logical_lines}
+use Rattle.start_gap.proofs.Levelled.{zero_levelled}
+use Rattle.start_gap.proofs.LevelledCalls.{least_lines}
+use Rattle.wear_session.specs.State.{IsNewWear}
+use Rattle.wear_session.specs.World.{WearParts, IsWearWorld, wear_in, wear_of}
+use Rattle.wear_session.proofs.Levels.{wear_is, memory_held, levelled_is}
+use Rattle.wear_session.proofs.Worlds.{on_of}
+
+-- an empty cache has nothing to write back
+none_to_write : (g : Shape) (page n : ℕ) → spilled g (empty_banks g) page n ≡ []
+none_to_write g page zero = refl
+none_to_write g page (suc n) =
+    ap₂ (λ xs ys. xs ++ ys) (none_to_write g page n)
+    (ap (λ (slots : List Slot). if list_any (λ slot. slot.position == path_at g page n) slots then [] else room_write g slots)
+    (set_of-empty_banks g n (set_index g (path_at g page n)))
+    ∙ nothing)
+  where
+    nothing : room_write g [] ≡ []
+    nothing = search rules
+
+few_lines : (g : Shape) → IsShape g → layout.data_lines g < 2 ^ 30
+few_lines g shape =
+    let pages : 4 ^ g.levels ≤ 4 ^ 6 = pow-le-pow_right (omega arith) shape.at_most_six_levels in
+    omega (arith, pages)
+
+-- what formatting and the opening leave
+pub record NewCall : Type 0 where
+  pub setup : Setup
+  pub whole_shape : IsShape setup.shape
+  pub in_range : AreInRange setup.formulas
+  pub keys : List ℕ
+  pub every : ℕ
+  pub some_every : 1 ≤ every
+  -- the board as it is made
+  pub start : Device
+  pub start_live : start.live ≡ true
+  pub start_writes : start.writes ≡ 0
+  pub start_latches : start.latches ≡ 0
+  pub start_cuts : start.cuts ≡ 0
+  pub middle : BoardMemory
+  pub ledger_middle : LedgerState
+  pub engine : EngineState
+  pub formatted : HasFormatted setup ledger_middle start (device_of middle) engine
+  pub board : BoardMemory
+  pub ledger : LedgerState
+  pub tags : ℕ
+  pub digests : ℕ
+  pub tags_new : ℕ
+  pub digests_new : ℕ
+  pub answer : Result Gapped GapFault
+  pub opened :
+      HasOpened setup every (parts_of engine (device_of middle) ledger_middle tags digests)
+      (λ now. parts_of now (device_of board) ledger tags_new digests_new) answer
+
+module _ (c : NewCall) where
+  abbrev g : Shape
+  g = c.setup.shape
+
+  abbrev n : ℕ
+  n = logical_lines g
+
+  abbrev from : Parts
+  from = parts_of c.engine (device_of c.middle) c.ledger_middle c.tags c.digests
+
+  abbrev to : EngineState → Parts
+  to now = parts_of now (device_of c.board) c.ledger c.tags_new c.digests_new
+
+  sound : IsSound c.setup c.engine c.middle.lines c.middle.regs c.ledger_middle
+  sound = c.formatted.sound c.middle.lines refl
+
+  -- ---- zero lines
+
+  zeros : IsMemoryOf c.setup c.ledger_middle.marks (replicate (layout.data_lines g) zero_line)
+  zeros =
+      record {
+        count = length-replicate (layout.data_lines g) zero_line;
+        each =
+            λ a within.
+            c.formatted.plain a within
+            ∙ ap (λ (l : Line). Some l) (sym (get_or-replicate (layout.data_lines g) a zero_line zero_line within));
+      }
+
+  places : plain_memory c.setup c.ledger_middle.marks ≡ replicate (layout.data_lines g) zero_line
+  places = memory_is c.setup c.ledger_middle.marks (replicate (layout.data_lines g) zero_line) zeros
+
+  size : n + 2 ≡ layout.data_lines g
+  size = let least = least_lines g in omega (arith, least)
+
+  begun : IsLevelled n (plain_memory c.setup c.ledger_middle.marks) (first_wear n) (replicate n zero_line)
+  begun =
+      subst (λ l. IsLevelled n l (first_wear n) (replicate n zero_line))
+      (ap (λ k. replicate k zero_line) size ∙ sym places)
+      (zero_levelled n (let least = least_lines g in omega (arith, least)) (let few = few_lines g c.whole_shape in omega (arith, few)))
+
+  record_inside : n + 1 < layout.data_lines g
+  record_inside = let its = size in omega (arith, its)
+
+  -- the record that is read is the first wear's
+  first_read : (new : Parts) (line : Line) → HasReadLine c.setup (n + 1) from new (Ok line) → recorded n line ≡ Some (first_wear n)
+  first_read new line it =
+      let plain = (it.answered sound.trusted.not_down sound.trusted).0 in
+      let zero = c.formatted.plain (n + 1) record_inside in
+      let same : line ≡ zero_line = let both : Some line ≡ Some zero_line = sym plain ∙ zero in search (rules, both) in
+      let here : line_at (plain_memory c.setup c.ledger_middle.marks) (n + 1) ≡ zero_line =
+      ap (λ l. line_at l (n + 1)) places ∙ get_or-replicate (layout.data_lines g) (n + 1) zero_line zero_line record_inside in
+      ap (recorded n) (same ∙ sym here) ∙ begun.its_record
+
+  -- ---- the answers
+
+  lit : c.middle.powered ≡ true
+  lit = (and_parts c.middle.powered (is_none c.middle.fuse) c.formatted.steady).0
+
+  abbrev pub held : Gapped → WearParts
+  held gapped = record { keys = c.keys; every = c.every; board = c.board; ledger = c.ledger; gapped = Some gapped }
+
+  module _ (gapped : Gapped) (line : Line) (read : HasReadRecord c.setup c.every line from (to gapped.engine) gapped) where
+    was : HasReadLine c.setup (n + 1) from (to gapped.engine) (Ok line)
+    was = subst (λ k. HasReadLine c.setup (k + 1) from (to gapped.engine) (Ok line)) read.its_lines read.was_read
+
+    effect : OneLossEffect c.setup going [] from (to gapped.engine)
+    effect = was.done sound.trusted.not_down
+
+    marks : c.ledger.marks ≡ c.ledger_middle.marks
+    marks = effect.gone.marks ∙ append-nil c.ledger_middle.marks
+
+    powered : c.board.powered ≡ true
+    powered = effect.gone.power.1 lit
+
+    steady : (c.board.powered && is_none c.board.fuse) ≡ true
+    steady = effect.gone.power.0 c.formatted.steady
+
+    no_fuse : c.board.fuse ≡ None
+    no_fuse = go c.board.fuse (and_parts c.board.powered (is_none c.board.fuse) steady).1
+      where
+        go : (fuse : Option ℕ) → is_none fuse ≡ true → fuse ≡ None
+        go None is = refl
+        go (Some k) is = absurd (true≢false (sym is))
+
+    its_wear : gapped.wear ≡ first_wear n
+    its_wear =
+        let both : Some gapped.wear ≡ Some (first_wear n) =
+        sym read.its_wear ∙ ap (λ k. recorded k line) read.its_lines ∙ first_read (to gapped.engine) line was in
+        search (rules, both)
+
+    levelled : IsLevelled n (plain_memory c.setup c.ledger.marks) (first_wear n) (replicate n zero_line)
+    levelled =
+        subst (λ (m : List Mark). IsLevelled n (plain_memory c.setup m) (first_wear n) (replicate n zero_line)) (sym marks) begun
+
+    wear_first : wear_in c.setup (plain_memory c.setup c.ledger.marks) ≡ first_wear n
+    wear_first = wear_is c.setup (plain_memory c.setup c.ledger.marks) (replicate n zero_line) (first_wear n) levelled
+
+    pub new_world : IsWearWorld c.setup (held gapped)
+    new_world =
+        on_of c.setup (held gapped) gapped refl c.whole_shape c.in_range c.some_every
+        (levelled_is c.setup (plain_memory c.setup c.ledger.marks) (replicate n zero_line) (first_wear n) levelled)
+        powered (effect.gone.sound sound) read.its_every (its_wear ∙ sym wear_first)
+
+    -- no line was written back
+    no_write : c.board.writes ≡ c.middle.writes
+    no_write =
+        (was.work (search rules)).work.no_write
+        (ap (λ (l : List (ℕ × Line)). length l + 0)
+        (ap (λ (e : EngineState). spilled g e.cache (page_of (n + 1)) (path_length g)) c.formatted.engine_new
+        ∙ none_to_write g (page_of (n + 1)) (path_length g)))
+
+    no_latch : c.board.latches ≡ c.middle.latches
+    no_latch = (was.work (search rules)).work.no_latch refl
+
+    pub new_state : IsNewWear c.setup c.every (wear_of c.setup (held gapped))
+    new_state =
+        record {
+          shape = refl;
+          its_every = refl;
+          some_every = c.some_every;
+          memory = memory_held c.setup (plain_memory c.setup c.ledger.marks) (replicate n zero_line) (first_wear n) levelled;
+          wear = wear_first;
+          count = read.no_writes;
+          power = powered;
+          fuse = no_fuse;
+          loss = effect.loss ∙ ap (λ (r : Regs). r.loss) c.formatted.regs;
+          marks = marks ∙ c.formatted.marks;
+          writes =
+              subst₂ (λ before after. RisesBy (layout.device_lines g) before after) c.start_writes (sym no_write) c.formatted.writes;
+          latches = subst₂ (λ before after. RisesBy 1 before after) c.start_latches (sym no_latch) c.formatted.latches;
+          cuts = effect.gone.power.2 ∙ c.formatted.cuts ∙ c.start_cuts;
+        }
+
+  -- the lines are opened
+  abbrev pub IsGapped : Result Gapped GapFault → Type 0
+  IsGapped (Ok gapped) = IsWearWorld c.setup (held gapped) × IsNewWear c.setup c.every (wear_of c.setup (held gapped))
+  IsGapped (Err fault) = ⊥
+
+  pub new_outcome : (answer : Result Gapped GapFault) → c.answer ≡ answer → IsGapped answer
+  new_outcome answer is = subst IsGapped is (go c.answer c.opened)
+    where
+      go : (answer : Result Gapped GapFault) → HasOpened c.setup c.every from to answer → IsGapped answer
+      go (Ok gapped) it = (new_world gapped it.0 it.1, new_state gapped it.0 it.1)
+      go (Err (Gap.Engine Fail.Cut)) it =
+          absurd (true≢false (sym c.formatted.steady ∙ (it.1.done sound.trusted.not_down).gone.power.0))
+      go (Err (Gap.Engine (Fail.Spent page))) it = absurd it.1.possible
+      go (Err (Gap.BadWear line)) it = absurd (none-some (first_wear n) (sym it.2 ∙ first_read (to it.0) line it.1))
+      go (Err (Gap.Engine fault)) it = absurd (it.1.unrefused sound.trusted.not_down sound)

@@ -1,0 +1,489 @@
+-- Power comes on, as the session's fields have it: what is held after recovery and the opening, and what is answered.
+use Rattle.std.proofs.Common.{ℕ, ◌≡◌, ◌<◌, ◌≤◌, ◌+◌, ◌-◌, ◌++◌, ◌⊎◌, inl, inr, true, false, List, [], length, Option, Some, None, Result, Ok, Err, refl, sym, ap, subst, ◌∙◌, arith}
+use Rattle.std.specs.Prelude.{is_some, unwrap_or, option_map, MatchOption, ⊤, if◌then◌else◌}
+use Rattle.std.proofs.lemmas.Bool.{true≢false}
+use Rattle.std.proofs.lemmas.Option.{none-some, same_Some}
+use Rattle.std.proofs.lemmas.List.{append-nil}
+use Rattle.pmem_base.specs.declared.lines.Line.{Line}
+use Rattle.pmem_base.specs.declared.answers.Mark.{Mark}
+use Rattle.pmem_base.specs.declared.answers.Exhibit.TheVariants.{Twin}
+use Rattle.pmem_base.specs.declared.registers.Regs.{Regs}
+use Rattle.pmem_base.specs.Layout as layout
+use Rattle.pmem_base.specs.Registers.{without_group}
+use Rattle.board.specs.Device.{Device}
+use Rattle.board.specs.Memory.{BoardMemory}
+use Rattle.commit_regs.specs.Groups.{redone}
+use Rattle.seal_ledger.specs.Ledger.{LedgerState}
+use Rattle.suite.specs.Setup.{Setup}
+use Rattle.plain_model.specs.View.{plain_memory}
+use Rattle.plain_model.specs.Bounds.{recovery_bound}
+use Rattle.pmem_engine.specs.declared.fault.Fault.TheVariants as Fail
+use Rattle.pmem_engine.specs.Engine.{EngineState}
+use Rattle.pmem_engine.specs.Parts.{Parts, parts_of, AreSound}
+use Rattle.pmem_engine.specs.Invariants.{IsDurable, IsSound}
+use Rattle.pmem_engine.specs.Outcomes.{TakesAtMost, TakesFewer}
+use Rattle.pmem_engine.specs.Calls.{HasReadLine}
+use Rattle.pmem_engine.proofs.CallEnds.StillParts.{sound_trusted}
+use Rattle.pmem_recovery.specs.declared.faults.Work.{Work}
+use Rattle.pmem_recovery.specs.declared.faults.RecFault.{RecFault}
+use Rattle.pmem_recovery.specs.declared.faults.RecFault.TheVariants as Rec
+use Rattle.pmem_recovery.specs.Parts.{SuiteState}
+use Rattle.pmem_recovery.specs.Recovered.{HasRecovered, HasMended, most_steps}
+use Rattle.start_gap.specs.declared.wear.Wear.{Wear}
+use Rattle.start_gap.specs.declared.gapped.Gapped.{Gapped}
+use Rattle.start_gap.specs.declared.gapped.GapFault.{GapFault}
+use Rattle.start_gap.specs.declared.gapped.GapFault.TheVariants as Gap
+use Rattle.start_gap.specs.Record.{recorded}
+use Rattle.start_gap.specs.Logical.{IsLevelled}
+use Rattle.start_gap.specs.Gapped.{HasOpened, HasReadRecord, logical_lines}
+use Rattle.watched_board.specs.Watching.{steps_in, device_during, none_taken, IsWatched}
+use Rattle.wear_session.specs.declared.calls.StartFault.{StartFault}
+use Rattle.wear_session.specs.declared.calls.StartFault.TheVariants as Start
+use Rattle.wear_session.specs.declared.commands.WearCommand.TheVariants as Do
+use Rattle.wear_session.specs.declared.answers.WearAnswer.{WearAnswer}
+use Rattle.wear_session.specs.declared.answers.WearAnswer.TheVariants as Say
+use Rattle.wear_session.specs.During.{HasStarted, HasOpenedAfter, started_as}
+use Rattle.wear_session.specs.State.{WearState, setup_in}
+use Rattle.wear_session.specs.World.{WearParts, IsWearWorld, IsLevelledOff, IsLevelledBy, wear_in, logical_memory, wear_of}
+use Rattle.wear_session.specs.Answered.{IsAnswered, IsShownBy, HasOpened as HasOpenedAs, with_power, read_steps}
+use Rattle.wear_session.proofs.Worlds.{at_most, fewer, goes_to, cut_off, on_after, off_after}
+use Rattle.wear_session.proofs.Seen.{setup_under, served, seen_from, held_under}
+use Rattle.wear_session.proofs.EngineWrites.{most_within, fewer_within, AreDone, read_line, read_done, read_cut}
+use Rattle.wear_session.proofs.Starts.{OnCall, one_latch, few_of_on}
+use Rattle.wear_session.proofs.Twins.{tried_line, seal_twin}
+
+module _ (c : OnCall) where
+  abbrev setup : Setup
+  setup = setup_under c.formulas_of c.geometry c.parts.keys
+
+  abbrev p : WearParts
+  p = c.parts
+
+  abbrev lit : BoardMemory
+  lit = record p.board { powered = true }
+
+  abbrev old : WearState
+  old = wear_of setup p
+
+  abbrev from : Device
+  from = device_during lit none_taken
+
+  abbrev to : Device
+  to = device_during c.board c.taken
+
+  abbrev most : ℕ
+  most = recovery_bound c.geometry + read_steps c.geometry
+
+  abbrev left : BoardMemory → Option Gapped → WearParts
+  left board gapped = record { keys = p.keys; every = p.every; board = board; ledger = c.ledger; gapped = gapped }
+
+  abbrev pub left_under : BoardMemory → Option Gapped → WearParts
+  left_under board gapped = record { keys = c.keys; every = p.every; board = board; ledger = c.ledger; gapped = gapped }
+
+  off : IsLevelledOff setup p
+  off = subst (λ g. IsLevelledBy setup p g) c.there c.world.chip
+
+  watched : IsWatched lit c.board c.taken
+  watched = subst (λ b. IsWatched b c.board c.taken) c.lit_is c.watched
+
+  started : HasStarted setup p.every from to p.ledger c.ledger c.suite_old c.suite_new c.answer
+  started =
+      subst (λ b. HasStarted setup p.every (device_during b none_taken) to p.ledger c.ledger c.suite_old c.suite_new c.answer) c.lit_is c.started
+
+  no_count : old.count ≡ 0
+  no_count = ap (λ (g : Option Gapped). unwrap_or (option_map (λ (k : Gapped). k.count) g) 0) c.there
+
+  undecided : (answer : WearAnswer) (new : WearState) → HasOpenedAs old answer new → IsAnswered setup old Do.On answer new
+  undecided answer new it = served setup old new Do.On answer (ap (λ b. if b then Some Say.Already else None) off.unpowered) it
+
+  -- ---- where no mark is made
+
+  module _ (marks : c.ledger.marks ≡ p.ledger.marks) where
+    levelled : IsLevelled (logical_lines c.geometry) (plain_memory setup c.ledger.marks) (wear_in setup (plain_memory setup c.ledger.marks))
+        (logical_memory setup (plain_memory setup c.ledger.marks))
+    levelled =
+        subst (λ (m : List Mark). IsLevelled (logical_lines c.geometry) (plain_memory setup m) (wear_in setup (plain_memory setup m))
+        (logical_memory setup (plain_memory setup m))) (sym marks) c.world.levelled
+
+    same_memory : logical_memory setup (plain_memory setup c.ledger.marks) ≡ old.memory
+    same_memory = ap (λ (m : List Mark). logical_memory setup (plain_memory setup m)) marks
+
+    same_wear : wear_in setup (plain_memory setup c.ledger.marks) ≡ old.wear
+    same_wear = ap (λ (m : List Mark). wear_in setup (plain_memory setup m)) marks
+
+    dark_world : (board : BoardMemory) → board.powered ≡ false → IsDurable setup board.lines board.regs c.ledger
+        → length board.regs.group.items ≤ 3 → IsWearWorld setup (left board None)
+    dark_world board dark durable few = off_after setup p board c.ledger c.world levelled dark durable few
+
+    -- power was cut
+    cut_seen : c.board.powered ≡ false → c.board.regs.loss ≡ p.board.regs.loss → TakesFewer most from to
+        → HasOpenedAs old (Say.Cut (steps_in c.taken)) (wear_of setup (left c.board None))
+    cut_seen dark loss takes =
+        let it =
+        cut_off setup (record p { board = lit }) (left c.board None) c.taken watched old most dark
+        (fewer lit c.board c.taken most watched.follows.few takes) (few_of_on c.geometry c.world.whole_shape)
+        (record {
+          shape = refl;
+          keys = refl;
+          every = refl;
+          memory = same_memory;
+          wear = same_wear;
+          count = refl;
+          power = dark;
+          fuse = watched.follows.cleared dark;
+          loss = loss;
+          marks = marks;
+        }) in
+        record {
+          becomes = it.becomes;
+          rises =
+              record {
+                written = it.rises.written;
+                latched = it.rises.latched;
+                sum = it.rises.sum;
+                writes = it.rises.writes;
+                latches = it.rises.latches;
+              };
+          at_fuse = it.at_fuse;
+          below = it.below;
+          cut = it.cut;
+        }
+
+    open_seen : (gapped : Gapped) → c.board.powered ≡ true → c.board.regs.loss ≡ p.board.regs.loss → TakesAtMost most from to
+        → gapped.count ≡ 0 → gapped.wear ≡ old.wear
+        → HasOpenedAs old (Say.Opened gapped.wear.start gapped.wear.gap (steps_in c.taken)) (wear_of setup (left c.board (Some gapped)))
+    open_seen gapped powered loss takes none its_wear =
+        let it =
+        goes_to setup (record p { board = lit }) (left c.board (Some gapped)) c.taken watched (with_power old) most powered
+        (at_most lit c.board c.taken most watched.follows.few takes)
+        (record {
+          shape = refl;
+          keys = refl;
+          every = refl;
+          memory = same_memory;
+          wear = same_wear;
+          count = none;
+          power = powered;
+          fuse = watched.follows.burnt powered;
+          loss = loss;
+          marks = marks;
+        }) in (
+          ap (λ (w : Wear). w.start) its_wear,
+          ap (λ (w : Wear). w.gap) its_wear,
+          record {
+            becomes = it.becomes;
+            rises =
+                record {
+                  written = it.rises.written;
+                  latched = it.rises.latched;
+                  sum = it.rises.sum;
+                  writes = it.rises.writes;
+                  latches = it.rises.latches;
+                };
+            few = it.few;
+            lasting = it.lasting;
+            no_cut = it.no_cut;
+          },
+        )
+
+  -- ---- recovery is done
+
+  few_recovery : most_steps setup lit.regs ≤ recovery_bound c.geometry
+  few_recovery = omega (arith, one_latch p.board.regs.group.items, c.world.few_armed)
+
+  module _ (between : Device) (suite_between : SuiteState) (engine : EngineState) (work : Work)
+      (it : HasRecovered setup p.ledger from between c.suite_old suite_between (Ok (engine, work))) where
+    abbrev parts_from : Parts
+    parts_from = parts_of engine from p.ledger suite_between.tags suite_between.digests
+
+    abbrev parts_between : Parts
+    parts_between = parts_of engine between p.ledger suite_between.tags suite_between.digests
+
+    sound_between : AreSound setup parts_between
+    sound_between = go between.lines refl
+      where
+        go : (found : Option (List Line)) → between.lines ≡ found
+            → MatchOption found ⊥ (λ lines. IsSound setup engine lines between.regs p.ledger)
+        go None none = absurd (true≢false (sym it.told ∙ ap (λ (o : Option (List Line)). is_some o) none))
+        go (Some now) there = (it.lines p.board.lines refl now there).from_durable off.durable
+
+    recovered : AreDone setup parts_from [] [] (recovery_bound c.geometry) parts_between
+    recovered =
+        record {
+          asked = refl;
+          moment = refl;
+          marks = sym (append-nil p.ledger.marks);
+          loss = ap (λ (r : Regs). r.loss) it.regs;
+          sound = sound_between;
+          live = it.power.live refl;
+          takes = most_within from between (most_steps setup lit.regs) (recovery_bound c.geometry) few_recovery it.steps;
+        }
+
+    record_inside : logical_lines c.geometry + 1 < layout.data_lines c.geometry
+    record_inside =
+        let size = c.world.levelled.size in
+        let count = c.world.places.count in
+        omega (arith, size, count)
+
+    -- the record is that of the wear
+    record_read : (new : Parts) (line : Line) → HasReadLine setup (logical_lines c.geometry + 1) parts_between new (Ok line)
+        → recorded (logical_lines c.geometry) line ≡ Some old.wear
+    record_read new line read =
+        ap (recorded (logical_lines c.geometry))
+        (read_line setup parts_from parts_between [] [] (recovery_bound c.geometry) recovered (logical_lines c.geometry + 1) new line record_inside read)
+        ∙ c.world.levelled.its_record
+
+  -- ---- the answers
+
+  abbrev Exit : BoardMemory → Option Gapped → WearAnswer → Type 0
+  Exit board gapped answer =
+      IsWearWorld (setup_under c.formulas_of c.geometry c.keys) (left_under board gapped)
+      × IsAnswered (setup_in c.formulas_of c.now) c.now Do.On answer (wear_of (setup_under c.formulas_of c.geometry c.keys) (left_under board gapped))
+
+  exit_of : (board : BoardMemory) (gapped : Option Gapped) (answer : WearAnswer) → IsWearWorld setup (left board gapped)
+      → HasOpenedAs old answer (wear_of setup (left board gapped)) → Exit board gapped answer
+  exit_of board gapped answer world it = (
+    held_under c.formulas_of c.geometry p (left board gapped) c.keys c.same_keys world,
+    seen_from c.formulas_of c.geometry p (left board gapped) c.now c.keys Do.On answer c.is c.same_keys refl
+        (undecided answer (wear_of setup (left board gapped)) it),
+  )
+
+  -- what an exit says, whatever steps are answered
+  said_as : (board : BoardMemory) (gapped : Option Gapped) (answer : ℕ → WearAnswer) → Exit board gapped (answer (steps_in c.taken))
+      → Exit board gapped (answer c.said)
+  said_as board gapped answer it = subst (λ k. Exit board gapped (answer k)) (sym c.counted) it
+
+  -- the board once power is off again
+  abbrev rested : BoardMemory
+  rested = record c.board { powered = false }
+
+  -- what holds after each answer of recovery and the opening
+  abbrev Outcome : Result Gapped StartFault → Type 0
+  Outcome (Ok gapped) = Exit c.board (Some gapped) (Say.Opened gapped.wear.start gapped.wear.gap (steps_in c.taken))
+  Outcome (Err (Start.Recovery Rec.Cut)) = Exit c.board None (Say.Cut (steps_in c.taken))
+  Outcome (Err (Start.Opening (Gap.Engine Fail.Cut))) = Exit c.board None (Say.Cut (steps_in c.taken))
+  Outcome (Err (Start.Recovery Rec.Memory)) = IsWearWorld setup (left rested None) × (wear_of setup (left rested None) ≡ old)
+  Outcome (Err (Start.Recovery (Rec.Twin at major low high cipher tag))) =
+      IsWearWorld setup (left rested None) × IsShownBy setup old Do.On (Twin at major low high cipher tag)
+  Outcome answer = ⊥
+
+  -- ---- the record was read, or power was cut in the reading
+
+  module _ (between : Device) (suite_between : SuiteState) (engine : EngineState) (work : Work)
+      (it : HasRecovered setup p.ledger from between c.suite_old suite_between (Ok (engine, work))) where
+    abbrev bound : ℕ
+    bound = recovery_bound c.geometry
+
+    abbrev parts_to : EngineState → Parts
+    parts_to now = parts_of now to c.ledger c.suite_new.tags c.suite_new.digests
+
+    no_marks : (marks : List Mark) → c.ledger.marks ≡ p.ledger.marks ++ [] → c.ledger.marks ≡ p.ledger.marks
+    no_marks marks same = same ∙ append-nil p.ledger.marks
+
+    opened_exit : (gapped : Gapped) (line : Line)
+        → HasReadRecord setup p.every line (parts_between between suite_between engine work it) (parts_to gapped.engine) gapped
+        → Outcome (Ok gapped)
+    opened_exit gapped line read =
+        let start = parts_from between suite_between engine work it in
+        let middle = parts_between between suite_between engine work it in
+        let was : HasReadLine setup (logical_lines c.geometry + 1) middle (parts_to gapped.engine) (Ok line) =
+        subst (λ n. HasReadLine setup (n + 1) middle (parts_to gapped.engine) (Ok line)) read.its_lines read.was_read in
+        let done = read_done setup start middle [] [] bound (recovered between suite_between engine work it) (logical_lines c.geometry + 1) (parts_to gapped.engine) line was in
+        let marks = no_marks [] done.marks in
+        let its_wear : gapped.wear ≡ old.wear =
+        same_Some gapped.wear old.wear
+        (sym read.its_wear ∙ ap (λ n. recorded n line) read.its_lines ∙ record_read between suite_between engine work it (parts_to gapped.engine) line was) in
+        exit_of c.board (Some gapped) (Say.Opened gapped.wear.start gapped.wear.gap (steps_in c.taken))
+        (on_after setup p c.board c.ledger c.world (levelled marks) gapped done.live done.sound read.its_every (its_wear ∙ sym (same_wear marks)))
+        (open_seen marks gapped done.live done.loss done.takes read.no_writes its_wear)
+
+    read_cut_exit : (dropped : EngineState)
+        → HasReadLine setup (logical_lines c.geometry + 1) (parts_between between suite_between engine work it) (parts_to dropped) (Err Fail.Cut)
+        → Exit c.board None (Say.Cut (steps_in c.taken))
+    read_cut_exit dropped was =
+        let start = parts_from between suite_between engine work it in
+        let middle = parts_between between suite_between engine work it in
+        let cut = read_cut setup start middle [] [] bound (recovered between suite_between engine work it) (logical_lines c.geometry + 1) (parts_to dropped) was in
+        let marks = no_marks [] cut.marks in
+        exit_of c.board None (Say.Cut (steps_in c.taken)) (dark_world marks c.board cut.dark cut.durable cut.small_group)
+        (cut_seen marks cut.dark cut.loss cut.takes)
+
+    by_opened : (opened : Result Gapped GapFault) → HasOpened setup p.every (parts_between between suite_between engine work it) parts_to opened
+        → Outcome (started_as opened)
+    by_opened (Ok gapped) opened = opened_exit gapped opened.0 opened.1
+    by_opened (Err (Gap.Engine Fail.Cut)) opened = read_cut_exit opened.0 opened.1
+    by_opened (Err (Gap.Engine (Fail.Spent page))) opened = absurd opened.1.possible
+    by_opened (Err (Gap.BadWear line)) opened =
+        absurd (none-some old.wear (sym opened.2 ∙ record_read between suite_between engine work it (parts_to opened.0) line opened.1))
+    by_opened (Err (Gap.Engine fault)) opened =
+        let sound = sound_between between suite_between engine work it in
+        absurd (opened.1.unrefused (sound_trusted setup (parts_between between suite_between engine work it) sound).not_down sound)
+
+  -- ---- recovery wasn't done
+
+  module _ (suite_between : SuiteState) (fault : RecFault) (it : HasRecovered setup p.ledger from to c.suite_old suite_between (Err fault))
+      (ledger : c.ledger ≡ p.ledger) where
+    mended : HasMended setup p.ledger from to p.board.lines c.board.lines (Err fault)
+    mended = it.lines p.board.lines refl c.board.lines refl
+
+    marks_same : c.ledger.marks ≡ p.ledger.marks
+    marks_same = ap (λ (l : LedgerState). l.marks) ledger
+
+    durable_now : IsDurable setup c.board.lines c.board.regs p.ledger → IsDurable setup c.board.lines c.board.regs c.ledger
+    durable_now durable = subst (IsDurable setup c.board.lines c.board.regs) (sym ledger) durable
+
+  few_by : (regs : Regs) → c.board.regs ≡ regs → length regs.group.items ≤ 3 → length c.board.regs.group.items ≤ 3
+  few_by regs same few = subst (λ (r : Regs). length r.group.items ≤ 3) (sym same) few
+
+  recovery_cut : (suite_between : SuiteState) → HasRecovered setup p.ledger from to c.suite_old suite_between (Err Rec.Cut) → c.ledger ≡ p.ledger
+      → Exit c.board None (Say.Cut (steps_in c.taken))
+  recovery_cut suite_between it ledger =
+      let marks = marks_same suite_between Rec.Cut it ledger in
+      let durable = durable_now suite_between Rec.Cut it ledger ((mended suite_between Rec.Cut it ledger).from_durable off.durable) in
+      let few : length c.board.regs.group.items ≤ 3 = elim it.regs [
+        | inl same ↦ few_by p.board.regs same c.world.few_armed
+        | inr none ↦ few_by (without_group p.board.regs) none (omega arith)
+      ] in
+      let loss : c.board.regs.loss ≡ p.board.regs.loss =
+      elim it.regs [ inl same ↦ ap (λ (r : Regs). r.loss) same | inr none ↦ ap (λ (r : Regs). r.loss) none ] in
+      let dark : c.board.powered ≡ false = it.power.off in
+      exit_of c.board None (Say.Cut (steps_in c.taken)) (dark_world marks c.board dark durable few)
+      (cut_seen marks dark loss
+      (fewer_within from to (most_steps setup lit.regs) most (let few = few_recovery in omega (arith, few)) it.steps))
+
+  -- nothing was done, for want of memory
+  no_fuse_burnt : (fuse : Option ℕ) → option_map (λ n. n - 0) fuse ≡ fuse
+  no_fuse_burnt None = refl
+  no_fuse_burnt (Some n) = ap (λ (k : ℕ). Some k) (omega arith)
+
+  recovery_wanted : (suite_between : SuiteState) → HasRecovered setup p.ledger from to c.suite_old suite_between (Err Rec.Memory)
+      → c.ledger ≡ p.ledger → Outcome (Err (Start.Recovery Rec.Memory))
+  recovery_wanted suite_between it ledger =
+      let marks = marks_same suite_between Rec.Memory it ledger in
+      let durable = durable_now suite_between Rec.Memory it ledger ((mended suite_between Rec.Memory it ledger).from_durable off.durable) in
+      let same : to ≡ from = it.unchanged in
+      let lasting : c.board.powered ≡ true = ap (λ (d : Device). d.live) same in
+      let no_writes : c.taken.writes ≡ 0 = ap (λ (d : Device). d.writes) same in
+      let no_latches : c.taken.latches ≡ 0 = ap (λ (d : Device). d.latches) same in
+      let loss : c.board.regs.loss ≡ p.board.regs.loss = ap (λ (d : Device). d.regs.loss) same in
+      let follows = watched.follows in
+      let none : steps_in c.taken ≡ 0 = omega (arith, no_writes, no_latches) in
+      let fuse : c.board.fuse ≡ p.board.fuse =
+      follows.burnt lasting ∙ ap (λ k. option_map (λ n. n - k) p.board.fuse) none ∙ no_fuse_burnt p.board.fuse in
+      let writes : c.board.writes ≡ p.board.writes = omega (arith, follows.writes, watched.in_count.writes, no_writes) in
+      let latches : c.board.latches ≡ p.board.latches = omega (arith, follows.latches, watched.in_count.latches, no_latches) in
+      let cuts : c.board.cuts ≡ p.board.cuts = follows.uncut lasting in
+      let power : p.board.powered ≡ false = off.unpowered in
+      let count : unwrap_or (option_map (λ (k : Gapped). k.count) p.gapped) 0 ≡ 0 = no_count in (
+        dark_world marks rested refl durable (few_by p.board.regs it.regs c.world.few_armed),
+        cc (power, fuse, loss, marks, writes, latches, cuts),
+      )
+
+  recovery_twin : (suite_between : SuiteState) (at major low high : ℕ) (cipher : Line) (tag : List ℕ)
+      → HasRecovered setup p.ledger from to c.suite_old suite_between (Err (Rec.Twin at major low high cipher tag)) → c.ledger ≡ p.ledger
+      → Outcome (Err (Start.Recovery (Rec.Twin at major low high cipher tag)))
+  recovery_twin suite_between at major low high cipher tag it ledger =
+      let fault = Rec.Twin at major low high cipher tag in
+      let marks = marks_same suite_between fault it ledger in
+      let its = mended suite_between fault it ledger in
+      let made = its.from_durable off.durable in
+      let durable = durable_now suite_between fault it ledger made.1 in
+      let within = tried_line setup (redone p.board.regs.group.items p.board.lines) p.board.regs at its.decided.0 in (
+        dark_world marks rested refl durable (few_by (without_group p.board.regs) it.regs (omega arith)),
+        (
+          off.unpowered,
+          it.twin,
+          seal_twin setup p.board.regs p.ledger (plain_memory setup p.ledger.marks) p.board.regs.loss at major low high cipher tag
+              c.world.whole_formulas off.durable.mendable.anchored c.world.places within made.0,
+        ),
+      )
+
+  outcome : Outcome c.answer
+  outcome = go started.recovery started.recovered started.then
+    where
+      refused : (fault : RecFault) → HasRecovered setup p.ledger from started.between c.suite_old started.suite_between (Err fault) → to ≡ started.between
+          → HasRecovered setup p.ledger from to c.suite_old started.suite_between (Err fault)
+      refused fault it same =
+          subst (λ d. HasRecovered setup p.ledger from d c.suite_old started.suite_between (Err fault)) (sym same) it
+
+      go : (recovery : Result (EngineState × Work) RecFault)
+          → HasRecovered setup p.ledger from started.between c.suite_old started.suite_between recovery
+          → HasOpenedAfter recovery setup p.every started.between to p.ledger c.ledger started.suite_between c.suite_new c.answer
+          → Outcome c.answer
+      go (Ok done) it later =
+          subst Outcome (sym later.2) (by_opened started.between started.suite_between done.0 done.1 it later.0 later.1)
+      go (Err Rec.Cut) it later =
+          subst Outcome (sym later.0) (recovery_cut started.suite_between (refused Rec.Cut it later.1) later.2)
+      go (Err Rec.Memory) it later =
+          subst Outcome (sym later.0) (recovery_wanted started.suite_between (refused Rec.Memory it later.1) later.2)
+      go (Err (Rec.Twin at major low high cipher tag)) it later =
+          subst Outcome (sym later.0)
+          (recovery_twin started.suite_between at major low high cipher tag (refused (Rec.Twin at major low high cipher tag) it later.1) later.2)
+      go (Err fault) it later =
+          absurd ((mended started.suite_between fault (refused fault it later.1) later.2).from_durable off.durable)
+
+  -- ---- as contracts write it
+
+  outcome_as : (answer : Result Gapped StartFault) → c.answer ≡ answer → Outcome answer
+  outcome_as answer is = subst Outcome is outcome
+
+  pub open_exit : (gapped : Gapped) → c.answer ≡ Ok gapped
+      → Exit c.board (Some gapped) (Say.Opened gapped.wear.start gapped.wear.gap c.said)
+  open_exit gapped is =
+      said_as c.board (Some gapped) (λ k. Say.Opened gapped.wear.start gapped.wear.gap k) (outcome_as (Ok gapped) is)
+
+  -- no levelled lines are there, as before
+  dark_exit : (board : BoardMemory) (answer : WearAnswer) → Exit board None answer → Exit board p.gapped answer
+  dark_exit board answer it = subst (λ g. Exit board g answer) (sym c.there) it
+
+  pub cut_exit : (c.answer ≡ Err (Start.Recovery Rec.Cut)) ⊎ (c.answer ≡ Err (Start.Opening (Gap.Engine Fail.Cut)))
+      → Exit c.board p.gapped (Say.Cut c.said)
+  cut_exit (inl is) = dark_exit c.board (Say.Cut c.said) (said_as c.board None (λ k. Say.Cut k) (outcome_as (Err (Start.Recovery Rec.Cut)) is))
+  cut_exit (inr is) =
+      dark_exit c.board (Say.Cut c.said) (said_as c.board None (λ k. Say.Cut k) (outcome_as (Err (Start.Opening (Gap.Engine Fail.Cut))) is))
+
+  module _ (board : BoardMemory) (is_rested : board ≡ rested) where
+    rested_as : (P : WearParts → Type 0) → P (left rested None) → P (left board p.gapped)
+    rested_as P it = subst (λ g. P (left board g)) (sym c.there) (subst (λ b. P (left b None)) (sym is_rested) it)
+
+    abbrev held_rested : IsWearWorld setup (left rested None) → IsWearWorld (setup_under c.formulas_of c.geometry c.keys) (left_under board p.gapped)
+    held_rested it = held_under c.formulas_of c.geometry p (left board p.gapped) c.keys c.same_keys (rested_as (IsWearWorld setup) it)
+
+    pub wanted_exit : c.answer ≡ Err (Start.Recovery Rec.Memory)
+        → IsWearWorld (setup_under c.formulas_of c.geometry c.keys) (left_under board p.gapped)
+        × (wear_of (setup_under c.formulas_of c.geometry c.keys) (left_under board p.gapped) ≡ c.now)
+    wanted_exit is =
+        let it = outcome_as (Err (Start.Recovery Rec.Memory)) is in (
+          held_rested it.0,
+          subst (λ (k : List ℕ). wear_of (setup_under c.formulas_of c.geometry k) (record (left board p.gapped) { keys = k }) ≡ c.now) (sym c.same_keys)
+              (rested_as (λ q. wear_of setup q ≡ c.now) (it.1 ∙ c.is)),
+        )
+
+    pub twin_exit : (at major low high : ℕ) (cipher : Line) (tag : List ℕ) → c.answer ≡ Err (Start.Recovery (Rec.Twin at major low high cipher tag))
+        → IsWearWorld (setup_under c.formulas_of c.geometry c.keys) (left_under board p.gapped)
+        × IsShownBy (setup_in c.formulas_of c.now) c.now Do.On (Twin at major low high cipher tag)
+    twin_exit at major low high cipher tag is =
+        let it = outcome_as (Err (Start.Recovery (Rec.Twin at major low high cipher tag))) is in (
+          held_rested it.0,
+          subst (λ (w : WearState). IsShownBy (setup_in c.formulas_of w) w Do.On (Twin at major low high cipher tag)) c.is it.1,
+        )
+
+  -- no other answer comes
+  abbrev pub IsPossible : Result Gapped StartFault → Type 0
+  IsPossible (Ok gapped) = ⊤
+  IsPossible (Err (Start.Recovery Rec.Cut)) = ⊤
+  IsPossible (Err (Start.Opening (Gap.Engine Fail.Cut))) = ⊤
+  IsPossible (Err (Start.Recovery Rec.Memory)) = ⊤
+  IsPossible (Err (Start.Recovery (Rec.Twin at major low high cipher tag))) = ⊤
+  IsPossible answer = ⊥
+
+  pub possible : (answer : Result Gapped StartFault) → c.answer ≡ answer → IsPossible answer
+  possible answer is = go answer (outcome_as answer is)
+    where
+      go : (answer : Result Gapped StartFault) → Outcome answer → IsPossible answer
+      go (Ok gapped) it = tt
+      go (Err (Start.Recovery Rec.Cut)) it = tt
+      go (Err (Start.Opening (Gap.Engine Fail.Cut))) it = tt
+      go (Err (Start.Recovery Rec.Memory)) it = tt
+      go (Err (Start.Recovery (Rec.Twin at major low high cipher tag))) it = tt
+      go answer it = absurd it

@@ -1,0 +1,79 @@
+-- A twin that recovery shows is one of a line that the session keeps.
+use Rattle.std.proofs.Common.{ℕ, ◌≡◌, ◌<◌, ◌*◌, ◌/◌, List, length, Option, Some, None, refl, sym, ap, ap₂, ◌∙◌, arith}
+use Rattle.std.specs.Prelude.{All, option_map, ◌==◌, not, true}
+use Rattle.std.specs.List.{range_with_len}
+use Rattle.std.proofs.lemmas.Option.{same_Some, none-some}
+use Rattle.pmem_base.specs.declared.lines.Line.{Line}
+use Rattle.pmem_base.specs.declared.lines.Ctr.{Ctr}
+use Rattle.pmem_base.specs.declared.registers.Regs.{Regs}
+use Rattle.pmem_base.specs.declared.answers.Mark.TheVariants.{Seal}
+use Rattle.pmem_base.specs.Layout as layout
+use Rattle.pmem_base.specs.Lines.{line_at}
+use Rattle.pmem_base.specs.Marks.{SealOf, last_seal}
+use Rattle.pmem_base.proofs.ListLaws.{find_found, All-into_flat_map, All-into_filter, All-into_range}
+use Rattle.bonsai_tree.specs.Positions.{counter_position}
+use Rattle.seal_ledger.specs.Ledger.{LedgerState, IsMark}
+use Rattle.seal_ledger.proofs.MarkLemmas.{last_seal_has}
+use Rattle.suite.specs.Formulas.{AreInRange, cipher_of}
+use Rattle.suite.specs.Setup.{Setup}
+use Rattle.suite.proofs.CipherLemmas.{cipher_of-back}
+use Rattle.plain_model.specs.State.{Memory}
+use Rattle.plain_model.specs.View.{IsMemoryOf, counter_at, plain_of_seal, view_of}
+use Rattle.plain_model.specs.Shown.{IsTwinOfSeal}
+use Rattle.plain_model.proofs.Views.{counter_at-last}
+use Rattle.pmem_engine.specs.Invariants.{IsAnchored, IsSealTagged, is_named}
+use Rattle.pmem_recovery.specs.Trials.{first_undecided, named_pages, lines_tried, tried_minors, IsTwinOfLastSeal}
+
+-- a line that recovery tries is a data line
+pub tried_line : (setup : Setup) (lines : List Line) (regs : Regs) (a : ℕ) → first_undecided setup lines regs ≡ Some a → a < layout.data_lines setup.shape
+tried_line setup lines regs a found =
+    (find_found (λ a. not (length (tried_minors setup lines regs a) == 1)) (λ a. a < layout.data_lines setup.shape)
+    (lines_tried setup.shape lines) a
+    (All-into_flat_map (λ a. a < layout.data_lines setup.shape) (λ page. range_with_len (64 * page) 64) (named_pages setup.shape lines)
+    (All-into_filter (λ page. is_named setup.shape lines (counter_position setup.shape page))
+    (λ page. All (λ a. a < layout.data_lines setup.shape) (range_with_len (64 * page) 64)) (range_with_len 0 (layout.pages setup.shape))
+    (All-into_range
+    (λ page. is_named setup.shape lines (counter_position setup.shape page) ≡ true → All (λ a. a < layout.data_lines setup.shape) (range_with_len (64 * page) 64))
+    0 (layout.pages setup.shape)
+    (λ page low high named.
+    All-into_range (λ a. a < layout.data_lines setup.shape) (64 * page) 64 (λ a first last. omega (arith, first, last, high))))))
+    found).1
+
+-- a twin of its last seal is one of memory's line
+pub seal_twin : (setup : Setup) (regs : Regs) (ledger : LedgerState) (memory : Memory) (loss a major low high : ℕ) (cipher : Line) (tag : List ℕ)
+    → AreInRange setup.formulas → IsAnchored setup regs ledger → IsMemoryOf setup ledger.marks memory → a < layout.data_lines setup.shape
+    → IsTwinOfLastSeal loss ledger a major low high cipher tag
+    → IsTwinOfSeal setup memory loss (view_of setup.shape ledger.marks) a major low high cipher tag
+seal_twin setup regs ledger memory loss a major low high cipher tag in_range anchored its within twin = by_seal (last_seal ledger.marks a) refl
+  where
+    by_seal : (seal : Option SealOf) → last_seal ledger.marks a ≡ seal
+        → IsTwinOfSeal setup memory loss (view_of setup.shape ledger.marks) a major low high cipher tag
+    by_seal None none = absurd (none-some cipher (ap (option_map (λ s. s.cipher)) (sym none) ∙ twin.its_cipher))
+    by_seal (Some seal) there =
+        let ctr : counter_at (view_of setup.shape ledger.marks) a ≡ seal.ctr =
+        counter_at-last setup.shape ledger.marks a seal.ctr within (ap (option_map (λ s. s.ctr)) there) in
+        let mark : IsMark setup.shape (Seal a seal.ctr seal.cipher seal.tag) =
+        last_seal_has (IsMark setup.shape) ledger.marks a seal anchored.of_shape.marks_in_range there in
+        let plain : plain_of_seal setup.formulas a seal ≡ line_at memory a =
+        same_Some (plain_of_seal setup.formulas a seal) (line_at memory a)
+        (ap (option_map (plain_of_seal setup.formulas a)) (sym there) ∙ its.each a within) in
+        let sealed : seal.cipher ≡ cipher_of setup.formulas a (counter_at (view_of setup.shape ledger.marks) a) (line_at memory a) =
+        sym (cipher_of-back setup.formulas a seal.ctr seal.cipher in_range mark.1 mark.2)
+        ∙ ap (cipher_of setup.formulas a seal.ctr) plain
+        ∙ ap (λ c. cipher_of setup.formulas a c (line_at memory a)) (sym ctr) in
+        record {
+          its_cipher = sym (same_Some seal.cipher cipher (ap (option_map (λ s. s.cipher)) (sym there) ∙ twin.its_cipher)) ∙ sealed;
+          its_tag =
+              sym (same_Some seal.tag tag (ap (option_map (λ s. s.tag)) (sym there) ∙ twin.its_tag))
+              ∙ sym (last_seal_has (IsSealTagged setup.formulas) ledger.marks a seal anchored.seals_tagged there)
+              ∙ ap₂ (λ c l. setup.formulas.tag_of a c l) (sym ctr) sealed;
+          its_major =
+              sym (same_Some seal.ctr.major major (ap (option_map (λ s. s.ctr.major)) (sym there) ∙ twin.its_major))
+              ∙ ap (λ (c : Ctr). c.major) (sym ctr);
+          low_in_window =
+              sym (same_Some (seal.ctr.minor / loss) (low / loss) (ap (option_map (λ s. s.ctr.minor / loss)) (sym there) ∙ twin.low_in_window))
+              ∙ ap (λ (c : Ctr). c.minor / loss) (sym ctr);
+          high_in_window =
+              sym (same_Some (seal.ctr.minor / loss) (high / loss) (ap (option_map (λ s. s.ctr.minor / loss)) (sym there) ∙ twin.high_in_window))
+              ∙ ap (λ (c : Ctr). c.minor / loss) (sym ctr);
+        }

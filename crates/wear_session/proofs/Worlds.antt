@@ -1,0 +1,222 @@
+-- What a session holds after a call that goes on or is cut, and how its state stands to the one before.
+use Rattle.std.proofs.Common.{rules, ℕ, zero, suc, ◌≡◌, ◌<◌, ◌≤◌, ◌+◌, inl, inr, true, false, List, length, Option, Some, None, refl, sym, ap, subst, ◌∙◌, arith}
+use Rattle.std.specs.Prelude.{IsSome, option_map}
+use Rattle.std.proofs.lemmas.Bool.{cases_lt}
+use Rattle.std.proofs.lemmas.Option.{none-some}
+use Rattle.pmem_base.specs.Counts.{last_count, HasRisen}
+use Rattle.pmem_base.specs.declared.answers.Mark.{Mark}
+use Rattle.pmem_base.specs.Layout as layout
+use Rattle.pmem_base.specs.Marks.{SealOf, last_seal}
+use Rattle.pmem_base.specs.Shape.{IsShape}
+use Rattle.board.specs.Memory.{BoardMemory}
+use Rattle.seal_ledger.specs.Ledger.{LedgerState}
+use Rattle.suite.specs.Formulas.{AreInRange}
+use Rattle.suite.specs.Setup.{Setup}
+use Rattle.plain_model.specs.View.{IsMemoryOf, plain_of_seal, plain_line, plain_memory}
+use Rattle.pmem_base.specs.declared.lines.Line.{Line}
+use Rattle.pmem_base.specs.declared.registers.Regs.{Regs}
+use Rattle.pmem_base.specs.Lines.{zero_line}
+use Rattle.std.specs.Prelude.{unwrap_or}
+use Rattle.std.proofs.lemmas.List.FromFn.{length-map-range_with_len, get_or-map-range_with_len}
+use Rattle.std.proofs.Common.{zero-add}
+use Rattle.pmem_engine.specs.Invariants.{IsAnchored, IsDurable, IsSound}
+use Rattle.start_gap.specs.declared.gapped.Gapped.{Gapped}
+use Rattle.start_gap.specs.Logical.{IsLevelled}
+use Rattle.start_gap.specs.Gapped.{logical_lines}
+use Rattle.pmem_engine.specs.Outcomes.{TakesAtMost, TakesFewer}
+use Rattle.watched_board.specs.declared.taken.Taken.{Taken}
+use Rattle.watched_board.specs.Watching.{counted, cuts_after, steps_in, step_limit, device_during, none_taken, FollowsOn, IsWatched}
+use Rattle.wear_session.specs.State.{WearState}
+use Rattle.wear_session.specs.World.{WearParts, IsWearWorld, IsLevelledOn, IsLevelledBy, wear_in, logical_memory, wear_of}
+use Rattle.wear_session.specs.Answered.{IsButForCounts, GoesTo, IsCutOff, burnt}
+
+-- ---- sealed lines
+
+some_mapped : {X Y : Type 0} (f : X → Y) (found : Option X) (y : Y) → option_map f found ≡ Some y → IsSome found
+some_mapped f None y is = absurd (none-some y is)
+some_mapped f (Some x) y is = search rules
+
+-- each line of an anchored chip was sealed
+pub sealed_in : (setup : Setup) (regs : Regs) (ledger : LedgerState) → IsAnchored setup regs ledger → (a : ℕ)
+    → a < layout.data_lines setup.shape → IsSome (last_seal ledger.marks a)
+sealed_in setup regs ledger anchored a within = some_mapped (λ (seal : SealOf). seal.ctr) (last_seal ledger.marks a) _ (anchored.last_counters a within)
+
+some_of : (found : Option Line) → IsSome found → found ≡ Some (unwrap_or found zero_line)
+some_of None is = absurd (search (rules, is))
+some_of (Some line) is = refl
+
+some_plain : (setup : Setup) (marks : List Mark) (a : ℕ) → IsSome (last_seal marks a) → IsSome (plain_line setup.formulas marks a)
+some_plain setup marks a is = go (last_seal marks a) is
+  where
+    go : (found : Option SealOf) → IsSome found → IsSome (option_map (plain_of_seal setup.formulas a) found)
+    go None is = absurd (search (rules, is))
+    go (Some seal) is = search rules
+
+-- so memory is what the marks say
+pub places_of : (setup : Setup) (marks : List Mark) → ((a : ℕ) → a < layout.data_lines setup.shape → IsSome (last_seal marks a))
+    → IsMemoryOf setup marks (plain_memory setup marks)
+unfolding plain_memory
+places_of setup marks sealed =
+    record {
+      count = length-map-range_with_len plain 0 (layout.data_lines setup.shape);
+      each =
+          λ a within.
+          some_of (plain_line setup.formulas marks a) (some_plain setup marks a (sealed a within))
+          ∙ ap (λ (line : Line). Some line)
+          (sym (get_or-map-range_with_len plain 0 (layout.data_lines setup.shape) a a zero_line within (zero-add a)));
+    }
+  where
+    plain : ℕ → Line
+    plain a = unwrap_or (plain_line setup.formulas marks a) zero_line
+
+-- ---- steps of a call
+
+few_exact : (taken : Taken) → steps_in taken ≤ step_limit → (taken.writes < last_count) × (taken.latches < last_count)
+few_exact taken few = (omega (arith, few), omega (arith, few))
+
+pub at_most : (old new : BoardMemory) (taken : Taken) (n : ℕ) → steps_in taken ≤ step_limit
+    → TakesAtMost n (device_during old none_taken) (device_during new taken) → steps_in taken ≤ n
+at_most old new taken n few takes =
+    let exact = few_exact taken few in
+    let sum : taken.writes + taken.latches ≤ 0 + 0 + n = takes.sum exact.0 exact.1 in
+    omega (arith, sum)
+
+pub fewer : (old new : BoardMemory) (taken : Taken) (n : ℕ) → steps_in taken ≤ step_limit
+    → TakesFewer n (device_during old none_taken) (device_during new taken) → steps_in taken < n
+fewer old new taken n few takes =
+    let exact = few_exact taken few in
+    let sum : taken.writes + taken.latches < 0 + 0 + n = takes.sum exact.0 exact.1 in
+    omega (arith, sum)
+
+-- a count after some more has risen
+rose_by : (before more : ℕ) → 0 < more → HasRisen before (cuts_after before more)
+rose_by before zero some = absurd (omega (arith, some))
+rose_by before (suc more) some =
+    elim (cases_lt before (counted before (suc more))) [
+      | inl above ↦ inl above
+      | inr below ↦ inr (omega (arith, below))
+    ]
+
+rose : (old new : BoardMemory) (taken : Taken) → FollowsOn old new taken → new.powered ≡ false → HasRisen old.cuts new.cuts
+rose old new taken follows off =
+    subst (λ n. HasRisen old.cuts n) (sym follows.cuts) (rose_by old.cuts taken.cuts (follows.cut off))
+
+-- ---- states
+
+module _ (setup : Setup) (old new : WearParts) (taken : Taken) (watched : IsWatched old.board new.board taken) (expected : WearState) (most : ℕ) where
+  -- a call that goes on
+  pub goes_to : new.board.powered ≡ true → steps_in taken ≤ most
+      → IsButForCounts (record expected { fuse = burnt old.board.fuse (steps_in taken) }) (wear_of setup new)
+      → GoesTo expected (steps_in taken) most (wear_of setup old) (wear_of setup new)
+  goes_to powered few becomes =
+      record {
+        becomes = becomes;
+        rises =
+            record {
+              written = taken.writes;
+              latched = taken.latches;
+              sum = refl;
+              writes = watched.follows.writes;
+              latches = watched.follows.latches;
+            };
+        few = few;
+        lasting = watched.follows.lasting powered;
+        no_cut = watched.follows.uncut powered;
+      }
+
+  -- a call that is cut
+  pub cut_off : new.board.powered ≡ false → steps_in taken < most → most ≤ step_limit
+      → IsButForCounts (record expected { count = 0; power = false; fuse = None }) (wear_of setup new)
+      → IsCutOff expected (steps_in taken) most (wear_of setup old) (wear_of setup new)
+  cut_off off below bounded becomes =
+      record {
+        becomes = becomes;
+        rises =
+            record {
+              written = taken.writes;
+              latched = taken.latches;
+              sum = refl;
+              writes = watched.follows.writes;
+              latches = watched.follows.latches;
+            };
+        at_fuse = watched.follows.spent off (omega (arith, below, bounded));
+        below = below;
+        cut = rose old.board new.board taken watched.follows off;
+      }
+
+-- ---- what is held
+
+-- with power on, where all is sound
+pub on_of : (setup : Setup) (parts : WearParts) (gapped : Gapped) → parts.gapped ≡ Some gapped → IsShape setup.shape → AreInRange setup.formulas
+    → 1 ≤ parts.every
+    → IsLevelled (logical_lines setup.shape) (plain_memory setup parts.ledger.marks) (wear_in setup (plain_memory setup parts.ledger.marks))
+    (logical_memory setup (plain_memory setup parts.ledger.marks))
+    → parts.board.powered ≡ true → IsSound setup gapped.engine parts.board.lines parts.board.regs parts.ledger → gapped.every ≡ parts.every
+    → gapped.wear ≡ wear_in setup (plain_memory setup parts.ledger.marks) → IsWearWorld setup parts
+on_of setup parts gapped there shape formulas some levelled powered sound every wear =
+    let sealed = sealed_in setup parts.board.regs parts.ledger sound.trusted.anchored in
+    let chip : IsLevelledOn setup parts gapped =
+    record {
+      powered = powered;
+      sound = sound;
+      running = sound.trusted.not_down;
+      its_shape = sound.trusted.its_shape;
+      usable =
+          record {
+            ready =
+                record {
+                  its_size = sound.durable.device_whole.count;
+                  valid_regs = sound.trusted.anchored.valid_regs;
+                  no_group = λ running. sound.trusted.no_group;
+                };
+            true_lines = sound.trusted.anchored.of_shape.truth_count;
+            line_count = sound.trusted.anchored.of_shape.line_count;
+            each_sealed = sealed;
+          };
+      its_every = every;
+      its_wear = wear;
+    } in
+    record {
+      whole_shape = shape;
+      whole_formulas = formulas;
+      some_every = some;
+      whole_lines = sound.durable.device_whole;
+      valid_regs = sound.trusted.anchored.valid_regs;
+      few_armed = omega (arith, ap length sound.trusted.no_group);
+      ledger = sound.trusted.anchored.of_shape;
+      no_exhibit = search (rules, sound.trusted.anchored.no_exhibit);
+      places = places_of setup parts.ledger.marks sealed;
+      levelled = levelled;
+      chip = subst (λ g. IsLevelledBy setup parts g) (sym there) chip;
+    }
+
+module _ (setup : Setup) (p : WearParts) (board : BoardMemory) (ledger : LedgerState) (world : IsWearWorld setup p)
+    (levelled :
+    IsLevelled (logical_lines setup.shape) (plain_memory setup ledger.marks) (wear_in setup (plain_memory setup ledger.marks))
+    (logical_memory setup (plain_memory setup ledger.marks))) where
+  -- after a call with power on
+  pub on_after : (after : Gapped) → board.powered ≡ true → IsSound setup after.engine board.lines board.regs ledger → after.every ≡ p.every
+      → after.wear ≡ wear_in setup (plain_memory setup ledger.marks)
+      → IsWearWorld setup (record { keys = p.keys; every = p.every; board = board; ledger = ledger; gapped = Some after })
+  on_after after powered sound every wear =
+      on_of setup (record { keys = p.keys; every = p.every; board = board; ledger = ledger; gapped = Some after }) after refl world.whole_shape
+      world.whole_formulas world.some_every levelled powered sound every wear
+
+  -- with power off, where the device is durable
+  pub off_after : board.powered ≡ false → IsDurable setup board.lines board.regs ledger → length board.regs.group.items ≤ 3
+      → IsWearWorld setup (record { keys = p.keys; every = p.every; board = board; ledger = ledger; gapped = None })
+  off_after unpowered durable few =
+      let anchored = durable.mendable.anchored in
+      record {
+        whole_shape = world.whole_shape;
+        whole_formulas = world.whole_formulas;
+        some_every = world.some_every;
+        whole_lines = durable.device_whole;
+        valid_regs = anchored.valid_regs;
+        few_armed = few;
+        ledger = anchored.of_shape;
+        no_exhibit = search (rules, anchored.no_exhibit);
+        places = places_of setup ledger.marks (sealed_in setup board.regs ledger anchored);
+        levelled = levelled;
+        chip = record { unpowered = unpowered; durable = durable };
+      }

@@ -1,0 +1,156 @@
+-- Power comes on; or it is cut, memory is wanted, or a twin is shown.
+use Rattle.std.proofs.Common.{rules, ◌≡◌, inl, inr, Err, ap, ◌∙◌}
+use Rattle.pmem_base.specs.Geo.{shape_of}
+use Rattle.board.specs.MemBoard.{memory_of}
+use Rattle.seal_ledger.specs.View.{ledger_of}
+use Rattle.pmem_engine.specs.declared.fault.Fault.TheVariants as Fail
+use Rattle.pmem_recovery.specs.declared.faults.RecFault.TheVariants as Rec
+use Rattle.pmem_recovery.specs.Parts.{suite_state}
+use Rattle.start_gap.specs.declared.gapped.Gapped.{Gapped}
+use Rattle.start_gap.specs.declared.gapped.GapFault.TheVariants as Gap
+use Rattle.wear_session.specs.declared.calls.StartFault.TheVariants as Start
+use Rattle.wear_session.proofs.Starts.{OnCall, none_of}
+use Rattle.wear_session.proofs.Opened.{open_exit, cut_exit, wanted_exit, twin_exit, possible}
+use Rattle.wear_session.proofs.world.WearWorld.on.Given.{Over}
+use Rattle.wear_session.proofs.world.WearWorld.on.Goals.{After-steps-steps, In-Err-Recovery, In-Err-Opening, In-Engine}
+use Rattle.wear_session.proofs.world.WearWorld.on.Goals as goal
+
+-- once recovery and the opening have answered
+module _ (g : Over) (c : After-steps-steps g) where
+  abbrev call : OnCall
+  call =
+      record {
+        formulas_of = g.S.Suite.formulas_of;
+        geometry = shape_of c.self.inside.geo;
+        parts =
+            record {
+              keys = g.S.Suite.keys c.self.inside.suite;
+              every = c.self.inside.every;
+              board = memory_of c.self.inside.board;
+              ledger = ledger_of c.self.inside.ledger;
+              gapped = c.self.inside.gapped;
+            };
+        now = c.args.self.now;
+        is = c.self.view_is;
+        world = c.self.invariant;
+        there = none_of c.self.inside.gapped c.is_some.result c.is_some.ensures c.if-is_some.false;
+        lit = memory_of c.power.new.self;
+        lit_is = c.power.ensures;
+        keys = g.S.Suite.keys c.start-done.new.suite;
+        same_keys = c.start-done.ensures.keys;
+        board = memory_of c.start-done.new.board;
+        ledger = ledger_of c.start-done.new.ledger;
+        taken = c.start-done.result.taken;
+        watched = c.start-done.ensures.watched;
+        suite_old =
+            suite_state (g.S.Suite.keys c.self.inside.suite) (g.S.Suite.pads c.self.inside.suite) (g.S.Suite.tags c.self.inside.suite)
+            (g.S.Suite.digests c.self.inside.suite);
+        suite_new =
+            suite_state (g.S.Suite.keys c.start-done.new.suite) (g.S.Suite.pads c.start-done.new.suite) (g.S.Suite.tags c.start-done.new.suite)
+            (g.S.Suite.digests c.start-done.new.suite);
+        said = c.steps-steps.result;
+        counted = c.steps-steps.ensures;
+        answer = c.start-done.result.answer;
+        started = c.start-done.ensures.started;
+      }
+
+pub invariant_of-self : goal.invariant_of-self
+invariant_of-self g c =
+    rw c.in-Ok.gapped-is (open_exit (call g ((goal.at.invariant_of-self g c).After-steps-steps)) c.in-Ok.gapped c.in-Ok.is).0
+
+pub returns-in-Ok-clause-answered : goal.returns-in-Ok-clause-answered
+returns-in-Ok-clause-answered g c =
+    let same : c.wear-wear.result.now ≡ c.in-Ok.gapped.wear = c.wear-wear.ensures ∙ ap (λ (gapped : Gapped). gapped.wear) c.in-Ok.gapped-is in
+    rw same (rw c.in-Ok.gapped-is (open_exit (call g ((goal.at.returns-in-Ok-clause-answered g c).After-steps-steps)) c.in-Ok.gapped c.in-Ok.is).1)
+
+-- ---- recovery wasn't done
+
+recovery_fault : (g : Over) (c : In-Err-Recovery g) → c.start-done.result.answer ≡ Err (Start.Recovery c.in-Err-Recovery.fault)
+recovery_fault g c = let h = c.in-Err-Recovery.is in let k = c.in-Err-Recovery.field-0-is in search rules
+
+pub invariant_of-self-in-Cut : goal.invariant_of-self-in-Cut
+invariant_of-self-in-Cut g c =
+    (cut_exit (call g ((goal.at.invariant_of-self-in-Cut g c).After-steps-steps))
+    (inl (recovery_fault g ((goal.at.invariant_of-self-in-Cut g c).In-Err-Recovery) ∙ ap (λ f. Err (Start.Recovery f)) c.in-Cut.is))).0
+
+pub returns-in-Cut-clause-answered : goal.returns-in-Cut-clause-answered
+returns-in-Cut-clause-answered g c =
+    (cut_exit (call g ((goal.at.returns-in-Cut-clause-answered g c).After-steps-steps))
+    (inl (recovery_fault g ((goal.at.returns-in-Cut-clause-answered g c).In-Err-Recovery) ∙ ap (λ f. Err (Start.Recovery f)) c.in-Cut.is))).1
+
+pub invariant_of-self-in-Memory : goal.invariant_of-self-in-Memory
+invariant_of-self-in-Memory g c =
+    (wanted_exit (call g ((goal.at.invariant_of-self-in-Memory g c).After-steps-steps)) (memory_of c.rest.new.self) c.rest.ensures
+    (recovery_fault g ((goal.at.invariant_of-self-in-Memory g c).In-Err-Recovery) ∙ ap (λ f. Err (Start.Recovery f)) c.in-Memory.is)).0
+
+pub returns-in-Memory-clause-halted : goal.returns-in-Memory-clause-halted
+returns-in-Memory-clause-halted g c =
+    (wanted_exit (call g ((goal.at.returns-in-Memory-clause-halted g c).After-steps-steps)) (memory_of c.rest.new.self) c.rest.ensures
+    (recovery_fault g ((goal.at.returns-in-Memory-clause-halted g c).In-Err-Recovery) ∙ ap (λ f. Err (Start.Recovery f)) c.in-Memory.is)).1
+
+pub invariant_of-self-in-Twin : goal.invariant_of-self-in-Twin
+invariant_of-self-in-Twin g c =
+    (twin_exit (call g ((goal.at.invariant_of-self-in-Twin g c).After-steps-steps)) (memory_of c.rest-in-Twin.new.self) c.rest-in-Twin.ensures
+    c.in-Twin.at c.in-Twin.major c.in-Twin.low c.in-Twin.high c.in-Twin.cipher c.in-Twin.tag
+    (recovery_fault g ((goal.at.invariant_of-self-in-Twin g c).In-Err-Recovery) ∙ ap (λ f. Err (Start.Recovery f)) c.in-Twin.is)).0
+
+pub returns-in-Twin-clause-halted : goal.returns-in-Twin-clause-halted
+returns-in-Twin-clause-halted g c =
+    (twin_exit (call g ((goal.at.returns-in-Twin-clause-halted g c).After-steps-steps)) (memory_of c.rest-in-Twin.new.self) c.rest-in-Twin.ensures
+    c.in-Twin.at c.in-Twin.major c.in-Twin.low c.in-Twin.high c.in-Twin.cipher c.in-Twin.tag
+    (recovery_fault g ((goal.at.returns-in-Twin-clause-halted g c).In-Err-Recovery) ∙ ap (λ f. Err (Start.Recovery f)) c.in-Twin.is)).1
+
+pub unreachable-requires : goal.unreachable-requires
+unreachable-requires g c =
+    let its = call g ((goal.at.unreachable-requires g c).After-steps-steps) in
+    let is = recovery_fault g ((goal.at.unreachable-requires g c).In-Err-Recovery) in
+    elim c.in-NoCounter.is [
+      | inl counter ↦ possible its (Err (Start.Recovery (Rec.NoCounter counter.0))) (is ∙ ap (λ f. Err (Start.Recovery f)) counter.1)
+      | inr root ↦ possible its (Err (Start.Recovery (Rec.Root root.0 root.1))) (is ∙ ap (λ f. Err (Start.Recovery f)) root.2)
+    ]
+
+-- ---- the lines weren't opened
+
+opening_fault : (g : Over) (c : In-Err-Opening g) → c.start-done.result.answer ≡ Err (Start.Opening c.in-Err-Opening.fault)
+opening_fault g c = let h = c.in-Err-Opening.is in let k = c.in-Err-Opening.field-0-is in search rules
+
+engine_fault : (g : Over) (c : In-Engine g) → c.start-done.result.answer ≡ Err (Start.Opening (Gap.Engine c.in-Engine.fault))
+engine_fault g c = let h = c.in-Err-Opening.is in let k = c.in-Err-Opening.field-0-is in let m = c.in-Engine.is in search rules
+
+pub invariant_of-self-in-Err-Opening : goal.invariant_of-self-in-Err-Opening
+invariant_of-self-in-Err-Opening g c =
+    (cut_exit (call g ((goal.at.invariant_of-self-in-Err-Opening g c).After-steps-steps))
+    (inr (engine_fault g ((goal.at.invariant_of-self-in-Err-Opening g c).In-Engine)
+    ∙ ap (λ f. Err (Start.Opening (Gap.Engine f))) c.in-Cut-fault.is))).0
+
+pub returns-in-Cut-fault-clause-answered : goal.returns-in-Cut-fault-clause-answered
+returns-in-Cut-fault-clause-answered g c =
+    (cut_exit (call g ((goal.at.returns-in-Cut-fault-clause-answered g c).After-steps-steps))
+    (inr (engine_fault g ((goal.at.returns-in-Cut-fault-clause-answered g c).In-Engine)
+    ∙ ap (λ f. Err (Start.Opening (Gap.Engine f))) c.in-Cut-fault.is))).1
+
+pub unreachable-requires-in-Down : goal.unreachable-requires-in-Down
+unreachable-requires-in-Down g c =
+    let its = call g ((goal.at.unreachable-requires-in-Down g c).After-steps-steps) in
+    let is = engine_fault g ((goal.at.unreachable-requires-in-Down g c).In-Engine) in
+    elim c.in-Down.is [
+      | inl down ↦ possible its (Err (Start.Opening (Gap.Engine Fail.Down))) (is ∙ ap (λ f. Err (Start.Opening (Gap.Engine f))) down)
+      | inr others ↦
+          elim others [
+            | inl meta ↦ possible its (Err (Start.Opening (Gap.Engine (Fail.Meta meta.0)))) (is ∙ ap (λ f. Err (Start.Opening (Gap.Engine f))) meta.1)
+            | inr more ↦
+                elim more [
+                  | inl tag ↦ possible its (Err (Start.Opening (Gap.Engine (Fail.Tag tag.0)))) (is ∙ ap (λ f. Err (Start.Opening (Gap.Engine f))) tag.1)
+                  | inr last ↦
+                      elim last [
+                        | inl shown ↦ possible its (Err (Start.Opening (Gap.Engine Fail.Shown))) (is ∙ ap (λ f. Err (Start.Opening (Gap.Engine f))) shown)
+                        | inr spent ↦ possible its (Err (Start.Opening (Gap.Engine (Fail.Spent spent.0)))) (is ∙ ap (λ f. Err (Start.Opening (Gap.Engine f))) spent.1)
+                      ]
+                ]
+          ]
+    ]
+
+pub unreachable-requires-in-BadWear : goal.unreachable-requires-in-BadWear
+unreachable-requires-in-BadWear g c =
+    possible (call g ((goal.at.unreachable-requires-in-BadWear g c).After-steps-steps)) (Err (Start.Opening (Gap.BadWear c.in-BadWear.line)))
+    (opening_fault g ((goal.at.unreachable-requires-in-BadWear g c).In-Err-Opening) ∙ ap (λ f. Err (Start.Opening f)) c.in-BadWear.is)

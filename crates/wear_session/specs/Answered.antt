@@ -1,0 +1,241 @@
+-- Which answers a command has in which states, and the state after: where the state alone decides, the first
+-- condition that holds does; else the engine gives one of the answers that are listed.
+use Rattle.std.specs.Prelude.{ℕ, ◌≡◌, ◌≤◌, ◌<◌, ◌+◌, ◌-◌, ◌*◌, ◌==◌, ◌&&◌, ◌⊎◌, nat_lt, Bool, true, false, List, ◌++◌, length, Option, Some, None, option_map, IfSome, Ok, ⊤, if◌then◌else◌}
+use Rattle.std.specs.List.{list_any}
+use Rattle.pmem_base.specs.declared.lines.Line.{Line}
+use Rattle.pmem_base.specs.declared.commands.Posted.{Posted}
+use Rattle.pmem_base.specs.declared.answers.Mark.{Mark}
+use Rattle.pmem_base.specs.declared.answers.Mark.TheVariants.{Begin, Seal}
+use Rattle.pmem_base.specs.declared.answers.Exhibit.{Exhibit}
+use Rattle.pmem_base.specs.declared.answers.Exhibit.TheVariants.{Twin}
+use Rattle.pmem_base.specs.Counts.{HasRisen}
+use Rattle.pmem_base.specs.Shape.{Shape}
+use Rattle.pmem_base.specs.Lines.{line_at}
+use Rattle.watched_board.specs.Watching.{counted}
+use Rattle.suite.specs.Formulas.{Formulas}
+use Rattle.suite.specs.Setup.{Setup}
+use Rattle.collision_witness.specs.Exhibits.{IsExhibit}
+use Rattle.plain_model.specs.Bounds.{path_length, recovery_bound}
+use Rattle.plain_model.specs.Asked.{Moment}
+use Rattle.plain_model.specs.Fits.{drained_marks, IsStopped, IsSpentNext}
+use Rattle.plain_model.specs.Shown.{IsTwinOfSeal}
+use Rattle.wear_session.specs.declared.commands.WearCommand.{WearCommand}
+use Rattle.wear_session.specs.declared.commands.WearCommand.TheVariants as Do
+use Rattle.wear_session.specs.declared.answers.WearAnswer.{WearAnswer}
+use Rattle.wear_session.specs.declared.answers.WearAnswer.TheVariants as Say
+use Rattle.trace_text.specs.declared.talk.Halt.{Halt}
+use Rattle.trace_text.specs.declared.talk.Halt.TheVariants as Stop
+use Rattle.wear_session.specs.Answers.{wear_text}
+use Rattle.wear_session.specs.Commands.{reading_of_wear}
+use Rattle.wear_session.specs.State.{WearState, lines_in, view_in, places_in, moment_in, place_in, is_due, engine_writes, without_power, with_writes}
+
+-- ---- answers that the state decides
+
+-- the answer, where power is on and there is such a line
+abbrev pub of_line : WearState → ℕ → Option WearAnswer → Option WearAnswer
+of_line state a answer =
+    if state.power then (if nat_lt a (lines_in state) then answer else Some Say.Range) else Some Say.Off
+
+-- the answer that the state alone decides; none where the engine decides
+abbrev pub decided : WearState → WearCommand → Option WearAnswer
+decided state (Do.Write a plain) = of_line state a None
+decided state (Do.Read a) = of_line state a None
+decided state (Do.Place a) = of_line state a (Some (Say.At (place_in state a)))
+decided state (Do.Cut n) = Some Say.Ok
+decided state Do.Off = if state.power then Some Say.Ok else Some Say.Off
+decided state Do.On = if state.power then Some Say.Already else None
+
+abbrev pub after_decided : WearState → WearCommand → WearState
+after_decided state (Do.Cut n) = record state { fuse = Some n }
+after_decided state Do.Off = if state.power then without_power state else state
+after_decided state command = state
+
+-- ---- steps
+
+-- a state that is another but for the board's counts
+pub record IsButForCounts (expected new : WearState) : Type 0 where
+  pub shape : new.shape ≡ expected.shape
+  pub keys : new.keys ≡ expected.keys
+  pub every : new.every ≡ expected.every
+  pub memory : new.memory ≡ expected.memory
+  pub wear : new.wear ≡ expected.wear
+  pub count : new.count ≡ expected.count
+  pub power : new.power ≡ expected.power
+  pub fuse : new.fuse ≡ expected.fuse
+  pub loss : new.loss ≡ expected.loss
+  pub marks : new.marks ≡ expected.marks
+
+-- line writes and latches rose by so many together
+pub record RisesBySteps (steps : ℕ) (old new : WearState) : Type 0 where
+  pub written : ℕ
+  pub latched : ℕ
+  pub sum : steps ≡ written + latched
+  pub writes : new.writes ≡ counted old.writes written
+  pub latches : new.latches ≡ counted old.latches latched
+
+-- the fuse after so many steps
+abbrev pub burnt : Option ℕ → ℕ → Option ℕ
+burnt fuse steps = option_map (λ left. left - steps) fuse
+
+-- so many steps were done, which are at most so many and which the fuse let, and nothing was cut
+pub record GoesTo (expected : WearState) (steps most : ℕ) (old new : WearState) : Type 0 where
+  pub becomes : IsButForCounts (record expected { fuse = burnt old.fuse steps }) new
+  pub rises : RisesBySteps steps old new
+  pub few : steps ≤ most
+  pub lasting : IfSome old.fuse (λ left. steps ≤ left)
+  pub no_cut : new.cuts ≡ old.cuts
+
+-- power was cut at the end of the fuse, after fewer steps than so many
+pub record IsCutOff (expected : WearState) (steps most : ℕ) (old new : WearState) : Type 0 where
+  pub becomes : IsButForCounts (without_power expected) new
+  pub rises : RisesBySteps steps old new
+  pub at_fuse : old.fuse ≡ Some steps
+  pub below : steps < most
+  pub cut : HasRisen old.cuts new.cuts
+
+-- the most steps of an engine's write, which are those of 65 seals, a begin and its path, and of its read
+abbrev pub write_steps : Shape → ℕ
+write_steps g = 2 * path_length g + 264
+
+abbrev pub read_steps : Shape → ℕ
+read_steps g = path_length g
+
+-- those of a write, with its move where one is due, and of recovery with the opening
+abbrev pub most_of_write : WearState → ℕ
+most_of_write state =
+    if is_due state then 3 * write_steps state.shape + read_steps state.shape else write_steps state.shape
+
+abbrev pub most_of_on : WearState → ℕ
+most_of_on state = recovery_bound state.shape + read_steps state.shape
+
+-- ---- a write
+
+-- how many of a write's engine writes are done, and the marks that were made
+pub record Writing : Type 0 where
+  pub done : ℕ
+  pub made : List Mark
+
+-- whether a mark is a write's own seal of line a: a line that is only sealed anew gets the minor 0
+abbrev pub is_own_seal : ℕ → Mark → Bool
+is_own_seal a (Begin page) = false
+is_own_seal a (Seal b ctr cipher tag) = b == a && nat_lt 0 ctr.minor
+
+-- the marks are all those of the writes that are done
+abbrev pub AreAllMade : Formulas → Moment → List Posted → Writing → Type 0
+AreAllMade f now writes writing =
+    (writing.done ≤ length writes) × (drained_marks f now writes writing.done ≡ Some writing.made)
+
+-- power was cut as one of them ended, or in the next one
+abbrev pub IsCutAmong : Formulas → Moment → List Posted → Writing → Type 0
+IsCutAmong f now writes writing =
+    AreAllMade f now writes writing ⊎ IsStopped f now writes writing.done writing.made
+
+-- How far a write came, by its answer: all of its engine writes; or up to one whose counter is used up, which is
+-- the line's own or a later one; or up to a cut, with the seal of the line's own write or before it.
+abbrev pub IsWriting : Formulas → Moment → List Posted → Writing → WearAnswer → Type 0
+IsWriting f now writes writing (Say.Written steps) =
+    (writing.done ≡ length writes) × AreAllMade f now writes writing
+IsWriting f now writes writing (Say.Held page steps) =
+    (0 < writing.done) × IsSpentNext f now writes writing.done page writing.made
+IsWriting f now writes writing (Say.Spent page steps) =
+    (writing.done ≡ 0) × IsSpentNext f now writes writing.done page writing.made
+IsWriting f now writes writing (Say.CutKept steps) =
+    (0 < writing.done) × IsCutAmong f now writes writing
+IsWriting f now writes writing (Say.CutLost steps) =
+    (writing.done ≡ 0) × IsStopped f now writes writing.done writing.made
+IsWriting f now writes writing answer = ⊥
+
+-- whether the line's own seal is among the marks, after a cut
+abbrev pub IsKept : ℕ → List Mark → WearAnswer → Type 0
+IsKept place made (Say.CutKept steps) = list_any (is_own_seal place) made ≡ true
+IsKept place made (Say.CutLost steps) = list_any (is_own_seal place) made ≡ false
+IsKept place made answer = ⊤
+
+-- the state that so many done writes leave, but for power, fuse and counts
+abbrev pub after_writing : WearState → ℕ → Line → Writing → WearState
+after_writing old a plain writing =
+    record (with_writes old a plain writing.done) { marks = old.marks ++ writing.made }
+
+abbrev pub EndsWriting : WearState → WearAnswer → WearState → WearState → Type 0
+EndsWriting expected (Say.CutKept steps) old new = IsCutOff expected steps (most_of_write old) old new
+EndsWriting expected (Say.CutLost steps) old new = IsCutOff expected steps (write_steps old.shape) old new
+EndsWriting expected (Say.Written steps) old new = GoesTo expected steps (most_of_write old) old new
+EndsWriting expected (Say.Held page steps) old new = GoesTo expected steps (most_of_write old) old new
+EndsWriting expected (Say.Spent page steps) old new = GoesTo expected steps (path_length old.shape) old new
+EndsWriting expected answer old new = ⊥
+
+pub record HasWritten (setup : Setup) (old : WearState) (a : ℕ) (plain : Line) (answer : WearAnswer) (new : WearState) :
+    Type 0 where
+  pub writing : Writing
+  pub came : IsWriting setup.formulas (moment_in setup old) (engine_writes setup old a plain) writing answer
+  pub kept : IsKept (place_in old a) writing.made answer
+  pub ends : EndsWriting (after_writing old a plain writing) answer old new
+
+-- ---- a read, and recovery
+
+abbrev pub HasRead : WearState → ℕ → WearAnswer → WearState → Type 0
+HasRead old a (Say.Got line steps) new =
+    (line ≡ line_at old.memory a) × GoesTo old steps (read_steps old.shape) old new
+HasRead old a (Say.Cut steps) new = IsCutOff old steps (read_steps old.shape) old new
+HasRead old a answer new = ⊥
+
+-- no write was done since power came on
+abbrev pub with_power : WearState → WearState
+with_power state = record state { power = true; count = 0 }
+
+abbrev pub HasOpened : WearState → WearAnswer → WearState → Type 0
+HasOpened old (Say.Opened start gap steps) new =
+    (start ≡ old.wear.start) × (gap ≡ old.wear.gap) × GoesTo (with_power old) steps (most_of_on old) old new
+HasOpened old (Say.Cut steps) new = IsCutOff old steps (most_of_on old) old new
+HasOpened old answer new = ⊥
+
+-- ---- the relation
+
+-- what the engine answers, and what it leaves
+abbrev pub IsServed : Setup → WearState → WearCommand → WearAnswer → WearState → Type 0
+IsServed setup old (Do.Write a plain) answer new = HasWritten setup old a plain answer new
+IsServed setup old (Do.Read a) answer new = HasRead old a answer new
+IsServed setup old Do.On answer new = HasOpened old answer new
+IsServed setup old command answer new = ⊥
+
+-- a decided answer leaves the counts as they are
+abbrev pub IsAnsweredAs :
+    Option WearAnswer → Setup → WearState → WearCommand → WearAnswer → WearState → Type 0
+IsAnsweredAs (Some fixed) setup old command answer new =
+    (answer ≡ fixed) × (new ≡ after_decided old command)
+IsAnsweredAs None setup old command answer new = IsServed setup old command answer new
+
+-- the answer that the state decides, or else one that the engine may give
+abbrev pub IsAnswered : Setup → WearState → WearCommand → WearAnswer → WearState → Type 0
+IsAnswered setup old command answer new =
+    IsAnsweredAs (decided old command) setup old command answer new
+
+-- an exhibit comes of recovery alone: a twin that holds, of the last seal of one of the data lines
+abbrev pub IsShownBy : Setup → WearState → WearCommand → Exhibit → Type 0
+IsShownBy setup old Do.On (Twin at major low high cipher tag) =
+    (old.power ≡ false)
+    × IsExhibit setup.formulas (Twin at major low high cipher tag)
+    × IsTwinOfSeal setup (places_in setup old) old.loss (view_in old) at major low high cipher tag
+IsShownBy setup old command exhibit = ⊥
+
+-- why a command has no answer: memory is wanted, and nothing was done; or it is an exhibit
+abbrev pub IsHalt : Setup → WearState → WearCommand → Halt → WearState → Type 0
+IsHalt setup old command Stop.Memory new = new ≡ old
+IsHalt setup old command (Stop.Shown exhibit) new = IsShownBy setup old command exhibit
+IsHalt setup old command (Stop.Line kind) new = ⊥
+
+-- ---- a line and its answer
+
+-- the line asks for a command, and the text is that of one of its answers
+pub record IsTalkedOf (setup : Setup) (old : WearState) (line text : List ℕ) (new : WearState) : Type 0 where
+  pub command : WearCommand
+  pub its_reading : reading_of_wear line ≡ Ok (Some command)
+  pub answer : WearAnswer
+  pub its_text : text ≡ wear_text answer
+  pub answered : IsAnswered setup old command answer new
+
+-- the line asks for a command whose answer is the exhibit
+pub record IsShownOf (setup : Setup) (old : WearState) (line : List ℕ) (exhibit : Exhibit) : Type 0 where
+  pub command : WearCommand
+  pub its_reading : reading_of_wear line ≡ Ok (Some command)
+  pub shown : IsShownBy setup old command exhibit

@@ -1,0 +1,19 @@
+//! A session over a levelled memory: the commands that its lines spell, what each answers, and the texts of
+//! the answers.
+#![tactic(auto)]
+
+mod answers;
+mod calls;
+mod commands;
+mod laws;
+mod powering;
+mod serving;
+mod talking;
+#[cfg(test)]
+mod tests;
+mod world;
+
+pub use answers::{WearAnswer, write_wear_answer};
+pub use commands::{WearCommand, read_wear_command};
+pub use laws::sessions_keep_lines;
+pub use world::WearWorld;

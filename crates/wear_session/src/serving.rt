@@ -1,0 +1,124 @@
+//! Commands on logical lines.
+ghost use Rattle.std.specs.Prelude.{◌≡◌, IfOk, OnErr};
+ghost use Rattle.std.specs.List.{list_any};
+ghost use Rattle.wear_session.specs.declared.commands.WearCommand.TheVariants as Do;
+ghost use Rattle.wear_session.specs.State.{setup_in};
+ghost use Rattle.wear_session.specs.Answered.{is_own_seal, IsAnswered};
+
+use crate::answers::WearAnswer;
+use crate::calls;
+use crate::world::WearWorld;
+use pmem_base::{Line, Mark, MemFault};
+use pmem_engine::Fault;
+use seal_ledger::Audit;
+use start_gap::{Moved, WriteFault, place};
+use suite::Suite;
+
+/// The most marks of a write with its move: three writes of an engine.
+const WRITE_MARKS: u32 = 198;
+
+/// Whether one of these marks is a write's own seal of line `at`: a line that is only sealed anew gets the minor 0.
+fn has_own_seal(marks: &[Mark], at: u32) -> bool
+    ensures { result ≡ list_any (is_own_seal at) marks.now }
+{
+    for mark in marks {
+        if let Mark::Seal { at: line, ctr, .. } = mark {
+            if *line == at && ctr.minor > 0 {
+                return true;
+            }
+        }
+    }
+    false
+}
+
+impl<S: Suite + Drop> WearWorld<S> {
+    /// A logical line is written. The one error is want of memory.
+    pub(crate) fn write(&mut self, at: u64, line: &Line) -> Result<WearAnswer, MemFault>
+        ensures answered { IfOk result (λ answer. IsAnswered (setup_in S.formulas_of self.old) self.old (Do.Write at line.now) answer self.new) }
+        ensures err { OnErr result (self.new ≡ self.old) }
+    {
+        let Some(gapped) = &mut self.gapped else {
+            return Ok(WearAnswer::Off);
+        };
+        if at >= u64::from(gapped.lines()) {
+            return Ok(WearAnswer::Range);
+        }
+        line.is_whole();
+        self.ledger.reserve(WRITE_MARKS)?;
+        let from = self.ledger.marks().len();
+        let own = place(gapped.lines(), gapped.wear(), at as u32);
+        let done = calls::write(
+            gapped,
+            &mut self.board,
+            &mut self.suite,
+            &mut self.ledger,
+            at as u32,
+            line,
+        );
+        let steps = done.taken.steps();
+        match done.answer {
+            Ok(Moved::Not) => Ok(WearAnswer::Written { steps }),
+            Ok(Moved::Made) => Ok(WearAnswer::Written { steps }),
+            Ok(Moved::Held { page }) => Ok(WearAnswer::Held { page, steps }),
+            Err(WriteFault { fault, written }) => match fault {
+                Fault::Spent { page } => Ok(WearAnswer::Spent { page, steps }),
+                Fault::Cut => {
+                    self.gapped = None;
+                    if written || has_own_seal(&self.ledger.marks()[from..], own) {
+                        Ok(WearAnswer::CutKept { steps })
+                    } else {
+                        Ok(WearAnswer::CutLost { steps })
+                    }
+                }
+                // Over a sound device no other fault comes.
+                Fault::Down | Fault::Meta { .. } | Fault::Tag { .. } | Fault::Shown => {
+                    unreachable!()
+                }
+            },
+        }
+    }
+
+    /// A logical line is read.
+    pub(crate) fn read(&mut self, at: u64) -> WearAnswer
+        ensures { IsAnswered (setup_in S.formulas_of self.old) self.old (Do.Read at) result self.new }
+    {
+        let Some(gapped) = &mut self.gapped else {
+            return WearAnswer::Off;
+        };
+        if at >= u64::from(gapped.lines()) {
+            return WearAnswer::Range;
+        }
+        let done = calls::read(
+            gapped,
+            &mut self.board,
+            &mut self.suite,
+            &mut self.ledger,
+            at as u32,
+        );
+        let steps = done.taken.steps();
+        match done.answer {
+            Ok(line) => WearAnswer::Got { line, steps },
+            Err(Fault::Cut) => {
+                self.gapped = None;
+                WearAnswer::Cut { steps }
+            }
+            // Over a sound device no other fault comes.
+            Err(_) => unreachable!(),
+        }
+    }
+
+    /// The place of a logical line.
+    pub(crate) fn place(&self, at: u64) -> WearAnswer
+        ensures { IsAnswered (setup_in S.formulas_of self.now) self.now (Do.Place at) result self.now }
+    {
+        let Some(gapped) = &self.gapped else {
+            return WearAnswer::Off;
+        };
+        if at >= u64::from(gapped.lines()) {
+            return WearAnswer::Range;
+        }
+        WearAnswer::At {
+            place: place(gapped.lines(), gapped.wear(), at as u32),
+        }
+    }
+}
