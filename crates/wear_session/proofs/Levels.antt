@@ -7,13 +7,10 @@ use Rattle.std.proofs.lemmas.List.FromFn.{length-map-range_with_len, get_or-map-
 use Rattle.pmem_base.specs.declared.lines.Line.{Line}
 use Rattle.pmem_base.specs.Lines.{line_at, zero_line}
 use Rattle.suite.specs.Setup.{Setup}
-use Rattle.plain_model.specs.View.{plain_memory}
-use Rattle.plain_model.proofs.PlainMemory.{memory_is}
-use Rattle.pmem_engine.specs.Parts.{Parts}
 use Rattle.start_gap.specs.declared.wear.Wear.{Wear}
 use Rattle.start_gap.specs.Wear.{place_of, first_wear}
 use Rattle.start_gap.specs.Logical.{IsLevelled}
-use Rattle.start_gap.specs.Gapped.{HasLines, logical_lines}
+use Rattle.start_gap.specs.Gapped.{logical_lines}
 use Rattle.wear_session.specs.World.{wear_in, logical_memory}
 
 module _ (setup : Setup) (lines memory : List Line) (wear : Wear) (it : IsLevelled (logical_lines setup.shape) lines wear memory) where
@@ -36,7 +33,3 @@ module _ (setup : Setup) (lines memory : List Line) (wear : Wear) (it : IsLevell
 
   pub levelled_is : IsLevelled (logical_lines setup.shape) lines (wear_in setup lines) (logical_memory setup lines)
   levelled_is = subst₂ (λ w m. IsLevelled (logical_lines setup.shape) lines w m) (sym wear_is) (sym memory_held) it
-
--- the lines that the marks seal are plain memory
-pub lines_sealed : (setup : Setup) (lines : List Line) (parts : Parts) → HasLines setup lines parts → plain_memory setup parts.ledger.marks ≡ lines
-lines_sealed setup lines parts has = memory_is setup parts.ledger.marks lines (record { count = has.whole.count; each = has.sealed })

@@ -77,7 +77,6 @@ pub record NewCall : Type 0 where
   pub some_every : 1 ≤ every
   -- the board as it is made
   pub start : Device
-  pub start_live : start.live ≡ true
   pub start_writes : start.writes ≡ 0
   pub start_latches : start.latches ≡ 0
   pub start_cuts : start.cuts ≡ 0

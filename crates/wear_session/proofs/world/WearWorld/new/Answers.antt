@@ -31,7 +31,6 @@ module _ (g : Over) (c : After-open g) where
         every = c.args.every;
         some_every = c.requires;
         start = device_of (memory_of c.in_ok-board.board);
-        start_live = ap (λ (m : BoardMemory). m.powered) c.in_ok-board.ensures;
         start_writes = ap (λ (m : BoardMemory). m.writes) c.in_ok-board.ensures;
         start_latches = ap (λ (m : BoardMemory). m.latches) c.in_ok-board.ensures;
         start_cuts = ap (λ (m : BoardMemory). m.cuts) c.in_ok-board.ensures;
