@@ -13,8 +13,10 @@ use Rattle.pmem_base.specs.declared.commands.Kind.{Kind}
 use Rattle.trace_text.specs.Talks.{Sort, skipped, asked, faulty}
 use Rattle.trace_text.specs.Conversations.{Protocol, line_sort, TalkEnds}
 use Rattle.pmem_cli.specs.declared.options.Task.{Task}
-use Rattle.pmem_cli.specs.HasRun.{HasRun, TaskOutcome, IsInGrammar, IsRunThrough, IsComplete}
-use Rattle.pmem_cli.specs.Talked.{HasTalked, IsNoFault, IsInLanguage, IsTalkComplete}
+use Rattle.pmem_cli.specs.HasRun.{HasRun, TaskOutcome, IsInGrammar, IsComplete}
+use Rattle.pmem_cli.specs.Sessions.{Session, session_protocol, HasSession}
+use Rattle.pmem_cli.specs.Talked.{HasTalked, IsNoFault, IsInLanguage, IsRunThrough, IsTalkComplete}
+use Rattle.pmem_cli.specs.Wear.{wear_chosen}
 
 through_by : (stop : Stop) (setup : Setup) (status : ℕ) (trace : List ℕ) (left : Option (List ℕ)) (steps : List Step) → Ends setup stop trace left steps
     → status ≡ status_of stop → status ≢ 3 → status ≢ 4 → IsInGrammar trace → IsRunThrough status
@@ -38,11 +40,6 @@ run_complete setup status None left before after reads writes run read write = t
 run_complete setup status (Some bytes) left before after reads writes run read write = λ grammar no_fault.
     through_by run.stop setup status bytes left run.steps run.ends (run.its_status (λ four. no_fault (inr (write four))))
     (λ three. no_fault (inl (read three))) (λ four. no_fault (inr (write four))) grammar
-
-pub complete : (task : Task) (status : ℕ) (trace left before after : Option (List ℕ)) (reads writes : Type 0) → TaskOutcome task status reads trace left before after
-    → (status ≡ 3 → reads) → (status ≡ 4 → writes) → IsComplete task status trace (reads ⊎ writes)
-complete (Task.Run c) status trace left before after reads writes done read write = run_complete _ status trace left before after reads writes done read write
-complete task status trace left before after reads writes done read write = tt
 
 -- ---- a session's trace
 
@@ -73,3 +70,26 @@ talk_complete p first status None left before after reads writes talked read wri
 talk_complete p first status (Some bytes) left before after reads writes talked read write = λ within no_fault.
     talk_through p first talked.stop status bytes left talked.replies talked.ends (talked.its_status (λ four. no_fault (inr (write four))))
     (λ three. no_fault (inl (read three))) (λ four. no_fault (inr (write four))) within
+
+-- the same of a session of a command, also where memory was wanted for it
+session_complete : {S R : Type 0} (session : Session S R) (status : ℕ) (trace left before after : Option (List ℕ)) (reads writes : Type 0)
+    → HasSession session status reads trace left before after → (status ≡ 3 → reads) → (status ≡ 4 → writes)
+    → IsTalkComplete (session_protocol session) status trace (reads ⊎ writes)
+session_complete session status None left before after reads writes done read write = tt
+session_complete session status (Some bytes) left before after reads writes done read write = λ within no_fault.
+    let its = done.its_status (λ four. no_fault (inr (write four))) in
+    elim done.talked [
+      | inl none ↦ inr (inr (its ∙ ap status_of none.0))
+      | inr talked ↦
+          talk_through (session_protocol session) talked.first done.stop status bytes left done.said talked.ends its
+          (λ three. no_fault (inl (read three))) (λ four. no_fault (inr (write four))) within
+    ]
+
+-- ---- what was asked for
+
+pub complete : (task : Task) (status : ℕ) (trace left before after : Option (List ℕ)) (reads writes : Type 0) → TaskOutcome task status reads trace left before after
+    → (status ≡ 3 → reads) → (status ≡ 4 → writes) → IsComplete task status trace (reads ⊎ writes)
+complete (Task.Run c) status trace left before after reads writes done read write = run_complete _ status trace left before after reads writes done read write
+complete (Task.Wear c) status trace left before after reads writes done read write =
+    session_complete (wear_chosen c) status trace left before after reads writes done read write
+complete task status trace left before after reads writes done read write = tt

@@ -20,3 +20,6 @@ pub mod StepSums
 pub mod StatusLemmas
 pub mod ReplyLemmas
 pub mod Completing
+pub mod Following
+pub mod SessionLemmas
+pub mod WearLemmas

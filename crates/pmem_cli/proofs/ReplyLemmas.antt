@@ -24,8 +24,10 @@ use Rattle.pmem_cli.specs.RepliesFirst.{PullsWithinLine, HasRepliedFirst, TaskRe
 use Rattle.pmem_cli.specs.Pulling.{RemembersLeft}
 use Rattle.pmem_cli.specs.Standing.{standing_of}
 use Rattle.pmem_cli.specs.Replies.{world_protocol}
+use Rattle.pmem_cli.specs.Sessions.{Session, session_protocol, HasSaidFirst}
 use Rattle.pmem_cli.specs.Talked.{HasToldFirst}
 use Rattle.pmem_cli.specs.Turns.{HasServed, Turns}
+use Rattle.pmem_cli.specs.Wear.{wear_chosen}
 use Rattle.pmem_cli.proofs.StandingLemmas.{new_setup, new_machine}
 use Rattle.pmem_cli.proofs.WorldTalks.{replied_of_told}
 
@@ -130,6 +132,12 @@ told_more w s (Some bytes) (Some behind) p put later more (given, cut, are) grow
   },
 )
 
+-- so it is of a new session
+pub said_more : {S R : Type 0} (session : Session S R) (trace told : Option (List ℕ)) (o : Output) (put later : Option (List ℕ)) (more : List ℕ)
+    → HasSaidFirst session trace told o put → Appends put later more → HasSaidFirst session trace told o later
+said_more session trace told o put later more (first, begins, are) grown =
+    (first, begins, told_more (session_protocol session) first trace told o put later more are grown)
+
 pub told_more_since : {S X T : Type 0} (w : Protocol S X) (first last : T) (s : S) (a told : Option (List ℕ)) (p : Output) (put later : Option (List ℕ)) (more : List ℕ)
     → (last ≡ first) ⊎ HasToldFirst w s a told p put → Appends put later more → (last ≡ first) ⊎ HasToldFirst w s a told p later
 told_more_since w first last s a told p put later more (inl kept) grown = inl kept
@@ -185,4 +193,5 @@ pub task_replied_more : (task : Task) (a left told : Option (List ℕ)) (p : Out
     → TaskRepliesFirst task a left told p put → Appends put later more → TaskRepliesFirst task a left told p later
 task_replied_more (Task.Run c) a left told p put later more replies grown =
     λ given. replied_more (setup_chosen c) (start (setup_chosen c)) a told p put later more (replies given) grown
+task_replied_more (Task.Wear c) a left told p put later more replies grown = λ given. said_more (wear_chosen c) a told p put later more (replies given) grown
 task_replied_more task a left told p put later more replies grown = tt

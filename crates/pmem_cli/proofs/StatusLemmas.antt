@@ -21,10 +21,12 @@ use Rattle.pmem_cli.specs.declared.ending.Ending.TheVariants.{Stopped}
 use Rattle.pmem_cli.specs.Endings.{ending_text, ending_status}
 use Rattle.pmem_cli.specs.HasRun.{HasRun, HasPut, HasSampled, HasTold, TaskOutcome, TextOutcome, HasReplayed, HasRunSample, CheckEnds, HasEnded}
 use Rattle.trace_text.specs.Conversations.{Protocol, texts_of}
+use Rattle.pmem_cli.specs.Sessions.{Session, session_protocol, HasConversed, HasSession}
 use Rattle.pmem_cli.specs.Sums.{AreStepSums}
 use Rattle.pmem_cli.specs.Talked.{HasTalked}
 use Rattle.pmem_cli.specs.Turns.{HasStopped}
 use Rattle.pmem_cli.specs.Untampered.{IsUntampered}
+use Rattle.pmem_cli.specs.Wear.{wear_chosen}
 use Rattle.pmem_cli.proofs.SampleLemmas.{sample_answered}
 use Rattle.pmem_cli.proofs.StepSums.{summed}
 use Rattle.pmem_cli.proofs.RunLemmas.{ends_answered}
@@ -92,6 +94,20 @@ talk_done p first stop status pull_failed trace left before after between stoppe
       front = said_front stop status before after between (texts_of p stopped.replies) said finished;
     }
 
+-- a session of a command came to its stop
+session_done : {S R : Type 0} (session : Session S R) (stop : Stop) (status : ℕ) (pull_failed : Type 0) (trace left before after : Option (List ℕ)) (between : Output)
+    → HasConversed session stop trace left (with_waiting before []) between → (Stopped stop ≡ Stopped ReadFault → pull_failed) → IsFinished (Stopped stop) status between after
+    → HasSession session status pull_failed trace left before after
+session_done session stop status pull_failed trace left before after between conversed read finished = record {
+  stop = stop;
+  said = conversed.said;
+  talked = conversed.talked;
+  read = λ same. read (ap Stopped same);
+  its_status = finished.its_status;
+  whole = said_whole stop status before after between (texts_of (session_protocol session) conversed.said) conversed.printed finished;
+  front = said_front stop status before after between (texts_of (session_protocol session) conversed.said) conversed.printed finished;
+}
+
 sample_done : (setup : Setup) (commands : List Command) (stop : Stop) (status : ℕ) (before after : Option (List ℕ)) (between : Output)
     → HasRunSample setup commands stop (with_waiting before []) between → IsFinished (Stopped stop) status between after → HasSampled setup commands status before after
 sample_done setup commands stop status before after between run finished = record {
@@ -132,6 +148,9 @@ TaskOutcome-finished (Task.Sample seed count) ending status pull_failed trace le
     (subst (λ (e : Ending). IsFinished e status between after) ended.its_stop finished)
 TaskOutcome-finished (Task.Check c) ending status pull_failed trace left before after between ended read finished =
     told_done c ending status pull_failed trace left before after between ended read finished
+TaskOutcome-finished (Task.Wear c) ending status pull_failed trace left before after between ended read finished =
+    session_done (wear_chosen c) ended.stop status pull_failed trace left before after between ended.conversed (λ same. read (ended.its_stop ∙ same))
+    (subst (λ (e : Ending). IsFinished e status between after) ended.its_stop finished)
 
 -- ---- faults, by the status
 

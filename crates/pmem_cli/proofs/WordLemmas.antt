@@ -1,11 +1,12 @@
 -- The parts of an option's word.
 use Rattle.std.proofs.Common.{◌≡◌, ◌∙◌, ◌-◌, ◌<◌, ◌≤◌, ℕ, true, List, [], ◌∷◌, take, drop, get_or, refl, sym, ap, arith, lt-ltb}
-use Rattle.std.specs.Prelude.{Some, None, Bool, codes, length, Option, IfNone}
+use Rattle.std.specs.Prelude.{Some, None, codes, length, Option, IfNone}
 use Rattle.std.specs.List.{position_or_len}
 use Rattle.std.specs.Str.{bytes_eq}
 use Rattle.std.proofs.lemmas.List.{drop-drop, take_all}
 use Rattle.collision_witness.specs.Words.{Word}
 use Rattle.pmem_cli.specs.Words.{is_equals, option_parts, choose, some_or, next_value, take_options, ◌>>=◌}
+use Rattle.pmem_cli.specs.declared.options.Allowed.{Allowed}
 use Rattle.pmem_cli.specs.declared.options.Choices.{Choices}
 
 abbrev parts : Word → Word → Option (Word × Option Word)
@@ -20,33 +21,33 @@ split-some word text n dashes same is inside =
 -- ---- the first option of some words
 
 -- a choice alone
-chosen_alone : (whole : Bool) (chosen : Option Choices) → chosen ≡ (chosen >>= λ more. take_options whole more [])
+chosen_alone : (allowed : Allowed) (chosen : Option Choices) → chosen ≡ (chosen >>= λ more. take_options allowed more [])
 unfolding take_options
-chosen_alone whole None = refl
-chosen_alone whole (Some more) = refl
+chosen_alone allowed None = refl
+chosen_alone allowed (Some more) = refl
 
-last_step : (whole : Bool) (c : Choices) (name : Word) (own : Option Word)
-    → some_or own (λ value. choose whole c name value) None ≡ (next_value own [] >>= λ found. choose whole c name found.0 >>= λ more. take_options whole more found.1)
+last_step : (allowed : Allowed) (c : Choices) (name : Word) (own : Option Word)
+    → some_or own (λ value. choose allowed c name value) None ≡ (next_value own [] >>= λ found. choose allowed c name found.0 >>= λ more. take_options allowed more found.1)
 unfolding take_options
-last_step whole c name None = refl
-last_step whole c name (Some value) = chosen_alone whole (choose whole c name value)
+last_step allowed c name None = refl
+last_step allowed c name (Some value) = chosen_alone allowed (choose allowed c name value)
 
-next_step : (whole : Bool) (c : Choices) (name next : Word) (words : List Word) (own : Option Word)
-    → some_or own (λ value. choose whole c name value >>= λ more. take_options whole more (next ∷ words)) (choose whole c name next >>= λ more. take_options whole more words)
-    ≡ (next_value own (next ∷ words) >>= λ found. choose whole c name found.0 >>= λ more. take_options whole more found.1)
-next_step whole c name next words None = refl
-next_step whole c name next words (Some value) = refl
+next_step : (allowed : Allowed) (c : Choices) (name next : Word) (words : List Word) (own : Option Word)
+    → some_or own (λ value. choose allowed c name value >>= λ more. take_options allowed more (next ∷ words)) (choose allowed c name next >>= λ more. take_options allowed more words)
+    ≡ (next_value own (next ∷ words) >>= λ found. choose allowed c name found.0 >>= λ more. take_options allowed more found.1)
+next_step allowed c name next words None = refl
+next_step allowed c name next words (Some value) = refl
 
 parts_step : (found : Option (Word × Option Word)) (f g : Word × Option Word → Option Choices) → ((its : Word × Option Word) → f its ≡ g its) → (found >>= f) ≡ (found >>= g)
 parts_step None f g same = refl
 parts_step (Some its) f g same = same its
 
 -- an option is its word, its value and a choice, and the others follow
-pub options-step : (whole : Bool) (c : Choices) (word : Word) (words : List Word) → take_options whole c (word ∷ words)
-    ≡ (option_parts word >>= λ its. next_value its.1 words >>= λ found. choose whole c its.0 found.0 >>= λ more. take_options whole more found.1)
+pub options-step : (allowed : Allowed) (c : Choices) (word : Word) (words : List Word) → take_options allowed c (word ∷ words)
+    ≡ (option_parts word >>= λ its. next_value its.1 words >>= λ found. choose allowed c its.0 found.0 >>= λ more. take_options allowed more found.1)
 unfolding take_options
-options-step whole c word [] = parts_step (option_parts word) _ _ (λ its. last_step whole c its.0 its.1)
-options-step whole c word (next ∷ words) = parts_step (option_parts word) _ _ (λ its. next_step whole c its.0 next words its.1)
+options-step allowed c word [] = parts_step (option_parts word) _ _ (λ its. last_step allowed c its.0 its.1)
+options-step allowed c word (next ∷ words) = parts_step (option_parts word) _ _ (λ its. next_step allowed c its.0 next words its.1)
 
 -- a list by its first element, and the others by their range
 pub one_first : {A : Type 0} (xs : List A) (a : A) → 1 ≤ length xs → a ≡ get_or xs 0 a → xs ≡ a ∷ take (length xs - 1) (drop 1 xs)
@@ -60,26 +61,26 @@ one_first (x ∷ xs) a some first =
 abbrev Taken : Type 0
 Taken = Option Choices
 
-pub taken-no_parts : (whole : Bool) (c : Choices) (word : Word) (words : List Word) → None ≡ option_parts word → ◌≡◌ {A = Taken} (take_options whole c (word ∷ words)) None
-taken-no_parts whole c word words split =
-    options-step whole c word words
-    ∙ sym (ap (λ (found : Option (Word × Option Word)). found >>= λ its. next_value its.1 words >>= λ found. choose whole c its.0 found.0 >>= λ more. take_options whole more found.1) split)
+pub taken-no_parts : (allowed : Allowed) (c : Choices) (word : Word) (words : List Word) → None ≡ option_parts word → ◌≡◌ {A = Taken} (take_options allowed c (word ∷ words)) None
+taken-no_parts allowed c word words split =
+    options-step allowed c word words
+    ∙ sym (ap (λ (found : Option (Word × Option Word)). found >>= λ its. next_value its.1 words >>= λ found. choose allowed c its.0 found.0 >>= λ more. take_options allowed more found.1) split)
 
-pub taken-no_value : (whole : Bool) (c : Choices) (word : Word) (words : List Word) (name : Word) (own : Option Word)
-    → Some (name, own) ≡ option_parts word → None ≡ next_value own words → ◌≡◌ {A = Taken} (take_options whole c (word ∷ words)) None
-taken-no_value whole c word words name own split value =
-    options-step whole c word words
-    ∙ sym (ap (λ (found : Option (Word × Option Word)). found >>= λ its. next_value its.1 words >>= λ found. choose whole c its.0 found.0 >>= λ more. take_options whole more found.1) split)
-    ∙ sym (ap (λ (found : Option (Word × List Word)). found >>= λ found. choose whole c name found.0 >>= λ more. take_options whole more found.1) value)
+pub taken-no_value : (allowed : Allowed) (c : Choices) (word : Word) (words : List Word) (name : Word) (own : Option Word)
+    → Some (name, own) ≡ option_parts word → None ≡ next_value own words → ◌≡◌ {A = Taken} (take_options allowed c (word ∷ words)) None
+taken-no_value allowed c word words name own split value =
+    options-step allowed c word words
+    ∙ sym (ap (λ (found : Option (Word × Option Word)). found >>= λ its. next_value its.1 words >>= λ found. choose allowed c its.0 found.0 >>= λ more. take_options allowed more found.1) split)
+    ∙ sym (ap (λ (found : Option (Word × List Word)). found >>= λ found. choose allowed c name found.0 >>= λ more. take_options allowed more found.1) value)
 
-pub taken-on : (whole : Bool) (c : Choices) (word : Word) (words rest : List Word) (name value : Word) (own : Option Word) (chosen : Option Choices)
-    → Some (name, own) ≡ option_parts word → Some (value, rest) ≡ next_value own words → chosen ≡ choose whole c name value
-    → take_options whole c (word ∷ words) ≡ (chosen >>= λ more. take_options whole more rest)
-taken-on whole c word words rest name value own chosen split found same =
-    options-step whole c word words
-    ∙ sym (ap (λ (found : Option (Word × Option Word)). found >>= λ its. next_value its.1 words >>= λ found. choose whole c its.0 found.0 >>= λ more. take_options whole more found.1) split)
-    ∙ sym (ap (λ (found : Option (Word × List Word)). found >>= λ found. choose whole c name found.0 >>= λ more. take_options whole more found.1) found)
-    ∙ sym (ap (λ (chosen : Option Choices). chosen >>= λ more. take_options whole more rest) same)
+pub taken-on : (allowed : Allowed) (c : Choices) (word : Word) (words rest : List Word) (name value : Word) (own : Option Word) (chosen : Option Choices)
+    → Some (name, own) ≡ option_parts word → Some (value, rest) ≡ next_value own words → chosen ≡ choose allowed c name value
+    → take_options allowed c (word ∷ words) ≡ (chosen >>= λ more. take_options allowed more rest)
+taken-on allowed c word words rest name value own chosen split found same =
+    options-step allowed c word words
+    ∙ sym (ap (λ (found : Option (Word × Option Word)). found >>= λ its. next_value its.1 words >>= λ found. choose allowed c its.0 found.0 >>= λ more. take_options allowed more found.1) split)
+    ∙ sym (ap (λ (found : Option (Word × List Word)). found >>= λ found. choose allowed c name found.0 >>= λ more. take_options allowed more found.1) found)
+    ∙ sym (ap (λ (chosen : Option Choices). chosen >>= λ more. take_options allowed more rest) same)
 
 -- a fact holds where there is nothing, if it holds
 pub IfNone-fact : {T : Type 0} (found : Option T) (P : Type 0) → P → IfNone found P

@@ -20,9 +20,12 @@ use Rattle.pmem_cli.specs.Endings.{ending_text, ending_status}
 use Rattle.pmem_cli.specs.Keys.{formulas_of, setup_chosen}
 use Rattle.pmem_cli.specs.Printed.{Output, AppendsFront}
 use Rattle.pmem_cli.specs.Sampled.{HasSaid, SampleEnds}
+use Rattle.pmem_cli.specs.Sessions.{session_protocol, HasSession, SessionEnds}
 use Rattle.pmem_cli.specs.Standing.{IsReplayed}
 use Rattle.pmem_cli.specs.Sums.{AreStepSums}
+use Rattle.pmem_cli.specs.Talked.{IsRunThrough, IsTalkComplete}
 use Rattle.pmem_cli.specs.Untampered.{IsUntampered}
+use Rattle.pmem_cli.specs.Wear.{wear_chosen}
 
 -- ---- at the end of the program
 
@@ -78,18 +81,16 @@ TaskOutcome (Task.Make seed count) status pull_failed trace left before after = 
 TaskOutcome (Task.Sample seed count) status pull_failed trace left before after =
     HasSampled default_setup (sample_trace seed count) status before after
 TaskOutcome (Task.Check c) status pull_failed trace left before after = HasTold c status pull_failed trace left before after
+TaskOutcome (Task.Wear c) status pull_failed trace left before after = HasSession (wear_chosen c) status pull_failed trace left before after
 
 -- all lines of these bytes are in the grammar, and there are no more of them than a trace may have
 abbrev pub IsInGrammar : List ℕ → Type 0
 IsInGrammar bytes = All (λ line. IsOk (reading_of line)) (lines_of bytes) × (length (lines_of bytes) ≤ line_limit)
 
--- every command was answered, or the run ended by an exhibit, or memory was wanted
-abbrev pub IsRunThrough : ℕ → Type 0
-IsRunThrough status = (status ≡ 0) ⊎ ((status ≡ 6) ⊎ (status ≡ 1))
-
 -- a run goes through where all lines are in the grammar and within the limit, and no fault came
 abbrev pub IsComplete : Task → ℕ → Option (List ℕ) → Type 0 → Type 0
 IsComplete (Task.Run c) status trace fault = IfSome trace (λ bytes. IsInGrammar bytes → ¬ fault → IsRunThrough status)
+IsComplete (Task.Wear c) status trace fault = IsTalkComplete (session_protocol (wear_chosen c)) status trace fault
 IsComplete task status trace fault = ⊤
 
 -- The one line that faulty words are answered with was put, or the sink failed and a front of it was.
@@ -151,3 +152,4 @@ HasEnded (Task.Run c) ending trace left from to = RunEnds (setup_chosen c) endin
 HasEnded (Task.Make seed count) ending trace left from to = MakeEnds (commands_text (sample_trace seed count)) ending from to
 HasEnded (Task.Sample seed count) ending trace left from to = SampleStops default_setup (sample_trace seed count) ending from to
 HasEnded (Task.Check c) ending trace left from to = CheckEnds c ending trace left from to
+HasEnded (Task.Wear c) ending trace left from to = SessionEnds (wear_chosen c) ending trace left from to

@@ -47,3 +47,7 @@ shape_chosen c =
 
 unfoldable pub setup_chosen : Choices → Setup
 setup_chosen c = record { shape = shape_chosen c; formulas = formulas_of c }
+
+-- after how many writes the gap of a levelled memory moves: 100 where none is chosen
+abbrev pub every_chosen : Choices → ℕ
+every_chosen c = unwrap_or c.every 100

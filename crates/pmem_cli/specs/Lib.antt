@@ -6,7 +6,6 @@ pub mod Printed
 pub mod Pieces
 pub mod Words
 pub mod Keys
-pub mod RepliesFirst
 pub mod Endings
 pub mod Standing
 pub mod Replies
@@ -15,5 +14,8 @@ pub mod Checked
 pub mod Untampered
 pub mod Sums
 pub mod Sampled
-pub mod HasRun
 pub mod Talked
+pub mod Sessions
+pub mod Wear
+pub mod RepliesFirst
+pub mod HasRun

@@ -1,5 +1,5 @@
 -- What a session's status says of a trace in its language.
-use Rattle.std.specs.Prelude.{◌≡◌, ◌≢◌, ◌≤◌, ◌++◌, ⊤, ℕ, List, length, All, Option, IfSome}
+use Rattle.std.specs.Prelude.{◌≡◌, ◌≢◌, ◌≤◌, ◌⊎◌, ◌++◌, ⊤, ℕ, List, length, All, Option, IfSome}
 use Rattle.std.specs.List.{flat_map}
 use Rattle.std.specs.Io.KnownBytes.{Appends}
 use Rattle.plain_model.specs.declared.Stop.{Stop}
@@ -9,7 +9,6 @@ use Rattle.plain_model.specs.Run.{line_limit, stop_text, status_of}
 use Rattle.trace_text.specs.Talks.{Sort, skipped, asked, faulty}
 use Rattle.trace_text.specs.Conversations.{Protocol, line_sort, texts_of, IsTalk, AreGiven, TalkEnds}
 use Rattle.pmem_cli.specs.Printed.{Output, AppendsFront, PutsAtLeast}
-use Rattle.pmem_cli.specs.HasRun.{IsRunThrough}
 
 -- The trace ends by a stop, and its replies and the stop's line were put: the whole of them, with the
 -- stop's own status, or a front of them, with status 4. Whatever the status, the stop is a failed pull only
@@ -35,6 +34,10 @@ IsNoFault (faulty kind) = ⊥
 -- all lines of these bytes are in the grammar, and there are no more of them than a trace may have
 abbrev pub IsInLanguage : {S X : Type 0} → Protocol S X → List ℕ → Type 0
 IsInLanguage protocol bytes = All (λ line. IsNoFault (line_sort protocol line)) (lines_of bytes) × (length (lines_of bytes) ≤ line_limit)
+
+-- every command was answered, or the run ended by an exhibit, or memory was wanted
+abbrev pub IsRunThrough : ℕ → Type 0
+IsRunThrough status = (status ≡ 0) ⊎ ((status ≡ 6) ⊎ (status ≡ 1))
 
 -- it goes through where no fault came
 abbrev pub IsTalkComplete : {S X : Type 0} → Protocol S X → ℕ → Option (List ℕ) → Type 0 → Type 0

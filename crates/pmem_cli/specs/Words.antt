@@ -1,5 +1,5 @@
 -- What the words of the command line ask for.
-use Rattle.std.specs.Prelude.{ℕ, ◌+◌, ◌==◌, ⊤, nat_lt, nat_le, Bool, true, false, ◌&&◌, List, [], ◌∷◌, length, take, drop, codes, Option, Some, None, IfSome, IsTrue, Result, Ok, Err, if◌then◌else◌}
+use Rattle.std.specs.Prelude.{ℕ, ◌≤◌, ◌+◌, ◌==◌, ⊤, nat_lt, nat_le, Bool, ◌&&◌, List, [], ◌∷◌, length, take, drop, codes, Option, Some, None, IfSome, IsTrue, Result, Ok, Err, if◌then◌else◌}
 use Rattle.std.specs.List.{position_or_len}
 use Rattle.std.specs.Str.{bytes_eq}
 use Rattle.pmem_base.specs.declared.commands.Kind.{Kind}
@@ -10,6 +10,7 @@ use Rattle.plain_model.specs.Grammar.{part_of}
 use Rattle.pmem_cli.specs.declared.options.SuiteName.{SuiteName}
 use Rattle.pmem_cli.specs.declared.options.SuiteName.TheVariants.{Aes, Weak, Blur}
 use Rattle.pmem_cli.specs.declared.options.Choices.{Choices}
+use Rattle.pmem_cli.specs.declared.options.Allowed.{Allowed}
 use Rattle.pmem_cli.specs.declared.options.Task.{Task}
 
 -- the value, and then what it gives, or nothing
@@ -62,6 +63,7 @@ no_choices =
       suite = None;
       key = None;
       tag_key = None;
+      every = None;
     }
 
 -- the options of the suite
@@ -73,8 +75,8 @@ choose_suite c name value =
     else None
 
 -- and those of the geometry
-abbrev pub choose_any : Choices → Word → Word → Option Choices
-choose_any c name value =
+abbrev pub choose_run : Choices → Word → Word → Option Choices
+choose_run c name value =
     if bytes_eq name (codes "levels") then once c.levels (number_where (is_up_to 6) value) (λ n. record c { levels = Some n })
     else if bytes_eq name (codes "sets") then once c.sets (number_where (is_up_to 64) value) (λ n. record c { sets = Some n })
     else if bytes_eq name (codes "ways") then once c.ways (number_where (is_up_to 8) value) (λ n. record c { ways = Some n })
@@ -82,9 +84,17 @@ choose_any c name value =
     else if bytes_eq name (codes "major") then once c.major (value_of (number_of value)) (λ n. record c { major = Some n })
     else choose_suite c name value
 
--- `check` takes the options of the suite alone
-abbrev pub choose : Bool → Choices → Word → Word → Option Choices
-choose whole c name value = if whole then choose_any c name value else choose_suite c name value
+-- and of a levelled memory: after how many writes its gap moves
+abbrev pub choose_wear : Choices → Word → Word → Option Choices
+choose_wear c name value =
+    if bytes_eq name (codes "every") then once c.every (number_where (is_up_to 1_000_000) value) (λ n. record c { every = Some n })
+    else choose_run c name value
+
+-- those that a task takes
+abbrev pub choose : Allowed → Choices → Word → Word → Option Choices
+choose Allowed.Suite c name value = choose_suite c name value
+choose Allowed.Run c name value = choose_run c name value
+choose Allowed.Wear c name value = choose_wear c name value
 
 -- ---- the words of options
 
@@ -113,15 +123,15 @@ next_value None [] = None
 next_value None (next ∷ words) = Some (next, words)
 
 -- what is chosen by these words, after earlier choices: options as `--name value` or `--name=value`
-unfoldable pub take_options : Bool → Choices → List Word → Option Choices
-take_options whole c [] = Some c
-take_options whole c (word ∷ []) =
-    option_parts word >>= λ parts. some_or parts.1 (λ value. choose whole c parts.0 value) None
-take_options whole c (word ∷ next ∷ words) =
+unfoldable pub take_options : Allowed → Choices → List Word → Option Choices
+take_options allowed c [] = Some c
+take_options allowed c (word ∷ []) =
+    option_parts word >>= λ parts. some_or parts.1 (λ value. choose allowed c parts.0 value) None
+take_options allowed c (word ∷ next ∷ words) =
     option_parts word
     >>= λ parts. some_or parts.1
-    (λ value. choose whole c parts.0 value >>= λ more. take_options whole more (next ∷ words))
-    (choose whole c parts.0 next >>= λ more. take_options whole more words)
+    (λ value. choose allowed c parts.0 value >>= λ more. take_options allowed more (next ∷ words))
+    (choose allowed c parts.0 next >>= λ more. take_options allowed more words)
 
 -- ---- the whole command line
 
@@ -137,10 +147,11 @@ seed_and_count words = None
 unfoldable pub task_of : List Word → Option Task
 task_of [] = None
 task_of (name ∷ words) =
-    if bytes_eq name (codes "run") then (take_options true no_choices words >>= λ c. Some (Task.Run c))
-    else if bytes_eq name (codes "check") then (take_options false no_choices words >>= λ c. Some (Task.Check c))
+    if bytes_eq name (codes "run") then (take_options Allowed.Run no_choices words >>= λ c. Some (Task.Run c))
+    else if bytes_eq name (codes "check") then (take_options Allowed.Suite no_choices words >>= λ c. Some (Task.Check c))
     else if bytes_eq name (codes "make") then (seed_and_count words >>= λ found. Some (Task.Make found.0 found.1))
     else if bytes_eq name (codes "sample") then (seed_and_count words >>= λ found. Some (Task.Sample found.0 found.1))
+    else if bytes_eq name (codes "wear") then (take_options Allowed.Wear no_choices words >>= λ c. Some (Task.Wear c))
     else None
 
 -- ---- what is known of them
@@ -150,10 +161,12 @@ abbrev pub AreChosen : Choices → Type 0
 AreChosen c =
     IfSome c.levels HasLevels × IfSome c.sets HasSets × IfSome c.ways HasWays
     × IfSome c.loss (λ n. IsTrue (is_loss n)) × IfSome c.tag_key (λ key. IsPartLine key.0 key.1)
+    × IfSome c.every (λ n. (1 ≤ n) × (n ≤ 1_000_000))
 
 abbrev pub HasChosen : Task → Type 0
 HasChosen (Task.Run c) = AreChosen c
 HasChosen (Task.Check c) = AreChosen c
+HasChosen (Task.Wear c) = AreChosen c
 HasChosen task = ⊤
 
 -- it reads no trace
@@ -162,6 +175,7 @@ PullsNothing (Task.Make seed count) = ⊤
 PullsNothing (Task.Sample seed count) = ⊤
 PullsNothing (Task.Run c) = ⊥
 PullsNothing (Task.Check c) = ⊥
+PullsNothing (Task.Wear c) = ⊥
 
 -- the value as a function sees it
 abbrev pub map_some : {A B : Type 0} → (A → B) → Option A → Option B

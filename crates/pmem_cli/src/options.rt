@@ -5,8 +5,8 @@ ghost use Rattle.pmem_base.specs.Shape.{is_loss};
 ghost use Rattle.pmem_base.specs.Geo.{shape_of};
 ghost use Rattle.suite.specs.Suites.{aes_keys, weak_keys};
 ghost use Rattle.suite.specs.Weak.{blur_flag};
-ghost use Rattle.pmem_cli.specs.Keys.{chosen_key, chosen_tag_key, shape_chosen};
-ghost use Rattle.pmem_cli.specs.Words.{suite_named, number_where, value_of, is_up_to, choose_suite, choose_any, choose, no_choices, is_equals, option_parts, next_value, take_options, seed_and_count, task_of, AreChosen, HasChosen, map_some};
+ghost use Rattle.pmem_cli.specs.Keys.{chosen_key, chosen_tag_key, shape_chosen, every_chosen};
+ghost use Rattle.pmem_cli.specs.Words.{suite_named, number_where, value_of, is_up_to, choose_suite, choose_run, choose_wear, choose, no_choices, is_equals, option_parts, next_value, take_options, seed_and_count, task_of, AreChosen, HasChosen, map_some};
 
 use collision_witness::{read_number, read_number_up_to, read_tag};
 use pmem_base::{Geo, Line};
@@ -42,6 +42,18 @@ pub(crate) struct Choices {
     pub suite: Option<SuiteName>,
     pub key: Option<[u8; 16]>,
     pub tag_key: Option<(u8, Line)>,
+    pub every: Option<u32>,
+}
+
+/// Which options a task takes: each kind takes those of the kinds before it, and more.
+#[derive(Clone, Copy, Debug, PartialEq, Eq)]
+pub(crate) enum Allowed {
+    /// Those of the suite.
+    Suite,
+    /// Those of a run.
+    Run,
+    /// Those of a levelled memory.
+    Wear,
 }
 
 /// What the program is to do.
@@ -55,6 +67,8 @@ pub(crate) enum Task {
     Sample { seed: u64, count: u32 },
     /// Try an exhibit.
     Check(Choices),
+    /// Answer a trace by a levelled memory.
+    Wear(Choices),
 }
 
 /// The suite of a name.
@@ -73,12 +87,12 @@ fn read_suite(word: &[u8]) -> Option<SuiteName>
 }
 
 /// A number from 1 up to a greatest one.
-fn read_up_to(most: u8, word: &[u8]) -> Option<u8>
+fn read_up_to(most: u32, word: &[u8]) -> Option<u32>
     ensures number { result ≡ number_where (is_up_to most) word.now }
     ensures range { IfSome result (λ n. (1 ≤ n) × (n ≤ most)) }
 {
     match read_number(word) {
-        Ok(number) if 1 <= number && number <= u64::from(most) => Some(number as u8),
+        Ok(number) if 1 <= number && number <= u64::from(most) => Some(number as u32),
         _ => None,
     }
 }
@@ -116,6 +130,7 @@ impl Choices {
             suite: None,
             key: None,
             tag_key: None,
+            every: None,
         }
     }
 
@@ -186,6 +201,15 @@ impl Choices {
         geo
     }
 
+    /// After how many writes the gap of a levelled memory moves: 100 where none is chosen.
+    pub fn every(&self) -> u32
+        requires { AreChosen self.now }
+        ensures every { result ≡ every_chosen self.now }
+        ensures some { 1 ≤ result }
+    {
+        self.every.unwrap_or(100)
+    }
+
     /// These choices, and an option of the suite that wasn't chosen yet.
     fn with_suite(self, name: &[u8], value: &[u8]) -> Option<Choices>
         requires { AreChosen self }
@@ -205,10 +229,10 @@ impl Choices {
         Some(more)
     }
 
-    /// These choices, and an option that wasn't chosen yet.
-    fn with_any(self, name: &[u8], value: &[u8]) -> Option<Choices>
+    /// These choices, and an option of a run that wasn't chosen yet.
+    fn with_run(self, name: &[u8], value: &[u8]) -> Option<Choices>
         requires { AreChosen self }
-        ensures choices { result ≡ choose_any self name.now value.now }
+        ensures choices { result ≡ choose_run self name.now value.now }
         ensures chosen { IfSome result AreChosen }
     {
         let mut more = self;
@@ -216,17 +240,17 @@ impl Choices {
             if self.levels.is_some() {
                 return None;
             }
-            more.levels = Some(read_up_to(6, value)?);
+            more.levels = Some(read_up_to(6, value)? as u8);
         } else if name == b"sets".as_slice() {
             if self.sets.is_some() {
                 return None;
             }
-            more.sets = Some(read_up_to(64, value)?);
+            more.sets = Some(read_up_to(64, value)? as u8);
         } else if name == b"ways".as_slice() {
             if self.ways.is_some() {
                 return None;
             }
-            more.ways = Some(read_up_to(8, value)?);
+            more.ways = Some(read_up_to(8, value)? as u8);
         } else if name == b"loss".as_slice() {
             if self.loss.is_some() {
                 return None;
@@ -243,16 +267,33 @@ impl Choices {
         Some(more)
     }
 
-    /// These choices, and one more. `check` takes the options of the suite alone.
-    fn with(self, whole: bool, name: &[u8], value: &[u8]) -> Option<Choices>
+    /// These choices, and an option of a levelled memory that wasn't chosen yet.
+    fn with_wear(self, name: &[u8], value: &[u8]) -> Option<Choices>
         requires { AreChosen self }
-        ensures choices { result ≡ choose whole self name.now value.now }
+        ensures choices { result ≡ choose_wear self name.now value.now }
         ensures chosen { IfSome result AreChosen }
     {
-        if whole {
-            self.with_any(name, value)
-        } else {
-            self.with_suite(name, value)
+        if name != b"every".as_slice() {
+            return self.with_run(name, value);
+        }
+        if self.every.is_some() {
+            return None;
+        }
+        let mut more = self;
+        more.every = Some(read_up_to(1_000_000, value)?);
+        Some(more)
+    }
+
+    /// These choices, and one more that a task takes.
+    fn with(self, allowed: Allowed, name: &[u8], value: &[u8]) -> Option<Choices>
+        requires { AreChosen self }
+        ensures choices { result ≡ choose allowed self name.now value.now }
+        ensures chosen { IfSome result AreChosen }
+    {
+        match allowed {
+            Allowed::Suite => self.with_suite(name, value),
+            Allowed::Run => self.with_run(name, value),
+            Allowed::Wear => self.with_wear(name, value),
         }
     }
 }
@@ -301,34 +342,34 @@ fn take_value<'a>(own: Option<&'a [u8]>, words: &'a [String]) -> Option<(&'a [u8
 /// Takes an option after earlier choices: its word, and the value that may stand behind it. Gives
 /// the words behind them.
 fn take_option<'a>(
-    whole: bool,
+    allowed: Allowed,
     choices: Choices,
     word: &'a str,
     words: &'a [String],
 ) -> Option<(Choices, &'a [String])>
     requires chosen { AreChosen choices }
-    ensures none { IfNone result (take_options whole choices (word.now ∷ map string_bytes words.now) ≡ None) }
-    ensures more { IfSome result (λ found. take_options whole choices (word.now ∷ map string_bytes words.now)
-        ≡ take_options whole found.0 (map string_bytes found.1.now)) }
+    ensures none { IfNone result (take_options allowed choices (word.now ∷ map string_bytes words.now) ≡ None) }
+    ensures more { IfSome result (λ found. take_options allowed choices (word.now ∷ map string_bytes words.now)
+        ≡ take_options allowed found.0 (map string_bytes found.1.now)) }
     ensures fewer { IfSome result (λ found. length found.1.now ≤ length words.now) }
     ensures chosen { IfSome result (λ found. AreChosen found.0) }
 {
     let (name, own) = split_option(word.as_bytes())?;
     let (value, rest) = take_value(own, words)?;
-    let more = choices.with(whole, name, value)?;
+    let more = choices.with(allowed, name, value)?;
     Some((more, rest))
 }
 
 /// What is chosen by words.
 #[tactic(auto, unfolding(crate::specs::Words::take_options))]
-fn read_options(whole: bool, words: &[String]) -> Option<Choices>
-    ensures choices { result ≡ take_options whole no_choices (map string_bytes words.now) }
+fn read_options(allowed: Allowed, words: &[String]) -> Option<Choices>
+    ensures choices { result ≡ take_options allowed no_choices (map string_bytes words.now) }
     ensures chosen { IfSome result AreChosen }
 {
     let mut choices = Choices::none();
     let mut rest = words;
     'options: while let [word, words @ ..] = rest {
-        match take_option(whole, choices, word.as_str(), words) {
+        match take_option(allowed, choices, word.as_str(), words) {
             None => return None,
             Some((more, behind)) => {
                 choices = more;
@@ -361,8 +402,8 @@ pub(crate) fn read_task(words: &[String]) -> Option<Task>
         return None;
     };
     match name.as_str() {
-        "run" => Some(Task::Run(read_options(true, words)?)),
-        "check" => Some(Task::Check(read_options(false, words)?)),
+        "run" => Some(Task::Run(read_options(Allowed::Run, words)?)),
+        "check" => Some(Task::Check(read_options(Allowed::Suite, words)?)),
         "make" => {
             let (seed, count) = read_seed_and_count(words)?;
             Some(Task::Make { seed, count })
@@ -371,6 +412,7 @@ pub(crate) fn read_task(words: &[String]) -> Option<Task>
             let (seed, count) = read_seed_and_count(words)?;
             Some(Task::Sample { seed, count })
         }
+        "wear" => Some(Task::Wear(read_options(Allowed::Wear, words)?)),
         _ => None,
     }
 }

@@ -23,6 +23,7 @@ use crate::sampling::sample;
 use crate::session::serve_all;
 use crate::sink::Sink;
 use crate::source::Source;
+use crate::wear::wear_trace;
 use plain_model::Stop;
 use pmem_base::Geo;
 use pmem_replay::World;
@@ -101,6 +102,7 @@ fn do_task<S: Source, K: Sink>(
             Ending::Stopped(sample(alloc, seed, count, printer, out))
         }
         Task::Check(choices) => check(&choices, trace),
+        Task::Wear(choices) => Ending::Stopped(wear_trace(alloc, &choices, trace, printer, out)),
     }
 }
 

@@ -65,7 +65,7 @@ impl<T: Talk> Serve for Talker<T> {
 }
 
 /// Answers a trace by a session, and says why that stops.
-fn talk_trace<T: Talk + Drop, S: Source, K: Sink>(
+pub(crate) fn talk_trace<T: Talk + Drop, S: Source, K: Sink>(
     alloc: Global,
     session: T,
     trace: &mut S,

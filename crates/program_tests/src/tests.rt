@@ -1,5 +1,6 @@
 //! Each layer over memory.
 mod runs;
+mod sessions;
 mod talks;
 mod texts;
 mod world;

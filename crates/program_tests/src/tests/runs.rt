@@ -8,10 +8,10 @@ use std::process::Abort;
 use std::test::Fail;
 
 /// The number of a call that never comes.
-const NEVER: u64 = 1_000_000_000;
+pub(crate) const NEVER: u64 = 1_000_000_000;
 
 /// Room for the output of every run.
-const PLACES: usize = 400_000;
+pub(crate) const PLACES: usize = 400_000;
 
 /// A source over memory that gives a byte a pull.
 #[derive(Drop)]
@@ -136,7 +136,7 @@ fn front_of<R: AllocGlobal>(rt: &R, text: &str, groups: usize) -> Result<Vec<u8>
 }
 
 /// The bytes of lines in shorthand.
-fn spelled<R: AllocGlobal>(rt: &R, text: &str) -> Result<Vec<u8>, Fail> {
+pub(crate) fn spelled<R: AllocGlobal>(rt: &R, text: &str) -> Result<Vec<u8>, Fail> {
     front_of(rt, text, usize::MAX)
 }
 
@@ -158,7 +158,7 @@ fn run_with<R: AllocGlobal>(rt: &R, options: &str) -> Result<String, Fail> {
 
 /// Runs the program over memory. Of the pulls and of the pushes those of these numbers fail. Gives the status and
 /// what was put into so many places.
-fn ran<R: AllocGlobal>(
+pub(crate) fn ran<R: AllocGlobal>(
     rt: &R,
     words: &str,
     trace: &[u8],
@@ -193,7 +193,13 @@ fn ran_by_bytes<R: AllocGlobal>(
 }
 
 /// Compares the status and the output of a run with those that are due.
-fn check_end<R: Abort>(rt: &R, at: &str, found: (u8, Vec<u8>), status: u8, output: &[u8]) {
+pub(crate) fn check_end<R: Abort>(
+    rt: &R,
+    at: &str,
+    found: (u8, Vec<u8>),
+    status: u8,
+    output: &[u8],
+) {
     let (ended, put) = found;
     assert_eq!(rt; ended, status, "the status at {at}");
     assert_eq!(rt; put.as_slice(), output, "the output at {at}");
@@ -795,7 +801,7 @@ fn checks_exhibits(rt: HostRuntime) -> Result<(), Fail> {
 
 /// Lets each pull fail in turn. The replies to the lines that had come are put, and then `stop read`, unless the
 /// last of all lines had come, which is the one that stops the run.
-fn check_pulls<R: Abort + AllocGlobal>(
+pub(crate) fn check_pulls<R: Abort + AllocGlobal>(
     rt: &R,
     words: &str,
     trace: &str,
@@ -827,7 +833,7 @@ fn check_pulls<R: Abort + AllocGlobal>(
 }
 
 /// Lets each push fail in turn. Just the bytes before it are put.
-fn check_pushes<R: Abort + AllocGlobal>(
+pub(crate) fn check_pushes<R: Abort + AllocGlobal>(
     rt: &R,
     words: &str,
     trace: &str,

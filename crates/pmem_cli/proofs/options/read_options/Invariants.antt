@@ -6,7 +6,7 @@ use Rattle.pmem_cli.proofs.options.read_options.Given as goal
 abbrev pub invariant-options : goal.invariant-options
 invariant-options l =
     record {
-      same : take_options l.whole l.choices (map string_bytes l.rest) ≡ take_options l.whole no_choices (map string_bytes l.words);
+      same : take_options l.allowed l.choices (map string_bytes l.rest) ≡ take_options l.allowed no_choices (map string_bytes l.words);
       chosen : AreChosen l.choices;
     }
 

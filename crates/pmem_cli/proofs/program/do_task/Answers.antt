@@ -27,3 +27,13 @@ returns-in-Check-clause-writes g c = CountsFault-none _ _ _ c.check.ensures.writ
 pub returns-in-Run-clause-replies_first : goal.returns-in-Run-clause-replies_first
 returns-in-Run-clause-replies_first g c =
     rw c.in-Run.is (λ given. elim c.run_trace.ensures.replies_first [ inl same ↦ absurd (given (ap g.S.Source.left same)) | inr replied ↦ replied ])
+
+pub returns-in-Wear-clause-reads : goal.returns-in-Wear-clause-reads
+returns-in-Wear-clause-reads g c = CountsFault-map _ _ _ _ _ (λ same. cc) (λ same. cc) refl c.wear_trace.ensures.cause.reads
+
+pub returns-in-Wear-clause-writes : goal.returns-in-Wear-clause-writes
+returns-in-Wear-clause-writes g c = CountsFault-map _ _ _ _ _ (λ same. cc) (λ same. cc) refl c.wear_trace.ensures.cause.writes
+
+pub returns-in-Wear-clause-replies_first : goal.returns-in-Wear-clause-replies_first
+returns-in-Wear-clause-replies_first g c =
+    rw c.in-Wear.is (λ given. elim c.wear_trace.ensures.replies_first [ inl same ↦ absurd (given (ap g.S.Source.left same)) | inr replied ↦ replied ])

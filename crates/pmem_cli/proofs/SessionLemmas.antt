@@ -1,0 +1,68 @@
+-- A session that was made for a command, over a trace.
+use Rattle.std.proofs.Common.{◌≡◌, ℕ, List, [], refl, sym, subst, inl, inr}
+use Rattle.std.specs.Prelude.{◌⊎◌, Option}
+use Rattle.pmem_base.specs.Shape.{Shape}
+use Rattle.suite.specs.Formulas.{Formulas}
+use Rattle.suite.specs.Setup.{Setup}
+use Rattle.plain_model.specs.declared.Stop.{Stop}
+use Rattle.plain_model.specs.declared.Stop.TheVariants.{Memory}
+use Rattle.trace_text.specs.Conversations.{Protocol, AreGiven}
+use Rattle.pmem_cli.specs.declared.options.Choices.{Choices}
+use Rattle.pmem_cli.specs.Keys.{shape_chosen, formulas_of, setup_chosen}
+use Rattle.pmem_cli.specs.Printed.{Output, Prints, PrintsFront}
+use Rattle.pmem_cli.specs.Sessions.{Session, Said, session_protocol, HasConversed, HasSaidFirst}
+use Rattle.pmem_cli.specs.Talked.{HasToldFirst}
+use Rattle.pmem_cli.specs.Turns.{HasStopped}
+use Rattle.pmem_cli.proofs.Following.{Follows, follow_all, follow_told}
+use Rattle.pmem_cli.proofs.KeyLemmas.{setup_same}
+use Rattle.pmem_cli.proofs.PrintLemmas.{Prints-nil, Prints-front}
+
+-- memory was wanted for the session itself
+pub HasConversed-memory : {S R : Type 0} (session : Session S R) (trace : Option (List ℕ)) (o : Output) → HasConversed session Memory trace trace o o
+HasConversed-memory session trace o = record {
+  said = [];
+  talked = inl (refl, refl, refl);
+  printed = record { whole = λ told. Prints-nil o; front = Prints-front o o [] (Prints-nil o) };
+}
+
+-- whatever it says from a new state on is as it promises
+abbrev pub Keeps : {S R : Type 0} → Session S R → Type 0
+Keeps {S} {R} session =
+    (first : S) (said : List (Said R)) → session.begins first → AreGiven (session_protocol session) first said
+    → session.promises first said
+
+module _ {S R X : Type 0} (session : Session S R) (p : Protocol S X) (I : S → Type 0) (f : Follows p (session_protocol session) I) where
+  pub HasConversed-stopped : (first : S) (stop : Stop) (trace left : Option (List ℕ)) (a b : Output) → Keeps session → session.begins first → I first
+      → HasStopped p stop trace left first a b 0 → HasConversed session stop trace left a b
+  HasConversed-stopped first stop trace left a b keeps begins i stopped =
+      let its = follow_all p (session_protocol session) I f stop first trace left stopped.replies i stopped.ends stopped.given in
+      record {
+        said = its.0;
+        talked = inr (record { first = first; begins = begins; ends = its.1; given = its.2; promised = keeps first its.0 begins its.2 });
+        printed = record {
+          whole = λ told. subst (λ text. Prints a b text) (sym its.3) (stopped.whole told);
+          front = subst (λ text. PrintsFront a b text) (sym its.3) stopped.front;
+        };
+      }
+
+  pub said_first : {T : Type 0} (before now : T) (first : S) (trace told : Option (List ℕ)) (o : Output) (put : Option (List ℕ)) → session.begins first → I first
+      → (now ≡ before) ⊎ HasToldFirst p first trace told o put → (now ≡ before) ⊎ HasSaidFirst session trace told o put
+  said_first before now first trace told o put begins i (inl same) = inl same
+  said_first before now first trace told o put begins i (inr are) =
+      inr (first, begins, follow_told p (session_protocol session) I f first trace told o put i are)
+
+-- ---- as it is chosen
+
+module _ {S R : Type 0} (session : Setup → Session S R) where
+  pub conversed_as : (c : Choices) (shape : Shape) (formulas : Formulas) (stop : Stop) (trace left : Option (List ℕ)) (a b : Output)
+      → shape ≡ shape_chosen c → formulas ≡ formulas_of c → HasConversed (session (record { shape = shape; formulas = formulas })) stop trace left a b
+      → HasConversed (session (setup_chosen c)) stop trace left a b
+  conversed_as c shape formulas stop trace left a b its_shape its_formulas =
+      subst (λ (setup : Setup). HasConversed (session setup) stop trace left a b) (setup_same c shape formulas its_shape its_formulas)
+
+  pub said_as : {T : Type 0} (before now : T) (c : Choices) (shape : Shape) (formulas : Formulas) (trace told : Option (List ℕ)) (o : Output) (put : Option (List ℕ))
+      → shape ≡ shape_chosen c → formulas ≡ formulas_of c
+      → (now ≡ before) ⊎ HasSaidFirst (session (record { shape = shape; formulas = formulas })) trace told o put
+      → (now ≡ before) ⊎ HasSaidFirst (session (setup_chosen c)) trace told o put
+  said_as before now c shape formulas trace told o put its_shape its_formulas =
+      subst (λ (setup : Setup). (now ≡ before) ⊎ HasSaidFirst (session setup) trace told o put) (setup_same c shape formulas its_shape its_formulas)

@@ -1,0 +1,119 @@
+-- What the program says of a session that a command of its own runs, whichever session that is.
+use Rattle.std.specs.Prelude.{◌≡◌, ◌≢◌, ◌⊎◌, ◌++◌, ⊤, ℕ, List, [], ◌∷◌, Option, IfSome}
+use Rattle.std.specs.Io.KnownBytes.{Appends}
+use Rattle.pmem_base.specs.declared.answers.Exhibit.{Exhibit}
+use Rattle.pmem_base.specs.declared.answers.Answer.TheVariants as Say
+use Rattle.plain_model.specs.declared.Stop.{Stop}
+use Rattle.plain_model.specs.declared.Stop.TheVariants.{Memory, ReadFault}
+use Rattle.plain_model.specs.Run.{stop_text, status_of}
+use Rattle.plain_model.specs.Texts.{as_line, answer_text}
+use Rattle.trace_text.specs.Talks.{Sort}
+use Rattle.trace_text.specs.Conversations.{Protocol, texts_of, AreGiven, TalkEnds}
+use Rattle.pmem_cli.specs.declared.ending.Ending.{Ending}
+use Rattle.pmem_cli.specs.declared.ending.Ending.TheVariants.{Stopped}
+use Rattle.pmem_cli.specs.Printed.{Output, AppendsFront}
+use Rattle.pmem_cli.specs.Sampled.{HasSaid}
+use Rattle.pmem_cli.specs.Talked.{HasToldFirst}
+
+-- ---- a session
+
+-- what a session says to a line that asks: a reply, which is a command with its answer, or an exhibit in place of one
+pub data Said (R : Type 0) : Type 0 where
+  reply : R → Said R
+  exhibit : Exhibit → Said R
+
+-- What a session is, by its own definitions.
+pub record Session (S R : Type 0) : Type 1 where
+  -- the states of a new one
+  pub begins : S → Type 0
+  -- what a line is to its grammar
+  pub sort_of : List ℕ → Sort
+  -- the state before, a line that asks, a reply to it, and the state after
+  pub answers : S → List ℕ → R → S → Type 0
+  -- the state before, a line that asks, and an exhibit that ends the session in place of a reply
+  pub shows : S → List ℕ → Exhibit → Type 0
+  -- the text of a reply's answer, without its LF
+  pub text_of : R → List ℕ
+  -- what all that it says from a new state on promises
+  pub promises : S → List (Said R) → Type 0
+
+abbrev pub Replies : {S R : Type 0} → Session S R → S → List ℕ → Said R → S → Type 0
+Replies session old line (reply its) new = session.answers old line its new
+Replies session old line (exhibit its) new = ⊥
+
+abbrev pub Shows : {S R : Type 0} → Session S R → S → List ℕ → Said R → Type 0
+Shows session old line (reply its) = ⊥
+Shows session old line (exhibit its) = session.shows old line its
+
+abbrev pub said_text : {S R : Type 0} → Session S R → Said R → List ℕ
+said_text session (reply its) = session.text_of its
+said_text session (exhibit its) = answer_text (Say.Shown its)
+
+-- A session, as what answers the lines of a trace. Each answer may want memory.
+abbrev pub session_protocol : {S R : Type 0} → Session S R → Protocol S (Said R)
+session_protocol session =
+    record {
+      sort_of = session.sort_of;
+      answers = Replies session;
+      shows = Shows session;
+      text_of = λ said. as_line (said_text session said);
+      wants_memory = λ line. ⊤;
+      runs = λ state. ⊤;
+    }
+
+-- the replies among what was said, and the exhibits
+abbrev pub replies_among : {R : Type 0} → List (Said R) → List R
+replies_among [] = []
+replies_among (reply its ∷ said) = its ∷ replies_among said
+replies_among (exhibit its ∷ said) = replies_among said
+
+abbrev pub exhibits_among : {R : Type 0} → List (Said R) → List Exhibit
+exhibits_among [] = []
+exhibits_among (reply its ∷ said) = exhibits_among said
+exhibits_among (exhibit its ∷ said) = its ∷ exhibits_among said
+
+-- ---- a session over a trace
+
+-- A new session said this to the lines of the trace, up to the stop; and it is as the session promises.
+pub record IsConversation {S R : Type 0} (session : Session S R) (stop : Stop) (trace left : Option (List ℕ)) (said : List (Said R)) : Type 0 where
+  pub first : S
+  pub begins : session.begins first
+  pub ends : IfSome trace (λ bytes. TalkEnds (session_protocol session) first 0 stop bytes left said)
+  pub given : AreGiven (session_protocol session) first said
+  pub promised : session.promises first said
+
+-- Memory was wanted for the session itself, and nothing was taken; or it came to the stop.
+abbrev pub Converses : {S R : Type 0} → Session S R → Stop → Option (List ℕ) → Option (List ℕ) → List (Said R) → Type 0
+Converses session stop trace left said =
+    ((stop ≡ Memory) × (said ≡ []) × (left ≡ trace)) ⊎ IsConversation session stop trace left said
+
+-- The session came to a stop, and what it said and the stop's line were put: the whole of them, with the
+-- stop's own status, or a front of them, with status 4. Whatever the status, the stop is a failed pull only
+-- where one failed.
+pub record HasSession {S R : Type 0} (session : Session S R) (status : ℕ) (pull_failed : Type 0)
+    (trace left put_before put_after : Option (List ℕ)) : Type 0 where
+  pub stop : Stop
+  pub said : List (Said R)
+  pub talked : Converses session stop trace left said
+  pub read : stop ≡ ReadFault → pull_failed
+  pub its_status : status ≢ 4 → status ≡ status_of stop
+  pub whole : status ≢ 4 → Appends put_before put_after (texts_of (session_protocol session) said ++ stop_text stop)
+  pub front : AppendsFront put_before put_after (texts_of (session_protocol session) said ++ stop_text stop)
+
+-- What a new session said to all whole lines that the source had given before its last pull was put.
+abbrev pub HasSaidFirst : {S R : Type 0} → Session S R → Option (List ℕ) → Option (List ℕ) → Output → Option (List ℕ) → Type 0
+HasSaidFirst {S} session trace left_before from put =
+    (first : S) × session.begins first × HasToldFirst (session_protocol session) first trace left_before from put
+
+-- ---- before the last line
+
+-- a session came to a stop, with all that it said printed
+pub record HasConversed {S R : Type 0} (session : Session S R) (stop : Stop) (trace left : Option (List ℕ)) (from to : Output) : Type 0 where
+  pub said : List (Said R)
+  pub talked : Converses session stop trace left said
+  pub printed : HasSaid stop from to (texts_of (session_protocol session) said)
+
+pub record SessionEnds {S R : Type 0} (session : Session S R) (ending : Ending) (trace left : Option (List ℕ)) (from to : Output) : Type 0 where
+  pub stop : Stop
+  pub its_stop : ending ≡ Stopped stop
+  pub conversed : HasConversed session stop trace left from to

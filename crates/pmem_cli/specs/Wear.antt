@@ -1,0 +1,32 @@
+-- A levelled memory, as the session of a command.
+use Rattle.std.specs.Prelude.{◌≡◌, ℕ, Some, Ok}
+use Rattle.suite.specs.Setup.{Setup}
+use Rattle.start_gap.specs.Gapped.{logical_lines}
+use Rattle.wear_session.specs.Answered.{IsAnswered, IsShownOf}
+use Rattle.wear_session.specs.Answers.{wear_text}
+use Rattle.wear_session.specs.Commands.{reading_of_wear, sort_of_wear}
+use Rattle.wear_session.specs.Guarantees.{WearReply, AreWearReplies, AreSpentAsUsedUp}
+use Rattle.wear_session.specs.State.{WearState, IsNewWear}
+use Rattle.pmem_cli.specs.declared.options.Choices.{Choices}
+use Rattle.pmem_cli.specs.Keys.{setup_chosen, every_chosen}
+use Rattle.pmem_cli.specs.Sessions.{Session, replies_among}
+
+-- of this setup, whose gap moves at each so many writes
+abbrev pub levelled_session : Setup → ℕ → Session WearState WearReply
+levelled_session setup every =
+    record {
+      begins = IsNewWear setup every;
+      sort_of = sort_of_wear;
+      answers =
+          λ old line reply new. (reading_of_wear line ≡ Ok (Some reply.command))
+          × IsAnswered setup old reply.command reply.answer new;
+      shows = IsShownOf setup;
+      text_of = λ reply. wear_text reply.answer;
+      promises =
+          λ first said. AreWearReplies (logical_lines setup.shape) every (replies_among said)
+          × AreSpentAsUsedUp setup first (replies_among said);
+    }
+
+-- as it is chosen
+abbrev pub wear_chosen : Choices → Session WearState WearReply
+wear_chosen c = levelled_session (setup_chosen c) (every_chosen c)

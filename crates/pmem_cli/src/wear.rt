@@ -1,0 +1,80 @@
+//! A trace answered by a levelled memory.
+ghost use Rattle.std.specs.Prelude.{◌≡◌, ◌≤◌, ◌⊎◌, Some};
+ghost use Rattle.pmem_base.specs.Geo.{shape_of};
+ghost use Rattle.suite.specs.Setup.{Setup};
+ghost use Rattle.pmem_cli.specs.Keys.{setup_chosen, every_chosen};
+ghost use Rattle.pmem_cli.specs.Printed.{with_waiting};
+ghost use Rattle.pmem_cli.specs.Pulling.{IsInTime};
+ghost use Rattle.pmem_cli.specs.Sessions.{HasConversed, HasSaidFirst};
+ghost use Rattle.pmem_cli.specs.Turns.{StopsByCause};
+ghost use Rattle.pmem_cli.specs.Wear.{levelled_session};
+ghost use Rattle.pmem_cli.specs.Words.{AreChosen};
+
+use crate::options::{Choices, SuiteName};
+use crate::printer::Printer;
+use crate::sink::Sink;
+use crate::source::Source;
+use crate::talking::talk_trace;
+use plain_model::Stop;
+use pmem_base::Geo;
+use std::alloc::Global;
+use suite::Suite;
+use wear_session::{WearWorld, sessions_keep_lines};
+
+/// Answers a trace by a new levelled memory of this geometry and suite, whose gap moves at each `every`th write,
+/// and says why that stops.
+fn wear_with<U: Suite + Drop, S: Source, K: Sink>(
+    alloc: Global,
+    geo: Geo,
+    suite: U,
+    every: u32,
+    trace: &mut S,
+    printer: &mut Printer,
+    out: &mut K,
+) -> Stop
+    requires { 1 ≤ every }
+    ensures talked { let setup : Setup = record { shape = shape_of geo; formulas = U.formulas_of (U.keys suite) } in
+        HasConversed (levelled_session setup every) result (S.left trace.old) (S.left trace.new)
+        (with_waiting (K.put out.old) printer.old) (with_waiting (K.put out.new) printer.new) }
+    ensures cause { StopsByCause (Some result) (S.faults trace.old) (S.faults trace.new) (K.faults out.old) (K.faults out.new) }
+    ensures in_time { IsInTime (S.pulls trace.old) (S.pulls trace.new) }
+    ensures replies_first { let setup : Setup = record { shape = shape_of geo; formulas = U.formulas_of (U.keys suite) } in (trace.new ≡ trace.old)
+        ⊎ HasSaidFirst (levelled_session setup every) (S.left trace.old) (S.left_before trace.new) (with_waiting (K.put out.old) printer.old) (K.put out.new) }
+{
+    sessions_keep_lines(&geo, &suite);
+    match WearWorld::new(alloc, geo, suite, every) {
+        Ok(session) => talk_trace(alloc, session, trace, printer, out),
+        Err(_) => Stop::Memory,
+    }
+}
+
+/// Answers a trace by a levelled memory with what was chosen, and says why that stops.
+pub(crate) fn wear_trace<S: Source, K: Sink>(
+    alloc: Global,
+    choices: &Choices,
+    trace: &mut S,
+    printer: &mut Printer,
+    out: &mut K,
+) -> Stop
+    requires { AreChosen choices.now }
+    ensures talked { HasConversed (levelled_session (setup_chosen choices.now) (every_chosen choices.now)) result (S.left trace.old) (S.left trace.new)
+        (with_waiting (K.put out.old) printer.old) (with_waiting (K.put out.new) printer.new) }
+    ensures cause { StopsByCause (Some result) (S.faults trace.old) (S.faults trace.new) (K.faults out.old) (K.faults out.new) }
+    ensures in_time { IsInTime (S.pulls trace.old) (S.pulls trace.new) }
+    ensures replies_first { (trace.new ≡ trace.old) ⊎ HasSaidFirst (levelled_session (setup_chosen choices.now) (every_chosen choices.now))
+        (S.left trace.old) (S.left_before trace.new) (with_waiting (K.put out.old) printer.old) (K.put out.new) }
+{
+    let geo = choices.geometry();
+    let every = choices.every();
+    match choices.suite_name() {
+        SuiteName::Aes => wear_with(alloc, geo, choices.aes_suite(), every, trace, printer, out),
+        SuiteName::Weak => {
+            let suite = choices.weak_suite(false);
+            wear_with(alloc, geo, suite, every, trace, printer, out)
+        }
+        SuiteName::Blur => {
+            let suite = choices.weak_suite(true);
+            wear_with(alloc, geo, suite, every, trace, printer, out)
+        }
+    }
+}

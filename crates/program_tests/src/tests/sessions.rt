@@ -1,0 +1,116 @@
+//! Whole runs of the sessions that have commands of their own, over memory.
+use super::runs::{NEVER, PLACES, check_end, check_pulls, check_pushes, ran, spelled};
+use std::test::Fail;
+
+/// Worked traces: the words, the trace, the status, and the output.
+#[test]
+fn answers_sessions(rt: HostRuntime) -> Result<(), Fail> {
+    for (words, trace, status, output) in [
+        (
+            "wear --suite weak --every 1",
+            "write 0 [aa] / place 0 / place 1021 / read 0 / write 1021 [bb]",
+            0,
+            "ok 17 / at 0 / at 1022 / line [aa] 0 / ok 12",
+        ),
+        (
+            "wear --suite weak --every 1",
+            "cut 8 / write 0 [aa] / on / read 0",
+            0,
+            "ok / cut kept 8 / on 0 1022 5 / line [aa] 0",
+        ),
+        (
+            "wear",
+            "write 5 [11] / # a comment /  / read 5 / read 1021 / read 1022 / place 1022",
+            0,
+            "ok 7 / line [11] 0 / line [00] 0 / range / range",
+        ),
+        (
+            "wear --levels 1 --sets=1 --ways 1 --loss 1 --major 0 --suite weak --key 000102030405060708090a0b0c0d0e0f --tag-key 01 --every 2",
+            "write 0 [aa] / write 0 [bb] / place 253 / write 0 [cc] / read 0 / off / on",
+            0,
+            "ok 7 / ok 16 / at 254 / ok 6 / line [cc] 0 / ok / on 0 253 3",
+        ),
+        (
+            "wear --suite blur --loss 2 --levels 1 --every=3",
+            "write 0 [00] / off / on / read 0",
+            6,
+            "ok 6 / ok / twin 0 0 0 1 [01..] {50}",
+        ),
+        (
+            "wear --levels 1",
+            "read 0 / read 0 0",
+            5,
+            "line [00] 0 / stop line 2 2",
+        ),
+        ("wear", "post 0 0 [00]", 5, "stop line 1 1"),
+    ] {
+        let given = spelled(&rt, trace)?;
+        let found = ran(&rt, words, given.as_slice(), (NEVER, NEVER), PLACES)?;
+        check_end(&rt, trace, found, status, spelled(&rt, output)?.as_slice());
+    }
+    Ok(())
+}
+
+/// Options that a command doesn't have, or has twice, or with another value: nothing is read.
+#[test]
+fn refuses_options(rt: HostRuntime) -> Result<(), Fail> {
+    for words in [
+        "wear x",
+        "wear --every",
+        "wear --every 0",
+        "wear --every 1000001",
+        "wear --every 1 --every 1",
+        "wear --every 1x",
+        "wear --levels 7",
+        "wear --nothing 1",
+        "run --every 1",
+        "check --every 1",
+    ] {
+        let told = ran(&rt, words, b"read 0", (0, NEVER), PLACES)?;
+        check_end(&rt, words, told, 2, b"stop words\n");
+    }
+    Ok(())
+}
+
+/// Each pull and each push fails in turn, a byte at a time: the words, the trace, and for each line its reply.
+#[test]
+fn stops_sessions_at_each_fault(rt: HostRuntime) -> Result<(), Fail> {
+    for (words, trace, output, status) in [
+        (
+            "wear --suite weak --levels 1 --every 1",
+            "write 0 [11] / cut 8 / write 0 [22] / on / read 0",
+            "ok 15 / ok / cut kept 8 / on 0 253 5 / line [22] 0",
+            0,
+        ),
+        (
+            "wear --suite blur --loss 2 --levels 1 --every 3",
+            "write 0 [00] / off / on",
+            "ok 6 / ok / twin 0 0 0 1 [01..] {50}",
+            6,
+        ),
+        (
+            "wear --levels 1",
+            "place 0 / plaice 0",
+            "at 0 / stop line 2 1",
+            5,
+        ),
+    ] {
+        check_pulls(&rt, words, trace, output, status)?;
+        check_pushes(&rt, words, trace, output, status)?;
+    }
+    Ok(())
+}
+
+/// The limit on lines.
+#[test]
+fn keeps_limits_of_sessions(rt: HostRuntime) -> Result<(), Fail> {
+    for words in ["wear --levels 1"] {
+        let mut trace = vec![in rt.alloc(); b'\n'; 1_000_000]?;
+        let found = ran(&rt, words, trace.as_slice(), (NEVER, NEVER), PLACES)?;
+        check_end(&rt, words, found, 0, b"");
+        trace.push(b'\n')?;
+        let found = ran(&rt, words, trace.as_slice(), (NEVER, NEVER), PLACES)?;
+        check_end(&rt, words, found, 7, b"stop lines\n");
+    }
+    Ok(())
+}
