@@ -4,7 +4,6 @@ pub mod Paths
 pub mod Steps
 pub mod Laws
 pub mod Plain
-pub mod Session
 pub mod Places
 pub mod PlaceLaws
 pub mod Parts
