@@ -1,0 +1,270 @@
+-- Chains of answers from a new session on.
+use Rattle.std.proofs.Common.{ℕ, zero, suc, ◌≡◌, ◌<◌, true, false, Bool, inl, inr, List, [], ◌∷◌, length, Some, None, refl, sym, ap, subst, ◌∙◌, arith}
+use Rattle.std.specs.Prelude.{replicate, slice_set, slice_index_or, sum, is_some, not, nat_lt, if◌then◌else◌, All}
+use Rattle.std.proofs.lemmas.Bool.{cases_lt, le-ltb, false≢true}
+use Rattle.std.proofs.lemmas.List.{length-replicate, set-get_or}
+use Rattle.std.proofs.lemmas.List.Elements.{All-nil, All-cons, All-head, All-tail}
+use Rattle.std.proofs.lemmas.List.Sums.{sum_by-cons}
+use Rattle.std.proofs.lemmas.Option.{none-some}
+use Rattle.pmem_base.specs.declared.lines.Line.{Line}
+use Rattle.pmem_base.specs.declared.answers.Exhibit.{Exhibit}
+use Rattle.pmem_base.specs.Shape.{Shape}
+use Rattle.suite.specs.Setup.{Setup}
+use Rattle.counter_tree.specs.Layout.{tree_lines, tree_size, line_of_node, line_of_slot}
+use Rattle.asit_shadow.specs.Plain.{PlainTree}
+use Rattle.asit_shadow.proofs.FormatLaws.{replicate-default}
+use Rattle.tree_session.specs.declared.commands.TreeCommand.{TreeCommand}
+use Rattle.tree_session.specs.declared.commands.TreeCommand.TheVariants as Do
+use Rattle.tree_session.specs.declared.answers.TreeAnswer.{TreeAnswer}
+use Rattle.tree_session.specs.declared.answers.TreeAnswer.TheVariants as Say
+use Rattle.tree_session.specs.State.{SessionState, IsNewTree}
+use Rattle.tree_session.specs.Answered.{decided, IsAnswered, IsPlainKept, IsNodeShown, IsDataShown, IsShadowShown, ShowsEngine}
+use Rattle.tree_session.specs.Guarantees.{TreeReply, AreAnswered, IsSession, History, first_history, history_with, history_after, IsNodeChanged, IsSlotChanged, IsAllowed, AreAllowed, MayShow, ShowsNode, ShowsLine, ShowsClash, IsTreeKept, IsTreeShown, IsTreeUntouched, IsNoTampering, IsUnrefused}
+use Rattle.tree_session.proofs.Histories.{history_of, history-equal, Follows, follows, changed-node, changed-slot, hurt-line}
+
+-- ---- the beginning
+
+sum-zeros : (n : ℕ) → sum (replicate n 0) ≡ 0
+sum-zeros zero = refl
+sum-zeros (suc n) = let one = sum_by-cons (λ (m : ℕ). m) 0 (replicate n 0) in let rest = sum-zeros n in omega (arith, one, rest)
+
+history-first : (setup : Setup) (first : SessionState) → IsNewTree setup first → history_of first.plain ≡ first_history setup.shape
+history-first setup first new =
+    history-equal (history_of first.plain) (first_history setup.shape) new.memory (ap sum new.counts ∙ sum-zeros (tree_lines setup.shape)) new.tampered new.hurt new.power new.fuse
+    (ap is_some new.snapshot)
+
+counts-first : (setup : Setup) (first : SessionState) → IsNewTree setup first → length first.plain.counts ≡ tree_lines setup.shape
+counts-first setup first new = ap length new.counts ∙ length-replicate (tree_lines setup.shape) 0
+
+-- ---- chains
+
+next : (setup : Setup) (first : SessionState) (reply : TreeReply) (second : SessionState) → length first.plain.counts ≡ tree_lines setup.shape → IsAnswered setup first reply.command reply.answer second
+    → Follows setup.shape first.plain second.plain reply.command reply.answer
+next setup first reply second count it = follows setup first.plain second.plain reply.command reply.answer count it.answered
+
+allowed-chain : (setup : Setup) (first last : SessionState) (replies : List TreeReply) → length first.plain.counts ≡ tree_lines setup.shape → AreAnswered setup first replies last
+    → AreAllowed setup.shape (history_of first.plain) replies
+allowed-chain setup first last [] count it = tt
+allowed-chain setup first last (reply ∷ replies) count it =
+    let step = next setup first reply it.0 count it.1 in (
+      step.allowed,
+      subst (λ h. AreAllowed setup.shape h replies) step.history (allowed-chain setup it.0 last replies (step.count ∙ count) it.2),
+    )
+
+history-chain : (setup : Setup) (first last : SessionState) (replies : List TreeReply) → length first.plain.counts ≡ tree_lines setup.shape → AreAnswered setup first replies last
+    → history_of last.plain ≡ history_after setup.shape (history_of first.plain) replies
+history-chain setup first last [] count it = ap (λ (s : SessionState). history_of s.plain) it
+history-chain setup first last (reply ∷ replies) count it =
+    let step = next setup first reply it.0 count it.1 in
+    history-chain setup it.0 last replies (step.count ∙ count) it.2 ∙ ap (λ h. history_after setup.shape h replies) step.history
+
+unshown-chain : (setup : Setup) (first last : SessionState) (replies : List TreeReply) → first.shown ≡ None → AreAnswered setup first replies last → last.shown ≡ None
+unshown-chain setup first last [] none it = ap (λ (s : SessionState). s.shown) it ∙ none
+unshown-chain setup first last (reply ∷ replies) none it = unshown-chain setup it.0 last replies (it.1.kept.shown ∙ none) it.2
+
+-- the law
+pub kept : (setup : Setup) → IsTreeKept setup
+kept setup replies last session =
+    subst (λ h. AreAllowed setup.shape h replies) (history-first setup session.first session.is_new)
+    (allowed-chain setup session.first last replies (counts-first setup session.first session.is_new) session.answered)
+
+history-last : (setup : Setup) (replies : List TreeReply) (last : SessionState) → IsSession setup replies last
+    → history_of last.plain ≡ history_after setup.shape (first_history setup.shape) replies
+history-last setup replies last session =
+    history-chain setup session.first last replies (counts-first setup session.first session.is_new) session.answered
+    ∙ ap (λ h. history_after setup.shape h replies) (history-first setup session.first session.is_new)
+
+-- ---- exhibits
+
+-- where the state decides nothing of a line, power is on and the line is there
+served-from : (power : Bool) (a n : ℕ) (off past : TreeAnswer) → (if not power then Some off else if nat_lt a n then None else Some past) ≡ None
+    → (power ≡ true) × (a < n)
+served-from false a n off past is = absurd (none-some off (sym is))
+served-from true a n off past is =
+    elim (cases_lt a n) [
+      | inl low ↦ (refl, low)
+      | inr high ↦ absurd (none-some past (sym (sym (ap (λ (b : Bool). if b then None else Some past) (le-ltb a n high)) ∙ is)))
+    ]
+
+dark-from : (power : Bool) (on : TreeAnswer) → (if power then Some on else None) ≡ None → power ≡ false
+dark-from false on is = refl
+dark-from true on is = absurd (none-some on (sym is))
+
+shows-node : (setup : Setup) (before after : PlainTree) (a : ℕ) (exhibit : Exhibit) → IsPlainKept before after → IsNodeShown setup after a exhibit → ShowsNode setup.shape (history_of before) a exhibit
+shows-node setup before after a exhibit plain it =
+    record { x = it.x; ctr = _; cipher = _; tag = _; changed = changed-node setup.shape before after a it.x plain it.place; its = it.its }
+
+shows-line : (setup : Setup) (before after : PlainTree) (a : ℕ) (exhibit : Exhibit) → IsPlainKept before after → IsDataShown setup after a exhibit → ShowsLine (history_of before) a exhibit
+shows-line setup before after a exhibit plain it = record { ctr = _; cipher = _; tag = _; hurt = hurt-line before after a plain it.hurt; its = it.its }
+
+shows-clash : (setup : Setup) (before after : PlainTree) (exhibit : Exhibit) → IsPlainKept before after → IsShadowShown setup after exhibit → ShowsClash setup.shape (history_of before) exhibit
+shows-clash setup before after exhibit plain it =
+    record { position = it.position; first = _; second = _; changed = changed-slot setup.shape before after plain it.place; its = it.its }
+
+may-show : (setup : Setup) (before after : PlainTree) (command : TreeCommand) (exhibit : Exhibit) → decided setup.shape before command ≡ None → IsPlainKept before after
+    → ShowsEngine setup before command after exhibit → MayShow setup.shape (history_of before) command exhibit
+may-show setup before after (Do.Write a line) exhibit undecided plain it =
+    let served = served-from before.board.powered a (tree_lines setup.shape) Say.Off Say.Range undecided in
+    (record { power = served.0; inside = served.1 }, it.0, shows-node setup before after a exhibit plain it.1)
+may-show setup before after (Do.Read a) exhibit undecided plain it =
+    let served = served-from before.board.powered a (tree_lines setup.shape) Say.Off Say.Range undecided in (
+      record { power = served.0; inside = served.1 },
+      elim it [
+        | inl node ↦ inl (shows-node setup before after a exhibit plain node)
+        | inr line ↦ inr (shows-line setup before after a exhibit plain line)
+      ],
+    )
+may-show setup before after Do.On exhibit undecided plain it = (dark-from before.board.powered Say.Already undecided, shows-clash setup before after exhibit plain it)
+may-show setup before after Do.Off exhibit undecided plain it = absurd it
+may-show setup before after (Do.Cut n) exhibit undecided plain it = absurd it
+may-show setup before after (Do.Poke d line) exhibit undecided plain it = absurd it
+may-show setup before after Do.Snap exhibit undecided plain it = absurd it
+may-show setup before after (Do.Back d) exhibit undecided plain it = absurd it
+
+-- the law
+pub shown : (setup : Setup) → IsTreeShown setup
+shown setup replies last new command exhibit session by =
+    let none = unshown-chain setup session.first last replies session.is_new.shown session.answered in
+    elim by [
+      | inl it ↦ (
+        it.holds,
+        subst (λ h. MayShow setup.shape h command exhibit) (history-last setup replies last session)
+            (may-show setup last.plain new.plain command exhibit it.undecided it.plain it.shows),
+      )
+      | inr again ↦ absurd (none-some exhibit (sym none ∙ again.0))
+    ]
+
+-- ---- without tampering
+
+-- nothing was changed
+record IsClear (history : History) : Type 0 where
+  changed : (d : ℕ) → slice_index_or history.changed d false ≡ false
+  hurt : (a : ℕ) → slice_index_or history.hurt a false ≡ false
+
+clear-first : (g : Shape) → IsClear (first_history g)
+clear-first g = record { changed = λ d. replicate-default (tree_size g) d false; hurt = λ a. replicate-default (tree_lines g) a false }
+
+clear-written : (history : History) (a : ℕ) → IsClear history → slice_set history.hurt a false ≡ history.hurt
+clear-written history a clear = ap (λ (b : Bool). slice_set history.hurt a b) (sym (clear.hurt a)) ∙ set-get_or history.hurt a false
+
+clear-from : (old new : History) → IsClear old → new.changed ≡ old.changed → new.hurt ≡ old.hurt → IsClear new
+clear-from old new clear changed hurt =
+    record {
+      changed = λ d. ap (λ flags. slice_index_or flags d false) changed ∙ clear.changed d;
+      hurt = λ a. ap (λ flags. slice_index_or flags a false) hurt ∙ clear.hurt a;
+    }
+
+clear-write : (g : Shape) (history : History) (a : ℕ) (line : Line) (answer : TreeAnswer) → IsClear history → IsClear (history_with g history (Do.Write a line) answer)
+clear-write g history a line (Say.Written s) clear = clear-from history (history_with g history (Do.Write a line) (Say.Written s)) clear refl (clear-written history a clear)
+clear-write g history a line (Say.CutKept s) clear = clear-from history (history_with g history (Do.Write a line) (Say.CutKept s)) clear refl (clear-written history a clear)
+clear-write g history a line (Say.CutLost s) clear = clear-from history (history_with g history (Do.Write a line) (Say.CutLost s)) clear refl refl
+clear-write g history a line (Say.RefusedNode x s) clear = clear-from history (history_with g history (Do.Write a line) (Say.RefusedNode x s)) clear refl refl
+clear-write g history a line (Say.Spent s) clear = clear-from history (history_with g history (Do.Write a line) (Say.Spent s)) clear refl refl
+clear-write g history a line Say.Ok clear = clear-from history (history_with g history (Do.Write a line) Say.Ok) clear refl refl
+clear-write g history a line Say.Off clear = clear-from history (history_with g history (Do.Write a line) Say.Off) clear refl refl
+clear-write g history a line Say.Already clear = clear-from history (history_with g history (Do.Write a line) Say.Already) clear refl refl
+clear-write g history a line Say.Range clear = clear-from history (history_with g history (Do.Write a line) Say.Range) clear refl refl
+clear-write g history a line Say.NoSnap clear = clear-from history (history_with g history (Do.Write a line) Say.NoSnap) clear refl refl
+clear-write g history a line (Say.Got got s) clear = clear-from history (history_with g history (Do.Write a line) (Say.Got got s)) clear refl refl
+clear-write g history a line (Say.Recovered digests s) clear = clear-from history (history_with g history (Do.Write a line) (Say.Recovered digests s)) clear refl refl
+clear-write g history a line (Say.RefusedData b s) clear = clear-from history (history_with g history (Do.Write a line) (Say.RefusedData b s)) clear refl refl
+clear-write g history a line (Say.RefusedShadow kept found s) clear = clear-from history (history_with g history (Do.Write a line) (Say.RefusedShadow kept found s)) clear refl refl
+clear-write g history a line (Say.Cut s) clear = clear-from history (history_with g history (Do.Write a line) (Say.Cut s)) clear refl refl
+
+clear-next : (g : Shape) (history : History) (command : TreeCommand) (answer : TreeAnswer) → IsNoTampering command → IsClear history → IsClear (history_with g history command answer)
+clear-next g history (Do.Write a line) answer none clear = clear-write g history a line answer clear
+clear-next g history (Do.Read a) answer none clear = clear-from history (history_with g history (Do.Read a) answer) clear refl refl
+clear-next g history Do.On answer none clear = clear-from history (history_with g history Do.On answer) clear refl refl
+clear-next g history Do.Off answer none clear = clear-from history (history_with g history Do.Off answer) clear refl refl
+clear-next g history (Do.Cut n) answer none clear = clear-from history (history_with g history (Do.Cut n) answer) clear refl refl
+clear-next g history (Do.Poke d line) answer none clear = absurd none
+clear-next g history Do.Snap answer none clear = clear-from history (history_with g history Do.Snap answer) clear refl refl
+clear-next g history (Do.Back d) answer none clear = absurd none
+
+unchanged : (g : Shape) (history : History) (a x : ℕ) → IsClear history → IsNodeChanged g history a x → ⊥
+unchanged g history a x clear it = false≢true (sym (clear.changed (line_of_node g x)) ∙ it.changed)
+
+unchanged-slot : (g : Shape) (history : History) → IsClear history → IsSlotChanged g history → ⊥
+unchanged-slot g history clear it = false≢true (sym (clear.changed (line_of_slot g it.slot)) ∙ it.changed)
+
+no_node : (g : Shape) (history : History) (command : TreeCommand) (x s : ℕ) → IsClear history → IsAllowed g history command (Say.RefusedNode x s) → ⊥
+no_node g history (Do.Write a line) x s clear it = unchanged g history a x clear it.2
+no_node g history (Do.Read a) x s clear it = unchanged g history a x clear it.1
+no_node g history Do.On x s clear it = it
+no_node g history Do.Off x s clear it = it
+no_node g history (Do.Cut n) x s clear it = cc
+no_node g history (Do.Poke d line) x s clear it = it
+no_node g history Do.Snap x s clear it = cc
+no_node g history (Do.Back d) x s clear it = it
+
+no_data : (g : Shape) (history : History) (command : TreeCommand) (b s : ℕ) → IsClear history → IsAllowed g history command (Say.RefusedData b s) → ⊥
+no_data g history (Do.Write a line) b s clear it = it
+no_data g history (Do.Read a) b s clear it = false≢true (sym (clear.hurt a) ∙ it.2)
+no_data g history Do.On b s clear it = it
+no_data g history Do.Off b s clear it = it
+no_data g history (Do.Cut n) b s clear it = cc
+no_data g history (Do.Poke d line) b s clear it = it
+no_data g history Do.Snap b s clear it = cc
+no_data g history (Do.Back d) b s clear it = it
+
+no_shadow : (g : Shape) (history : History) (command : TreeCommand) (first found : List ℕ) (s : ℕ) → IsClear history → IsAllowed g history command (Say.RefusedShadow first found s) → ⊥
+no_shadow g history (Do.Write a line) first found s clear it = it
+no_shadow g history (Do.Read a) first found s clear it = it
+no_shadow g history Do.On first found s clear it = unchanged-slot g history clear it.1
+no_shadow g history Do.Off first found s clear it = it
+no_shadow g history (Do.Cut n) first found s clear it = cc
+no_shadow g history (Do.Poke d line) first found s clear it = it
+no_shadow g history Do.Snap first found s clear it = cc
+no_shadow g history (Do.Back d) first found s clear it = it
+
+unrefused : (g : Shape) (history : History) (command : TreeCommand) (answer : TreeAnswer) → IsClear history → IsAllowed g history command answer → IsUnrefused answer
+unrefused g history command (Say.RefusedNode x s) clear it = no_node g history command x s clear it
+unrefused g history command (Say.RefusedData b s) clear it = no_data g history command b s clear it
+unrefused g history command (Say.RefusedShadow first found s) clear it = no_shadow g history command first found s clear it
+unrefused g history command Say.Ok clear it = tt
+unrefused g history command Say.Off clear it = tt
+unrefused g history command Say.Already clear it = tt
+unrefused g history command Say.Range clear it = tt
+unrefused g history command Say.NoSnap clear it = tt
+unrefused g history command (Say.Written s) clear it = tt
+unrefused g history command (Say.Got got s) clear it = tt
+unrefused g history command (Say.Recovered digests s) clear it = tt
+unrefused g history command (Say.Spent s) clear it = tt
+unrefused g history command (Say.CutKept s) clear it = tt
+unrefused g history command (Say.CutLost s) clear it = tt
+unrefused g history command (Say.Cut s) clear it = tt
+
+unrefused-chain : (g : Shape) (history : History) (replies : List TreeReply) → IsClear history → All (λ (reply : TreeReply). IsNoTampering reply.command) replies → AreAllowed g history replies
+    → All (λ (reply : TreeReply). IsUnrefused reply.answer) replies
+unrefused-chain g history [] clear none it = All-nil (λ (reply : TreeReply). IsUnrefused reply.answer)
+unrefused-chain g history (reply ∷ replies) clear none it =
+    All-cons (λ (reply : TreeReply). IsUnrefused reply.answer) reply replies (unrefused g history reply.command reply.answer clear it.0)
+    (unrefused-chain g (history_with g history reply.command reply.answer) replies (clear-next g history reply.command reply.answer (All-head (λ (reply : TreeReply). IsNoTampering reply.command) reply replies none) clear) (All-tail (λ (reply : TreeReply). IsNoTampering reply.command) reply replies none) it.1)
+
+clear-chain : (g : Shape) (history : History) (replies : List TreeReply) → IsClear history → All (λ (reply : TreeReply). IsNoTampering reply.command) replies → IsClear (history_after g history replies)
+clear-chain g history [] clear none = clear
+clear-chain g history (reply ∷ replies) clear none =
+    clear-chain g (history_with g history reply.command reply.answer) replies (clear-next g history reply.command reply.answer (All-head (λ (reply : TreeReply). IsNoTampering reply.command) reply replies none) clear) (All-tail (λ (reply : TreeReply). IsNoTampering reply.command) reply replies none)
+
+unshown : (g : Shape) (history : History) (command : TreeCommand) (exhibit : Exhibit) → IsClear history → MayShow g history command exhibit → ⊥
+unshown g history (Do.Write a line) exhibit clear it = unchanged g history a it.2.x clear it.2.changed
+unshown g history (Do.Read a) exhibit clear it =
+    elim it.1 [
+      | inl node ↦ unchanged g history a node.x clear node.changed
+      | inr line ↦ false≢true (sym (clear.hurt a) ∙ line.hurt)
+    ]
+unshown g history Do.On exhibit clear it = unchanged-slot g history clear it.1.changed
+unshown g history Do.Off exhibit clear it = it
+unshown g history (Do.Cut n) exhibit clear it = it
+unshown g history (Do.Poke d line) exhibit clear it = it
+unshown g history Do.Snap exhibit clear it = it
+unshown g history (Do.Back d) exhibit clear it = it
+
+-- the law
+pub untouched : (setup : Setup) → IsTreeUntouched setup
+untouched setup replies last session none = (
+  unrefused-chain setup.shape (first_history setup.shape) replies (clear-first setup.shape) none (kept setup replies last session),
+  λ command exhibit new by.
+      unshown setup.shape (history_after setup.shape (first_history setup.shape) replies) command exhibit
+      (clear-chain setup.shape (first_history setup.shape) replies (clear-first setup.shape) none) (shown setup replies last new command exhibit session by).1,
+)

@@ -1,0 +1,87 @@
+-- What a call of the engine answers: the parts that are one for reads and writes.
+use Rattle.std.proofs.Common.{ℕ, ◌≡◌, ◌<◌, ◌≤◌, true, false, Bool, List, Option, Some, None, refl, sym, ap, subst, ◌∙◌, arith}
+use Rattle.std.specs.Prelude.{slice_index_or}
+use Rattle.std.proofs.lemmas.Bool.{lt-ltb}
+use Rattle.std.proofs.lemmas.Option.{same_Some}
+use Rattle.std.specs.Prelude.{nat_lt, not, if◌then◌else◌}
+use Rattle.pmem_base.specs.declared.lines.Line.{Line}
+use Rattle.pmem_base.specs.declared.answers.Exhibit.{Exhibit}
+use Rattle.pmem_base.specs.declared.answers.Exhibit.TheVariants.{Forged}
+use Rattle.pmem_base.specs.Lines.{line_at}
+use Rattle.pmem_base.specs.Layout.{meta_lines}
+use Rattle.board.specs.Memory.{BoardMemory}
+use Rattle.collision_witness.specs.Exhibits.{AreSmallMinors}
+use Rattle.commit_regs.specs.Groups.{redone}
+use Rattle.pmem_engine.specs.Outcomes.{Outcome, cut_short}
+use Rattle.counter_tree.specs.Layout.{tree_lines, line_of_node}
+use Rattle.watched_board.specs.declared.taken.Taken.{Taken}
+use Rattle.watched_board.specs.Watching.{steps_in, device_during, none_taken, IsWatched}
+use Rattle.asit_shadow.specs.Parts.{HoldsNode}
+use Rattle.asit_shadow.specs.Calls as told
+use Rattle.asit_shadow.specs.Calls.{KeepsWatch, TakesWriteBacks}
+use Rattle.asit_shadow.specs.Plain.{with_board}
+use Rattle.asit_shadow.proofs.SlotPlaces.{on_path-inside}
+use Rattle.tree_session.specs.World.{TreeParts, plain_of_parts}
+use Rattle.tree_session.specs.Answered.{IsNodeRefused, IsNodeShown, IsPlainKept}
+use Rattle.tree_session.proofs.BoardSteps.{taken-exact}
+use Rattle.tree_session.proofs.PlainStates.{plain-kept}
+use Rattle.tree_session.proofs.Held.{EngineCall, on, from, to, trusted_from}
+use Rattle.tree_session.proofs.Refusals.{node-refused, node-shown}
+
+-- so many write-backs are all of its steps
+pub backs : (taken : Taken) (n : ℕ) (outcome : Outcome) (old new : BoardMemory) → IsWatched old new taken
+    → TakesWriteBacks n outcome (device_during old none_taken) (device_during new taken) → steps_in taken ≤ n
+backs taken n outcome old new watched it =
+    let few = watched.follows.few in
+    let writes = taken-exact it.count taken.writes it.writes (omega (arith, few)) in
+    omega (arith, writes, it.latches, it.at_most)
+
+pub backs-cut : (taken : Taken) (n : ℕ) (old new : BoardMemory) → IsWatched old new taken → old.powered ≡ true
+    → TakesWriteBacks n cut_short (device_during old none_taken) (device_during new taken) → steps_in taken < n
+backs-cut taken n old new watched live it =
+    let few = watched.follows.few in
+    let writes = taken-exact it.count taken.writes it.writes (omega (arith, few)) in
+    let fewer = it.fewer refl live in
+    omega (arith, writes, it.latches, fewer)
+
+-- with power on, a line that there is leaves a command on it to the engine
+pub undecided_line : {X : Type 0} (power : Bool) (a n : ℕ) (off range : X) → power ≡ true → a < n
+    → (if not power then Some off else if nat_lt a n then None else Some range) ≡ None
+undecided_line power a n off range on low =
+    ap (λ (b : Bool). if not b then Some off else if nat_lt a n then None else Some range) on
+    ∙ ap (λ (b : Bool). if b then None else Some range) (lt-ltb a n low)
+
+-- what was left where the watch knows what it knew
+pub kept_plain : (c : EngineCall) (outcome : Outcome) (q : TreeParts) → KeepsWatch outcome c.parts.watch c.watch → q.watch ≡ c.watch → q.tampered ≡ c.parts.tampered → q.hurt ≡ c.parts.hurt
+    → IsPlainKept (plain_of_parts c.setup c.parts) (plain_of_parts c.setup q)
+kept_plain c outcome q keeps its tampered hurt =
+    plain-kept c.setup c.parts q (ap (λ (w : Rattle.counter_tree.specs.Watch.WatchState). w.seals) its ∙ keeps.seals)
+    (ap (λ (w : Rattle.counter_tree.specs.Watch.WatchState). w.nodes) its ∙ keeps.nodes) (ap (λ (w : Rattle.counter_tree.specs.Watch.WatchState). w.slots) its ∙ keeps.slots)
+    tampered hurt
+
+module _ (c : EngineCall) (a : ℕ) (within : a < tree_lines c.setup.shape) (b : BoardMemory) (lines : b.lines ≡ c.board.lines) where
+  -- an unchanged node is held
+  held : (x : ℕ) → x < meta_lines c.setup.shape → slice_index_or c.parts.tampered (line_of_node c.setup.shape x) false ≡ false
+      → HoldsNode c.setup (from c) x
+  held x inside unchanged = (on c).nodes x (inside, unchanged)
+
+  pub refused_node : (x : ℕ) → told.IsNodeRefused c.setup a x (from c) (to c) → IsNodeRefused c.setup (with_board (plain_of_parts c.setup c.parts) b) a x
+  refused_node x it =
+      let inside = on_path-inside c.setup.shape a x within it.its.on_path in
+      node-refused c.setup c.parts c.parts.board.regs b c.world.whole_shape c.world.whole_formulas (trusted_from c).anchored a x it.line within it.its.on_path
+      it.its.below_top (it.its.read ∙ ap (λ ls. line_at ls (line_of_node c.setup.shape x)) (sym lines)) it.refused
+      (λ unchanged. it.unheld (redone c.parts.board.regs.group.items c.parts.board.lines) refl (held x inside unchanged))
+
+  pub shown_node : (exhibit : Exhibit) → c.watch.exhibit ≡ Some exhibit → told.IsNodeShown c.setup a (from c) (to c)
+      → IsNodeShown c.setup (with_board (plain_of_parts c.setup c.parts) b) a exhibit
+  shown_node exhibit is it =
+      let inside = on_path-inside c.setup.shape a it.x within it.its.on_path in
+      node-shown c.setup c.parts c.parts.board.regs b c.world.whole_shape c.world.whole_formulas (trusted_from c).anchored a it.x it.line it.node exhibit within
+      it.its.on_path it.its.below_top (it.its.read ∙ ap (λ ls. line_at ls (line_of_node c.setup.shape it.x)) (sym lines)) it.accepted it.other
+      (same_Some exhibit _ (sym is ∙ it.exhibit)) (λ unchanged. it.unheld (redone c.parts.board.regs.group.items c.parts.board.lines) refl (held it.x inside unchanged))
+
+-- a forged node or line has no minor
+pub forged-minors : (found : Option Exhibit) (exhibit : Exhibit) (at : ℕ) (ctr : Rattle.pmem_base.specs.declared.lines.Ctr.Ctr) (cipher : Line) (tag : List ℕ) → found ≡ Some exhibit
+    → found ≡ Some (Forged at ctr cipher tag) → AreSmallMinors exhibit
+forged-minors found exhibit at ctr cipher tag is its =
+    subst AreSmallMinors (same_Some (Forged at ctr cipher tag) exhibit (sym its ∙ is)) (let none : AreSmallMinors (Forged at ctr cipher tag) = tt in none)

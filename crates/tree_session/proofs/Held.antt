@@ -1,0 +1,304 @@
+-- What a session holds, and what a call that goes on, is cut or shows leaves of it.
+use Rattle.std.proofs.Common.{ℕ, ◌≡◌, ◌<◌, ◌≤◌, ◌+◌, true, false, Bool, List, [], length, Option, Some, None, refl, sym, ap, subst, ◌∙◌}
+use Rattle.std.specs.Prelude.{IsSome, IsNone, IfSome, MatchOption, All, slice_index_or}
+use Rattle.pmem_base.specs.declared.registers.Regs.{Regs}
+use Rattle.pmem_base.specs.declared.answers.Exhibit.{Exhibit}
+use Rattle.pmem_base.specs.Lines.{IsLine}
+use Rattle.pmem_base.specs.Shape.{IsShape}
+use Rattle.suite.specs.Formulas.{AreInRange}
+use Rattle.suite.specs.Setup.{Setup}
+use Rattle.board.specs.Device.{Device, AreLinesOf}
+use Rattle.board.specs.Memory.{BoardMemory, device_of}
+use Rattle.collision_witness.specs.Exhibits.{IsExhibit, AreSmallMinors}
+use Rattle.pmem_engine.specs.Outcomes.{Outcome, going, cut_short, shown}
+use Rattle.counter_tree.specs.Layout.{tree_lines, tree_slots, tree_size, line_of_slot}
+use Rattle.counter_tree.specs.Watch.{WatchState, last_seal_of, IsWatchOf}
+use Rattle.watched_board.specs.declared.taken.Taken.{Taken}
+use Rattle.watched_board.specs.Watching.{device_during, none_taken, IsWatched}
+use Rattle.asit_shadow.specs.State.{TreeState}
+use Rattle.asit_shadow.specs.Invariants.{IsAnchored}
+use Rattle.asit_shadow.specs.Parts.{Parts, parts_of, AreTrusted, HoldsSeal, HoldsSlot, IsUsable, IsWatchReady}
+use Rattle.asit_shadow.specs.Calls.{CallEffect, KeepsWatch}
+use Rattle.asit_shadow.specs.Recovering.{rest_of, IsRestUsable}
+use Rattle.tree_session.specs.Answered.{IsRooted}
+use Rattle.tree_session.specs.World.{TreeParts, plain_of_parts, IsTreeOn, IsTreeOff, IsTreeBy, IsTreeOpen, IsTreeEnded, IsTreeWorld}
+use Rattle.tree_session.proofs.PlainStates.{plain_is, root-is}
+
+-- ---- options
+
+pub some_is : {X : Type 0} (found : Option X) (x : X) → found ≡ Some x → IsSome found
+some_is None x is = absurd (Rattle.std.proofs.lemmas.Option.none-some x is)
+some_is (Some y) x is = refl
+
+pub none_is : {X : Type 0} (found : Option X) → IsNone found → found ≡ None
+none_is None is = refl
+none_is (Some y) is = absurd (Rattle.std.proofs.lemmas.Bool.true≢false is)
+
+none_from : {X : Type 0} (found : Option X) → found ≡ None → IsNone found
+none_from None is = refl
+none_from (Some y) is = absurd (Rattle.std.proofs.lemmas.Option.none-some y (sym is))
+
+-- ---- what is always so
+
+-- what no command of a session ends
+pub record IsFrame (setup : Setup) (p : TreeParts) : Type 0 where
+  pub shape : IsShape setup.shape
+  pub formulas : AreInRange setup.formulas
+  pub watch : IsWatchOf setup p.watch
+  pub lines : AreLinesOf (tree_size setup.shape) p.board.lines
+  pub tampered : length p.tampered ≡ tree_size setup.shape
+  pub hurt : length p.hurt ≡ tree_lines setup.shape
+
+pub frame_of : (setup : Setup) (p : TreeParts) → IsTreeWorld setup p → IsFrame setup p
+frame_of setup p world =
+    record {
+      shape = world.whole_shape;
+      formulas = world.whole_formulas;
+      watch = world.its_watch;
+      lines = world.whole_lines;
+      tampered = world.tampered_count;
+      hurt = world.hurt_count;
+    }
+
+pub opened : (setup : Setup) (p : TreeParts) → IsFrame setup p → p.watch.exhibit ≡ None → IsTreeOpen setup p → IsTreeWorld setup p
+opened setup p frame none it =
+    record {
+      whole_shape = frame.shape;
+      whole_formulas = frame.formulas;
+      its_watch = frame.watch;
+      whole_lines = frame.lines;
+      tampered_count = frame.tampered;
+      hurt_count = frame.hurt;
+      before_or_after = subst (λ e. MatchOption e (IsTreeOpen setup p) (IsTreeEnded setup p)) (sym none) it;
+    }
+
+pub ended : (setup : Setup) (p : TreeParts) (exhibit : Exhibit) → IsFrame setup p → p.watch.exhibit ≡ Some exhibit → IsTreeEnded setup p exhibit → IsTreeWorld setup p
+ended setup p exhibit frame its it =
+    record {
+      whole_shape = frame.shape;
+      whole_formulas = frame.formulas;
+      its_watch = frame.watch;
+      whole_lines = frame.lines;
+      tampered_count = frame.tampered;
+      hurt_count = frame.hurt;
+      before_or_after = subst (λ e. MatchOption e (IsTreeOpen setup p) (IsTreeEnded setup p)) (sym its) it;
+    }
+
+pub open_in : (setup : Setup) (p : TreeParts) → IsTreeWorld setup p → p.watch.exhibit ≡ None → IsTreeOpen setup p
+open_in setup p world none = subst (λ e. MatchOption e (IsTreeOpen setup p) (IsTreeEnded setup p)) none world.before_or_after
+
+pub on_in : (setup : Setup) (p : TreeParts) (engine : TreeState) → IsTreeOpen setup p → p.engine ≡ Some engine → IsTreeOn setup p engine
+on_in setup p engine it there = subst (λ e. IsTreeBy setup p e) there it.chip
+
+pub off_in : (setup : Setup) (p : TreeParts) → IsTreeOpen setup p → p.engine ≡ None → IsTreeOff setup p
+off_in setup p it there = subst (λ e. IsTreeBy setup p e) there it.chip
+
+-- power is on where there is an engine
+pub powered_by : (setup : Setup) (p : TreeParts) (engine : TreeState) → IsTreeWorld setup p → p.watch.exhibit ≡ None → p.engine ≡ Some engine → p.board.powered ≡ true
+powered_by setup p engine world none there = (on_in setup p engine (open_in setup p world none) there).powered
+
+pub unpowered_by : (setup : Setup) (p : TreeParts) → IsTreeWorld setup p → p.watch.exhibit ≡ None → p.engine ≡ None → p.board.powered ≡ false
+unpowered_by setup p world none there = (off_in setup p (open_in setup p world none) there).unpowered
+
+-- ---- what calls ask
+
+pub watch_ready : (setup : Setup) (regs : Regs) (watch : WatchState) → IsAnchored setup regs watch → IsWatchReady setup.shape watch
+watch_ready setup regs watch anchored =
+    record {
+      seal_count = anchored.of_setup.seal_count;
+      node_count = anchored.of_setup.node_count;
+      slot_count = anchored.of_setup.slot_count;
+      each_sealed = λ a inside. let it = anchored.seals a inside in some_is (last_seal_of watch a) it.seal it.last;
+    }
+
+pub usable_on : (setup : Setup) (engine : TreeState) (device : Device) (watch : WatchState) → device.size ≡ tree_size setup.shape
+    → AreTrusted setup (parts_of engine device watch) → IsUsable setup.shape (parts_of engine device watch)
+usable_on setup engine device watch size trusted =
+    record {
+      watch = watch_ready setup device.regs watch trusted.anchored;
+      board = record { its_size = size; group = trusted.anchored.group };
+      no_group = λ _. trusted.no_group;
+    }
+
+pub usable_off : (setup : Setup) (device : Device) (watch : WatchState) → device.size ≡ tree_size setup.shape → IsAnchored setup device.regs watch
+    → IsRestUsable setup.shape (rest_of device watch)
+usable_off setup device watch size anchored =
+    record {
+      watch = watch_ready setup device.regs watch anchored;
+      board = record { its_size = size; group = anchored.group };
+    }
+
+-- ---- rooted
+
+pub rooted_on : (setup : Setup) (p : TreeParts) → IsShape setup.shape → IsAnchored setup p.board.regs p.watch → p.board.regs.group.items ≡ [] → IsRooted setup (plain_of_parts setup p)
+rooted_on setup p shape anchored none =
+    record {
+      root = root-is setup p.watch p.board.regs shape anchored (plain_of_parts setup p) (plain_is setup p p.board.regs shape anchored);
+      no_group = λ _. none;
+    }
+
+pub rooted_off : (setup : Setup) (p : TreeParts) → IsShape setup.shape → IsAnchored setup p.board.regs p.watch → p.board.powered ≡ false → IsRooted setup (plain_of_parts setup p)
+rooted_off setup p shape anchored off =
+    record {
+      root = root-is setup p.watch p.board.regs shape anchored (plain_of_parts setup p) (plain_is setup p p.board.regs shape anchored);
+      no_group = λ on. absurd (Rattle.std.proofs.lemmas.Bool.false≢true (sym off ∙ on));
+    }
+
+-- a state before an exhibit is rooted
+pub rooted_open : (setup : Setup) (p : TreeParts) → IsTreeWorld setup p → p.watch.exhibit ≡ None → IsRooted setup (plain_of_parts setup p)
+rooted_open setup p world none = go p.engine refl
+  where
+    go : (found : Option TreeState) → p.engine ≡ found → IsRooted setup (plain_of_parts setup p)
+    go None is =
+        let off = off_in setup p (open_in setup p world none) is in
+        rooted_off setup p world.whole_shape off.anchored off.unpowered
+    go (Some engine) is =
+        let on = on_in setup p engine (open_in setup p world none) is in
+        rooted_on setup p world.whole_shape on.trusted.anchored on.trusted.no_group
+
+-- ---- after a call of the engine
+
+-- a call over the watched board, as the session's parts have it: the parts before, and the engine, the board and the watch after it
+pub record EngineCall : Type 0 where
+  pub setup : Setup
+  pub parts : TreeParts
+  pub engine : TreeState
+  pub after : TreeState
+  pub board : BoardMemory
+  pub watch : WatchState
+  pub taken : Taken
+  pub world : IsTreeWorld setup parts
+  pub none : parts.watch.exhibit ≡ None
+  pub there : parts.engine ≡ Some engine
+  pub watched : IsWatched parts.board board taken
+
+module _ (c : EngineCall) where
+  abbrev pub from : Parts
+  from = parts_of c.engine (device_during c.parts.board none_taken) c.parts.watch
+
+  abbrev pub to : Parts
+  to = parts_of c.after (device_during c.board c.taken) c.watch
+
+  abbrev pub left : Option TreeState → List Bool → TreeParts
+  left found hurt = record { keys = c.parts.keys; board = c.board; watch = c.watch; engine = found; tampered = c.parts.tampered; hurt = hurt }
+
+  abbrev pub left_resting : TreeParts
+  left_resting = record { keys = c.parts.keys; board = record c.board { powered = false }; watch = c.watch; engine = None; tampered = c.parts.tampered; hurt = c.parts.hurt }
+
+  abbrev opened_in : IsTreeOpen c.setup c.parts
+  opened_in = open_in c.setup c.parts c.world c.none
+
+  pub on : IsTreeOn c.setup c.parts c.engine
+  on = on_in c.setup c.parts c.engine (open_in c.setup c.parts c.world c.none) c.there
+
+  pub trusted_from : AreTrusted c.setup from
+  trusted_from = (on_in c.setup c.parts c.engine (open_in c.setup c.parts c.world c.none) c.there).trusted
+
+  pub powered_from : c.parts.board.powered ≡ true
+  powered_from = (on_in c.setup c.parts c.engine (open_in c.setup c.parts c.world c.none) c.there).powered
+
+  module _ (outcome : Outcome) (effect : CallEffect c.setup outcome from to) where
+    lines_whole : AreLinesOf (tree_size c.setup.shape) c.board.lines
+    lines_whole = record { count = effect.size ∙ c.world.whole_lines.count; each = c.watched.each_line }
+
+    -- seals that aren't hurt and were stored are stored
+    pub seals_kept : (a : ℕ) → a < tree_lines c.setup.shape → slice_index_or c.parts.hurt a false ≡ false → HoldsSeal c.setup.shape to a
+    seals_kept a inside unhurt = (effect.places trusted_from).seals a inside (opened_in.places.seals a inside unhurt)
+
+    slots_kept : (i : ℕ) → i < tree_slots c.setup.shape → slice_index_or c.parts.tampered (line_of_slot c.setup.shape i) false ≡ false → HoldsSlot c.setup.shape to i
+    slots_kept i inside unchanged = (effect.places trusted_from).slots i inside (opened_in.places.slots i inside unchanged)
+
+  -- a call that goes on
+  module _ (effect : CallEffect c.setup going from to) (hurt : List Bool) (count : length hurt ≡ tree_lines c.setup.shape)
+      (seals : (a : ℕ) → a < tree_lines c.setup.shape → slice_index_or hurt a false ≡ false → HoldsSeal c.setup.shape to a) where
+    trusted_to : AreTrusted c.setup to
+    trusted_to = effect.trusted trusted_from
+
+    pub on_after : IsTreeWorld c.setup (left (Some c.after) hurt)
+    on_after =
+        opened c.setup (left (Some c.after) hurt)
+        (record {
+          shape = c.world.whole_shape;
+          formulas = c.world.whole_formulas;
+          watch = trusted_to.anchored.of_setup;
+          lines = lines_whole going effect;
+          tampered = c.world.tampered_count;
+          hurt = count;
+        })
+        (none_is c.watch.exhibit trusted_to.anchored.no_exhibit)
+        (record {
+          chip =
+              record {
+                powered = effect.power.1 powered_from;
+                its_shape = trusted_to.its_shape;
+                usable = usable_on c.setup c.after (device_of c.board) c.watch (effect.size ∙ c.world.whole_lines.count) trusted_to;
+                trusted = trusted_to;
+                nodes = λ x unchanged. (effect.places trusted_from).nodes x unchanged.0 (on.nodes x unchanged);
+              };
+          places = record { seals = seals; slots = slots_kept going effect };
+        })
+
+    pub rooted_after : IsRooted c.setup (plain_of_parts c.setup (left (Some c.after) hurt))
+    rooted_after = rooted_on c.setup (left (Some c.after) hurt) c.world.whole_shape trusted_to.anchored trusted_to.no_group
+
+  -- a call that is cut
+  module _ (effect : CallEffect c.setup cut_short from to) (small : length c.board.regs.group.items ≤ c.setup.shape.levels + 3) (hurt : List Bool)
+      (count : length hurt ≡ tree_lines c.setup.shape)
+      (seals : (a : ℕ) → a < tree_lines c.setup.shape → slice_index_or hurt a false ≡ false → HoldsSeal c.setup.shape to a) where
+    anchored_to : IsAnchored c.setup c.board.regs c.watch
+    anchored_to = effect.trusted trusted_from
+
+    pub off_after : IsTreeWorld c.setup (left None hurt)
+    off_after =
+        opened c.setup (left None hurt)
+        (record {
+          shape = c.world.whole_shape;
+          formulas = c.world.whole_formulas;
+          watch = anchored_to.of_setup;
+          lines = lines_whole cut_short effect;
+          tampered = c.world.tampered_count;
+          hurt = count;
+        })
+        (none_is c.watch.exhibit anchored_to.no_exhibit)
+        (record {
+          chip =
+              record {
+                unpowered = effect.power.1;
+                usable = usable_off c.setup (device_of c.board) c.watch (effect.size ∙ c.world.whole_lines.count) anchored_to;
+                small_group = small;
+                anchored = anchored_to;
+                nodes = λ x unchanged. (effect.places trusted_from).nodes x unchanged.0 (on.nodes x unchanged);
+              };
+          places = record { seals = seals; slots = slots_kept cut_short effect };
+        })
+
+    pub rooted_cut : IsRooted c.setup (plain_of_parts c.setup (left None hurt))
+    rooted_cut = rooted_off c.setup (left None hurt) c.world.whole_shape anchored_to effect.power.1
+
+  -- a call that ends with an exhibit, after which the board rests
+  pub ended_after : CallEffect c.setup shown from to → KeepsWatch shown c.parts.watch c.watch → (exhibit : Exhibit) → c.watch.exhibit ≡ Some exhibit → AreSmallMinors exhibit
+      → IsTreeWorld c.setup left_resting
+  ended_after effect keeps exhibit its minors =
+      ended c.setup left_resting exhibit
+      (record {
+        shape = c.world.whole_shape;
+        formulas = c.world.whole_formulas;
+        watch =
+            record {
+              its_setup = keeps.setup ∙ c.world.its_watch.its_setup;
+              seal_count = ap length keeps.seals ∙ c.world.its_watch.seal_count;
+              node_count = ap length keeps.nodes ∙ c.world.its_watch.node_count;
+              slot_count = ap length keeps.slots ∙ c.world.its_watch.slot_count;
+              whole_slots = subst (All IsLine) (sym keeps.slots) c.world.its_watch.whole_slots;
+            };
+        lines = lines_whole shown effect;
+        tampered = c.world.tampered_count;
+        hurt = c.world.hurt_count;
+      })
+      its
+      (record {
+        holds = subst (λ e. IfSome e (IsExhibit c.setup.formulas)) its (effect.trusted trusted_from);
+        minors = minors;
+        no_engine = refl;
+        unpowered = refl;
+      })

@@ -1,0 +1,74 @@
+-- A new session, as its fields have it.
+use Rattle.std.proofs.Common.{ℕ, ◌≡◌, false, Bool, List, Some, None, ap, subst, sym, ◌∙◌}
+use Rattle.std.specs.Prelude.{All, replicate}
+use Rattle.pmem_base.specs.Lines.{IsLine}
+use Rattle.pmem_base.specs.Shape.{Shape, IsShape}
+use Rattle.suite.specs.Formulas.{Formulas, AreInRange}
+use Rattle.suite.specs.Setup.{Setup}
+use Rattle.board.specs.Memory.{BoardMemory, device_of, new_memory}
+use Rattle.counter_tree.specs.Book.{new_watch}
+use Rattle.counter_tree.specs.Layout.{tree_lines, tree_size}
+use Rattle.counter_tree.specs.Watch.{WatchState}
+use Rattle.asit_shadow.specs.State.{TreeState}
+use Rattle.asit_shadow.specs.Formatting.{HasTreeFormatted}
+use Rattle.asit_shadow.specs.Recovering.{rest_of}
+use Rattle.tree_session.specs.State.{IsNewTree}
+use Rattle.tree_session.specs.World.{TreeParts, state_of, IsTreeWorld}
+use Rattle.tree_session.proofs.News.{new_held, new_is}
+use Rattle.tree_session.proofs.Seen.{setup_under}
+
+pub record NewCall : Type 0 where
+  pub formulas_of : List ℕ → Formulas
+  pub geometry : Shape
+  pub keys : List ℕ
+  pub watch_keys : List ℕ
+  pub same_watch_keys : watch_keys ≡ keys
+  pub shape : IsShape geometry
+  pub in_range : AreInRange (formulas_of keys)
+  pub size : ℕ
+  pub its_size : size ≡ tree_size geometry
+  pub first_board : BoardMemory
+  pub board_is : first_board ≡ new_memory size
+  pub first_watch : WatchState
+  pub watch_is : first_watch ≡ new_watch (setup_under formulas_of geometry watch_keys)
+  pub engine : TreeState
+  pub board : BoardMemory
+  pub watch : WatchState
+  pub formatted :
+      HasTreeFormatted (setup_under formulas_of geometry keys) (rest_of (device_of first_board) first_watch) (rest_of (device_of board) watch) engine
+  pub each : All IsLine board.lines
+  pub snapshot : board.snapshot ≡ None
+  pub tampered : List Bool
+  pub tampered_is : tampered ≡ replicate (tree_size geometry) false
+  pub hurt : List Bool
+  pub hurt_is : hurt ≡ replicate (tree_lines geometry) false
+  pub keys_then : List ℕ
+  pub same_keys : keys_then ≡ keys
+
+module _ (n : NewCall) where
+  abbrev setup : Setup
+  setup = setup_under n.formulas_of n.geometry n.keys
+
+  made : HasTreeFormatted setup (rest_of (device_of (new_memory (tree_size n.geometry))) (new_watch setup)) (rest_of (device_of n.board) n.watch) n.engine
+  made =
+      subst (λ (k : List ℕ). HasTreeFormatted setup (rest_of (device_of (new_memory (tree_size n.geometry))) (new_watch (setup_under n.formulas_of n.geometry k))) (rest_of (device_of n.board) n.watch) n.engine) n.same_watch_keys
+      (subst (λ (w : WatchState). HasTreeFormatted setup (rest_of (device_of (new_memory (tree_size n.geometry))) w) (rest_of (device_of n.board) n.watch) n.engine) n.watch_is
+      (subst (λ (b : BoardMemory). HasTreeFormatted setup (rest_of (device_of b) n.first_watch) (rest_of (device_of n.board) n.watch) n.engine) (n.board_is ∙ ap new_memory n.its_size)
+      n.formatted))
+
+  abbrev pub with_flags : List Bool → List Bool → List ℕ → TreeParts
+  with_flags tampered hurt keys = record { keys = keys; board = n.board; watch = n.watch; engine = Some n.engine; tampered = tampered; hurt = hurt }
+
+  pub held : IsTreeWorld (setup_under n.formulas_of n.geometry n.keys_then) (with_flags n.tampered n.hurt n.keys_then)
+  held =
+      subst (λ (k : List ℕ). IsTreeWorld (setup_under n.formulas_of n.geometry k) (with_flags n.tampered n.hurt k)) (sym n.same_keys)
+      (subst (λ (t : List Bool). IsTreeWorld setup (with_flags t n.hurt n.keys)) (sym n.tampered_is)
+      (subst (λ (h : List Bool). IsTreeWorld setup (with_flags (replicate (tree_size n.geometry) false) h n.keys)) (sym n.hurt_is)
+      (new_held setup n.keys n.engine n.board n.watch n.shape n.in_range made n.each n.snapshot)))
+
+  pub is_new : IsNewTree setup (state_of (setup_under n.formulas_of n.geometry n.keys_then) (with_flags n.tampered n.hurt n.keys_then))
+  is_new =
+      subst (λ (k : List ℕ). IsNewTree setup (state_of (setup_under n.formulas_of n.geometry k) (with_flags n.tampered n.hurt k))) (sym n.same_keys)
+      (subst (λ (t : List Bool). IsNewTree setup (state_of setup (with_flags t n.hurt n.keys))) (sym n.tampered_is)
+      (subst (λ (h : List Bool). IsNewTree setup (state_of setup (with_flags (replicate (tree_size n.geometry) false) h n.keys))) (sym n.hurt_is)
+      (new_is setup n.keys n.engine n.board n.watch n.shape n.in_range made n.each n.snapshot)))

@@ -1,0 +1,161 @@
+-- A recovery, as the fields of a session have it.
+use Rattle.std.proofs.Common.{ℕ, ◌≡◌, true, false, List, Option, Some, None, Ok, Err, refl, ap, subst, sym, ◌∙◌}
+use Rattle.std.specs.Prelude.{Result, option_map}
+use Rattle.pmem_base.specs.declared.answers.Exhibit.{Exhibit}
+use Rattle.pmem_base.specs.Shape.{Shape}
+use Rattle.suite.specs.Formulas.{Formulas}
+use Rattle.suite.specs.Setup.{Setup}
+use Rattle.board.specs.Memory.{BoardMemory}
+use Rattle.pmem_recovery.specs.declared.faults.Work.{Work}
+use Rattle.counter_tree.specs.Watch.{WatchState, first_shown}
+use Rattle.watched_board.specs.declared.taken.Taken.{Taken}
+use Rattle.watched_board.specs.Watching.{steps_in, device_during, none_taken, IsWatched}
+use Rattle.asit_shadow.specs.declared.recovery.TreeRec.{TreeRec}
+use Rattle.asit_shadow.specs.declared.recovery.TreeRec.TheVariants as Fail
+use Rattle.asit_shadow.specs.State.{TreeState}
+use Rattle.asit_shadow.specs.Recovering.{rest_of, HasTreeRecovered}
+use Rattle.trace_text.specs.declared.talk.Halt.{Halt}
+use Rattle.trace_text.specs.declared.talk.Halt.TheVariants as Stop
+use Rattle.tree_session.specs.declared.commands.TreeCommand.TheVariants as Do
+use Rattle.tree_session.specs.declared.answers.TreeAnswer.{TreeAnswer}
+use Rattle.tree_session.specs.declared.answers.TreeAnswer.TheVariants as Say
+use Rattle.tree_session.specs.State.{SessionState, setup_in}
+use Rattle.tree_session.specs.World.{TreeParts, state_of, IsTreeWorld}
+use Rattle.tree_session.specs.Answered.{IsAnswered, IsHalt}
+use Rattle.tree_session.proofs.Recoveries.{RecoveryCall, rest_from, rest_to, left_with, resting, recovered_held, recovered_done, cut_held, cut_done, refused_held, refused_done, memory_held, as_it_was, clash_held, clash_done, clash_minors}
+use Rattle.tree_session.proofs.Seen.{setup_under, seen_from, held_under, halts}
+
+pub record OnCall : Type 0 where
+  pub formulas_of : List ℕ → Formulas
+  pub geometry : Shape
+  pub parts : TreeParts
+  pub now : SessionState
+  pub is : state_of (setup_under formulas_of geometry parts.keys) parts ≡ now
+  pub world : IsTreeWorld (setup_under formulas_of geometry parts.keys) parts
+  pub unshown : now.shown ≡ None
+  pub there : parts.engine ≡ None
+  pub lit : BoardMemory
+  pub is_lit : lit ≡ record parts.board { powered = true }
+  pub keys : List ℕ
+  pub same_keys : keys ≡ parts.keys
+  pub board : BoardMemory
+  pub watch : WatchState
+  pub taken : Taken
+  pub watched : IsWatched lit board taken
+  pub before : ℕ
+  pub later : ℕ
+  pub answer : Result (TreeState × Work) TreeRec
+  pub recovered :
+      HasTreeRecovered (setup_under formulas_of geometry parts.keys) (rest_of (device_during lit none_taken) parts.watch)
+      (rest_of (device_during board taken) watch) before later answer
+  pub said : ℕ
+  pub counted : said ≡ steps_in taken
+
+module _ (o : OnCall) where
+  abbrev call : RecoveryCall
+  call =
+      record {
+        setup = setup_under o.formulas_of o.geometry o.parts.keys;
+        parts = o.parts;
+        board = o.board;
+        watch = o.watch;
+        taken = o.taken;
+        world = o.world;
+        none = ap (λ (s : SessionState). s.shown) o.is ∙ o.unshown;
+        there = o.there;
+        watched = subst (λ (b : BoardMemory). IsWatched b o.board o.taken) o.is_lit o.watched;
+        before = o.before;
+        later = o.later;
+      }
+
+  was : (known : Result (TreeState × Work) TreeRec) → o.answer ≡ known → HasTreeRecovered (setup_under o.formulas_of o.geometry o.parts.keys) (rest_from call) (rest_to call) o.before o.later known
+  was known is =
+      subst (λ r. HasTreeRecovered (setup_under o.formulas_of o.geometry o.parts.keys) (rest_from call) (rest_to call) o.before o.later r) is
+      (subst (λ (b : BoardMemory). HasTreeRecovered (setup_under o.formulas_of o.geometry o.parts.keys) (rest_of (device_during b none_taken) o.parts.watch)
+      (rest_of (device_during o.board o.taken) o.watch) o.before o.later o.answer) o.is_lit o.recovered)
+
+  abbrev pub under : TreeParts → TreeParts
+  under q = record q { keys = o.keys }
+
+  abbrev pub setup_then : Setup
+  setup_then = setup_under o.formulas_of o.geometry o.keys
+
+  held : (q : TreeParts) → IsTreeWorld (setup_under o.formulas_of o.geometry o.parts.keys) (record q { keys = o.parts.keys }) → IsTreeWorld setup_then (under q)
+  held q it = held_under o.formulas_of o.geometry o.parts q o.keys o.same_keys it
+
+  seen : (q : TreeParts) (answer : ℕ → TreeAnswer) → q.keys ≡ o.parts.keys
+      → IsAnswered (setup_under o.formulas_of o.geometry o.parts.keys) (state_of (setup_under o.formulas_of o.geometry o.parts.keys) o.parts) Do.On (answer (steps_in o.taken))
+      (state_of (setup_under o.formulas_of o.geometry o.parts.keys) q)
+      → IsAnswered (setup_in o.formulas_of o.now) o.now Do.On (answer o.said) (state_of setup_then (under q))
+  seen q answer its it =
+      subst (λ (n : ℕ). IsAnswered (setup_in o.formulas_of o.now) o.now Do.On (answer n) (state_of setup_then (under q))) (sym o.counted)
+      (seen_from o.formulas_of o.geometry o.parts q o.now o.keys (λ setup old new. IsAnswered setup old Do.On (answer (steps_in o.taken)) new) o.is o.same_keys its it)
+
+  pub on_held : (made : TreeState × Work) → o.answer ≡ Ok made → IsTreeWorld setup_then (under (left_with call o.board (Some made.0)))
+  on_held made is = held (left_with call o.board (Some made.0)) (recovered_held call made.0 made.1 (was (Ok made) is))
+
+  pub on_seen : (made : TreeState × Work) → o.answer ≡ Ok made
+      → IsAnswered (setup_in o.formulas_of o.now) o.now Do.On (Say.Recovered made.1.digests o.said) (state_of setup_then (under (left_with call o.board (Some made.0))))
+  on_seen made is = seen (left_with call o.board (Some made.0)) (Say.Recovered made.1.digests) refl (recovered_done call made.0 made.1 (was (Ok made) is))
+
+  -- there is no engine, as before
+  abbrev pub cut_as : TreeParts
+  cut_as = record (under (left_with call o.board None)) { engine = o.parts.engine }
+
+  cut_so : (Q : TreeParts → Type 0) → Q (under (left_with call o.board None)) → Q cut_as
+  cut_so Q it = subst (λ (e : Option TreeState). Q (record (under (left_with call o.board None)) { engine = e })) (sym o.there) it
+
+  pub cut_kept : o.answer ≡ Err Fail.Cut → IsTreeWorld setup_then cut_as
+  cut_kept is = cut_so (IsTreeWorld setup_then) (held (left_with call o.board None) (cut_held call (was (Err Fail.Cut) is)))
+
+  pub cut_seen : o.answer ≡ Err Fail.Cut → IsAnswered (setup_in o.formulas_of o.now) o.now Do.On (Say.Cut o.said) (state_of setup_then cut_as)
+  cut_seen is =
+      cut_so (λ q. IsAnswered (setup_in o.formulas_of o.now) o.now Do.On (Say.Cut o.said) (state_of setup_then q))
+      (seen (left_with call o.board None) Say.Cut refl (cut_done call (was (Err Fail.Cut) is)))
+
+  exhibit_of : o.answer ≡ Err Fail.Shown → (exhibit : Exhibit) × (o.watch.exhibit ≡ Some exhibit)
+  exhibit_of is =
+      let it = was (Err Fail.Shown) is in
+      (it.answered.place.0, it.answered.place.2.exhibit ∙ ap (λ e. first_shown e it.answered.place.0) (ap (λ (s : SessionState). s.shown) o.is ∙ o.unshown))
+
+  -- the board rests then
+  module _ (rested : BoardMemory) (rests : rested ≡ record o.board { powered = false }) where
+    abbrev pub rests_as : TreeParts
+    rests_as = record (under (left_with call (resting call) None)) { board = rested; engine = o.parts.engine }
+
+    rests_so : (Q : TreeParts → Type 0) → Q (under (left_with call (resting call) None)) → Q rests_as
+    rests_so Q it =
+        subst (λ (e : Option TreeState). Q (record (under (left_with call (resting call) None)) { board = rested; engine = e })) (sym o.there)
+        (subst (λ (b : BoardMemory). Q (record (under (left_with call (resting call) None)) { board = b })) (sym rests) it)
+
+    pub shadow_kept : (kept found : List ℕ) → o.answer ≡ Err (Fail.Shadow kept found) → IsTreeWorld setup_then rests_as
+    shadow_kept kept found is =
+        rests_so (IsTreeWorld setup_then) (held (left_with call (resting call) None) (refused_held call kept found (was (Err (Fail.Shadow kept found)) is)))
+
+    pub shadow_seen : (kept found : List ℕ) → o.answer ≡ Err (Fail.Shadow kept found)
+        → IsAnswered (setup_in o.formulas_of o.now) o.now Do.On (Say.RefusedShadow kept found o.said) (state_of setup_then rests_as)
+    shadow_seen kept found is =
+        rests_so (λ q. IsAnswered (setup_in o.formulas_of o.now) o.now Do.On (Say.RefusedShadow kept found o.said) (state_of setup_then q))
+        (seen (left_with call (resting call) None) (Say.RefusedShadow kept found) refl (refused_done call kept found (was (Err (Fail.Shadow kept found)) is)))
+
+    pub memory_kept : o.answer ≡ Err Fail.Memory → IsTreeWorld setup_then rests_as
+    memory_kept is = rests_so (IsTreeWorld setup_then) (held (left_with call (resting call) None) (memory_held call (was (Err Fail.Memory) is)))
+
+    pub memory_seen : o.answer ≡ Err Fail.Memory → IsHalt (setup_in o.formulas_of o.now) o.now Do.On Stop.Memory (state_of setup_then rests_as)
+    memory_seen is =
+        rests_so (λ q. state_of setup_then q ≡ o.now)
+        (subst (λ (k : List ℕ). state_of (setup_under o.formulas_of o.geometry k) (record (left_with call (resting call) None) { keys = k }) ≡ o.now) (sym o.same_keys)
+        (ap (state_of (setup_under o.formulas_of o.geometry o.parts.keys)) (as_it_was call (was (Err Fail.Memory) is)) ∙ o.is))
+
+    pub shown_kept : o.answer ≡ Err Fail.Shown → IsTreeWorld setup_then rests_as
+    shown_kept is =
+        let found = exhibit_of is in
+        rests_so (IsTreeWorld setup_then) (held (left_with call (resting call) None) (clash_held call found.0 found.1 (was (Err Fail.Shown) is)))
+
+    pub shown_seen : o.answer ≡ Err Fail.Shown → (halt : Halt) → Some halt ≡ option_map Stop.Shown o.watch.exhibit
+        → IsHalt (setup_in o.formulas_of o.now) o.now Do.On halt (state_of setup_then rests_as)
+    shown_seen is halt told =
+        let found = exhibit_of is in
+        rests_so (λ q. IsHalt (setup_in o.formulas_of o.now) o.now Do.On halt (state_of setup_then q))
+        (halts o.formulas_of o.geometry o.parts (left_with call (resting call) None) o.now o.keys Do.On halt found.0 o.watch.exhibit o.is o.same_keys refl told found.1
+        (clash_minors call found.0 found.1 (was (Err Fail.Shown) is)) (clash_done call found.0 found.1 (was (Err Fail.Shown) is)))

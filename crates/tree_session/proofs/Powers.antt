@@ -1,0 +1,112 @@
+-- A fuse is set, a snapshot is taken, or power goes off: what is held of the device stays.
+use Rattle.std.proofs.Common.{ℕ, ◌≡◌, false, List, length, Option, Some, None, refl, ap, arith}
+use Rattle.pmem_base.specs.declared.lines.Line.{Line}
+use Rattle.suite.specs.Setup.{Setup}
+use Rattle.board.specs.Memory.{device_of}
+use Rattle.commit_regs.specs.Groups.{redone}
+use Rattle.asit_shadow.specs.State.{TreeState}
+use Rattle.asit_shadow.proofs.PlaceLaws.{powered_off-place}
+use Rattle.tree_session.specs.World.{TreeParts, IsTreeBy, IsTreeWorld}
+use Rattle.tree_session.proofs.Held.{opened, open_in, on_in, off_in, usable_on, usable_off}
+
+module _ (setup : Setup) (p : TreeParts) (world : IsTreeWorld setup p) (none : p.watch.exhibit ≡ None) where
+  -- with another fuse and snapshot
+  module _ (fuse : Option ℕ) (snapshot : Option (List Line)) where
+    abbrev other : TreeParts
+    other =
+        record {
+          keys = p.keys;
+          board = record p.board { fuse = fuse; snapshot = snapshot };
+          watch = p.watch;
+          engine = p.engine;
+          tampered = p.tampered;
+          hurt = p.hurt;
+        }
+
+    chip_other : (found : Option TreeState) → p.engine ≡ found → IsTreeBy setup other found
+    chip_other None there =
+        let off = off_in setup p (open_in setup p world none) there in
+        record {
+          unpowered = off.unpowered;
+          usable = usable_off setup (device_of (record p.board { fuse = fuse; snapshot = snapshot })) p.watch world.whole_lines.count off.anchored;
+          small_group = off.small_group;
+          anchored = off.anchored;
+          nodes = λ x unchanged. off.nodes x unchanged;
+        }
+    chip_other (Some engine) there =
+        let on = on_in setup p engine (open_in setup p world none) there in
+        record {
+          powered = on.powered;
+          its_shape = on.its_shape;
+          usable = usable_on setup engine (device_of (record p.board { fuse = fuse; snapshot = snapshot })) p.watch world.whole_lines.count on.trusted;
+          trusted = on.trusted;
+          nodes = λ x unchanged. on.nodes x unchanged;
+        }
+
+    pub other_held : IsTreeWorld setup (record { keys = p.keys; board = record p.board { fuse = fuse; snapshot = snapshot }; watch = p.watch; engine = p.engine; tampered = p.tampered; hurt = p.hurt })
+    other_held =
+        let opened_in = open_in setup p world none in
+        opened setup other
+        (record {
+          shape = world.whole_shape;
+          formulas = world.whole_formulas;
+          watch = world.its_watch;
+          lines = world.whole_lines;
+          tampered = world.tampered_count;
+          hurt = world.hurt_count;
+        })
+        none
+        (record {
+          chip = chip_other p.engine refl;
+          places =
+              record {
+                seals = λ a inside clear. opened_in.places.seals a inside clear;
+                slots = λ i inside clear. opened_in.places.slots i inside clear;
+              };
+        })
+
+  -- power goes off
+  module _ (engine : TreeState) (there : p.engine ≡ Some engine) where
+    abbrev dark : TreeParts
+    dark =
+        record {
+          keys = p.keys;
+          board = record p.board { powered = false; fuse = None };
+          watch = p.watch;
+          engine = None;
+          tampered = p.tampered;
+          hurt = p.hurt;
+        }
+
+    pub dark_held : IsTreeWorld setup (record { keys = p.keys; board = record p.board { powered = false; fuse = None }; watch = p.watch; engine = None; tampered = p.tampered; hurt = p.hurt })
+    dark_held =
+        let opened_in = open_in setup p world none in
+        let on = on_in setup p engine (open_in setup p world none) there in
+        let empty = on.trusted.no_group in
+        opened setup dark
+        (record {
+          shape = world.whole_shape;
+          formulas = world.whole_formulas;
+          watch = world.its_watch;
+          lines = world.whole_lines;
+          tampered = world.tampered_count;
+          hurt = world.hurt_count;
+        })
+        none
+        (record {
+          chip =
+              record {
+                unpowered = refl;
+                usable = usable_off setup (device_of (record p.board { powered = false; fuse = None })) p.watch world.whole_lines.count on.trusted.anchored;
+                small_group = omega (arith, ap length empty);
+                anchored = on.trusted.anchored;
+                nodes =
+                    λ x unchanged.
+                    powered_off-place setup engine (redone p.board.regs.group.items p.board.lines) p.board.regs p.watch x on.trusted (on.nodes x unchanged);
+              };
+          places =
+              record {
+                seals = λ a inside clear. opened_in.places.seals a inside clear;
+                slots = λ i inside clear. opened_in.places.slots i inside clear;
+              };
+        })

@@ -1,0 +1,221 @@
+-- A read: what is left of the session, and what is answered.
+use Rattle.std.proofs.Common.{ℕ, ◌≡◌, ◌≢◌, ◌<◌, ◌≤◌, ◌+◌, ◌⊎◌, false, inl, inr, List, length, Option, Some, None, Ok, Err, refl, sym, ap, subst, ◌∙◌, arith}
+use Rattle.std.specs.Prelude.{IfSome, slice_index_or}
+use Rattle.pmem_base.specs.declared.lines.Line.{Line}
+use Rattle.pmem_base.specs.declared.registers.Regs.{Regs}
+use Rattle.pmem_base.specs.declared.answers.Exhibit.{Exhibit}
+use Rattle.std.proofs.lemmas.Option.{same_Some}
+use Rattle.counter_tree.specs.declared.watch.LineSeal.{LineSeal}
+use Rattle.pmem_base.specs.Lines.{line_at, tag_slot}
+use Rattle.collision_witness.specs.Exhibits.{IsExhibit, AreSmallMinors}
+use Rattle.commit_regs.specs.Groups.{redone}
+use Rattle.pmem_engine.specs.Outcomes.{going, cut_short, shown}
+use Rattle.counter_tree.specs.Layout.{tree_lines, line_of_tag}
+use Rattle.counter_tree.specs.Nodes.{version_counter}
+use Rattle.counter_tree.specs.Trees.{line_counter}
+use Rattle.counter_tree.specs.Watch.{last_seal_of}
+use Rattle.watched_board.specs.Watching.{steps_in}
+use Rattle.asit_shadow.specs.declared.fault.TreeFault.TheVariants as Fail
+use Rattle.asit_shadow.specs.Invariants.{IsSealStored}
+use Rattle.asit_shadow.specs.Parts.{HoldsSeal}
+use Rattle.asit_shadow.specs.Calls as told
+use Rattle.asit_shadow.specs.Calls.{HasReadLine, IsLineRead}
+use Rattle.asit_shadow.proofs.PlaceLaws.{line-place}
+use Rattle.asit_shadow.proofs.Chains.{going-unshown, cut-unshown}
+use Rattle.tree_session.specs.declared.commands.TreeCommand.TheVariants as Do
+use Rattle.tree_session.specs.declared.answers.TreeAnswer.{TreeAnswer}
+use Rattle.tree_session.specs.declared.answers.TreeAnswer.TheVariants as Say
+use Rattle.tree_session.specs.World.{TreeParts, plain_of_parts, state_of, IsTreeWorld}
+use Rattle.tree_session.specs.Answered.{IsAnswered, IsRooted, IsEngineShown, AnswersRead, AnswersWith, decided, IsDataRefused, IsDataShown, IsNodeShown, IsNodeRefused}
+use Rattle.tree_session.proofs.BoardSteps.{goes_on, cut_off}
+use Rattle.tree_session.proofs.PlainStates.{plain_is}
+use Rattle.tree_session.proofs.Held.{EngineCall, from, to, left, left_resting, trusted_from, powered_from, seals_kept, on_after, rooted_after, off_after, rooted_cut, ended_after}
+use Rattle.tree_session.proofs.EngineCalls.{backs, backs-cut, undecided_line, kept_plain, refused_node, shown_node, forged-minors}
+use Rattle.tree_session.proofs.Spills.{board_spilled}
+use Rattle.tree_session.proofs.Refusals.{data-refused, data-shown}
+
+module _ (c : EngineCall) (a : ℕ) (within : a < tree_lines c.setup.shape) where
+  -- the answer of the engine, where the state doesn't decide
+  by_engine : (answer : TreeAnswer) (q : TreeParts) → AnswersRead c.setup (plain_of_parts c.setup c.parts) a (plain_of_parts c.setup q) answer
+      → AnswersWith c.setup (plain_of_parts c.setup c.parts) (Do.Read a) (plain_of_parts c.setup q) answer (decided c.setup.shape (plain_of_parts c.setup c.parts) (Do.Read a))
+  by_engine answer q it =
+      subst (λ d. AnswersWith c.setup (plain_of_parts c.setup c.parts) (Do.Read a) (plain_of_parts c.setup q) answer d)
+      (sym (undecided_line c.parts.board.powered a (tree_lines c.setup.shape) Say.Off Say.Range (powered_from c) within)) it
+
+  answered : (answer : TreeAnswer) (q : TreeParts) → q.keys ≡ c.parts.keys → q.watch.exhibit ≡ None → IsRooted c.setup (plain_of_parts c.setup q)
+      → AnswersRead c.setup (plain_of_parts c.setup c.parts) a (plain_of_parts c.setup q) answer
+      → IsAnswered c.setup (state_of c.setup c.parts) (Do.Read a) answer (state_of c.setup q)
+  answered answer q keys none rooted it =
+      record {
+        not_shown = c.none;
+        kept = record { shape = refl; keys = keys; shown = none ∙ sym c.none };
+        answered = by_engine answer q it;
+        rooted = rooted;
+      }
+
+  -- ---- the line is read
+
+  module _ (line : Line) (it : HasReadLine c.setup a (from c) (to c) (Ok line)) where
+    abbrev done : IsLineRead c.setup a (from c) (to c) (Ok line)
+    done = it.done (trusted_from c).not_down
+
+    pub read_held : IsTreeWorld c.setup (left c (Some c.after) c.parts.hurt)
+    read_held = on_after c done.effect c.parts.hurt c.world.hurt_count (seals_kept c going done.effect)
+
+    pub read_done : IsAnswered c.setup (state_of c.setup c.parts) (Do.Read a) (Say.Got line (steps_in c.taken)) (state_of c.setup (left c (Some c.after) c.parts.hurt))
+    read_done =
+        answered (Say.Got line (steps_in c.taken)) (left c (Some c.after) c.parts.hurt) refl (done.watch.exhibit going-unshown ∙ c.none)
+        (rooted_after c done.effect c.parts.hurt c.world.hurt_count (seals_kept c going done.effect)) (
+          (done.answered (trusted_from c)).0 ∙ sym ((plain_is c.setup c.parts c.parts.board.regs c.world.whole_shape (trusted_from c).anchored).memory a within),
+          goes_on c.parts.board c.board c.taken c.watched (done.effect.power.1 (powered_from c)),
+          backs c.taken c.setup.shape.levels going c.parts.board c.board c.watched done.steps,
+          kept_plain c going (left c (Some c.after) c.parts.hurt) done.watch refl refl refl,
+          board_spilled c a c.setup.shape.levels (left c (Some c.after) c.parts.hurt) refl done.work.fetched,
+        )
+
+  -- ---- power is cut
+
+  module _ (it : HasReadLine c.setup a (from c) (to c) (Err Fail.Cut)) where
+    abbrev cut : IsLineRead c.setup a (from c) (to c) (Err Fail.Cut)
+    cut = it.done (trusted_from c).not_down
+
+    small : length c.board.regs.group.items ≤ c.setup.shape.levels + 3
+    small = omega (arith, ap (λ (regs : Regs). length regs.group.items) cut.regs, ap length (trusted_from c).no_group)
+
+    pub cut_held : IsTreeWorld c.setup (left c None c.parts.hurt)
+    cut_held = off_after c cut.effect small c.parts.hurt c.world.hurt_count (seals_kept c cut_short cut.effect)
+
+    pub cut_done : IsAnswered c.setup (state_of c.setup c.parts) (Do.Read a) (Say.Cut (steps_in c.taken)) (state_of c.setup (left c None c.parts.hurt))
+    cut_done =
+        let below = backs-cut c.taken c.setup.shape.levels c.parts.board c.board c.watched (powered_from c) cut.steps in
+        let levels = c.world.whole_shape.at_most_six_levels in
+        answered (Say.Cut (steps_in c.taken)) (left c None c.parts.hurt) refl (cut.watch.exhibit cut-unshown ∙ c.none)
+        (rooted_cut c cut.effect small c.parts.hurt c.world.hurt_count (seals_kept c cut_short cut.effect)) (
+          cut_off c.parts.board c.board c.taken c.watched cut.effect.power.1 (omega (arith, below, levels)),
+          below,
+          kept_plain c cut_short (left c None c.parts.hurt) cut.watch refl refl refl,
+          board_spilled c a cut.work.levels (left c None c.parts.hurt) refl cut.work.fetched,
+        )
+
+  -- ---- a node is refused
+
+  module _ (x : ℕ) (it : HasReadLine c.setup a (from c) (to c) (Err (Fail.Node x))) where
+    abbrev node : IsLineRead c.setup a (from c) (to c) (Err (Fail.Node x))
+    node = it.done (trusted_from c).not_down
+
+    pub node_held : IsTreeWorld c.setup (left c (Some c.after) c.parts.hurt)
+    node_held = on_after c node.effect c.parts.hurt c.world.hurt_count (seals_kept c going node.effect)
+
+    pub node_done : IsAnswered c.setup (state_of c.setup c.parts) (Do.Read a) (Say.RefusedNode x (steps_in c.taken)) (state_of c.setup (left c (Some c.after) c.parts.hurt))
+    node_done =
+        let plain = kept_plain c going (left c (Some c.after) c.parts.hurt) node.watch refl refl refl in
+        answered (Say.RefusedNode x (steps_in c.taken)) (left c (Some c.after) c.parts.hurt) refl (node.watch.exhibit going-unshown ∙ c.none)
+        (rooted_after c node.effect c.parts.hurt c.world.hurt_count (seals_kept c going node.effect)) (
+          subst (λ s. IsNodeRefused c.setup s a x) (sym plain) (refused_node c a within c.board refl x (node.answered (trusted_from c))),
+          goes_on c.parts.board c.board c.taken c.watched (node.effect.power.1 (powered_from c)),
+          backs c.taken c.setup.shape.levels going c.parts.board c.board c.watched node.steps,
+          plain,
+          board_spilled c a node.work.levels (left c (Some c.after) c.parts.hurt) refl node.work.fetched,
+        )
+
+  -- ---- the line's tag is refused
+
+  -- a stored line is read: the armed group is empty
+  stored_here : c.board.regs ≡ c.parts.board.regs → HoldsSeal c.setup.shape (to c) a → c.watch.seals ≡ c.parts.watch.seals → IsSealStored c.setup.shape c.board.lines c.parts.watch a
+  stored_here regs holds seals =
+      let none = ap (λ (r : Regs). r.group.items) regs ∙ (trusted_from c).no_group in
+      let it : IsSealStored c.setup.shape c.board.lines c.watch a = subst (λ g. IsSealStored c.setup.shape (redone g c.board.lines) c.watch a) none holds in
+      record {
+        seal = it.seal;
+        last = ap (λ (s : List (Option LineSeal)). slice_index_or s a None) (sym seals) ∙ it.last;
+        cipher = it.cipher;
+        tag = it.tag;
+      }
+
+  fits_here : IsSealStored c.setup.shape c.board.lines c.parts.watch a
+      → (c.setup.formulas.tag_of a (version_counter (line_counter c.setup.shape c.parts.watch.nodes a)) (line_at c.board.lines a) ≡ tag_slot (line_at c.board.lines (line_of_tag c.setup.shape a)) 0)
+      × IfSome (last_seal_of c.parts.watch a) (λ seal. line_at c.board.lines a ≡ seal.cipher)
+  fits_here stored = line-place c.setup c.board.lines c.parts.board.regs c.parts.watch a (trusted_from c).anchored within stored
+
+  module _ (t : ℕ) (it : HasReadLine c.setup a (from c) (to c) (Err (Fail.Tag t))) where
+    abbrev tag : IsLineRead c.setup a (from c) (to c) (Err (Fail.Tag t))
+    tag = it.done (trusted_from c).not_down
+
+    abbrev why : told.IsTagRefused c.setup a (from c) (to c)
+    why = ((it.done (trusted_from c).not_down).answered (trusted_from c)).2
+
+    pub tag_held : IsTreeWorld c.setup (left c (Some c.after) c.parts.hurt)
+    tag_held = on_after c tag.effect c.parts.hurt c.world.hurt_count (seals_kept c going tag.effect)
+
+    hurt : slice_index_or c.parts.hurt a false ≡ false → ⊥
+    hurt unhurt =
+        let fits = (fits_here (stored_here tag.regs (seals_kept c going tag.effect a within unhurt) tag.watch.seals)).0 in
+        why.fails
+        (ap (c.setup.formulas.tag_of a (version_counter (line_counter c.setup.shape c.parts.watch.nodes a))) why.its.cipher_read
+        ∙ (fits ∙ ap (λ l. tag_slot l 0) (sym why.its.tags_read)))
+
+    pub tag_done : IsAnswered c.setup (state_of c.setup c.parts) (Do.Read a) (Say.RefusedData t (steps_in c.taken)) (state_of c.setup (left c (Some c.after) c.parts.hurt))
+    tag_done =
+        let plain = kept_plain c going (left c (Some c.after) c.parts.hurt) tag.watch refl refl refl in
+        answered (Say.RefusedData t (steps_in c.taken)) (left c (Some c.after) c.parts.hurt) refl (tag.watch.exhibit going-unshown ∙ c.none)
+        (rooted_after c tag.effect c.parts.hurt c.world.hurt_count (seals_kept c going tag.effect)) (
+          ((it.done (trusted_from c).not_down).answered (trusted_from c)).0,
+          subst (λ s. IsDataRefused c.setup s a) (sym plain)
+              (data-refused c.setup c.parts c.parts.board.regs c.board c.world.whole_shape c.world.whole_formulas (trusted_from c).anchored a why.cipher why.tags within
+              why.its.cipher_read why.its.tags_read why.fails hurt),
+          goes_on c.parts.board c.board c.taken c.watched (tag.effect.power.1 (powered_from c)),
+          backs c.taken c.setup.shape.levels going c.parts.board c.board c.watched tag.steps,
+          plain,
+          board_spilled c a c.setup.shape.levels (left c (Some c.after) c.parts.hurt) refl tag.work.fetched,
+        )
+
+  -- ---- an exhibit
+
+  module _ (exhibit : Exhibit) (is : c.watch.exhibit ≡ Some exhibit) (it : HasReadLine c.setup a (from c) (to c) (Err Fail.Shown)) where
+    abbrev show : IsLineRead c.setup a (from c) (to c) (Err Fail.Shown)
+    show = it.done (trusted_from c).not_down
+
+    abbrev which : told.IsNodeShown c.setup a (from c) (to c) ⊎ (told.IsPathAccepted c.setup a (from c) (to c) × told.IsLineShown c.setup a (from c) (to c))
+    which = (it.done (trusted_from c).not_down).answered (trusted_from c)
+
+    pub shown_minors : AreSmallMinors exhibit
+    shown_minors =
+        elim which [
+          | inl node ↦ forged-minors c.watch.exhibit exhibit _ _ _ _ is node.exhibit
+          | inr line ↦ forged-minors c.watch.exhibit exhibit _ _ _ _ is line.1.exhibit
+        ]
+
+    pub shown_held : IsTreeWorld c.setup (left_resting c)
+    shown_held = ended_after c show.effect show.watch exhibit is shown_minors
+
+    unstored : (line : told.IsLineShown c.setup a (from c) (to c)) → slice_index_or c.parts.hurt a false ≡ false → ⊥
+    unstored line unhurt =
+        let sealed = (trusted_from c).anchored.seals a within in
+        let same = (fits_here (stored_here show.regs (seals_kept c shown show.effect a within unhurt) show.watch.seals)).1 in
+        let differs : line.cipher ≢ sealed.seal.cipher = subst (λ s. IfSome s (λ (seal : LineSeal). line.cipher ≢ seal.cipher)) sealed.last line.other in
+        let equal : line_at c.board.lines a ≡ sealed.seal.cipher = subst (λ s. IfSome s (λ (seal : LineSeal). line_at c.board.lines a ≡ seal.cipher)) sealed.last same in
+        differs (line.its.cipher_read ∙ equal)
+
+    pub shown_done : IsEngineShown c.setup (state_of c.setup c.parts) (Do.Read a) exhibit (state_of c.setup (left_resting c))
+    shown_done =
+        let plain = kept_plain c shown (left_resting c) show.watch refl refl refl in
+        record {
+          not_shown = c.none;
+          undecided = undecided_line c.parts.board.powered a (tree_lines c.setup.shape) Say.Off Say.Range (powered_from c) within;
+          holds = subst (λ e. IfSome e (IsExhibit c.setup.formulas)) is (show.effect.trusted (trusted_from c));
+          shows =
+              elim which [
+                | inl node ↦
+                    inl (subst (λ s. IsNodeShown c.setup s a exhibit) (sym plain) (shown_node c a within (record c.board { powered = false }) refl exhibit is node))
+                | inr line ↦
+                    inr (subst (λ s. IsDataShown c.setup s a exhibit) (sym plain)
+                    (data-shown c.setup c.parts c.parts.board.regs (record c.board { powered = false }) c.world.whole_shape c.world.whole_formulas (trusted_from c).anchored a
+                    line.1.cipher line.1.tags exhibit within line.1.its.cipher_read line.1.its.tags_read line.1.fits line.1.other
+                    (same_Some exhibit _ (sym is ∙ line.1.exhibit)) (unstored line.1)))
+              ];
+          plain = plain;
+          unpowered = refl;
+          shape = refl;
+          keys = refl;
+          shown = is;
+        }

@@ -1,0 +1,490 @@
+-- A recovery: what is left of the session, and what is answered.
+use Rattle.std.proofs.Common.{ℕ, zero, suc, ◌≡◌, ◌<◌, ◌≤◌, ◌+◌, ◌-◌, true, false, Bool, inl, inr, ◌⊎◌, List, [], ◌∷◌, length, Option, Some, None, Ok, Err, refl, sym, ap, subst, ◌∙◌, arith}
+use Rattle.std.specs.Prelude.{Result, IfSome, All, slice_index_or, map}
+use Rattle.std.proofs.lemmas.Bool.{cases_Bool, cases_eq}
+use Rattle.std.proofs.lemmas.Option.{same_Some}
+use Rattle.pmem_base.specs.declared.lines.Line.{Line}
+use Rattle.pmem_base.specs.declared.registers.Regs.{Regs}
+use Rattle.pmem_base.specs.declared.answers.Exhibit.{Exhibit}
+use Rattle.pmem_base.specs.declared.answers.Exhibit.TheVariants.{Clash}
+use Rattle.pmem_base.specs.Lines.{IsLine}
+use Rattle.suite.specs.Setup.{Setup}
+use Rattle.board.specs.Device.{Device, AreLinesOf}
+use Rattle.board.specs.Memory.{BoardMemory, device_of}
+use Rattle.collision_witness.specs.Exhibits.{IsExhibit, AreSmallMinors}
+use Rattle.commit_regs.specs.Groups.{redone, finishing_latches}
+use Rattle.pmem_recovery.specs.declared.faults.Work.{Work}
+use Rattle.counter_tree.specs.Layout.{tree_slots, tree_size, line_of_slot}
+use Rattle.counter_tree.specs.Shadow.{shadow_root, shadow_line, shadow_height, IsShadowDifference}
+use Rattle.counter_tree.specs.Watch.{WatchState, IsSlotClash, HasShown, first_shown}
+use Rattle.watched_board.specs.declared.taken.Taken.{Taken}
+use Rattle.watched_board.specs.Watching.{steps_in, device_during, none_taken, IsWatched}
+use Rattle.asit_shadow.specs.declared.recovery.TreeRec.{TreeRec}
+use Rattle.asit_shadow.specs.declared.recovery.TreeRec.TheVariants as Fail
+use Rattle.asit_shadow.specs.State.{TreeState}
+use Rattle.asit_shadow.specs.Invariants.{IsAnchored, IsTrusted, IsSlotStored}
+use Rattle.asit_shadow.specs.Steps.{slots_read}
+use Rattle.asit_shadow.specs.Recovering.{Rest, rest_of, rest_redone, HasTreeRecovered, IsGroupFinished, IsGroupBegun, AreSlotsRead, KeepsRestPlaces, KeepsRestNode}
+use Rattle.asit_shadow.specs.Places.{IsNodeHeld}
+use Rattle.asit_shadow.specs.Plain.{PlainTree, with_board, true_slots, slot_naming}
+use Rattle.counter_tree.specs.Slots.{slot_line}
+use Rattle.pmem_base.specs.Shape.{Shape}
+use Rattle.tree_session.proofs.Refusals.{board-free}
+use Rattle.asit_shadow.proofs.PlaceLaws.{slots-place}
+use Rattle.asit_shadow.proofs.RecoverLaws.{lines-equal, length-slots_read, line_at-slots_read}
+use Rattle.tree_session.specs.declared.commands.TreeCommand.TheVariants as Do
+use Rattle.tree_session.specs.declared.answers.TreeAnswer.{TreeAnswer}
+use Rattle.tree_session.specs.declared.answers.TreeAnswer.TheVariants as Say
+use Rattle.tree_session.specs.World.{TreeParts, plain_of_parts, state_of, IsTreeWorld, IsTreeOff, IsTreeOpen}
+use Rattle.tree_session.specs.Answered.{IsAnswered, IsRooted, IsEngineShown, AnswersOn, AnswersWith, IsSlotTampered, IsShadowRefused, IsShadowShown, IsGroupDone, board_redone, recovery_bound}
+use Rattle.tree_session.proofs.BoardSteps.{goes_on, cut_off, from_dark, cut_from_dark, then_rests, taken-exact, unlatched, unwritten}
+use Rattle.tree_session.proofs.PlainStates.{plain_is, plain-kept, true_slots-is}
+use Rattle.tree_session.proofs.Held.{IsFrame, opened, ended, open_in, off_in, usable_on, usable_off, rooted_on, rooted_off}
+
+-- a flag that is set below n, or none
+some_flag : (flag : ℕ → Bool) (n : ℕ) → ((i : ℕ) → i < n → flag i ≡ false) ⊎ ((i : ℕ) × (i < n) × (flag i ≡ true))
+some_flag flag zero = inl (λ i low. absurd (omega (arith, low)))
+some_flag flag (suc n) =
+    elim (cases_Bool (flag n)) [
+      | inl set ↦ inr (n, omega arith, set)
+      | inr clear ↦ elim (some_flag flag n) [
+        | inr found ↦ let low = found.1 in inr (found.0, omega (arith, low), found.2)
+        | inl none ↦
+            inl (λ i low.
+            elim (cases_eq i n) [
+              | inl last ↦ subst (λ j. flag j ≡ false) (sym last) clear
+              | inr other ↦ none i (omega (arith, low, other))
+            ])
+      ]
+    ]
+
+-- the true slot lines don't depend on the board
+slot-free : (g : Shape) (plain : PlainTree) (b : BoardMemory) (named : Option ℕ) → slot_naming g (with_board plain b) named ≡ slot_naming g plain named
+slot-free g plain b None = refl
+slot-free g plain b (Some x) = ap (slot_line x) (board-free g plain b x)
+
+slots-free : (g : Shape) (plain : PlainTree) (b : BoardMemory) (named : List (Option ℕ)) → map (slot_naming g (with_board plain b)) named ≡ map (slot_naming g plain) named
+slots-free g plain b [] = refl
+slots-free g plain b (one ∷ named) = let here = slot-free g plain b one in let rest = slots-free g plain b named in cc
+
+few_latches : (group : List (ℕ × Line)) → finishing_latches group ≤ 1
+few_latches [] = omega arith
+few_latches (entry ∷ group) = omega arith
+
+-- a recovery, as the session's parts have it: power came on before it
+pub record RecoveryCall : Type 0 where
+  pub setup : Setup
+  pub parts : TreeParts
+  pub board : BoardMemory
+  pub watch : WatchState
+  pub taken : Taken
+  pub world : IsTreeWorld setup parts
+  pub none : parts.watch.exhibit ≡ None
+  pub there : parts.engine ≡ None
+  pub watched : IsWatched (record parts.board { powered = true }) board taken
+  pub before : ℕ
+  pub later : ℕ
+
+module _ (c : RecoveryCall) where
+  abbrev pub rest_from : Rest
+  rest_from = rest_of (device_during (record c.parts.board { powered = true }) none_taken) c.parts.watch
+
+  abbrev pub rest_to : Rest
+  rest_to = rest_of (device_during c.board c.taken) c.watch
+
+  abbrev pub left_with : BoardMemory → Option TreeState → TreeParts
+  left_with board found = record { keys = c.parts.keys; board = board; watch = c.watch; engine = found; tampered = c.parts.tampered; hurt = c.parts.hurt }
+
+  abbrev pub resting : BoardMemory
+  resting = record c.board { powered = false }
+
+  opened_in : IsTreeOpen c.setup c.parts
+  opened_in = open_in c.setup c.parts c.world c.none
+
+  off : IsTreeOff c.setup c.parts
+  off = off_in c.setup c.parts (open_in c.setup c.parts c.world c.none) c.there
+
+  dark : c.parts.board.powered ≡ false
+  dark = (off_in c.setup c.parts (open_in c.setup c.parts c.world c.none) c.there).unpowered
+
+  anchored_from : IsAnchored c.setup c.parts.board.regs c.parts.watch
+  anchored_from = (off_in c.setup c.parts (open_in c.setup c.parts c.world c.none) c.there).anchored
+
+  answered : (answer : TreeAnswer) (q : TreeParts) → q.keys ≡ c.parts.keys → q.watch.exhibit ≡ None → IsRooted c.setup (plain_of_parts c.setup q)
+      → AnswersOn c.setup (plain_of_parts c.setup c.parts) (plain_of_parts c.setup q) answer
+      → IsAnswered c.setup (state_of c.setup c.parts) Do.On answer (state_of c.setup q)
+  answered answer q keys none rooted it =
+      record {
+        not_shown = c.none;
+        kept = record { shape = refl; keys = keys; shown = none ∙ sym c.none };
+        answered =
+            subst (λ (b : Bool). AnswersWith c.setup (plain_of_parts c.setup c.parts) Do.On (plain_of_parts c.setup q) answer
+            (Rattle.std.specs.Prelude.if◌then◌else◌ b (Some Say.Already) None)) (sym dark) it;
+        rooted = rooted;
+      }
+
+  -- what is left is of the same session
+  frame : (board : BoardMemory) (found : Option TreeState) → board.lines ≡ c.board.lines → length c.board.lines ≡ length c.parts.board.lines → c.watch.setup ≡ c.parts.watch.setup
+      → c.watch.seals ≡ c.parts.watch.seals → c.watch.nodes ≡ c.parts.watch.nodes → c.watch.slots ≡ c.parts.watch.slots → IsFrame c.setup (left_with board found)
+  frame board found lines size setup seals nodes slots =
+      record {
+        shape = c.world.whole_shape;
+        formulas = c.world.whole_formulas;
+        watch =
+            record {
+              its_setup = setup ∙ c.world.its_watch.its_setup;
+              seal_count = ap length seals ∙ c.world.its_watch.seal_count;
+              node_count = ap length nodes ∙ c.world.its_watch.node_count;
+              slot_count = ap length slots ∙ c.world.its_watch.slot_count;
+              whole_slots = subst (All IsLine) (sym slots) c.world.its_watch.whole_slots;
+            };
+        lines =
+            subst (AreLinesOf (tree_size c.setup.shape)) (sym lines)
+            (record { count = size ∙ c.world.whole_lines.count; each = c.watched.each_line });
+        tampered = c.world.tampered_count;
+        hurt = c.world.hurt_count;
+      }
+
+  frame_same : (board : BoardMemory) (found : Option TreeState) → board.lines ≡ c.board.lines → length c.board.lines ≡ length c.parts.board.lines → c.watch ≡ c.parts.watch
+      → IsFrame c.setup (left_with board found)
+  frame_same board found lines size same =
+      frame board found lines size (ap (λ (w : WatchState). w.setup) same) (ap (λ (w : WatchState). w.seals) same) (ap (λ (w : WatchState). w.nodes) same)
+      (ap (λ (w : WatchState). w.slots) same)
+
+  plain_same : (q : TreeParts) → q.watch ≡ c.watch → c.watch ≡ c.parts.watch → q.tampered ≡ c.parts.tampered → q.hurt ≡ c.parts.hurt
+      → plain_of_parts c.setup q ≡ with_board (plain_of_parts c.setup c.parts) q.board
+  plain_same q its same tampered hurt =
+      plain-kept c.setup c.parts q (ap (λ (w : WatchState). w.seals) (its ∙ same)) (ap (λ (w : WatchState). w.nodes) (its ∙ same)) (ap (λ (w : WatchState). w.slots) (its ∙ same)) tampered hurt
+
+  -- the whole group and its latch are few enough
+  finished_steps : IsGroupFinished (device_during (record c.parts.board { powered = true }) none_taken) (device_during c.board c.taken) → steps_in c.taken ≤ recovery_bound c.setup.shape
+  finished_steps it =
+      let few = c.watched.follows.few in
+      let writes = taken-exact (length c.parts.board.regs.group.items) c.taken.writes it.writes (omega (arith, few)) in
+      let latches = taken-exact (finishing_latches c.parts.board.regs.group.items) c.taken.latches it.latches (omega (arith, few)) in
+      omega (arith, writes, latches, few_latches c.parts.board.regs.group.items, off.small_group)
+
+  -- ---- where the group is finished, the lines are those that it makes
+  module _ (empty : c.board.regs.group.items ≡ []) (again : rest_redone rest_to ≡ rest_redone rest_from) where
+    lines_made : c.board.lines ≡ board_redone c.parts.board
+    lines_made =
+        let here : redone c.board.regs.group.items c.board.lines ≡ redone c.parts.board.regs.group.items c.parts.board.lines = same_Some _ _ again in
+        sym (ap (λ g. redone g c.board.lines) empty) ∙ here
+
+    group_done : (b : BoardMemory) → b.lines ≡ c.board.lines → b.regs ≡ c.board.regs → IsGroupDone c.parts.board b
+    group_done b lines regs = record { lines = lines ∙ lines_made; no_group = ap (λ (r : Regs). r.group.items) regs ∙ empty }
+
+    -- where no slot line was changed, the device has the true ones
+    slots_true : ((i : ℕ) → i < tree_slots c.setup.shape → slice_index_or c.parts.tampered (line_of_slot c.setup.shape i) false ≡ false)
+        → length c.board.lines ≡ length c.parts.board.lines → slots_read c.setup.shape c.board.lines ≡ c.parts.watch.slots
+    slots_true clear size =
+        slots-place c.setup c.board.lines c.parts.board.regs c.parts.watch anchored_from (size ∙ c.world.whole_lines.count)
+        (λ i inside.
+        let stored : IsSlotStored c.setup.shape (redone c.parts.board.regs.group.items c.parts.board.lines) c.parts.watch i = opened_in.places.slots i inside (clear i inside) in
+        subst (λ ls. IsSlotStored c.setup.shape ls c.parts.watch i) (sym lines_made) stored)
+
+    tampered_slot : (b : BoardMemory) → (((i : ℕ) → i < tree_slots c.setup.shape → slice_index_or c.parts.tampered (line_of_slot c.setup.shape i) false ≡ false) → ⊥)
+        → IsSlotTampered c.setup.shape (with_board (plain_of_parts c.setup c.parts) b)
+    tampered_slot b not =
+        elim (some_flag (λ i. slice_index_or c.parts.tampered (line_of_slot c.setup.shape i) false) (tree_slots c.setup.shape)) [
+          | inl clear ↦ absurd (not clear)
+          | inr found ↦ record { slot = found.0; inside = found.1; tampered = found.2 }
+        ]
+
+  -- the slot lines read are those of the device
+  read_are : (slots : List Line) → length c.board.lines ≡ length c.parts.board.lines → AreSlotsRead c.setup.shape slots (device_during c.board c.taken) → slots ≡ slots_read c.setup.shape c.board.lines
+  read_are slots size read =
+      let count = length-slots_read c.setup.shape c.board.lines (size ∙ c.world.whole_lines.count) in
+      lines-equal slots (slots_read c.setup.shape c.board.lines) (read.count ∙ sym count)
+      (λ i low.
+      let inside : i < tree_slots c.setup.shape = omega (arith, low, read.count) in
+      read.told i inside ∙ sym (line_at-slots_read c.setup.shape c.board.lines i inside))
+
+  -- ---- recovered
+
+  module _ (engine : TreeState) (work : Work) (it : HasTreeRecovered c.setup rest_from rest_to c.before c.later (Ok (engine, work))) where
+    trusted_made : IsTrusted c.setup engine c.board.regs c.watch
+    trusted_made = it.trusted anchored_from
+
+    same_made : c.watch ≡ c.parts.watch
+    same_made = it.answered.0.same
+
+    places_made : KeepsRestPlaces c.setup rest_from rest_to (Ok (engine, work))
+    places_made = it.places anchored_from
+
+    powered_made : c.board.powered ≡ true
+    powered_made = it.power.1 refl
+
+    pub recovered_held : IsTreeWorld c.setup (left_with c.board (Some engine))
+    recovered_held =
+        opened c.setup (left_with c.board (Some engine)) (frame_same c.board (Some engine) refl it.size same_made)
+        (ap (λ (w : WatchState). w.exhibit) same_made ∙ c.none)
+        (record {
+          chip =
+              record {
+                powered = powered_made;
+                its_shape = trusted_made.its_shape;
+                usable = usable_on c.setup engine (device_of c.board) c.watch (it.size ∙ c.world.whole_lines.count) trusted_made;
+                trusted = trusted_made;
+                nodes = λ x unchanged. places_made.nodes x unchanged.0 (off.nodes x unchanged);
+              };
+          places =
+              record {
+                seals = λ a inside clear. places_made.seals a inside (opened_in.places.seals a inside clear);
+                slots = λ i inside clear. places_made.slots i inside (opened_in.places.slots i inside clear);
+              };
+        })
+
+    pub recovered_done : IsAnswered c.setup (state_of c.setup c.parts) Do.On (Say.Recovered work.digests (steps_in c.taken)) (state_of c.setup (left_with c.board (Some engine)))
+    recovered_done =
+        answered (Say.Recovered work.digests (steps_in c.taken)) (left_with c.board (Some engine)) refl (ap (λ (w : WatchState). w.exhibit) same_made ∙ c.none)
+        (rooted_on c.setup (left_with c.board (Some engine)) c.world.whole_shape trusted_made.anchored trusted_made.no_group) (
+          it.answered.1.digests,
+          from_dark (steps_in c.taken) true c.parts.board c.board (goes_on (record c.parts.board { powered = true }) c.board c.taken c.watched powered_made),
+          group_done trusted_made.no_group it.lines c.board refl refl,
+          finished_steps it.group,
+          plain_same (left_with c.board (Some engine)) refl same_made refl refl,
+        )
+
+  -- ---- power is off afterwards, and the watch knows what it knew
+
+  dark_held : (power : Bool) → power ≡ false → (answer : Result (TreeState × Work) TreeRec) → length c.board.lines ≡ length c.parts.board.lines → c.watch ≡ c.parts.watch
+      → IsAnchored c.setup c.board.regs c.watch → length c.board.regs.group.items ≤ c.setup.shape.levels + 3 → KeepsRestPlaces c.setup rest_from rest_to answer
+      → ((x : ℕ) → KeepsRestNode c.setup rest_to answer x → IfSome (rest_redone rest_to) (λ lines. IsNodeHeld c.setup lines c.watch x))
+      → IsTreeWorld c.setup (left_with (record c.board { powered = power }) None)
+  dark_held power unpowered answer size same anchored small places held =
+      opened c.setup (left_with (record c.board { powered = power }) None) (frame_same (record c.board { powered = power }) None refl size same)
+      (ap (λ (w : WatchState). w.exhibit) same ∙ c.none)
+      (record {
+        chip =
+            record {
+              unpowered = unpowered;
+              usable = usable_off c.setup (device_of (record c.board { powered = power })) c.watch (size ∙ c.world.whole_lines.count) anchored;
+              small_group = small;
+              anchored = anchored;
+              nodes = λ x unchanged. held x (places.nodes x unchanged.0 (off.nodes x unchanged));
+            };
+        places =
+            record {
+              seals = λ a inside clear. places.seals a inside (opened_in.places.seals a inside clear);
+              slots = λ i inside clear. places.slots i inside (opened_in.places.slots i inside clear);
+            };
+      })
+
+  -- ---- cut
+
+  module _ (it : HasTreeRecovered c.setup rest_from rest_to c.before c.later (Err Fail.Cut)) where
+    begun_of : IsGroupBegun (device_during (record c.parts.board { powered = true }) none_taken) (device_during c.board c.taken)
+    begun_of = it.begun refl refl
+
+    cut_group : length c.board.regs.group.items ≤ c.setup.shape.levels + 3
+    cut_group =
+        let begun = begun_of in
+        omega (arith, ap (λ (r : Regs). length r.group.items) begun.regs, off.small_group)
+
+    cut_steps : steps_in c.taken < recovery_bound c.setup.shape
+    cut_steps =
+        let begun = begun_of in
+        let few = c.watched.follows.few in
+        let writes = begun.writes.bound (omega (arith, few)) in
+        omega (arith, writes, begun.latches, off.small_group)
+
+    pub cut_held : IsTreeWorld c.setup (left_with c.board None)
+    cut_held =
+        dark_held c.board.powered it.power.1 (Err Fail.Cut) it.size it.answered (it.trusted anchored_from) cut_group (it.places anchored_from) (λ x held. held)
+
+    pub cut_done : IsAnswered c.setup (state_of c.setup c.parts) Do.On (Say.Cut (steps_in c.taken)) (state_of c.setup (left_with c.board None))
+    cut_done =
+        answered (Say.Cut (steps_in c.taken)) (left_with c.board None) refl (ap (λ (w : WatchState). w.exhibit) it.answered ∙ c.none)
+        (rooted_off c.setup (left_with c.board None) c.world.whole_shape (it.trusted anchored_from) it.power.1) (
+          cut_from_dark (steps_in c.taken) c.parts.board c.board
+              (cut_off (record c.parts.board { powered = true }) c.board c.taken c.watched it.power.1 (omega (arith, cut_steps, c.world.whole_shape.at_most_six_levels))),
+          same_Some _ _ it.lines,
+          cut_steps,
+          plain_same (left_with c.board None) refl it.answered refl refl,
+        )
+
+  -- ---- the root is refused
+
+  module _ (kept found : List ℕ) (it : HasTreeRecovered c.setup rest_from rest_to c.before c.later (Err (Fail.Shadow kept found))) where
+    abbrev refused : Rattle.asit_shadow.specs.Recovering.IsRootRefused c.setup kept found rest_from rest_to
+    refused = it.answered.0
+
+    same_refused : c.watch ≡ c.parts.watch
+    same_refused = it.answered.1
+
+    empty_refused : c.board.regs.group.items ≡ []
+    empty_refused = ap (λ (r : Regs). r.group.items) it.group.regs
+
+    anchored_refused : IsAnchored c.setup c.board.regs c.watch
+    anchored_refused = it.trusted anchored_from
+
+    found_is : found ≡ shadow_root c.setup.shape c.setup.formulas (slots_read c.setup.shape c.board.lines)
+    found_is = refused.root ∙ ap (shadow_root c.setup.shape c.setup.formulas) (read_are refused.slots it.size refused.read)
+
+    not_clear : ((i : ℕ) → i < tree_slots c.setup.shape → slice_index_or c.parts.tampered (line_of_slot c.setup.shape i) false ≡ false) → ⊥
+    not_clear clear =
+        refused.differ
+        (refused.register
+        ∙ (anchored_from.root ∙ (ap (shadow_root c.setup.shape c.setup.formulas) (sym (slots_true empty_refused it.lines clear it.size)) ∙ sym found_is)))
+
+    pub refused_held : IsTreeWorld c.setup (left_with resting None)
+    refused_held =
+        dark_held false refl (Err (Fail.Shadow kept found)) it.size same_refused anchored_refused (omega (arith, ap length empty_refused)) (it.places anchored_from) (λ x held. held)
+
+    pub refused_done : IsAnswered c.setup (state_of c.setup c.parts) Do.On (Say.RefusedShadow kept found (steps_in c.taken)) (state_of c.setup (left_with resting None))
+    refused_done =
+        let plain = plain_same (left_with resting None) refl same_refused refl refl in
+        answered (Say.RefusedShadow kept found (steps_in c.taken)) (left_with resting None) refl (ap (λ (w : WatchState). w.exhibit) same_refused ∙ c.none)
+        (rooted_off c.setup (left_with resting None) c.world.whole_shape anchored_refused refl) (
+          subst (λ s. IsShadowRefused c.setup s kept found) (sym plain)
+              (record {
+                place = tampered_slot empty_refused it.lines resting not_clear;
+                its_root = refused.register ∙ sym it.root;
+                root_found = found_is;
+                differ = refused.differ;
+              }),
+          from_dark (steps_in c.taken) false c.parts.board resting
+              (then_rests (steps_in c.taken) (record c.parts.board { powered = true }) c.board
+              (goes_on (record c.parts.board { powered = true }) c.board c.taken c.watched (it.power.1 refl))),
+          group_done empty_refused it.lines resting refl refl,
+          finished_steps it.group,
+          plain,
+        )
+
+  -- ---- want of memory
+
+  module _ (it : HasTreeRecovered c.setup rest_from rest_to c.before c.later (Err Fail.Memory)) where
+    same_device : device_during c.board c.taken ≡ device_during (record c.parts.board { powered = true }) none_taken
+    same_device = ap (λ (r : Rest). r.device) it.answered
+
+    pub as_it_was : left_with resting None ≡ c.parts
+    as_it_was =
+        let device = same_device in
+        let writes : c.taken.writes ≡ 0 = ap (λ (d : Device). d.writes) device in
+        let latches : c.taken.latches ≡ 0 = ap (λ (d : Device). d.latches) device in
+        let none : steps_in c.taken ≡ 0 = omega (arith, writes, latches) in
+        let live = it.power.1 refl in
+        let lines : c.board.lines ≡ c.parts.board.lines = same_Some _ _ (ap (λ (d : Device). d.lines) device) in
+        let regs : c.board.regs ≡ c.parts.board.regs = ap (λ (d : Device). d.regs) device in
+        let reads : c.board.reads ≡ c.parts.board.reads = ap (λ (d : Device). d.reads) device in
+        let written = unwritten (record c.parts.board { powered = true }) c.board c.taken c.watched writes in
+        let latched = unlatched (record c.parts.board { powered = true }) c.board c.taken c.watched latches in
+        let fuse : c.board.fuse ≡ c.parts.board.fuse = c.watched.follows.burnt live ∙ (ap (λ n. Rattle.std.specs.Prelude.option_map (λ m. m - n) c.parts.board.fuse) none ∙ unburnt c.parts.board.fuse) in
+        let board : resting ≡ c.parts.board =
+        same_board resting c.parts.board lines regs (sym dark) fuse c.watched.follows.snapshot reads written latched (c.watched.follows.uncut live) in
+        same_parts (left_with resting None) c.parts refl board (ap (λ (r : Rest). r.watch) it.answered) (sym c.there) refl refl
+      where
+        unburnt : (fuse : Option ℕ) → Rattle.std.specs.Prelude.option_map (λ m. m - 0) fuse ≡ fuse
+        unburnt None = refl
+        unburnt (Some n) = let same : n - 0 ≡ n = omega arith in ap (λ m. Some m) same
+
+        same_board : (p q : BoardMemory) → p.lines ≡ q.lines → p.regs ≡ q.regs → p.powered ≡ q.powered → p.fuse ≡ q.fuse → p.snapshot ≡ q.snapshot → p.reads ≡ q.reads → p.writes ≡ q.writes
+            → p.latches ≡ q.latches → p.cuts ≡ q.cuts → p ≡ q
+        same_board p q lines regs powered fuse snapshot reads writes latches cuts =
+            ap (λ v. let r : BoardMemory = record { lines = v; regs = p.regs; powered = p.powered; fuse = p.fuse; snapshot = p.snapshot; reads = p.reads; writes = p.writes; latches = p.latches; cuts = p.cuts } in r) lines
+            ∙ (ap (λ v. let r : BoardMemory = record { lines = q.lines; regs = v; powered = p.powered; fuse = p.fuse; snapshot = p.snapshot; reads = p.reads; writes = p.writes; latches = p.latches; cuts = p.cuts } in r) regs
+            ∙ (ap (λ v. let r : BoardMemory = record { lines = q.lines; regs = q.regs; powered = v; fuse = p.fuse; snapshot = p.snapshot; reads = p.reads; writes = p.writes; latches = p.latches; cuts = p.cuts } in r) powered
+            ∙ (ap (λ v. let r : BoardMemory = record { lines = q.lines; regs = q.regs; powered = q.powered; fuse = v; snapshot = p.snapshot; reads = p.reads; writes = p.writes; latches = p.latches; cuts = p.cuts } in r) fuse
+            ∙ (ap (λ v. let r : BoardMemory = record { lines = q.lines; regs = q.regs; powered = q.powered; fuse = q.fuse; snapshot = v; reads = p.reads; writes = p.writes; latches = p.latches; cuts = p.cuts } in r) snapshot
+            ∙ (ap (λ v. let r : BoardMemory = record { lines = q.lines; regs = q.regs; powered = q.powered; fuse = q.fuse; snapshot = q.snapshot; reads = v; writes = p.writes; latches = p.latches; cuts = p.cuts } in r) reads
+            ∙ (ap (λ v. let r : BoardMemory = record { lines = q.lines; regs = q.regs; powered = q.powered; fuse = q.fuse; snapshot = q.snapshot; reads = q.reads; writes = v; latches = p.latches; cuts = p.cuts } in r) writes
+            ∙ (ap (λ v. let r : BoardMemory = record { lines = q.lines; regs = q.regs; powered = q.powered; fuse = q.fuse; snapshot = q.snapshot; reads = q.reads; writes = q.writes; latches = v; cuts = p.cuts } in r) latches
+            ∙ (ap (λ v. let r : BoardMemory = record { lines = q.lines; regs = q.regs; powered = q.powered; fuse = q.fuse; snapshot = q.snapshot; reads = q.reads; writes = q.writes; latches = q.latches; cuts = v } in r) cuts))))))))
+
+        same_parts : (p q : TreeParts) → p.keys ≡ q.keys → p.board ≡ q.board → p.watch ≡ q.watch → p.engine ≡ q.engine → p.tampered ≡ q.tampered → p.hurt ≡ q.hurt → p ≡ q
+        same_parts p q keys board watch engine tampered hurt =
+            ap (λ v. let r : TreeParts = record { keys = v; board = p.board; watch = p.watch; engine = p.engine; tampered = p.tampered; hurt = p.hurt } in r) keys
+            ∙ (ap (λ v. let r : TreeParts = record { keys = q.keys; board = v; watch = p.watch; engine = p.engine; tampered = p.tampered; hurt = p.hurt } in r) board
+            ∙ (ap (λ v. let r : TreeParts = record { keys = q.keys; board = q.board; watch = v; engine = p.engine; tampered = p.tampered; hurt = p.hurt } in r) watch
+            ∙ (ap (λ v. let r : TreeParts = record { keys = q.keys; board = q.board; watch = q.watch; engine = v; tampered = p.tampered; hurt = p.hurt } in r) engine
+            ∙ (ap (λ v. let r : TreeParts = record { keys = q.keys; board = q.board; watch = q.watch; engine = q.engine; tampered = v; hurt = p.hurt } in r) tampered
+            ∙ (ap (λ v. let r : TreeParts = record { keys = q.keys; board = q.board; watch = q.watch; engine = q.engine; tampered = q.tampered; hurt = v } in r) hurt)))))
+
+    pub memory_held : IsTreeWorld c.setup (left_with resting None)
+    memory_held = subst (IsTreeWorld c.setup) (sym as_it_was) c.world
+
+  -- ---- a clash
+
+  module _ (exhibit : Exhibit) (is : c.watch.exhibit ≡ Some exhibit) (it : HasTreeRecovered c.setup rest_from rest_to c.before c.later (Err Fail.Shown)) where
+    abbrev clash : Rattle.asit_shadow.specs.Recovering.IsClashShown c.setup rest_from rest_to
+    clash = it.answered
+
+    abbrev at : Exhibit
+    at = it.answered.place.0
+
+    abbrev seen : HasShown c.parts.watch c.watch it.answered.place.0
+    seen = it.answered.place.2
+
+    exhibit_is : exhibit ≡ it.answered.place.0
+    exhibit_is = same_Some exhibit _ (sym is ∙ (seen.exhibit ∙ ap (λ e. first_shown e it.answered.place.0) c.none))
+
+    its_clash : IsSlotClash c.parts.watch clash.slots exhibit
+    its_clash = subst (IsSlotClash c.parts.watch clash.slots) (sym exhibit_is) it.answered.place.1
+
+    empty_shown : c.board.regs.group.items ≡ []
+    empty_shown = ap (λ (r : Regs). r.group.items) it.group.regs
+
+    slots_are : clash.slots ≡ slots_read c.setup.shape c.board.lines
+    slots_are = read_are clash.slots it.size clash.read
+
+    pub clash_minors : AreSmallMinors exhibit
+    clash_minors = subst AreSmallMinors (sym its_clash.its) tt
+
+    pub clash_held : IsTreeWorld c.setup (left_with resting None)
+    clash_held =
+        ended c.setup (left_with resting None) exhibit (frame resting None refl it.size seen.setup seen.seals seen.nodes seen.slots) is
+        (record {
+          holds = subst (λ e. IfSome e (IsExhibit c.setup.formulas)) is (it.trusted anchored_from);
+          minors = clash_minors;
+          no_engine = refl;
+          unpowered = refl;
+        })
+
+    pub clash_done : IsEngineShown c.setup (state_of c.setup c.parts) Do.On exhibit (state_of c.setup (left_with resting None))
+    clash_done =
+        let plain =
+        plain-kept c.setup c.parts (left_with resting None) seen.seals seen.nodes seen.slots refl refl in
+        let true_are : true_slots c.setup.shape (plain_of_parts c.setup c.parts) ≡ c.parts.watch.slots =
+        true_slots-is c.setup c.parts.watch c.parts.board.regs c.world.whole_shape anchored_from (plain_of_parts c.setup c.parts)
+        (plain_is c.setup c.parts c.parts.board.regs c.world.whole_shape anchored_from) in
+        record {
+          not_shown = c.none;
+          undecided = ap (λ (b : Bool). Rattle.std.specs.Prelude.if◌then◌else◌ b (Some Say.Already) None) dark;
+          holds = subst (λ e. IfSome e (IsExhibit c.setup.formulas)) is (it.trusted anchored_from);
+          shows = subst (λ s. IsShadowShown c.setup s exhibit) (sym plain) (shadow_shown true_are);
+          plain = plain;
+          unpowered = refl;
+          shape = refl;
+          keys = refl;
+          shown = is;
+        }
+      where
+        same_setup : c.parts.watch.setup ≡ c.setup
+        same_setup = c.world.its_watch.its_setup
+
+        shadow_shown : true_slots c.setup.shape (plain_of_parts c.setup c.parts) ≡ c.parts.watch.slots → IsShadowShown c.setup (with_board (plain_of_parts c.setup c.parts) resting) exhibit
+        shadow_shown true_are =
+            let truth : true_slots c.setup.shape (with_board (plain_of_parts c.setup c.parts) resting) ≡ c.parts.watch.slots =
+            slots-free c.setup.shape (plain_of_parts c.setup c.parts) resting (plain_of_parts c.setup c.parts).named ∙ true_are in
+            let place = subst (λ (s : Setup). IsShadowDifference s.formulas (shadow_height s.shape) clash.slots c.parts.watch.slots its_clash.slot its_clash.height its_clash.position) same_setup its_clash.place in
+            let its = subst (λ (s : Setup). exhibit ≡ Clash its_clash.position (shadow_line s.formulas (shadow_height s.shape) clash.slots its_clash.height its_clash.position)
+            (shadow_line s.formulas (shadow_height s.shape) c.parts.watch.slots its_clash.height its_clash.position)) same_setup its_clash.its in
+            record {
+              slot = its_clash.slot;
+              height = its_clash.height;
+              position = its_clash.position;
+              place =
+                  tampered_slot empty_shown it.lines resting
+                  (λ clear. clash.other (slots_are ∙ slots_true empty_shown it.lines clear it.size));
+              one_root = ap (shadow_root c.setup.shape c.setup.formulas) (sym slots_are) ∙ (clash.root ∙ sym it.root);
+              difference =
+                  subst (λ (ls : List Line). IsShadowDifference c.setup.formulas (shadow_height c.setup.shape) (slots_read c.setup.shape c.board.lines) ls its_clash.slot its_clash.height its_clash.position) (sym truth)
+                  (subst (λ (ls : List Line). IsShadowDifference c.setup.formulas (shadow_height c.setup.shape) ls c.parts.watch.slots its_clash.slot its_clash.height its_clash.position) slots_are place);
+              its =
+                  its
+                  ∙ (ap (λ (ls : List Line). Clash its_clash.position (shadow_line c.setup.formulas (shadow_height c.setup.shape) ls its_clash.height its_clash.position)
+                  (shadow_line c.setup.formulas (shadow_height c.setup.shape) c.parts.watch.slots its_clash.height its_clash.position)) slots_are
+                  ∙ ap (λ (ls : List Line). Clash its_clash.position (shadow_line c.setup.formulas (shadow_height c.setup.shape) (slots_read c.setup.shape c.board.lines) its_clash.height its_clash.position)
+                  (shadow_line c.setup.formulas (shadow_height c.setup.shape) ls its_clash.height its_clash.position)) (sym truth));
+            }

@@ -1,0 +1,154 @@
+-- Refusals and exhibits as the plain state tells them: each comes of a place that was tampered with.
+use Rattle.std.proofs.Common.{ℕ, ◌≡◌, ◌≢◌, ◌<◌, ◌≤◌, ◌^◌, true, false, inl, inr, Some, None, refl, sym, ap, subst, ◌∙◌, arith, mod-eq_of_lt}
+use Rattle.std.specs.Prelude.{IfSome, slice_index_or}
+use Rattle.std.proofs.lemmas.Bool.{cases_Bool}
+use Rattle.pmem_base.specs.declared.lines.Line.{Line}
+use Rattle.pmem_base.specs.declared.registers.Regs.{Regs}
+use Rattle.pmem_base.specs.declared.answers.Exhibit.{Exhibit}
+use Rattle.pmem_base.specs.declared.answers.Exhibit.TheVariants.{Forged}
+use Rattle.pmem_base.specs.Lines.{line_at, tag_slot}
+use Rattle.pmem_base.specs.Shape.{Shape, IsShape}
+use Rattle.pmem_base.specs.Layout.{meta_lines}
+use Rattle.suite.specs.Formulas.{AreInRange, cipher_of}
+use Rattle.suite.proofs.CipherLemmas.{cipher_of-back}
+use Rattle.suite.specs.Setup.{Setup}
+use Rattle.board.specs.Memory.{BoardMemory}
+use Rattle.counter_tree.specs.declared.nodes.Node.{Node}
+use Rattle.counter_tree.specs.Nodes.{total, wrapped_version, node_place, version_counter, without_tag, node_read}
+use Rattle.counter_tree.specs.Layout.{tree_lines, line_of_tag, line_of_node}
+use Rattle.counter_tree.specs.Trees.{node_at, line_counter, is_on_line_path}
+use Rattle.counter_tree.specs.Watch.{last_seal_of, forged_node}
+use Rattle.counter_tree.proofs.TreeLaws.{tree-version}
+use Rattle.asit_shadow.specs.Invariants.{IsAnchored}
+use Rattle.asit_shadow.specs.Steps.{plain_of}
+use Rattle.asit_shadow.specs.Plain.{PlainTree, true_node, true_version, true_count, true_cipher, with_board}
+use Rattle.asit_shadow.proofs.SlotPlaces.{on_path-inside}
+use Rattle.tree_session.specs.World.{TreeParts, plain_of_parts}
+use Rattle.tree_session.specs.Answered.{IsPathTampered, IsNodeRefused, IsNodeShown, IsDataRefused, IsDataShown}
+use Rattle.tree_session.proofs.PlainStates.{plain_is, node-is}
+
+-- the true nodes don't depend on the board
+pub board-free : (g : Shape) (plain : PlainTree) (b : BoardMemory) (x : ℕ) → true_node g (with_board plain b) x ≡ true_node g plain x
+unfolding true_node
+board-free g plain b x = refl
+
+module _ (setup : Setup) (p : TreeParts) (regs : Regs) (b : BoardMemory) (shape : IsShape setup.shape) (in_range : AreInRange setup.formulas) (anchored : IsAnchored setup regs p.watch) where
+  abbrev pub with_it : PlainTree
+  with_it = with_board (plain_of_parts setup p) b
+
+  -- ---- nodes
+
+  node-here : (x : ℕ) → x < meta_lines setup.shape → true_node setup.shape (with_board (plain_of_parts setup p) b) x ≡ node_at p.watch.nodes x
+  node-here x inside =
+      board-free setup.shape (plain_of_parts setup p) b x
+      ∙ node-is setup p.watch regs shape anchored (plain_of_parts setup p) (plain_is setup p regs shape anchored) x inside
+
+  version-here : (x : ℕ) → x < meta_lines setup.shape → true_version setup.shape (with_board (plain_of_parts setup p) b) x ≡ total (node_at p.watch.nodes x)
+  version-here x inside = ap total (node-here x inside)
+
+  path-tampered : (a x : ℕ) → is_on_line_path setup.shape a x ≡ true → 1 ≤ x → (slice_index_or p.tampered (line_of_node setup.shape x) false ≡ false → ⊥)
+      → IsPathTampered setup.shape (with_board (plain_of_parts setup p) b) a x
+  path-tampered a x on low changed =
+      record {
+        on_path = on;
+        below_top = λ e. omega (arith, low, e);
+        tampered =
+            elim (cases_Bool (slice_index_or p.tampered (line_of_node setup.shape x) false)) [
+              | inl set ↦ set
+              | inr clear ↦ absurd (changed clear)
+            ];
+      }
+
+  pub node-refused : (a x : ℕ) (line : Line) → a < tree_lines setup.shape → is_on_line_path setup.shape a x ≡ true → 1 ≤ x
+      → line ≡ line_at b.lines (line_of_node setup.shape x) → node_read setup.formulas x line (total (node_at p.watch.nodes x)) ≡ None
+      → (slice_index_or p.tampered (line_of_node setup.shape x) false ≡ false → ⊥) → IsNodeRefused setup (with_board (plain_of_parts setup p) b) a x
+  node-refused a x line within on low read none changed =
+      let inside = on_path-inside setup.shape a x within on in
+      record {
+        place = path-tampered a x on low changed;
+        refused =
+            ap (λ v. node_read setup.formulas x (line_at b.lines (line_of_node setup.shape x)) v) (version-here x inside)
+            ∙ (ap (λ l. node_read setup.formulas x l (total (node_at p.watch.nodes x))) (sym read) ∙ none);
+      }
+
+  pub node-shown : (a x : ℕ) (line : Line) (node : Node) (exhibit : Exhibit) → a < tree_lines setup.shape → is_on_line_path setup.shape a x ≡ true → 1 ≤ x
+      → line ≡ line_at b.lines (line_of_node setup.shape x) → node_read setup.formulas x line (total (node_at p.watch.nodes x)) ≡ Some node
+      → node ≢ node_at p.watch.nodes x → exhibit ≡ forged_node p.watch x line
+      → (slice_index_or p.tampered (line_of_node setup.shape x) false ≡ false → ⊥) → IsNodeShown setup (with_board (plain_of_parts setup p) b) a exhibit
+  node-shown a x line node exhibit within on low read accepted other its changed =
+      let inside = on_path-inside setup.shape a x within on in
+      let small : total (node_at p.watch.nodes x) < 2 ^ 64 = tree-version setup.shape p.watch.nodes x anchored.tree inside in
+      let version : wrapped_version (node_at p.watch.nodes x) ≡ true_version setup.shape (with_board (plain_of_parts setup p) b) x =
+      mod-eq_of_lt small ∙ sym (version-here x inside) in
+      record {
+        x = x;
+        node = node;
+        place = path-tampered a x on low changed;
+        accepted =
+            ap (λ v. node_read setup.formulas x (line_at b.lines (line_of_node setup.shape x)) v) (version-here x inside)
+            ∙ (ap (λ l. node_read setup.formulas x l (total (node_at p.watch.nodes x))) (sym read) ∙ accepted);
+        other = λ e. other (e ∙ node-here x inside);
+        its =
+            its
+            ∙ (ap (λ v. Forged (node_place x) (version_counter v) (without_tag line) (tag_slot line 3)) version
+            ∙ ap (λ l. Forged (node_place x) (version_counter (true_version setup.shape (with_board (plain_of_parts setup p) b) x)) (without_tag l) (tag_slot l 3)) read);
+      }
+
+  -- ---- data lines
+
+  count-here : (a : ℕ) → a < tree_lines setup.shape → true_count (with_board (plain_of_parts setup p) b) a ≡ line_counter setup.shape p.watch.nodes a
+  count-here a within = (plain_is setup p regs shape anchored).counts a within
+
+  hurt-here : (a : ℕ) → (slice_index_or p.hurt a false ≡ false → ⊥) → slice_index_or p.hurt a false ≡ true
+  hurt-here a unhurt =
+      elim (cases_Bool (slice_index_or p.hurt a false)) [
+        | inl set ↦ set
+        | inr clear ↦ absurd (unhurt clear)
+      ]
+
+  pub data-refused : (a : ℕ) (cipher tags : Line) → a < tree_lines setup.shape → cipher ≡ line_at b.lines a → tags ≡ line_at b.lines (line_of_tag setup.shape a)
+      → setup.formulas.tag_of a (version_counter (line_counter setup.shape p.watch.nodes a)) cipher ≢ tag_slot tags 0
+      → (slice_index_or p.hurt a false ≡ false → ⊥) → IsDataRefused setup (with_board (plain_of_parts setup p) b) a
+  data-refused a cipher tags within read read_tags fails unhurt =
+      record {
+        hurt = hurt-here a unhurt;
+        fails =
+            λ fits.
+            fails
+            (ap (setup.formulas.tag_of a (version_counter (line_counter setup.shape p.watch.nodes a))) read
+            ∙ (ap (λ n. setup.formulas.tag_of a (version_counter n) (line_at b.lines a)) (sym (count-here a within))
+            ∙ (fits ∙ ap (λ l. tag_slot l 0) (sym read_tags))));
+      }
+
+  -- memory's cipher under the true counter is that of the last seal
+  pub cipher-here : (a : ℕ) (within : a < tree_lines setup.shape) → true_cipher setup.formulas (with_board (plain_of_parts setup p) b) a ≡ (anchored.seals a within).seal.cipher
+  cipher-here a within =
+      let it = anchored.seals a within in
+      ap (λ n. cipher_of setup.formulas a (version_counter n) (line_at (plain_of_parts setup p).memory a)) (count-here a within ∙ sym it.counter)
+      ∙ (ap (cipher_of setup.formulas a (version_counter it.seal.counter))
+      ((plain_is setup p regs shape anchored).memory a within ∙ ap (plain_of setup.formulas a) it.last)
+      ∙ cipher_of-back setup.formulas a (version_counter it.seal.counter) it.seal.cipher in_range (record { major = it.in_range.counter; minor = omega arith })
+      it.in_range.cipher)
+
+  pub data-shown : (a : ℕ) (cipher tags : Line) (exhibit : Exhibit) → a < tree_lines setup.shape → cipher ≡ line_at b.lines a
+      → tags ≡ line_at b.lines (line_of_tag setup.shape a)
+      → setup.formulas.tag_of a (version_counter (line_counter setup.shape p.watch.nodes a)) cipher ≡ tag_slot tags 0
+      → IfSome (last_seal_of p.watch a) (λ seal. cipher ≢ seal.cipher)
+      → exhibit ≡ Forged a (version_counter (line_counter setup.shape p.watch.nodes a)) cipher (tag_slot tags 0)
+      → (slice_index_or p.hurt a false ≡ false → ⊥) → IsDataShown setup (with_board (plain_of_parts setup p) b) a exhibit
+  data-shown a cipher tags exhibit within read read_tags fits other its unhurt =
+      let sealed = anchored.seals a within in
+      let differs : cipher ≢ sealed.seal.cipher = subst (λ s. IfSome s (λ seal. cipher ≢ seal.cipher)) sealed.last other in
+      record {
+        hurt = hurt-here a unhurt;
+        fits =
+            ap (λ n. setup.formulas.tag_of a (version_counter n) (line_at b.lines a)) (count-here a within)
+            ∙ (ap (setup.formulas.tag_of a (version_counter (line_counter setup.shape p.watch.nodes a))) (sym read)
+            ∙ (fits ∙ ap (λ l. tag_slot l 0) read_tags));
+        other = λ e. differs (read ∙ (e ∙ cipher-here a within));
+        its =
+            its
+            ∙ (ap (λ n. Forged a (version_counter n) cipher (tag_slot tags 0)) (sym (count-here a within))
+            ∙ (ap (λ l. Forged a (version_counter (true_count (with_board (plain_of_parts setup p) b) a)) l (tag_slot tags 0)) read
+            ∙ ap (λ l. Forged a (version_counter (true_count (with_board (plain_of_parts setup p) b) a)) (line_at b.lines a) (tag_slot l 0)) read_tags));
+      }

@@ -1,0 +1,6 @@
+-- The board as the call finds it, and the reference to it.
+use Rattle.board.specs.MemBoard.{memory_of}
+use Rattle.tree_session.proofs.calls.format.Given as goal
+
+abbrev pub ghosts-format_kept : goal.ghosts-format_kept
+ghosts-format_kept g a = record { start = memory_of a.board.now; name = a.board.ghost_name }

@@ -1,0 +1,98 @@
+-- Power comes on.
+use Rattle.std.proofs.Common.{rules}
+use Rattle.pmem_base.specs.Geo.{shape_of}
+use Rattle.board.specs.MemBoard.{memory_of}
+use Rattle.counter_tree.specs.BookView.{watch_of}
+use Rattle.tree_session.specs.declared.commands.TreeCommand.TheVariants as Do
+use Rattle.tree_session.specs.declared.answers.TreeAnswer.TheVariants as Say
+use Rattle.tree_session.proofs.Decided.{QuietCall, found_none, found_some, already, as_now}
+use Rattle.tree_session.proofs.OnCalls.{OnCall, on_held, on_seen, cut_kept, cut_seen, shadow_kept, shadow_seen, shown_kept, shown_seen}
+use Rattle.tree_session.proofs.world.TreeWorld.on.Given.{Over}
+use Rattle.tree_session.proofs.world.TreeWorld.on.Goals.{After-steps-steps}
+use Rattle.tree_session.proofs.world.TreeWorld.on.Goals as goal
+
+-- once recovery has answered
+module _ (g : Over) (c : After-steps-steps g) where
+  abbrev call : OnCall
+  call =
+      record {
+        formulas_of = g.S.Suite.formulas_of;
+        geometry = shape_of c.self.inside.geo;
+        parts =
+            record {
+              keys = g.S.Suite.keys c.self.inside.suite;
+              board = memory_of c.self.inside.board;
+              watch = watch_of g.S.Suite.formulas_of g.S.Suite.keys c.self.inside.watch;
+              engine = c.self.inside.engine;
+              tampered = c.self.inside.tampered.items;
+              hurt = c.self.inside.hurt.items;
+            };
+        now = c.args.self.now;
+        is = c.self.view_is;
+        world = c.self.invariant;
+        unshown = c.requires;
+        there = found_none c.self.inside.engine c.is_some.result c.is_some.ensures c.if-is_some.false;
+        lit = memory_of c.power.new.self;
+        is_lit = c.power.ensures;
+        keys = g.S.Suite.keys c.recover-done.new.suite;
+        same_keys = c.recover-done.ensures.keys;
+        board = memory_of c.recover-done.new.board;
+        watch = watch_of g.S.Suite.formulas_of g.S.Suite.keys c.recover-done.new.watch;
+        taken = c.recover-done.result.taken;
+        watched = c.recover-done.ensures.watched;
+        before = g.S.Suite.digests c.self.inside.suite;
+        later = g.S.Suite.digests c.recover-done.new.suite;
+        answer = c.recover-done.result.answer;
+        recovered = c.recover-done.ensures.recovered;
+        said = c.steps-steps.result;
+        counted = c.steps-steps.ensures;
+      }
+
+pub returns-then-is_some-clause-answered : goal.returns-then-is_some-clause-answered
+returns-then-is_some-clause-answered g c =
+    let q : QuietCall =
+    record {
+      formulas_of = g.S.Suite.formulas_of;
+      geometry = shape_of c.self.inside.geo;
+      parts =
+          record {
+            keys = g.S.Suite.keys c.self.inside.suite;
+            board = memory_of c.self.inside.board;
+            watch = watch_of g.S.Suite.formulas_of g.S.Suite.keys c.self.inside.watch;
+            engine = c.self.inside.engine;
+            tampered = c.self.inside.tampered.items;
+            hurt = c.self.inside.hurt.items;
+          };
+      now = c.args.self.now;
+      is = c.self.view_is;
+      world = c.self.invariant;
+      unshown = c.requires;
+    } in
+    let found = found_some c.self.inside.engine c.is_some.result c.is_some.ensures c.if-is_some.true in
+    as_now q Do.On Say.Already (already q found.0 found.1)
+
+pub invariant_of-self : goal.invariant_of-self
+invariant_of-self g c = let r = call g ((goal.at.invariant_of-self g c).After-steps-steps) in on_held r c.in-Ok.made (let h = c.in-Ok.is in search rules)
+
+pub invariant_of-self-in-Err-Cut : goal.invariant_of-self-in-Err-Cut
+invariant_of-self-in-Err-Cut g c = let r = call g ((goal.at.invariant_of-self-in-Err-Cut g c).After-steps-steps) in cut_kept r (let h = c.in-Err-Cut.is in let k = c.in-Err-Cut.field-0-is in search rules)
+
+pub invariant_of-self-in-Err-Shadow : goal.invariant_of-self-in-Err-Shadow
+invariant_of-self-in-Err-Shadow g c = let r = call g ((goal.at.invariant_of-self-in-Err-Shadow g c).After-steps-steps) in shadow_kept r (memory_of c.rest.new.self) c.rest.ensures c.in-Err-Shadow.kept c.in-Err-Shadow.found (let h = c.in-Err-Shadow.is in let k = c.in-Err-Shadow.field-0-is in search rules)
+
+pub invariant_of-self-in-Err-Shown : goal.invariant_of-self-in-Err-Shown
+invariant_of-self-in-Err-Shown g c = let r = call g ((goal.at.invariant_of-self-in-Err-Shown g c).After-steps-steps) in shown_kept r (memory_of c.rest-in-Err-Shown.new.self) c.rest-in-Err-Shown.ensures (let h = c.in-Err-Shown.is in let k = c.in-Err-Shown.field-0-is in search rules)
+
+pub returns-in-Ok-clause-answered : goal.returns-in-Ok-clause-answered
+returns-in-Ok-clause-answered g c = let r = call g ((goal.at.returns-in-Ok-clause-answered g c).After-steps-steps) in on_seen r c.in-Ok.made (let h = c.in-Ok.is in search rules)
+
+pub returns-in-Err-Cut-clause-answered : goal.returns-in-Err-Cut-clause-answered
+returns-in-Err-Cut-clause-answered g c = let r = call g ((goal.at.returns-in-Err-Cut-clause-answered g c).After-steps-steps) in cut_seen r (let h = c.in-Err-Cut.is in let k = c.in-Err-Cut.field-0-is in search rules)
+
+pub returns-in-Err-Shadow-clause-answered : goal.returns-in-Err-Shadow-clause-answered
+returns-in-Err-Shadow-clause-answered g c = let r = call g ((goal.at.returns-in-Err-Shadow-clause-answered g c).After-steps-steps) in shadow_seen r (memory_of c.rest.new.self) c.rest.ensures c.in-Err-Shadow.kept c.in-Err-Shadow.found (let h = c.in-Err-Shadow.is in let k = c.in-Err-Shadow.field-0-is in search rules)
+
+pub returns-in-Err-Shown-clause-halted : goal.returns-in-Err-Shown-clause-halted
+returns-in-Err-Shown-clause-halted g c =
+    let r = call g ((goal.at.returns-in-Err-Shown-clause-halted g c).After-steps-steps) in
+    shown_seen r (memory_of c.rest-in-Err-Shown.new.self) c.rest-in-Err-Shown.ensures (let h = c.in-Err-Shown.is in let k = c.in-Err-Shown.field-0-is in search rules) c.shown.result c.shown.ensures

@@ -1,0 +1,130 @@
+-- A line is read, refused or shown, or power is cut.
+use Rattle.std.proofs.Common.{rules, arith}
+use Rattle.pmem_base.specs.Geo.{shape_of}
+use Rattle.board.specs.MemBoard.{memory_of}
+use Rattle.counter_tree.specs.BookView.{watch_of}
+use Rattle.tree_session.proofs.Seen.{WorldCall}
+use Rattle.tree_session.proofs.Decided.{QuietCall, read_off, read_past}
+use Rattle.tree_session.proofs.ReadCalls.{ReadCall, got_held, got_seen, node_kept, node_seen, tag_kept, tag_seen, cut_kept, cut_seen, shown_kept, shown_seen}
+use Rattle.tree_session.proofs.world.TreeWorld.read.Given.{Over}
+use Rattle.tree_session.proofs.world.TreeWorld.read.Goals.{After-steps-steps}
+use Rattle.tree_session.proofs.world.TreeWorld.read.Goals as goal
+
+-- once the engine has answered
+module _ (g : Over) (c : After-steps-steps g) where
+  abbrev its : WorldCall
+  its =
+      record {
+        formulas_of = g.S.Suite.formulas_of;
+        geometry = shape_of c.self.inside.geo;
+        parts =
+            record {
+              keys = g.S.Suite.keys c.self.inside.suite;
+              board = memory_of c.self.inside.board;
+              watch = watch_of g.S.Suite.formulas_of g.S.Suite.keys c.self.inside.watch;
+              engine = c.self.inside.engine;
+              tampered = c.self.inside.tampered.items;
+              hurt = c.self.inside.hurt.items;
+            };
+        now = c.args.self.now;
+        is = c.self.view_is;
+        world = c.self.invariant;
+        unshown = c.requires;
+        engine = c.in-Some.engine;
+        there = c.in-Some.is;
+        after = c.read-done.new.engine;
+        keys = g.S.Suite.keys c.read-done.new.suite;
+        same_keys = c.read-done.ensures.keys;
+        board = memory_of c.read-done.new.board;
+        watch = watch_of g.S.Suite.formulas_of g.S.Suite.keys c.read-done.new.watch;
+        taken = c.read-done.result.taken;
+        watched = c.read-done.ensures.watched;
+        said = c.steps-steps.result;
+        counted = c.steps-steps.ensures;
+      }
+
+  abbrev call : ReadCall
+  call =
+      record {
+        world = its;
+        at = c.args.at;
+        within = omega (arith, c.if-at-from.false, c.from.ensures, c.tree_lines.ensures);
+        answer = c.read-done.result.answer;
+        was_read = c.read-done.ensures.read;
+      }
+
+pub returns-in_default-clause-answered : goal.returns-in_default-clause-answered
+returns-in_default-clause-answered g c =
+    let q : QuietCall =
+    record {
+      formulas_of = g.S.Suite.formulas_of;
+      geometry = shape_of c.self.inside.geo;
+      parts =
+          record {
+            keys = g.S.Suite.keys c.self.inside.suite;
+            board = memory_of c.self.inside.board;
+            watch = watch_of g.S.Suite.formulas_of g.S.Suite.keys c.self.inside.watch;
+            engine = c.self.inside.engine;
+            tampered = c.self.inside.tampered.items;
+            hurt = c.self.inside.hurt.items;
+          };
+      now = c.args.self.now;
+      is = c.self.view_is;
+      world = c.self.invariant;
+      unshown = c.requires;
+    } in
+    read_off q c.args.at c.in_default.is
+
+pub returns-then-at-from-clause-answered : goal.returns-then-at-from-clause-answered
+returns-then-at-from-clause-answered g c =
+    let q : QuietCall =
+    record {
+      formulas_of = g.S.Suite.formulas_of;
+      geometry = shape_of c.self.inside.geo;
+      parts =
+          record {
+            keys = g.S.Suite.keys c.self.inside.suite;
+            board = memory_of c.self.inside.board;
+            watch = watch_of g.S.Suite.formulas_of g.S.Suite.keys c.self.inside.watch;
+            engine = c.self.inside.engine;
+            tampered = c.self.inside.tampered.items;
+            hurt = c.self.inside.hurt.items;
+          };
+      now = c.args.self.now;
+      is = c.self.view_is;
+      world = c.self.invariant;
+      unshown = c.requires;
+    } in
+    read_past q c.in-Some.engine c.args.at c.in-Some.is (omega (arith, c.if-at-from.true, c.from.ensures, c.tree_lines.ensures))
+
+pub invariant_of-self-in-Ok : goal.invariant_of-self-in-Ok
+invariant_of-self-in-Ok g c = let r = call g ((goal.at.invariant_of-self-in-Ok g c).After-steps-steps) in got_held r c.in-Ok.line (let h = c.in-Ok.is in search rules)
+
+pub invariant_of-self-in-Err-Node : goal.invariant_of-self-in-Err-Node
+invariant_of-self-in-Err-Node g c = let r = call g ((goal.at.invariant_of-self-in-Err-Node g c).After-steps-steps) in node_kept r c.in-Err-Node.x (let h = c.in-Err-Node.is in let k = c.in-Err-Node.field-0-is in search rules)
+
+pub invariant_of-self-in-Err-Tag : goal.invariant_of-self-in-Err-Tag
+invariant_of-self-in-Err-Tag g c = let r = call g ((goal.at.invariant_of-self-in-Err-Tag g c).After-steps-steps) in tag_kept r c.in-Err-Tag.at (let h = c.in-Err-Tag.is in let k = c.in-Err-Tag.field-0-is in search rules)
+
+pub invariant_of-self-in-Err-Cut : goal.invariant_of-self-in-Err-Cut
+invariant_of-self-in-Err-Cut g c = let r = call g ((goal.at.invariant_of-self-in-Err-Cut g c).After-steps-steps) in cut_kept r (let h = c.in-Err-Cut.is in let k = c.in-Err-Cut.field-0-is in search rules)
+
+pub invariant_of-self-in-Err-Shown : goal.invariant_of-self-in-Err-Shown
+invariant_of-self-in-Err-Shown g c = let r = call g ((goal.at.invariant_of-self-in-Err-Shown g c).After-steps-steps) in shown_kept r (let h = c.in-Err-Shown.is in let k = c.in-Err-Shown.field-0-is in search rules) (memory_of c.rest.new.self) c.rest.ensures
+
+pub returns-in-Ok-clause-answered : goal.returns-in-Ok-clause-answered
+returns-in-Ok-clause-answered g c = let r = call g ((goal.at.returns-in-Ok-clause-answered g c).After-steps-steps) in got_seen r c.in-Ok.line (let h = c.in-Ok.is in search rules)
+
+pub returns-in-Err-Node-clause-answered : goal.returns-in-Err-Node-clause-answered
+returns-in-Err-Node-clause-answered g c = let r = call g ((goal.at.returns-in-Err-Node-clause-answered g c).After-steps-steps) in node_seen r c.in-Err-Node.x (let h = c.in-Err-Node.is in let k = c.in-Err-Node.field-0-is in search rules)
+
+pub returns-in-Err-Tag-clause-answered : goal.returns-in-Err-Tag-clause-answered
+returns-in-Err-Tag-clause-answered g c = let r = call g ((goal.at.returns-in-Err-Tag-clause-answered g c).After-steps-steps) in tag_seen r c.in-Err-Tag.at (let h = c.in-Err-Tag.is in let k = c.in-Err-Tag.field-0-is in search rules)
+
+pub returns-in-Err-Cut-clause-answered : goal.returns-in-Err-Cut-clause-answered
+returns-in-Err-Cut-clause-answered g c = let r = call g ((goal.at.returns-in-Err-Cut-clause-answered g c).After-steps-steps) in cut_seen r (let h = c.in-Err-Cut.is in let k = c.in-Err-Cut.field-0-is in search rules)
+
+pub returns-in-Err-Shown-clause-halted : goal.returns-in-Err-Shown-clause-halted
+returns-in-Err-Shown-clause-halted g c =
+    let r = call g ((goal.at.returns-in-Err-Shown-clause-halted g c).After-steps-steps) in
+    shown_seen r (let h = c.in-Err-Shown.is in let k = c.in-Err-Shown.field-0-is in search rules) (memory_of c.rest.new.self) c.rest.ensures c.shown.result c.shown.ensures

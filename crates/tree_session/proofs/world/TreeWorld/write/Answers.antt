@@ -1,0 +1,138 @@
+-- A line is written, refused or shown, or power is cut; or no write can be counted any more.
+use Rattle.std.proofs.Common.{rules, arith}
+use Rattle.pmem_base.specs.Geo.{shape_of}
+use Rattle.board.specs.MemBoard.{memory_of}
+use Rattle.counter_tree.specs.BookView.{watch_of}
+use Rattle.tree_session.proofs.Seen.{WorldCall}
+use Rattle.tree_session.proofs.Decided.{QuietCall, write_off, write_past}
+use Rattle.tree_session.proofs.WriteCalls.{WriteCall, made_held, made_seen, node_kept, node_seen, spent_kept, spent_seen, lost_kept, lost_seen, cut_kept, cut_seen, shown_kept, shown_seen}
+use Rattle.tree_session.proofs.world.TreeWorld.write.Given.{Over}
+use Rattle.tree_session.proofs.world.TreeWorld.write.Goals.{After-steps-steps}
+use Rattle.tree_session.proofs.world.TreeWorld.write.Goals as goal
+
+-- once the engine has answered
+module _ (g : Over) (c : After-steps-steps g) where
+  abbrev its : WorldCall
+  its =
+      record {
+        formulas_of = g.S.Suite.formulas_of;
+        geometry = shape_of c.self.inside.geo;
+        parts =
+            record {
+              keys = g.S.Suite.keys c.self.inside.suite;
+              board = memory_of c.self.inside.board;
+              watch = watch_of g.S.Suite.formulas_of g.S.Suite.keys c.self.inside.watch;
+              engine = c.self.inside.engine;
+              tampered = c.self.inside.tampered.items;
+              hurt = c.self.inside.hurt.items;
+            };
+        now = c.args.self.now;
+        is = c.self.view_is;
+        world = c.self.invariant;
+        unshown = c.requires;
+        engine = c.in-Some.engine;
+        there = c.in-Some.is;
+        after = c.write-done.new.engine;
+        keys = g.S.Suite.keys c.write-done.new.suite;
+        same_keys = c.write-done.ensures.keys;
+        board = memory_of c.write-done.new.board;
+        watch = watch_of g.S.Suite.formulas_of g.S.Suite.keys c.write-done.new.watch;
+        taken = c.write-done.result.taken;
+        watched = c.write-done.ensures.watched;
+        said = c.steps-steps.result;
+        counted = c.steps-steps.ensures;
+      }
+
+  abbrev call : WriteCall
+  call =
+      record {
+        world = its;
+        at = c.args.at;
+        within = omega (arith, c.if-at-from.false, c.from.ensures, c.tree_lines.ensures);
+        line = c.args.line.now;
+        whole = c.is_whole.ensures;
+        answer = c.write-done.result.answer;
+        was_written = c.write-done.ensures.written;
+      }
+
+pub returns-in_default-clause-answered : goal.returns-in_default-clause-answered
+returns-in_default-clause-answered g c =
+    let q : QuietCall =
+    record {
+      formulas_of = g.S.Suite.formulas_of;
+      geometry = shape_of c.self.inside.geo;
+      parts =
+          record {
+            keys = g.S.Suite.keys c.self.inside.suite;
+            board = memory_of c.self.inside.board;
+            watch = watch_of g.S.Suite.formulas_of g.S.Suite.keys c.self.inside.watch;
+            engine = c.self.inside.engine;
+            tampered = c.self.inside.tampered.items;
+            hurt = c.self.inside.hurt.items;
+          };
+      now = c.args.self.now;
+      is = c.self.view_is;
+      world = c.self.invariant;
+      unshown = c.requires;
+    } in
+    write_off q c.args.at c.args.line.now c.in_default.is
+
+pub returns-then-at-from-clause-answered : goal.returns-then-at-from-clause-answered
+returns-then-at-from-clause-answered g c =
+    let q : QuietCall =
+    record {
+      formulas_of = g.S.Suite.formulas_of;
+      geometry = shape_of c.self.inside.geo;
+      parts =
+          record {
+            keys = g.S.Suite.keys c.self.inside.suite;
+            board = memory_of c.self.inside.board;
+            watch = watch_of g.S.Suite.formulas_of g.S.Suite.keys c.self.inside.watch;
+            engine = c.self.inside.engine;
+            tampered = c.self.inside.tampered.items;
+            hurt = c.self.inside.hurt.items;
+          };
+      now = c.args.self.now;
+      is = c.self.view_is;
+      world = c.self.invariant;
+      unshown = c.requires;
+    } in
+    write_past q c.in-Some.engine c.args.at c.args.line.now c.in-Some.is (omega (arith, c.if-at-from.true, c.from.ensures, c.tree_lines.ensures))
+
+pub invariant_of-self-in-Ok : goal.invariant_of-self-in-Ok
+invariant_of-self-in-Ok g c = let r = call g ((goal.at.invariant_of-self-in-Ok g c).After-steps-steps) in made_held r c.in-Ok.field-0 (let h = c.in-Ok.is in search rules)
+
+pub invariant_of-self-in-Err-Node : goal.invariant_of-self-in-Err-Node
+invariant_of-self-in-Err-Node g c = let r = call g ((goal.at.invariant_of-self-in-Err-Node g c).After-steps-steps) in node_kept r c.in-Err-Node.x (let h = c.in-Err-Node.is in let k = c.in-Err-Node.field-0-is in search rules)
+
+pub invariant_of-self-in-Err-Spent : goal.invariant_of-self-in-Err-Spent
+invariant_of-self-in-Err-Spent g c = let r = call g ((goal.at.invariant_of-self-in-Err-Spent g c).After-steps-steps) in spent_kept r (let h = c.in-Err-Spent.is in let k = c.in-Err-Spent.field-0-is in search rules)
+
+pub invariant_of-self-then-done-gt0 : goal.invariant_of-self-then-done-gt0
+invariant_of-self-then-done-gt0 g c = let r = call g ((goal.at.invariant_of-self-then-done-gt0 g c).After-steps-steps) in cut_kept r (let h = c.in-Err-Cut.is in let k = c.in-Err-Cut.field-0-is in search rules) c.if-done-gt0.true
+
+pub invariant_of-self-else-done-gt0 : goal.invariant_of-self-else-done-gt0
+invariant_of-self-else-done-gt0 g c = let r = call g ((goal.at.invariant_of-self-else-done-gt0 g c).After-steps-steps) in lost_kept r (let h = c.in-Err-Cut.is in let k = c.in-Err-Cut.field-0-is in search rules) c.if-done-gt0.false
+
+pub invariant_of-self-in-Err-Shown : goal.invariant_of-self-in-Err-Shown
+invariant_of-self-in-Err-Shown g c = let r = call g ((goal.at.invariant_of-self-in-Err-Shown g c).After-steps-steps) in shown_kept r (let h = c.in-Err-Shown.is in let k = c.in-Err-Shown.field-0-is in search rules) (memory_of c.rest.new.self) c.rest.ensures
+
+pub returns-in-Ok-clause-answered : goal.returns-in-Ok-clause-answered
+returns-in-Ok-clause-answered g c = let r = call g ((goal.at.returns-in-Ok-clause-answered g c).After-steps-steps) in made_seen r c.in-Ok.field-0 (let h = c.in-Ok.is in search rules)
+
+pub returns-in-Err-Node-clause-answered : goal.returns-in-Err-Node-clause-answered
+returns-in-Err-Node-clause-answered g c = let r = call g ((goal.at.returns-in-Err-Node-clause-answered g c).After-steps-steps) in node_seen r c.in-Err-Node.x (let h = c.in-Err-Node.is in let k = c.in-Err-Node.field-0-is in search rules)
+
+pub returns-in-Err-Spent-clause-answered : goal.returns-in-Err-Spent-clause-answered
+returns-in-Err-Spent-clause-answered g c = let r = call g ((goal.at.returns-in-Err-Spent-clause-answered g c).After-steps-steps) in spent_seen r (let h = c.in-Err-Spent.is in let k = c.in-Err-Spent.field-0-is in search rules)
+
+pub returns-then-done-gt0-clause-answered : goal.returns-then-done-gt0-clause-answered
+returns-then-done-gt0-clause-answered g c = let r = call g ((goal.at.returns-then-done-gt0-clause-answered g c).After-steps-steps) in cut_seen r (let h = c.in-Err-Cut.is in let k = c.in-Err-Cut.field-0-is in search rules) c.if-done-gt0.true
+
+pub returns-else-done-gt0-clause-answered : goal.returns-else-done-gt0-clause-answered
+returns-else-done-gt0-clause-answered g c = let r = call g ((goal.at.returns-else-done-gt0-clause-answered g c).After-steps-steps) in lost_seen r (let h = c.in-Err-Cut.is in let k = c.in-Err-Cut.field-0-is in search rules) c.if-done-gt0.false
+
+pub returns-in-Err-Shown-clause-halted : goal.returns-in-Err-Shown-clause-halted
+returns-in-Err-Shown-clause-halted g c =
+    let r = call g ((goal.at.returns-in-Err-Shown-clause-halted g c).After-steps-steps) in
+    shown_seen r (let h = c.in-Err-Shown.is in let k = c.in-Err-Shown.field-0-is in search rules) (memory_of c.rest.new.self) c.rest.ensures c.shown.result c.shown.ensures

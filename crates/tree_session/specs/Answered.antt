@@ -1,0 +1,416 @@
+-- Which answers a command has in which states, and the state after: where the state alone decides, the first
+-- condition that holds does; else the engine gives one of the answers that are listed.
+use Rattle.std.specs.Prelude.{ℕ, ◌≡◌, ◌≢◌, ◌<◌, ◌≤◌, ◌+◌, ◌-◌, ◌*◌, ◌^◌, ◌⊎◌, nat_lt, not, Bool, true, false, List, [], ◌∷◌, map, Option, Some, None, Ok, is_none, if◌then◌else◌, ⊤}
+use Rattle.pmem_base.specs.declared.lines.Line.{Line}
+use Rattle.pmem_base.specs.declared.answers.Exhibit.{Exhibit}
+use Rattle.pmem_base.specs.declared.answers.Exhibit.TheVariants.{Clash, Forged}
+use Rattle.pmem_base.specs.Counts.{HasRisen}
+use Rattle.pmem_base.specs.Lines.{line_at, tag_slot}
+use Rattle.pmem_base.specs.Shape.{Shape}
+use Rattle.pmem_base.specs.Layout.{meta_lines}
+use Rattle.suite.specs.Setup.{Setup}
+use Rattle.board.specs.Counts.{RisesBy}
+use Rattle.board.specs.Memory.{BoardMemory, with_line_at, with_lines, restored_lines}
+use Rattle.counter_tree.specs.declared.nodes.Node.{Node}
+use Rattle.counter_tree.specs.Nodes.{node_place, version_counter, without_tag, node_line, node_read}
+use Rattle.counter_tree.specs.Layout.{tree_lines, tree_slots, tree_size, line_of_tag, line_of_node, line_of_slot}
+use Rattle.counter_tree.specs.Trees.{is_on_line_path}
+use Rattle.counter_tree.specs.Slots.{slot_of, slot_line}
+use Rattle.counter_tree.specs.Shadow.{shadow_root, shadow_line, shadow_height, shadow_digests, IsShadowDifference}
+use Rattle.collision_witness.specs.Exhibits.{IsExhibit, AreSmallMinors}
+use Rattle.commit_regs.specs.Groups.{redone}
+use Rattle.trace_text.specs.declared.talk.Halt.{Halt}
+use Rattle.trace_text.specs.declared.talk.Halt.TheVariants as Stop
+use Rattle.asit_shadow.specs.Paths.{line_path, tag_only}
+use Rattle.asit_shadow.specs.Steps.{slots_read}
+use Rattle.asit_shadow.specs.Plain.{PlainTree, true_node, true_version, true_count, true_cipher, true_slots, writes_made, after_write, after_change, with_board, is_tampered, is_hurt}
+use Rattle.tree_session.specs.declared.commands.TreeCommand.{TreeCommand}
+use Rattle.tree_session.specs.declared.commands.TreeCommand.TheVariants as Do
+use Rattle.tree_session.specs.declared.answers.TreeAnswer.{TreeAnswer}
+use Rattle.tree_session.specs.declared.answers.TreeAnswer.TheVariants as Say
+use Rattle.tree_session.specs.Answers.{tree_text}
+use Rattle.tree_session.specs.Commands.{reading_of_tree}
+use Rattle.tree_session.specs.State.{SessionState}
+
+-- ---- the answers that the state decides
+
+abbrev pub decided : Shape → PlainTree → TreeCommand → Option TreeAnswer
+decided g before (Do.Write a line) =
+    if not before.board.powered then Some Say.Off else if nat_lt a (tree_lines g) then None else Some Say.Range
+decided g before (Do.Read a) =
+    if not before.board.powered then Some Say.Off else if nat_lt a (tree_lines g) then None else Some Say.Range
+decided g before Do.On = if before.board.powered then Some Say.Already else None
+decided g before Do.Off = if before.board.powered then Some Say.Ok else Some Say.Off
+decided g before (Do.Cut n) = Some Say.Ok
+decided g before (Do.Poke d line) = if nat_lt d (tree_size g) then Some Say.Ok else Some Say.Range
+decided g before Do.Snap = Some Say.Ok
+decided g before (Do.Back d) =
+    if not (nat_lt d (tree_size g)) then Some Say.Range
+    else if is_none before.board.snapshot then Some Say.NoSnap else Some Say.Ok
+
+-- the state after such an answer
+abbrev pub after_decided : Shape → PlainTree → TreeCommand → TreeAnswer → PlainTree
+after_decided g before Do.Off Say.Ok =
+    with_board before (record before.board { powered = false; fuse = None })
+after_decided g before (Do.Cut n) Say.Ok = with_board before (record before.board { fuse = Some n })
+after_decided g before (Do.Poke d line) Say.Ok =
+    with_board (after_change g before d) (with_line_at before.board d line)
+after_decided g before Do.Snap Say.Ok =
+    with_board before (record before.board { snapshot = Some before.board.lines })
+after_decided g before (Do.Back d) Say.Ok =
+    with_board (after_change g before d)
+    (with_lines before.board (restored_lines before.board.lines before.board.snapshot d))
+after_decided g before command answer = before
+
+-- ---- steps
+
+-- the fuse has so many steps left
+abbrev pub Fits : ℕ → Option ℕ → Type 0
+Fits s None = ⊤
+Fits s (Some left) = s ≤ left
+
+abbrev pub fuse_less : ℕ → Option ℕ → Option ℕ
+fuse_less s None = None
+fuse_less s (Some left) = Some (left - s)
+
+-- s steps, within the fuse, and no cut
+pub record TakesSteps (s : ℕ) (powered : Bool) (old new : BoardMemory) : Type 0 where
+  pub rise : RisesBy s (old.writes + old.latches) (new.writes + new.latches)
+  pub fits : Fits s old.fuse
+  pub fuse : new.fuse ≡ fuse_less s old.fuse
+  pub power : new.powered ≡ powered
+  pub snapshot : new.snapshot ≡ old.snapshot
+  pub cuts : new.cuts ≡ old.cuts
+
+-- a cut at the fuse's end
+pub record IsCutAt (s : ℕ) (old new : BoardMemory) : Type 0 where
+  pub rise : RisesBy s (old.writes + old.latches) (new.writes + new.latches)
+  pub fuse : old.fuse ≡ Some s
+  pub burnt : new.fuse ≡ None
+  pub power : new.powered ≡ false
+  pub snapshot : new.snapshot ≡ old.snapshot
+  pub rose : HasRisen old.cuts new.cuts
+
+-- the lines with the armed group redone
+abbrev pub board_redone : BoardMemory → List Line
+board_redone board = redone board.regs.group.items board.lines
+
+-- the armed group is on the device, and no other is armed
+pub record IsGroupDone (old new : BoardMemory) : Type 0 where
+  pub lines : new.lines ≡ board_redone old
+  pub no_group : new.regs.group.items ≡ []
+
+-- device line d is now that of a true node, with its tag
+pub record IsNodeWritten (setup : Setup) (plain : PlainTree) (lines : List Line) (d : ℕ) : Type 0 where
+  pub x : ℕ
+  pub on_tree : x < meta_lines setup.shape
+  pub place : d ≡ line_of_node setup.shape x
+  pub line : line_at lines d ≡ node_line setup.formulas x (true_node setup.shape plain x)
+
+-- each device line is as it was, or a true node was written back to it
+abbrev pub AreLinesSpilled : Setup → PlainTree → List Line → Type 0
+AreLinesSpilled setup before lines =
+    (d : ℕ) → (line_at lines d ≡ line_at before.board.lines d) ⊎ IsNodeWritten setup before lines d
+
+-- the engine did no more to the board
+pub record IsBoardSpilled (setup : Setup) (before after : PlainTree) : Type 0 where
+  pub lines : AreLinesSpilled setup before after.board.lines
+  pub regs : after.board.regs ≡ before.board.regs
+
+-- what a write of line a puts: its cipher, its tag line, and the slot lines that name its path
+abbrev pub put_by_write : Setup → PlainTree → ℕ → List (ℕ × Line)
+put_by_write setup after a =
+    (a, true_cipher setup.formulas after a)
+    ∷ (
+      line_of_tag setup.shape a,
+      tag_only (setup.formulas.tag_of a (version_counter (true_count after a)) (true_cipher setup.formulas after a)),
+    )
+    ∷ map
+    (λ x. (line_of_slot setup.shape (slot_of setup.shape x), slot_line x (true_node setup.shape after x)))
+    (line_path setup.shape a)
+
+-- true nodes were written back, and then these lines put, or armed to be put
+pub record IsBoardWritten (setup : Setup) (a : ℕ) (before after : PlainTree) : Type 0 where
+  pub spilled : List Line
+  pub lines : AreLinesSpilled setup before spilled
+  pub put : board_redone after.board ≡ redone (put_by_write setup after a) spilled
+
+-- nothing but the board changed
+abbrev pub IsPlainKept : PlainTree → PlainTree → Type 0
+IsPlainKept before after = after ≡ with_board before after.board
+
+-- a write's line is in memory
+abbrev pub IsWriteMade : Shape → ℕ → Line → PlainTree → PlainTree → Type 0
+IsWriteMade g a line before after = after ≡ with_board (after_write g before a line) after.board
+
+-- ---- refusals and exhibits, over the device as it is afterwards
+
+abbrev pub device_node : Shape → PlainTree → ℕ → Line
+device_node g plain x = line_at plain.board.lines (line_of_node g x)
+
+abbrev pub device_tag : Shape → PlainTree → ℕ → List ℕ
+device_tag g plain a = tag_slot (line_at plain.board.lines (line_of_tag g a)) 0
+
+-- node x, on the path of line a, was ever tampered with
+pub record IsPathTampered (g : Shape) (after : PlainTree) (a x : ℕ) : Type 0 where
+  pub on_path : is_on_line_path g a x ≡ true
+  pub below_top : x ≢ 0
+  pub tampered : is_tampered after (line_of_node g x) ≡ true
+
+-- its line isn't that of a node of the true version
+pub record IsNodeRefused (setup : Setup) (after : PlainTree) (a x : ℕ) : Type 0 where
+  pub place : IsPathTampered setup.shape after a x
+  pub refused :
+      node_read setup.formulas x (device_node setup.shape after x) (true_version setup.shape after x) ≡ None
+
+-- its line is that of another node of the true version
+pub record IsNodeShown (setup : Setup) (after : PlainTree) (a : ℕ) (exhibit : Exhibit) : Type 0 where
+  pub x : ℕ
+  pub node : Node
+  pub place : IsPathTampered setup.shape after a x
+  pub accepted :
+      node_read setup.formulas x (device_node setup.shape after x) (true_version setup.shape after x)
+      ≡ Some node
+  pub other : node ≢ true_node setup.shape after x
+  pub its :
+      exhibit
+      ≡ Forged (node_place x) (version_counter (true_version setup.shape after x))
+      (without_tag (device_node setup.shape after x)) (tag_slot (device_node setup.shape after x) 3)
+
+-- the tag of line a fails under its counter
+pub record IsDataRefused (setup : Setup) (after : PlainTree) (a : ℕ) : Type 0 where
+  pub hurt : is_hurt after a ≡ true
+  pub fails :
+      setup.formulas.tag_of a (version_counter (true_count after a)) (line_at after.board.lines a)
+      ≢ device_tag setup.shape after a
+
+-- the tag of line a fits another cipher than the sealed one
+pub record IsDataShown (setup : Setup) (after : PlainTree) (a : ℕ) (exhibit : Exhibit) : Type 0 where
+  pub hurt : is_hurt after a ≡ true
+  pub fits :
+      setup.formulas.tag_of a (version_counter (true_count after a)) (line_at after.board.lines a)
+      ≡ device_tag setup.shape after a
+  pub other : line_at after.board.lines a ≢ true_cipher setup.formulas after a
+  pub its :
+      exhibit
+      ≡ Forged a (version_counter (true_count after a)) (line_at after.board.lines a)
+      (device_tag setup.shape after a)
+
+-- a slot line was ever tampered with
+pub record IsSlotTampered (g : Shape) (after : PlainTree) : Type 0 where
+  pub slot : ℕ
+  pub inside : slot < tree_slots g
+  pub tampered : is_tampered after (line_of_slot g slot) ≡ true
+
+-- the root of the device's slot lines isn't the register's
+pub record IsShadowRefused (setup : Setup) (after : PlainTree) (kept found : List ℕ) : Type 0 where
+  pub place : IsSlotTampered setup.shape after
+  pub its_root : kept ≡ after.board.regs.root
+  pub root_found :
+      found ≡ shadow_root setup.shape setup.formulas (slots_read setup.shape after.board.lines)
+  pub differ : kept ≢ found
+
+-- it is, but they aren't the true ones
+pub record IsShadowShown (setup : Setup) (after : PlainTree) (exhibit : Exhibit) : Type 0 where
+  pub slot : ℕ
+  pub height : ℕ
+  pub position : ℕ
+  pub place : IsSlotTampered setup.shape after
+  pub one_root :
+      shadow_root setup.shape setup.formulas (slots_read setup.shape after.board.lines)
+      ≡ after.board.regs.root
+  pub difference :
+      IsShadowDifference setup.formulas (shadow_height setup.shape) (slots_read setup.shape after.board.lines)
+      (true_slots setup.shape after) slot height position
+  pub its :
+      exhibit
+      ≡ Clash position
+      (shadow_line setup.formulas (shadow_height setup.shape) (slots_read setup.shape after.board.lines)
+      height position)
+      (shadow_line setup.formulas (shadow_height setup.shape) (true_slots setup.shape after) height position)
+
+-- ---- the engine's answers
+
+-- the greatest steps of a read, a write and a recovery
+abbrev pub read_bound : Shape → ℕ
+read_bound g = g.levels
+
+abbrev pub write_bound : Shape → ℕ
+write_bound g = 2 * g.levels + 5
+
+abbrev pub recovery_bound : Shape → ℕ
+recovery_bound g = g.levels + 4
+
+-- each counter of the tree is used up
+abbrev pub IsUsedUp : PlainTree → Type 0
+IsUsedUp before = writes_made before ≡ 2 ^ 64 - 1
+
+abbrev pub AnswersWrite : Setup → PlainTree → ℕ → Line → PlainTree → TreeAnswer → Type 0
+AnswersWrite setup before a line after (Say.Written s) =
+    (IsUsedUp before → ⊥)
+    × TakesSteps s true before.board after.board
+    × RisesBy 2 before.board.latches after.board.latches
+    × (s ≤ write_bound setup.shape)
+    × IsWriteMade setup.shape a line before after
+    × IsBoardWritten setup a before after
+AnswersWrite setup before a line after (Say.CutKept s) =
+    (IsUsedUp before → ⊥)
+    × IsCutAt s before.board after.board
+    × RisesBy 1 before.board.latches after.board.latches
+    × (s < write_bound setup.shape)
+    × IsWriteMade setup.shape a line before after
+    × IsBoardWritten setup a before after
+    × (after.board.regs.group.items ≡ put_by_write setup after a)
+AnswersWrite setup before a line after (Say.CutLost s) =
+    (IsUsedUp before → ⊥)
+    × IsCutAt s before.board after.board
+    × (after.board.latches ≡ before.board.latches)
+    × (s < write_bound setup.shape)
+    × IsPlainKept before after
+    × IsBoardSpilled setup before after
+AnswersWrite setup before a line after (Say.Spent s) =
+    IsUsedUp before
+    × (s ≡ 0)
+    × TakesSteps s true before.board after.board
+    × IsPlainKept before after
+    × IsBoardSpilled setup before after
+AnswersWrite setup before a line after (Say.RefusedNode x s) =
+    (IsUsedUp before → ⊥)
+    × IsNodeRefused setup after a x
+    × TakesSteps s true before.board after.board
+    × (s ≤ read_bound setup.shape)
+    × IsPlainKept before after
+    × IsBoardSpilled setup before after
+AnswersWrite setup before a line after answer = ⊥
+
+abbrev pub AnswersRead : Setup → PlainTree → ℕ → PlainTree → TreeAnswer → Type 0
+AnswersRead setup before a after (Say.Got line s) =
+    (line ≡ line_at before.memory a)
+    × TakesSteps s true before.board after.board
+    × (s ≤ read_bound setup.shape)
+    × IsPlainKept before after
+    × IsBoardSpilled setup before after
+AnswersRead setup before a after (Say.Cut s) =
+    IsCutAt s before.board after.board
+    × (s < read_bound setup.shape)
+    × IsPlainKept before after
+    × IsBoardSpilled setup before after
+AnswersRead setup before a after (Say.RefusedData b s) =
+    (b ≡ a)
+    × IsDataRefused setup after a
+    × TakesSteps s true before.board after.board
+    × (s ≤ read_bound setup.shape)
+    × IsPlainKept before after
+    × IsBoardSpilled setup before after
+AnswersRead setup before a after (Say.RefusedNode x s) =
+    IsNodeRefused setup after a x
+    × TakesSteps s true before.board after.board
+    × (s ≤ read_bound setup.shape)
+    × IsPlainKept before after
+    × IsBoardSpilled setup before after
+AnswersRead setup before a after answer = ⊥
+
+abbrev pub AnswersOn : Setup → PlainTree → PlainTree → TreeAnswer → Type 0
+AnswersOn setup before after (Say.Recovered digests s) =
+    (digests ≡ shadow_digests setup.shape)
+    × TakesSteps s true before.board after.board
+    × IsGroupDone before.board after.board
+    × (s ≤ recovery_bound setup.shape)
+    × IsPlainKept before after
+AnswersOn setup before after (Say.Cut s) =
+    IsCutAt s before.board after.board
+    × (board_redone after.board ≡ board_redone before.board)
+    × (s < recovery_bound setup.shape)
+    × IsPlainKept before after
+AnswersOn setup before after (Say.RefusedShadow kept found s) =
+    IsShadowRefused setup after kept found
+    × TakesSteps s false before.board after.board
+    × IsGroupDone before.board after.board
+    × (s ≤ recovery_bound setup.shape)
+    × IsPlainKept before after
+AnswersOn setup before after answer = ⊥
+
+-- what the engine answers to a command
+abbrev pub AnswersEngine : Setup → PlainTree → TreeCommand → PlainTree → TreeAnswer → Type 0
+AnswersEngine setup before (Do.Write a line) after answer = AnswersWrite setup before a line after answer
+AnswersEngine setup before (Do.Read a) after answer = AnswersRead setup before a after answer
+AnswersEngine setup before Do.On after answer = AnswersOn setup before after answer
+AnswersEngine setup before command after answer = ⊥
+
+-- the exhibits that stand in place of an engine's answer
+abbrev pub ShowsEngine : Setup → PlainTree → TreeCommand → PlainTree → Exhibit → Type 0
+ShowsEngine setup before (Do.Write a line) after exhibit =
+    (IsUsedUp before → ⊥) × IsNodeShown setup after a exhibit
+ShowsEngine setup before (Do.Read a) after exhibit =
+    IsNodeShown setup after a exhibit ⊎ IsDataShown setup after a exhibit
+ShowsEngine setup before Do.On after exhibit = IsShadowShown setup after exhibit
+ShowsEngine setup before command after exhibit = ⊥
+
+-- ---- the relation
+
+-- what the state decides, or else what the engine answers
+abbrev pub AnswersWith : Setup → PlainTree → TreeCommand → PlainTree → TreeAnswer → Option TreeAnswer → Type 0
+AnswersWith setup before command after answer (Some known) =
+    (answer ≡ known) × (after ≡ after_decided setup.shape before command known)
+AnswersWith setup before command after answer None = AnswersEngine setup before command after answer
+
+-- the geometry, the keys and the exhibit are those of before
+pub record IsKept (old new : SessionState) : Type 0 where
+  pub shape : new.shape ≡ old.shape
+  pub keys : new.keys ≡ old.keys
+  pub shown : new.shown ≡ old.shown
+
+-- the root register is that over the true slot lines, and with power on no group is armed
+pub record IsRooted (setup : Setup) (plain : PlainTree) : Type 0 where
+  pub root : plain.board.regs.root ≡ shadow_root setup.shape setup.formulas (true_slots setup.shape plain)
+  pub no_group : plain.board.powered ≡ true → plain.board.regs.group.items ≡ []
+
+-- before an exhibit: the answer that the state decides, or else one that the engine may give
+pub record IsAnswered (setup : Setup) (old : SessionState) (command : TreeCommand) (answer : TreeAnswer) (new : SessionState) :
+    Type 0 where
+  pub not_shown : old.shown ≡ None
+  pub kept : IsKept old new
+  pub answered :
+      AnswersWith setup old.plain command new.plain answer (decided setup.shape old.plain command)
+  pub rooted : IsRooted setup new.plain
+
+-- an exhibit that holds, where the state doesn't decide: power is off after it, and nothing else is told
+pub record IsEngineShown (setup : Setup) (old : SessionState) (command : TreeCommand) (exhibit : Exhibit) (new : SessionState) :
+    Type 0 where
+  pub not_shown : old.shown ≡ None
+  pub undecided : decided setup.shape old.plain command ≡ None
+  pub holds : IsExhibit setup.formulas exhibit
+  pub shows : ShowsEngine setup old.plain command new.plain exhibit
+  pub plain : IsPlainKept old.plain new.plain
+  pub unpowered : new.plain.board.powered ≡ false
+  pub shape : new.shape ≡ old.shape
+  pub keys : new.keys ≡ old.keys
+  pub shown : new.shown ≡ Some exhibit
+
+-- after an exhibit each command is answered by it again
+abbrev pub IsShownBy : Setup → SessionState → TreeCommand → Exhibit → SessionState → Type 0
+IsShownBy setup old command exhibit new =
+    IsEngineShown setup old command exhibit new ⊎ ((old.shown ≡ Some exhibit) × (new ≡ old))
+
+-- why a command has no answer: memory is wanted, and nothing was done; or it is an exhibit
+abbrev pub IsHalt : Setup → SessionState → TreeCommand → Halt → SessionState → Type 0
+IsHalt setup old command Stop.Memory new = new ≡ old
+IsHalt setup old command (Stop.Shown exhibit) new = IsShownBy setup old command exhibit new × AreSmallMinors exhibit
+IsHalt setup old command (Stop.Line kind) new = ⊥
+
+-- ---- a line and its answer
+
+-- the line asks for a command, and the text is that of one of its answers
+pub record IsTalkedOf (setup : Setup) (old : SessionState) (line text : List ℕ) (new : SessionState) : Type 0 where
+  pub command : TreeCommand
+  pub its_reading : reading_of_tree line ≡ Ok (Some command)
+  pub answer : TreeAnswer
+  pub its_text : text ≡ tree_text answer
+  pub answered : IsAnswered setup old command answer new
+
+-- the line asks for a command whose answer is the exhibit
+pub record IsShownOf (setup : Setup) (old : SessionState) (line : List ℕ) (exhibit : Exhibit) : Type 0 where
+  pub command : TreeCommand
+  pub its_reading : reading_of_tree line ≡ Ok (Some command)
+  pub new : SessionState
+  pub shown : IsShownBy setup old command exhibit new

@@ -1,0 +1,328 @@
+-- What a session's answers promise: in each chain of them from the beginning on, the commands and answers so far say
+-- of the next one which answers it may have: a read shows the line that was last written, power and the fuse are as the answers
+-- told, a refusal or an exhibit comes only of a place that was tampered with, and a write is spent exactly once all are made.
+use Rattle.std.specs.Prelude.{ℕ, ◌≡◌, ◌≢◌, ◌<◌, ◌≤◌, ◌+◌, ◌-◌, ◌^◌, ◌⊎◌, Bool, true, false, List, [], ◌∷◌, map, replicate, Option, Some, None, Result, Ok, Err, All, slice_set, slice_index_or, ⊤}
+use Rattle.std.specs.List.{flat_map}
+use Rattle.pmem_base.specs.declared.lines.Line.{Line}
+use Rattle.pmem_base.specs.declared.lines.Ctr.{Ctr}
+use Rattle.pmem_base.specs.declared.commands.Kind.{Kind}
+use Rattle.pmem_base.specs.declared.answers.Exhibit.{Exhibit}
+use Rattle.pmem_base.specs.declared.answers.Exhibit.TheVariants.{Clash, Forged}
+use Rattle.pmem_base.specs.Lines.{line_at, zero_line}
+use Rattle.pmem_base.specs.Shape.{Shape}
+use Rattle.suite.specs.Setup.{Setup}
+use Rattle.collision_witness.specs.Exhibits.{IsExhibit}
+use Rattle.counter_tree.specs.Layout.{tree_lines, tree_slots, tree_size, line_of_node, line_of_slot}
+use Rattle.counter_tree.specs.Nodes.{node_place}
+use Rattle.counter_tree.specs.Shadow.{shadow_digests}
+use Rattle.counter_tree.specs.Trees.{is_on_line_path}
+use Rattle.asit_shadow.specs.Plain.{hurt_with}
+use Rattle.tree_session.specs.declared.commands.TreeCommand.{TreeCommand}
+use Rattle.tree_session.specs.declared.commands.TreeCommand.TheVariants as Do
+use Rattle.tree_session.specs.declared.answers.TreeAnswer.{TreeAnswer}
+use Rattle.tree_session.specs.declared.answers.TreeAnswer.TheVariants as Say
+use Rattle.tree_session.specs.Answers.{tree_text}
+use Rattle.tree_session.specs.Commands.{reading_of_tree}
+use Rattle.tree_session.specs.State.{SessionState, IsNewTree}
+use Rattle.tree_session.specs.Answered.{Fits, fuse_less, read_bound, write_bound, recovery_bound, IsAnswered, IsShownBy}
+
+-- ---- chains of answers
+
+-- a command and its answer
+pub record TreeReply : Type 0 where
+  pub command : TreeCommand
+  pub answer : TreeAnswer
+
+-- each was answered in the state that those before it left
+abbrev pub AreAnswered : Setup → SessionState → List TreeReply → SessionState → Type 0
+AreAnswered setup first [] last = last ≡ first
+AreAnswered setup first (reply ∷ replies) last =
+    (next : SessionState) × IsAnswered setup first reply.command reply.answer next
+    × AreAnswered setup next replies last
+
+-- a chain from a new session on
+pub record IsSession (setup : Setup) (replies : List TreeReply) (last : SessionState) : Type 0 where
+  pub first : SessionState
+  pub is_new : IsNewTree setup first
+  pub answered : AreAnswered setup first replies last
+
+-- ---- what commands and answers say by themselves
+
+-- the lines written last and how many writes were made, as answered ok or cut kept; whether a device line was ever changed
+-- by a poke or a back that was answered ok, and whether a data line's cipher or tag line was so changed since the line was last written;
+-- power, the steps to the next cut, and whether there is a snapshot
+pub record History : Type 0 where
+  pub memory : List Line
+  pub written : ℕ
+  pub changed : List Bool
+  pub hurt : List Bool
+  pub power : Bool
+  pub fuse : Option ℕ
+  pub snapped : Bool
+
+-- nothing was done yet
+abbrev pub first_history : Shape → History
+first_history g =
+    record {
+      memory = replicate (tree_lines g) zero_line;
+      written = 0;
+      changed = replicate (tree_size g) false;
+      hurt = replicate (tree_lines g) false;
+      power = true;
+      fuse = None;
+      snapped = false;
+    }
+
+-- memory changes by a write that was answered ok or cut kept
+abbrev pub memory_with : List Line → TreeCommand → TreeAnswer → List Line
+memory_with memory (Do.Write a line) (Say.Written s) = slice_set memory a line
+memory_with memory (Do.Write a line) (Say.CutKept s) = slice_set memory a line
+memory_with memory command answer = memory
+
+abbrev pub written_with : ℕ → TreeCommand → TreeAnswer → ℕ
+written_with written (Do.Write a line) (Say.Written s) = written + 1
+written_with written (Do.Write a line) (Say.CutKept s) = written + 1
+written_with written command answer = written
+
+-- device lines are changed by poke and back
+abbrev pub changed_with : List Bool → TreeCommand → TreeAnswer → List Bool
+changed_with changed (Do.Poke d line) Say.Ok = slice_set changed d true
+changed_with changed (Do.Back d) Say.Ok = slice_set changed d true
+changed_with changed command answer = changed
+
+-- so data lines are hurt, until they are written
+abbrev pub hurt_by : Shape → List Bool → TreeCommand → TreeAnswer → List Bool
+hurt_by g hurt (Do.Write a line) (Say.Written s) = slice_set hurt a false
+hurt_by g hurt (Do.Write a line) (Say.CutKept s) = slice_set hurt a false
+hurt_by g hurt (Do.Poke d line) Say.Ok = hurt_with g hurt d
+hurt_by g hurt (Do.Back d) Say.Ok = hurt_with g hurt d
+hurt_by g hurt command answer = hurt
+
+-- power goes off by `off` and by a cut, and on by a recovery that is done
+abbrev pub power_with : Bool → TreeCommand → TreeAnswer → Bool
+power_with power Do.Off Say.Ok = false
+power_with power command (Say.CutKept s) = false
+power_with power command (Say.CutLost s) = false
+power_with power command (Say.Cut s) = false
+power_with power command (Say.Recovered digests s) = true
+power_with power command answer = power
+
+-- the fuse burns by the steps that are told, and is cleared as power goes off
+abbrev pub fuse_with : Option ℕ → TreeCommand → TreeAnswer → Option ℕ
+fuse_with fuse (Do.Cut n) Say.Ok = Some n
+fuse_with fuse Do.Off Say.Ok = None
+fuse_with fuse command (Say.CutKept s) = None
+fuse_with fuse command (Say.CutLost s) = None
+fuse_with fuse command (Say.Cut s) = None
+fuse_with fuse command (Say.Written s) = fuse_less s fuse
+fuse_with fuse command (Say.Got line s) = fuse_less s fuse
+fuse_with fuse command (Say.Recovered digests s) = fuse_less s fuse
+fuse_with fuse command (Say.RefusedNode x s) = fuse_less s fuse
+fuse_with fuse command (Say.RefusedData a s) = fuse_less s fuse
+fuse_with fuse command (Say.RefusedShadow kept found s) = fuse_less s fuse
+fuse_with fuse command (Say.Spent s) = fuse_less s fuse
+fuse_with fuse command answer = fuse
+
+abbrev pub snapped_with : Bool → TreeCommand → TreeAnswer → Bool
+snapped_with snapped Do.Snap Say.Ok = true
+snapped_with snapped command answer = snapped
+
+abbrev pub history_with : Shape → History → TreeCommand → TreeAnswer → History
+history_with g history command answer =
+    record {
+      memory = memory_with history.memory command answer;
+      written = written_with history.written command answer;
+      changed = changed_with history.changed command answer;
+      hurt = hurt_by g history.hurt command answer;
+      power = power_with history.power command answer;
+      fuse = fuse_with history.fuse command answer;
+      snapped = snapped_with history.snapped command answer;
+    }
+
+abbrev pub history_after : Shape → History → List TreeReply → History
+history_after g history [] = history
+history_after g history (reply ∷ replies) = history_after g (history_with g history reply.command reply.answer) replies
+
+-- ---- which answers they allow
+
+-- power is on, and there is such a line
+pub record IsServed (g : Shape) (history : History) (a : ℕ) : Type 0 where
+  pub power : history.power ≡ true
+  pub inside : a < tree_lines g
+
+-- all writes were made that can be
+abbrev pub IsUsedUp : History → Type 0
+IsUsedUp history = history.written ≡ 2 ^ 64 - 1
+
+-- node x is on the path of line a below the top, and its device line was changed
+pub record IsNodeChanged (g : Shape) (history : History) (a x : ℕ) : Type 0 where
+  pub on_path : is_on_line_path g a x ≡ true
+  pub below_top : x ≢ 0
+  pub changed : slice_index_or history.changed (line_of_node g x) false ≡ true
+
+-- a slot line was changed
+pub record IsSlotChanged (g : Shape) (history : History) : Type 0 where
+  pub slot : ℕ
+  pub inside : slot < tree_slots g
+  pub changed : slice_index_or history.changed (line_of_slot g slot) false ≡ true
+
+abbrev pub IsHurt : History → ℕ → Type 0
+IsHurt history a = slice_index_or history.hurt a false ≡ true
+
+-- so many steps at most, before a cut
+abbrev pub TakesFew : ℕ → ℕ → History → Type 0
+TakesFew s most history = Fits s history.fuse × (s ≤ most)
+
+-- a cut after so many steps, fewer than the most
+abbrev pub EndsAt : ℕ → ℕ → History → Type 0
+EndsAt s most history = (history.fuse ≡ Some s) × (s < most)
+
+abbrev pub MayWrite : Shape → History → ℕ → TreeAnswer → Type 0
+MayWrite g history a Say.Off = history.power ≡ false
+MayWrite g history a Say.Range = (history.power ≡ true) × (tree_lines g ≤ a)
+MayWrite g history a (Say.Written s) = IsServed g history a × (IsUsedUp history → ⊥) × TakesFew s (write_bound g) history
+MayWrite g history a (Say.CutKept s) = IsServed g history a × (IsUsedUp history → ⊥) × EndsAt s (write_bound g) history
+MayWrite g history a (Say.CutLost s) = IsServed g history a × (IsUsedUp history → ⊥) × EndsAt s (write_bound g) history
+MayWrite g history a (Say.RefusedNode x s) =
+    IsServed g history a × (IsUsedUp history → ⊥) × IsNodeChanged g history a x × TakesFew s (read_bound g) history
+MayWrite g history a (Say.Spent s) = IsServed g history a × IsUsedUp history × (s ≡ 0)
+MayWrite g history a answer = ⊥
+
+abbrev pub MayRead : Shape → History → ℕ → TreeAnswer → Type 0
+MayRead g history a Say.Off = history.power ≡ false
+MayRead g history a Say.Range = (history.power ≡ true) × (tree_lines g ≤ a)
+MayRead g history a (Say.Got line s) =
+    IsServed g history a × (line ≡ line_at history.memory a) × TakesFew s (read_bound g) history
+MayRead g history a (Say.Cut s) = IsServed g history a × EndsAt s (read_bound g) history
+MayRead g history a (Say.RefusedData b s) =
+    IsServed g history a × (b ≡ a) × IsHurt history a × TakesFew s (read_bound g) history
+MayRead g history a (Say.RefusedNode x s) =
+    IsServed g history a × IsNodeChanged g history a x × TakesFew s (read_bound g) history
+MayRead g history a answer = ⊥
+
+abbrev pub MayTurnOn : Shape → History → TreeAnswer → Type 0
+MayTurnOn g history Say.Already = history.power ≡ true
+MayTurnOn g history (Say.Recovered digests s) =
+    (history.power ≡ false) × (digests ≡ shadow_digests g) × TakesFew s (recovery_bound g) history
+MayTurnOn g history (Say.Cut s) = (history.power ≡ false) × EndsAt s (recovery_bound g) history
+MayTurnOn g history (Say.RefusedShadow kept found s) =
+    (history.power ≡ false) × IsSlotChanged g history × (kept ≢ found) × TakesFew s (recovery_bound g) history
+MayTurnOn g history answer = ⊥
+
+abbrev pub MayTurnOff : History → TreeAnswer → Type 0
+MayTurnOff history Say.Off = history.power ≡ false
+MayTurnOff history Say.Ok = history.power ≡ true
+MayTurnOff history answer = ⊥
+
+abbrev pub MayPoke : Shape → ℕ → TreeAnswer → Type 0
+MayPoke g d Say.Range = tree_size g ≤ d
+MayPoke g d Say.Ok = d < tree_size g
+MayPoke g d answer = ⊥
+
+abbrev pub MayPutBack : Shape → History → ℕ → TreeAnswer → Type 0
+MayPutBack g history d Say.Range = tree_size g ≤ d
+MayPutBack g history d Say.NoSnap = (d < tree_size g) × (history.snapped ≡ false)
+MayPutBack g history d Say.Ok = (d < tree_size g) × (history.snapped ≡ true)
+MayPutBack g history d answer = ⊥
+
+abbrev pub IsAllowed : Shape → History → TreeCommand → TreeAnswer → Type 0
+IsAllowed g history (Do.Write a line) answer = MayWrite g history a answer
+IsAllowed g history (Do.Read a) answer = MayRead g history a answer
+IsAllowed g history Do.On answer = MayTurnOn g history answer
+IsAllowed g history Do.Off answer = MayTurnOff history answer
+IsAllowed g history (Do.Cut n) answer = answer ≡ Say.Ok
+IsAllowed g history (Do.Poke d line) answer = MayPoke g d answer
+IsAllowed g history Do.Snap answer = answer ≡ Say.Ok
+IsAllowed g history (Do.Back d) answer = MayPutBack g history d answer
+
+-- each answer is one that those before it allow
+abbrev pub AreAllowed : Shape → History → List TreeReply → Type 0
+AreAllowed g history [] = ⊤
+AreAllowed g history (reply ∷ replies) =
+    IsAllowed g history reply.command reply.answer
+    × AreAllowed g (history_with g history reply.command reply.answer) replies
+
+-- ---- exhibits
+
+-- the exhibit is a forged line of a changed node on the path of line a
+pub record ShowsNode (g : Shape) (history : History) (a : ℕ) (exhibit : Exhibit) : Type 0 where
+  pub x : ℕ
+  pub ctr : Ctr
+  pub cipher : Line
+  pub tag : List ℕ
+  pub changed : IsNodeChanged g history a x
+  pub its : exhibit ≡ Forged (node_place x) ctr cipher tag
+
+-- it is a forged cipher of line a, which is hurt
+pub record ShowsLine (history : History) (a : ℕ) (exhibit : Exhibit) : Type 0 where
+  pub ctr : Ctr
+  pub cipher : Line
+  pub tag : List ℕ
+  pub hurt : IsHurt history a
+  pub its : exhibit ≡ Forged a ctr cipher tag
+
+-- it is a clash of two slot trees, of which a slot line was changed
+pub record ShowsClash (g : Shape) (history : History) (exhibit : Exhibit) : Type 0 where
+  pub position : ℕ
+  pub first : Line
+  pub second : Line
+  pub changed : IsSlotChanged g history
+  pub its : exhibit ≡ Clash position first second
+
+abbrev pub MayShow : Shape → History → TreeCommand → Exhibit → Type 0
+MayShow g history (Do.Write a line) exhibit =
+    IsServed g history a × (IsUsedUp history → ⊥) × ShowsNode g history a exhibit
+MayShow g history (Do.Read a) exhibit =
+    IsServed g history a × (ShowsNode g history a exhibit ⊎ ShowsLine history a exhibit)
+MayShow g history Do.On exhibit = (history.power ≡ false) × ShowsClash g history exhibit
+MayShow g history command exhibit = ⊥
+
+-- ---- without tampering
+
+abbrev pub IsNoTampering : TreeCommand → Type 0
+IsNoTampering (Do.Poke d line) = ⊥
+IsNoTampering (Do.Back d) = ⊥
+IsNoTampering command = ⊤
+
+abbrev pub IsUnrefused : TreeAnswer → Type 0
+IsUnrefused (Say.RefusedNode x s) = ⊥
+IsUnrefused (Say.RefusedData a s) = ⊥
+IsUnrefused (Say.RefusedShadow kept found s) = ⊥
+IsUnrefused answer = ⊤
+
+-- ---- the whole
+
+-- each session's answers are allowed by those before them
+abbrev pub IsTreeKept : Setup → Type 0
+IsTreeKept setup =
+    (replies : List TreeReply) (last : SessionState) → IsSession setup replies last
+    → AreAllowed setup.shape (first_history setup.shape) replies
+
+-- an exhibit that comes after them holds, and is allowed too
+abbrev pub IsTreeShown : Setup → Type 0
+IsTreeShown setup =
+    (replies : List TreeReply) (last new : SessionState) (command : TreeCommand) (exhibit : Exhibit)
+    → IsSession setup replies last → IsShownBy setup last command exhibit new
+    → IsExhibit setup.formulas exhibit
+    × MayShow setup.shape (history_after setup.shape (first_history setup.shape) replies) command exhibit
+
+-- where nobody tampered with the device, nothing is refused, and there is no exhibit
+abbrev pub IsTreeUntouched : Setup → Type 0
+IsTreeUntouched setup =
+    (replies : List TreeReply) (last : SessionState) → IsSession setup replies last
+    → All (λ (reply : TreeReply). IsNoTampering reply.command) replies
+    → All (λ (reply : TreeReply). IsUnrefused reply.answer) replies
+    × ((command : TreeCommand) (exhibit : Exhibit) (new : SessionState) → IsShownBy setup last command exhibit new → ⊥)
+
+-- ---- lines and texts
+
+abbrev pub commands_in : Result (Option TreeCommand) Kind → List TreeCommand
+commands_in (Ok (Some command)) = command ∷ []
+commands_in (Ok None) = []
+commands_in (Err kind) = []
+
+-- these lines ask for the commands of these replies, whose texts these are
+pub record AreRepliesTo (lines texts : List (List ℕ)) (replies : List TreeReply) : Type 0 where
+  pub commands :
+      flat_map (λ line. commands_in (reading_of_tree line)) lines ≡ map (λ reply. reply.command) replies
+  pub its_texts : texts ≡ map (λ reply. tree_text reply.answer) replies

@@ -1,0 +1,6 @@
+pub mod Commands
+pub mod Answers
+pub mod State
+pub mod World
+pub mod Answered
+pub mod Guarantees

@@ -1,0 +1,46 @@
+-- The state of a session over a counter tree, which is plain data.
+use Rattle.std.specs.Prelude.{ℕ, ◌≡◌, true, false, List, replicate, Option, Some, None, slice_set, length}
+use Rattle.pmem_base.specs.declared.answers.Exhibit.{Exhibit}
+use Rattle.pmem_base.specs.Shape.{Shape}
+use Rattle.pmem_base.specs.Lines.{zero_line}
+use Rattle.board.specs.Counts.{RisesBy}
+use Rattle.suite.specs.Formulas.{Formulas}
+use Rattle.suite.specs.Setup.{Setup}
+use Rattle.counter_tree.specs.Layout.{tree_lines, tree_slots, tree_size}
+use Rattle.asit_shadow.specs.Formatting.{AreLinesFormatted, first_tree_regs}
+use Rattle.asit_shadow.specs.Plain.{PlainTree}
+
+pub record SessionState : Type 0 where
+  -- the geometry, and the keys of both suites
+  pub shape : Shape
+  pub keys : List ℕ
+  -- memory, what was written, what was tampered with, and the board
+  pub plain : PlainTree
+  -- the exhibit that ended the session
+  pub shown : Option Exhibit
+
+-- the geometry, and a suite's formulas under the session's keys
+abbrev pub setup_in : (List ℕ → Formulas) → SessionState → Setup
+setup_in formulas_of state = record { shape = state.shape; formulas = formulas_of state.keys }
+
+-- A formatted device with power on: all lines are zeros, the top alone is named, nothing was tampered with, and
+-- nothing waits to be cut.
+pub record IsNewTree (setup : Setup) (state : SessionState) : Type 0 where
+  pub shape : state.shape ≡ setup.shape
+  pub memory : state.plain.memory ≡ replicate (tree_lines setup.shape) zero_line
+  pub counts : state.plain.counts ≡ replicate (tree_lines setup.shape) 0
+  pub named : state.plain.named ≡ slice_set (replicate (tree_slots setup.shape) None) 0 (Some 0)
+  pub tampered : state.plain.tampered ≡ replicate (tree_size setup.shape) false
+  pub hurt : state.plain.hurt ≡ replicate (tree_lines setup.shape) false
+  pub size : length state.plain.board.lines ≡ tree_size setup.shape
+  pub lines : AreLinesFormatted setup state.plain.board.lines
+  pub regs : state.plain.board.regs ≡ first_tree_regs setup
+  pub power : state.plain.board.powered ≡ true
+  pub fuse : state.plain.board.fuse ≡ None
+  pub snapshot : state.plain.board.snapshot ≡ None
+  pub reads : state.plain.board.reads ≡ 0
+  -- each device line was written once, and the registers were latched once
+  pub writes : RisesBy (tree_size setup.shape) 0 state.plain.board.writes
+  pub latches : RisesBy 1 0 state.plain.board.latches
+  pub cuts : state.plain.board.cuts ≡ 0
+  pub shown : state.shown ≡ None

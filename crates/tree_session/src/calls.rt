@@ -1,0 +1,249 @@
+//! Calls of the engine, and recovery, over a board whose fuse is watched: one watched board for each command, so
+//! that its steps are those of the whole command.
+ghost use Rattle.std.specs.Prelude.{◌≡◌, ◌<◌, true, None, All, IfOk, length};
+ghost use Rattle.pmem_base.specs.Geo.{shape_of};
+ghost use Rattle.pmem_base.specs.Layout.{meta_lines};
+ghost use Rattle.pmem_base.specs.Lines.{IsLine};
+ghost use Rattle.board.specs.Memory.{device_of};
+ghost use Rattle.board.specs.MemBoard.{memory_of};
+ghost use Rattle.watched_board.specs.Watching.{IsWatched, device_during, none_taken};
+ghost use Rattle.counter_tree.specs.Layout.{tree_lines, tree_slots, tree_size};
+ghost use Rattle.asit_shadow.specs.Parts.{parts_of, IsUsable};
+ghost use Rattle.asit_shadow.specs.Calls.{HasReadLine, HasWrittenLine};
+ghost use Rattle.asit_shadow.specs.Recovering.{rest_of, IsRestUsable, HasTreeRecovered};
+ghost use Rattle.asit_shadow.specs.Formatting.{HasTreeFormatted};
+
+use asit_shadow::{TreeEngine, TreeFault, TreeRec, tree_format, tree_recover};
+use board::MemBoard;
+use counter_tree::Watch;
+use pmem_base::{Geo, Line, MemFault};
+use pmem_recovery::Work;
+use std::alloc::Global;
+use std::marker::Brand;
+use suite::Suite;
+use watched_board::{Kept, Left, Made, Start, Taken, Watched};
+
+/// A call's answer, and the steps that it took.
+#[derive(Drop)]
+pub(crate) struct Done<T> {
+    pub(crate) taken: Taken,
+    pub(crate) answer: T,
+}
+
+/// Reads a data line.
+pub(crate) fn read<S: Suite, W: Watch>(
+    engine: &mut TreeEngine,
+    board: &mut MemBoard,
+    suite: &mut S,
+    watch: &mut W,
+    at: u32,
+) -> Done<Result<Line, TreeFault>>
+    requires line { at < tree_lines engine.old.shape }
+    requires on { (memory_of board.old).powered ≡ true }
+    requires usable { IsUsable engine.old.shape (parts_of engine.old (device_during (memory_of board.old) none_taken) (W.watched watch.old)) }
+    ensures read { HasReadLine (record { shape = engine.old.shape; formulas = S.formulas_of (S.keys suite.old) }) at
+        (parts_of engine.old (device_during (memory_of board.old) none_taken) (W.watched watch.old))
+        (parts_of engine.new (device_during (memory_of board.new) result.taken) (W.watched watch.new)) result.answer }
+    ensures watched { IsWatched (memory_of board.old) (memory_of board.new) result.taken }
+    ensures usable { IsUsable engine.old.shape (parts_of engine.new (device_during (memory_of board.new) result.taken) (W.watched watch.new)) }
+    ensures keys { S.keys suite.new ≡ S.keys suite.old }
+    ensures shape { engine.new.shape ≡ engine.old.shape }
+{
+    let left = read_watched::<Brand, S, W>(engine, board, suite, watch, at);
+    let Left {
+        board: _,
+        taken,
+        answer,
+    } = left;
+    Done { taken, answer }
+}
+
+fn read_watched<'a, K: Start, S: Suite, W: Watch>(
+    engine: &mut TreeEngine,
+    board: &'a mut MemBoard,
+    suite: &mut S,
+    watch: &mut W,
+    at: u32,
+) -> Left<'a, Result<Line, TreeFault>>
+    requires line { at < tree_lines engine.old.shape }
+    requires start { memory_of board.old ≡ K.start }
+    requires name { board.ghost_name ≡ K.name }
+    requires on { (memory_of board.old).powered ≡ true }
+    requires usable { IsUsable engine.old.shape (parts_of engine.old (device_during (memory_of board.old) none_taken) (W.watched watch.old)) }
+    ensures name { result.board.ghost_name ≡ K.name }
+    ensures read { HasReadLine (record { shape = engine.old.shape; formulas = S.formulas_of (S.keys suite.old) }) at
+        (parts_of engine.old (device_during (memory_of board.old) none_taken) (W.watched watch.old))
+        (parts_of engine.new (device_during (memory_of result.board.now) result.taken) (W.watched watch.new)) result.answer }
+    ensures watched { IsWatched K.start (memory_of result.board.now) result.taken }
+    ensures usable { IsUsable engine.old.shape (parts_of engine.new (device_during (memory_of result.board.now) result.taken) (W.watched watch.new)) }
+    ensures keys { S.keys suite.new ≡ S.keys suite.old }
+    ensures shape { engine.new.shape ≡ engine.old.shape }
+{
+    let mut watched = Watched::<K>::new(board);
+    let answer = engine.read(&mut watched, suite, watch, at);
+    watched.left(answer)
+}
+
+/// Writes a data line.
+pub(crate) fn write<S: Suite, W: Watch>(
+    engine: &mut TreeEngine,
+    board: &mut MemBoard,
+    suite: &mut S,
+    watch: &mut W,
+    at: u32,
+    line: &Line,
+) -> Done<Result<u64, TreeFault>>
+    requires line { at < tree_lines engine.old.shape }
+    requires on { (memory_of board.old).powered ≡ true }
+    requires usable { IsUsable engine.old.shape (parts_of engine.old (device_during (memory_of board.old) none_taken) (W.watched watch.old)) }
+    ensures written { HasWrittenLine (record { shape = engine.old.shape; formulas = S.formulas_of (S.keys suite.old) }) at line.now
+        (parts_of engine.old (device_during (memory_of board.old) none_taken) (W.watched watch.old))
+        (parts_of engine.new (device_during (memory_of board.new) result.taken) (W.watched watch.new)) result.answer }
+    ensures watched { IsWatched (memory_of board.old) (memory_of board.new) result.taken }
+    ensures usable { IsUsable engine.old.shape (parts_of engine.new (device_during (memory_of board.new) result.taken) (W.watched watch.new)) }
+    ensures keys { S.keys suite.new ≡ S.keys suite.old }
+    ensures shape { engine.new.shape ≡ engine.old.shape }
+{
+    let left = write_watched::<Brand, S, W>(engine, board, suite, watch, at, line);
+    let Left {
+        board: _,
+        taken,
+        answer,
+    } = left;
+    Done { taken, answer }
+}
+
+fn write_watched<'a, K: Start, S: Suite, W: Watch>(
+    engine: &mut TreeEngine,
+    board: &'a mut MemBoard,
+    suite: &mut S,
+    watch: &mut W,
+    at: u32,
+    line: &Line,
+) -> Left<'a, Result<u64, TreeFault>>
+    requires line { at < tree_lines engine.old.shape }
+    requires start { memory_of board.old ≡ K.start }
+    requires name { board.ghost_name ≡ K.name }
+    requires on { (memory_of board.old).powered ≡ true }
+    requires usable { IsUsable engine.old.shape (parts_of engine.old (device_during (memory_of board.old) none_taken) (W.watched watch.old)) }
+    ensures name { result.board.ghost_name ≡ K.name }
+    ensures written { HasWrittenLine (record { shape = engine.old.shape; formulas = S.formulas_of (S.keys suite.old) }) at line.now
+        (parts_of engine.old (device_during (memory_of board.old) none_taken) (W.watched watch.old))
+        (parts_of engine.new (device_during (memory_of result.board.now) result.taken) (W.watched watch.new)) result.answer }
+    ensures watched { IsWatched K.start (memory_of result.board.now) result.taken }
+    ensures usable { IsUsable engine.old.shape (parts_of engine.new (device_during (memory_of result.board.now) result.taken) (W.watched watch.new)) }
+    ensures keys { S.keys suite.new ≡ S.keys suite.old }
+    ensures shape { engine.new.shape ≡ engine.old.shape }
+{
+    let mut watched = Watched::<K>::new(board);
+    let answer = engine.write(&mut watched, suite, watch, at, line);
+    watched.left(answer)
+}
+
+/// Recovers an engine.
+pub(crate) fn recover<S: Suite, W: Watch>(
+    alloc: Global,
+    geo: &Geo,
+    board: &mut MemBoard,
+    suite: &mut S,
+    watch: &mut W,
+) -> Done<Result<(TreeEngine, Work), TreeRec>>
+    requires on { (memory_of board.old).powered ≡ true }
+    requires usable { IsRestUsable (shape_of geo.now) (rest_of (device_during (memory_of board.old) none_taken) (W.watched watch.old)) }
+    ensures recovered { HasTreeRecovered (record { shape = shape_of geo.now; formulas = S.formulas_of (S.keys suite.old) })
+        (rest_of (device_during (memory_of board.old) none_taken) (W.watched watch.old))
+        (rest_of (device_during (memory_of board.new) result.taken) (W.watched watch.new))
+        (S.digests suite.old) (S.digests suite.new) result.answer }
+    ensures watched { IsWatched (memory_of board.old) (memory_of board.new) result.taken }
+    ensures usable { IsRestUsable (shape_of geo.now) (rest_of (device_during (memory_of board.new) result.taken) (W.watched watch.new)) }
+    ensures shape { IfOk result.answer (λ made. made.0.shape ≡ shape_of geo.now) }
+    ensures keys { S.keys suite.new ≡ S.keys suite.old }
+{
+    let left = recover_watched::<Brand, S, W>(alloc, geo, board, suite, watch);
+    let Left {
+        board: _found,
+        taken,
+        answer,
+    } = left;
+    Done { taken, answer }
+}
+
+fn recover_watched<'a, K: Start, S: Suite, W: Watch>(
+    alloc: Global,
+    geo: &Geo,
+    board: &'a mut MemBoard,
+    suite: &mut S,
+    watch: &mut W,
+) -> Left<'a, Result<(TreeEngine, Work), TreeRec>>
+    requires start { memory_of board.old ≡ K.start }
+    requires name { board.ghost_name ≡ K.name }
+    requires on { (memory_of board.old).powered ≡ true }
+    requires usable { IsRestUsable (shape_of geo.now) (rest_of (device_during (memory_of board.old) none_taken) (W.watched watch.old)) }
+    ensures name { result.board.ghost_name ≡ K.name }
+    ensures recovered { HasTreeRecovered (record { shape = shape_of geo.now; formulas = S.formulas_of (S.keys suite.old) })
+        (rest_of (device_during (memory_of board.old) none_taken) (W.watched watch.old))
+        (rest_of (device_during (memory_of result.board.now) result.taken) (W.watched watch.new))
+        (S.digests suite.old) (S.digests suite.new) result.answer }
+    ensures watched { IsWatched K.start (memory_of result.board.now) result.taken }
+    ensures usable { IsRestUsable (shape_of geo.now) (rest_of (device_during (memory_of result.board.now) result.taken) (W.watched watch.new)) }
+    ensures shape { IfOk result.answer (λ made. made.0.shape ≡ shape_of geo.now) }
+    ensures keys { S.keys suite.new ≡ S.keys suite.old }
+{
+    let mut watched = Watched::<K>::new(board);
+    let answer = tree_recover(alloc, geo, &mut watched, suite, watch);
+    watched.left(answer)
+}
+
+/// Makes the device new.
+pub(crate) fn format<S: Suite, W: Watch>(
+    alloc: Global,
+    geo: &Geo,
+    board: &mut MemBoard,
+    suite: &mut S,
+    watch: &mut W,
+) -> Result<TreeEngine, MemFault>
+    requires size { length (memory_of board.old).lines ≡ tree_size (shape_of geo.now) }
+    requires steady { (device_of (memory_of board.old)).steady ≡ true }
+    requires none { (memory_of board.old).snapshot ≡ None }
+    requires seals { length (W.watched watch.old).seals ≡ tree_lines (shape_of geo.now) }
+    requires nodes { length (W.watched watch.old).nodes ≡ meta_lines (shape_of geo.now) }
+    requires slots { length (W.watched watch.old).slots ≡ tree_slots (shape_of geo.now) }
+    ensures formatted { IfOk result (HasTreeFormatted (record { shape = shape_of geo.now; formulas = S.formulas_of (S.keys suite.old) })
+        (rest_of (device_of (memory_of board.old)) (W.watched watch.old)) (rest_of (device_of (memory_of board.new)) (W.watched watch.new))) }
+    ensures none { (memory_of board.new).snapshot ≡ None }
+    ensures each_line { All IsLine (memory_of board.new).lines }
+    ensures keys { S.keys suite.new ≡ S.keys suite.old }
+{
+    let made = format_kept::<Brand, S, W>(alloc, geo, board, suite, watch);
+    let Made {
+        board: _found,
+        answer,
+    } = made;
+    answer
+}
+
+fn format_kept<'a, K: Start, S: Suite, W: Watch>(
+    alloc: Global,
+    geo: &Geo,
+    board: &'a mut MemBoard,
+    suite: &mut S,
+    watch: &mut W,
+) -> Made<'a, Result<TreeEngine, MemFault>>
+    requires size { length (memory_of board.old).lines ≡ tree_size (shape_of geo.now) }
+    requires steady { (device_of (memory_of board.old)).steady ≡ true }
+    requires none { (memory_of board.old).snapshot ≡ None }
+    requires name { board.ghost_name ≡ K.name }
+    requires seals { length (W.watched watch.old).seals ≡ tree_lines (shape_of geo.now) }
+    requires nodes { length (W.watched watch.old).nodes ≡ meta_lines (shape_of geo.now) }
+    requires slots { length (W.watched watch.old).slots ≡ tree_slots (shape_of geo.now) }
+    ensures name { result.board.ghost_name ≡ K.name }
+    ensures formatted { IfOk result.answer (HasTreeFormatted (record { shape = shape_of geo.now; formulas = S.formulas_of (S.keys suite.old) })
+        (rest_of (device_of (memory_of board.old)) (W.watched watch.old)) (rest_of (device_of (memory_of result.board.now)) (W.watched watch.new))) }
+    ensures none { (memory_of result.board.now).snapshot ≡ None }
+    ensures each_line { All IsLine (memory_of result.board.now).lines }
+    ensures keys { S.keys suite.new ≡ S.keys suite.old }
+{
+    let mut kept = Kept::<K>::new(board);
+    let answer = tree_format(alloc, geo, &mut kept, suite, watch);
+    kept.made(answer)
+}

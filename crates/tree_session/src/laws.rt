@@ -1,0 +1,18 @@
+//! Laws of whole sessions.
+ghost use Rattle.pmem_base.specs.Geo.{shape_of};
+ghost use Rattle.tree_session.specs.Guarantees.{IsTreeKept, IsTreeShown, IsTreeUntouched};
+
+use pmem_base::Geo;
+use suite::Suite;
+
+/// A law: in each session, whatever is asked and changed and wherever power is cut, reads show what was written last,
+/// each answer and each exhibit is one that the commands and answers before it allow, exhibits hold, and without
+/// tampering nothing is refused and nothing is shown.
+pub fn sessions_keep_lines<S: Suite>(geo: &Geo, suite: &S)
+    ensures kept { IsTreeKept (record { shape = shape_of geo.now; formulas = S.formulas_of (S.keys suite.now) }) }
+    ensures shown { IsTreeShown (record { shape = shape_of geo.now; formulas = S.formulas_of (S.keys suite.now) }) }
+    ensures untouched { IsTreeUntouched (record { shape = shape_of geo.now; formulas = S.formulas_of (S.keys suite.now) }) }
+{
+    let _ = geo.lines();
+    let _ = suite;
+}

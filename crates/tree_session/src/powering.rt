@@ -1,0 +1,78 @@
+//! Power, and recovery.
+ghost use Rattle.std.specs.Prelude.{◌≡◌, IfOk, IfErr, None};
+ghost use Rattle.tree_session.specs.declared.commands.TreeCommand.TheVariants as Do;
+ghost use Rattle.tree_session.specs.State.{setup_in};
+ghost use Rattle.tree_session.specs.Answered.{IsAnswered, IsHalt};
+
+use crate::answers::TreeAnswer;
+use crate::calls::{self, Done};
+use crate::world::TreeWorld;
+use asit_shadow::TreeRec;
+use std::alloc::Global;
+use suite::Suite;
+use trace_text::Halt;
+
+impl<S: Suite + Drop> TreeWorld<S> {
+    /// Power is to be cut after `n` more persist steps.
+    pub(crate) fn cut(&mut self, n: u64) -> TreeAnswer
+        requires { self.old.shown ≡ None }
+        ensures { IsAnswered (setup_in S.formulas_of self.old) self.old (Do.Cut n) result self.new }
+    {
+        self.board.arm(n);
+        TreeAnswer::Ok
+    }
+
+    /// Power goes off.
+    pub(crate) fn off(&mut self) -> TreeAnswer
+        requires { self.old.shown ≡ None }
+        ensures { IsAnswered (setup_in S.formulas_of self.old) self.old Do.Off result self.new }
+    {
+        if self.engine.is_none() {
+            return TreeAnswer::Off;
+        }
+        self.board.off();
+        self.engine = None;
+        TreeAnswer::Ok
+    }
+
+    /// Power comes on, with recovery. It stops for want of memory, or at a clash.
+    pub(crate) fn on(&mut self, alloc: Global) -> Result<TreeAnswer, Halt>
+        requires { self.old.shown ≡ None }
+        ensures answered { IfOk result (λ answer. IsAnswered (setup_in S.formulas_of self.old) self.old Do.On answer self.new) }
+        ensures halted { IfErr result (λ halt. IsHalt (setup_in S.formulas_of self.old) self.old Do.On halt self.new) }
+    {
+        if self.engine.is_some() {
+            return Ok(TreeAnswer::Already);
+        }
+        self.board.power();
+        let done = calls::recover(
+            alloc,
+            &self.geo,
+            &mut self.board,
+            &mut self.suite,
+            &mut self.watch,
+        );
+        let Done { taken, answer } = done;
+        let steps = taken.steps();
+        match answer {
+            Ok(made) => {
+                let digests = made.1.digests;
+                self.engine = Some(made.0);
+                Ok(TreeAnswer::Recovered { digests, steps })
+            }
+            Err(TreeRec::Cut) => Ok(TreeAnswer::Cut { steps }),
+            Err(TreeRec::Shadow { kept, found }) => {
+                self.board.rest();
+                Ok(TreeAnswer::RefusedShadow { kept, found, steps })
+            }
+            Err(TreeRec::Memory) => {
+                self.board.rest();
+                Err(Halt::Memory)
+            }
+            Err(TreeRec::Shown) => {
+                self.board.rest();
+                Err(self.shown())
+            }
+        }
+    }
+}
