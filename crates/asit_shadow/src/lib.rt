@@ -11,8 +11,6 @@ mod laws;
 mod recovery;
 mod room;
 mod seals;
-#[cfg(test)]
-mod tests;
 mod writing;
 
 pub use cache::CachedNode;

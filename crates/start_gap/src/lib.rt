@@ -5,8 +5,6 @@
 mod gapped;
 mod laws;
 mod record;
-#[cfg(test)]
-mod tests;
 mod wear;
 
 pub use gapped::{GapFault, Gapped, Moved, WriteFault};

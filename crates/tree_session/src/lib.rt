@@ -10,8 +10,6 @@ mod powering;
 mod serving;
 mod talking;
 mod tampering;
-#[cfg(test)]
-mod tests;
 mod world;
 
 pub use answers::{TreeAnswer, write_tree_answer};

@@ -9,8 +9,6 @@ mod laws;
 mod powering;
 mod serving;
 mod talking;
-#[cfg(test)]
-mod tests;
 mod world;
 
 pub use answers::{WearAnswer, write_wear_answer};

@@ -1,0 +1,79 @@
+//! Sessions over small memories: the texts of their answers, as another program of the same rules gives them.
+mod levelled;
+mod levelling;
+mod tree;
+mod tree_engine;
+mod wear;
+
+use collision_witness::shown_text;
+use std::alloc::Global;
+use std::process::Abort;
+use std::test::Fail;
+use trace_text::{Halt, Talk};
+
+/// The keys of a session where none are chosen.
+const KEY: [u8; 16] = [0, 1, 2, 3, 4, 5, 6, 7, 8, 9, 10, 11, 12, 13, 14, 15];
+
+const TAG_KEY: [u8; 32] = [
+    16, 17, 18, 19, 20, 21, 22, 23, 24, 25, 26, 27, 28, 29, 30, 31, 32, 33, 34, 35, 36, 37, 38, 39,
+    40, 41, 42, 43, 44, 45, 46, 47,
+];
+
+/// A text in which each `[aa]` stands for the byte aa 64 times.
+fn spelled(alloc: Global, text: &str) -> Result<String, Fail> {
+    let mut whole = String::new(alloc);
+    for piece in text.split('[') {
+        match piece.split_once("]") {
+            None => whole.push_str(piece)?,
+            Some((byte, behind)) => {
+                for _ in 0..64 {
+                    whole.push_str(byte)?;
+                }
+                whole.push_str(behind)?;
+            }
+        }
+    }
+    Ok(whole)
+}
+
+/// Asks one line, and compares the answer. That of an exhibit is its text.
+fn ask<T: Talk>(
+    rt: &impl Abort,
+    alloc: Global,
+    session: &mut T,
+    command: &str,
+    answer: &str,
+) -> Result<(), Fail> {
+    let line = spelled(alloc, command)?;
+    let wanted = spelled(alloc, answer)?;
+    match session.talk(alloc, line.as_bytes()) {
+        Ok(Some(text)) => assert_eq!(rt; text.as_slice(), wanted.as_bytes(), "{command}"),
+        Ok(None) => return Err(Fail::new("no answer")),
+        Err(Halt::Memory) => return Err(Fail::new("no memory")),
+        Err(Halt::Line(_)) => return Err(Fail::new("a malformed line")),
+        Err(Halt::Shown(exhibit)) => {
+            assert_eq!(rt;
+                shown_text(&exhibit).as_slice(),
+                wanted.as_bytes(),
+                "{command}"
+            );
+        }
+    }
+    Ok(())
+}
+
+/// Asks each of these steps, `COMMAND: ANSWER` and so on, set apart by ` / `.
+fn converse<T: Talk>(
+    rt: &impl Abort,
+    alloc: Global,
+    session: &mut T,
+    steps: &str,
+) -> Result<(), Fail> {
+    for step in steps.split(" / ") {
+        let Some((command, answer)) = step.split_once(": ") else {
+            return Err(Fail::new("a step without an answer"));
+        };
+        ask(rt, alloc, session, command, answer)?;
+    }
+    Ok(())
+}

@@ -1,0 +1,180 @@
+//! A memory of 1,022 logical lines under the weak suite: written, moved, cut at each step of a write with its
+//! move, recovered and read.
+ghost use Rattle.std.specs.Prelude.{ℕ, ◌≡◌, ◌<◌, ◌≤◌, IsSome, IfOk, length};
+ghost use Rattle.pmem_base.specs.Geo.{shape_of};
+ghost use Rattle.pmem_base.specs.Layout.{data_lines, meta_lines, device_lines};
+ghost use Rattle.pmem_base.specs.Marks.{last_seal};
+ghost use Rattle.pmem_base.specs.Registers.{IsValidRegs};
+ghost use Rattle.board.specs.Memory.{device_of};
+ghost use Rattle.board.specs.MemBoard.{memory_of};
+ghost use Rattle.seal_ledger.specs.View.{ledger_of};
+ghost use Rattle.pmem_engine.specs.Calls.{IsReady};
+
+use board::MemBoard;
+use pmem_base::{Geo, Line};
+use pmem_engine::{Engine, Fault};
+use pmem_recovery::{format, recover};
+use seal_ledger::{Audit, Ledger};
+use start_gap::{GapFault, Gapped, Moved, Wear, WriteFault, place};
+use std::alloc::Global;
+use std::process::Abort;
+use std::test::Fail;
+use suite::WeakSuite;
+
+/// A memory with what belongs to it.
+#[derive(Drop)]
+struct Bench {
+    geo: Geo,
+    board: MemBoard,
+    suite: WeakSuite,
+    ledger: Ledger,
+    ghost its_size: { length (memory_of board).lines ≡ device_lines (shape_of geo) },
+    ghost its_regs: { IsValidRegs (shape_of geo) (memory_of board).regs },
+    ghost its_truth: { length (ledger_of ledger).truth ≡ meta_lines (shape_of geo) },
+    ghost its_lines: { (ledger_of ledger).data_lines ≡ data_lines (shape_of geo) },
+    ghost each_sealed: { (a : ℕ) → a < data_lines (shape_of geo) → IsSome (last_seal (ledger_of ledger).marks a) },
+}
+
+/// A new memory.
+fn fresh(alloc: Global) -> Result<Bench, Fail> {
+    let geo = Geo::new(2, 4, 2, 4, 0)?;
+    let mut board = MemBoard::new(alloc, geo.size())?;
+    let mut suite = WeakSuite::new(&[0; 16], &[0x10], false);
+    let mut ledger = Ledger::new(alloc, &geo)?;
+    format(alloc, &geo, &mut board, &mut suite, &mut ledger)?;
+    Ok(Bench {
+        geo,
+        board,
+        suite,
+        ledger,
+    })
+}
+
+/// Recovers the memory, and opens its lines with a move at each `every`th write.
+fn opened(alloc: Global, bench: &mut Bench, every: u32) -> Result<Gapped, Fail>
+    requires { 1 ≤ every }
+    ensures geo { shape_of bench.new.geo ≡ shape_of bench.old.geo }
+    ensures shape { IfOk result (λ gapped. gapped.engine.shape ≡ shape_of bench.old.geo) }
+    ensures ready { IfOk result (λ gapped. IsReady gapped.engine.shape gapped.engine (device_of (memory_of bench.new.board))) }
+{
+    let Ok((engine, _)) = recover(
+        alloc,
+        &bench.geo,
+        &mut bench.board,
+        &mut bench.suite,
+        &bench.ledger,
+    ) else {
+        return Err(Fail::new("not recovered"));
+    };
+    match Gapped::open(
+        engine,
+        &mut bench.board,
+        &mut bench.suite,
+        &mut bench.ledger,
+        every,
+    ) {
+        Ok(gapped) => Ok(gapped),
+        Err(_) => Err(Fail::new("not opened")),
+    }
+}
+
+/// How many persist steps were made.
+fn steps(bench: &Bench) -> u64 {
+    let (_, writes, latches) = bench.board.counts();
+    writes.wrapping_add(latches)
+}
+
+/// Writes a line.
+fn put(
+    rt: &impl Abort,
+    bench: &mut Bench,
+    gapped: &mut Gapped,
+    line: u32,
+    plain: &Line,
+) -> Result<Moved, WriteFault>
+    requires shape { gapped.old.engine.shape ≡ shape_of bench.old.geo }
+    requires ready { IsReady gapped.old.engine.shape gapped.old.engine (device_of (memory_of bench.old.board)) }
+    ensures geo { shape_of bench.new.geo ≡ shape_of bench.old.geo }
+    ensures shape { gapped.new.engine.shape ≡ gapped.old.engine.shape }
+    ensures ready { IsReady gapped.new.engine.shape gapped.new.engine (device_of (memory_of bench.new.board)) }
+{
+    assert!(rt; line < gapped.lines() && bench.ledger.reserve(198).is_ok());
+    gapped.write(
+        &mut bench.board,
+        &mut bench.suite,
+        &mut bench.ledger,
+        line,
+        plain,
+    )
+}
+
+/// Reads a line, which has to be this one.
+fn read(rt: &impl Abort, bench: &mut Bench, gapped: &mut Gapped, line: u32, plain: &Line)
+    requires shape { gapped.old.engine.shape ≡ shape_of bench.old.geo }
+    requires ready { IsReady gapped.old.engine.shape gapped.old.engine (device_of (memory_of bench.old.board)) }
+    ensures geo { shape_of bench.new.geo ≡ shape_of bench.old.geo }
+    ensures shape { gapped.new.engine.shape ≡ gapped.old.engine.shape }
+    ensures ready { IsReady gapped.new.engine.shape gapped.new.engine (device_of (memory_of bench.new.board)) }
+{
+    assert!(rt; line < gapped.lines());
+    let answer = gapped.read(&mut bench.board, &mut bench.suite, &mut bench.ledger, line);
+    assert_eq!(rt; answer, Ok(*plain), "line {line}");
+}
+
+// The first line and then the last one are written, each with a move.
+#[test]
+fn lines_are_written_and_move(rt: HostRuntime) -> Result<(), Fail> {
+    let mut bench = fresh(rt.alloc())?;
+    let mut gapped = opened(rt.alloc(), &mut bench, 1)?;
+    let before = steps(&bench);
+    let first = put(&rt, &mut bench, &mut gapped, 0, &Line([0xaa; 64]));
+    assert_eq!(rt; first, Ok(Moved::Made));
+    assert_eq!(rt; steps(&bench).wrapping_sub(before), 17);
+    assert_eq!(rt;
+        gapped.wear(),
+        &Wear {
+            start: 0,
+            gap: 1021
+        }
+    );
+    read(&rt, &mut bench, &mut gapped, 0, &Line([0xaa; 64]));
+    let before = steps(&bench);
+    let last = put(&rt, &mut bench, &mut gapped, 1021, &Line([0xbb; 64]));
+    assert_eq!(rt; last, Ok(Moved::Made));
+    assert_eq!(rt; steps(&bench).wrapping_sub(before), 12);
+    read(&rt, &mut bench, &mut gapped, 1021, &Line([0xbb; 64]));
+    read(&rt, &mut bench, &mut gapped, 0, &Line([0xaa; 64]));
+    Ok(())
+}
+
+// The write takes 17 steps. From the latch on, its fourth step, the line is there; from the latch of the record on,
+// its fourteenth, the gap has moved.
+#[test]
+fn cuts_keep_each_line(rt: HostRuntime) -> Result<(), Fail> {
+    for fuse in 0..18_u8 {
+        let mut bench = fresh(rt.alloc())?;
+        let mut gapped = opened(rt.alloc(), &mut bench, 1)?;
+        bench.board.arm(u64::from(fuse));
+        let answer = put(&rt, &mut bench, &mut gapped, 0, &Line([0xaa; 64]));
+        match answer {
+            Ok(moved) => assert_eq!(rt; (moved, fuse), (Moved::Made, 17)),
+            Err(fault) => assert_eq!(rt;
+                (fault.fault, fault.written),
+                (Fault::Cut, fuse > 6),
+                "at {fuse}"
+            ),
+        }
+        bench.board.off();
+        bench.board.power();
+        let mut gapped = opened(rt.alloc(), &mut bench, 1)?;
+        let gap = if fuse > 13 { 1021 } else { 1022 };
+        assert_eq!(rt; gapped.wear(), &Wear { start: 0, gap }, "at {fuse}");
+        let plain = if fuse > 3 {
+            Line([0xaa; 64])
+        } else {
+            Line::default()
+        };
+        read(&rt, &mut bench, &mut gapped, 0, &plain);
+    }
+    Ok(())
+}

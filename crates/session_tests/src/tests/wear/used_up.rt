@@ -1,0 +1,102 @@
+//! Moves while a page is sealed anew, and counters that are used up.
+use super::super::converse;
+use super::new_session;
+use std::alloc::Global;
+use std::test::Fail;
+use trace_text::Talk;
+
+/// Writes so many lines from `first` on, or line `first` so many times, and takes any answer but a cut.
+fn write_many<T: Talk>(
+    alloc: Global,
+    session: &mut T,
+    first: u8,
+    step: u8,
+    times: u8,
+) -> Result<(), Fail> {
+    let mut line = first;
+    for i in 0..times {
+        let command = format!(in alloc; "write {line} ")?;
+        let digits = format!(in alloc; "{i:02x}")?;
+        let mut text = String::from_str(alloc, command.as_str())?;
+        for _ in 0..64 {
+            text.push_str(digits.as_str())?;
+        }
+        match session.talk(alloc, text.as_bytes()) {
+            Ok(Some(answer)) => {
+                if !answer.as_slice().starts_with(b"ok ".as_slice()) {
+                    return Err(Fail::new("not written"));
+                }
+            }
+            _ => return Err(Fail::new("stopped")),
+        }
+        line = line.wrapping_add(step);
+    }
+    Ok(())
+}
+
+// The record is written at each write, so its counter runs over at the 128th: its page is opened. At the 255th it
+// runs over again, and the page's lines are sealed anew first. There the gap is at place 0 too.
+#[test]
+fn page_of_the_record_runs_over(rt: HostRuntime) -> Result<(), Fail> {
+    let mut session = new_session(rt.alloc(), (1, 1, 1, 4, 0), 1, false)?;
+    write_many(rt.alloc(), &mut session, 0, 1, 127)?;
+    converse(
+        &rt,
+        rt.alloc(),
+        &mut session,
+        "write 27 [7f]: ok 21 / read 26: line [1a] 1",
+    )?;
+    write_many(rt.alloc(), &mut session, 0, 1, 126)?;
+    converse(
+        &rt,
+        rt.alloc(),
+        &mut session,
+        "place 253: at 254 / write 54 [fe]: ok 272 / place 253: at 0 / read 53: line [35] 1 / read 54: line [fe] 0 / read 253: line [00] 0 / write 253 [ff]: ok 15 / place 253: at 0 / place 252: at 254 / place 0: at 1 / off: ok / on: on 1 253 4 / read 253: line [ff] 0 / read 27: line [1b] 0",
+    )
+}
+
+// The counter of the record is used up: the line is written, and its move is held, now and later.
+#[test]
+fn move_is_held_by_the_record(rt: HostRuntime) -> Result<(), Fail> {
+    let mut session = new_session(rt.alloc(), (1, 4, 2, 4, u64::MAX), 1, false)?;
+    write_many(rt.alloc(), &mut session, 0, 1, 127)?;
+    converse(
+        &rt,
+        rt.alloc(),
+        &mut session,
+        "write 1 [a0]: held 3 8 / place 253: at 254 / read 1: line [a0] 0 / write 2 [a1]: held 3 8 / write 0 [a2]: held 3 8 / place 253: at 254 / off: ok / on: on 0 127 7 / write 3 [a3]: held 3 12 / read 0: line [a2] 0 / read 1: line [a0] 0 / read 2: line [a1] 0 / read 3: line [a3] 0 / place 126: at 126 / place 127: at 128",
+    )
+}
+
+// The counter of the gap is used up, so nothing of the move is done.
+#[test]
+fn move_is_held_by_the_gap(rt: HostRuntime) -> Result<(), Fail> {
+    let mut session = new_session(rt.alloc(), (1, 4, 2, 4, u64::MAX), 128, false)?;
+    write_many(rt.alloc(), &mut session, 253, 0, 127)?;
+    converse(
+        &rt,
+        rt.alloc(),
+        &mut session,
+        "write 0 [a0]: ok 13 / place 253: at 254 / place 252: at 252 / read 253: line [7e] 0",
+    )?;
+    write_many(rt.alloc(), &mut session, 1, 0, 127)?;
+    converse(
+        &rt,
+        rt.alloc(),
+        &mut session,
+        "write 2 [a2]: held 3 4 / place 253: at 254 / place 252: at 252 / read 2: line [a2] 0 / write 1 [a3]: spent 0 0 / read 1: line [7e] 0 / write 3 [a4]: ok 4 / read 3: line [a4] 0 / off: ok / on: on 0 253 5 / read 253: line [7e] 0",
+    )
+}
+
+// The counter of the line's place is used up: nothing is written, and the write isn't counted.
+#[test]
+fn line_is_spent(rt: HostRuntime) -> Result<(), Fail> {
+    let mut session = new_session(rt.alloc(), (1, 4, 2, 4, u64::MAX), 129, false)?;
+    write_many(rt.alloc(), &mut session, 5, 0, 127)?;
+    converse(
+        &rt,
+        rt.alloc(),
+        &mut session,
+        "write 5 [a0]: spent 0 0 / read 5: line [7e] 0 / write 6 [a1]: ok 4 / write 5 [a2]: spent 0 0 / place 253: at 253 / write 7 [a3]: ok 13 / place 253: at 254 / off: ok / on: on 0 253 5 / write 5 [a4]: spent 0 0 / read 5: line [7e] 0",
+    )
+}
