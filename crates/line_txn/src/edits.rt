@@ -14,9 +14,9 @@ use pmem_engine::{Engine, Fault};
 use seal_ledger::Audit;
 use suite::Suite;
 
-/// A change of one data line.
+/// A change of one data line, as commits and redos are made of.
 #[derive(Clone, Copy, Debug, PartialEq, Eq)]
-pub(crate) enum Edit {
+pub enum Edit {
     /// It is written.
     Put { at: u32, line: Line },
     /// Another one is read, and written to it.

@@ -263,6 +263,7 @@ impl Store {
             (parts_of self.new.engine (B.device board.new) (A.ledger audit.new) (S.tags suite.new) (S.digests suite.new))
             × IsSoundAnswer result }
         ensures spent { IsSpentUndecided result }
+        ensures whole { IsWholeTxn txn.now.items }
         ensures keys { S.keys suite.new ≡ S.keys suite.old }
         ensures usable { IsUsable self.old.engine.shape self.new.engine (B.device board.new) (A.ledger audit.new) }
         ensures shape { self.new.engine.shape ≡ self.old.engine.shape }
