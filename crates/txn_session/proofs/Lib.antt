@@ -1,2 +1,16 @@
+pub mod OwnSeals
+pub mod EngineEdits
+pub mod WriteLists
+pub mod Stages
+pub mod Worlds
+pub mod Rooms
+pub mod Seen
+pub mod ReadLaws
+pub mod Puts
+pub mod CommitEnds
+pub mod Committed
 pub mod Starts
+pub mod RedoLists
+pub mod Opened
+pub mod NewLaws
 pub mod Sessions

@@ -1,23 +1,21 @@
 -- What the answers of a session promise: of one answer, and of each chain of them.
-use Rattle.std.proofs.Common.{ℕ, zero, suc, ◌≡◌, ◌<◌, ◌≤◌, ◌+◌, ◌*◌, ◌++◌, Bool, true, false, List, [], ◌∷◌, length, map, Option, Some, None, refl, sym, ap, subst, ◌∙◌, arith}
+use Rattle.std.proofs.Common.{ℕ, zero, suc, ◌≡◌, ◌<◌, ◌≤◌, ◌+◌, ◌*◌, ◌++◌, Bool, true, false, List, [], ◌∷◌, length, Option, Some, None, refl, sym, ap, subst, ◌∙◌, arith}
 use Rattle.std.specs.Prelude.{All, nat_lt, replicate, unwrap_or, MatchOption, ◌==◌, if◌then◌else◌}
 use Rattle.std.proofs.lemmas.Bool.{lt-ltb, le-ltb}
-use Rattle.std.proofs.lemmas.List.{length-append, length-map}
 use Rattle.std.proofs.lemmas.List.Elements.{All-nil, All-cons}
 use Rattle.pmem_base.specs.declared.lines.Line.{Line}
 use Rattle.pmem_base.specs.Lines.{line_at, put_lines, zero_line}
 use Rattle.suite.specs.Setup.{Setup}
 use Rattle.plain_model.specs.State.{Memory}
-use Rattle.pmem_engine.specs.Calls.{whole_write}
-use Rattle.line_txn.specs.Header.{header_of}
-use Rattle.line_txn.specs.Logged.{targets_of, bodies_of}
+use Rattle.line_txn.specs.Logged.{targets_of}
 use Rattle.line_txn.specs.Store.{logged_lines}
 use Rattle.txn_session.specs.declared.commands.TxnCommand.{TxnCommand}
 use Rattle.txn_session.specs.declared.commands.TxnCommand.TheVariants as Do
 use Rattle.txn_session.specs.declared.answers.TxnAnswer.{TxnAnswer}
 use Rattle.txn_session.specs.declared.answers.TxnAnswer.TheVariants as Say
-use Rattle.txn_session.specs.State.{TxnState, Entries, lines_in, moment_in, line_in, body_writes, target_writes, commit_writes, with_commit, without_power}
-use Rattle.txn_session.specs.Answered.{begun, of_open, of_line, is_full, committed, held, line_held, after_decided, Writing, HasCommitted, HasRead, HasOpened, IsCommitting, EndsCommit, IsRedoing, EndsRedo, IsAnswered, IsAnsweredAs, after_commit, after_redo, most_of_commit}
+use Rattle.txn_session.specs.State.{TxnState, Entries, lines_in, moment_in, line_in, commit_writes, with_commit, without_power}
+use Rattle.txn_session.specs.Answered.{begun, of_open, of_line, is_full, committed, held, line_held, after_decided, HasCommitted, HasRead, HasOpened, IsCommitting, EndsCommit, IsRedoing, EndsRedo, IsAnswered, IsAnsweredAs, after_commit, after_redo, most_of_commit}
+use Rattle.txn_session.proofs.WriteLists.{length-commit_writes}
 use Rattle.txn_session.specs.Guarantees.{TxnReply, AreAnswered, Seen, seen_after, IsReadOf, AreReadAsCommitted, IsMendedAnswer, stuck_after, IsStuckAnswer, AreStuckAnswers, IsSpentAnswer, AreSpentAsUsedUp, nothing_seen, AreTxnReplies, AreTxnsKept, AreTxnsSpent}
 
 -- ---- one answer
@@ -218,23 +216,6 @@ module _ (old : TxnState) where
   closed_after entries done =
       by_done (nat_lt (length entries) done) (put_lines entries old.memory)
       (if done == 2 * length entries + 2 then [] else targets_of entries)
-
-length-body_writes : (k : ℕ) (bodies : List Line) → length (body_writes k bodies) ≡ length bodies
-length-body_writes k [] = refl
-length-body_writes k (body ∷ bodies) = let rest = length-body_writes (k + 1) bodies in omega (arith, rest)
-
-length-commit_writes : (n : ℕ) (entry : ℕ × Line) (entries : Entries) → length (commit_writes n (entry ∷ entries)) ≡ 2 * length (entry ∷ entries) + 2
-length-commit_writes n entry entries =
-    let all = entry ∷ entries in
-    let header = whole_write n (header_of (targets_of (entry ∷ entries))) in
-    let targets = target_writes (entry ∷ entries) in
-    let first = length-body_writes (n + 1) (bodies_of (entry ∷ entries)) in
-    let bodies = length-map (entry ∷ entries) (λ e. e.1) in
-    let places = length-map (entry ∷ entries) (λ e. whole_write e.0 e.1) in
-    let front = length-append (body_writes (n + 1) (bodies_of (entry ∷ entries))) (header ∷ targets) in
-    let behind =
-    length-append (body_writes (n + 1) (bodies_of (entry ∷ entries)) ++ (header ∷ targets)) (whole_write n zero_line ∷ []) in
-    omega (arith, first, bodies, places, front, behind)
 
 committed_step : (setup : Setup) (old : TxnState) (entry : ℕ × Line) (rest : Entries) (answer : TxnAnswer) (new : TxnState)
     → old.txn ≡ Some (entry ∷ rest) → HasCommitted setup old (entry ∷ rest) answer new → Step old Do.Commit answer new

@@ -1,11 +1,10 @@
 -- Which answers a command has in which states, and the state after: where the state alone decides, the first
 -- condition that holds does; else the engine gives one of the answers that are listed.
-use Rattle.std.specs.Prelude.{ℕ, ◌≡◌, ◌≤◌, ◌<◌, ◌+◌, ◌-◌, ◌*◌, ◌==◌, ◌&&◌, ◌⊎◌, nat_lt, Bool, true, false, List, [], ◌∷◌, ◌++◌, length, Option, Some, None, option_map, is_some, unwrap_or, IfSome, Ok, ⊤, if◌then◌else◌}
+use Rattle.std.specs.Prelude.{ℕ, ◌≡◌, ◌≤◌, ◌<◌, ◌+◌, ◌*◌, ◌==◌, nat_lt, Bool, true, false, List, [], ◌∷◌, ◌++◌, length, Option, Some, None, option_map, is_some, unwrap_or, IfSome, Ok, ⊤, if◌then◌else◌}
 use Rattle.std.specs.List.{list_any}
 use Rattle.pmem_base.specs.declared.lines.Line.{Line}
 use Rattle.pmem_base.specs.declared.commands.Posted.{Posted}
 use Rattle.pmem_base.specs.declared.answers.Mark.{Mark}
-use Rattle.pmem_base.specs.declared.answers.Mark.TheVariants.{Begin, Seal}
 use Rattle.pmem_base.specs.declared.answers.Exhibit.{Exhibit}
 use Rattle.pmem_base.specs.declared.answers.Exhibit.TheVariants.{Twin}
 use Rattle.pmem_base.specs.Counts.{HasRisen}
@@ -15,10 +14,11 @@ use Rattle.watched_board.specs.Watching.{counted}
 use Rattle.suite.specs.Formulas.{Formulas}
 use Rattle.suite.specs.Setup.{Setup}
 use Rattle.collision_witness.specs.Exhibits.{IsExhibit}
-use Rattle.plain_model.specs.Bounds.{path_length, recovery_bound}
+use Rattle.plain_model.specs.Bounds.{recovery_bound}
 use Rattle.plain_model.specs.Asked.{Moment}
-use Rattle.plain_model.specs.Fits.{drained_marks, IsStopped, IsSpentNext}
+use Rattle.plain_model.specs.Fits.{IsSpentNext}
 use Rattle.plain_model.specs.Shown.{IsTwinOfSeal}
+use Rattle.wear_session.specs.Answered.{burnt, write_steps, read_steps, Writing, AreAllMade, IsCutAmong, is_own_seal}
 use Rattle.txn_session.specs.declared.commands.TxnCommand.{TxnCommand}
 use Rattle.txn_session.specs.declared.commands.TxnCommand.TheVariants as Do
 use Rattle.txn_session.specs.declared.answers.TxnAnswer.{TxnAnswer}
@@ -116,10 +116,6 @@ pub record RisesBySteps (steps : ℕ) (old new : TxnState) : Type 0 where
   pub writes : new.writes ≡ counted old.writes written
   pub latches : new.latches ≡ counted old.latches latched
 
--- the fuse after so many steps
-abbrev pub burnt : Option ℕ → ℕ → Option ℕ
-burnt fuse steps = option_map (λ left. left - steps) fuse
-
 -- so many steps were done, which are at most so many and which the fuse let, and nothing was cut
 pub record GoesTo (expected : TxnState) (steps most : ℕ) (old new : TxnState) : Type 0 where
   pub becomes : IsButForCounts (record expected { fuse = burnt old.fuse steps }) new
@@ -136,14 +132,7 @@ pub record IsCutOff (expected : TxnState) (steps most : ℕ) (old new : TxnState
   pub below : steps < most
   pub cut : HasRisen old.cuts new.cuts
 
--- the most steps of an engine's write, which are those of 65 seals, a begin and its path, and of its read
-abbrev pub write_steps : Shape → ℕ
-write_steps g = 2 * path_length g + 264
-
-abbrev pub read_steps : Shape → ℕ
-read_steps g = path_length g
-
--- those of a commit of so many lines
+-- the most steps of a commit of so many lines
 abbrev pub most_of_commit : Shape → ℕ → ℕ
 most_of_commit g count = (2 * count + 2) * write_steps g
 
@@ -159,29 +148,9 @@ most_of_on state =
 
 -- ---- writes in order
 
--- how many of them are done, and the marks that were made
-pub record Writing : Type 0 where
-  pub done : ℕ
-  pub made : List Mark
-
--- the marks are all those of the writes that are done
-abbrev pub AreAllMade : Formulas → Moment → List Posted → Writing → Type 0
-AreAllMade f now writes writing =
-    (writing.done ≤ length writes) × (drained_marks f now writes writing.done ≡ Some writing.made)
-
 -- all of them are done
 abbrev pub IsAllWritten : Formulas → Moment → List Posted → Writing → Type 0
 IsAllWritten f now writes writing = (writing.done ≡ length writes) × AreAllMade f now writes writing
-
--- power was cut as one of them ended, or in the next one
-abbrev pub IsCutAmong : Formulas → Moment → List Posted → Writing → Type 0
-IsCutAmong f now writes writing =
-    AreAllMade f now writes writing ⊎ IsStopped f now writes writing.done writing.made
-
--- whether a mark is a write's own seal of line a: a line that is only sealed anew gets the minor 0
-abbrev pub is_own_seal : ℕ → Mark → Bool
-is_own_seal a (Begin page) = false
-is_own_seal a (Seal b ctr cipher tag) = b == a && nat_lt 0 ctr.minor
 
 -- ---- a commit
 

@@ -7,6 +7,7 @@ use Rattle.pmem_base.specs.declared.answers.Mark.{Mark}
 use Rattle.pmem_base.specs.Shape.{Shape}
 use Rattle.pmem_base.specs.Layout as layout
 use Rattle.pmem_base.specs.Lines.{put_lines, zero_line}
+use Rattle.board.specs.Counts.{RisesBy}
 use Rattle.suite.specs.Formulas.{Formulas}
 use Rattle.suite.specs.Setup.{Setup}
 use Rattle.plain_model.specs.State.{Memory}
@@ -129,7 +130,7 @@ with_redo state done =
 -- ---- the beginning
 
 -- A formatted device with power on: all lines are zeros, no transaction is in force or open, and nothing waits to
--- be cut. Marks and counts are those of formatting.
+-- be cut. Marks and counts are those of formatting, and each count stands still at its end.
 pub record IsNewTxn (setup : Setup) (state : TxnState) : Type 0 where
   pub shape : state.shape ≡ setup.shape
   pub memory : state.memory ≡ replicate (logged_lines setup.shape) zero_line
@@ -140,6 +141,6 @@ pub record IsNewTxn (setup : Setup) (state : TxnState) : Type 0 where
   pub fuse : state.fuse ≡ None
   pub loss : state.loss ≡ setup.shape.loss
   pub marks : state.marks ≡ map (first_seal setup) (range_with_len 0 (layout.data_lines setup.shape))
-  pub writes : state.writes ≡ layout.device_lines setup.shape
-  pub latches : state.latches ≡ 1
+  pub writes : RisesBy (layout.device_lines setup.shape) 0 state.writes
+  pub latches : RisesBy 1 0 state.latches
   pub cuts : state.cuts ≡ 0

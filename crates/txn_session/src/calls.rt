@@ -17,7 +17,9 @@ ghost use Rattle.pmem_recovery.specs.Parts.{suite_state};
 ghost use Rattle.start_gap.specs.Gapped.{HasLines};
 ghost use Rattle.line_txn.specs.Header.{AreBelow};
 ghost use Rattle.line_txn.specs.Logged.{IsLogged, targets_of};
-ghost use Rattle.line_txn.specs.Store.{HasCommitted, IsLeftLogged, IsSoundAnswer, IsSpentUndecided, IsServedAs, served_from, outcome_by};
+ghost use Rattle.line_txn.specs.Edits.{IsWholeTxn};
+ghost use Rattle.line_txn.specs.Serving.{served_from};
+ghost use Rattle.line_txn.specs.Store.{HasCommitted, IsLeftLogged, IsSoundAnswer, IsSpentUndecided, IsServedAs, outcome_by};
 ghost use Rattle.watched_board.specs.Watching.{IsWatched, device_during, none_taken};
 ghost use Rattle.txn_session.specs.During.{HasStarted};
 
@@ -154,6 +156,7 @@ pub(crate) fn commit<S: Suite>(
         → LeavesSound (record { shape = store.old.engine.shape; formulas = S.formulas_of (S.keys suite.old) }) (outcome_by result.answer)
         (parts_of store.new.engine (device_during (memory_of board.new) result.taken) (ledger_of ledger.new) (S.tags suite.new) (S.digests suite.new)) × IsSoundAnswer result.answer }
     ensures spent { IsSpentUndecided result.answer }
+    ensures whole { IsWholeTxn txn.now.items }
     ensures watched { IsWatched (memory_of board.old) (memory_of board.new) result.taken }
     ensures keys { S.keys suite.new ≡ S.keys suite.old }
     ensures usable { IsUsable store.old.engine.shape store.new.engine (device_during (memory_of board.new) result.taken) (ledger_of ledger.new) }
@@ -203,6 +206,7 @@ fn commit_watched<'a, K: Start, S: Suite>(
         → LeavesSound (record { shape = store.old.engine.shape; formulas = S.formulas_of (S.keys suite.old) }) (outcome_by result.answer)
         (parts_of store.new.engine (device_during (memory_of result.board.now) result.taken) (ledger_of ledger.new) (S.tags suite.new) (S.digests suite.new)) × IsSoundAnswer result.answer }
     ensures spent { IsSpentUndecided result.answer }
+    ensures whole { IsWholeTxn txn.now.items }
     ensures watched { IsWatched K.start (memory_of result.board.now) result.taken }
     ensures keys { S.keys suite.new ≡ S.keys suite.old }
     ensures usable { IsUsable store.old.engine.shape store.new.engine (device_during (memory_of result.board.now) result.taken) (ledger_of ledger.new) }

@@ -1,9 +1,10 @@
 //! The open transaction, and its commit.
-ghost use Rattle.std.specs.Prelude.{◌≡◌, not, IfOk, OnErr, true, false};
-ghost use Rattle.std.specs.List.{list_any};
+ghost use Rattle.std.specs.Prelude.{◌≡◌, ◌<◌, ◌==◌, not, length, IfSome, IfOk, OnErr, true, false};
+ghost use Rattle.std.specs.List.{list_any, position_from};
 ghost use Rattle.txn_session.specs.declared.commands.TxnCommand.TheVariants as Do;
 ghost use Rattle.txn_session.specs.State.{setup_in, with_line};
-ghost use Rattle.txn_session.specs.Answered.{IsAnswered, is_own_seal, is_full};
+ghost use Rattle.wear_session.specs.Answered.{is_own_seal};
+ghost use Rattle.txn_session.specs.Answered.{IsAnswered, is_full};
 
 use crate::answers::TxnAnswer;
 use crate::calls;
@@ -32,14 +33,26 @@ fn has_own_seal(marks: &[Mark], at: u32) -> bool
     false
 }
 
+/// The place that a data line has in a transaction.
+fn place_in(txn: &[(u32, Line)], at: u32) -> Option<usize>
+    ensures place { result ≡ position_from (λ entry. entry.0 == at) 0 txn.now }
+    ensures inside { IfSome result (λ i. i < length txn.now) }
+{
+    'entries: for (i, (target, _line)) in txn.iter().enumerate() {
+        if *target == at {
+            return Some(i);
+        }
+    }
+    None
+}
+
 /// Puts a line into a transaction, in the place of an earlier one where that is there. False where it is full.
 fn put_line(txn: &mut ArrayVec<(u32, Line), 15>, at: u32, line: &Line) -> bool
     ensures put { result ≡ true → txn.new.items ≡ with_line txn.old.items at line.now }
     ensures full { result ≡ not (is_full txn.old.items at) }
     ensures left { result ≡ false → txn.new.items ≡ txn.old.items }
 {
-    let found = txn.iter().position(|entry| entry.0 == at);
-    match found {
+    match place_in(txn, at) {
         Some(i) => {
             txn[i] = (at, *line);
             true
@@ -117,6 +130,10 @@ impl<S: Suite + Drop> TxnWorld<S> {
         let Some(txn) = &self.txn else {
             return Ok(TxnAnswer::Closed);
         };
+        if txn.is_empty() {
+            self.txn = None;
+            return Ok(TxnAnswer::Applied { steps: 0 });
+        }
         self.ledger.reserve(COMMIT_MARKS)?;
         let from = self.ledger.marks().len();
         let header = store.lines();

@@ -60,48 +60,57 @@ impl<S: Suite + Drop> TxnWorld<S> {
         );
         let steps = done.taken.steps();
         match done.answer {
-            Ok((store, opened)) => {
-                self.store = Some(store);
-                Ok(match opened.stuck {
-                    Some(page) => TxnAnswer::Stuck { page, steps },
-                    None => TxnAnswer::Opened {
+            Ok(both) => {
+                let opened = both.1;
+                self.store = Some(both.0);
+                match opened.stuck {
+                    Some(page) => Ok(TxnAnswer::Stuck { page, steps }),
+                    None => Ok(TxnAnswer::Opened {
                         redone: opened.redone,
                         steps,
-                    },
-                })
+                    }),
+                }
             }
-            Err(StartFault::Recovery(RecFault::Cut)) => Ok(TxnAnswer::Cut { steps }),
-            Err(StartFault::Opening(TxnFault::Engine(Fault::Cut))) => {
-                Ok(TxnAnswer::Cut { steps })
-            }
-            Err(StartFault::Recovery(RecFault::Memory)) => {
-                self.board.rest();
-                Err(Halt::Memory)
-            }
-            Err(
-                StartFault::Recovery(
-                    RecFault::Twin {
-                        at,
-                        major,
-                        low,
-                        high,
-                        cipher,
-                        tag,
-                    },
-                ),
-            ) => {
-                self.board.rest();
-                Err(Halt::Shown(Exhibit::Twin {
+            Err(StartFault::Recovery(fault)) => match fault {
+                RecFault::Cut => Ok(TxnAnswer::Cut { steps }),
+                RecFault::Memory => {
+                    self.board.rest();
+                    Err(Halt::Memory)
+                }
+                RecFault::Twin {
                     at,
                     major,
                     low,
                     high,
                     cipher,
                     tag,
-                }))
-            }
-            // Over a durable device recovery refuses nothing, and the header is one.
-            Err(_) => unreachable!(),
+                } => {
+                    self.board.rest();
+                    Err(Halt::Shown(Exhibit::Twin {
+                        at,
+                        major,
+                        low,
+                        high,
+                        cipher,
+                        tag,
+                    }))
+                }
+                // A durable device has a counter for each line, and the root.
+                RecFault::NoCounter { .. } | RecFault::Root { .. } => unreachable!(),
+            },
+            Err(StartFault::Opening(fault)) => match fault {
+                TxnFault::Engine(fault) => match fault {
+                    Fault::Cut => Ok(TxnAnswer::Cut { steps }),
+                    // Over a sound device no other fault comes, and a redo that is spent is stuck.
+                    Fault::Down
+                    | Fault::Meta { .. }
+                    | Fault::Tag { .. }
+                    | Fault::Shown
+                    | Fault::Spent { .. } => unreachable!(),
+                },
+                // The header is one.
+                TxnFault::Header { .. } => unreachable!(),
+            },
         }
     }
 }

@@ -72,6 +72,19 @@ fn ask<T: Talk>(
     Ok(())
 }
 
+/// Whether a command's answer begins so.
+fn begins<T: Talk>(
+    alloc: Global,
+    session: &mut T,
+    command: &str,
+    front: &str,
+) -> Result<bool, Fail> {
+    match session.talk(alloc, command.as_bytes()) {
+        Ok(Some(text)) => Ok(text.as_slice().starts_with(front.as_bytes())),
+        _ => Err(Fail::new("no answer")),
+    }
+}
+
 /// Asks each of these steps, `COMMAND: ANSWER` and so on, set apart by ` / `.
 fn converse<T: Talk>(
     rt: &impl Abort,

@@ -1,5 +1,5 @@
 //! A cut at each step of a commit of fifteen lines, and of its redo: then all lines are read.
-use super::{ask, converse, new_session, spelled};
+use super::{ask, begins, converse, new_session, spelled};
 use std::alloc::Global;
 use std::process::Abort;
 use std::test::Fail;
@@ -11,19 +11,6 @@ const PAGES: &str =
     put 320 [06]: ok / put 384 [07]: ok / put 448 [08]: ok / put 512 [09]: ok / put 576 [0a]: ok / \
     put 640 [0b]: ok / put 704 [0c]: ok / put 768 [0d]: ok / put 832 [0e]: ok / put 896 [0f]: ok / \
     commit: ok 171";
-
-/// What a command is answered begins with.
-fn begins<T: Talk>(
-    alloc: Global,
-    session: &mut T,
-    command: &str,
-    front: &str,
-) -> Result<bool, Fail> {
-    match session.talk(alloc, command.as_bytes()) {
-        Ok(Some(text)) => Ok(text.as_slice().starts_with(front.as_bytes())),
-        _ => Err(Fail::new("no answer")),
-    }
-}
 
 /// Opens a transaction of the lines 0, 16 and so on to 224.
 fn put_fifteen<T: Talk>(rt: &impl Abort, alloc: Global, session: &mut T) -> Result<(), Fail> {
