@@ -8,9 +8,11 @@ pub mod Seen
 pub mod ReadLaws
 pub mod Puts
 pub mod CommitEnds
+pub mod CommitStates
 pub mod Committed
 pub mod Starts
 pub mod RedoLists
+pub mod Redone
 pub mod Opened
 pub mod NewLaws
 pub mod Sessions

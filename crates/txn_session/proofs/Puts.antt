@@ -169,10 +169,11 @@ full_is entries a b is = ap (λ t. cond t false (length entries == 15)) is
 pub put_txn : (setup : Setup) (stuck : Option ℕ) (entries after : Entries) (a : ℕ) (line : Line) (done : Bool) → a < logged_lines setup.shape
     → (done ≡ true → after ≡ with_line entries a line) → done ≡ not (is_full entries a) → (done ≡ false → after ≡ entries)
     → IsOpenTxn setup stuck (Some entries) → IsOpenTxn setup stuck (Some after)
-put_txn setup stuck entries after a line true low put full left its =
-    (its.0,
-    subst (λ es. AreTargets (logged_lines setup.shape) (targets_of es)) (sym (put refl))
-    (put_targets (logged_lines setup.shape) a line entries low (not_true (is_full entries a) (sym full)) its.1))
+put_txn setup stuck entries after a line true low put full left its = (
+  its.0,
+  subst (λ es. AreTargets (logged_lines setup.shape) (targets_of es)) (sym (put refl))
+      (put_targets (logged_lines setup.shape) a line entries low (not_true (is_full entries a) (sym full)) its.1),
+)
   where
     not_true : (b : Bool) → not b ≡ true → b ≡ false
     not_true true is = sym is

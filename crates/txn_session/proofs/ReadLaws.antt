@@ -189,22 +189,23 @@ module _ (c : ReadCall) where
         (seen_from c.formulas_of c.geometry p (left (Some c.after) p.txn) c.now c.keys (Do.Read c.at) (Say.Got line (steps_in c.taken)) c.is
         c.same_keys refl
         (served setup old (txn_of setup (left (Some c.after) p.txn)) (Do.Read c.at) (Say.Got line (steps_in c.taken))
-        (read_undecided old c.at on.powered (let n = n_is in let low = c.within in omega (arith, n, low)) c.unheld)
-        (shown line is,
-        goes_to setup p (left (Some c.after) p.txn) c.taken c.watched old (read_steps c.geometry) powered
-        (at_most p.board c.board c.taken (path_length c.geometry) c.watched.follows.few (it.steps_of_path on.running).0)
-        (record {
-          shape = refl;
-          keys = refl;
-          memory = same_memory marks_on;
-          in_force = same_targets marks_on;
-          stuck = c.served_as.its_page ∙ sym (ap stuck_in c.there);
-          txn = refl;
-          power = powered ∙ sym on.powered;
-          fuse = c.watched.follows.burnt powered;
-          loss = done.loss;
-          marks = marks_on;
-        }))))
+        (read_undecided old c.at on.powered (let n = n_is in let low = c.within in omega (arith, n, low)) c.unheld) (
+          shown line is,
+          goes_to setup p (left (Some c.after) p.txn) c.taken c.watched old (read_steps c.geometry) powered
+              (at_most p.board c.board c.taken (path_length c.geometry) c.watched.follows.few (it.steps_of_path on.running).0)
+              (record {
+                shape = refl;
+                keys = refl;
+                memory = same_memory marks_on;
+                in_force = same_targets marks_on;
+                stuck = c.served_as.its_page ∙ sym (ap stuck_in c.there);
+                txn = refl;
+                power = powered ∙ sym on.powered;
+                fuse = c.watched.follows.burnt powered;
+                loss = done.loss;
+                marks = marks_on;
+              }),
+        )))
 
   -- ---- cut
 

@@ -126,7 +126,11 @@ fn stick(rt: &impl Abort, alloc: Global, page: u8) -> Result<(), Fail> {
     put_pages(rt, alloc, &mut session, 0x60)?;
     let stuck = format!(in alloc; "stuck {page}")?;
     for command in ["commit", "begin", "off", "on", "begin"] {
-        let front = if command == "off" { "ok" } else { stuck.as_str() };
+        let front = if command == "off" {
+            "ok"
+        } else {
+            stuck.as_str()
+        };
         let is_so = begins(alloc, &mut session, command, front)?;
         assert!(rt; is_so, "{command} at page {page}");
         if command == "begin" {

@@ -11,7 +11,8 @@ use Rattle.start_gap.specs.Gapped.{IsCutOrSpent}
 use Rattle.line_txn.proofs.Commits.{some_list}
 use Rattle.wear_session.specs.Answered.{is_own_seal}
 use Rattle.wear_session.proofs.Written.{own_marks}
-use Rattle.txn_session.proofs.Committed.{CommitCall, applied_exit, stuck_exit, spent_exit, cut_held, cut_marks, kept_seen, lost_seen, sound_fault}
+use Rattle.txn_session.proofs.CommitStates.{CommitCall}
+use Rattle.txn_session.proofs.Committed.{applied_exit, stuck_exit, spent_exit, cut_held, cut_marks, kept_seen, lost_seen, sound_fault}
 use Rattle.txn_session.proofs.world.TxnWorld.commit.Given.{Over}
 use Rattle.txn_session.proofs.world.TxnWorld.commit.Goals.{After-steps-steps, then-committed, else-committed, then-has_own_seal, else-has_own_seal}
 use Rattle.txn_session.proofs.world.TxnWorld.commit.Goals as goal
