@@ -33,7 +33,6 @@ unfolding true_node
 board-free g plain b x = refl
 
 module _ (setup : Setup) (p : TreeParts) (regs : Regs) (b : BoardMemory) (shape : IsShape setup.shape) (in_range : AreInRange setup.formulas) (anchored : IsAnchored setup regs p.watch) where
-
   -- ---- nodes
 
   node-here : (x : ℕ) → x < meta_lines setup.shape → true_node setup.shape (with_board (plain_of_parts setup p) b) x ≡ node_at p.watch.nodes x
