@@ -10,7 +10,7 @@ ghost use Rattle.board.specs.MemBoard.{memory_of};
 ghost use Rattle.seal_ledger.specs.View.{ledger_of};
 ghost use Rattle.pmem_engine.specs.Calls.{IsReady};
 
-use board::MemBoard;
+use board::{Board, MemBoard};
 use pmem_base::{Geo, Line};
 use pmem_engine::{Engine, Fault};
 use pmem_recovery::{format, recover};
@@ -50,6 +50,42 @@ fn fresh(alloc: Global) -> Result<Bench, Fail> {
     })
 }
 
+/// Recovers the memory.
+fn recovered(alloc: Global, bench: &mut Bench) -> Result<Engine, Fail>
+    ensures geo { shape_of bench.new.geo ≡ shape_of bench.old.geo }
+    ensures shape { IfOk result (λ engine. engine.shape ≡ shape_of bench.old.geo) }
+    ensures ready { IfOk result (λ engine. IsReady engine.shape engine (device_of (memory_of bench.new.board))) }
+{
+    match recover(
+        alloc,
+        &bench.geo,
+        &mut bench.board,
+        &mut bench.suite,
+        &bench.ledger,
+    ) {
+        Ok((engine, _)) => Ok(engine),
+        Err(_) => Err(Fail::new("not recovered")),
+    }
+}
+
+/// Opens the lines of an engine over the memory, with a move at each `every`th write.
+fn open(bench: &mut Bench, engine: Engine, every: u32) -> Result<Gapped, GapFault>
+    requires every { 1 ≤ every }
+    requires shape { engine.shape ≡ shape_of bench.old.geo }
+    requires ready { IsReady engine.shape engine (device_of (memory_of bench.old.board)) }
+    ensures geo { shape_of bench.new.geo ≡ shape_of bench.old.geo }
+    ensures shape { IfOk result (λ gapped. gapped.engine.shape ≡ shape_of bench.old.geo) }
+    ensures ready { IfOk result (λ gapped. IsReady gapped.engine.shape gapped.engine (device_of (memory_of bench.new.board))) }
+{
+    Gapped::open(
+        engine,
+        &mut bench.board,
+        &mut bench.suite,
+        &mut bench.ledger,
+        every,
+    )
+}
+
 /// Recovers the memory, and opens its lines with a move at each `every`th write.
 fn opened(alloc: Global, bench: &mut Bench, every: u32) -> Result<Gapped, Fail>
     requires { 1 ≤ every }
@@ -57,22 +93,8 @@ fn opened(alloc: Global, bench: &mut Bench, every: u32) -> Result<Gapped, Fail>
     ensures shape { IfOk result (λ gapped. gapped.engine.shape ≡ shape_of bench.old.geo) }
     ensures ready { IfOk result (λ gapped. IsReady gapped.engine.shape gapped.engine (device_of (memory_of bench.new.board))) }
 {
-    let Ok((engine, _)) = recover(
-        alloc,
-        &bench.geo,
-        &mut bench.board,
-        &mut bench.suite,
-        &bench.ledger,
-    ) else {
-        return Err(Fail::new("not recovered"));
-    };
-    match Gapped::open(
-        engine,
-        &mut bench.board,
-        &mut bench.suite,
-        &mut bench.ledger,
-        every,
-    ) {
+    let engine = recovered(alloc, bench)?;
+    match open(bench, engine, every) {
         Ok(gapped) => Ok(gapped),
         Err(_) => Err(Fail::new("not opened")),
     }
@@ -175,6 +197,36 @@ fn cuts_keep_each_line(rt: HostRuntime) -> Result<(), Fail> {
             Line::default()
         };
         read(&rt, &mut bench, &mut gapped, 0, &plain);
+    }
+    Ok(())
+}
+
+// Line 1,023 holds the record. Where it was written past the levelling it is no record, and where its line or its tag was
+// changed it isn't read.
+#[test]
+fn faulty_records_are_told(rt: HostRuntime) -> Result<(), Fail> {
+    let mut bench = fresh(rt.alloc())?;
+    let mut engine = recovered(rt.alloc(), &mut bench)?;
+    let line = Line([1; 64]);
+    assert!(rt; bench.geo.lines() == 1024 && bench.ledger.reserve(66).is_ok());
+    let Bench {
+        board,
+        suite,
+        ledger,
+        ..
+    } = &mut bench;
+    assert!(rt; engine.write(board, suite, ledger, 1023, &line).is_ok());
+    assert_eq!(rt;
+        open(&mut bench, engine, 1).err(),
+        Some(GapFault::BadWear { line })
+    );
+    for changed in [1023, 1024 + 255] {
+        let mut bench = fresh(rt.alloc())?;
+        assert!(rt; changed < bench.board.size());
+        bench.board.poke(changed, &line);
+        let engine = recovered(rt.alloc(), &mut bench)?;
+        let fault = GapFault::Engine(Fault::Tag { at: 1023 });
+        assert_eq!(rt; open(&mut bench, engine, 1).err(), Some(fault));
     }
     Ok(())
 }
