@@ -10,8 +10,9 @@ ghost use Rattle.board.specs.MemBoard.{memory_of};
 ghost use Rattle.seal_ledger.specs.View.{ledger_of};
 ghost use Rattle.pmem_engine.specs.Calls.{IsReady};
 
+use assertions::equal;
 use board::{Board, MemBoard};
-use pmem_base::{Geo, Line};
+use pmem_base::{Ctr, Geo, Line};
 use pmem_engine::{Engine, Fault};
 use pmem_recovery::{format, recover};
 use seal_ledger::{Audit, Ledger};
@@ -130,6 +131,30 @@ fn put(
     )
 }
 
+/// Writes a data line past the levelling.
+fn write_past(
+    rt: &impl Abort,
+    bench: &mut Bench,
+    engine: &mut Engine,
+    at: u32,
+    line: &Line,
+) -> Result<Ctr, Fault>
+    requires shape { engine.old.shape ≡ shape_of bench.old.geo }
+    requires ready { IsReady engine.old.shape engine.old (device_of (memory_of bench.old.board)) }
+    ensures geo { shape_of bench.new.geo ≡ shape_of bench.old.geo }
+    ensures shape { engine.new.shape ≡ engine.old.shape }
+    ensures ready { IsReady engine.new.shape engine.new (device_of (memory_of bench.new.board)) }
+{
+    assert!(rt; at < engine.geo().lines() && bench.ledger.reserve(66).is_ok());
+    engine.write(
+        &mut bench.board,
+        &mut bench.suite,
+        &mut bench.ledger,
+        at,
+        line,
+    )
+}
+
 /// Reads a line, which has to be this one.
 fn read(rt: &impl Abort, bench: &mut Bench, gapped: &mut Gapped, line: u32, plain: &Line)
     requires shape { gapped.old.engine.shape ≡ shape_of bench.old.geo }
@@ -150,20 +175,21 @@ fn lines_are_written_and_move(rt: HostRuntime) -> Result<(), Fail> {
     let mut gapped = opened(rt.alloc(), &mut bench, 1)?;
     let before = steps(&bench);
     let first = put(&rt, &mut bench, &mut gapped, 0, &Line([0xaa; 64]));
-    assert_eq!(rt; first, Ok(Moved::Made));
-    assert_eq!(rt; steps(&bench).wrapping_sub(before), 17);
-    assert_eq!(rt;
+    equal(&rt, first, Ok(Moved::Made));
+    equal(&rt, steps(&bench).wrapping_sub(before), 17);
+    equal(
+        &rt,
         gapped.wear(),
         &Wear {
             start: 0,
-            gap: 1021
-        }
+            gap: 1021,
+        },
     );
     read(&rt, &mut bench, &mut gapped, 0, &Line([0xaa; 64]));
     let before = steps(&bench);
     let last = put(&rt, &mut bench, &mut gapped, 1021, &Line([0xbb; 64]));
-    assert_eq!(rt; last, Ok(Moved::Made));
-    assert_eq!(rt; steps(&bench).wrapping_sub(before), 12);
+    equal(&rt, last, Ok(Moved::Made));
+    equal(&rt, steps(&bench).wrapping_sub(before), 12);
     read(&rt, &mut bench, &mut gapped, 1021, &Line([0xbb; 64]));
     read(&rt, &mut bench, &mut gapped, 0, &Line([0xaa; 64]));
     Ok(())
@@ -179,7 +205,7 @@ fn cuts_keep_each_line(rt: HostRuntime) -> Result<(), Fail> {
         bench.board.arm(u64::from(fuse));
         let answer = put(&rt, &mut bench, &mut gapped, 0, &Line([0xaa; 64]));
         match answer {
-            Ok(moved) => assert_eq!(rt; (moved, fuse), (Moved::Made, 17)),
+            Ok(moved) => equal(&rt, (moved, fuse), (Moved::Made, 17)),
             Err(fault) => assert_eq!(rt;
                 (fault.fault, fault.written),
                 (Fault::Cut, fuse > 6),
@@ -208,17 +234,11 @@ fn faulty_records_are_told(rt: HostRuntime) -> Result<(), Fail> {
     let mut bench = fresh(rt.alloc())?;
     let mut engine = recovered(rt.alloc(), &mut bench)?;
     let line = Line([1; 64]);
-    assert!(rt; bench.geo.lines() == 1024 && bench.ledger.reserve(66).is_ok());
-    let Bench {
-        board,
-        suite,
-        ledger,
-        ..
-    } = &mut bench;
-    assert!(rt; engine.write(board, suite, ledger, 1023, &line).is_ok());
-    assert_eq!(rt;
+    assert!(rt; write_past(&rt, &mut bench, &mut engine, 1023, &line).is_ok());
+    equal(
+        &rt,
         open(&mut bench, engine, 1).err(),
-        Some(GapFault::BadWear { line })
+        Some(GapFault::BadWear { line }),
     );
     for changed in [1023, 1024 + 255] {
         let mut bench = fresh(rt.alloc())?;
@@ -226,7 +246,7 @@ fn faulty_records_are_told(rt: HostRuntime) -> Result<(), Fail> {
         bench.board.poke(changed, &line);
         let engine = recovered(rt.alloc(), &mut bench)?;
         let fault = GapFault::Engine(Fault::Tag { at: 1023 });
-        assert_eq!(rt; open(&mut bench, engine, 1).err(), Some(fault));
+        equal(&rt, open(&mut bench, engine, 1).err(), Some(fault));
     }
     Ok(())
 }
