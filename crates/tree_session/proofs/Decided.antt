@@ -17,7 +17,7 @@ use Rattle.tree_session.specs.declared.answers.TreeAnswer.{TreeAnswer}
 use Rattle.tree_session.specs.declared.answers.TreeAnswer.TheVariants as Say
 use Rattle.tree_session.specs.State.{SessionState, setup_in}
 use Rattle.tree_session.specs.World.{TreeParts, plain_of_parts, state_of, IsTreeWorld}
-use Rattle.tree_session.specs.Answered.{IsAnswered, IsStarved, AnswersWith, decided, after_decided}
+use Rattle.tree_session.specs.Answered.{IsAnswered, CanWantMemory, AnswersWith, decided, after_decided}
 use Rattle.tree_session.proofs.Held.{rooted_open, powered_by, unpowered_by}
 use Rattle.tree_session.proofs.Powers.{other_held, dark_held}
 use Rattle.tree_session.proofs.Tampered.{changed_held}
@@ -169,13 +169,12 @@ module _ (c : QuietCall) where
       subst (λ (b : BoardMemory). IsTreeWorld setup (record c.parts { board = b })) (sym same) c.world
 
   -- memory is wanted for a first snapshot
-  pub snap_wanted : {T E : Type 0} (answer : Result T E) → IsErr answer → OnErr answer (c.parts.board.snapshot ≡ None) → (new : SessionState) → new ≡ c.now → IsStarved c.now Do.Snap new
-  snap_wanted answer error first new same =
+  pub snap_wanted : {T E : Type 0} (answer : Result T E) → IsErr answer → OnErr answer (c.parts.board.snapshot ≡ None) → CanWantMemory c.now Do.Snap
+  snap_wanted answer error first =
       record {
         takes = refl;
         not_shown = c.unshown;
         needs = ap (λ (s : SessionState). s.plain.board.snapshot) (sym c.is) ∙ from_error answer error first;
-        same = same;
       }
 
   -- ---- the fuse, a snapshot, and power

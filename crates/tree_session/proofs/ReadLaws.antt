@@ -26,7 +26,7 @@ use Rattle.tree_session.specs.declared.commands.TreeCommand.TheVariants as Do
 use Rattle.tree_session.specs.declared.answers.TreeAnswer.{TreeAnswer}
 use Rattle.tree_session.specs.declared.answers.TreeAnswer.TheVariants as Say
 use Rattle.tree_session.specs.World.{TreeParts, plain_of_parts, state_of, IsTreeWorld}
-use Rattle.tree_session.specs.Answered.{IsAnswered, IsRooted, IsEngineShown, IsBoardSpilled, AnswersRead, AnswersWith, decided, IsDataRefused, IsDataShown, IsNodeShown, IsNodeRefused}
+use Rattle.tree_session.specs.Answered.{IsAnswered, IsRooted, IsEngineShown, IsBoardSpilled, SaysOfRead, AnswersWith, decided, IsDataRefusal, IsDataExhibit, IsNodeExhibit, IsNodeRefusal}
 use Rattle.tree_session.proofs.BoardSteps.{goes_on, cut_off, then_rests}
 use Rattle.tree_session.proofs.PlainStates.{plain_is}
 use Rattle.tree_session.proofs.Held.{EngineCall, from, to, left, left_resting, trusted_from, powered_from, seals_kept, on_after, rooted_after, off_after, rooted_cut, ended_after}
@@ -36,14 +36,14 @@ use Rattle.tree_session.proofs.Refusals.{data-refused, data-shown}
 
 module _ (c : EngineCall) (a : ℕ) (within : a < tree_lines c.setup.shape) where
   -- the answer of the engine, where the state doesn't decide
-  by_engine : (answer : TreeAnswer) (q : TreeParts) → AnswersRead c.setup (plain_of_parts c.setup c.parts) a (plain_of_parts c.setup q) answer
+  by_engine : (answer : TreeAnswer) (q : TreeParts) → SaysOfRead c.setup (plain_of_parts c.setup c.parts) a (plain_of_parts c.setup q) answer
       → AnswersWith c.setup (plain_of_parts c.setup c.parts) (Do.Read a) (plain_of_parts c.setup q) answer (decided c.setup.shape (plain_of_parts c.setup c.parts) (Do.Read a))
   by_engine answer q it =
       subst (λ d. AnswersWith c.setup (plain_of_parts c.setup c.parts) (Do.Read a) (plain_of_parts c.setup q) answer d)
       (sym (undecided_line c.parts.board.powered a (tree_lines c.setup.shape) Say.Off Say.Range (powered_from c) within)) it
 
   answered : (answer : TreeAnswer) (q : TreeParts) → q.keys ≡ c.parts.keys → q.watch.exhibit ≡ None → IsRooted c.setup (plain_of_parts c.setup q)
-      → AnswersRead c.setup (plain_of_parts c.setup c.parts) a (plain_of_parts c.setup q) answer
+      → SaysOfRead c.setup (plain_of_parts c.setup c.parts) a (plain_of_parts c.setup q) answer
       → IsAnswered c.setup (state_of c.setup c.parts) (Do.Read a) answer (state_of c.setup q)
   answered answer q keys none rooted it =
       record {
@@ -111,7 +111,7 @@ module _ (c : EngineCall) (a : ℕ) (within : a < tree_lines c.setup.shape) wher
         let plain = kept_plain c going (left c (Some c.after) c.parts.hurt) node.watch refl refl refl in
         answered (Say.RefusedNode x (steps_in c.taken)) (left c (Some c.after) c.parts.hurt) refl (node.watch.exhibit going-unshown ∙ c.none)
         (rooted_after c node.effect c.parts.hurt c.world.hurt_count (seals_kept c going node.effect)) (
-          subst (λ s. IsNodeRefused c.setup s a x) (sym plain) (refused_node c a within c.board refl x (node.answered (trusted_from c))),
+          subst (λ s. IsNodeRefusal c.setup s a x) (sym plain) (refused_node c a within c.board refl x (node.answered (trusted_from c))),
           goes_on c.parts.board c.board c.taken c.watched (node.effect.power.1 (powered_from c)),
           backs c.taken c.setup.shape.levels going c.parts.board c.board c.watched node.steps,
           plain,
@@ -160,7 +160,7 @@ module _ (c : EngineCall) (a : ℕ) (within : a < tree_lines c.setup.shape) wher
         answered (Say.RefusedData t (steps_in c.taken)) (left c (Some c.after) c.parts.hurt) refl (tag.watch.exhibit going-unshown ∙ c.none)
         (rooted_after c tag.effect c.parts.hurt c.world.hurt_count (seals_kept c going tag.effect)) (
           ((it.done (trusted_from c).not_down).answered (trusted_from c)).0,
-          subst (λ s. IsDataRefused c.setup s a) (sym plain)
+          subst (λ s. IsDataRefusal c.setup s a) (sym plain)
               (data-refused c.setup c.parts c.parts.board.regs c.board c.world.whole_shape c.world.whole_formulas (trusted_from c).anchored a why.cipher why.tags within
               why.its.cipher_read why.its.tags_read why.fails hurt),
           goes_on c.parts.board c.board c.taken c.watched (tag.effect.power.1 (powered_from c)),
@@ -213,9 +213,9 @@ module _ (c : EngineCall) (a : ℕ) (within : a < tree_lines c.setup.shape) wher
           shows =
               elim which [
                 | inl node ↦
-                    inl (subst (λ s. IsNodeShown c.setup s a exhibit) (sym plain) (shown_node c a within (record c.board { powered = false }) refl exhibit is node))
+                    inl (subst (λ s. IsNodeExhibit c.setup s a exhibit) (sym plain) (shown_node c a within (record c.board { powered = false }) refl exhibit is node))
                 | inr line ↦
-                    inr (subst (λ s. IsDataShown c.setup s a exhibit) (sym plain)
+                    inr (subst (λ s. IsDataExhibit c.setup s a exhibit) (sym plain)
                     (data-shown c.setup c.parts c.parts.board.regs (record c.board { powered = false }) c.world.whole_shape c.world.whole_formulas (trusted_from c).anchored a
                     line.1.cipher line.1.tags exhibit within line.1.its.cipher_read line.1.its.tags_read line.1.fits line.1.other
                     (same_Some exhibit _ (sym is ∙ line.1.exhibit)) (unstored line.1)))

@@ -1,5 +1,5 @@
 -- A recovery: what is left of the session, and what is answered.
-use Rattle.std.proofs.Common.{ℕ, zero, suc, ◌≡◌, ◌≢◌, ◌<◌, ◌≤◌, ◌+◌, ◌-◌, true, false, Bool, inl, inr, ◌⊎◌, List, [], ◌∷◌, length, Option, Some, None, Ok, Err, refl, sym, ap, subst, ◌∙◌, arith}
+use Rattle.std.proofs.Common.{ℕ, zero, suc, ◌≡◌, ◌≢◌, ◌<◌, ◌≤◌, ◌+◌, true, false, Bool, inl, inr, ◌⊎◌, List, [], ◌∷◌, length, Option, Some, None, Ok, Err, refl, sym, ap, subst, ◌∙◌, arith}
 use Rattle.std.specs.Prelude.{Result, IfSome, All, slice_index_or, map}
 use Rattle.std.proofs.lemmas.Bool.{cases_Bool, cases_eq}
 use Rattle.std.proofs.lemmas.Option.{same_Some}
@@ -9,7 +9,7 @@ use Rattle.pmem_base.specs.declared.answers.Exhibit.{Exhibit}
 use Rattle.pmem_base.specs.declared.answers.Exhibit.TheVariants.{Clash}
 use Rattle.pmem_base.specs.Lines.{IsLine}
 use Rattle.suite.specs.Setup.{Setup}
-use Rattle.board.specs.Device.{Device, AreLinesOf}
+use Rattle.board.specs.Device.{AreLinesOf}
 use Rattle.board.specs.Memory.{BoardMemory, device_of}
 use Rattle.collision_witness.specs.Exhibits.{IsExhibit, AreSmallMinors}
 use Rattle.commit_regs.specs.Groups.{redone, finishing_latches}
@@ -26,7 +26,7 @@ use Rattle.asit_shadow.specs.Invariants.{IsAnchored, IsTrusted, IsSlotStored}
 use Rattle.asit_shadow.specs.Steps.{slots_read}
 use Rattle.asit_shadow.specs.Recovering.{Rest, rest_of, rest_redone, HasTreeRecovered, IsGroupFinished, IsGroupBegun, AreSlotsRead, KeepsRestPlaces, KeepsRestNode}
 use Rattle.asit_shadow.specs.Places.{IsNodeHeld}
-use Rattle.asit_shadow.specs.Plain.{PlainTree, with_board, true_slots}
+use Rattle.asit_shadow.specs.Plain.{with_board, true_slots}
 use Rattle.tree_session.proofs.Refusals.{slots-free, rooted_with}
 use Rattle.asit_shadow.proofs.PlaceLaws.{slots-place}
 use Rattle.asit_shadow.proofs.RecoverLaws.{lines-equal, length-slots_read, line_at-slots_read}
@@ -34,7 +34,7 @@ use Rattle.tree_session.specs.declared.commands.TreeCommand.TheVariants as Do
 use Rattle.tree_session.specs.declared.answers.TreeAnswer.{TreeAnswer}
 use Rattle.tree_session.specs.declared.answers.TreeAnswer.TheVariants as Say
 use Rattle.tree_session.specs.World.{TreeParts, plain_of_parts, state_of, IsTreeWorld, IsTreeOff, IsTreeOpen}
-use Rattle.tree_session.specs.Answered.{IsAnswered, IsRooted, IsEngineShown, IsStarved, AnswersOn, AnswersWith, IsSlotTampered, IsShadowRefused, IsShadowShown, IsGroupDone, group_steps, board_redone, recovery_bound}
+use Rattle.tree_session.specs.Answered.{IsAnswered, IsRooted, IsEngineShown, CanWantMemory, SaysOfOn, AnswersWith, IsSlotTampered, IsShadowRefusal, IsShadowExhibit, IsGroupDone, group_steps, board_redone, recovery_bound}
 use Rattle.tree_session.proofs.BoardSteps.{goes_on, cut_off, from_dark, cut_from_dark, then_rests, taken-exact, untouched}
 use Rattle.tree_session.proofs.PlainStates.{plain_is, plain-kept, true_slots-is}
 use Rattle.tree_session.proofs.Held.{IsFrame, opened, ended, open_in, off_in, usable_on, usable_off, rooted_on, rooted_off, rooted_open}
@@ -104,7 +104,7 @@ module _ (c : RecoveryCall) where
   anchored_from = (off_in c.setup c.parts (open_in c.setup c.parts c.world c.none) c.there).anchored
 
   answered : (answer : TreeAnswer) (q : TreeParts) → q.keys ≡ c.parts.keys → q.watch.exhibit ≡ None → IsRooted c.setup (plain_of_parts c.setup q)
-      → AnswersOn c.setup (plain_of_parts c.setup c.parts) (plain_of_parts c.setup q) answer
+      → SaysOfOn c.setup (plain_of_parts c.setup c.parts) (plain_of_parts c.setup q) answer
       → IsAnswered c.setup (state_of c.setup c.parts) Do.On answer (state_of c.setup q)
   answered answer q keys none rooted it =
       record {
@@ -183,12 +183,12 @@ module _ (c : RecoveryCall) where
         let stored : IsSlotStored c.setup.shape (redone c.parts.board.regs.group.items c.parts.board.lines) c.parts.watch i = opened_in.places.slots i inside (clear i inside) in
         subst (λ ls. IsSlotStored c.setup.shape ls c.parts.watch i) (sym lines_made) stored)
 
-    tampered_slot : (b : BoardMemory) → (((i : ℕ) → i < tree_slots c.setup.shape → slice_index_or c.parts.tampered (line_of_slot c.setup.shape i) false ≡ false) → ⊥)
-        → IsSlotTampered c.setup.shape (with_board (plain_of_parts c.setup c.parts) b)
-    tampered_slot b not =
+    tampered_slot : (((i : ℕ) → i < tree_slots c.setup.shape → slice_index_or c.parts.tampered (line_of_slot c.setup.shape i) false ≡ false) → ⊥)
+        → IsSlotTampered c.setup.shape c.parts.tampered
+    tampered_slot not =
         elim (some_flag (λ i. slice_index_or c.parts.tampered (line_of_slot c.setup.shape i) false) (tree_slots c.setup.shape)) [
           | inl clear ↦ absurd (not clear)
-          | inr found ↦ record { slot = found.0; inside = found.1; tampered = found.2 }
+          | inr found ↦ record { slot = found.0; inside = found.1; its_line = found.2 }
         ]
 
   -- the slot lines read are those of the device
@@ -348,9 +348,9 @@ module _ (c : RecoveryCall) where
         let plain = plain_same (left_with resting None) refl same_refused refl refl in
         answered (Say.RefusedShadow kept found (steps_in c.taken)) (left_with resting None) refl (ap (λ (w : WatchState). w.exhibit) same_refused ∙ c.none)
         (rooted_off c.setup (left_with resting None) c.world.whole_shape anchored_refused refl) (
-          subst (λ s. IsShadowRefused c.setup s kept found) (sym plain)
+          subst (λ s. IsShadowRefusal c.setup s kept found) (sym plain)
               (record {
-                place = tampered_slot empty_refused it.lines resting not_clear;
+                place = tampered_slot empty_refused it.lines not_clear;
                 its_root = refused.register ∙ sym it.root;
                 root_found = found_is;
                 differ = refused.differ;
@@ -387,14 +387,8 @@ module _ (c : RecoveryCall) where
             ∙ (ap (λ v. let r : TreeParts = record { keys = q.keys; board = q.board; watch = q.watch; engine = q.engine; tampered = q.tampered; hurt = v } in r) hurt)))))
 
     -- it wasn't on already
-    pub memory_wanted : IsStarved (state_of c.setup c.parts) Do.On (state_of c.setup (left_with resting None))
-    memory_wanted =
-        record {
-          takes = refl;
-          not_shown = c.none;
-          needs = dark;
-          same = ap (state_of c.setup) as_it_was;
-        }
+    pub memory_wanted : CanWantMemory (state_of c.setup c.parts) Do.On × (state_of c.setup (left_with resting None) ≡ state_of c.setup c.parts)
+    memory_wanted = (record { takes = refl; not_shown = c.none; needs = dark }, ap (state_of c.setup) as_it_was)
 
     pub memory_held : IsTreeWorld c.setup (left_with resting None)
     memory_held = subst (IsTreeWorld c.setup) (sym as_it_was) c.world
@@ -447,7 +441,7 @@ module _ (c : RecoveryCall) where
           not_shown = c.none;
           undecided = ap (λ (b : Bool). Rattle.std.specs.Prelude.if◌then◌else◌ b (Some Say.Already) None) dark;
           holds = subst (λ e. IfSome e (IsExhibit c.setup.formulas)) is (it.trusted anchored_from);
-          shows = subst (λ s. IsShadowShown c.setup s exhibit) (sym plain) (shadow_shown true_are);
+          shows = subst (λ s. IsShadowExhibit c.setup s exhibit) (sym plain) (shadow_shown true_are);
           plain = plain;
           steps = steps_in c.taken;
           taken =
@@ -466,7 +460,7 @@ module _ (c : RecoveryCall) where
         same_setup : c.parts.watch.setup ≡ c.setup
         same_setup = c.world.its_watch.its_setup
 
-        shadow_shown : true_slots c.setup.shape (plain_of_parts c.setup c.parts) ≡ c.parts.watch.slots → IsShadowShown c.setup (with_board (plain_of_parts c.setup c.parts) resting) exhibit
+        shadow_shown : true_slots c.setup.shape (plain_of_parts c.setup c.parts) ≡ c.parts.watch.slots → IsShadowExhibit c.setup (with_board (plain_of_parts c.setup c.parts) resting) exhibit
         shadow_shown true_are =
             let truth : true_slots c.setup.shape (with_board (plain_of_parts c.setup c.parts) resting) ≡ c.parts.watch.slots =
             slots-free c.setup.shape (plain_of_parts c.setup c.parts) resting (plain_of_parts c.setup c.parts).named ∙ true_are in
@@ -478,7 +472,7 @@ module _ (c : RecoveryCall) where
               height = its_clash.height;
               position = its_clash.position;
               place =
-                  tampered_slot empty_shown it.lines resting
+                  tampered_slot empty_shown it.lines
                   (λ clear. clash.other (slots_are ∙ slots_true empty_shown it.lines clear it.size));
               one_root = ap (shadow_root c.setup.shape c.setup.formulas) (sym slots_are) ∙ (clash.root ∙ sym it.root);
               difference =

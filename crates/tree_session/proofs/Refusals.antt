@@ -26,7 +26,7 @@ use Rattle.asit_shadow.specs.Steps.{plain_of}
 use Rattle.asit_shadow.specs.Plain.{PlainTree, true_node, true_version, true_count, true_cipher, slot_naming, with_board}
 use Rattle.asit_shadow.proofs.SlotPlaces.{on_path-inside}
 use Rattle.tree_session.specs.World.{TreeParts, plain_of_parts}
-use Rattle.tree_session.specs.Answered.{IsRooted, IsPathTampered, IsNodeRefused, IsNodeShown, IsDataRefused, IsDataShown}
+use Rattle.tree_session.specs.Answered.{IsRooted, IsPathTampered, IsNodeRefusal, IsNodeExhibit, IsDataRefusal, IsDataExhibit}
 use Rattle.tree_session.proofs.PlainStates.{plain_is, node-is}
 
 -- the true nodes don't depend on the board
@@ -63,12 +63,12 @@ module _ (setup : Setup) (p : TreeParts) (regs : Regs) (b : BoardMemory) (shape 
   version-here x inside = ap total (node-here x inside)
 
   path-tampered : (a x : ℕ) → is_on_line_path setup.shape a x ≡ true → 1 ≤ x → (slice_index_or p.tampered (line_of_node setup.shape x) false ≡ false → ⊥)
-      → IsPathTampered setup.shape (with_board (plain_of_parts setup p) b) a x
+      → IsPathTampered setup.shape p.tampered a x
   path-tampered a x on low changed =
       record {
         on_path = on;
         below_top = λ e. omega (arith, low, e);
-        tampered =
+        its_line =
             elim (cases_Bool (slice_index_or p.tampered (line_of_node setup.shape x) false)) [
               | inl set ↦ set
               | inr clear ↦ absurd (changed clear)
@@ -77,7 +77,7 @@ module _ (setup : Setup) (p : TreeParts) (regs : Regs) (b : BoardMemory) (shape 
 
   pub node-refused : (a x : ℕ) (line : Line) → a < tree_lines setup.shape → is_on_line_path setup.shape a x ≡ true → 1 ≤ x
       → line ≡ line_at b.lines (line_of_node setup.shape x) → node_read setup.formulas x line (total (node_at p.watch.nodes x)) ≡ None
-      → (slice_index_or p.tampered (line_of_node setup.shape x) false ≡ false → ⊥) → IsNodeRefused setup (with_board (plain_of_parts setup p) b) a x
+      → (slice_index_or p.tampered (line_of_node setup.shape x) false ≡ false → ⊥) → IsNodeRefusal setup (with_board (plain_of_parts setup p) b) a x
   node-refused a x line within on low read none changed =
       let inside = on_path-inside setup.shape a x within on in
       record {
@@ -90,7 +90,7 @@ module _ (setup : Setup) (p : TreeParts) (regs : Regs) (b : BoardMemory) (shape 
   pub node-shown : (a x : ℕ) (line : Line) (node : Node) (exhibit : Exhibit) → a < tree_lines setup.shape → is_on_line_path setup.shape a x ≡ true → 1 ≤ x
       → line ≡ line_at b.lines (line_of_node setup.shape x) → node_read setup.formulas x line (total (node_at p.watch.nodes x)) ≡ Some node
       → node ≢ node_at p.watch.nodes x → exhibit ≡ forged_node p.watch x line
-      → (slice_index_or p.tampered (line_of_node setup.shape x) false ≡ false → ⊥) → IsNodeShown setup (with_board (plain_of_parts setup p) b) a exhibit
+      → (slice_index_or p.tampered (line_of_node setup.shape x) false ≡ false → ⊥) → IsNodeExhibit setup (with_board (plain_of_parts setup p) b) a exhibit
   node-shown a x line node exhibit within on low read accepted other its changed =
       let inside = on_path-inside setup.shape a x within on in
       let small : total (node_at p.watch.nodes x) < 2 ^ 64 = tree-version setup.shape p.watch.nodes x anchored.tree inside in
@@ -124,7 +124,7 @@ module _ (setup : Setup) (p : TreeParts) (regs : Regs) (b : BoardMemory) (shape 
 
   pub data-refused : (a : ℕ) (cipher tags : Line) → a < tree_lines setup.shape → cipher ≡ line_at b.lines a → tags ≡ line_at b.lines (line_of_tag setup.shape a)
       → setup.formulas.tag_of a (version_counter (line_counter setup.shape p.watch.nodes a)) cipher ≢ tag_slot tags 0
-      → (slice_index_or p.hurt a false ≡ false → ⊥) → IsDataRefused setup (with_board (plain_of_parts setup p) b) a
+      → (slice_index_or p.hurt a false ≡ false → ⊥) → IsDataRefusal setup (with_board (plain_of_parts setup p) b) a
   data-refused a cipher tags within read read_tags fails unhurt =
       record {
         hurt = hurt-here a unhurt;
@@ -151,7 +151,7 @@ module _ (setup : Setup) (p : TreeParts) (regs : Regs) (b : BoardMemory) (shape 
       → setup.formulas.tag_of a (version_counter (line_counter setup.shape p.watch.nodes a)) cipher ≡ tag_slot tags 0
       → IfSome (last_seal_of p.watch a) (λ seal. cipher ≢ seal.cipher)
       → exhibit ≡ Forged a (version_counter (line_counter setup.shape p.watch.nodes a)) cipher (tag_slot tags 0)
-      → (slice_index_or p.hurt a false ≡ false → ⊥) → IsDataShown setup (with_board (plain_of_parts setup p) b) a exhibit
+      → (slice_index_or p.hurt a false ≡ false → ⊥) → IsDataExhibit setup (with_board (plain_of_parts setup p) b) a exhibit
   data-shown a cipher tags exhibit within read read_tags fits other its unhurt =
       let sealed = anchored.seals a within in
       let differs : cipher ≢ sealed.seal.cipher = subst (λ s. IfSome s (λ seal. cipher ≢ seal.cipher)) sealed.last other in

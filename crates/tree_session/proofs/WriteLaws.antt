@@ -3,11 +3,10 @@ use Rattle.std.proofs.Common.{ℕ, ◌≡◌, ◌<◌, ◌≤◌, ◌+◌, ◌/�
 use Rattle.std.specs.Prelude.{IfSome, slice_index_or, slice_set}
 use Rattle.std.proofs.lemmas.Bool.{cases_eq}
 use Rattle.std.proofs.lemmas.List.{length-set, length-map, get_or-set_other}
-use Rattle.std.proofs.lemmas.Option.{same_Some}
 use Rattle.pmem_base.specs.declared.lines.Line.{Line}
 use Rattle.pmem_base.specs.declared.registers.Regs.{Regs}
 use Rattle.pmem_base.specs.declared.answers.Exhibit.{Exhibit}
-use Rattle.pmem_base.specs.Lines.{IsLine, line_at}
+use Rattle.pmem_base.specs.Lines.{IsLine}
 use Rattle.pmem_base.specs.Shape.{Shape}
 use Rattle.board.specs.Device.{Device}
 use Rattle.bonsai_tree.proofs.PathPositions.{length-path_of}
@@ -33,7 +32,7 @@ use Rattle.tree_session.specs.declared.commands.TreeCommand.TheVariants as Do
 use Rattle.tree_session.specs.declared.answers.TreeAnswer.{TreeAnswer}
 use Rattle.tree_session.specs.declared.answers.TreeAnswer.TheVariants as Say
 use Rattle.tree_session.specs.World.{TreeParts, plain_of_parts, state_of, IsTreeWorld}
-use Rattle.tree_session.specs.Answered.{IsAnswered, IsRooted, IsEngineShown, AnswersWrite, AnswersWith, IsNodeShown, IsNodeRefused, IsUsedUp, write_bound, IsBoardSpilled}
+use Rattle.tree_session.specs.Answered.{IsAnswered, IsRooted, IsEngineShown, SaysOfWrite, AnswersWith, IsNodeExhibit, IsNodeRefusal, AllAreMade, write_bound, IsBoardSpilled}
 use Rattle.tree_session.proofs.BoardSteps.{goes_on, cut_off, latched, unlatched, untouched, then_rests, taken-exact}
 use Rattle.tree_session.proofs.PlainStates.{plain_is, plain-kept, plain-written, writes-are}
 use Rattle.tree_session.proofs.Held.{EngineCall, from, to, left, left_resting, trusted_from, powered_from, seals_kept, on_after, rooted_after, off_after, rooted_cut, ended_after, none_is}
@@ -50,7 +49,7 @@ group-length g a seal nodes =
 
 module _ (c : EngineCall) (a : ℕ) (within : a < tree_lines c.setup.shape) (line : Line) (whole : IsLine line) where
   answered : (answer : TreeAnswer) (q : TreeParts) → q.keys ≡ c.parts.keys → q.watch.exhibit ≡ None → IsRooted c.setup (plain_of_parts c.setup q)
-      → AnswersWrite c.setup (plain_of_parts c.setup c.parts) a line (plain_of_parts c.setup q) answer
+      → SaysOfWrite c.setup (plain_of_parts c.setup c.parts) a line (plain_of_parts c.setup q) answer
       → IsAnswered c.setup (state_of c.setup c.parts) (Do.Write a line) answer (state_of c.setup q)
   answered answer q keys none rooted it =
       record {
@@ -67,7 +66,7 @@ module _ (c : EngineCall) (a : ℕ) (within : a < tree_lines c.setup.shape) (lin
       writes-are c.setup c.parts.watch c.parts.board.regs c.world.whole_shape (trusted_from c).anchored (plain_of_parts c.setup c.parts)
       (plain_is c.setup c.parts c.parts.board.regs c.world.whole_shape (trusted_from c).anchored)
 
-  unused : (told.IsUsedUp (from c) → ⊥) → IsUsedUp (plain_of_parts c.setup c.parts) → ⊥
+  unused : (told.IsUsedUp (from c) → ⊥) → AllAreMade (plain_of_parts c.setup c.parts).counts → ⊥
   unused not up = not (sym made-is ∙ up)
 
   -- ---- flags once the line is written
@@ -257,7 +256,7 @@ module _ (c : EngineCall) (a : ℕ) (within : a < tree_lines c.setup.shape) (lin
         answered (Say.RefusedNode x (steps_in c.taken)) (left c (Some c.after) c.parts.hurt) refl (keeps.exhibit going-unshown ∙ c.none)
         (rooted_after c node.effect c.parts.hurt c.world.hurt_count (seals_kept c going node.effect)) (
           unused (node.answered (trusted_from c)).0,
-          subst (λ s. IsNodeRefused c.setup s a x) (sym plain) (refused_node c a within c.board refl x (node.answered (trusted_from c)).1),
+          subst (λ s. IsNodeRefusal c.setup s a x) (sym plain) (refused_node c a within c.board refl x (node.answered (trusted_from c)).1),
           goes_on c.parts.board c.board c.taken c.watched (node.effect.power.1 (powered_from c)),
           backs c.taken c.setup.shape.levels going c.parts.board c.board c.watched node.steps,
           plain,
@@ -311,7 +310,7 @@ module _ (c : EngineCall) (a : ℕ) (within : a < tree_lines c.setup.shape) (lin
           holds = subst (λ e. IfSome e (IsExhibit c.setup.formulas)) is (show.effect.trusted (trusted_from c));
           shows = (
             unused why.0,
-            subst (λ s. IsNodeShown c.setup s a exhibit) (sym plain) (shown_node c a within (record c.board { powered = false }) refl exhibit is why.1),
+            subst (λ s. IsNodeExhibit c.setup s a exhibit) (sym plain) (shown_node c a within (record c.board { powered = false }) refl exhibit is why.1),
           );
           plain = plain;
           steps = steps_in c.taken;

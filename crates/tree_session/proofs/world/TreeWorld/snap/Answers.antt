@@ -51,7 +51,7 @@ returns-then-is_err-clause-halted g c =
       unshown = c.requires;
     } in
     let error : IsErr c.snap.result = let h = c.if-is_err.true in let k = c.is_err.ensures.value in cc in
-    snap_wanted q c.snap.result error c.snap.ensures.first_only _ (search rules)
+    (snap_wanted q c.snap.result error c.snap.ensures.first_only, search rules)
 
 pub returns-clause-answered : goal.returns-clause-answered
 returns-clause-answered g c =
