@@ -11,7 +11,7 @@ ghost use Rattle.seal_ledger.specs.View.{ledger_of};
 ghost use Rattle.pmem_engine.specs.Calls.{IsReady};
 
 use board::{Board, MemBoard};
-use pmem_base::{Geo, Line};
+use pmem_base::{Ctr, Geo, Line};
 use pmem_engine::{Engine, Fault};
 use pmem_recovery::{format, recover};
 use seal_ledger::{Audit, Ledger};
@@ -130,6 +130,30 @@ fn put(
     )
 }
 
+/// Writes a data line past the levelling.
+fn write_past(
+    rt: &impl Abort,
+    bench: &mut Bench,
+    engine: &mut Engine,
+    at: u32,
+    line: &Line,
+) -> Result<Ctr, Fault>
+    requires shape { engine.old.shape ≡ shape_of bench.old.geo }
+    requires ready { IsReady engine.old.shape engine.old (device_of (memory_of bench.old.board)) }
+    ensures geo { shape_of bench.new.geo ≡ shape_of bench.old.geo }
+    ensures shape { engine.new.shape ≡ engine.old.shape }
+    ensures ready { IsReady engine.new.shape engine.new (device_of (memory_of bench.new.board)) }
+{
+    assert!(rt; at < engine.geo().lines() && bench.ledger.reserve(66).is_ok());
+    engine.write(
+        &mut bench.board,
+        &mut bench.suite,
+        &mut bench.ledger,
+        at,
+        line,
+    )
+}
+
 /// Reads a line, which has to be this one.
 fn read(rt: &impl Abort, bench: &mut Bench, gapped: &mut Gapped, line: u32, plain: &Line)
     requires shape { gapped.old.engine.shape ≡ shape_of bench.old.geo }
@@ -208,14 +232,7 @@ fn faulty_records_are_told(rt: HostRuntime) -> Result<(), Fail> {
     let mut bench = fresh(rt.alloc())?;
     let mut engine = recovered(rt.alloc(), &mut bench)?;
     let line = Line([1; 64]);
-    assert!(rt; bench.geo.lines() == 1024 && bench.ledger.reserve(66).is_ok());
-    let Bench {
-        board,
-        suite,
-        ledger,
-        ..
-    } = &mut bench;
-    assert!(rt; engine.write(board, suite, ledger, 1023, &line).is_ok());
+    assert!(rt; write_past(&rt, &mut bench, &mut engine, 1023, &line).is_ok());
     assert_eq!(rt;
         open(&mut bench, engine, 1).err(),
         Some(GapFault::BadWear { line })
