@@ -10,7 +10,7 @@ ghost use Rattle.board.specs.Memory.{device_of};
 ghost use Rattle.seal_ledger.specs.View.{ledger_of};
 ghost use Rattle.pmem_engine.specs.Calls.{IsUsable};
 
-use assertions::equal;
+use crate::tests::equal;
 use board::{Board, MemBoard};
 use bonsai_tree::node_of;
 use line_seal::{put_tag, seal};

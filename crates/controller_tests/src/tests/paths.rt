@@ -6,7 +6,7 @@ ghost use Rattle.board.specs.MemBoard.{memory_of};
 ghost use Rattle.seal_ledger.specs.View.{ledger_of};
 ghost use Rattle.meta_path.specs.Blocks.{AreInTheirBanks};
 
-use assertions::equal;
+use crate::tests::equal;
 use board::{Board, MemBoard};
 use bonsai_tree::node_of;
 use meta_cache::Cache;

@@ -13,7 +13,7 @@ ghost use Rattle.pmem_engine.specs.Calls.{IsReady};
 mod memory;
 mod writes;
 
-use assertions::equal;
+use crate::tests::equal;
 use board::{Board, MemBoard};
 use bonsai_tree::set_child;
 use line_seal::{put_tag, seal, tag_at};

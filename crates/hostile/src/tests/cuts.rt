@@ -4,7 +4,7 @@ ghost use Rattle.plain_model.specs.Answers as answers;
 ghost use Rattle.pmem_base.specs.Ranges.{IsCommand};
 ghost use Rattle.pmem_replay.specs.World.{WorldState};
 
-use assertions::equal;
+use crate::tests::equal;
 use pmem_base::{Answer, Command, Geo, Line};
 use pmem_replay::World;
 use std::alloc::Global;

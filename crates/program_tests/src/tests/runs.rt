@@ -1,7 +1,7 @@
 //! Whole runs over memory.
 ghost use Rattle.std.specs.Prelude.{None};
 
-use assertions::equal;
+use crate::tests::equal;
 use pmem_cli::{Failed, MemSink, MemSource, Sink, Source, StdSink, StdSource, run};
 use sha2::{Digest, Sha256};
 use std::alloc::Global;

@@ -3,8 +3,8 @@ ghost use Rattle.std.specs.Prelude.{IsTrue};
 ghost use Rattle.plain_model.specs.Answers.{is_answer_to};
 ghost use Rattle.trace_text.specs.Answers.{HasSmallMinors};
 
+use crate::tests::equal;
 use arrayvec::ArrayVec;
-use assertions::equal;
 use pmem_base::{Answer, Command, Ctr, Exhibit, Kind, Line, Mark, Place, Stat};
 use rand_xoshiro::SplitMix64;
 use rand_xoshiro::rand_core::SeedableRng;

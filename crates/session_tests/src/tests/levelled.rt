@@ -10,7 +10,7 @@ ghost use Rattle.board.specs.MemBoard.{memory_of};
 ghost use Rattle.seal_ledger.specs.View.{ledger_of};
 ghost use Rattle.pmem_engine.specs.Calls.{IsReady};
 
-use assertions::equal;
+use crate::tests::equal;
 use board::{Board, MemBoard};
 use pmem_base::{Ctr, Geo, Line};
 use pmem_engine::{Engine, Fault};

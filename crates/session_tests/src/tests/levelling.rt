@@ -1,5 +1,5 @@
 //! Worked wears: a memory of three lines through each move of a turn, and records.
-use assertions::equal;
+use crate::tests::equal;
 use pmem_base::Line;
 use start_gap::{Wear, next, place, read_wear, source, wear_line};
 

@@ -4,8 +4,8 @@ ghost use Rattle.board.specs.Memory.{device_of};
 ghost use Rattle.board.specs.MemBoard.{memory_of};
 ghost use Rattle.asit_shadow.specs.Parts.{parts_of, IsUsable};
 
+use crate::tests::equal;
 use asit_shadow::{TreeEngine, TreeFault, TreeRec, tree_format, tree_recover};
-use assertions::equal;
 use board::MemBoard;
 use counter_tree::{Node, Watch, WatchBook, slot_line, tree_lines, tree_size};
 use pmem_base::{Exhibit, Geo, Line};

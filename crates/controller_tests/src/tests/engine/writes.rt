@@ -4,7 +4,7 @@ ghost use Rattle.std.specs.Prelude.{◌≤◌, ◌+◌};
 ghost use Rattle.pmem_base.specs.Ranges.{IsPosted};
 
 use super::{Bench, Chip, formatted};
-use assertions::equal;
+use crate::tests::equal;
 use board::{Board, MemBoard};
 use bonsai_tree::node_of;
 use line_seal::tag_at;

@@ -6,7 +6,7 @@ ghost use Rattle.board.specs.MemBoard.{memory_of};
 ghost use Rattle.pmem_engine.specs.Calls.{IsReady};
 
 use super::{Bench, fresh, line, mended, read_all, write_armed};
-use assertions::equal;
+use crate::tests::equal;
 use board::{Board, MemBoard};
 use pmem_base::{Geo, Line, Regs};
 use pmem_engine::Engine;

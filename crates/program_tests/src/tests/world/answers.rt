@@ -3,7 +3,7 @@ ghost use Rattle.std.specs.Prelude.{◌≡◌, ◌<◌, false, OnOk};
 ghost use Rattle.pmem_base.specs.Ranges.{IsCommand};
 
 use super::asked::{Row, ask, ask_all, first_byte, small_world};
-use assertions::equal;
+use crate::tests::equal;
 use pmem_base::{Answer, Command, Ctr, Exhibit, Line, Place, Stat, Tag};
 use pmem_replay::World;
 use std::process::Abort;

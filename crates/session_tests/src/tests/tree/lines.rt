@@ -1,7 +1,7 @@
 //! What lines ask for.
 use super::super::{converse, spelled};
 use super::new_session;
-use assertions::equal;
+use crate::tests::equal;
 use pmem_base::{Kind, Line};
 use std::test::Fail;
 use trace_text::{Halt, Talk};
