@@ -15,7 +15,7 @@ use Rattle.asit_shadow.specs.Parts.{Parts}
 use Rattle.asit_shadow.specs.Paths.{path_node}
 use Rattle.asit_shadow.specs.Work.{holds_node, holds_dirty, write_back, level_write, spilled}
 use Rattle.asit_shadow.specs.Counts.{level_tags, fetch_tags}
-use Rattle.asit_shadow.proofs.LevelWork.{is_cached-true, is_cached-false}
+use Rattle.asit_shadow.proofs.LevelWork.{is_cached-false}
 use Rattle.asit_shadow.proofs.PathSteps.{IsNextLevel, next-work}
 
 -- the tags of node x, by its slot and by whether it is there
@@ -28,10 +28,6 @@ one-more true n start count is = ap risen is ∙ risen_times-then n 1 start
 one-more false n start count is = is ∙ risen_times-then n 0 start
 
 -- ---- one node
-
-pub cached-tags : (setup : Setup) (cache : List (Option CachedNode)) (x count : ℕ) → IsCached setup.shape cache x → count ≡ risen_times (level_tags setup cache x) count
-cached-tags setup cache x count it =
-    ap (λ b. risen_times (slot_tags setup (cache_at cache (slot_of setup.shape x)) b) count) (sym (is_cached-true setup.shape cache x it))
 
 -- one tag where a dirty node is written back
 back-tags : (dirty : Bool) (pair : ℕ × Line) (count : ℕ) → cond dirty (risen count) count ≡ risen_times (length (cond dirty (pair ∷ []) [])) count

@@ -30,7 +30,7 @@ use Rattle.asit_shadow.specs.declared.fault.TreeFault.TheVariants as Fail
 use Rattle.asit_shadow.specs.State.{IsTreeEngine}
 use Rattle.asit_shadow.specs.Invariants.{IsAnchored, IsDurable, IsSound, IsSealStored, IsSlotStored}
 use Rattle.asit_shadow.specs.Places.{IsNodeHeld, IsNodeHeldBy}
-use Rattle.asit_shadow.specs.Parts.{Parts, lines_redone, AreTrusted, AreSound, AreToldWith, IsWatchReady, HoldsSeal, HoldsSlot}
+use Rattle.asit_shadow.specs.Parts.{Parts, lines_redone, AreTrusted, AreSound, IsWatchReady, HoldsSeal, HoldsSlot}
 use Rattle.asit_shadow.specs.Steps.{IsArmed, IsEmptied}
 use Rattle.asit_shadow.specs.Calls.{IsPathAccepted, IsUsedUp}
 use Rattle.asit_shadow.specs.Work.{spilled, IsCutInGroup}
@@ -41,7 +41,7 @@ use Rattle.asit_shadow.proofs.GroupLaws.{IsDurable-again}
 use Rattle.asit_shadow.proofs.PairSets.{length-set_pairs, pairs-count}
 use Rattle.asit_shadow.proofs.SlotPlaces.{on_path-inside}
 use Rattle.asit_shadow.proofs.PlaceLaws.{armed-places, written-place}
-use Rattle.asit_shadow.proofs.ToldLemmas.{told-as, told-match}
+use Rattle.asit_shadow.proofs.ToldLemmas.{AreToldWith, told-as, told-match}
 use Rattle.asit_shadow.proofs.Chains.{power-then, told-of}
 use Rattle.asit_shadow.proofs.PathSteps.{same_lines}
 use Rattle.asit_shadow.proofs.ReadEnds.{path-accepted, sound-trusted}
