@@ -17,7 +17,7 @@ use Rattle.asit_shadow.specs.declared.cache.CachedNode.{CachedNode}
 use Rattle.asit_shadow.specs.declared.fault.TreeFault.{TreeFault}
 use Rattle.asit_shadow.specs.declared.fault.TreeFault.TheVariants as Fail
 use Rattle.asit_shadow.specs.State.{TreeState}
-use Rattle.asit_shadow.specs.Parts.{Parts, parts_of, IsWatchReady, IsBoardReady, IsUsable}
+use Rattle.asit_shadow.specs.Parts.{Parts, parts_of, IsWatchReady, IsBoardReady}
 use Rattle.asit_shadow.specs.Work.{HasFetchedLevels, HasFetchedPath, IsShownAt, IsCutInFetch}
 use Rattle.asit_shadow.proofs.LevelWork.{levels-kept}
 use Rattle.asit_shadow.specs.Calls.{outcome_of, outcome_of_fault, CallEffect, KeepsWatch, IsDownAnswer, IsNodeLineRead, IsNodeShown, IsPathAccepted, IsLineShown, IsLineRead, AnswersDown}
@@ -224,23 +224,7 @@ board-kept g old new size regs ready =
       group = subst (λ (r : Regs). IsGroup (tree_size g) r.group.items) (sym regs) ready.group;
     }
 
-pub read-usable : (setup : Setup) (a : ℕ) (old new : Parts) (answer : Result Line TreeFault) → old.engine.down ≡ false → IsUsable setup.shape old → IsLineRead setup a old new answer → IsUsable setup.shape new
-read-usable setup a old new answer up usable it =
-    record {
-      watch = ready-kept setup.shape (outcome_of answer) old.watch new.watch it.watch usable.watch;
-      board = board-kept setup.shape old.device new.device it.effect.size it.regs usable.board;
-      no_group = λ _. ap (λ (r : Regs). r.group.items) it.regs ∙ usable.no_group up;
-    }
-
 -- ---- the engine is down, or not
-
-pub answers-down : {T : Type 0} (old : Parts) (answer : Result T TreeFault) → old.engine.down ≡ true → IsDownAnswer answer → is_going (outcome_of answer) ≡ true → AnswersDown old old answer
-answers-down old answer down is goes =
-    record {
-      exactly = (λ _. down, λ _. is);
-      still = λ _. refl;
-      after = sym (ap (λ b. old.engine.down || not b) goes ∙ or_false old.engine.down);
-    }
 
 pub answers-up : {T : Type 0} (old new : Parts) (answer : Result T TreeFault) → old.engine.down ≡ false → (IsDownAnswer answer → ⊥) → new.engine.down ≡ (old.engine.down || not (is_going (outcome_of answer))) → AnswersDown old new answer
 answers-up old new answer up other after =
@@ -249,6 +233,3 @@ answers-up old new answer up other after =
       still = λ e. absurd (other e);
       after = after;
     }
-
-pub stays-up : (old new : Bool) → new ≡ old → new ≡ (old || false)
-stays-up old new same = same ∙ sym (or_false old)

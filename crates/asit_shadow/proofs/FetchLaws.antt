@@ -18,7 +18,7 @@ use Rattle.board.proofs.LineLemmas.{AreLinesOf-set}
 use Rattle.collision_witness.specs.Exhibits.{IsExhibit}
 use Rattle.commit_regs.specs.Groups.{redone}
 use Rattle.counter_tree.specs.declared.nodes.Node.{Node}
-use Rattle.counter_tree.specs.Nodes.{wrapped_version, total, node_line, node_read, stored_node, node_place, version_counter, node_tag_of, without_tag}
+use Rattle.counter_tree.specs.Nodes.{wrapped_version, total, node_line, node_read, stored_node, node_place, version_counter, without_tag}
 use Rattle.counter_tree.specs.Layout.{tree_size, line_of_node, line_of_slot, line_of_tag}
 use Rattle.counter_tree.specs.Trees.{node_at, entry_for}
 use Rattle.counter_tree.specs.Slots.{slot_of}
@@ -32,12 +32,6 @@ use Rattle.asit_shadow.specs.Steps.{IsFetched, GivesWay}
 use Rattle.asit_shadow.proofs.SlotPlaces.{slot_of-below, slot_of-inside}
 
 -- ---- any board
-
--- a cached node has the counter under which its child is read
-pub cached-entry : (setup : Setup) (engine : TreeState) (regs : Regs) (watch : WatchState) (i y : ℕ) (held : CachedNode) → IsTrusted setup engine regs watch → cache_at engine.cache i ≡ Some held → held.x ≡ Rattle.bonsai_tree.specs.Positions.parent y → Rattle.counter_tree.specs.Nodes.counter held.node (Rattle.bonsai_tree.specs.Positions.child_slot y) ≡ entry_for watch.nodes y
-cached-entry setup engine regs watch i y held trusted here above =
-    let it = trusted.cached_true i held here in
-    ap (λ n. Rattle.counter_tree.specs.Nodes.counter n (Rattle.bonsai_tree.specs.Positions.child_slot y)) (it.true_node ∙ ap (node_at watch.nodes) above)
 
 -- what was accepted under the version, but isn't the true node, is an exhibit that holds
 pub forged_node-holds : (setup : Setup) (regs : Regs) (watch : WatchState) (x : ℕ) (line : Line) (node : Node) → IsAnchored setup regs watch → 1 ≤ x → x < meta_lines setup.shape → node_read setup.formulas x line (entry_for watch.nodes x) ≡ Some node → IsExhibit setup.formulas (forged_node watch x line)

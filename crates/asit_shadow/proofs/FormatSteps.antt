@@ -146,10 +146,6 @@ pub mapped-then : (F G H : List Line → List Line) (old mid new : Option (List 
 mapped-then F G H None mid new first second each = second ∙ ap (option_map G) first
 mapped-then F G H (Some old) mid new first second each = second ∙ (ap (option_map G) first ∙ ap Some (each old))
 
-pub mapped-none : (F : List Line → List Line) (old : Option (List Line)) → ((lines : List Line) → F lines ≡ lines) → old ≡ option_map F old
-mapped-none F None each = refl
-mapped-none F (Some old) each = ap Some (sym (each old))
-
 pub mapped-line : (told : Option (List Line)) (at : ℕ) (line : Line) → with_line told at line ≡ option_map (λ lines. slice_set lines at line) told
 mapped-line None at line = refl
 mapped-line (Some lines) at line = refl

@@ -28,14 +28,13 @@ use Rattle.counter_tree.specs.Layout.{tree_lines, line_of_tag}
 use Rattle.counter_tree.specs.Trees.{node_at, line_counter, line_position}
 use Rattle.counter_tree.specs.Watch.{WatchState, HasShown, last_seal_of}
 use Rattle.counter_tree.proofs.TreeLaws.{line_position-parent}
-use Rattle.asit_shadow.specs.declared.fault.TreeFault.{TreeFault}
 use Rattle.asit_shadow.specs.declared.fault.TreeFault.TheVariants as Fail
 use Rattle.asit_shadow.specs.State.{TreeState}
 use Rattle.asit_shadow.specs.Invariants.{IsSound}
 use Rattle.asit_shadow.specs.Parts.{Parts, AreTrusted, AreSound}
 use Rattle.asit_shadow.specs.Calls.{IsPathAccepted, IsDataLineRead, TakesWriteBacks, IsLineRead}
 use Rattle.asit_shadow.specs.Work.{absent_count, HasFetchedPath}
-use Rattle.asit_shadow.specs.Fetching.{KeepsPathLines, IsPathFetchedTo, IsFetchStopped}
+use Rattle.asit_shadow.specs.Fetching.{KeepsPathLines, IsPathFetchedTo}
 use Rattle.asit_shadow.proofs.SlotPlaces.{page_of_line}
 use Rattle.asit_shadow.proofs.Chains.{power-then, places-then, effect-then, going-uncut, going-unshown, cut-unshown}
 use Rattle.asit_shadow.proofs.ReadLaws.{read-plain, forged_line-holds, line-sound}
@@ -67,17 +66,6 @@ path-accepted setup a old mid new shape inside trusted path kept =
     }
 
 -- ---- a fetch that stopped
-
-pub read-stopped : (setup : Setup) (a : ℕ) (old new : Parts) (fault : TreeFault) → IsFetchStopped setup a old new fault → IsLineRead setup a old new (Err fault)
-read-stopped setup a old new Fail.Cut it =
-    record { kind = tt; up = λ e. e; effect = it.effect; watch = it.watch; regs = it.regs; steps = it.steps; work = it.work; answered = λ trusted. tt; unrefused = it.unrefused }
-read-stopped setup a old new Fail.Down it = absurd it.kind
-read-stopped setup a old new (Fail.Node x) it =
-    record { kind = tt; up = λ e. e; effect = it.effect; watch = it.watch; regs = it.regs; steps = it.steps; work = it.work; answered = it.answered; unrefused = it.unrefused }
-read-stopped setup a old new (Fail.Tag b) it = absurd it.kind
-read-stopped setup a old new Fail.Spent it = absurd it.kind
-read-stopped setup a old new Fail.Shown it =
-    record { kind = tt; up = λ e. e; effect = it.effect; watch = it.watch; regs = it.regs; steps = it.steps; work = inl it.work; answered = λ trusted. inl (it.answered trusted); unrefused = it.unrefused }
 
 -- ---- both lines of a data line are read
 

@@ -17,13 +17,13 @@ use Rattle.board.specs.Counts.{RisesBy}
 use Rattle.board.specs.Device.{Device, AreToldLines}
 use Rattle.board.specs.Steps.{Tells}
 use Rattle.collision_witness.specs.Exhibits.{IsExhibit}
-use Rattle.commit_regs.specs.Groups.{redone, redone_told, HasFinished, IsInterrupted}
+use Rattle.commit_regs.specs.Groups.{redone, redone_told, HasFinished}
 use Rattle.pmem_engine.specs.Outcomes.{going}
 use Rattle.pmem_engine.proofs.CallEnds.ToldLines.{unarmed}
 use Rattle.pmem_recovery.specs.declared.faults.Work.{Work}
 use Rattle.counter_tree.specs.Accepted.{IsCutReading}
 use Rattle.counter_tree.specs.Nodes.{node_line}
-use Rattle.counter_tree.specs.Layout.{tree_slots, tree_size, line_of_slot}
+use Rattle.counter_tree.specs.Layout.{tree_slots, line_of_slot}
 use Rattle.counter_tree.specs.Trees.{node_at}
 use Rattle.counter_tree.specs.Slots.{slot_of, slot_line, slot_read}
 use Rattle.counter_tree.specs.Shadow.{ChipTree, shadow_height, root_of, shadow_root, shadow_digests}
@@ -170,23 +170,6 @@ slots-true setup slots old new finished read durable =
 
 -- ---- the ends
 
-pub memory_end : (setup : Setup) (rest : Rest) (count : ℕ) → HasTreeRecovered setup rest rest count count (Err Fail.Memory)
-memory_end setup rest count =
-    record {
-      size = refl;
-      lines = refl;
-      root = refl;
-      group = refl;
-      begun = λ is. absurd (going-uncut is);
-      work = refl;
-      cached = tt;
-      power = (λ was. was, λ was. was, refl);
-      answered = refl;
-      trusted = λ anchored. anchored;
-      sound = λ durable. durable;
-      places = λ anchored. record { seals = λ a inside it. it; slots = λ i inside it. it; nodes = λ x inside it. it };
-    }
-
 -- power was cut, and the group makes the same of the lines
 cut_places : (setup : Setup) (old new : Rest) → rest_redone new ≡ rest_redone old → new.watch ≡ old.watch → KeepsRestPlaces setup old new (Err Fail.Cut)
 cut_places setup old new lines watch =
@@ -197,35 +180,6 @@ cut_places setup old new lines watch =
       nodes = λ x inside it. rest-nodes setup old new x lines same it;
     }
 
-pub finish_cut : (setup : Setup) (old new : Rest) (before after : ℕ) → AreToldLines new.device.size new.device.lines → old.device.size ≡ tree_size setup.shape → IsInterrupted old.device.regs.group.items old.device new.device → new.watch ≡ old.watch → old.device.regs.group.items ≢ [] → after ≡ before → HasTreeRecovered setup old new before after (Err Fail.Cut)
-finish_cut setup old new before after told its_size cut watch armed digests =
-    let lines : rest_redone new ≡ rest_redone old =
-    ap (λ (r : Regs). redone_told r.group.items new.device.lines) cut.regs ∙ cut.again in
-    record {
-      size = cut.size;
-      lines = lines;
-      root = ap (λ (r : Regs). r.root) cut.regs;
-      group = inl (record { regs = cut.regs; writes = cut.writes; latches = cut.latches });
-      begun = λ is live. record { regs = cut.regs; writes = cut.writes; latches = cut.latches };
-      work =
-          record {
-            no_digests = digests;
-            due = λ live. armed;
-            no_reads = λ live. cut.reads;
-          };
-      cached = tt;
-      power = (cut.unsteady, cut.off, cut.rose);
-      answered = watch;
-      trusted =
-          λ anchored.
-          subst (λ (r : Regs). IsAnchored setup r new.watch) (sym cut.regs) (subst (IsAnchored setup old.device.regs) (sym watch) anchored);
-      sound =
-          λ durable.
-          subst (λ (r : Regs). MatchOption new.device.lines ⊥ (λ ls. IsDurable setup ls r new.watch)) (sym cut.regs)
-          (subst (λ (w : WatchState). MatchOption new.device.lines ⊥ (λ ls. IsDurable setup ls old.device.regs w)) (sym watch)
-          (of old.device.lines new.device.lines durable cut.again told));
-      places = λ anchored. cut_places setup old new lines watch;
-    }
   where
     of : (before_lines after_lines : Option (List Line)) → MatchOption before_lines ⊥ (λ ls. IsDurable setup ls old.device.regs old.watch) → redone_told old.device.regs.group.items after_lines ≡ redone_told old.device.regs.group.items before_lines → AreToldLines new.device.size after_lines
         → MatchOption after_lines ⊥ (λ ls. IsDurable setup ls old.device.regs old.watch)

@@ -1,14 +1,12 @@
 -- The end of a write: a cut and an exhibit take the engine down.
-use Rattle.std.proofs.Common.{ℕ, ◌≡◌, ◌<◌, ◌^◌, ◌-◌, true, false, List, map, refl, sym, ap, subst, inl, inr, ◌∙◌}
+use Rattle.std.proofs.Common.{ℕ, ◌≡◌, ◌<◌, ◌^◌, ◌-◌, List, map, refl, sym, ap, subst, inl, inr}
 use Rattle.std.specs.Prelude.{Result, Err, ◌↔◌, replicate}
-use Rattle.std.proofs.lemmas.Bool.{true≢false}
 use Rattle.std.proofs.lemmas.List.{length-replicate}
 use Rattle.pmem_base.specs.declared.lines.Line.{Line}
 use Rattle.pmem_base.specs.Registers.{IsGroup}
 use Rattle.pmem_base.specs.Shape.{Shape, IsShape}
 use Rattle.pmem_base.specs.Layout.{meta_lines}
 use Rattle.suite.specs.Setup.{Setup}
-use Rattle.pmem_engine.specs.Outcomes.{is_going}
 use Rattle.counter_tree.specs.declared.nodes.Node.{Node}
 use Rattle.counter_tree.specs.declared.watch.LineSeal.{LineSeal}
 use Rattle.counter_tree.specs.Nodes.{total, zero_node}
@@ -18,10 +16,10 @@ use Rattle.counter_tree.specs.Trees.{node_at}
 use Rattle.asit_shadow.specs.declared.fault.TreeFault.{TreeFault}
 use Rattle.asit_shadow.specs.declared.fault.TreeFault.TheVariants as Fail
 use Rattle.asit_shadow.specs.State.{TreeState, top_node}
-use Rattle.asit_shadow.specs.Parts.{Parts, parts_of, AreTrusted, IsUsable}
+use Rattle.asit_shadow.specs.Parts.{Parts, parts_of, AreTrusted}
 use Rattle.asit_shadow.specs.Paths.{line_path, HasPathCached}
 use Rattle.asit_shadow.specs.Work.{IsCutInGroup}
-use Rattle.asit_shadow.specs.Calls.{outcome_of, IsSpentAnswer, IsWriteLost, IsWriteKept, IsLineWritten}
+use Rattle.asit_shadow.specs.Calls.{IsSpentAnswer, IsWriteLost, IsWriteKept, IsLineWritten}
 use Rattle.asit_shadow.specs.Fetching.{IsFetchFault}
 use Rattle.asit_shadow.specs.Writing.{armed_lines, set_pairs, HasWrittenUp}
 use Rattle.asit_shadow.proofs.PathSteps.{top-in, in-true}
@@ -66,23 +64,6 @@ written-up setup a plain old new answer it spent =
       answered = it.answered;
       unrefused = it.unrefused;
       watch = it.watch;
-    }
-
-pub write-usable : (setup : Setup) (a : ℕ) (plain : Line) (old new : Parts) (answer : Result ℕ TreeFault) → old.engine.down ≡ false → is_going (outcome_of answer) ≡ true → IsUsable setup.shape old → HasWrittenUp setup a plain old new answer → IsUsable setup.shape new
-write-usable setup a plain old new answer up goes usable it =
-    record {
-      watch = it.ready usable.watch;
-      board = it.board usable.board;
-      no_group = λ _. it.no_group goes (usable.no_group up);
-    }
-
--- one that is down asks nothing of the group
-pub write-usable_down : (setup : Setup) (a : ℕ) (plain : Line) (old mid : Parts) (engine : TreeState) (answer : Result ℕ TreeFault) → engine.down ≡ true → IsUsable setup.shape old → HasWrittenUp setup a plain old mid answer → IsUsable setup.shape (parts_of engine mid.device mid.watch)
-write-usable_down setup a plain old mid engine answer down usable it =
-    record {
-      watch = it.ready usable.watch;
-      board = it.board usable.board;
-      no_group = λ up. absurd (true≢false (sym down ∙ up));
     }
 
 -- ---- its end

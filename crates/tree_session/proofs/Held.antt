@@ -34,10 +34,6 @@ pub none_is : {X : Type 0} (found : Option X) → IsNone found → found ≡ Non
 none_is None is = refl
 none_is (Some y) is = absurd (Rattle.std.proofs.lemmas.Bool.true≢false is)
 
-none_from : {X : Type 0} (found : Option X) → found ≡ None → IsNone found
-none_from None is = refl
-none_from (Some y) is = absurd (Rattle.std.proofs.lemmas.Option.none-some y (sym is))
-
 -- ---- what is always so
 
 -- what no command of a session ends
@@ -48,17 +44,6 @@ pub record IsFrame (setup : Setup) (p : TreeParts) : Type 0 where
   pub lines : AreLinesOf (tree_size setup.shape) p.board.lines
   pub tampered : length p.tampered ≡ tree_size setup.shape
   pub hurt : length p.hurt ≡ tree_lines setup.shape
-
-pub frame_of : (setup : Setup) (p : TreeParts) → IsTreeWorld setup p → IsFrame setup p
-frame_of setup p world =
-    record {
-      shape = world.whole_shape;
-      formulas = world.whole_formulas;
-      watch = world.its_watch;
-      lines = world.whole_lines;
-      tampered = world.tampered_count;
-      hurt = world.hurt_count;
-    }
 
 pub opened : (setup : Setup) (p : TreeParts) → IsFrame setup p → p.watch.exhibit ≡ None → IsTreeOpen setup p → IsTreeWorld setup p
 opened setup p frame none it =

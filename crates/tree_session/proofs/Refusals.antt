@@ -33,8 +33,6 @@ unfolding true_node
 board-free g plain b x = refl
 
 module _ (setup : Setup) (p : TreeParts) (regs : Regs) (b : BoardMemory) (shape : IsShape setup.shape) (in_range : AreInRange setup.formulas) (anchored : IsAnchored setup regs p.watch) where
-  abbrev pub with_it : PlainTree
-  with_it = with_board (plain_of_parts setup p) b
 
   -- ---- nodes
 

@@ -1,6 +1,6 @@
 -- Answers as contracts write them: the suite's keys stay.
-use Rattle.std.proofs.Common.{ℕ, ◌≡◌, List, Option, Some, None, Err, inl, inr, refl, sym, ap, subst, ◌∙◌}
-use Rattle.std.specs.Prelude.{Result, IsSome, MatchOption, option_map}
+use Rattle.std.proofs.Common.{ℕ, ◌≡◌, List, Option, Some, None, inl, refl, sym, ap, subst, ◌∙◌}
+use Rattle.std.specs.Prelude.{Result, IsSome, option_map}
 use Rattle.std.proofs.lemmas.Option.{same_Some}
 use Rattle.pmem_base.specs.declared.lines.Line.{Line}
 use Rattle.pmem_base.specs.declared.answers.Exhibit.{Exhibit}
@@ -15,13 +15,12 @@ use Rattle.asit_shadow.specs.declared.fault.TreeFault.{TreeFault}
 use Rattle.asit_shadow.specs.State.{TreeState}
 use Rattle.asit_shadow.specs.Calls.{HasReadLine, HasWrittenLine}
 use Rattle.collision_witness.specs.Exhibits.{AreSmallMinors}
-use Rattle.trace_text.specs.Talks.{IfShown}
 use Rattle.trace_text.specs.declared.talk.Halt.{Halt}
 use Rattle.trace_text.specs.declared.talk.Halt.TheVariants as Stop
 use Rattle.tree_session.specs.declared.commands.TreeCommand.{TreeCommand}
 use Rattle.tree_session.specs.declared.answers.TreeAnswer.{TreeAnswer}
 use Rattle.tree_session.specs.State.{SessionState, setup_in}
-use Rattle.tree_session.specs.World.{TreeParts, state_of, IsTreeWorld, IsTreeOpen, IsTreeEnded}
+use Rattle.tree_session.specs.World.{TreeParts, state_of, IsTreeWorld}
 use Rattle.tree_session.specs.Answered.{IsAnswered, IsHalt, IsEngineShown}
 use Rattle.tree_session.proofs.Held.{EngineCall, on, from, to}
 
@@ -134,19 +133,3 @@ pub halts : (formulas_of : List ℕ → Formulas) (g : Shape) (p q : TreeParts) 
 halts formulas_of g p q now keys command halt exhibit found is same its told there minors it =
     subst (λ h. IsHalt (setup_in formulas_of now) now command h (state_of (setup_under formulas_of g keys) (record q { keys = keys }))) (halt-is halt exhibit found told there)
     (inl (seen_from formulas_of g p q now keys (λ setup old new. IsEngineShown setup old command exhibit new) is same its it), minors)
-
--- the exhibit that a session stops with has no minor out of range
-pub halted-minors : (setup : Setup) (old new : SessionState) (command : TreeCommand) (halt : Halt) → IsHalt setup old command halt new → IfShown (Err halt) AreSmallMinors
-halted-minors setup old new command Stop.Memory it = tt
-halted-minors setup old new command (Stop.Line kind) it = tt
-halted-minors setup old new command (Stop.Shown exhibit) it = it.1
-
--- once a session has ended, it ends so again
-pub ended-again : (formulas_of : List ℕ → Formulas) (g : Shape) (p : TreeParts) (now : SessionState) (command : TreeCommand) (exhibit : Exhibit) (found : Option Exhibit)
-    → state_of (setup_under formulas_of g p.keys) p ≡ now → IsTreeWorld (setup_under formulas_of g p.keys) p → found ≡ p.watch.exhibit → found ≡ Some exhibit
-    → IsHalt (setup_in formulas_of now) now command (Stop.Shown exhibit) now
-ended-again formulas_of g p now command exhibit found is world its there =
-    let here : p.watch.exhibit ≡ Some exhibit = sym its ∙ there in
-    let ended : IsTreeEnded (setup_under formulas_of g p.keys) p exhibit =
-    subst (λ e. MatchOption e (IsTreeOpen (setup_under formulas_of g p.keys) p) (IsTreeEnded (setup_under formulas_of g p.keys) p)) here world.before_or_after in
-    (inr (sym (ap (λ (s : SessionState). s.shown) is) ∙ here, refl), ended.minors)

@@ -1,11 +1,9 @@
 -- What a session's answers promise: in each chain of them from the beginning on, the commands and answers so far say
 -- of the next one which answers it may have: a read shows the line that was last written, power and the fuse are as the answers
 -- told, a refusal or an exhibit comes only of a place that was tampered with, and a write is spent exactly once all are made.
-use Rattle.std.specs.Prelude.{ℕ, ◌≡◌, ◌≢◌, ◌<◌, ◌≤◌, ◌+◌, ◌-◌, ◌^◌, ◌⊎◌, Bool, true, false, List, [], ◌∷◌, map, replicate, Option, Some, None, Result, Ok, Err, All, slice_set, slice_index_or, ⊤}
-use Rattle.std.specs.List.{flat_map}
+use Rattle.std.specs.Prelude.{ℕ, ◌≡◌, ◌≢◌, ◌<◌, ◌≤◌, ◌+◌, ◌-◌, ◌^◌, ◌⊎◌, Bool, true, false, List, [], ◌∷◌, replicate, Option, Some, None, All, slice_set, slice_index_or, ⊤}
 use Rattle.pmem_base.specs.declared.lines.Line.{Line}
 use Rattle.pmem_base.specs.declared.lines.Ctr.{Ctr}
-use Rattle.pmem_base.specs.declared.commands.Kind.{Kind}
 use Rattle.pmem_base.specs.declared.answers.Exhibit.{Exhibit}
 use Rattle.pmem_base.specs.declared.answers.Exhibit.TheVariants.{Clash, Forged}
 use Rattle.pmem_base.specs.Lines.{line_at, zero_line}
@@ -21,8 +19,6 @@ use Rattle.tree_session.specs.declared.commands.TreeCommand.{TreeCommand}
 use Rattle.tree_session.specs.declared.commands.TreeCommand.TheVariants as Do
 use Rattle.tree_session.specs.declared.answers.TreeAnswer.{TreeAnswer}
 use Rattle.tree_session.specs.declared.answers.TreeAnswer.TheVariants as Say
-use Rattle.tree_session.specs.Answers.{tree_text}
-use Rattle.tree_session.specs.Commands.{reading_of_tree}
 use Rattle.tree_session.specs.State.{SessionState, IsNewTree}
 use Rattle.tree_session.specs.Answered.{Fits, fuse_less, read_bound, write_bound, recovery_bound, IsAnswered, IsShownBy}
 
@@ -313,16 +309,3 @@ IsTreeUntouched setup =
     → All (λ (reply : TreeReply). IsNoTampering reply.command) replies
     → All (λ (reply : TreeReply). IsUnrefused reply.answer) replies
     × ((command : TreeCommand) (exhibit : Exhibit) (new : SessionState) → IsShownBy setup last command exhibit new → ⊥)
-
--- ---- lines and texts
-
-abbrev pub commands_in : Result (Option TreeCommand) Kind → List TreeCommand
-commands_in (Ok (Some command)) = command ∷ []
-commands_in (Ok None) = []
-commands_in (Err kind) = []
-
--- these lines ask for the commands of these replies, whose texts these are
-pub record AreRepliesTo (lines texts : List (List ℕ)) (replies : List TreeReply) : Type 0 where
-  pub commands :
-      flat_map (λ line. commands_in (reading_of_tree line)) lines ≡ map (λ reply. reply.command) replies
-  pub its_texts : texts ≡ map (λ reply. tree_text reply.answer) replies

@@ -1,10 +1,8 @@
 -- What a session's answers promise: in each chain of them from the beginning on a read shows the line that was
 -- last written, start and gap change by moves alone, as `on` and `place` show, recovery that isn't cut succeeds,
 -- and what is refused is refused as used up.
-use Rattle.std.specs.Prelude.{ℕ, ◌≡◌, ◌<◌, ◌+◌, ◌%◌, ◌==◌, ◌⊎◌, Bool, true, List, [], ◌∷◌, map, replicate, slice_get, Option, Some, None, Result, Ok, Err, MatchOption, All, slice_set, ⊤, if◌then◌else◌}
-use Rattle.std.specs.List.{flat_map}
+use Rattle.std.specs.Prelude.{ℕ, ◌≡◌, ◌<◌, ◌+◌, ◌%◌, ◌==◌, ◌⊎◌, Bool, true, List, [], ◌∷◌, replicate, slice_get, None, MatchOption, All, slice_set, ⊤, if◌then◌else◌}
 use Rattle.pmem_base.specs.declared.lines.Line.{Line}
-use Rattle.pmem_base.specs.declared.commands.Kind.{Kind}
 use Rattle.pmem_base.specs.Lines.{line_at, zero_line}
 use Rattle.pmem_base.specs.Layout.{page_of}
 use Rattle.suite.specs.Setup.{Setup}
@@ -17,8 +15,6 @@ use Rattle.wear_session.specs.declared.commands.WearCommand.{WearCommand}
 use Rattle.wear_session.specs.declared.commands.WearCommand.TheVariants as Do
 use Rattle.wear_session.specs.declared.answers.WearAnswer.{WearAnswer}
 use Rattle.wear_session.specs.declared.answers.WearAnswer.TheVariants as Say
-use Rattle.wear_session.specs.Answers.{wear_text}
-use Rattle.wear_session.specs.Commands.{reading_of_wear}
 use Rattle.wear_session.specs.State.{WearState, IsNewWear, moment_in, engine_writes}
 use Rattle.wear_session.specs.Answered.{IsAnswered}
 
@@ -160,16 +156,3 @@ IsWearSpent setup =
     (every : ℕ) (first last : WearState) (replies : List WearReply)
     → IsNewWear setup every first → AreAnswered setup first replies last
     → AreSpentAsUsedUp setup first replies
-
--- ---- lines and texts
-
-abbrev pub commands_in : Result (Option WearCommand) Kind → List WearCommand
-commands_in (Ok (Some command)) = command ∷ []
-commands_in (Ok None) = []
-commands_in (Err kind) = []
-
--- these lines ask for the commands of these replies, whose texts these are
-pub record AreRepliesTo (lines texts : List (List ℕ)) (replies : List WearReply) : Type 0 where
-  pub commands :
-      flat_map (λ line. commands_in (reading_of_wear line)) lines ≡ map (λ reply. reply.command) replies
-  pub its_texts : texts ≡ map (λ reply. wear_text reply.answer) replies
