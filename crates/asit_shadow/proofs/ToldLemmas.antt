@@ -4,11 +4,6 @@ use Rattle.std.specs.Prelude.{Option, MatchOption}
 use Rattle.pmem_base.specs.declared.lines.Line.{Line}
 use Rattle.asit_shadow.specs.Parts.{AreToldWith}
 
-  where
-    itself : (told : Option (List Line)) → AreToldWith R told told
-    itself None = tt
-    itself (Some a) = each a
-
 -- another relation
 pub told-as : (R S : List Line → List Line → Type 0) (old new : Option (List Line)) → ((a b : List Line) → R a b → S a b) → AreToldWith R old new → AreToldWith S old new
 told-as R S None None each told = tt

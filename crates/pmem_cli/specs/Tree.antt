@@ -38,7 +38,7 @@ pub record IsAsPromised (setup : Setup) (said : List (Said TreeReply)) : Type 0 
       All (IsShownAfter setup (history_after setup.shape (first_history setup.shape) (replies_among said)))
       (exhibits_among said)
   pub untouched :
-      All (λ (reply : TreeReply). IsNoTampering reply.command) (replies_among said) → IsAllServed said
+      All (λ (reply : TreeReply). IsNoTampering reply.command reply.answer) (replies_among said) → IsAllServed said
 
 -- of this setup
 abbrev pub counter_tree_session : Setup → Session SessionState TreeReply

@@ -171,15 +171,50 @@ clear-write g history a line (Say.RefusedData b s) clear = clear-from history (h
 clear-write g history a line (Say.RefusedShadow kept found s) clear = clear-from history (history_with g history (Do.Write a line) (Say.RefusedShadow kept found s)) clear refl refl
 clear-write g history a line (Say.Cut s) clear = clear-from history (history_with g history (Do.Write a line) (Say.Cut s)) clear refl refl
 
-clear-next : (g : Shape) (history : History) (command : TreeCommand) (answer : TreeAnswer) → IsNoTampering command → IsClear history → IsClear (history_with g history command answer)
+clear-poke : (g : Shape) (history : History) (d : ℕ) (line : Line) (answer : TreeAnswer) → IsNoTampering (Do.Poke d line) answer → IsClear history
+    → IsClear (history_with g history (Do.Poke d line) answer)
+clear-poke g history d line Say.Ok none clear = absurd none
+clear-poke g history d line Say.Off none clear = clear-from history (history_with g history (Do.Poke d line) Say.Off) clear refl refl
+clear-poke g history d line Say.Already none clear = clear-from history (history_with g history (Do.Poke d line) Say.Already) clear refl refl
+clear-poke g history d line Say.Range none clear = clear-from history (history_with g history (Do.Poke d line) Say.Range) clear refl refl
+clear-poke g history d line Say.NoSnap none clear = clear-from history (history_with g history (Do.Poke d line) Say.NoSnap) clear refl refl
+clear-poke g history d line (Say.Written s) none clear = clear-from history (history_with g history (Do.Poke d line) (Say.Written s)) clear refl refl
+clear-poke g history d line (Say.Got got s) none clear = clear-from history (history_with g history (Do.Poke d line) (Say.Got got s)) clear refl refl
+clear-poke g history d line (Say.Recovered digests s) none clear = clear-from history (history_with g history (Do.Poke d line) (Say.Recovered digests s)) clear refl refl
+clear-poke g history d line (Say.RefusedNode x s) none clear = clear-from history (history_with g history (Do.Poke d line) (Say.RefusedNode x s)) clear refl refl
+clear-poke g history d line (Say.RefusedData b s) none clear = clear-from history (history_with g history (Do.Poke d line) (Say.RefusedData b s)) clear refl refl
+clear-poke g history d line (Say.RefusedShadow kept found s) none clear = clear-from history (history_with g history (Do.Poke d line) (Say.RefusedShadow kept found s)) clear refl refl
+clear-poke g history d line (Say.Spent s) none clear = clear-from history (history_with g history (Do.Poke d line) (Say.Spent s)) clear refl refl
+clear-poke g history d line (Say.CutKept s) none clear = clear-from history (history_with g history (Do.Poke d line) (Say.CutKept s)) clear refl refl
+clear-poke g history d line (Say.CutLost s) none clear = clear-from history (history_with g history (Do.Poke d line) (Say.CutLost s)) clear refl refl
+clear-poke g history d line (Say.Cut s) none clear = clear-from history (history_with g history (Do.Poke d line) (Say.Cut s)) clear refl refl
+
+clear-back : (g : Shape) (history : History) (d : ℕ) (answer : TreeAnswer) → IsNoTampering (Do.Back d) answer → IsClear history → IsClear (history_with g history (Do.Back d) answer)
+clear-back g history d Say.Ok none clear = absurd none
+clear-back g history d Say.Off none clear = clear-from history (history_with g history (Do.Back d) Say.Off) clear refl refl
+clear-back g history d Say.Already none clear = clear-from history (history_with g history (Do.Back d) Say.Already) clear refl refl
+clear-back g history d Say.Range none clear = clear-from history (history_with g history (Do.Back d) Say.Range) clear refl refl
+clear-back g history d Say.NoSnap none clear = clear-from history (history_with g history (Do.Back d) Say.NoSnap) clear refl refl
+clear-back g history d (Say.Written s) none clear = clear-from history (history_with g history (Do.Back d) (Say.Written s)) clear refl refl
+clear-back g history d (Say.Got got s) none clear = clear-from history (history_with g history (Do.Back d) (Say.Got got s)) clear refl refl
+clear-back g history d (Say.Recovered digests s) none clear = clear-from history (history_with g history (Do.Back d) (Say.Recovered digests s)) clear refl refl
+clear-back g history d (Say.RefusedNode x s) none clear = clear-from history (history_with g history (Do.Back d) (Say.RefusedNode x s)) clear refl refl
+clear-back g history d (Say.RefusedData b s) none clear = clear-from history (history_with g history (Do.Back d) (Say.RefusedData b s)) clear refl refl
+clear-back g history d (Say.RefusedShadow kept found s) none clear = clear-from history (history_with g history (Do.Back d) (Say.RefusedShadow kept found s)) clear refl refl
+clear-back g history d (Say.Spent s) none clear = clear-from history (history_with g history (Do.Back d) (Say.Spent s)) clear refl refl
+clear-back g history d (Say.CutKept s) none clear = clear-from history (history_with g history (Do.Back d) (Say.CutKept s)) clear refl refl
+clear-back g history d (Say.CutLost s) none clear = clear-from history (history_with g history (Do.Back d) (Say.CutLost s)) clear refl refl
+clear-back g history d (Say.Cut s) none clear = clear-from history (history_with g history (Do.Back d) (Say.Cut s)) clear refl refl
+
+clear-next : (g : Shape) (history : History) (command : TreeCommand) (answer : TreeAnswer) → IsNoTampering command answer → IsClear history → IsClear (history_with g history command answer)
 clear-next g history (Do.Write a line) answer none clear = clear-write g history a line answer clear
 clear-next g history (Do.Read a) answer none clear = clear-from history (history_with g history (Do.Read a) answer) clear refl refl
 clear-next g history Do.On answer none clear = clear-from history (history_with g history Do.On answer) clear refl refl
 clear-next g history Do.Off answer none clear = clear-from history (history_with g history Do.Off answer) clear refl refl
 clear-next g history (Do.Cut n) answer none clear = clear-from history (history_with g history (Do.Cut n) answer) clear refl refl
-clear-next g history (Do.Poke d line) answer none clear = absurd none
+clear-next g history (Do.Poke d line) answer none clear = clear-poke g history d line answer none clear
 clear-next g history Do.Snap answer none clear = clear-from history (history_with g history Do.Snap answer) clear refl refl
-clear-next g history (Do.Back d) answer none clear = absurd none
+clear-next g history (Do.Back d) answer none clear = clear-back g history d answer none clear
 
 unchanged : (g : Shape) (history : History) (a x : ℕ) → IsClear history → IsNodeChanged g history a x → ⊥
 unchanged g history a x clear it = false≢true (sym (clear.changed (line_of_node g x)) ∙ it.changed)
@@ -234,17 +269,17 @@ unrefused g history command (Say.CutKept s) clear it = tt
 unrefused g history command (Say.CutLost s) clear it = tt
 unrefused g history command (Say.Cut s) clear it = tt
 
-unrefused-chain : (g : Shape) (history : History) (replies : List TreeReply) → IsClear history → All (λ (reply : TreeReply). IsNoTampering reply.command) replies → AreAllowed g history replies
+unrefused-chain : (g : Shape) (history : History) (replies : List TreeReply) → IsClear history → All (λ (reply : TreeReply). IsNoTampering reply.command reply.answer) replies → AreAllowed g history replies
     → All (λ (reply : TreeReply). IsUnrefused reply.answer) replies
 unrefused-chain g history [] clear none it = All-nil (λ (reply : TreeReply). IsUnrefused reply.answer)
 unrefused-chain g history (reply ∷ replies) clear none it =
     All-cons (λ (reply : TreeReply). IsUnrefused reply.answer) reply replies (unrefused g history reply.command reply.answer clear it.0)
-    (unrefused-chain g (history_with g history reply.command reply.answer) replies (clear-next g history reply.command reply.answer (All-head (λ (reply : TreeReply). IsNoTampering reply.command) reply replies none) clear) (All-tail (λ (reply : TreeReply). IsNoTampering reply.command) reply replies none) it.1)
+    (unrefused-chain g (history_with g history reply.command reply.answer) replies (clear-next g history reply.command reply.answer (All-head (λ (reply : TreeReply). IsNoTampering reply.command reply.answer) reply replies none) clear) (All-tail (λ (reply : TreeReply). IsNoTampering reply.command reply.answer) reply replies none) it.1)
 
-clear-chain : (g : Shape) (history : History) (replies : List TreeReply) → IsClear history → All (λ (reply : TreeReply). IsNoTampering reply.command) replies → IsClear (history_after g history replies)
+clear-chain : (g : Shape) (history : History) (replies : List TreeReply) → IsClear history → All (λ (reply : TreeReply). IsNoTampering reply.command reply.answer) replies → IsClear (history_after g history replies)
 clear-chain g history [] clear none = clear
 clear-chain g history (reply ∷ replies) clear none =
-    clear-chain g (history_with g history reply.command reply.answer) replies (clear-next g history reply.command reply.answer (All-head (λ (reply : TreeReply). IsNoTampering reply.command) reply replies none) clear) (All-tail (λ (reply : TreeReply). IsNoTampering reply.command) reply replies none)
+    clear-chain g (history_with g history reply.command reply.answer) replies (clear-next g history reply.command reply.answer (All-head (λ (reply : TreeReply). IsNoTampering reply.command reply.answer) reply replies none) clear) (All-tail (λ (reply : TreeReply). IsNoTampering reply.command reply.answer) reply replies none)
 
 unshown : (g : Shape) (history : History) (command : TreeCommand) (exhibit : Exhibit) → IsClear history → MayShow g history command exhibit → ⊥
 unshown g history (Do.Write a line) exhibit clear it = unchanged g history a it.2.x clear it.2.changed

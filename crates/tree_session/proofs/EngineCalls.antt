@@ -22,11 +22,11 @@ use Rattle.asit_shadow.specs.Calls.{KeepsWatch, TakesWriteBacks}
 use Rattle.asit_shadow.specs.Plain.{with_board}
 use Rattle.asit_shadow.proofs.SlotPlaces.{on_path-inside}
 use Rattle.tree_session.specs.World.{TreeParts, plain_of_parts}
-use Rattle.tree_session.specs.Answered.{IsNodeRefused, IsNodeShown, IsPlainKept}
+use Rattle.tree_session.specs.Answered.{IsRooted, IsNodeRefused, IsNodeShown, IsPlainKept}
 use Rattle.tree_session.proofs.BoardSteps.{taken-exact}
 use Rattle.tree_session.proofs.PlainStates.{plain-kept}
-use Rattle.tree_session.proofs.Held.{EngineCall, on, from, to, trusted_from}
-use Rattle.tree_session.proofs.Refusals.{node-refused, node-shown}
+use Rattle.tree_session.proofs.Held.{EngineCall, on, from, to, trusted_from, rooted_open}
+use Rattle.tree_session.proofs.Refusals.{rooted_with, node-refused, node-shown}
 
 -- so many write-backs are all of its steps
 pub backs : (taken : Taken) (n : ℕ) (outcome : Outcome) (old new : BoardMemory) → IsWatched old new taken
@@ -58,6 +58,13 @@ kept_plain c outcome q keeps its tampered hurt =
     plain-kept c.setup c.parts q (ap (λ (w : Rattle.counter_tree.specs.Watch.WatchState). w.seals) its ∙ keeps.seals)
     (ap (λ (w : Rattle.counter_tree.specs.Watch.WatchState). w.nodes) its ∙ keeps.nodes) (ap (λ (w : Rattle.counter_tree.specs.Watch.WatchState). w.slots) its ∙ keeps.slots)
     tampered hurt
+
+-- after an exhibit the root is the one before
+pub rooted_shown : (c : EngineCall) (q : TreeParts) → IsPlainKept (plain_of_parts c.setup c.parts) (plain_of_parts c.setup q) → q.board.regs.root ≡ c.parts.board.regs.root
+    → q.board.powered ≡ false → IsRooted c.setup (plain_of_parts c.setup q)
+rooted_shown c q kept root off =
+    subst (IsRooted c.setup) (sym kept)
+    (rooted_with c.setup (plain_of_parts c.setup c.parts) q.board (rooted_open c.setup c.parts c.world c.none) root off)
 
 module _ (c : EngineCall) (a : ℕ) (within : a < tree_lines c.setup.shape) (b : BoardMemory) (lines : b.lines ≡ c.board.lines) where
   -- an unchanged node is held

@@ -139,27 +139,27 @@ by_write : (setup : Setup) (before after : PlainTree) (a : ℕ) (line : Line) (a
     → AnswersWrite setup before a line after answer → Follows setup.shape before after (Do.Write a line) answer
 by_write setup before after a line (Say.Written s) on low count it =
     record {
-      allowed = (record { power = on; inside = low }, it.0, (it.1.fits, it.3));
-      history = stepped-write setup.shape s a line before.board.powered before after (sym on) (omega (arith, low, count)) it.1 it.4;
-      count = counts-made setup.shape a line before after it.4;
+      allowed = (record { power = on; inside = low }, it.0, it.3, (it.1.fits, it.4));
+      history = stepped-write setup.shape s a line before.board.powered before after (sym on) (omega (arith, low, count)) it.1 it.5;
+      count = counts-made setup.shape a line before after it.5;
     }
 by_write setup before after a line (Say.CutKept s) on low count it =
     record {
-      allowed = (record { power = on; inside = low }, it.0, (it.1.fuse, it.3));
-      history = darkened-write setup.shape s a line before after (omega (arith, low, count)) it.1 it.4;
-      count = counts-made setup.shape a line before after it.4;
+      allowed = (record { power = on; inside = low }, it.0, it.3, (it.1.fuse, it.4));
+      history = darkened-write setup.shape s a line before after (omega (arith, low, count)) it.1 it.5;
+      count = counts-made setup.shape a line before after it.5;
     }
 by_write setup before after a line (Say.CutLost s) on low count it =
     record {
-      allowed = (record { power = on; inside = low }, it.0, (it.1.fuse, it.3));
+      allowed = (record { power = on; inside = low }, it.0, it.1.fuse, it.3);
       history = darkened s before after it.1 it.4;
       count = counts-kept before after it.4;
     }
 by_write setup before after a line (Say.Spent s) on low count it =
     record {
       allowed = (record { power = on; inside = low }, it.0, it.1);
-      history = stepped s true before.board.powered before after (sym on) it.2 it.3;
-      count = counts-kept before after it.3;
+      history = ap history_of it.2;
+      count = ap (λ (p : PlainTree). length p.counts) it.2;
     }
 by_write setup before after a line (Say.RefusedNode x s) on low count it =
     record {
@@ -223,21 +223,21 @@ by_read setup before after a (Say.CutLost s) on low it = absurd it
 by_on : (setup : Setup) (before after : PlainTree) (answer : TreeAnswer) → before.board.powered ≡ false → AnswersOn setup before after answer → Follows setup.shape before after Do.On answer
 by_on setup before after (Say.Recovered digests s) off it =
     record {
-      allowed = (off, it.0, (it.1.fits, it.3));
-      history = stepped s true true before after refl it.1 it.4;
-      count = counts-kept before after it.4;
+      allowed = (off, it.0, (it.1.fits, it.4));
+      history = stepped s true true before after refl it.1 it.5;
+      count = counts-kept before after it.5;
     }
 by_on setup before after (Say.Cut s) off it =
     record {
-      allowed = (off, (it.0.fuse, it.2));
-      history = darkened s before after it.0 it.3;
-      count = counts-kept before after it.3;
+      allowed = (off, (it.0.fuse, it.4));
+      history = darkened s before after it.0 it.5;
+      count = counts-kept before after it.5;
     }
 by_on setup before after (Say.RefusedShadow kept found s) off it =
     record {
-      allowed = (off, changed-slot setup.shape before after it.4 it.0.place, it.0.differ, (it.1.fits, it.3));
-      history = stepped s false before.board.powered before after (sym off) it.1 it.4;
-      count = counts-kept before after it.4;
+      allowed = (off, changed-slot setup.shape before after it.5 it.0.place, it.0.differ, (it.1.fits, it.4));
+      history = stepped s false before.board.powered before after (sym off) it.1 it.5;
+      count = counts-kept before after it.5;
     }
 by_on setup before after Say.Ok off it = absurd it
 by_on setup before after Say.Off off it = absurd it

@@ -26,11 +26,11 @@ use Rattle.tree_session.specs.declared.commands.TreeCommand.TheVariants as Do
 use Rattle.tree_session.specs.declared.answers.TreeAnswer.{TreeAnswer}
 use Rattle.tree_session.specs.declared.answers.TreeAnswer.TheVariants as Say
 use Rattle.tree_session.specs.World.{TreeParts, plain_of_parts, state_of, IsTreeWorld}
-use Rattle.tree_session.specs.Answered.{IsAnswered, IsRooted, IsEngineShown, AnswersRead, AnswersWith, decided, IsDataRefused, IsDataShown, IsNodeShown, IsNodeRefused}
-use Rattle.tree_session.proofs.BoardSteps.{goes_on, cut_off}
+use Rattle.tree_session.specs.Answered.{IsAnswered, IsRooted, IsEngineShown, IsBoardSpilled, AnswersRead, AnswersWith, decided, IsDataRefused, IsDataShown, IsNodeShown, IsNodeRefused}
+use Rattle.tree_session.proofs.BoardSteps.{goes_on, cut_off, then_rests}
 use Rattle.tree_session.proofs.PlainStates.{plain_is}
 use Rattle.tree_session.proofs.Held.{EngineCall, from, to, left, left_resting, trusted_from, powered_from, seals_kept, on_after, rooted_after, off_after, rooted_cut, ended_after}
-use Rattle.tree_session.proofs.EngineCalls.{backs, backs-cut, undecided_line, kept_plain, refused_node, shown_node, forged-minors}
+use Rattle.tree_session.proofs.EngineCalls.{backs, backs-cut, undecided_line, kept_plain, rooted_shown, refused_node, shown_node, forged-minors}
 use Rattle.tree_session.proofs.Spills.{board_spilled}
 use Rattle.tree_session.proofs.Refusals.{data-refused, data-shown}
 
@@ -70,7 +70,7 @@ module _ (c : EngineCall) (a : ℕ) (within : a < tree_lines c.setup.shape) wher
           goes_on c.parts.board c.board c.taken c.watched (done.effect.power.1 (powered_from c)),
           backs c.taken c.setup.shape.levels going c.parts.board c.board c.watched done.steps,
           kept_plain c going (left c (Some c.after) c.parts.hurt) done.watch refl refl refl,
-          board_spilled c a c.setup.shape.levels (left c (Some c.after) c.parts.hurt) refl done.work.fetched,
+          board_spilled c a c.setup.shape.levels (left c (Some c.after) c.parts.hurt) refl refl done.work.fetched,
         )
 
   -- ---- power is cut
@@ -94,7 +94,7 @@ module _ (c : EngineCall) (a : ℕ) (within : a < tree_lines c.setup.shape) wher
           cut_off c.parts.board c.board c.taken c.watched cut.effect.power.1 (omega (arith, below, levels)),
           below,
           kept_plain c cut_short (left c None c.parts.hurt) cut.watch refl refl refl,
-          board_spilled c a cut.work.levels (left c None c.parts.hurt) refl cut.work.fetched,
+          board_spilled c a cut.work.levels (left c None c.parts.hurt) refl refl cut.work.fetched,
         )
 
   -- ---- a node is refused
@@ -115,7 +115,7 @@ module _ (c : EngineCall) (a : ℕ) (within : a < tree_lines c.setup.shape) wher
           goes_on c.parts.board c.board c.taken c.watched (node.effect.power.1 (powered_from c)),
           backs c.taken c.setup.shape.levels going c.parts.board c.board c.watched node.steps,
           plain,
-          board_spilled c a node.work.levels (left c (Some c.after) c.parts.hurt) refl node.work.fetched,
+          board_spilled c a node.work.levels (left c (Some c.after) c.parts.hurt) refl refl node.work.fetched,
         )
 
   -- ---- the line's tag is refused
@@ -166,7 +166,7 @@ module _ (c : EngineCall) (a : ℕ) (within : a < tree_lines c.setup.shape) wher
           goes_on c.parts.board c.board c.taken c.watched (tag.effect.power.1 (powered_from c)),
           backs c.taken c.setup.shape.levels going c.parts.board c.board c.watched tag.steps,
           plain,
-          board_spilled c a c.setup.shape.levels (left c (Some c.after) c.parts.hurt) refl tag.work.fetched,
+          board_spilled c a c.setup.shape.levels (left c (Some c.after) c.parts.hurt) refl refl tag.work.fetched,
         )
 
   -- ---- an exhibit
@@ -196,6 +196,13 @@ module _ (c : EngineCall) (a : ℕ) (within : a < tree_lines c.setup.shape) wher
         let equal : line_at c.board.lines a ≡ sealed.seal.cipher = subst (λ s. IfSome s (λ (seal : LineSeal). line_at c.board.lines a ≡ seal.cipher)) sealed.last same in
         differs (line.its.cipher_read ∙ equal)
 
+    spilled_before : IsBoardSpilled c.setup (plain_of_parts c.setup c.parts) (plain_of_parts c.setup (left_resting c))
+    spilled_before =
+        elim show.work [
+          | inl node ↦ board_spilled c a node.stopped.levels (left_resting c) refl refl node.stopped.fetched
+          | inr line ↦ board_spilled c a c.setup.shape.levels (left_resting c) refl refl line.path.fetched
+        ]
+
     pub shown_done : IsEngineShown c.setup (state_of c.setup c.parts) (Do.Read a) exhibit (state_of c.setup (left_resting c))
     shown_done =
         let plain = kept_plain c shown (left_resting c) show.watch refl refl refl in
@@ -214,7 +221,10 @@ module _ (c : EngineCall) (a : ℕ) (within : a < tree_lines c.setup.shape) wher
                     (same_Some exhibit _ (sym is ∙ line.1.exhibit)) (unstored line.1)))
               ];
           plain = plain;
-          unpowered = refl;
+          steps = steps_in c.taken;
+          taken = then_rests (steps_in c.taken) c.parts.board c.board (goes_on c.parts.board c.board c.taken c.watched (show.effect.power.1 (powered_from c)));
+          board = (spilled_before, backs c.taken c.setup.shape.levels shown c.parts.board c.board c.watched show.steps);
+          rooted = rooted_shown c (left_resting c) plain (ap (λ (r : Regs). r.root) show.regs) refl;
           shape = refl;
           keys = refl;
           shown = is;

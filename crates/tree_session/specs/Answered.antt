@@ -1,6 +1,6 @@
 -- Which answers a command has in which states, and the state after: where the state alone decides, the first
 -- condition that holds does; else the engine gives one of the answers that are listed.
-use Rattle.std.specs.Prelude.{ℕ, ◌≡◌, ◌≢◌, ◌<◌, ◌≤◌, ◌+◌, ◌-◌, ◌*◌, ◌^◌, ◌⊎◌, nat_lt, not, Bool, true, false, List, [], ◌∷◌, map, Option, Some, None, Ok, is_none, if◌then◌else◌, ⊤}
+use Rattle.std.specs.Prelude.{ℕ, ◌≡◌, ◌≢◌, ◌<◌, ◌≤◌, ◌+◌, ◌-◌, ◌*◌, ◌^◌, ◌⊎◌, nat_lt, not, Bool, true, false, List, [], ◌∷◌, map, length, Option, Some, None, Ok, is_none, if◌then◌else◌, IsTrue, ⊤}
 use Rattle.pmem_base.specs.declared.lines.Line.{Line}
 use Rattle.pmem_base.specs.declared.answers.Exhibit.{Exhibit}
 use Rattle.pmem_base.specs.declared.answers.Exhibit.TheVariants.{Clash, Forged}
@@ -8,6 +8,7 @@ use Rattle.pmem_base.specs.Counts.{HasRisen}
 use Rattle.pmem_base.specs.Lines.{line_at, tag_slot}
 use Rattle.pmem_base.specs.Shape.{Shape}
 use Rattle.pmem_base.specs.Layout.{meta_lines}
+use Rattle.pmem_base.specs.Registers.{without_group}
 use Rattle.suite.specs.Setup.{Setup}
 use Rattle.board.specs.Counts.{RisesBy}
 use Rattle.board.specs.Memory.{BoardMemory, with_line_at, with_lines, restored_lines}
@@ -18,7 +19,7 @@ use Rattle.counter_tree.specs.Trees.{is_on_line_path}
 use Rattle.counter_tree.specs.Slots.{slot_of, slot_line}
 use Rattle.counter_tree.specs.Shadow.{shadow_root, shadow_line, shadow_height, shadow_digests, IsShadowDifference}
 use Rattle.collision_witness.specs.Exhibits.{IsExhibit, AreSmallMinors}
-use Rattle.commit_regs.specs.Groups.{redone}
+use Rattle.commit_regs.specs.Groups.{redone, finishing_latches}
 use Rattle.trace_text.specs.declared.talk.Halt.{Halt}
 use Rattle.trace_text.specs.declared.talk.Halt.TheVariants as Stop
 use Rattle.asit_shadow.specs.Paths.{line_path, tag_only}
@@ -29,7 +30,7 @@ use Rattle.tree_session.specs.declared.commands.TreeCommand.TheVariants as Do
 use Rattle.tree_session.specs.declared.answers.TreeAnswer.{TreeAnswer}
 use Rattle.tree_session.specs.declared.answers.TreeAnswer.TheVariants as Say
 use Rattle.tree_session.specs.Answers.{tree_text}
-use Rattle.tree_session.specs.Commands.{reading_of_tree}
+use Rattle.tree_session.specs.Commands.{reading_of_tree, takes_memory}
 use Rattle.tree_session.specs.State.{SessionState}
 
 -- ---- the answers that the state decides
@@ -95,10 +96,14 @@ pub record IsCutAt (s : ℕ) (old new : BoardMemory) : Type 0 where
 abbrev pub board_redone : BoardMemory → List Line
 board_redone board = redone board.regs.group.items board.lines
 
--- the armed group is on the device, and no other is armed
+-- the armed group is on the device and emptied, and the other registers are as they were
 pub record IsGroupDone (old new : BoardMemory) : Type 0 where
   pub lines : new.lines ≡ board_redone old
-  pub no_group : new.regs.group.items ≡ []
+  pub regs : new.regs ≡ without_group old.regs
+
+-- the steps that this takes: a line write for each entry, and a latch where there is one
+abbrev pub group_steps : BoardMemory → ℕ
+group_steps board = length board.regs.group.items + finishing_latches board.regs.group.items
 
 -- device line d is now that of a true node, with its tag
 pub record IsNodeWritten (setup : Setup) (plain : PlainTree) (lines : List Line) (d : ℕ) : Type 0 where
@@ -238,10 +243,14 @@ read_bound g = g.levels
 abbrev pub write_bound : Shape → ℕ
 write_bound g = 2 * g.levels + 5
 
+-- the fewest of a write: those of its group, with no write-back
+abbrev pub write_least : Shape → ℕ
+write_least g = g.levels + 5
+
 abbrev pub recovery_bound : Shape → ℕ
 recovery_bound g = g.levels + 4
 
--- each counter of the tree is used up
+-- all writes were made that can be
 abbrev pub IsUsedUp : PlainTree → Type 0
 IsUsedUp before = writes_made before ≡ 2 ^ 64 - 1
 
@@ -250,6 +259,7 @@ AnswersWrite setup before a line after (Say.Written s) =
     (IsUsedUp before → ⊥)
     × TakesSteps s true before.board after.board
     × RisesBy 2 before.board.latches after.board.latches
+    × (write_least setup.shape ≤ s)
     × (s ≤ write_bound setup.shape)
     × IsWriteMade setup.shape a line before after
     × IsBoardWritten setup a before after
@@ -257,6 +267,7 @@ AnswersWrite setup before a line after (Say.CutKept s) =
     (IsUsedUp before → ⊥)
     × IsCutAt s before.board after.board
     × RisesBy 1 before.board.latches after.board.latches
+    × (1 ≤ s)
     × (s < write_bound setup.shape)
     × IsWriteMade setup.shape a line before after
     × IsBoardWritten setup a before after
@@ -265,15 +276,10 @@ AnswersWrite setup before a line after (Say.CutLost s) =
     (IsUsedUp before → ⊥)
     × IsCutAt s before.board after.board
     × (after.board.latches ≡ before.board.latches)
-    × (s < write_bound setup.shape)
+    × (s ≤ read_bound setup.shape)
     × IsPlainKept before after
     × IsBoardSpilled setup before after
-AnswersWrite setup before a line after (Say.Spent s) =
-    IsUsedUp before
-    × (s ≡ 0)
-    × TakesSteps s true before.board after.board
-    × IsPlainKept before after
-    × IsBoardSpilled setup before after
+AnswersWrite setup before a line after (Say.Spent s) = IsUsedUp before × (s ≡ 0) × (after ≡ before)
 AnswersWrite setup before a line after (Say.RefusedNode x s) =
     (IsUsedUp before → ⊥)
     × IsNodeRefused setup after a x
@@ -315,17 +321,21 @@ AnswersOn setup before after (Say.Recovered digests s) =
     (digests ≡ shadow_digests setup.shape)
     × TakesSteps s true before.board after.board
     × IsGroupDone before.board after.board
+    × (s ≡ group_steps before.board)
     × (s ≤ recovery_bound setup.shape)
     × IsPlainKept before after
 AnswersOn setup before after (Say.Cut s) =
     IsCutAt s before.board after.board
     × (board_redone after.board ≡ board_redone before.board)
+    × (after.board.regs ≡ before.board.regs)
+    × (s < group_steps before.board)
     × (s < recovery_bound setup.shape)
     × IsPlainKept before after
 AnswersOn setup before after (Say.RefusedShadow kept found s) =
     IsShadowRefused setup after kept found
     × TakesSteps s false before.board after.board
     × IsGroupDone before.board after.board
+    × (s ≡ group_steps before.board)
     × (s ≤ recovery_bound setup.shape)
     × IsPlainKept before after
 AnswersOn setup before after answer = ⊥
@@ -374,6 +384,12 @@ pub record IsAnswered (setup : Setup) (old : SessionState) (command : TreeComman
       AnswersWith setup old.plain command new.plain answer (decided setup.shape old.plain command)
   pub rooted : IsRooted setup new.plain
 
+-- What the engine did to the board before it showed something, in so many steps: it finished the armed group, or wrote
+-- true nodes back. So the line shown is the one that stood there.
+abbrev pub IsBoardLeft : Setup → PlainTree → TreeCommand → ℕ → PlainTree → Type 0
+IsBoardLeft setup before Do.On s after = IsGroupDone before.board after.board × (s ≡ group_steps before.board)
+IsBoardLeft setup before command s after = IsBoardSpilled setup before after × (s ≤ read_bound setup.shape)
+
 -- an exhibit that holds, where the state doesn't decide: power is off after it, and nothing else is told
 pub record IsEngineShown (setup : Setup) (old : SessionState) (command : TreeCommand) (exhibit : Exhibit) (new : SessionState) :
     Type 0 where
@@ -382,7 +398,10 @@ pub record IsEngineShown (setup : Setup) (old : SessionState) (command : TreeCom
   pub holds : IsExhibit setup.formulas exhibit
   pub shows : ShowsEngine setup old.plain command new.plain exhibit
   pub plain : IsPlainKept old.plain new.plain
-  pub unpowered : new.plain.board.powered ≡ false
+  pub steps : ℕ
+  pub taken : TakesSteps steps false old.plain.board new.plain.board
+  pub board : IsBoardLeft setup old.plain command steps new.plain
+  pub rooted : IsRooted setup new.plain
   pub shape : new.shape ≡ old.shape
   pub keys : new.keys ≡ old.keys
   pub shown : new.shown ≡ Some exhibit
@@ -392,9 +411,22 @@ abbrev pub IsShownBy : Setup → SessionState → TreeCommand → Exhibit → Se
 IsShownBy setup old command exhibit new =
     IsEngineShown setup old command exhibit new ⊎ ((old.shown ≡ Some exhibit) × (new ≡ old))
 
--- why a command has no answer: memory is wanted, and nothing was done; or it is an exhibit
+-- what a command takes memory for: a recovery, or a first snapshot
+abbrev pub TakesMemory : PlainTree → TreeCommand → Type 0
+TakesMemory before Do.On = before.board.powered ≡ false
+TakesMemory before Do.Snap = before.board.snapshot ≡ None
+TakesMemory before command = ⊥
+
+-- memory is wanted, and nothing was done
+pub record IsStarved (old : SessionState) (command : TreeCommand) (new : SessionState) : Type 0 where
+  pub takes : IsTrue (takes_memory command)
+  pub not_shown : old.shown ≡ None
+  pub needs : TakesMemory old.plain command
+  pub same : new ≡ old
+
+-- why a command has no answer: memory is wanted, or it is an exhibit
 abbrev pub IsHalt : Setup → SessionState → TreeCommand → Halt → SessionState → Type 0
-IsHalt setup old command Stop.Memory new = new ≡ old
+IsHalt setup old command Stop.Memory new = IsStarved old command new
 IsHalt setup old command (Stop.Shown exhibit) new = IsShownBy setup old command exhibit new × AreSmallMinors exhibit
 IsHalt setup old command (Stop.Line kind) new = ⊥
 

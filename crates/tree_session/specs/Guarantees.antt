@@ -20,7 +20,7 @@ use Rattle.tree_session.specs.declared.commands.TreeCommand.TheVariants as Do
 use Rattle.tree_session.specs.declared.answers.TreeAnswer.{TreeAnswer}
 use Rattle.tree_session.specs.declared.answers.TreeAnswer.TheVariants as Say
 use Rattle.tree_session.specs.State.{SessionState, IsNewTree}
-use Rattle.tree_session.specs.Answered.{Fits, fuse_less, read_bound, write_bound, recovery_bound, IsAnswered, IsShownBy}
+use Rattle.tree_session.specs.Answered.{Fits, fuse_less, read_bound, write_bound, write_least, recovery_bound, IsAnswered, IsShownBy}
 
 -- ---- chains of answers
 
@@ -116,7 +116,6 @@ fuse_with fuse command (Say.Recovered digests s) = fuse_less s fuse
 fuse_with fuse command (Say.RefusedNode x s) = fuse_less s fuse
 fuse_with fuse command (Say.RefusedData a s) = fuse_less s fuse
 fuse_with fuse command (Say.RefusedShadow kept found s) = fuse_less s fuse
-fuse_with fuse command (Say.Spent s) = fuse_less s fuse
 fuse_with fuse command answer = fuse
 
 abbrev pub snapped_with : Bool → TreeCommand → TreeAnswer → Bool
@@ -165,7 +164,7 @@ pub record IsSlotChanged (g : Shape) (history : History) : Type 0 where
 abbrev pub IsHurt : History → ℕ → Type 0
 IsHurt history a = slice_index_or history.hurt a false ≡ true
 
--- so many steps at most, before a cut
+-- so many steps at most, within the fuse
 abbrev pub TakesFew : ℕ → ℕ → History → Type 0
 TakesFew s most history = Fits s history.fuse × (s ≤ most)
 
@@ -176,9 +175,12 @@ EndsAt s most history = (history.fuse ≡ Some s) × (s < most)
 abbrev pub MayWrite : Shape → History → ℕ → TreeAnswer → Type 0
 MayWrite g history a Say.Off = history.power ≡ false
 MayWrite g history a Say.Range = (history.power ≡ true) × (tree_lines g ≤ a)
-MayWrite g history a (Say.Written s) = IsServed g history a × (IsUsedUp history → ⊥) × TakesFew s (write_bound g) history
-MayWrite g history a (Say.CutKept s) = IsServed g history a × (IsUsedUp history → ⊥) × EndsAt s (write_bound g) history
-MayWrite g history a (Say.CutLost s) = IsServed g history a × (IsUsedUp history → ⊥) × EndsAt s (write_bound g) history
+MayWrite g history a (Say.Written s) =
+    IsServed g history a × (IsUsedUp history → ⊥) × (write_least g ≤ s) × TakesFew s (write_bound g) history
+MayWrite g history a (Say.CutKept s) =
+    IsServed g history a × (IsUsedUp history → ⊥) × (1 ≤ s) × EndsAt s (write_bound g) history
+MayWrite g history a (Say.CutLost s) =
+    IsServed g history a × (IsUsedUp history → ⊥) × (history.fuse ≡ Some s) × (s ≤ read_bound g)
 MayWrite g history a (Say.RefusedNode x s) =
     IsServed g history a × (IsUsedUp history → ⊥) × IsNodeChanged g history a x × TakesFew s (read_bound g) history
 MayWrite g history a (Say.Spent s) = IsServed g history a × IsUsedUp history × (s ≡ 0)
@@ -275,10 +277,11 @@ MayShow g history command exhibit = ⊥
 
 -- ---- without tampering
 
-abbrev pub IsNoTampering : TreeCommand → Type 0
-IsNoTampering (Do.Poke d line) = ⊥
-IsNoTampering (Do.Back d) = ⊥
-IsNoTampering command = ⊤
+-- neither a poke nor a back that was answered ok
+abbrev pub IsNoTampering : TreeCommand → TreeAnswer → Type 0
+IsNoTampering (Do.Poke d line) Say.Ok = ⊥
+IsNoTampering (Do.Back d) Say.Ok = ⊥
+IsNoTampering command answer = ⊤
 
 abbrev pub IsUnrefused : TreeAnswer → Type 0
 IsUnrefused (Say.RefusedNode x s) = ⊥
@@ -306,6 +309,6 @@ IsTreeShown setup =
 abbrev pub IsTreeUntouched : Setup → Type 0
 IsTreeUntouched setup =
     (replies : List TreeReply) (last : SessionState) → IsSession setup replies last
-    → All (λ (reply : TreeReply). IsNoTampering reply.command) replies
+    → All (λ (reply : TreeReply). IsNoTampering reply.command reply.answer) replies
     → All (λ (reply : TreeReply). IsUnrefused reply.answer) replies
     × ((command : TreeCommand) (exhibit : Exhibit) (new : SessionState) → IsShownBy setup last command exhibit new → ⊥)
