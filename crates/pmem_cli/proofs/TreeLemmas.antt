@@ -102,7 +102,7 @@ chain_of_given setup first (reply its ∷ said) (line, its_sort, inr (shown, non
 chain_of_given setup first (exhibit its ∷ said) (line, its_sort, inl (next, answered, more)) = absurd answered
 chain_of_given setup first (exhibit its ∷ said) (line, its_sort, inr (shown, none)) =
     subst (λ (zs : List (Said TreeReply)). IsChain setup first (exhibit its ∷ zs)) (sym none)
-    (record { last = first; answered = refl; shown = All-cons _ its [] (shown.command, shown.new, shown.shown) (All-nil _) })
+    (record { last = first; answered = refl; shown = All-cons (IsShownBefore setup first) its [] (shown.command, (shown.new, shown.shown)) (All-nil _) })
 
 -- what holds of none is none
 none_of : {T : Type 0} (P : T → Type 0) (xs : List T) → All P xs → ((x : T) → P x → ⊥) → xs ≡ []
