@@ -1,6 +1,6 @@
 -- Which answers a command has in which states, and the state after: where the state alone decides, the first
 -- condition that holds does; else the engine gives one of the answers that are listed.
-use Rattle.std.specs.Prelude.{ℕ, ◌≡◌, ◌≤◌, ◌<◌, ◌+◌, ◌-◌, ◌*◌, ◌==◌, ◌&&◌, ◌⊎◌, nat_lt, Bool, true, false, List, ◌++◌, length, Option, Some, None, option_map, IfSome, Ok, ⊤, if◌then◌else◌}
+use Rattle.std.specs.Prelude.{ℕ, ◌≡◌, ◌≤◌, ◌<◌, ◌+◌, ◌-◌, ◌*◌, ◌==◌, ◌&&◌, ◌⊎◌, nat_lt, Bool, true, false, List, ◌++◌, length, Option, Some, None, option_map, IfSome, Ok, ⊤, IsTrue, if◌then◌else◌}
 use Rattle.std.specs.List.{list_any}
 use Rattle.pmem_base.specs.declared.lines.Line.{Line}
 use Rattle.pmem_base.specs.declared.commands.Posted.{Posted}
@@ -218,9 +218,19 @@ IsShownBy setup old Do.On (Twin at major low high cipher tag) =
     × IsTwinOfSeal setup (places_in setup old) old.loss (view_in old) at major low high cipher tag
 IsShownBy setup old command exhibit = ⊥
 
+-- whether a command may want memory
+abbrev pub takes_memory : WearCommand → Bool
+takes_memory (Do.Write a plain) = true
+takes_memory Do.On = true
+takes_memory command = false
+
+-- a command may want memory where the state doesn't decide its answer
+abbrev pub CanWantMemory : WearState → WearCommand → Type 0
+CanWantMemory old command = IsTrue (takes_memory command) × (decided old command ≡ None)
+
 -- why a command has no answer: memory is wanted, and nothing was done; or it is an exhibit
 abbrev pub IsHalt : Setup → WearState → WearCommand → Halt → WearState → Type 0
-IsHalt setup old command Stop.Memory new = new ≡ old
+IsHalt setup old command Stop.Memory new = CanWantMemory old command × (new ≡ old)
 IsHalt setup old command (Stop.Shown exhibit) new = IsShownBy setup old command exhibit
 IsHalt setup old command (Stop.Line kind) new = ⊥
 
@@ -239,3 +249,9 @@ pub record IsShownOf (setup : Setup) (old : WearState) (line : List ℕ) (exhibi
   pub command : WearCommand
   pub its_reading : reading_of_wear line ≡ Ok (Some command)
   pub shown : IsShownBy setup old command exhibit
+
+-- the line asks for a command that may want memory
+pub record IsStarvedOf (old : WearState) (line : List ℕ) : Type 0 where
+  pub command : WearCommand
+  pub its_reading : reading_of_wear line ≡ Ok (Some command)
+  pub wanted : CanWantMemory old command
