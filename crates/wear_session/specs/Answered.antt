@@ -10,6 +10,7 @@ use Rattle.pmem_base.specs.declared.answers.Exhibit.{Exhibit}
 use Rattle.pmem_base.specs.declared.answers.Exhibit.TheVariants.{Twin}
 use Rattle.pmem_base.specs.Counts.{HasRisen}
 use Rattle.pmem_base.specs.Shape.{Shape}
+use Rattle.pmem_base.specs.Layout.{data_lines}
 use Rattle.pmem_base.specs.Lines.{line_at}
 use Rattle.watched_board.specs.Watching.{counted}
 use Rattle.suite.specs.Formulas.{Formulas}
@@ -77,7 +78,7 @@ pub record RisesBySteps (steps : ℕ) (old new : WearState) : Type 0 where
 abbrev pub burnt : Option ℕ → ℕ → Option ℕ
 burnt fuse steps = option_map (λ left. left - steps) fuse
 
--- so many steps were done, which are at most so many and which the fuse let, and nothing was cut
+-- steps were done, at most `most` and no more than the fuse had left, and nothing was cut
 pub record GoesTo (expected : WearState) (steps most : ℕ) (old new : WearState) : Type 0 where
   pub becomes : IsButForCounts (record expected { fuse = burnt old.fuse steps }) new
   pub rises : RisesBySteps steps old new
@@ -85,7 +86,7 @@ pub record GoesTo (expected : WearState) (steps most : ℕ) (old new : WearState
   pub lasting : IfSome old.fuse (λ left. steps ≤ left)
   pub no_cut : new.cuts ≡ old.cuts
 
--- power was cut at the end of the fuse, after fewer steps than so many
+-- power was cut with the fuse used up, after fewer than `most` steps
 pub record IsCutOff (expected : WearState) (steps most : ℕ) (old new : WearState) : Type 0 where
   pub becomes : IsButForCounts (without_power expected) new
   pub rises : RisesBySteps steps old new
@@ -213,7 +214,7 @@ IsAnswered setup old command answer new =
 -- an exhibit comes of recovery alone: a twin that holds, of the last seal of one of the data lines
 abbrev pub IsShownBy : Setup → WearState → WearCommand → Exhibit → Type 0
 IsShownBy setup old Do.On (Twin at major low high cipher tag) =
-    (old.power ≡ false)
+    (old.power ≡ false) × (at < data_lines setup.shape)
     × IsExhibit setup.formulas (Twin at major low high cipher tag)
     × IsTwinOfSeal setup (places_in setup old) old.loss (view_in old) at major low high cipher tag
 IsShownBy setup old command exhibit = ⊥
