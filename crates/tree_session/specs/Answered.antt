@@ -449,3 +449,9 @@ pub record IsShownOf (setup : Setup) (old : SessionState) (line : List ℕ) (exh
   pub its_reading : reading_of_tree line ≡ Ok (Some command)
   pub new : SessionState
   pub shown : IsShownBy setup old command exhibit new
+
+-- the line asks for a command that may want memory
+pub record IsStarvedOf (old : SessionState) (line : List ℕ) : Type 0 where
+  pub command : TreeCommand
+  pub its_reading : reading_of_tree line ≡ Ok (Some command)
+  pub wanted : CanWantMemory old command
