@@ -10,7 +10,7 @@ use Rattle.plain_model.specs.Texts.{as_line}
 use Rattle.trace_text.specs.Conversations.{Protocol, talk_protocol, AreGiven}
 use Rattle.tree_session.specs.declared.commands.TreeCommand.{TreeCommand}
 use Rattle.tree_session.specs.declared.answers.TreeAnswer.{TreeAnswer}
-use Rattle.tree_session.specs.Answered.{IsAnswered, IsEngineShown, IsShownBy, IsTalkedOf, IsShownOf}
+use Rattle.tree_session.specs.Answered.{IsAnswered, IsEngineShown, IsShownBy, IsTalkedOf, IsShownOf, IsStarvedOf}
 use Rattle.tree_session.specs.Commands.{sort_of_tree}
 use Rattle.tree_session.specs.Guarantees.{TreeReply, AreAnswered, IsSession, first_history, history_after, IsTreeKept, IsTreeShown, IsTreeUntouched}
 use Rattle.tree_session.specs.State.{SessionState, IsNewTree, setup_in}
@@ -46,7 +46,7 @@ first_shown setup old command its new none (inr again) = absurd (cc (none, again
 abbrev pub tree_protocol : (List ℕ → Formulas) → Protocol SessionState (List ℕ)
 tree_protocol f =
     talk_protocol sort_of_tree (λ old line text new. IsTalkedOf (setup_in f old) old line text new)
-    (λ old line its. IsShownOf (setup_in f old) old line its)
+    (λ old line its. IsShownOf (setup_in f old) old line its) IsStarvedOf
 
 -- what a session of this setup says is said by its commands and answers
 pub follows_tree : (f : List ℕ → Formulas) (setup : Setup)
@@ -54,7 +54,7 @@ pub follows_tree : (f : List ℕ → Formulas) (setup : Setup)
 follows_tree f setup =
     record {
       sorts = λ line. refl;
-      wants = λ line wants. tt;
+      wants = λ old line is wants. wants;
       answered = λ old new line text before talked.
           let answered = subst (λ (u : Setup). IsAnswered u old talked.command talked.answer new) before.its_setup talked.answered in (
             reply (record { command = talked.command; answer = talked.answer }),

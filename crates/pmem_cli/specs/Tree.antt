@@ -4,7 +4,7 @@ use Rattle.pmem_base.specs.declared.answers.Exhibit.{Exhibit}
 use Rattle.suite.specs.Setup.{Setup}
 use Rattle.collision_witness.specs.Exhibits.{IsExhibit}
 use Rattle.tree_session.specs.declared.commands.TreeCommand.{TreeCommand}
-use Rattle.tree_session.specs.Answered.{IsAnswered, IsEngineShown}
+use Rattle.tree_session.specs.Answered.{IsAnswered, IsEngineShown, IsStarvedOf}
 use Rattle.tree_session.specs.Answers.{tree_text}
 use Rattle.tree_session.specs.Commands.{reading_of_tree, sort_of_tree}
 use Rattle.tree_session.specs.Guarantees.{TreeReply, AreAllowed, History, first_history, history_after, MayShow, IsNoTampering, IsUnrefused}
@@ -50,6 +50,7 @@ counter_tree_session setup =
           λ old line reply new. (reading_of_tree line ≡ Ok (Some reply.command))
           × IsAnswered setup old reply.command reply.answer new;
       shows = IsExhibitOf setup;
+      wants_memory = IsStarvedOf;
       text_of = λ reply. tree_text reply.answer;
       promises = λ first said. IsAsPromised setup said;
     }
