@@ -87,7 +87,7 @@ class BenchTest(ExploreTest):
         self.assertIn("can't be run: No such file or directory\n", result.stderr)
 
     def test_words(self) -> None:
-        for words in (["--pages", "513"], ["--commands", "x"], ["--repeat"], ["all"]):
+        for words in (["--pages", "513"], ["--commands", "x"], ["--repeat"], ["--repeat", "0"], ["all"]):
             self.assertEqual(self.bench(*words).returncode, 2)
 
 

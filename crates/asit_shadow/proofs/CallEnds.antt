@@ -18,7 +18,7 @@ use Rattle.asit_shadow.specs.declared.fault.TreeFault.{TreeFault}
 use Rattle.asit_shadow.specs.declared.fault.TreeFault.TheVariants as Fail
 use Rattle.asit_shadow.specs.State.{TreeState}
 use Rattle.asit_shadow.specs.Parts.{Parts, parts_of, IsWatchReady, IsBoardReady}
-use Rattle.asit_shadow.specs.Work.{HasFetchedLevels, HasFetchedPath, IsShownAt, IsCutInFetch}
+use Rattle.asit_shadow.specs.Work.{HasFetchedLevels, HasFetchedPath, IsShownAt, IsCutInFetch, IsLineShownAt}
 use Rattle.asit_shadow.proofs.LevelWork.{levels-kept}
 use Rattle.asit_shadow.specs.Calls.{outcome_of, outcome_of_fault, CallEffect, KeepsWatch, IsDownAnswer, IsNodeLineRead, IsNodeShown, IsPathAccepted, IsLineShown, IsLineRead, AnswersDown}
 
@@ -118,14 +118,14 @@ line_shown-ended setup a old mid engine it =
 
 -- ---- nor does what was done, but for the cache
 
-levels-ended : (setup : Setup) (a n : ℕ) (old mid : Parts) (engine : TreeState) → engine.cache ≡ mid.engine.cache → HasFetchedLevels setup a n old mid → HasFetchedLevels setup a n old (parts_of engine mid.device mid.watch)
+pub levels-ended : (setup : Setup) (a n : ℕ) (old mid : Parts) (engine : TreeState) → engine.cache ≡ mid.engine.cache → HasFetchedLevels setup a n old mid → HasFetchedLevels setup a n old (parts_of engine mid.device mid.watch)
 levels-ended setup a n old mid engine cache it = levels-kept setup a n old mid (parts_of engine mid.device mid.watch) cache refl refl refl refl it
 
 pub path_work-ended : (setup : Setup) (a more : ℕ) (old mid : Parts) (engine : TreeState) → engine.cache ≡ mid.engine.cache → HasFetchedPath setup a more old mid → HasFetchedPath setup a more old (parts_of engine mid.device mid.watch)
 path_work-ended setup a more old mid engine cache it =
     record { fetched = levels-ended setup a setup.shape.levels old mid engine cache it.fetched; reads = it.reads }
 
-pub shown_at-ended : (setup : Setup) (a : ℕ) (old mid : Parts) (engine : TreeState) → engine.cache ≡ mid.engine.cache → IsShownAt setup a old mid → IsShownAt setup a old (parts_of engine mid.device mid.watch)
+unfoldable pub shown_at-ended : (setup : Setup) (a : ℕ) (old mid : Parts) (engine : TreeState) → engine.cache ≡ mid.engine.cache → IsShownAt setup a old mid → IsShownAt setup a old (parts_of engine mid.device mid.watch)
 shown_at-ended setup a old mid engine cache it =
     record {
       x = it.x;
@@ -142,7 +142,18 @@ shown_at-ended setup a old mid engine cache it =
       shown = it.shown;
     }
 
-pub cut_work-ended : (setup : Setup) (a : ℕ) (old mid : Parts) (engine : TreeState) → engine.cache ≡ mid.engine.cache → IsCutInFetch setup a old mid → IsCutInFetch setup a old (parts_of engine mid.device mid.watch)
+pub line_shown_at-ended : (setup : Setup) (a : ℕ) (old mid : Parts) (engine : TreeState) → engine.cache ≡ mid.engine.cache → IsLineShownAt setup a old mid → IsLineShownAt setup a old (parts_of engine mid.device mid.watch)
+line_shown_at-ended setup a old mid engine cache it =
+    record {
+      cipher = it.cipher;
+      tags = it.tags;
+      seal = it.seal;
+      last = it.last;
+      path = path_work-ended setup a 2 old mid engine cache it.path;
+      shown = it.shown;
+    }
+
+unfoldable pub cut_work-ended : (setup : Setup) (a : ℕ) (old mid : Parts) (engine : TreeState) → engine.cache ≡ mid.engine.cache → IsCutInFetch setup a old mid → IsCutInFetch setup a old (parts_of engine mid.device mid.watch)
 cut_work-ended setup a old mid engine cache it =
     record {
       levels = it.levels;
@@ -179,15 +190,7 @@ read-ended setup a old mid engine Fail.Shown ended it =
       work =
           elim it.work [
             | inl node ↦ inl (shown_at-ended setup a old mid engine ended.cache node)
-            | inr line ↦
-                inr (record {
-                  cipher = line.cipher;
-                  tags = line.tags;
-                  seal = line.seal;
-                  last = line.last;
-                  path = path_work-ended setup a 2 old mid engine ended.cache line.path;
-                  shown = line.shown;
-                })
+            | inr line ↦ inr (line_shown_at-ended setup a old mid engine ended.cache line)
           ];
       answered =
           λ trusted.

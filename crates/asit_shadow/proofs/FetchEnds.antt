@@ -1,6 +1,6 @@
 -- How a fetch ends: with its path, or with a cut, a refused node or an exhibit.
 use Rattle.std.proofs.Common.{ℕ, ◌≡◌, ◌≢◌, Bool, true, false, List, Some, None, refl, sym, ap, subst, ◌∙◌, arith}
-use Rattle.std.specs.Prelude.{Option, All, IsNone, IsSome, IfSome, MatchOption}
+use Rattle.std.specs.Prelude.{Option, All, IsNone, IsSome, IfSome, MatchOption, if◌then◌else◌}
 use Rattle.std.proofs.lemmas.Bool.{true≢false}
 use Rattle.std.proofs.lemmas.Option.{same_Some, none-some}
 use Rattle.pmem_base.specs.declared.lines.Line.{Line}
@@ -12,32 +12,28 @@ use Rattle.pmem_base.specs.Shape.{Shape}
 use Rattle.suite.specs.Setup.{Setup}
 use Rattle.board.specs.Device.{Device}
 use Rattle.board.specs.Counts.{RisesBy}
-use Rattle.board.proofs.CountLemmas.{RisesBy-then}
 use Rattle.board.specs.Steps.{HasRead, Tells}
 use Rattle.collision_witness.specs.Exhibits.{IsExhibit}
 use Rattle.commit_regs.specs.Groups.{redone, redone_told}
 use Rattle.pmem_engine.specs.Outcomes.{Outcome, going, cut_short, shown, HasPower}
-use Rattle.counter_tree.specs.Nodes.{total, node_read}
+use Rattle.counter_tree.specs.Nodes.{node_read}
 use Rattle.counter_tree.specs.Layout.{line_of_node}
 use Rattle.counter_tree.specs.Trees.{node_at, entry_for}
-use Rattle.counter_tree.specs.Slots.{slot_of}
-use Rattle.counter_tree.specs.Watch.{WatchState, HasShown, first_shown, forged_node}
-use Rattle.counter_tree.specs.Accepted.{IsNodeUnaccepted, IsNodeForged}
-use Rattle.asit_shadow.specs.declared.fault.TreeFault.{TreeFault}
-use Rattle.asit_shadow.specs.declared.fault.TreeFault.TheVariants as Fail
-use Rattle.asit_shadow.specs.State.{TreeState, IsCached, cache_at}
+use Rattle.counter_tree.specs.Watch.{WatchState, first_shown, forged_node}
+use Rattle.counter_tree.specs.Accepted.{IsNodeForged}
+use Rattle.asit_shadow.specs.State.{TreeState, IsCached}
 use Rattle.asit_shadow.specs.Invariants.{IsAnchored, IsTrusted, IsDurable, IsSound, IsSealStored, IsSlotStored}
 use Rattle.asit_shadow.specs.Places.{IsNodeHeld, IsNodeHeldBy}
 use Rattle.asit_shadow.specs.Parts.{Parts, AreTrusted, AreSound, HoldsSeal, HoldsSlot, HoldsNode, lines_redone}
-use Rattle.asit_shadow.specs.Calls.{CallEffect, KeepsWatch, TakesWriteBacks, IsNodeLineRead}
-use Rattle.asit_shadow.specs.Work.{holds_dirty, is_cached, spilled, absent_count, HasFetchedLevels, HasStoppedAt}
-use Rattle.asit_shadow.specs.Fetching.{IsNodeCutOff, IsNodeMissed, IsFetchStopped}
-use Rattle.asit_shadow.proofs.Chains.{told-of, effect-then, going-unshown, cut-unshown}
+use Rattle.asit_shadow.specs.Calls.{CallEffect, KeepsWatch, TakesWriteBacks}
+use Rattle.asit_shadow.specs.Work.{spilled, HasFetchedLevels}
+use Rattle.asit_shadow.specs.Fetching.{IsNodeCutOff}
+use Rattle.asit_shadow.proofs.Chains.{told-of}
 use Rattle.asit_shadow.proofs.FetchLaws.{forged_node-holds, node_read-sound}
 use Rattle.asit_shadow.proofs.PlaceLaws.{powered_off-place, node_read-place}
 use Rattle.asit_shadow.proofs.LevelSteps.{IsLevelReady}
-use Rattle.asit_shadow.proofs.LevelWork.{next-on_path, is_cached-false, levels-kept}
-use Rattle.asit_shadow.proofs.PathSteps.{IsNextLevel, level-ready, next-work, cached-after}
+use Rattle.asit_shadow.proofs.LevelWork.{levels-kept}
+use Rattle.asit_shadow.proofs.PathSteps.{IsNextLevel, level-ready}
 
 -- ---- parts of which nothing was written
 
@@ -52,7 +48,7 @@ pub read-unwritten : (old new : Device) (at : ℕ) (line : Line) → HasRead old
 read-unwritten old new at line read =
     record { lines = read.lines; regs = read.regs; size = read.size; writes = read.writes; latches = read.latches }
 
-cut-unwritten : (g : Shape) (x : ℕ) (old new : Parts) → IsNodeCutOff g x old new → AreUnwritten old.device new.device
+pub cut-unwritten : (g : Shape) (x : ℕ) (old new : Parts) → IsNodeCutOff g x old new → AreUnwritten old.device new.device
 cut-unwritten g x old new cut =
     record {
       lines = cut.cut.lines ∙ cut.lines;
@@ -169,7 +165,7 @@ cut-effect setup old new same power shape watch =
     durable_of None it = absurd it
     durable_of (Some lines) it = it.durable
 
-cut-power : (g : Shape) (x : ℕ) (old new : Parts) → IsNodeCutOff g x old new → HasPower cut_short old.device new.device
+pub cut-power : (g : Shape) (x : ℕ) (old new : Parts) → IsNodeCutOff g x old new → HasPower cut_short old.device new.device
 cut-power g x old new cut = (
   still-steady old.device.steady cut.between.steady cut.steady cut.cut.unsteady,
   cut.cut.off,
@@ -187,7 +183,7 @@ shown-some None it = refl
 shown-some (Some other) it = refl
 
 -- over a sound engine the node is read as the true one
-sound-read : (setup : Setup) (x version : ℕ) (line : Line) (now : Parts) → IsLevelReady setup x version now → (IsCached setup.shape now.engine.cache x → ⊥) → Tells now.device.lines (line_of_node setup.shape x) line → AreSound setup now
+pub sound-read : (setup : Setup) (x version : ℕ) (line : Line) (now : Parts) → IsLevelReady setup x version now → (IsCached setup.shape now.engine.cache x → ⊥) → Tells now.device.lines (line_of_node setup.shape x) line → AreSound setup now
     → node_read setup.formulas x line version ≡ Some (node_at now.watch.nodes x)
 sound-read setup x version line now ready uncached tells sound =
     read_of now.device.lines sound tells
@@ -199,7 +195,7 @@ sound-read setup x version line now ready uncached tells sound =
         ∙ (ap (λ l. node_read setup.formulas x l (entry_for now.watch.nodes x)) is
         ∙ (node_read-sound setup now.engine lines now.device.regs now.watch x ready.shape ready.in_range it (omega (arith, ready.not_top)) ready.on_tree uncached).0)
 
-shown-effect : (setup : Setup) (x version : ℕ) (now new : Parts) → IsLevelReady setup x version now → (IsCached setup.shape now.engine.cache x → ⊥) → new.engine ≡ now.engine → IsNodeForged setup x version now.device new.device now.watch new.watch → CallEffect setup shown now new
+pub shown-effect : (setup : Setup) (x version : ℕ) (now new : Parts) → IsLevelReady setup x version now → (IsCached setup.shape now.engine.cache x → ⊥) → new.engine ≡ now.engine → IsNodeForged setup x version now.device new.device now.watch new.watch → CallEffect setup shown now new
 shown-effect setup x version now new ready uncached engine forged =
     let same = read-unwritten now.device new.device (line_of_node setup.shape x) forged.line forged.read in
     record {
@@ -232,7 +228,7 @@ told_still group more None new lines are is none = none-some lines are
 told_still group more (Some ls) new lines are is none = none-some (redone more ls) (sym none ∙ is)
 
 -- it is read as the true one
-held-read : (setup : Setup) (a j x version : ℕ) (line : Line) (old now : Parts) → IsNextLevel setup a j x version old now → (IsCached setup.shape now.engine.cache x → ⊥) → Tells now.device.lines (line_of_node setup.shape x) line → AreTrusted setup old
+pub held-read : (setup : Setup) (a j x version : ℕ) (line : Line) (old now : Parts) → IsNextLevel setup a j x version old now → (IsCached setup.shape now.engine.cache x → ⊥) → Tells now.device.lines (line_of_node setup.shape x) line → AreTrusted setup old
     → (lines : List Line) → lines_redone old ≡ Some lines → IsNodeHeldBy setup old.engine lines old.watch x → node_read setup.formulas x line version ≡ Some (node_at now.watch.nodes x)
 held-read setup a j x version line old now next uncached tells trusted lines are held =
     let was : HoldsNode setup old x = subst (λ (o : Option (List Line)). IfSome o (λ ls. IsNodeHeldBy setup old.engine ls old.watch x)) (sym are) held in
@@ -251,7 +247,7 @@ held-read setup a j x version line old now next uncached tells trusted lines are
 
 -- ---- a level that wasn't had ends the fetch
 
-stopped-steps : (setup : Setup) (a j x version : ℕ) (outcome : Outcome) (old now new : Parts) → IsNextLevel setup a j x version old now → AreUnwritten now.device new.device → TakesWriteBacks setup.shape.levels outcome old.device new.device
+pub stopped-steps : (setup : Setup) (a j x version : ℕ) (outcome : Outcome) (old now new : Parts) → IsNextLevel setup a j x version old now → AreUnwritten now.device new.device → TakesWriteBacks setup.shape.levels outcome old.device new.device
 stopped-steps setup a j x version outcome old now new next same =
     record {
       count = next.before.steps.count;
@@ -274,169 +270,3 @@ kept-watch outcome old new other same =
 
 pub unwritten-levels : (setup : Setup) (a n : ℕ) (old mid new : Parts) → new.engine.cache ≡ mid.engine.cache → AreUnwritten mid.device new.device → HasFetchedLevels setup a n old mid → HasFetchedLevels setup a n old new
 unwritten-levels setup a n old mid new cache same = levels-kept setup a n old mid new cache same.lines same.writes same.latches same.regs
-
--- the line of the next node was read
-stopped-at : (setup : Setup) (a j x version : ℕ) (line : Line) (old now new : Parts) → IsNextLevel setup a j x version old now → (IsCached setup.shape now.engine.cache x → ⊥) → new.engine ≡ now.engine → HasRead now.device (line_of_node setup.shape x) line new.device → HasStoppedAt setup a x old new
-stopped-at setup a j x version line old now new next uncached engine read =
-    let same = read-unwritten now.device new.device (line_of_node setup.shape x) line read in
-    let work = next-work setup a j x version old now next in
-    record {
-      levels = j;
-      below = next.level;
-      next = next.place;
-      absent = is_cached-false setup.shape old.engine.cache x (λ it. uncached (cached-after setup a j x version old now next it));
-      fetched = unwritten-levels setup a j old now new (ap (λ (e : TreeState). e.cache) engine) same work.done;
-      reads = RisesBy-then (absent_count setup.shape old.engine.cache a j) 1 old.device.reads now.device.reads new.device.reads work.reads read.reads;
-    }
-
-cut_stop : (setup : Setup) (a j x version : ℕ) (old now new : Parts) → IsNextLevel setup a j x version old now → IsNodeCutOff setup.shape x now new → IsFetchStopped setup a old new Fail.Cut
-cut_stop setup a j x version old now new next cut =
-    let same = cut-unwritten setup.shape x now new cut in
-    let work = next-work setup a j x version old now next in
-    record {
-      kind = tt;
-      effect =
-          effect-then setup cut_short old now new next.before.effect
-          (cut-effect setup now new same (cut-power setup.shape x now new cut) (ap (λ (e : TreeState). e.shape) cut.engine) cut.watch);
-      down = ap (λ (e : TreeState). e.down) cut.engine ∙ next.before.down;
-      regs = same.regs ∙ next.before.regs;
-      steps = stopped-steps setup a j x version cut_short old now new next same;
-      watch = kept-watch cut_short old.watch new.watch cut-unshown (cut.watch ∙ next.before.watch);
-      same_watch = cut.watch ∙ next.before.watch;
-      work =
-          record {
-            levels = j;
-            fetched = unwritten-levels setup a j old now new (ap (λ (e : TreeState). e.cache) cut.engine) same work.done;
-            due =
-                λ was.
-                let live = next.before.effect.power.1 was in
-                record {
-                  below = next.level;
-                  absent =
-                      subst (λ y. is_cached setup.shape old.engine.cache y ≡ false) next.place
-                      (is_cached-false setup.shape old.engine.cache x (λ it. cut.uncached (cached-after setup a j x version old now next it)));
-                  victim =
-                      subst (λ y. holds_dirty (cache_at old.engine.cache (slot_of setup.shape y)) ≡ true) next.place
-                      (ap holds_dirty (sym work.slot) ∙ cut.victim live);
-                  reads =
-                      RisesBy-then (absent_count setup.shape old.engine.cache a j) 1 old.device.reads now.device.reads new.device.reads work.reads
-                      (cut.one_read live);
-                };
-          };
-      answered = λ trusted. tt;
-      unrefused = λ sound. tt;
-    }
-
--- the line read at the node that the fetch stopped at
-stopped-read : (setup : Setup) (a j x version : ℕ) (line : Line) (old now new : Parts) → IsNextLevel setup a j x version old now → (IsCached setup.shape now.engine.cache x → ⊥) → HasRead now.device (line_of_node setup.shape x) line new.device → IsNodeLineRead setup a x line old new
-stopped-read setup a j x version line old now new next uncached read =
-    let ready = level-ready setup a j x version old now next in
-    record {
-      on_path = next-on_path setup.shape a j x next.level next.place;
-      below_top = omega (arith, ready.not_top);
-      uncached = λ it. uncached (cached-after setup a j x version old now next it);
-      read = subst (λ (o : Option (List Line)). Tells o (line_of_node setup.shape x) line) (sym read.lines) read.tells;
-    }
-
--- the version is the true node's
-true_version : (setup : Setup) (a j x version : ℕ) (old now : Parts) → IsNextLevel setup a j x version old now → AreTrusted setup old → version ≡ total (node_at old.watch.nodes x)
-true_version setup a j x version old now next trusted =
-    let ready = level-ready setup a j x version old now next in
-    let here = next.before.effect.trusted trusted in
-    next.version_true here
-    ∙ (sym (here.anchored.tree.versions x (omega (arith, ready.not_top)) ready.on_tree)
-    ∙ ap (λ (w : WatchState). total (node_at w.nodes x)) next.before.watch)
-
-refused_stop : (setup : Setup) (a j x version : ℕ) (old now new : Parts) → IsNextLevel setup a j x version old now → (IsCached setup.shape now.engine.cache x → ⊥) → new.engine ≡ now.engine
-    → IsNodeUnaccepted setup x version now.device new.device now.watch new.watch → IsFetchStopped setup a old new (Fail.Node x)
-refused_stop setup a j x version old now new next uncached engine it =
-    let ready = level-ready setup a j x version old now next in
-    let same = read-unwritten now.device new.device (line_of_node setup.shape x) it.line it.read in
-    record {
-      kind = tt;
-      effect =
-          effect-then setup going old now new next.before.effect
-          (refused-effect setup now new same (it.read.steady, it.read.live, it.read.cuts) engine it.watch_kept);
-      down = ap (λ (e : TreeState). e.down) engine ∙ next.before.down;
-      regs = same.regs ∙ next.before.regs;
-      steps = stopped-steps setup a j x version going old now new next same;
-      watch = kept-watch going old.watch new.watch going-unshown (it.watch_kept ∙ next.before.watch);
-      same_watch = it.watch_kept ∙ next.before.watch;
-      work = stopped-at setup a j x version it.line old now new next uncached engine it.read;
-      answered =
-          λ trusted.
-          record {
-            line = it.line;
-            its = stopped-read setup a j x version it.line old now new next uncached it.read;
-            refused = ap (node_read setup.formulas x it.line) (sym (true_version setup a j x version old now next trusted)) ∙ it.refused;
-            unheld =
-                λ lines are held.
-                none-some (node_at now.watch.nodes x)
-                (sym it.refused ∙ held-read setup a j x version it.line old now next uncached it.read.tells trusted lines are held);
-          };
-      unrefused =
-          λ sound.
-          none-some (node_at now.watch.nodes x)
-          (sym it.refused ∙ sound-read setup x version it.line now ready uncached it.read.tells (next.before.effect.sound sound));
-    }
-
-shown_stop : (setup : Setup) (a j x version : ℕ) (old now new : Parts) → IsNextLevel setup a j x version old now → (IsCached setup.shape now.engine.cache x → ⊥) → new.engine ≡ now.engine
-    → IsNodeForged setup x version now.device new.device now.watch new.watch → IsFetchStopped setup a old new Fail.Shown
-shown_stop setup a j x version old now new next uncached engine it =
-    let ready = level-ready setup a j x version old now next in
-    let same = read-unwritten now.device new.device (line_of_node setup.shape x) it.line it.read in
-    let effect = shown-effect setup x version now new ready uncached engine it in
-    record {
-      kind = tt;
-      effect = effect-then setup shown old now new next.before.effect effect;
-      down = ap (λ (e : TreeState). e.down) engine ∙ next.before.down;
-      regs = same.regs ∙ next.before.regs;
-      steps = stopped-steps setup a j x version shown old now new next same;
-      watch =
-          record {
-            setup = it.exhibit.setup ∙ ap (λ (w : WatchState). w.setup) next.before.watch;
-            seals = it.exhibit.seals ∙ ap (λ (w : WatchState). w.seals) next.before.watch;
-            nodes = it.exhibit.nodes ∙ ap (λ (w : WatchState). w.nodes) next.before.watch;
-            slots = it.exhibit.slots ∙ ap (λ (w : WatchState). w.slots) next.before.watch;
-            exhibit = λ other. absurd (other refl);
-            stopped = λ _. subst IsSome (sym it.exhibit.exhibit) (shown-some now.watch.exhibit (forged_node now.watch x it.line));
-          };
-      same_watch = tt;
-      work =
-          record {
-            x = x;
-            line = it.line;
-            stopped = stopped-at setup a j x version it.line old now new next uncached engine it.read;
-            shown = subst (λ (w : WatchState). HasShown w new.watch (forged_node w x it.line)) next.before.watch it.exhibit;
-          };
-      answered =
-          λ trusted.
-          record {
-            x = x;
-            line = it.line;
-            node = it.node;
-            its = stopped-read setup a j x version it.line old now new next uncached it.read;
-            accepted = ap (node_read setup.formulas x it.line) (sym (true_version setup a j x version old now next trusted)) ∙ it.accepted;
-            other = λ same_node. it.other (same_node ∙ ap (λ (w : WatchState). node_at w.nodes x) (sym next.before.watch));
-            exhibit =
-                it.exhibit.exhibit
-                ∙ (first-none now.watch.exhibit (forged_node now.watch x it.line) (next.before.effect.trusted trusted).anchored.no_exhibit
-                ∙ ap (λ (w : WatchState). Some (forged_node w x it.line)) next.before.watch);
-            unheld =
-                λ lines are held.
-                it.other (same_Some it.node (node_at now.watch.nodes x)
-                (sym it.accepted ∙ held-read setup a j x version it.line old now next uncached it.read.tells trusted lines are held));
-          };
-      unrefused = λ sound. effect.sound (next.before.effect.sound sound);
-    }
-
-pub fetch-stopped : (setup : Setup) (a j x version : ℕ) (old now new : Parts) (fault : TreeFault) → IsNextLevel setup a j x version old now → IsNodeMissed setup x version now new fault → IsFetchStopped setup a old new fault
-fetch-stopped setup a j x version old now new Fail.Cut next missed = cut_stop setup a j x version old now new next missed
-fetch-stopped setup a j x version old now new (Fail.Node y) next missed =
-    subst (λ z. IsFetchStopped setup a old new (Fail.Node z)) (sym missed.0)
-    (refused_stop setup a j x version old now new next missed.1 missed.2 missed.3)
-fetch-stopped setup a j x version old now new Fail.Shown next missed =
-    shown_stop setup a j x version old now new next missed.0 missed.1 missed.2
-fetch-stopped setup a j x version old now new Fail.Down next missed = absurd missed
-fetch-stopped setup a j x version old now new (Fail.Tag at) next missed = absurd missed
-fetch-stopped setup a j x version old now new Fail.Spent next missed = absurd missed

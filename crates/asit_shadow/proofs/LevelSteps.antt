@@ -1,4 +1,4 @@
--- One level of a path is fetched: a node is read, whoever is dirty in its slot is written back, and it
+-- One level of a path is fetched: a node is read, the node that is dirty in its slot is written back, and it
 -- takes the slot.
 use Rattle.std.proofs.Common.{ℕ, ◌≡◌, ◌≢◌, ◌<◌, ◌≤◌, ◌⊎◌, Bool, true, false, List, [], length, Some, None, refl, sym, ap, subst, subst₂, inl, inr, ◌∙◌, arith}
 use Rattle.std.specs.Prelude.{Option, is_some, slice_set}

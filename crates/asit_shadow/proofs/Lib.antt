@@ -15,7 +15,9 @@ pub mod Chains
 pub mod LevelSteps
 pub mod LevelWork
 pub mod PathSteps
+pub mod TagLaws
 pub mod FetchEnds
+pub mod FetchStops
 pub mod ReadEnds
 pub mod CallEnds
 pub mod RaisedNodes
@@ -29,5 +31,6 @@ pub mod WriteLoops
 pub mod WriteEnds
 pub mod WriteDone
 pub mod WriteCalls
+pub mod CallCounts
 pub mod FormatSteps
 pub mod FormatEnds

@@ -22,7 +22,7 @@ use Rattle.asit_shadow.specs.State.{cache_at, IsCached, IsCachedAs}
 use Rattle.asit_shadow.specs.Parts.{Parts, AreTrusted}
 use Rattle.asit_shadow.specs.Paths.{line_path}
 use Rattle.asit_shadow.specs.Calls.{CallEffect, IsNodeRead, TakesWriteBacks}
-use Rattle.asit_shadow.specs.Fetching.{IsNodeFound, IsNodeHad, KeepsPathLines, IsPathFetchedTo}
+use Rattle.asit_shadow.specs.Fetching.{IsNodeFound, HasFetchedNode, KeepsPathLines, IsPathFetchedTo}
 use Rattle.asit_shadow.proofs.SlotPlaces.{slot_of-inside, page_of_line, on_path-inside, path_slots-apart}
 use Rattle.asit_shadow.proofs.Chains.{write_backs-then, effect-then, going-uncut}
 use Rattle.asit_shadow.proofs.LevelWork.{IsNextWork, next-on_path, next-level, at_level, up_to, is_cached-true, is_cached-false, levels-start, reads-start, levels-cached, reads-cached, levels-found, reads-found}
@@ -373,7 +373,7 @@ next-found setup a j x version node old now new next found =
 
 -- ---- a level that was had
 
-pub path-next : (setup : Setup) (a j x version : ℕ) (node : Node) (old now new : Parts) → IsNextLevel setup a j x version old now → IsNodeHad setup x version now new node → IsPathFetchedTo setup a (suc j) old new
+pub path-next : (setup : Setup) (a j x version : ℕ) (node : Node) (old now new : Parts) → IsNextLevel setup a j x version old now → HasFetchedNode setup x version now new node → IsPathFetchedTo setup a (suc j) old new
 path-next setup a j x version node old now new next had =
     elim had [
       | inl (in_slot, same) ↦
@@ -381,7 +381,7 @@ path-next setup a j x version node old now new next had =
       | inr found ↦ next-found setup a j x version node old now new next found
     ]
 
-pub had-in : (setup : Setup) (a j x version : ℕ) (node : Node) (old now new : Parts) → IsNextLevel setup a j x version old now → IsNodeHad setup x version now new node → IsCachedAs setup.shape new.engine.cache x node
+pub had-in : (setup : Setup) (a j x version : ℕ) (node : Node) (old now new : Parts) → IsNextLevel setup a j x version old now → HasFetchedNode setup x version now new node → IsCachedAs setup.shape new.engine.cache x node
 had-in setup a j x version node old now new next had =
     elim had [
       | inl (in_slot, same) ↦

@@ -33,7 +33,7 @@ use Rattle.asit_shadow.specs.State.{TreeState}
 use Rattle.asit_shadow.specs.Invariants.{IsSound}
 use Rattle.asit_shadow.specs.Parts.{Parts, AreTrusted, AreSound}
 use Rattle.asit_shadow.specs.Calls.{IsPathAccepted, IsDataLineRead, TakesWriteBacks, IsLineRead}
-use Rattle.asit_shadow.specs.Work.{absent_count, HasFetchedPath}
+use Rattle.asit_shadow.specs.Work.{absent_count, HasFetchedPath, IsCutInFetch, IsLineShownAt}
 use Rattle.asit_shadow.specs.Fetching.{KeepsPathLines, IsPathFetchedTo}
 use Rattle.asit_shadow.proofs.SlotPlaces.{page_of_line}
 use Rattle.asit_shadow.proofs.Chains.{power-then, places-then, effect-then, going-uncut, going-unshown, cut-unshown}
@@ -151,17 +151,29 @@ read-ok setup a count old mid new plain had it =
       unrefused = λ sound. tt;
     }
 
--- a cut: of a board that was live it comes before any read
-pub read-cut : (setup : Setup) (a count : ℕ) (old mid new : Parts) → IsPathHad setup a count old mid new → IsCutReading mid.device new.device → mid.device.live ≡ false → new.watch ≡ mid.watch → IsLineRead setup a old new (Err Fail.Cut)
-read-cut setup a count old mid new had cut off watch =
-    let same : AreUnwritten mid.device new.device =
+pub cut-reading : (setup : Setup) (mid new : Parts) → IsCutReading mid.device new.device → AreUnwritten mid.device new.device
+cut-reading setup mid new cut =
     record {
       lines = cut.cut.lines ∙ cut.lines;
       regs = cut.cut.regs ∙ cut.regs;
       size = cut.cut.size ∙ cut.size;
       writes = cut.cut.writes ∙ cut.writes;
       latches = cut.cut.latches ∙ cut.latches;
-    } in
+    }
+
+-- how far a read came that was cut after its path was fetched
+unfoldable pub line_cut-work : (setup : Setup) (a count : ℕ) (old mid new : Parts) → IsPathHad setup a count old mid new → IsCutReading mid.device new.device → mid.device.live ≡ false → IsCutInFetch setup a old new
+line_cut-work setup a count old mid new had cut off =
+    record {
+      levels = setup.shape.levels;
+      fetched = unwritten-levels setup a setup.shape.levels old mid new (ap (λ (e : TreeState). e.cache) had.engine) (cut-reading setup mid new cut) had.path.done;
+      due = λ was. absurd (true≢false (sym (had.path.effect.power.1 was) ∙ off));
+    }
+
+-- a cut: of a board that was live it comes before any read
+pub read-cut : (setup : Setup) (a count : ℕ) (old mid new : Parts) → IsPathHad setup a count old mid new → IsCutReading mid.device new.device → mid.device.live ≡ false → new.watch ≡ mid.watch → IsLineRead setup a old new (Err Fail.Cut)
+read-cut setup a count old mid new had cut off watch =
+    let same = cut-reading setup mid new cut in
     let power : HasPower cut_short mid.device new.device = (
       still-steady mid.device.steady cut.between.steady cut.steady cut.cut.unsteady,
       cut.cut.off,
@@ -176,12 +188,7 @@ read-cut setup a count old mid new had cut off watch =
       watch = kept-watch cut_short old.watch new.watch cut-unshown (watch ∙ had.path.watch);
       regs = same.regs ∙ had.path.regs;
       steps = steps-kept setup cut_short old.device mid.device new.device same (λ e. off) had.path.effect.power had.path.steps;
-      work =
-          record {
-            levels = setup.shape.levels;
-            fetched = unwritten-levels setup a setup.shape.levels old mid new (ap (λ (e : TreeState). e.cache) had.engine) same had.path.done;
-            due = λ was. absurd (true≢false (sym (had.path.effect.power.1 was) ∙ off));
-          };
+      work = line_cut-work setup a count old mid new had cut off;
       answered = λ trusted. tt;
       unrefused = λ sound. tt;
     }
@@ -250,6 +257,20 @@ some-taken : {X : Type 0} (P : X → Type 0) (seal : Option X) → IsSome seal �
 some-taken P None there was = absurd cc
 some-taken P (Some one) there was = (one, refl, was)
 
+pub line_shown-work : (setup : Setup) (a count : ℕ) (old mid new : Parts) → IsPathHad setup a count old mid new → IsSome (last_seal_of mid.watch a) → IsLineForged setup a count mid.device new.device mid.watch new.watch → IsLineShownAt setup a old new
+line_shown-work setup a count old mid new had sealed it =
+    let taken = some-taken (λ (seal : LineSeal). (it.cipher ≢ seal.cipher) × HasShown mid.watch new.watch (Forged a (version_counter seal.counter) it.cipher (tag_slot it.tags 0))) (last_seal_of mid.watch a) sealed it.exhibit in
+    record {
+      cipher = it.cipher;
+      tags = it.tags;
+      seal = taken.0;
+      last = subst (λ (w : WatchState). last_seal_of w a ≡ Some taken.0) had.path.watch taken.1;
+      path = path-through setup a it.cipher it.tags old mid new had.path (ap (λ (e : TreeState). e.cache) had.engine) it.read;
+      shown =
+          subst (λ (w : WatchState). HasShown w new.watch (Forged a (version_counter taken.0.counter) it.cipher (tag_slot it.tags 0))) had.path.watch
+          taken.2.1;
+    }
+
 pub read-shown : (setup : Setup) (a count : ℕ) (old mid new : Parts) → IsPathHad setup a count old mid new → IsSome (last_seal_of mid.watch a) → IsLineForged setup a count mid.device new.device mid.watch new.watch → IsLineRead setup a old new (Err Fail.Shown)
 read-shown setup a count old mid new had sealed it =
     let same = both-unwritten setup a it.cipher it.tags mid.device new.device it.read in
@@ -304,17 +325,7 @@ read-shown setup a count old mid new had sealed it =
           };
       regs = same.regs ∙ had.path.regs;
       steps = steps-kept setup shown old.device mid.device new.device same (λ e. absurd (cut-unshown (sym e))) had.path.effect.power had.path.steps;
-      work =
-          inr (record {
-            cipher = it.cipher;
-            tags = it.tags;
-            seal = taken.0;
-            last = subst (λ (w : WatchState). last_seal_of w a ≡ Some taken.0) had.path.watch taken.1;
-            path = path-through setup a it.cipher it.tags old mid new had.path (ap (λ (e : TreeState). e.cache) had.engine) it.read;
-            shown =
-                subst (λ (w : WatchState). HasShown w new.watch (Forged a (version_counter taken.0.counter) it.cipher (tag_slot it.tags 0))) had.path.watch
-                taken.2.1;
-          });
+      work = inr (line_shown-work setup a count old mid new had sealed it);
       answered =
           λ trusted.
           inr (

@@ -1,27 +1,24 @@
 -- How a recovery ends.
-use Rattle.std.proofs.Common.{◌++◌, take, drop, ℕ, ◌≡◌, ◌≢◌, ◌<◌, true, false, List, [], length, Some, None, refl, sym, ap, subst, inl, inr, ◌∙◌, arith}
+use Rattle.std.proofs.Common.{◌++◌, take, drop, ℕ, ◌≡◌, ◌≢◌, ◌<◌, false, List, [], length, Some, None, refl, sym, ap, subst, inl, inr, ◌∙◌, arith}
 use Rattle.std.specs.Prelude.{Option, Ok, Err, All, IfSome, MatchOption}
-use Rattle.std.proofs.lemmas.Bool.{true≢false}
-use Rattle.std.proofs.lemmas.Option.{same_Some}
 use Rattle.std.proofs.lemmas.List.{append-nil, take_all, drop_all}
 use Rattle.pmem_base.specs.declared.lines.Line.{Line}
 use Rattle.pmem_base.specs.declared.registers.Regs.{Regs}
 use Rattle.pmem_base.specs.declared.answers.Exhibit.{Exhibit}
-use Rattle.pmem_base.specs.Counts.{HasRisen, risen_times}
+use Rattle.pmem_base.specs.Counts.{risen_times}
 use Rattle.pmem_base.specs.Registers.{without_group}
 use Rattle.pmem_base.specs.Lines.{IsLine, line_at}
 use Rattle.pmem_base.specs.Shape.{Shape, IsShape}
 use Rattle.suite.specs.Formulas.{Formulas, AreInRange}
 use Rattle.suite.specs.Setup.{Setup}
 use Rattle.board.specs.Counts.{RisesBy}
-use Rattle.board.specs.Device.{Device, AreToldLines}
+use Rattle.board.specs.Device.{Device}
 use Rattle.board.specs.Steps.{Tells}
 use Rattle.collision_witness.specs.Exhibits.{IsExhibit}
-use Rattle.commit_regs.specs.Groups.{redone, redone_told, HasFinished}
+use Rattle.commit_regs.specs.Groups.{redone_told, HasFinished}
 use Rattle.pmem_engine.specs.Outcomes.{going}
 use Rattle.pmem_engine.proofs.CallEnds.ToldLines.{unarmed}
 use Rattle.pmem_recovery.specs.declared.faults.Work.{Work}
-use Rattle.counter_tree.specs.Accepted.{IsCutReading}
 use Rattle.counter_tree.specs.Nodes.{node_line}
 use Rattle.counter_tree.specs.Layout.{tree_slots, line_of_slot}
 use Rattle.counter_tree.specs.Trees.{node_at}
@@ -37,13 +34,13 @@ use Rattle.asit_shadow.specs.State.{TreeState, IsTreeEngine}
 use Rattle.asit_shadow.specs.Invariants.{IsAnchored, IsDurable, IsSound, IsSealStored, IsSlotStored}
 use Rattle.asit_shadow.specs.Places.{IsNodeHeld, IsNodeHeldBy}
 use Rattle.asit_shadow.specs.Steps.{IsEmptied, IsRecovered, slots_read}
-use Rattle.asit_shadow.specs.Recovering.{Rest, rest_redone, IsRestAnchored, IsRestDurable, HasOnlyRead, AreSlotsRead, IsTreeWork, IsReadFinished, IsRoomFilled, KeepsRestPlaces, HasTreeRecovered, IsNameable}
+use Rattle.asit_shadow.specs.Recovering.{Rest, rest_redone, IsRestAnchored, IsRestDurable, HasOnlyRead, AreSlotsRead, IsTreeWork, IsReadFinished, IsRoomFilled, HasTreeRecovered, IsNameable}
 use Rattle.asit_shadow.proofs.ArmLaws.{IsAnchored-emptied}
-use Rattle.asit_shadow.proofs.GroupLaws.{IsDurable-again, IsDurable-finished}
+use Rattle.asit_shadow.proofs.GroupLaws.{IsDurable-finished}
 use Rattle.asit_shadow.proofs.PlaceLaws.{recovered-place}
 use Rattle.asit_shadow.proofs.RecoverLaws.{clash-holds, IsTrusted-recovered, slots-sound, IsSound-recovered, lines-equal, length-slots_read, line_at-slots_read}
 use Rattle.asit_shadow.proofs.Chains.{power-then, going-uncut, cut-unshown}
-use Rattle.asit_shadow.proofs.FetchEnds.{some_map, still-steady, first-none}
+use Rattle.asit_shadow.proofs.FetchEnds.{some_map, first-none}
 
 -- ---- what a true slot line names can be cached
 
@@ -169,63 +166,6 @@ slots-true setup slots old new finished read durable =
         same ∙ (slots-sound setup ls new.device.regs old.watch it (ap (λ (r : Regs). r.group.items) finished.regs)).0
 
 -- ---- the ends
-
--- power was cut, and the group makes the same of the lines
-cut_places : (setup : Setup) (old new : Rest) → rest_redone new ≡ rest_redone old → new.watch ≡ old.watch → KeepsRestPlaces setup old new (Err Fail.Cut)
-cut_places setup old new lines watch =
-    let same = knows_same old.watch new.watch watch in
-    record {
-      seals = λ a inside it. rest-seals setup old new a lines same it;
-      slots = λ i inside it. rest-slots setup old new i lines same it;
-      nodes = λ x inside it. rest-nodes setup old new x lines same it;
-    }
-
-  where
-    of : (before_lines after_lines : Option (List Line)) → MatchOption before_lines ⊥ (λ ls. IsDurable setup ls old.device.regs old.watch) → redone_told old.device.regs.group.items after_lines ≡ redone_told old.device.regs.group.items before_lines → AreToldLines new.device.size after_lines
-        → MatchOption after_lines ⊥ (λ ls. IsDurable setup ls old.device.regs old.watch)
-    of None after_lines it again whole = absurd it
-    of (Some ls) None it again whole = absurd cc
-    of (Some ls) (Some now) it again whole =
-        IsDurable-again setup ls now old.device.regs old.watch
-        (subst (λ n. Rattle.board.specs.Device.AreLinesOf n now) (cut.size ∙ its_size) whole)
-        (same_Some (redone old.device.regs.group.items now) (redone old.device.regs.group.items ls) again) it
-
-pub read_cut : (setup : Setup) (old : Rest) (mid : Device) (new : Rest) (before after : ℕ) → HasFinished old.device mid → IsCutReading mid new.device → mid.live ≡ false → new.watch ≡ old.watch → after ≡ before → HasTreeRecovered setup old new before after (Err Fail.Cut)
-read_cut setup old mid new before after finished cut off watch digests =
-    let dead : old.device.live ≡ true → ⊥ = λ live. true≢false (sym (finished.live live) ∙ off) in
-    let regs : new.device.regs ≡ without_group old.device.regs = cut.cut.regs ∙ (cut.regs ∙ finished.regs) in
-    let told : new.device.lines ≡ redone_told old.device.regs.group.items old.device.lines = cut.cut.lines ∙ (cut.lines ∙ finished.lines) in
-    let lines = finished-redone old new regs told in
-    record {
-      size = cut.cut.size ∙ (cut.size ∙ finished.size);
-      lines = lines;
-      root = ap (λ (r : Regs). r.root) regs;
-      group =
-          inr (record {
-            regs = regs;
-            writes = subst (λ n. RisesBy (length old.device.regs.group.items) old.device.writes n) (sym (cut.cut.writes ∙ cut.writes)) finished.writes;
-            latches =
-                subst (λ n. RisesBy (Rattle.commit_regs.specs.Groups.finishing_latches old.device.regs.group.items) old.device.latches n)
-                (sym (cut.cut.latches ∙ cut.latches)) finished.latches;
-          });
-      begun = λ is live. absurd (dead live);
-      work =
-          record {
-            no_digests = digests;
-            due = λ live. absurd (dead live);
-            no_reads = λ live. absurd (dead live);
-          };
-      cached = tt;
-      power = (
-        still-steady old.device.steady cut.between.steady (λ was. cut.steady (finished.steady was)) cut.cut.unsteady,
-        cut.cut.off,
-        subst (λ n. HasRisen n new.device.cuts) (cut.cuts ∙ finished.cuts) cut.cut.rose,
-      );
-      answered = watch;
-      trusted = λ anchored. finished-anchored setup old new.device.regs new.watch regs watch anchored;
-      sound = λ durable. finished-durable setup old new.device.lines new.device.regs new.watch regs watch told durable;
-      places = λ anchored. cut_places setup old new lines watch;
-    }
 
 pub refused_end : (setup : Setup) (kept found : List ℕ) (slots : List Line) (old new : Rest) (before after : ℕ) → IsReadFinished setup.shape old.device new.device → AreSlotsRead setup.shape slots new.device
     → kept ≡ new.device.regs.root → found ≡ shadow_root setup.shape setup.formulas slots → kept ≢ found → new.watch ≡ old.watch → after ≡ risen_times (shadow_digests setup.shape) before → HasTreeRecovered setup old new before after (Err (Fail.Shadow kept found))

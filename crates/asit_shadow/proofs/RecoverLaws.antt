@@ -20,7 +20,8 @@ use Rattle.counter_tree.specs.Trees.{node_at}
 use Rattle.counter_tree.specs.Slots.{slot_of, slot_read}
 use Rattle.counter_tree.specs.Shadow.{shadow_root, shadow_height, shadow_line}
 use Rattle.counter_tree.specs.Watch.{WatchState, IsSlotClash}
-use Rattle.counter_tree.proofs.ShadowLaws.{shadow_clash, shadow_height-room}
+use Rattle.counter_tree.proofs.HeightLemmas.{shadow_height-room}
+use Rattle.counter_tree.proofs.ShadowLaws.{shadow_clash}
 use Rattle.counter_tree.proofs.SlotLaws.{slot_read-slot_line, slot_read-zero}
 use Rattle.counter_tree.proofs.TreeLaws.{tree-IsNode}
 use Rattle.counter_tree.proofs.Positions.{meta_lines-most}

@@ -1,13 +1,14 @@
 -- A device's lines where they are told.
 use Rattle.std.proofs.Common.{List, Some, None}
-use Rattle.std.specs.Prelude.{Option, MatchOption}
+use Rattle.std.specs.Prelude.{Option, MatchOption, ⊤}
 use Rattle.pmem_base.specs.declared.lines.Line.{Line}
-use Rattle.asit_shadow.specs.Parts.{AreToldWith}
 
-  where
-    itself : (told : Option (List Line)) → AreToldWith R told told
-    itself None = tt
-    itself (Some a) = each a
+-- lines of a device before and after: told of both or of none, and where told as said
+abbrev pub AreToldWith : (List Line → List Line → Type 0) → Option (List Line) → Option (List Line) → Type 0
+AreToldWith R None None = ⊤
+AreToldWith R None (Some new) = ⊥
+AreToldWith R (Some old) None = ⊥
+AreToldWith R (Some old) (Some new) = R old new
 
 -- another relation
 pub told-as : (R S : List Line → List Line → Type 0) (old new : Option (List Line)) → ((a b : List Line) → R a b → S a b) → AreToldWith R old new → AreToldWith S old new

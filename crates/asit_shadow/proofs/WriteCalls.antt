@@ -80,7 +80,7 @@ kept-ended setup a plain old mid engine it =
       latches = it.latches;
     }
 
-cut_group-ended : (setup : Setup) (a : ℕ) (old mid : Parts) (engine : TreeState) → engine.cache ≡ mid.engine.cache → IsCutInGroup setup a old mid → IsCutInGroup setup a old (parts_of engine mid.device mid.watch)
+pub cut_group-ended : (setup : Setup) (a : ℕ) (old mid : Parts) (engine : TreeState) → engine.cache ≡ mid.engine.cache → IsCutInGroup setup a old mid → IsCutInGroup setup a old (parts_of engine mid.device mid.watch)
 cut_group-ended setup a old mid engine cache it =
     record {
       seal = it.seal;

@@ -30,10 +30,10 @@ use Rattle.asit_shadow.specs.declared.fault.TreeFault.TheVariants as Fail
 use Rattle.asit_shadow.specs.State.{IsTreeEngine}
 use Rattle.asit_shadow.specs.Invariants.{IsAnchored, IsDurable, IsSound, IsSealStored, IsSlotStored}
 use Rattle.asit_shadow.specs.Places.{IsNodeHeld, IsNodeHeldBy}
-use Rattle.asit_shadow.specs.Parts.{Parts, lines_redone, AreTrusted, AreSound, AreToldWith, IsWatchReady, HoldsSeal, HoldsSlot}
+use Rattle.asit_shadow.specs.Parts.{Parts, lines_redone, AreTrusted, AreSound, IsWatchReady, HoldsSeal, HoldsSlot}
 use Rattle.asit_shadow.specs.Steps.{IsArmed, IsEmptied}
 use Rattle.asit_shadow.specs.Calls.{IsPathAccepted, IsUsedUp}
-use Rattle.asit_shadow.specs.Work.{spilled}
+use Rattle.asit_shadow.specs.Work.{spilled, IsCutInGroup}
 use Rattle.asit_shadow.specs.Fetching.{IsPathFetched}
 use Rattle.asit_shadow.specs.Writing.{HasWrittenUp, IsWriteMade, IsWriteTold, slot_entries}
 use Rattle.asit_shadow.proofs.ArmLaws.{armed-made, IsAnchored-armed, IsDurable-armed, IsTrusted-written, IsSound-written}
@@ -41,7 +41,7 @@ use Rattle.asit_shadow.proofs.GroupLaws.{IsDurable-again}
 use Rattle.asit_shadow.proofs.PairSets.{length-set_pairs, pairs-count}
 use Rattle.asit_shadow.proofs.SlotPlaces.{on_path-inside}
 use Rattle.asit_shadow.proofs.PlaceLaws.{armed-places, written-place}
-use Rattle.asit_shadow.proofs.ToldLemmas.{told-as, told-match}
+use Rattle.asit_shadow.proofs.ToldLemmas.{AreToldWith, told-as, told-match}
 use Rattle.asit_shadow.proofs.Chains.{power-then, told-of}
 use Rattle.asit_shadow.proofs.PathSteps.{same_lines}
 use Rattle.asit_shadow.proofs.ReadEnds.{path-accepted, sound-trusted}
@@ -177,18 +177,51 @@ one-latch (entry ∷ rest) some = refl
 
 -- ---- a cut amid the group: the write is kept
 
+-- what the device holds once the group is written
+kept-made : (setup : Setup) (a : ℕ) (plain : Line) (seal : LineSeal) (pairs : List (ℕ × Node)) (regs : Regs) (old mid new : Parts) (armed : Device) → IsArmedWrite setup a plain seal pairs regs old mid new armed → IsInterrupted armed.regs.group.items armed new.device
+    → redone_told regs.group.items new.device.lines ≡ redone_told regs.group.items mid.device.lines
+kept-made setup a plain seal pairs regs old mid new armed it cut =
+    subst (λ (r : Regs). redone_told r.group.items new.device.lines ≡ redone_told r.group.items mid.device.lines) it.latched.regs
+    (cut.again ∙ ap (redone_told armed.regs.group.items) it.latched.lines)
+
+kept-cuts : (setup : Setup) (a : ℕ) (plain : Line) (seal : LineSeal) (pairs : List (ℕ × Node)) (regs : Regs) (old mid new : Parts) (armed : Device) → IsArmedWrite setup a plain seal pairs regs old mid new armed → IsInterrupted armed.regs.group.items armed new.device
+    → RisesAtMost (length regs.group.items) armed.writes new.device.writes
+kept-cuts setup a plain seal pairs regs old mid new armed it cut =
+    subst (λ (r : Regs). RisesAtMost (length r.group.items) armed.writes new.device.writes) it.latched.regs cut.writes
+
+-- how far it came
+pub kept-work : (setup : Setup) (a : ℕ) (plain : Line) (seal : LineSeal) (pairs : List (ℕ × Node)) (regs : Regs) (old mid new : Parts) (armed : Device) → IsArmedWrite setup a plain seal pairs regs old mid new armed → IsInterrupted armed.regs.group.items armed new.device
+    → IsCutInGroup setup a old new
+kept-work setup a plain seal pairs regs old mid new armed it cut =
+    let path = it.fetched.path in
+    let new_regs : new.device.regs ≡ regs = cut.regs ∙ it.latched.regs in
+    let made : lines_redone new ≡ redone_told regs.group.items mid.device.lines =
+    ap (λ (r : Regs). redone_told r.group.items new.device.lines) new_regs ∙ kept-made setup a plain seal pairs regs old mid new armed it cut in
+    let count = group-count setup a plain seal pairs regs mid new it.made in
+    let one_latched : RisesBy 1 old.device.latches new.device.latches =
+    subst (λ n. RisesBy 1 n new.device.latches) path.steps.latches (subst (λ n. RisesBy 1 mid.device.latches n) (sym cut.latches) it.latched.latches) in
+    let over = armed-over setup a plain seal pairs regs old mid new armed it in
+    record {
+      seal = seal;
+      armed = armed-path setup a 1 plain seal pairs regs old mid new over made one_latched (cut.reads ∙ it.latched.reads);
+      group = ap (λ (r : Regs). r.group.items) new_regs ∙ armed-group setup a plain seal pairs regs old mid new over;
+      group_count = ap (λ (r : Regs). length r.group.items) new_regs ∙ count;
+      armed_writes = mid.device.writes;
+      before = path.done.writes;
+      since =
+          subst (λ n. RisesAtMost n mid.device.writes new.device.writes) count
+          (subst (λ n. RisesAtMost (length regs.group.items) n new.device.writes) it.latched.writes (kept-cuts setup a plain seal pairs regs old mid new armed it cut));
+    }
+
 pub write-kept : (setup : Setup) (a : ℕ) (plain : Line) (seal : LineSeal) (pairs : List (ℕ × Node)) (regs : Regs) (old mid new : Parts) (armed : Device) → IsArmedWrite setup a plain seal pairs regs old mid new armed → AreToldLines (tree_size setup.shape) new.device.lines → IsInterrupted armed.regs.group.items armed new.device → HasWrittenUp setup a plain old new (Err Fail.Cut)
 write-kept setup a plain seal pairs regs old mid new armed it told_new cut =
     let path = it.fetched.path in
     let new_regs : new.device.regs ≡ regs = cut.regs ∙ it.latched.regs in
-    let again : redone_told regs.group.items new.device.lines ≡ redone_told regs.group.items mid.device.lines =
-    subst (λ (r : Regs). redone_told r.group.items new.device.lines ≡ redone_told r.group.items mid.device.lines) it.latched.regs
-    (cut.again ∙ ap (redone_told armed.regs.group.items) it.latched.lines) in
+    let again = kept-made setup a plain seal pairs regs old mid new armed it cut in
     let made : lines_redone new ≡ redone_told regs.group.items mid.device.lines =
     ap (λ (r : Regs). redone_told r.group.items new.device.lines) new_regs ∙ again in
     let count = group-count setup a plain seal pairs regs mid new it.made in
-    let cuts : RisesAtMost (length regs.group.items) armed.writes new.device.writes =
-    subst (λ (r : Regs). RisesAtMost (length r.group.items) armed.writes new.device.writes) it.latched.regs cut.writes in
+    let cuts = kept-cuts setup a plain seal pairs regs old mid new armed it cut in
     let one_latched : RisesBy 1 old.device.latches new.device.latches =
     subst (λ n. RisesBy 1 n new.device.latches) path.steps.latches (subst (λ n. RisesBy 1 mid.device.latches n) (sym cut.latches) it.latched.latches) in
     record {
@@ -252,19 +285,7 @@ write-kept setup a plain seal pairs regs old mid new armed it told_new cut =
                   bound = λ below. omega (arith, it.latched.latches.exact (omega (arith, below, cut.latches)), cut.latches, path.steps.latches);
                 };
           };
-      work =
-          let over = armed-over setup a plain seal pairs regs old mid new armed it in
-          inr (record {
-            seal = seal;
-            armed = armed-path setup a 1 plain seal pairs regs old mid new over made one_latched (cut.reads ∙ it.latched.reads);
-            group = ap (λ (r : Regs). r.group.items) new_regs ∙ armed-group setup a plain seal pairs regs old mid new over;
-            group_count = ap (λ (r : Regs). length r.group.items) new_regs ∙ count;
-            armed_writes = mid.device.writes;
-            before = path.done.writes;
-            since =
-                subst (λ n. RisesAtMost n mid.device.writes new.device.writes) count
-                (subst (λ n. RisesAtMost (length regs.group.items) n new.device.writes) it.latched.writes cuts);
-          });
+      work = inr (kept-work setup a plain seal pairs regs old mid new armed it cut);
       answered =
           λ trusted.
           let its = armed-of setup a plain seal pairs regs old mid new armed it trusted in (

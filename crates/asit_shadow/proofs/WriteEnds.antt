@@ -19,7 +19,7 @@ use Rattle.asit_shadow.specs.declared.fault.TreeFault.TheVariants as Fail
 use Rattle.asit_shadow.specs.Parts.{Parts, AreTrusted}
 use Rattle.asit_shadow.specs.Paths.{IsPathCached}
 use Rattle.asit_shadow.specs.Calls.{IsUsedUp, KeepsWatch}
-use Rattle.asit_shadow.specs.Work.{absent_count}
+use Rattle.asit_shadow.specs.Work.{absent_count, HasFetchedPath}
 use Rattle.asit_shadow.specs.Fetching.{IsFetchStopped, IsPathFetched, IsPathFetchedTo}
 use Rattle.asit_shadow.specs.Writing.{HasWrittenUp}
 use Rattle.asit_shadow.proofs.SlotPlaces.{page_of_line}
@@ -44,8 +44,8 @@ none-at_most : (n before after : ℕ) → after ≡ before → RisesAtMost n bef
 none-at_most n before after same = record { never_falls = omega (arith, same); bound = λ below. omega (arith, same) }
 
 -- a fetch that stopped
-pub write-stopped : (setup : Setup) (a : ℕ) (plain : Line) (old new : Parts) (fault : TreeFault) → (AreTrusted setup old → IsUsedUp old → ⊥) → IsFetchStopped setup a old new fault → HasWrittenUp setup a plain old new (Err fault)
-write-stopped setup a plain old new Fail.Cut unspent it =
+pub write-stopped : (setup : Setup) (a : ℕ) (plain : Line) (old new : Parts) (tags made : ℕ) (fault : TreeFault) → (AreTrusted setup old → IsUsedUp old → ⊥) → IsFetchStopped setup a old new tags made fault → HasWrittenUp setup a plain old new (Err fault)
+write-stopped setup a plain old new tags made Fail.Cut unspent it =
     record {
       kind = tt;
       up = λ e. e;
@@ -72,8 +72,8 @@ write-stopped setup a plain old new Fail.Cut unspent it =
       board = board-kept setup.shape old.device new.device it.effect.size it.regs;
       no_group = λ e. absurd (true≢false (sym e));
     }
-write-stopped setup a plain old new Fail.Down unspent it = absurd it.kind
-write-stopped setup a plain old new (Fail.Node x) unspent it =
+write-stopped setup a plain old new tags made Fail.Down unspent it = absurd it.kind
+write-stopped setup a plain old new tags made (Fail.Node x) unspent it =
     record {
       kind = tt;
       up = λ e. e;
@@ -88,9 +88,9 @@ write-stopped setup a plain old new (Fail.Node x) unspent it =
       board = board-kept setup.shape old.device new.device it.effect.size it.regs;
       no_group = λ e none. ap (λ (r : Regs). r.group.items) it.regs ∙ none;
     }
-write-stopped setup a plain old new (Fail.Tag b) unspent it = absurd it.kind
-write-stopped setup a plain old new Fail.Spent unspent it = absurd it.kind
-write-stopped setup a plain old new Fail.Shown unspent it =
+write-stopped setup a plain old new tags made (Fail.Tag b) unspent it = absurd it.kind
+write-stopped setup a plain old new tags made Fail.Spent unspent it = absurd it.kind
+write-stopped setup a plain old new tags made Fail.Shown unspent it =
     record {
       kind = tt;
       up = λ e. e;
@@ -139,6 +139,18 @@ write-spent setup a plain old used =
       no_group = λ e none. none;
     }
 
+-- how far it came
+pub lost-work : (setup : Setup) (a : ℕ) (old mid new : Parts) → IsPathFetchedTo setup a setup.shape.levels old mid → new.engine.cache ≡ mid.engine.cache → WasCut mid.device new.device → HasFetchedPath setup a 0 old new
+lost-work setup a old mid new path cache cut =
+    record {
+      fetched =
+          unwritten-levels setup a setup.shape.levels old mid new cache
+          (record { lines = cut.lines; regs = cut.regs; size = cut.size; writes = cut.writes; latches = cut.latches }) path.done;
+      reads =
+          subst (RisesBy (absent_count setup.shape old.engine.cache a setup.shape.levels + 0) old.device.reads) (sym cut.reads)
+          (subst (λ n. RisesBy n old.device.reads mid.device.reads) (omega arith) path.reads);
+    }
+
 -- a cut at the arming latch: the write is lost
 pub write-lost : (setup : Setup) (a : ℕ) (plain : Line) (old mid new : Parts) (node : Node) → (AreTrusted setup old → IsUsedUp old → ⊥) → IsPathFetched setup a old mid node → new.engine.shape ≡ mid.engine.shape → new.engine.cache ≡ mid.engine.cache → new.engine.down ≡ mid.engine.down → WasCut mid.device new.device → new.watch ≡ mid.watch → HasWrittenUp setup a plain old new (Err Fail.Cut)
 write-lost setup a plain old mid new node unspent fetched shape cache down cut watch =
@@ -160,13 +172,7 @@ write-lost setup a plain old mid new node unspent fetched shape cache down cut w
           };
       work =
           inl (record {
-            at =
-                inr (record {
-                  fetched = unwritten-levels setup a setup.shape.levels old mid new cache same path.done;
-                  reads =
-                      subst (RisesBy (absent_count setup.shape old.engine.cache a setup.shape.levels + 0) old.device.reads) (sym cut.reads)
-                      (subst (λ n. RisesBy n old.device.reads mid.device.reads) (omega arith) path.reads);
-                });
+            at = inr (lost-work setup a old mid new path cache cut);
             untold = watch ∙ path.watch;
           });
       answered = λ trusted. (unspent trusted, inl (record { watch = watch ∙ path.watch; regs = cut.regs ∙ path.regs; latches = cut.latches ∙ path.steps.latches }));

@@ -3,6 +3,7 @@ use Rattle.std.specs.Prelude.{ℕ, ◌≡◌, ◌<◌, ◌≤◌, ◌/◌, ◌�
 use Rattle.pmem_base.specs.declared.lines.Line.{Line}
 use Rattle.pmem_base.specs.Shape.{Shape}
 use Rattle.pmem_base.specs.Lines.{line_at}
+use Rattle.pmem_base.specs.Counts.{risen, risen_times}
 use Rattle.suite.specs.Setup.{Setup}
 use Rattle.board.specs.Device.{Device}
 use Rattle.board.specs.Counts.{RisesBy}
@@ -22,6 +23,7 @@ use Rattle.asit_shadow.specs.declared.fault.TreeFault.TheVariants as Fail
 use Rattle.asit_shadow.specs.State.{cache_at, IsCached, IsCachedAs}
 use Rattle.asit_shadow.specs.Parts.{Parts, AreTrusted, AreSound}
 use Rattle.asit_shadow.specs.Work.{holds_dirty, absent_count, HasFetchedLevels, HasStoppedAt, IsShownAt, IsCutInFetch}
+use Rattle.asit_shadow.specs.Counts.{HasStopTags}
 use Rattle.asit_shadow.specs.Calls.{CallEffect, IsNodeRead, IsNodeRefused, IsNodeShown, IsUnrefusedFault, KeepsWatch, TakesWriteBacks, outcome_of_fault}
 
 -- ---- one level
@@ -31,20 +33,23 @@ abbrev pub WritesWhere : Bool → Device → ℕ → Line → Device → Type 0
 WritesWhere true old at line new = HasWritten old at line new
 WritesWhere false old at line new = new ≡ old
 
--- whoever stood dirty in a slot was written to its place with its tag
+-- the node that stood dirty in a slot was written to its place with its tag
 abbrev pub IsRoomMade : Setup → Option CachedNode → Device → Device → Type 0
 IsRoomMade setup None old new = new ≡ old
 IsRoomMade setup (Some held) old new =
     WritesWhere held.dirty old (line_of_node setup.shape held.x) (node_line setup.formulas held.x held.node) new
 
--- how a node's line is read under a version, by the answer
-abbrev pub IsNodeTaken : Setup → ℕ → ℕ → Device → Device → WatchState → WatchState → Result Node TreeFault → Type 0
-IsNodeTaken setup x version old new watch after (Ok node) = IsNodeAccepted setup x version old new watch after node
-IsNodeTaken setup x version old new watch after (Err Fail.Cut) = WasCut old new × (old.live ≡ false) × (after ≡ watch)
-IsNodeTaken setup x version old new watch after (Err (Fail.Node y)) =
-    (y ≡ x) × IsNodeUnaccepted setup x version old new watch after
-IsNodeTaken setup x version old new watch after (Err Fail.Shown) = IsNodeForged setup x version old new watch after
-IsNodeTaken setup x version old new watch after (Err fault) = ⊥
+-- how a node's line is read under a version, by the answer, with the suite's tags before and after
+abbrev pub IsNodeTaken : Setup → ℕ → ℕ → Device → Device → WatchState → WatchState → ℕ → ℕ → Result Node TreeFault → Type 0
+IsNodeTaken setup x version old new watch after tags made (Ok node) =
+    IsNodeAccepted setup x version old new watch after node × (made ≡ risen tags)
+IsNodeTaken setup x version old new watch after tags made (Err Fail.Cut) =
+    WasCut old new × (old.live ≡ false) × (after ≡ watch) × (made ≡ tags)
+IsNodeTaken setup x version old new watch after tags made (Err (Fail.Node y)) =
+    (y ≡ x) × IsNodeUnaccepted setup x version old new watch after tags made
+IsNodeTaken setup x version old new watch after tags made (Err Fail.Shown) =
+    IsNodeForged setup x version old new watch after × (made ≡ risen tags)
+IsNodeTaken setup x version old new watch after tags made (Err fault) = ⊥
 
 -- node x, which isn't cached, was read under a version, and took its slot clean
 pub record IsNodeFound (setup : Setup) (x version : ℕ) (node : Node) (old new : Parts) : Type 0 where
@@ -60,9 +65,14 @@ pub record IsNodeFound (setup : Setup) (x version : ℕ) (node : Node) (old new 
   pub down : new.engine.down ≡ old.engine.down
 
 -- node x was cached, or found
-abbrev pub IsNodeHad : Setup → ℕ → ℕ → Parts → Parts → Node → Type 0
-IsNodeHad setup x version old new node =
+abbrev pub HasFetchedNode : Setup → ℕ → ℕ → Parts → Parts → Node → Type 0
+HasFetchedNode setup x version old new node =
     (IsCachedAs setup.shape old.engine.cache x node × (new ≡ old)) ⊎ IsNodeFound setup x version node old new
+
+-- the tags at such a cut: none before its line is read, else its own and that of the dirty node in its slot
+abbrev pub AreTagsCutOff : Option CachedNode → Bool → ℕ → ℕ → Type 0
+AreTagsCutOff slot live tags made =
+    ((live ≡ false) × (made ≡ tags)) ⊎ ((holds_dirty slot ≡ true) × (made ≡ risen_times 2 tags))
 
 -- a cut before node x, which isn't cached, took its slot: no more than a line was read
 pub record IsNodeCutOff (g : Shape) (x : ℕ) (old new : Parts) : Type 0 where
@@ -82,16 +92,18 @@ pub record IsNodeCutOff (g : Shape) (x : ℕ) (old new : Parts) : Type 0 where
   pub engine : new.engine ≡ old.engine
   pub watch : new.watch ≡ old.watch
 
--- why node x wasn't had
-abbrev pub IsNodeMissed : Setup → ℕ → ℕ → Parts → Parts → TreeFault → Type 0
-IsNodeMissed setup x version old new Fail.Cut = IsNodeCutOff setup.shape x old new
-IsNodeMissed setup x version old new (Fail.Node y) =
+-- why node x wasn't fetched, with the suite's tags before and after
+abbrev pub HasNoNode : Setup → ℕ → ℕ → Parts → Parts → ℕ → ℕ → TreeFault → Type 0
+HasNoNode setup x version old new tags made Fail.Cut =
+    IsNodeCutOff setup.shape x old new
+    × AreTagsCutOff (cache_at old.engine.cache (slot_of setup.shape x)) old.device.live tags made
+HasNoNode setup x version old new tags made (Fail.Node y) =
     (y ≡ x) × (IsCached setup.shape old.engine.cache x → ⊥) × (new.engine ≡ old.engine)
-    × IsNodeUnaccepted setup x version old.device new.device old.watch new.watch
-IsNodeMissed setup x version old new Fail.Shown =
+    × IsNodeUnaccepted setup x version old.device new.device old.watch new.watch tags made
+HasNoNode setup x version old new tags made Fail.Shown =
     (IsCached setup.shape old.engine.cache x → ⊥) × (new.engine ≡ old.engine)
-    × IsNodeForged setup x version old.device new.device old.watch new.watch
-IsNodeMissed setup x version old new fault = ⊥
+    × IsNodeForged setup x version old.device new.device old.watch new.watch × (made ≡ risen tags)
+HasNoNode setup x version old new tags made fault = ⊥
 
 -- ---- the levels so far
 
@@ -155,8 +167,8 @@ abbrev pub LeavesWatch : TreeFault → WatchState → WatchState → Type 0
 LeavesWatch Fail.Shown old new = ⊤
 LeavesWatch fault old new = new ≡ old
 
--- a path that couldn't be fetched
-pub record IsFetchStopped (setup : Setup) (a : ℕ) (old new : Parts) (fault : TreeFault) : Type 0 where
+-- a path that couldn't be fetched, with the suite's tags before and after
+pub record IsFetchStopped (setup : Setup) (a : ℕ) (old new : Parts) (tags made : ℕ) (fault : TreeFault) : Type 0 where
   pub kind : IsFetchFault fault
   pub effect : CallEffect setup (outcome_of_fault fault) old new
   pub down : new.engine.down ≡ old.engine.down
@@ -165,5 +177,6 @@ pub record IsFetchStopped (setup : Setup) (a : ℕ) (old new : Parts) (fault : T
   pub watch : KeepsWatch (outcome_of_fault fault) old.watch new.watch
   pub same_watch : LeavesWatch fault old.watch new.watch
   pub work : StopsWork setup a old new fault
+  pub its_tags : HasStopTags setup a old new tags made fault
   pub answered : AreTrusted setup old → StopsFetch setup a old new fault
   pub unrefused : AreSound setup old → IsUnrefusedFault fault

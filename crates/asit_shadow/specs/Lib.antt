@@ -8,6 +8,7 @@ pub mod Places
 pub mod PlaceLaws
 pub mod Parts
 pub mod Work
+pub mod Counts
 pub mod Calls
 pub mod Fetching
 pub mod Recovering

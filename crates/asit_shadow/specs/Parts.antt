@@ -1,5 +1,5 @@
 -- The parts that a call of the engine works on, and what is trusted, durable and sound of them.
-use Rattle.std.specs.Prelude.{ℕ, ◌≡◌, ◌<◌, false, List, [], Option, Some, None, MatchOption, IfSome, IsSome, length, ⊤}
+use Rattle.std.specs.Prelude.{ℕ, ◌≡◌, ◌<◌, false, List, [], Option, Some, MatchOption, IfSome, IsSome, length}
 use Rattle.pmem_base.specs.declared.lines.Line.{Line}
 use Rattle.pmem_base.specs.Registers.{IsGroup}
 use Rattle.pmem_base.specs.Shape.{Shape}
@@ -25,13 +25,6 @@ parts_of engine device watch = record { engine = engine; device = device; watch 
 -- the device's lines with the armed group redone, where they are told
 abbrev pub lines_redone : Parts → Option (List Line)
 lines_redone parts = redone_told parts.device.regs.group.items parts.device.lines
-
--- lines of a device before and after: told of both or of none, and where told as said
-abbrev pub AreToldWith : (List Line → List Line → Type 0) → Option (List Line) → Option (List Line) → Type 0
-AreToldWith R None None = ⊤
-AreToldWith R None (Some new) = ⊥
-AreToldWith R (Some old) None = ⊥
-AreToldWith R (Some old) (Some new) = R old new
 
 -- ---- what a call asks of its parts
 

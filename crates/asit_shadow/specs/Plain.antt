@@ -14,7 +14,7 @@ use Rattle.counter_tree.specs.Layout.{tree_lines, tree_slots}
 use Rattle.counter_tree.specs.Slots.{slot_of, slot_line}
 use Rattle.counter_tree.specs.Watch.{WatchState}
 use Rattle.counter_tree.specs.Trees.{line_counter}
-use Rattle.asit_shadow.specs.Paths.{line_path}
+use Rattle.asit_shadow.specs.Paths.{line_path, set_each}
 use Rattle.asit_shadow.specs.Steps.{plain_line}
 
 -- memory, the writes made of each line, the node that each slot's true line names, whether a tamper
@@ -83,8 +83,7 @@ writes_made plain = sum plain.counts
 
 -- each of these nodes is named in its slot
 abbrev pub names_with : Shape → List ℕ → List (Option ℕ) → List (Option ℕ)
-names_with g [] named = named
-names_with g (x ∷ xs) named = names_with g xs (slice_set named (slot_of g x) (Some x))
+names_with g xs named = set_each (slot_of g) (λ x. Some x) xs named
 
 -- a write of data line a is in memory
 abbrev pub after_write : Shape → PlainTree → ℕ → Line → PlainTree

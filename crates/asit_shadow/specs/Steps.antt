@@ -66,7 +66,7 @@ pub record IsFetched (setup : Setup) (x : ℕ) (line : Line) (node : Node) (old 
   pub cache :
       new.cache ≡ slice_set old.cache (slot_of setup.shape x) (Some (record { x = x; node = node; dirty = false }))
 
--- whoever gives way in slot i is clean, or true on the device
+-- the node that gives way in slot i is clean, or true on the device
 abbrev pub GivesWay : Setup → TreeState → List Line → WatchState → ℕ → Type 0
 GivesWay setup engine lines watch i =
     (held : CachedNode) → cache_at engine.cache i ≡ Some held → held.dirty ≡ true

@@ -2,7 +2,9 @@
 ghost use Rattle.std.specs.Prelude.{◌≡◌, ◌<◌, ◌||◌, not};
 ghost use Rattle.pmem_engine.specs.Outcomes.{is_going};
 ghost use Rattle.counter_tree.specs.Layout.{tree_lines};
+ghost use Rattle.pmem_recovery.specs.Parts.{suite_state};
 ghost use Rattle.asit_shadow.specs.Parts.{parts_of, IsUsable};
+ghost use Rattle.asit_shadow.specs.Counts.{CountsOfRead, CountsOfWrite};
 ghost use Rattle.asit_shadow.specs.Calls.{outcome_of_fault, IsLineRead, HasReadLine, HasWrittenLine};
 
 use crate::engine::TreeEngine;
@@ -27,6 +29,11 @@ impl TreeEngine {
         ensures read { HasReadLine (record { shape = self.old.shape; formulas = S.formulas_of (S.keys suite.old) }) at
             (parts_of self.old (B.device board.old) (W.watched watch.old))
             (parts_of self.new (B.device board.new) (W.watched watch.new)) result }
+        ensures counts { CountsOfRead (record { shape = self.old.shape; formulas = S.formulas_of (S.keys suite.old) }) at
+            (parts_of self.old (B.device board.old) (W.watched watch.old))
+            (parts_of self.new (B.device board.new) (W.watched watch.new))
+            (suite_state (S.keys suite.old) (S.pads suite.old) (S.tags suite.old) (S.digests suite.old))
+            (suite_state (S.keys suite.new) (S.pads suite.new) (S.tags suite.new) (S.digests suite.new)) result }
         ensures usable { IsUsable self.old.shape (parts_of self.new (B.device board.new) (W.watched watch.new)) }
         ensures keys { S.keys suite.new ≡ S.keys suite.old }
         ensures digests { S.digests suite.new ≡ S.digests suite.old }
@@ -59,6 +66,11 @@ impl TreeEngine {
         ensures written { HasWrittenLine (record { shape = self.old.shape; formulas = S.formulas_of (S.keys suite.old) }) at line.now
             (parts_of self.old (B.device board.old) (W.watched watch.old))
             (parts_of self.new (B.device board.new) (W.watched watch.new)) result }
+        ensures counts { CountsOfWrite (record { shape = self.old.shape; formulas = S.formulas_of (S.keys suite.old) }) at
+            (parts_of self.old (B.device board.old) (W.watched watch.old))
+            (parts_of self.new (B.device board.new) (W.watched watch.new))
+            (suite_state (S.keys suite.old) (S.pads suite.old) (S.tags suite.old) (S.digests suite.old))
+            (suite_state (S.keys suite.new) (S.pads suite.new) (S.tags suite.new) (S.digests suite.new)) result }
         ensures usable { IsUsable self.old.shape (parts_of self.new (B.device board.new) (W.watched watch.new)) }
         ensures keys { S.keys suite.new ≡ S.keys suite.old }
         ensures shape { self.new.shape ≡ self.old.shape }
@@ -88,6 +100,11 @@ impl TreeEngine {
         ensures read { IsLineRead (record { shape = self.old.shape; formulas = S.formulas_of (S.keys suite.old) }) at
             (parts_of self.old (B.device board.old) (W.watched watch.old))
             (parts_of self.new (B.device board.new) (W.watched watch.new)) result }
+        ensures counts { CountsOfRead (record { shape = self.old.shape; formulas = S.formulas_of (S.keys suite.old) }) at
+            (parts_of self.old (B.device board.old) (W.watched watch.old))
+            (parts_of self.new (B.device board.new) (W.watched watch.new))
+            (suite_state (S.keys suite.old) (S.pads suite.old) (S.tags suite.old) (S.digests suite.old))
+            (suite_state (S.keys suite.new) (S.pads suite.new) (S.tags suite.new) (S.digests suite.new)) result }
         ensures down { self.new.down ≡ self.old.down }
         ensures keys { S.keys suite.new ≡ S.keys suite.old }
         ensures digests { S.digests suite.new ≡ S.digests suite.old }

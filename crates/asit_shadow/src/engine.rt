@@ -1,5 +1,6 @@
 //! The engine's parts on the chip: the cache of nodes, and the shadow tree over the slot lines.
-ghost use Rattle.std.specs.Prelude.{◌≡◌, ◌<◌, ◌^◌, false, slice_set, Option, Some};
+ghost use Rattle.std.specs.Prelude.{suc, ◌≡◌, ◌<◌, ◌^◌, false, slice_set, Option, Some};
+ghost use Rattle.pmem_base.specs.Counts.{risen_times};
 ghost use Rattle.pmem_base.specs.Geo.{shape_of};
 ghost use Rattle.pmem_base.specs.Lines.{IsLine};
 ghost use Rattle.pmem_base.specs.Shape.{IsShape};
@@ -135,6 +136,9 @@ impl TreeEngine {
         ensures cache { self.new.cache ≡ self.old.cache }
         ensures down { self.new.down ≡ self.old.down }
         ensures keys { S.keys suite.new ≡ S.keys suite.old }
+        ensures pads { S.pads suite.new ≡ S.pads suite.old }
+        ensures tags { S.tags suite.new ≡ S.tags suite.old }
+        ensures digests { S.digests suite.new ≡ risen_times (suc self.old.tree.height) (S.digests suite.old) }
     {
         self.is_whole();
         let root = self.tree.put(suite, i, line);

@@ -1,6 +1,7 @@
 //! The path of a data line: fetched from the top down, each node under the version that its parent has
 //! for it.
-ghost use Rattle.std.specs.Prelude.{◌≡◌, ◌<◌, true, length, IfOk, IfErr, OnOk, OnErr, IfSome, IfNone};
+ghost use Rattle.std.specs.Prelude.{◌≡◌, ◌<◌, true, length, IfOk, IfErr, OnOk, OnErr, IfSome, IfNone, if◌then◌else◌};
+ghost use Rattle.pmem_base.specs.Counts.{risen, risen_times};
 ghost use Rattle.pmem_base.specs.Geo.{shape_of};
 ghost use Rattle.pmem_base.specs.Layout.{meta_lines};
 ghost use Rattle.board.specs.Steps.{WasCut};
@@ -8,7 +9,8 @@ ghost use Rattle.counter_tree.specs.Layout.{tree_lines, tree_slots, tree_size};
 ghost use Rattle.asit_shadow.specs.State.{cache_at, IsCached, IsCachedAs};
 ghost use Rattle.asit_shadow.specs.Parts.{parts_of, IsUsable};
 ghost use Rattle.asit_shadow.specs.Work.{holds_dirty};
-ghost use Rattle.asit_shadow.specs.Fetching.{IsRoomMade, IsNodeTaken, IsNodeHad, IsNodeMissed, IsPathFetched, IsFetchStopped};
+ghost use Rattle.asit_shadow.specs.Counts.{level_tags, fetch_tags};
+ghost use Rattle.asit_shadow.specs.Fetching.{IsRoomMade, IsNodeTaken, HasFetchedNode, HasNoNode, IsPathFetched, IsFetchStopped};
 
 use crate::cache::CachedNode;
 use crate::engine::TreeEngine;
@@ -36,8 +38,11 @@ impl TreeEngine {
             (parts_of self.new (B.device board.new) (W.watched watch.new))) }
         ensures stopped { IfErr result (IsFetchStopped (record { shape = self.old.shape; formulas = S.formulas_of (S.keys suite.old) }) at
             (parts_of self.old (B.device board.old) (W.watched watch.old))
-            (parts_of self.new (B.device board.new) (W.watched watch.new))) }
+            (parts_of self.new (B.device board.new) (W.watched watch.new)) (S.tags suite.old) (S.tags suite.new)) }
+        ensures tags { OnOk result (S.tags suite.new ≡ risen_times (fetch_tags (record { shape = self.old.shape; formulas = S.formulas_of (S.keys suite.old) })
+            self.old.cache at self.old.shape.levels) (S.tags suite.old)) }
         ensures keys { S.keys suite.new ≡ S.keys suite.old }
+        ensures pads { S.pads suite.new ≡ S.pads suite.old }
         ensures digests { S.digests suite.new ≡ S.digests suite.old }
     {
         let geo = self.geo();
@@ -68,13 +73,16 @@ impl TreeEngine {
         requires position { x < meta_lines self.old.shape }
         requires size { (B.device board.old).size ≡ tree_size self.old.shape }
         requires nodes { length (W.watched watch.old).nodes ≡ meta_lines self.old.shape }
-        ensures had { IfOk result (IsNodeHad (record { shape = self.old.shape; formulas = S.formulas_of (S.keys suite.old) }) x version
+        ensures had { IfOk result (HasFetchedNode (record { shape = self.old.shape; formulas = S.formulas_of (S.keys suite.old) }) x version
             (parts_of self.old (B.device board.old) (W.watched watch.old))
             (parts_of self.new (B.device board.new) (W.watched watch.new))) }
-        ensures missed { IfErr result (IsNodeMissed (record { shape = self.old.shape; formulas = S.formulas_of (S.keys suite.old) }) x version
+        ensures missed { IfErr result (HasNoNode (record { shape = self.old.shape; formulas = S.formulas_of (S.keys suite.old) }) x version
             (parts_of self.old (B.device board.old) (W.watched watch.old))
-            (parts_of self.new (B.device board.new) (W.watched watch.new))) }
+            (parts_of self.new (B.device board.new) (W.watched watch.new)) (S.tags suite.old) (S.tags suite.new)) }
+        ensures tags { OnOk result (S.tags suite.new ≡ risen_times (level_tags (record { shape = self.old.shape; formulas = S.formulas_of (S.keys suite.old) })
+            self.old.cache x) (S.tags suite.old)) }
         ensures keys { S.keys suite.new ≡ S.keys suite.old }
+        ensures pads { S.pads suite.new ≡ S.pads suite.old }
         ensures digests { S.digests suite.new ≡ S.digests suite.old }
     {
         self.is_whole();
@@ -118,7 +126,9 @@ impl TreeEngine {
             (cache_at self.now.cache i) (B.device board.old) (B.device board.new)) }
         ensures cut { OnErr result (WasCut (B.device board.old) (B.device board.new)) }
         ensures due { OnErr result (holds_dirty (cache_at self.now.cache i) ≡ true) }
+        ensures tags { S.tags suite.new ≡ (if holds_dirty (cache_at self.now.cache i) then risen (S.tags suite.old) else S.tags suite.old) }
         ensures keys { S.keys suite.new ≡ S.keys suite.old }
+        ensures pads { S.pads suite.new ≡ S.pads suite.old }
         ensures digests { S.digests suite.new ≡ S.digests suite.old }
     {
         self.is_whole();
@@ -148,8 +158,9 @@ fn taken<B: Board, S: Suite, W: Watch>(
     requires size { (B.device board.old).size ≡ tree_size (shape_of geo.now) }
     requires nodes { length (W.watched watch.old).nodes ≡ meta_lines (shape_of geo.now) }
     ensures taken { IsNodeTaken (record { shape = shape_of geo.now; formulas = S.formulas_of (S.keys suite.old) }) x version
-        (B.device board.old) (B.device board.new) (W.watched watch.old) (W.watched watch.new) result }
+        (B.device board.old) (B.device board.new) (W.watched watch.old) (W.watched watch.new) (S.tags suite.old) (S.tags suite.new) result }
     ensures keys { S.keys suite.new ≡ S.keys suite.old }
+    ensures pads { S.pads suite.new ≡ S.pads suite.old }
     ensures digests { S.digests suite.new ≡ S.digests suite.old }
 {
     match fetch_node(geo, board, suite, watch, x, version) {

@@ -1,6 +1,8 @@
 //! A write: its path raised, armed with the new slot lines and their root, told to the watch, and
 //! written.
-ghost use Rattle.std.specs.Prelude.{ℕ, ◌≡◌, ◌<◌, ◌≤◌, ◌-◌, ◌%◌, ◌^◌, ◌==◌, ◌↔◌, false, true, List, All, length};
+ghost use Rattle.std.specs.Prelude.{ℕ, suc, ◌≡◌, ◌<◌, ◌≤◌, ◌*◌, ◌-◌, ◌%◌, ◌^◌, ◌==◌, ◌↔◌, false, true, List, All, length};
+ghost use Rattle.pmem_base.specs.Counts.{risen_times};
+ghost use Rattle.pmem_recovery.specs.Parts.{suite_state};
 ghost use Rattle.pmem_base.specs.declared.lines.Line.{Line};
 ghost use Rattle.pmem_base.specs.Layout.{meta_lines};
 ghost use Rattle.pmem_base.specs.Geo.{shape_of};
@@ -10,6 +12,7 @@ ghost use Rattle.counter_tree.specs.Shadow.{IsShadowTree};
 ghost use Rattle.counter_tree.specs.Trees.{raised};
 ghost use Rattle.asit_shadow.specs.State.{IsCached, IsCachedAs, IsHeldNode, top_node};
 ghost use Rattle.asit_shadow.specs.Calls.{IsSpentAnswer};
+ghost use Rattle.asit_shadow.specs.Counts.{CountsOfWrite};
 ghost use Rattle.asit_shadow.specs.Paths.{line_path};
 ghost use Rattle.asit_shadow.specs.Parts.{parts_of, IsWatchReady, IsUsable};
 ghost use Rattle.asit_shadow.specs.Writing.{set_pairs, position_below, IsPathRaised, dirty_entries, armed_lines, IsTreeNamed, IsWriteTold, HasWrittenUp, pair_at};
@@ -43,6 +46,11 @@ impl TreeEngine {
             (parts_of self.old (B.device board.old) (W.watched watch.old))
             (parts_of self.new (B.device board.new) (W.watched watch.new)) result }
         ensures spent { IsSpentAnswer result ↔ (total (top_node self.old.cache) ≡ 2 ^ 64 - 1) }
+        ensures counts { CountsOfWrite (record { shape = self.old.shape; formulas = S.formulas_of (S.keys suite.old) }) at
+            (parts_of self.old (B.device board.old) (W.watched watch.old))
+            (parts_of self.new (B.device board.new) (W.watched watch.new))
+            (suite_state (S.keys suite.old) (S.pads suite.old) (S.tags suite.old) (S.digests suite.old))
+            (suite_state (S.keys suite.new) (S.pads suite.new) (S.tags suite.new) (S.digests suite.new)) result }
         ensures keys { S.keys suite.new ≡ S.keys suite.old }
     {
         self.is_whole();
@@ -123,6 +131,9 @@ impl TreeEngine {
         ensures cache { self.new.cache ≡ self.old.cache }
         ensures down { self.new.down ≡ self.old.down }
         ensures keys { S.keys suite.new ≡ S.keys suite.old }
+        ensures pads { S.pads suite.new ≡ S.pads suite.old }
+        ensures tags { S.tags suite.new ≡ S.tags suite.old }
+        ensures digests { S.digests suite.new ≡ risen_times (length nodes.now.items * suc self.old.tree.height) (S.digests suite.old) }
     {
         self.is_whole();
         let geo = self.geo();

@@ -17,7 +17,7 @@ use Rattle.counter_tree.specs.Book.{IsBookOf}
 use Rattle.counter_tree.specs.Shadow.{shadow_line, shadow_height, IsShadowTree, FirstDiffers, IsShadowDifference, IsTopDifference}
 use Rattle.counter_tree.specs.Watch.{WatchState, IsSlotClash}
 use Rattle.counter_tree.proofs.Positions.{meta_lines-most}
-use Rattle.counter_tree.proofs.ShadowLaws.{shadow_height-room}
+use Rattle.counter_tree.proofs.HeightLemmas.{shadow_height-room}
 use Rattle.counter_tree.specs.Nodes.{IsNode, zero_node}
 use Rattle.counter_tree.proofs.NodeLaws.{IsNode-zero_node}
 use Rattle.pmem_base.proofs.LineLemmas.{All-zero_lines}

@@ -1,5 +1,5 @@
 -- The tree on the chip: how many lines it has, how it is made anew, and how a line is put into it.
-use Rattle.std.proofs.Common.{ℕ, zero, suc, ◌≡◌, ◌≢◌, ◌<◌, ◌≤◌, ◌+◌, ◌-◌, ◌*◌, ◌/◌, ◌^◌, List, [], ◌∷◌, ◌++◌, length, refl, sym, ap, subst, ◌∙◌, inl, inr, arith}
+use Rattle.std.proofs.Common.{ℕ, zero, suc, ◌≡◌, ◌<◌, ◌≤◌, ◌+◌, ◌-◌, ◌*◌, ◌/◌, ◌^◌, List, [], ◌∷◌, length, sym, ap, subst, ◌∙◌, inl, inr, arith}
 use Rattle.std.specs.Prelude.{slice_set, All}
 use Rattle.std.proofs.Common.{replicate}
 use Rattle.std.proofs.lemmas.List.{length-replicate}
@@ -78,22 +78,6 @@ risen_times-add m zero count = let none : m + 0 ≡ m = omega arith in ap (λ k.
 risen_times-add m (suc n) count =
     let more : m + suc n ≡ suc (m + n) = omega arith in
     ap (λ k. risen_times k count) more ∙ ap risen (risen_times-add m n count)
-
--- one leaf more
-pub leaves-more : (lines new slots : List Line) (first i : ℕ) (line : Line)
-    → first + i < length lines → line ≡ line_at slots i → new ≡ slice_set lines (first + i) line
-    → ((k : ℕ) → k < i → line_at lines (first + k) ≡ line_at slots k)
-    → (k : ℕ) → k < i + 1 → line_at new (first + k) ≡ line_at slots k
-leaves-more lines new slots first i line inside its is before k below =
-    elim (cases_eq k i) [
-      | inl last ↦
-          ap (λ ls. line_at ls (first + k)) is
-          ∙ (ap (λ n. line_at (slice_set lines (first + i) line) (first + n)) last
-          ∙ (line_at-set_same lines (first + i) line inside ∙ (its ∙ ap (line_at slots) (sym last))))
-      | inr other ↦
-          ap (λ ls. line_at ls (first + k)) is
-          ∙ (line_at-set_other lines (first + i) (first + k) line (λ e. other (omega (arith, e))) ∙ before k (omega (arith, below, other)))
-    ]
 
 -- one node more, above those made so far
 pub nodes-more : (f : Formulas) (lines new : List Line) (n x : ℕ) (node : Line)

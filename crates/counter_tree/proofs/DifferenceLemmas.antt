@@ -1,14 +1,13 @@
 -- Where two lists of slot lines, and the lines of their shadow trees, differ.
-use Rattle.std.proofs.Common.{ℕ, zero, suc, ◌≡◌, ◌≢◌, ◌<◌, ◌≤◌, ◌+◌, ◌-◌, ◌^◌, List, [], ◌∷◌, length, refl, sym, ap, subst, ◌∙◌, inl, inr, arith}
+use Rattle.std.proofs.Common.{ℕ, suc, ◌≡◌, ◌≢◌, ◌<◌, ◌≤◌, ◌+◌, ◌-◌, ◌^◌, List, [], ◌∷◌, length, refl, sym, subst, ◌∙◌, inl, inr, arith}
 use Rattle.std.proofs.lemmas.Bool.{cases_eq}
 use Rattle.pmem_base.specs.declared.lines.Line.{Line}
 use Rattle.pmem_base.specs.Layout.{level_start}
 use Rattle.pmem_base.specs.Lines.{line_at}
 use Rattle.suite.specs.Formulas.{Formulas}
-use Rattle.bonsai_tree.specs.Positions.{parent}
 use Rattle.bonsai_tree.proofs.Levels.{IsAtLevel, level_start-next, level_start-suc}
 use Rattle.counter_tree.specs.Shadow.{up, shadow_line, ChipTree, IsChipTree, IsAtLevelOf, IsShadowTree, FirstDiffers, IsShadowDifference, IsTopDifference}
-use Rattle.counter_tree.proofs.ShadowLaws.{cases_line, first_differs, up-IsAtLevel}
+use Rattle.counter_tree.proofs.ShadowLaws.{cases_line, up-IsAtLevel}
 use Rattle.counter_tree.proofs.ChipTree.{chip-line}
 use Rattle.counter_tree.proofs.ChipLemmas.{level-within, leaf-level}
 

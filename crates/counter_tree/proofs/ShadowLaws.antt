@@ -1,13 +1,9 @@
 -- Two lists of slot lines with one root: on the path of the first slot that differs, the first
 -- position from the top at which their trees differ has one digest for two lines.
 use Rattle.pmem_base.specs.Layout.{level_start}
-use Rattle.std.proofs.Common.{ℕ, zero, suc, ◌≡◌, ◌≢◌, ◌<◌, ◌≤◌, ◌+◌, ◌-◌, ◌*◌, ◌^◌, List, [], ◌∷◌, length, cond, refl, sym, ap, subst, inl, inr, ◌⊎◌, ◌∙◌, arith}
+use Rattle.std.proofs.Common.{ℕ, zero, suc, ◌≡◌, ◌≢◌, ◌<◌, ◌≤◌, ◌+◌, ◌-◌, ◌^◌, List, [], ◌∷◌, length, refl, sym, ap, subst, inl, inr, ◌⊎◌, ◌∙◌, arith}
 use Rattle.std.specs.Prelude.{All}
-use Rattle.std.specs.Prelude.{nat_le}
-use Rattle.std.proofs.Math.Nat.{mul-le-mul}
-use Rattle.std.proofs.lemmas.Bool.{cases_Bool, cases_lt, false≢true, leb-true}
-use Rattle.pmem_base.specs.Shape.{Shape, IsShape}
-use Rattle.counter_tree.specs.Layout.{tree_slots}
+use Rattle.std.proofs.lemmas.Bool.{cases_Bool, cases_lt, false≢true}
 use Rattle.pmem_base.specs.declared.lines.Line.{Line}
 use Rattle.pmem_base.specs.Lines.{IsLine, line_of, line_at, same_bytes}
 use Rattle.pmem_base.proofs.ByteLaws.{same_bytes-from, same_bytes-true}
@@ -18,7 +14,7 @@ use Rattle.bonsai_tree.specs.Nodes.{child_digest}
 use Rattle.bonsai_tree.proofs.Levels.{IsAtLevel, parent-IsAtLevel, child-of_parent, level_start-suc, IsAtLevel-place}
 use Rattle.bonsai_tree.proofs.NodeLaws.{AreSixteen, child_digest-node_over}
 use Rattle.counter_tree.proofs.Positions.{node_over-IsLine}
-use Rattle.counter_tree.specs.Shadow.{shadow_line, root_of, up, FirstDiffers, IsShadowDifference, shadow_height, least_height}
+use Rattle.counter_tree.specs.Shadow.{shadow_line, root_of, up, FirstDiffers, IsShadowDifference}
 
 -- ---- lines are equal or differ
 
@@ -190,26 +186,3 @@ IsShadowDifference-once f h a b i m x j n y one two =
             one.its_place ∙ (ap (λ z. up z (level_start h + i)) same ∙ sym moved.its_place)
       ]
     ]
-
--- ---- the height
-
-least_height-room : (more h n : ℕ) → n ≤ 4 ^ (h + more) → n ≤ 4 ^ least_height more h n
-least_height-room zero h n fits = subst (λ z. n ≤ 4 ^ z) zero_more fits
-  where
-    zero_more : h + 0 ≡ h
-    zero_more = omega arith
-least_height-room (suc more) h n fits =
-    elim (cases_Bool (nat_le n (4 ^ h))) [
-      | inl small ↦ subst (λ t. n ≤ 4 ^ cond t h (least_height more (h + 1) n)) (sym small) (leb-true n (4 ^ h) small)
-      | inr large ↦
-          let move : h + suc more ≡ h + 1 + more = omega arith in
-          subst (λ t. n ≤ 4 ^ cond t h (least_height more (h + 1) n)) (sym large)
-          (least_height-room more (h + 1) n (subst (λ z. n ≤ 4 ^ z) move fits))
-    ]
-
--- the tree has a leaf for each slot
-pub shadow_height-room : (g : Shape) → IsShape g → tree_slots g ≤ 4 ^ shadow_height g
-unfolding shadow_height
-shadow_height-room g shape =
-    let most : g.levels * g.sets ≤ 6 * 64 = mul-le-mul shape.at_most_six_levels shape.at_most_64_sets in
-    least_height-room 4 1 (tree_slots g) (omega (arith, most))

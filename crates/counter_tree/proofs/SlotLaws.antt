@@ -3,7 +3,6 @@ use Rattle.std.proofs.Common.{ℕ, ◌≡◌, ◌<◌, ◌+◌, ◌-◌, ◌^◌
 use Rattle.std.specs.Prelude.{◌==◌}
 use Rattle.std.proofs.lemmas.Bool.{eqb-true, cases_Bool, cond-false}
 use Rattle.std.proofs.lemmas.List.Elements.{All-append, All-replicate}
-use Rattle.std.proofs.lemmas.Option.{same_Some}
 use Rattle.std.proofs.Common.{inl, inr}
 use Rattle.pmem_base.specs.Lines.{IsLine, big_endian, from_big_endian, zero_line}
 use Rattle.counter_tree.specs.declared.nodes.Node.{Node}
@@ -68,11 +67,3 @@ slot_read-slot_line x node small whole =
 pub slot_read-zero : slot_read zero_line ≡ None
 unfolding slot_read zero_line
 slot_read-zero = refl
-
--- so two nodes' slot lines are equal for one node alone
-pub slot_line-one : (x y : ℕ) (n m : Node) → x < 2 ^ 32 - 1 → y < 2 ^ 32 - 1 → IsNode n → IsNode m → slot_line x n ≡ slot_line y m → (x ≡ y) × (n ≡ m)
-slot_line-one x y n m small small' whole whole' e =
-    let one : NamedNode = record { x = x; node = n } in
-    let two : NamedNode = record { x = y; node = m } in
-    let same : one ≡ two = same_Some one two (sym (slot_read-slot_line x n small whole) ∙ (ap slot_read e ∙ slot_read-slot_line y m small' whole')) in
-    (ap (λ (r : NamedNode). r.x) same, ap (λ (r : NamedNode). r.node) same)

@@ -8,8 +8,8 @@ use Rattle.std.proofs.lemmas.Bool.{cases_eq, or_parts, eqb-false}
 use Rattle.std.proofs.lemmas.Grind.{get_or_default_zero}
 use Rattle.pmem_base.specs.Shape.{Shape}
 use Rattle.pmem_base.specs.Layout.{meta_lines, level_start}
-use Rattle.bonsai_tree.specs.Positions.{parent, child_slot, child_position, level_of, path_down_to, counter_position}
-use Rattle.bonsai_tree.proofs.Levels.{IsAtLevel, child-of_parent, parent-IsAtLevel, level_start-suc, level_start-next, meta_lines-level, level_of-IsAtLevel}
+use Rattle.bonsai_tree.specs.Positions.{parent, child_slot, child_position, path_down_to, counter_position}
+use Rattle.bonsai_tree.proofs.Levels.{IsAtLevel, child-of_parent, parent-IsAtLevel, level_start-suc, level_start-next, meta_lines-level}
 use Rattle.counter_tree.proofs.Positions.{parent-lt}
 use Rattle.counter_tree.specs.declared.nodes.Node.{Node}
 use Rattle.counter_tree.specs.Nodes.{IsNode, counter, total, zero_node}

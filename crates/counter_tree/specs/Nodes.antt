@@ -87,6 +87,10 @@ abbrev pub is_node_line : Formulas → ℕ → Line → ℕ → Bool
 is_node_line f x line version =
     has_zero_bytes line && (total (stored_node line) == version && has_node_tag f x line version)
 
+-- whether a tag is made as a line is read as a node of a version: only where nothing else is wrong with it
+abbrev pub makes_node_tag : Line → ℕ → Bool
+makes_node_tag line version = has_zero_bytes line && total (stored_node line) == version
+
 -- the node of a line at x, under the version that its parent has for it
 abbrev pub node_read : Formulas → ℕ → Line → ℕ → Option Node
 node_read f x line version = if is_node_line f x line version then Some (stored_node line) else None

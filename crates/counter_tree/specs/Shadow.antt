@@ -1,6 +1,7 @@
 -- The shadow tree: a hash tree over the slot lines, kept on the chip, with its root in the registers.
 use Rattle.pmem_base.specs.Layout.{level_start}
-use Rattle.std.specs.Prelude.{ℕ, zero, suc, ◌≡◌, ◌≢◌, ◌<◌, ◌≤◌, ◌+◌, ◌-◌, ◌^◌, nat_le, List, length, All, if◌then◌else◌}
+use Rattle.std.specs.Prelude.{ℕ, zero, suc, ◌≡◌, ◌≢◌, ◌<◌, ◌≤◌, ◌+◌, ◌-◌, ◌^◌, nat_le, List, [], ◌∷◌, find, length, All}
+use Rattle.std.specs.Option.{unwrap_or}
 use Rattle.pmem_base.specs.declared.lines.Line.{Line}
 use Rattle.pmem_base.specs.Lines.{IsLine, line_at}
 use Rattle.pmem_base.specs.Shape.{Shape}
@@ -10,14 +11,13 @@ use Rattle.bonsai_tree.specs.Nodes.{node_over, IsHashTree}
 use Rattle.bonsai_tree.specs.Paths.{lines_with, root_with}
 use Rattle.counter_tree.specs.Layout.{tree_slots}
 
--- the least height from h on, at most `more` above it, with as many leaves as n
-abbrev pub least_height : ℕ → ℕ → ℕ → ℕ
-least_height zero h n = h
-least_height (suc more) h n = if nat_le n (4 ^ h) then h else least_height more (h + 1) n
+-- the first of these heights with as many leaves as n, and 5 if none has
+abbrev pub first_height : List ℕ → ℕ → ℕ
+first_height heights n = unwrap_or (find (λ h. nat_le n (4 ^ h)) heights) 5
 
 -- the height of the shadow tree: the least of at least 1 with a leaf for each slot
 unfoldable pub shadow_height : Shape → ℕ
-shadow_height g = least_height 4 1 (tree_slots g)
+shadow_height g = first_height (1 ∷ 2 ∷ 3 ∷ 4 ∷ []) (tree_slots g)
 
 -- the line of a tree of height h over these slot lines, at position x that is j levels above the
 -- leaves; leaves past the slots are zero
@@ -65,11 +65,15 @@ pub record IsShadowDifference (f : Formulas) (h : ℕ) (first second : List Line
 abbrev pub shape_of_height : ℕ → Shape
 shape_of_height h = record { levels = h; sets = 1; ways = 1; loss = 1; major = 0 }
 
+-- the leaves of these lines of a tree of height h are these slot lines, and zero past them
+abbrev pub AreLeaves : ℕ → List Line → List Line → Type 0
+AreLeaves h slots lines = (i : ℕ) → i < 4 ^ h → line_at lines (level_start h + i) ≡ line_at slots i
+
 -- these are all lines of the tree of height h over the slot lines
 pub record IsShadowTree (f : Formulas) (h : ℕ) (slots tree : List Line) : Type 0 where
   pub tree_lines : IsHashTree (shape_of_height h) f tree
   pub whole : All IsLine tree
-  pub leaves : (i : ℕ) → i < 4 ^ h → line_at tree (level_start h + i) ≡ line_at slots i
+  pub leaves : AreLeaves h slots tree
 
 -- the tree with another slot line, and its root
 unfoldable pub tree_with : Formulas → ℕ → List Line → ℕ → Line → List Line
@@ -91,10 +95,6 @@ pub record IsChipTree (tree : ChipTree) : Type 0 where
   pub most : tree.height ≤ 5
   pub count : length tree.lines ≡ level_start (suc tree.height)
   pub whole : All IsLine tree.lines
-
--- its leaves are these slot lines, and zero past them
-abbrev pub AreLeaves : ℕ → List Line → List Line → Type 0
-AreLeaves h slots lines = (i : ℕ) → i < 4 ^ h → line_at lines (level_start h + i) ≡ line_at slots i
 
 -- position x of it is so many levels below the top
 pub record IsAtLevelOf (tree : ChipTree) (level x : ℕ) : Type 0 where

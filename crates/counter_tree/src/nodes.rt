@@ -1,8 +1,8 @@
 //! Nodes of the counter tree and their lines.
-ghost use Rattle.std.specs.Prelude.{◌≡◌, ◌≢◌, ◌<◌, ◌≤◌, ◌+◌, ◌*◌, ◌^◌, ◌++◌, ◌==◌, ◌↔◌, All, length, take, drop, replicate, slice_range, IsNone, IsTrue};
+ghost use Rattle.std.specs.Prelude.{◌≡◌, ◌≢◌, ◌<◌, ◌≤◌, ◌+◌, ◌*◌, ◌^◌, ◌++◌, ◌==◌, ◌↔◌, All, length, take, drop, replicate, slice_range, IsNone, IsTrue, if◌then◌else◌};
 ghost use Rattle.pmem_base.specs.Counts.{risen};
 ghost use Rattle.pmem_base.specs.Lines.{big_endian, from_big_endian, same_bytes};
-ghost use Rattle.counter_tree.specs.Nodes.{IsNode, zero_node, total, version_of, untagged_line, node_line, node_tag_of, stored_node, has_zero_bytes, has_node_tag, node_read};
+ghost use Rattle.counter_tree.specs.Nodes.{IsNode, zero_node, total, version_of, untagged_line, node_line, node_tag_of, stored_node, has_zero_bytes, has_node_tag, makes_node_tag, node_read};
 
 use line_seal::{put_tag, tag_at};
 use pmem_base::{Ctr, Line, Tag};
@@ -71,12 +71,14 @@ pub fn node_line<S: Suite>(suite: &mut S, x: u32, node: &Node) -> Line
 }
 
 /// The node of the line read at `x`, which its parent says to be of this version. `None` where
-/// bytes 32 to 47 aren't zero, the counters' sum isn't the version, or the tag isn't theirs.
+/// bytes 32 to 47 aren't zero, the counters' sum isn't the version, or the tag isn't theirs. The tag is
+/// made only where the bytes and the sum are right.
 pub fn read_node<S: Suite>(suite: &mut S, x: u32, line: &Line, version: u64) -> Option<Node>
     requires { x < 5461 }
     ensures value { result ≡ node_read (S.formulas_of (S.keys suite.old)) x line.now version }
     ensures keys { S.keys suite.new ≡ S.keys suite.old }
     ensures pads { S.pads suite.new ≡ S.pads suite.old }
+    ensures tags { S.tags suite.new ≡ (if makes_node_tag line.now version then risen (S.tags suite.old) else S.tags suite.old) }
     ensures digests { S.digests suite.new ≡ S.digests suite.old }
 {
     let node = stored_node(line);
@@ -117,6 +119,7 @@ fn has_node_tag<S: Suite>(suite: &mut S, x: u32, line: &Line, version: u64) -> b
     ensures value { result ≡ has_node_tag (S.formulas_of (S.keys suite.old)) x line.now version }
     ensures keys { S.keys suite.new ≡ S.keys suite.old }
     ensures pads { S.pads suite.new ≡ S.pads suite.old }
+    ensures tags { S.tags suite.new ≡ risen (S.tags suite.old) }
     ensures digests { S.digests suite.new ≡ S.digests suite.old }
 {
     let mut body = *line;

@@ -24,6 +24,8 @@ pub fn shadow_height(geo: &Geo) -> u8
     ensures value { result ≡ shadow_height (shape_of geo.now) }
     ensures least { 1 ≤ result }
     ensures most { result ≤ 5 }
+    ensures room { tree_slots (shape_of geo.now) ≤ 4 ^ result }
+    ensures smallest { (h : ℕ) → 1 ≤ h → h < result → 4 ^ h < tree_slots (shape_of geo.now) }
 {
     match tree_slots(geo) {
         0..=4 => 1,
@@ -59,12 +61,14 @@ impl Model for ShadowTree {
 }
 
 impl ShadowTree {
-    /// The shadow tree of a geometry, all lines zero. An error is want of memory.
+    /// The shadow tree of a geometry, all lines zero: it has a leaf for each slot. An error is want of
+    /// memory.
     pub fn new(alloc: Global, geo: &Geo) -> Result<ShadowTree, MemFault>
-        ensures { IfOk result (λ tree. tree ≡ record {
+        ensures made { IfOk result (λ tree. tree ≡ record {
           height = shadow_height (shape_of geo.now);
           lines = replicate (level_start (suc (shadow_height (shape_of geo.now)))) zero_line;
         }) }
+        ensures room { IfOk result (λ tree. tree_slots (shape_of geo.now) ≤ 4 ^ tree.height) }
     {
         let height = shadow_height(geo);
         let lines = vec![in alloc; Line::default(); first_of_level(height + 1) as usize]?;
@@ -197,13 +201,14 @@ impl ShadowTree {
     }
 
     /// Replaces the line of slot `i`, and the digests on its path. The answer is the digest of the new
-    /// top.
+    /// top. It takes a digest for each line of the path.
     pub fn put<S: Suite>(&mut self, suite: &mut S, i: u32, line: &Line) -> Tag
         requires { i < 4 ^ self.old.height }
         ensures lines { self.new.lines ≡ tree_with (S.formulas_of (S.keys suite.old)) self.old.height self.old.lines i line.now }
         ensures root { result ≡ tree_root_with (S.formulas_of (S.keys suite.old)) self.old.height self.old.lines i line.now }
         ensures whole { IsLine line.now }
         ensures height { self.new.height ≡ self.old.height }
+        ensures digests { S.digests suite.new ≡ risen_times (suc self.old.height) (S.digests suite.old) }
         ensures keys { S.keys suite.new ≡ S.keys suite.old }
         ensures pads { S.pads suite.new ≡ S.pads suite.old }
         ensures tags { S.tags suite.new ≡ S.tags suite.old }
@@ -220,6 +225,7 @@ impl ShadowTree {
         ensures lines { self.new.lines ≡ put_lines (new_path (S.formulas_of (S.keys suite.old)) (line_at self.old.lines) level x line.now) self.old.lines }
         ensures root { result ≡ new_root (S.formulas_of (S.keys suite.old)) (line_at self.old.lines) level x line.now }
         ensures height { self.new.height ≡ self.old.height }
+        ensures digests { S.digests suite.new ≡ risen_times (suc level) (S.digests suite.old) }
         ensures keys { S.keys suite.new ≡ S.keys suite.old }
         ensures pads { S.pads suite.new ≡ S.pads suite.old }
         ensures tags { S.tags suite.new ≡ S.tags suite.old }

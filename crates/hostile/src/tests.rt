@@ -8,3 +8,11 @@ mod runs;
 mod tampering;
 mod texts;
 mod tripping;
+
+use std::fmt::Debug;
+use std::process::Abort;
+
+/// Stops the test, with both values, unless they are equal. A macro is proved anew at each place, and this once.
+fn equal<T: PartialEq + Debug + Drop>(rt: &impl Abort, found: T, wanted: T) {
+    assert_eq!(rt; found, wanted);
+}

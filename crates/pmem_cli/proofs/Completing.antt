@@ -16,6 +16,7 @@ use Rattle.pmem_cli.specs.declared.options.Task.{Task}
 use Rattle.pmem_cli.specs.HasRun.{HasRun, TaskOutcome, IsInGrammar, IsComplete}
 use Rattle.pmem_cli.specs.Sessions.{Session, session_protocol, HasSession}
 use Rattle.pmem_cli.specs.Talked.{HasTalked, IsNoFault, IsInLanguage, IsRunThrough, IsTalkComplete}
+use Rattle.pmem_cli.specs.Tree.{tree_chosen}
 use Rattle.pmem_cli.specs.Wear.{wear_chosen}
 
 through_by : (stop : Stop) (setup : Setup) (status : ℕ) (trace : List ℕ) (left : Option (List ℕ)) (steps : List Step) → Ends setup stop trace left steps
@@ -92,4 +93,6 @@ pub complete : (task : Task) (status : ℕ) (trace left before after : Option (L
 complete (Task.Run c) status trace left before after reads writes done read write = run_complete _ status trace left before after reads writes done read write
 complete (Task.Wear c) status trace left before after reads writes done read write =
     session_complete (wear_chosen c) status trace left before after reads writes done read write
+complete (Task.Tree c) status trace left before after reads writes done read write =
+    session_complete (tree_chosen c) status trace left before after reads writes done read write
 complete task status trace left before after reads writes done read write = tt

@@ -13,7 +13,7 @@ use Rattle.pmem_cli.proofs.TalkLemmas.{AreGiven-all, AreGiven-after, AreGiven-sh
 -- each reply by the first is one by the second with the same text, where an invariant of the states holds and stays
 pub record Follows {S X Y : Type 0} (p : Protocol S X) (q : Protocol S Y) (I : S → Type 0) : Type 0 where
   pub sorts : (line : List ℕ) → line_sort q line ≡ line_sort p line
-  pub wants : (line : List ℕ) → p.wants_memory line → q.wants_memory line
+  pub wants : (old : S) (line : List ℕ) → I old → p.wants_memory old line → q.wants_memory old line
   pub answered :
       (old new : S) (line : List ℕ) (x : X) → I old → p.answers old line x new
       → (y : Y) × q.answers old line y new × (q.text_of y ≡ p.text_of x) × I new
@@ -121,7 +121,7 @@ module _ {S X Y : Type 0} (p : Protocol S X) (q : Protocol S Y) (I : S → Type 
           last = ends.last;
           talk = talk.1;
           its_sort = f.sorts ends.line ∙ ends.its_sort;
-          wanted = f.wants ends.line ends.wanted;
+          wanted = f.wants ends.last ends.line talk.3 ends.wanted;
           counted = ends.counted;
         },
         AreGiven-all q first ends.last ends.before talk.0 talk.1,

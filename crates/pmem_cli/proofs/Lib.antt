@@ -23,3 +23,4 @@ pub mod Completing
 pub mod Following
 pub mod SessionLemmas
 pub mod WearLemmas
+pub mod TreeLemmas

@@ -25,6 +25,7 @@ use Rattle.pmem_cli.specs.Sessions.{Session, session_protocol, HasConversed, Has
 use Rattle.pmem_cli.specs.Sums.{AreStepSums}
 use Rattle.pmem_cli.specs.Talked.{HasTalked}
 use Rattle.pmem_cli.specs.Turns.{HasStopped}
+use Rattle.pmem_cli.specs.Tree.{tree_chosen}
 use Rattle.pmem_cli.specs.Untampered.{IsUntampered}
 use Rattle.pmem_cli.specs.Wear.{wear_chosen}
 use Rattle.pmem_cli.proofs.SampleLemmas.{sample_answered}
@@ -150,6 +151,9 @@ TaskOutcome-finished (Task.Check c) ending status pull_failed trace left before 
     told_done c ending status pull_failed trace left before after between ended read finished
 TaskOutcome-finished (Task.Wear c) ending status pull_failed trace left before after between ended read finished =
     session_done (wear_chosen c) ended.stop status pull_failed trace left before after between ended.conversed (λ same. read (ended.its_stop ∙ same))
+    (subst (λ (e : Ending). IsFinished e status between after) ended.its_stop finished)
+TaskOutcome-finished (Task.Tree c) ending status pull_failed trace left before after between ended read finished =
+    session_done (tree_chosen c) ended.stop status pull_failed trace left before after between ended.conversed (λ same. read (ended.its_stop ∙ same))
     (subst (λ (e : Ending). IsFinished e status between after) ended.its_stop finished)
 
 -- ---- faults, by the status

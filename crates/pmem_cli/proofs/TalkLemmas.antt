@@ -214,7 +214,7 @@ module _ {S X : Type 0} (p : Protocol S X) where
 
   -- memory was wanted for its reply
   pub TalkEnds-wanting : (first : S) (served : ℕ) (left : Option (List ℕ)) (trace line : List ℕ) (behind : List (List ℕ))
-      → lines_of trace ≡ line ∷ behind → line_sort p line ≡ asked → p.wants_memory line → served < line_limit
+      → lines_of trace ≡ line ∷ behind → line_sort p line ≡ asked → p.wants_memory first line → served < line_limit
       → TalkEnds p first served Memory trace left []
   TalkEnds-wanting first served left trace line behind cut its_sort wants limit =
       record {

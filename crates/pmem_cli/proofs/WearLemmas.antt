@@ -10,7 +10,7 @@ use Rattle.wear_session.specs.declared.commands.WearCommand.{WearCommand}
 use Rattle.wear_session.specs.declared.commands.WearCommand.TheVariants as Do
 use Rattle.wear_session.specs.declared.answers.WearAnswer.{WearAnswer}
 use Rattle.wear_session.specs.declared.answers.WearAnswer.TheVariants as Say
-use Rattle.wear_session.specs.Answered.{Writing, IsAnswered, IsAnsweredAs, IsServed, IsTalkedOf, IsShownOf, HasRead, HasOpened, EndsWriting, after_writing, after_decided, decided}
+use Rattle.wear_session.specs.Answered.{Writing, IsAnswered, IsAnsweredAs, IsServed, IsTalkedOf, IsShownOf, IsStarvedOf, HasRead, HasOpened, EndsWriting, after_writing, after_decided, decided}
 use Rattle.wear_session.specs.Commands.{sort_of_wear}
 use Rattle.wear_session.specs.Guarantees.{WearReply, AreAnswered, IsWearKept, IsWearSpent}
 use Rattle.wear_session.specs.State.{WearState, IsNewWear, setup_in, without_power}
@@ -90,7 +90,7 @@ setup_stays f setup old command answer new is answered =
 abbrev pub wear_protocol : (List ℕ → Formulas) → Protocol WearState (List ℕ)
 wear_protocol f =
     talk_protocol sort_of_wear (λ old line text new. IsTalkedOf (setup_in f old) old line text new)
-    (λ old line its. IsShownOf (setup_in f old) old line its)
+    (λ old line its. IsShownOf (setup_in f old) old line its) IsStarvedOf
 
 -- what a session of this setup says is said by its commands and answers
 pub follows_wear : (f : List ℕ → Formulas) (setup : Setup) (every : ℕ)
@@ -98,7 +98,7 @@ pub follows_wear : (f : List ℕ → Formulas) (setup : Setup) (every : ℕ)
 follows_wear f setup every =
     record {
       sorts = λ line. refl;
-      wants = λ line wants. tt;
+      wants = λ old line is wants. wants;
       answered = λ old new line text is talked.
           let answered = subst (λ (u : Setup). IsAnswered u old talked.command talked.answer new) is talked.answered in (
             reply (record { command = talked.command; answer = talked.answer }),

@@ -17,5 +17,6 @@ pub mod Sampled
 pub mod Talked
 pub mod Sessions
 pub mod Wear
+pub mod Tree
 pub mod RepliesFirst
 pub mod HasRun

@@ -71,6 +71,6 @@ world_protocol formulas_of =
       answers = GoesOn formulas_of;
       shows = EndsShown formulas_of;
       text_of = step_text;
-      wants_memory = λ line. WantsMemory (reading_of line);
+      wants_memory = λ old line. WantsMemory (reading_of line);
       runs = λ world. world.shown ≡ false;
     }

@@ -9,6 +9,7 @@ use Rattle.pmem_cli.specs.declared.options.Task.{Task}
 use Rattle.pmem_cli.specs.Keys.{setup_chosen}
 use Rattle.pmem_cli.specs.Printed.{Output, PutsAtLeast}
 use Rattle.pmem_cli.specs.Sessions.{HasSaidFirst}
+use Rattle.pmem_cli.specs.Tree.{tree_chosen}
 use Rattle.pmem_cli.specs.Wear.{wear_chosen}
 
 -- Before the last pull no more than a part of a line had been taken of what was ahead. The source may not
@@ -36,4 +37,5 @@ HasRepliedFirst setup machine trace left_before from put =
 abbrev pub TaskRepliesFirst : Task → Option (List ℕ) → Option (List ℕ) → Option (List ℕ) → Output → Option (List ℕ) → Type 0
 TaskRepliesFirst (Task.Run c) trace left left_before from put = left ≢ trace → HasRepliedFirst (setup_chosen c) (start (setup_chosen c)) trace left_before from put
 TaskRepliesFirst (Task.Wear c) trace left left_before from put = left ≢ trace → HasSaidFirst (wear_chosen c) trace left_before from put
+TaskRepliesFirst (Task.Tree c) trace left left_before from put = left ≢ trace → HasSaidFirst (tree_chosen c) trace left_before from put
 TaskRepliesFirst task trace left left_before from put = ⊤

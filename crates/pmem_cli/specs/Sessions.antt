@@ -32,6 +32,8 @@ pub record Session (S R : Type 0) : Type 1 where
   pub answers : S → List ℕ → R → S → Type 0
   -- the state before, a line that asks, and an exhibit that ends the session in place of a reply
   pub shows : S → List ℕ → Exhibit → Type 0
+  -- the state before, and a line that asks, for which memory may be wanted
+  pub wants_memory : S → List ℕ → Type 0
   -- the text of a reply's answer, without its LF
   pub text_of : R → List ℕ
   -- what all that it says from a new state on promises
@@ -49,7 +51,7 @@ abbrev pub said_text : {S R : Type 0} → Session S R → Said R → List ℕ
 said_text session (reply its) = session.text_of its
 said_text session (exhibit its) = answer_text (Say.Shown its)
 
--- A session, as what answers the lines of a trace. Each answer may want memory.
+-- a session, as what answers the lines of a trace
 abbrev pub session_protocol : {S R : Type 0} → Session S R → Protocol S (Said R)
 session_protocol session =
     record {
@@ -57,7 +59,7 @@ session_protocol session =
       answers = Replies session;
       shows = Shows session;
       text_of = λ said. as_line (said_text session said);
-      wants_memory = λ line. ⊤;
+      wants_memory = session.wants_memory;
       runs = λ state. ⊤;
     }
 

@@ -2,7 +2,7 @@
 use Rattle.std.specs.Prelude.{◌≡◌, ℕ, Some, Ok}
 use Rattle.suite.specs.Setup.{Setup}
 use Rattle.start_gap.specs.Gapped.{logical_lines}
-use Rattle.wear_session.specs.Answered.{IsAnswered, IsShownOf}
+use Rattle.wear_session.specs.Answered.{IsAnswered, IsShownOf, IsStarvedOf}
 use Rattle.wear_session.specs.Answers.{wear_text}
 use Rattle.wear_session.specs.Commands.{reading_of_wear, sort_of_wear}
 use Rattle.wear_session.specs.Guarantees.{WearReply, AreWearReplies, AreSpentAsUsedUp}
@@ -21,6 +21,7 @@ levelled_session setup every =
           λ old line reply new. (reading_of_wear line ≡ Ok (Some reply.command))
           × IsAnswered setup old reply.command reply.answer new;
       shows = IsShownOf setup;
+      wants_memory = IsStarvedOf;
       text_of = λ reply. wear_text reply.answer;
       promises =
           λ first said. AreWearReplies (logical_lines setup.shape) every (replies_among said)

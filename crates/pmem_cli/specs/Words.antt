@@ -74,15 +74,20 @@ choose_suite c name value =
     else if bytes_eq name (codes "tag-key") then once c.tag_key (value_of (part_of value)) (λ key. record c { tag_key = Some key })
     else None
 
--- and those of the geometry
-abbrev pub choose_run : Choices → Word → Word → Option Choices
-choose_run c name value =
+-- and those of a counter tree's geometry
+abbrev pub choose_tree : Choices → Word → Word → Option Choices
+choose_tree c name value =
     if bytes_eq name (codes "levels") then once c.levels (number_where (is_up_to 6) value) (λ n. record c { levels = Some n })
     else if bytes_eq name (codes "sets") then once c.sets (number_where (is_up_to 64) value) (λ n. record c { sets = Some n })
-    else if bytes_eq name (codes "ways") then once c.ways (number_where (is_up_to 8) value) (λ n. record c { ways = Some n })
+    else choose_suite c name value
+
+-- and of a run's
+abbrev pub choose_run : Choices → Word → Word → Option Choices
+choose_run c name value =
+    if bytes_eq name (codes "ways") then once c.ways (number_where (is_up_to 8) value) (λ n. record c { ways = Some n })
     else if bytes_eq name (codes "loss") then once c.loss (number_where is_loss value) (λ n. record c { loss = Some n })
     else if bytes_eq name (codes "major") then once c.major (value_of (number_of value)) (λ n. record c { major = Some n })
-    else choose_suite c name value
+    else choose_tree c name value
 
 -- and of a levelled memory: after how many writes its gap moves
 abbrev pub choose_wear : Choices → Word → Word → Option Choices
@@ -93,6 +98,7 @@ choose_wear c name value =
 -- those that a task takes
 abbrev pub choose : Allowed → Choices → Word → Word → Option Choices
 choose Allowed.Suite c name value = choose_suite c name value
+choose Allowed.Tree c name value = choose_tree c name value
 choose Allowed.Run c name value = choose_run c name value
 choose Allowed.Wear c name value = choose_wear c name value
 
@@ -152,6 +158,7 @@ task_of (name ∷ words) =
     else if bytes_eq name (codes "make") then (seed_and_count words >>= λ found. Some (Task.Make found.0 found.1))
     else if bytes_eq name (codes "sample") then (seed_and_count words >>= λ found. Some (Task.Sample found.0 found.1))
     else if bytes_eq name (codes "wear") then (take_options Allowed.Wear no_choices words >>= λ c. Some (Task.Wear c))
+    else if bytes_eq name (codes "tree") then (take_options Allowed.Tree no_choices words >>= λ c. Some (Task.Tree c))
     else None
 
 -- ---- what is known of them
@@ -167,6 +174,7 @@ abbrev pub HasChosen : Task → Type 0
 HasChosen (Task.Run c) = AreChosen c
 HasChosen (Task.Check c) = AreChosen c
 HasChosen (Task.Wear c) = AreChosen c
+HasChosen (Task.Tree c) = AreChosen c
 HasChosen task = ⊤
 
 -- it reads no trace
@@ -176,6 +184,7 @@ PullsNothing (Task.Sample seed count) = ⊤
 PullsNothing (Task.Run c) = ⊥
 PullsNothing (Task.Check c) = ⊥
 PullsNothing (Task.Wear c) = ⊥
+PullsNothing (Task.Tree c) = ⊥
 
 -- the value as a function sees it
 abbrev pub map_some : {A B : Type 0} → (A → B) → Option A → Option B

@@ -16,6 +16,7 @@ mod session;
 mod sink;
 mod source;
 mod talking;
+mod tree;
 mod wear;
 
 pub use program::run;

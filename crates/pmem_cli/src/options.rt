@@ -6,7 +6,7 @@ ghost use Rattle.pmem_base.specs.Geo.{shape_of};
 ghost use Rattle.suite.specs.Suites.{aes_keys, weak_keys};
 ghost use Rattle.suite.specs.Weak.{blur_flag};
 ghost use Rattle.pmem_cli.specs.Keys.{chosen_key, chosen_tag_key, shape_chosen, every_chosen};
-ghost use Rattle.pmem_cli.specs.Words.{suite_named, number_where, value_of, is_up_to, choose_suite, choose_run, choose_wear, choose, no_choices, is_equals, option_parts, next_value, take_options, seed_and_count, task_of, AreChosen, HasChosen, map_some};
+ghost use Rattle.pmem_cli.specs.Words.{suite_named, number_where, value_of, is_up_to, choose_suite, choose_tree, choose_run, choose_wear, choose, no_choices, is_equals, option_parts, next_value, take_options, seed_and_count, task_of, AreChosen, HasChosen, map_some};
 
 use collision_witness::{read_number, read_number_up_to, read_tag};
 use pmem_base::{Geo, Line};
@@ -50,6 +50,8 @@ pub(crate) struct Choices {
 pub(crate) enum Allowed {
     /// Those of the suite.
     Suite,
+    /// Those of a counter tree.
+    Tree,
     /// Those of a run.
     Run,
     /// Those of a levelled memory.
@@ -69,6 +71,8 @@ pub(crate) enum Task {
     Check(Choices),
     /// Answer a trace by a levelled memory.
     Wear(Choices),
+    /// Answer a trace by a memory over a counter tree.
+    Tree(Choices),
 }
 
 /// The suite of a name.
@@ -229,10 +233,10 @@ impl Choices {
         Some(more)
     }
 
-    /// These choices, and an option of a run that wasn't chosen yet.
-    fn with_run(self, name: &[u8], value: &[u8]) -> Option<Choices>
+    /// These choices, and an option of a counter tree that wasn't chosen yet.
+    fn with_tree(self, name: &[u8], value: &[u8]) -> Option<Choices>
         requires { AreChosen self }
-        ensures choices { result ≡ choose_run self name.now value.now }
+        ensures choices { result ≡ choose_tree self name.now value.now }
         ensures chosen { IfSome result AreChosen }
     {
         let mut more = self;
@@ -246,7 +250,20 @@ impl Choices {
                 return None;
             }
             more.sets = Some(read_up_to(64, value)? as u8);
-        } else if name == b"ways".as_slice() {
+        } else {
+            return self.with_suite(name, value);
+        }
+        Some(more)
+    }
+
+    /// These choices, and an option of a run that wasn't chosen yet.
+    fn with_run(self, name: &[u8], value: &[u8]) -> Option<Choices>
+        requires { AreChosen self }
+        ensures choices { result ≡ choose_run self name.now value.now }
+        ensures chosen { IfSome result AreChosen }
+    {
+        let mut more = self;
+        if name == b"ways".as_slice() {
             if self.ways.is_some() {
                 return None;
             }
@@ -262,7 +279,7 @@ impl Choices {
             }
             more.major = Some(read_number(value).ok()?);
         } else {
-            return self.with_suite(name, value);
+            return self.with_tree(name, value);
         }
         Some(more)
     }
@@ -292,6 +309,7 @@ impl Choices {
     {
         match allowed {
             Allowed::Suite => self.with_suite(name, value),
+            Allowed::Tree => self.with_tree(name, value),
             Allowed::Run => self.with_run(name, value),
             Allowed::Wear => self.with_wear(name, value),
         }
@@ -413,6 +431,7 @@ pub(crate) fn read_task(words: &[String]) -> Option<Task>
             Some(Task::Sample { seed, count })
         }
         "wear" => Some(Task::Wear(read_options(Allowed::Wear, words)?)),
+        "tree" => Some(Task::Tree(read_options(Allowed::Tree, words)?)),
         _ => None,
     }
 }

@@ -36,7 +36,7 @@ impl<T: Talk> Model for Talker<T> {
 impl<T: Talk> Serve for Talker<T> {
     ghost ReplyData = { List ℕ };
 
-    ghost protocol = { talk_protocol T.sort_of T.answers T.shows };
+    ghost protocol = { talk_protocol T.sort_of T.answers T.shows T.wants_memory };
 
     fn serve_line<K: Sink>(
         &mut self,
@@ -72,11 +72,11 @@ pub(crate) fn talk_trace<T: Talk + Drop, S: Source, K: Sink>(
     printer: &mut Printer,
     out: &mut K,
 ) -> Stop
-    ensures stopped { HasStopped (talk_protocol T.sort_of T.answers T.shows) result (S.left trace.old) (S.left trace.new) session
+    ensures stopped { HasStopped (talk_protocol T.sort_of T.answers T.shows T.wants_memory) result (S.left trace.old) (S.left trace.new) session
         (with_waiting (K.put out.old) printer.old) (with_waiting (K.put out.new) printer.new) 0 }
     ensures cause { StopsByCause (Some result) (S.faults trace.old) (S.faults trace.new) (K.faults out.old) (K.faults out.new) }
     ensures in_time { IsInTime (S.pulls trace.old) (S.pulls trace.new) }
-    ensures replies_first { (trace.new ≡ trace.old) ⊎ HasToldFirst (talk_protocol T.sort_of T.answers T.shows) session
+    ensures replies_first { (trace.new ≡ trace.old) ⊎ HasToldFirst (talk_protocol T.sort_of T.answers T.shows T.wants_memory) session
         (S.left trace.old) (S.left_before trace.new) (with_waiting (K.put out.old) printer.old) (K.put out.new) }
 {
     let mut talker = Talker { session };
@@ -92,12 +92,12 @@ pub fn talk_all<T: Talk + Drop, S: Source, K: Sink>(
 ) -> u8
     // What was put is the texts of the answers to the trace's lines, each in the state that those before it left,
     // and the last line, as the status says.
-    ensures told { HasTalked (talk_protocol T.sort_of T.answers T.shows) session result (Rose (S.faults trace.old) (S.faults trace.new))
+    ensures told { HasTalked (talk_protocol T.sort_of T.answers T.shows T.wants_memory) session result (Rose (S.faults trace.old) (S.faults trace.new))
         (S.left trace.old) (S.left trace.new) (K.put out.old) (K.put out.new) }
     ensures words { result ≢ 2 }
 
     // A trace in the session's grammar and within the limits goes through, unless source or sink fails.
-    ensures complete { IsTalkComplete (talk_protocol T.sort_of T.answers T.shows) result (S.left trace.old)
+    ensures complete { IsTalkComplete (talk_protocol T.sort_of T.answers T.shows T.wants_memory) result (S.left trace.old)
         (Rose (S.faults trace.old) (S.faults trace.new) ⊎ Rose (K.faults out.old) (K.faults out.new)) }
 
     // The statuses for faults come only where source or sink failed. A push that fails gives 4, a pull that fails
@@ -114,7 +114,7 @@ pub fn talk_all<T: Talk + Drop, S: Source, K: Sink>(
 
     // No answer waits while a pull is made: the answers to all whole lines that the source had given before its
     // last pull were put, also where a push failed since. A sink may fail at any push.
-    ensures replies_first { (trace.new ≡ trace.old) ⊎ HasToldFirst (talk_protocol T.sort_of T.answers T.shows) session
+    ensures replies_first { (trace.new ≡ trace.old) ⊎ HasToldFirst (talk_protocol T.sort_of T.answers T.shows T.wants_memory) session
         (S.left trace.old) (S.left_before trace.new) (with_waiting (K.put out.old) []) (K.put out.new) }
 {
     let mut printer = Printer::new();

@@ -1,3 +1,4 @@
 pub mod PartLemmas
 pub mod CommandLemmas
 pub mod AnswerLemmas
+pub mod LineLemmas

@@ -26,21 +26,21 @@ pub record Protocol (S X : Type 0) : Type 1 where
   pub shows : S → List ℕ → X → Type 0
   -- what is printed of a reply, with each LF
   pub text_of : X → List ℕ
-  -- the lines whose reply may want memory
-  pub wants_memory : List ℕ → Type 0
+  -- the state before, and a line that asks, whose reply may want memory
+  pub wants_memory : S → List ℕ → Type 0
   -- the states in which lines are answered
   pub runs : S → Type 0
 
--- A session by itself: a reply is the text of an answer, and is printed as a line. Each answer may want memory.
+-- a session by itself: a reply is the text of an answer, and is printed as a line
 abbrev pub talk_protocol : {S : Type 0} → (List ℕ → Sort) → (S → List ℕ → List ℕ → S → Type 0) → (S → List ℕ → Exhibit → Type 0)
-    → Protocol S (List ℕ)
-talk_protocol sort_of answers shows =
+    → (S → List ℕ → Type 0) → Protocol S (List ℕ)
+talk_protocol sort_of answers shows wants_memory =
     record {
       sort_of = sort_of;
       answers = answers;
       shows = λ old line text. (exhibit : Exhibit) × (text ≡ answer_text (Say.Shown exhibit)) × shows old line exhibit;
       text_of = as_line;
-      wants_memory = λ line. ⊤;
+      wants_memory = wants_memory;
       runs = λ state. ⊤;
     }
 
@@ -152,7 +152,7 @@ pub record IsStarvedTalk {S X : Type 0} (protocol : Protocol S X) (first : S) (s
   pub last : S
   pub talk : IsTalk protocol first before replies last
   pub its_sort : line_sort protocol line ≡ asked
-  pub wanted : protocol.wants_memory line
+  pub wanted : protocol.wants_memory last line
   pub counted : served + length before < line_limit
 
 -- a front of the lines was answered, of no more of them than a trace may have

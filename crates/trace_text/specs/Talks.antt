@@ -1,4 +1,4 @@
--- What a session's call says, by what it answers.
+-- What each answer of a session's call means.
 use Rattle.std.specs.Prelude.{ℕ, ◌≡◌, ⊤, List, Option, Some, None, Result, Ok, Err}
 use Rattle.arrayvec.specs.ArrayVec.{ArrayVec}
 use Rattle.pmem_base.specs.declared.answers.Exhibit.{Exhibit}
@@ -32,6 +32,11 @@ IfText talked P = ⊤
 abbrev pub IfShown : Talked → (Exhibit → Type 0) → Type 0
 IfShown (Err (Stop.Shown exhibit)) P = P exhibit
 IfShown talked P = ⊤
+
+-- what holds where memory was wanted
+abbrev pub IfMemory : Talked → Type 0 → Type 0
+IfMemory (Err Stop.Memory) P = P
+IfMemory talked P = ⊤
 
 -- what holds where nothing was done
 abbrev pub IfNothing : Talked → Type 0 → Type 0

@@ -3,6 +3,7 @@
 #![tactic(auto)]
 
 mod answers;
+mod lines;
 mod listing;
 mod ranges;
 mod reading;
@@ -19,4 +20,4 @@ pub use samples::Maker;
 pub use spelling::write_command;
 pub use talk::{Halt, TEXT_BYTES, Talk};
 pub use values::{read_one_number, read_part};
-pub use writing::{push_answer, write_answer, write_mark};
+pub use writing::{push_answer, push_mark, write_answer, write_mark};

@@ -1,19 +1,19 @@
 //! What a line of a trace asks for.
-ghost use Rattle.std.specs.Prelude.{◌≡◌, ◌≤◌, ◌∷◌, [], true, false, Ok, None, Some, Err, IsTrue, IfOk, IfSome, OnOk, option_map};
+ghost use Rattle.std.specs.Prelude.{◌≡◌, [], Ok, None, Some, Err, IfOk, IfSome, option_map};
 ghost use Rattle.pmem_base.specs.declared.commands.Kind.TheVariants as Kind;
-ghost use Rattle.pmem_base.specs.Ranges.{IsCommand, IsPartLine};
-ghost use Rattle.collision_witness.specs.Words.{words_of, without_return, no_word};
+ghost use Rattle.pmem_base.specs.declared.commands.Command.TheVariants as Do;
+ghost use Rattle.pmem_base.specs.Ranges.{IsCommand};
+ghost use Rattle.collision_witness.specs.Words.{words_of, no_word};
 ghost use Rattle.collision_witness.specs.Views.{map_ok};
-ghost use Rattle.plain_model.specs.Words.{last_port};
 ghost use Rattle.trace_text.specs.Entries.{entry_of};
-ghost use Rattle.plain_model.specs.Grammar.{Reading, verbs, command_among, reading_of, post_values, part_values, read_values, poke_values};
+ghost use Rattle.plain_model.specs.Grammar.{verbs, command_among, reading_of, with_port, post_with, part_with, read_with, poke_values};
+ghost use Rattle.trace_text.specs.Lines.{later_verbs};
 ghost use Rattle.trace_text.specs.Commands.{HasPortWithin, HasPartAtFront, IsWritable};
 
+use crate::lines::read_one_line;
 use crate::values::{read_one_number, read_one_port, read_part, read_port, read_two_numbers};
 use collision_witness::ranges::is_u64;
-use collision_witness::{
-    before_return, four_words, next_word, read_line, read_number, three_words, two_words,
-};
+use collision_witness::{before_return, four_words, next_word, read_number, two_words};
 use pmem_base::{Command, Kind, Line};
 
 /// The greatest of the eight ports.
@@ -29,54 +29,97 @@ pub fn has_no_word(text: &[u8]) -> Result<(), Kind>
     }
 }
 
-/// The words behind `post`: a port, a number and a line.
-fn read_post(most: u8, text: &[u8]) -> Result<(u8, u64, Line), Kind>
-    ensures values { result ≡ post_values most (words_of text.now) }
-    ensures port { IfOk result (λ found. found.0 ≤ most) }
+/// What `post` asks for: a port, a number and a line are behind it.
+fn read_post(most: u8, text: &[u8]) -> Result<Command, Kind>
+    ensures command { result ≡ post_with most (words_of text.now) }
+    ensures port { IfOk result (HasPortWithin most) }
+    ensures part { IfOk result HasPartAtFront }
 {
-    let (port, at, line) = three_words(text)?;
+    let Some((port, rest)) = next_word(text) else {
+        return Err(Kind::Count);
+    };
+    let Some((at, rest)) = next_word(rest) else {
+        return Err(Kind::Count);
+    };
+    let line = read_one_line(rest);
+    if matches!(line, Err(Kind::Count)) {
+        return Err(Kind::Count);
+    }
     let port = read_port(most, port)?;
     let at = read_number(at)?;
-    let line = read_line(line)?;
-    Ok((port, at, line))
+    let line = line?;
+    Ok(Command::Post { port, at, line })
 }
 
-/// The words behind `part`: a port, two numbers and a part of a line.
-fn read_posted_part(most: u8, text: &[u8]) -> Result<(u8, u64, u64, u8, Line), Kind>
-    ensures values { result ≡ part_values most (words_of text.now) }
-    ensures port { IfOk result (λ found. found.0 ≤ most) }
-    ensures part { IfOk result (λ found. IsPartLine found.3 found.4) }
+/// What `part` asks for: a port, two numbers and a part of a line are behind it.
+fn read_posted_part(most: u8, text: &[u8]) -> Result<Command, Kind>
+    ensures command { result ≡ part_with most (words_of text.now) }
+    ensures port { IfOk result (HasPortWithin most) }
+    ensures part { IfOk result HasPartAtFront }
 {
     let (port, at, from, part) = four_words(text)?;
     let port = read_port(most, port)?;
     let at = read_number(at)?;
     let from = read_number(from)?;
     let (count, line) = read_part(part)?;
-    Ok((port, at, from, count, line))
+    Ok(Command::Part {
+        port,
+        at,
+        from,
+        count,
+        line,
+    })
 }
 
-/// The words behind `read`: a port and a number.
-fn read_read(most: u8, text: &[u8]) -> Result<(u8, u64), Kind>
-    ensures values { result ≡ read_values most (words_of text.now) }
-    ensures port { IfOk result (λ found. found.0 ≤ most) }
+/// What `drain` asks for: a port is behind it.
+fn read_drain(most: u8, text: &[u8]) -> Result<Command, Kind>
+    ensures command { result ≡ with_port most Do.Drain (words_of text.now) }
+    ensures port { IfOk result (HasPortWithin most) }
+    ensures part { IfOk result HasPartAtFront }
+{
+    let port = read_one_port(most, text)?;
+    Ok(Command::Drain { port })
+}
+
+/// What `fence` asks for: a port is behind it.
+fn read_fence(most: u8, text: &[u8]) -> Result<Command, Kind>
+    ensures command { result ≡ with_port most Do.Fence (words_of text.now) }
+    ensures port { IfOk result (HasPortWithin most) }
+    ensures part { IfOk result HasPartAtFront }
+{
+    let port = read_one_port(most, text)?;
+    Ok(Command::Fence { port })
+}
+
+/// What `read` asks for: a port and a number are behind it.
+fn read_read(most: u8, text: &[u8]) -> Result<Command, Kind>
+    ensures command { result ≡ read_with most (words_of text.now) }
+    ensures port { IfOk result (HasPortWithin most) }
+    ensures part { IfOk result HasPartAtFront }
 {
     let (port, at) = two_words(text)?;
     let port = read_port(most, port)?;
     let at = read_number(at)?;
-    Ok((port, at))
+    Ok(Command::Read { port, at })
 }
 
 /// The words behind `poke`: a number and a line.
 pub fn read_poke(text: &[u8]) -> Result<(u64, Line), Kind>
     ensures { result ≡ poke_values (words_of text.now) }
 {
-    let (at, line) = two_words(text)?;
+    let Some((at, rest)) = next_word(text) else {
+        return Err(Kind::Count);
+    };
+    let line = read_one_line(rest);
+    if matches!(line, Err(Kind::Count)) {
+        return Err(Kind::Count);
+    }
     let at = read_number(at)?;
-    let line = read_line(line)?;
-    Ok((at, line))
+    Ok((at, line?))
 }
 
-/// The command that begins with a first word.
+/// The command that begins with a first word. The commonest come first, and a function for each leaves what the
+/// others need uncleared.
 #[tactic(auto, unfolding(plain_model::specs::Grammar::command_among, plain_model::specs::Grammar::command_of))]
 fn read_verb(most: u8, verb: &[u8], text: &[u8]) -> Result<Command, Kind>
     ensures command { result ≡ command_among most verbs verb.now (words_of text.now) }
@@ -84,27 +127,28 @@ fn read_verb(most: u8, verb: &[u8], text: &[u8]) -> Result<Command, Kind>
     ensures part { IfOk result HasPartAtFront }
 {
     if verb == b"post".as_slice() {
-        let (port, at, line) = read_post(most, text)?;
-        Ok(Command::Post { port, at, line })
+        read_post(most, text)
     } else if verb == b"part".as_slice() {
-        let (port, at, from, count, line) = read_posted_part(most, text)?;
-        Ok(Command::Part {
-            port,
-            at,
-            from,
-            count,
-            line,
-        })
+        read_posted_part(most, text)
     } else if verb == b"drain".as_slice() {
-        let port = read_one_port(most, text)?;
-        Ok(Command::Drain { port })
+        read_drain(most, text)
     } else if verb == b"fence".as_slice() {
-        let port = read_one_port(most, text)?;
-        Ok(Command::Fence { port })
+        read_fence(most, text)
     } else if verb == b"read".as_slice() {
-        let (port, at) = read_read(most, text)?;
-        Ok(Command::Read { port, at })
-    } else if verb == b"turn".as_slice() {
+        read_read(most, text)
+    } else {
+        read_later_verb(most, verb, text)
+    }
+}
+
+/// The command that begins with a first word behind the five that have ports.
+#[tactic(auto, unfolding(plain_model::specs::Grammar::command_among, plain_model::specs::Grammar::command_of))]
+fn read_later_verb(most: u8, verb: &[u8], text: &[u8]) -> Result<Command, Kind>
+    ensures command { result ≡ command_among most later_verbs verb.now (words_of text.now) }
+    ensures port { IfOk result (HasPortWithin most) }
+    ensures part { IfOk result HasPartAtFront }
+{
+    if verb == b"turn".as_slice() {
         has_no_word(text)?;
         Ok(Command::Turn)
     } else if verb == b"flush".as_slice() {

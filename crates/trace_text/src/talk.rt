@@ -2,7 +2,7 @@
 ghost use Rattle.std.specs.Prelude.{◌≡◌, ℕ, List};
 ghost use Rattle.pmem_base.specs.declared.answers.Exhibit.{Exhibit};
 ghost use Rattle.collision_witness.specs.Exhibits.{AreSmallMinors};
-ghost use Rattle.trace_text.specs.Talks.{Sort, IsOfSort, IfText, IfShown, IfNothing};
+ghost use Rattle.trace_text.specs.Talks.{Sort, IsOfSort, IfText, IfShown, IfMemory, IfNothing};
 
 use arrayvec::ArrayVec;
 use pmem_base::{Exhibit, Kind};
@@ -34,6 +34,9 @@ pub trait Talk {
     /// The state before, a line that asks, and an exhibit that stands in place of its answer.
     ghost shows: { Self → List ℕ → Exhibit → Type 0 };
 
+    /// The state before, and a line that asks, whose answer may want memory.
+    ghost wants_memory: { Self → List ℕ → Type 0 };
+
     /// Answers a line of at most 1,024 bytes, without its LF. None comes exactly of a skipped line, and `Line`
     /// exactly of a faulty one. These, and `Memory`, leave the state as it was. After `Shown` no call follows.
     fn talk(&mut self, alloc: Global, line: &[u8]) -> Result<Option<ArrayVec<u8, TEXT_BYTES>>, Halt>
@@ -41,5 +44,6 @@ pub trait Talk {
         ensures text { IfText result (λ text. answers self.old line.now text self.new) }
         ensures shown { IfShown result (λ exhibit. shows self.old line.now exhibit) }
         ensures minors { IfShown result AreSmallMinors }
+        ensures memory { IfMemory result (wants_memory self.old line.now) }
         ensures unchanged { IfNothing result (self.new ≡ self.old) };
 }

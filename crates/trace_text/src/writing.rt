@@ -13,28 +13,37 @@ use collision_witness::{
 };
 use pmem_base::{Answer, Command, Mark, Place, Stat, Tag};
 
-/// The text of a mark, without its LF.
+/// Puts the text of a mark into an empty text, without its LF, as `write_mark` does for a new one.
 #[tactic(auto, unfolding(plain_model::specs::Texts::mark_text))]
-pub fn write_mark(mark: &Mark) -> ArrayVec<u8, 512>
-    ensures text { result.items ≡ mark_text mark.now }
-    ensures room { length result.items < 512 }
+pub fn push_mark(text: &mut ArrayVec<u8, 512>, mark: &Mark)
+    requires { text.old.items ≡ [] }
+    ensures text { text.new.items ≡ mark_text mark.now }
+    ensures room { length text.new.items < 512 }
 {
-    let mut text = ArrayVec::new();
     match mark {
-        Mark::Begin { page } => push_counts(&mut text, b"begin", &[u64::from(*page)]),
+        Mark::Begin { page } => push_counts(text, b"begin", &[u64::from(*page)]),
         Mark::Seal {
             at,
             ctr,
             cipher: _,
             tag,
         } => {
-            push_counts(&mut text, b"seal", &[u64::from(*at), ctr.major]);
-            push_bytes(&mut text, b".");
-            push_number(&mut text, u64::from(ctr.minor));
-            push_bytes(&mut text, b" ");
-            push_tag(&mut text, tag);
+            push_counts(text, b"seal", &[u64::from(*at), ctr.major]);
+            push_bytes(text, b".");
+            push_number(text, u64::from(ctr.minor));
+            push_bytes(text, b" ");
+            push_tag(text, tag);
         }
     }
+}
+
+/// The text of a mark, without its LF.
+pub fn write_mark(mark: &Mark) -> ArrayVec<u8, 512>
+    ensures text { result.items ≡ mark_text mark.now }
+    ensures room { length result.items < 512 }
+{
+    let mut text = ArrayVec::new();
+    push_mark(&mut text, mark);
     text
 }
 

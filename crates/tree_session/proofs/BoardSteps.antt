@@ -2,11 +2,13 @@
 use Rattle.std.proofs.Common.{ℕ, zero, suc, ◌≡◌, ◌<◌, ◌≤◌, ◌+◌, ◌-◌, true, false, Bool, inl, inr, Option, Some, None, refl, sym, ap, subst, ◌∙◌, arith}
 use Rattle.std.specs.Prelude.{min, option_map, IfSome}
 use Rattle.std.proofs.lemmas.Bool.{cases_lt}
+use Rattle.std.proofs.lemmas.Option.{same_Some}
 use Rattle.pmem_base.specs.Counts.{last_count, HasRisen}
 use Rattle.board.specs.Counts.{RisesBy}
+use Rattle.board.specs.Device.{Device}
 use Rattle.board.specs.Memory.{BoardMemory}
 use Rattle.watched_board.specs.declared.taken.Taken.{Taken}
-use Rattle.watched_board.specs.Watching.{counted, cuts_after, steps_in, step_limit, IsWatched}
+use Rattle.watched_board.specs.Watching.{counted, cuts_after, steps_in, step_limit, device_during, none_taken, IsWatched}
 use Rattle.tree_session.specs.Answered.{Fits, fuse_less, TakesSteps, IsCutAt}
 
 -- ---- counts
@@ -37,6 +39,24 @@ fits-is (Some n) s lasting = lasting
 less-is : (fuse : Option ℕ) (s : ℕ) → option_map (λ n. n - s) fuse ≡ fuse_less s fuse
 less-is None s = refl
 less-is (Some n) s = refl
+
+-- a fuse with nothing burnt
+unburnt : (fuse : Option ℕ) → option_map (λ m. m - 0) fuse ≡ fuse
+unburnt None = refl
+unburnt (Some n) = let same : n - 0 ≡ n = omega arith in ap (λ m. Some m) same
+
+same_board : (p q : BoardMemory) → p.lines ≡ q.lines → p.regs ≡ q.regs → p.powered ≡ q.powered → p.fuse ≡ q.fuse → p.snapshot ≡ q.snapshot → p.reads ≡ q.reads → p.writes ≡ q.writes
+    → p.latches ≡ q.latches → p.cuts ≡ q.cuts → p ≡ q
+same_board p q lines regs powered fuse snapshot reads writes latches cuts =
+    ap (λ v. let r : BoardMemory = record { lines = v; regs = p.regs; powered = p.powered; fuse = p.fuse; snapshot = p.snapshot; reads = p.reads; writes = p.writes; latches = p.latches; cuts = p.cuts } in r) lines
+    ∙ (ap (λ v. let r : BoardMemory = record { lines = q.lines; regs = v; powered = p.powered; fuse = p.fuse; snapshot = p.snapshot; reads = p.reads; writes = p.writes; latches = p.latches; cuts = p.cuts } in r) regs
+    ∙ (ap (λ v. let r : BoardMemory = record { lines = q.lines; regs = q.regs; powered = v; fuse = p.fuse; snapshot = p.snapshot; reads = p.reads; writes = p.writes; latches = p.latches; cuts = p.cuts } in r) powered
+    ∙ (ap (λ v. let r : BoardMemory = record { lines = q.lines; regs = q.regs; powered = q.powered; fuse = v; snapshot = p.snapshot; reads = p.reads; writes = p.writes; latches = p.latches; cuts = p.cuts } in r) fuse
+    ∙ (ap (λ v. let r : BoardMemory = record { lines = q.lines; regs = q.regs; powered = q.powered; fuse = q.fuse; snapshot = v; reads = p.reads; writes = p.writes; latches = p.latches; cuts = p.cuts } in r) snapshot
+    ∙ (ap (λ v. let r : BoardMemory = record { lines = q.lines; regs = q.regs; powered = q.powered; fuse = q.fuse; snapshot = q.snapshot; reads = v; writes = p.writes; latches = p.latches; cuts = p.cuts } in r) reads
+    ∙ (ap (λ v. let r : BoardMemory = record { lines = q.lines; regs = q.regs; powered = q.powered; fuse = q.fuse; snapshot = q.snapshot; reads = q.reads; writes = v; latches = p.latches; cuts = p.cuts } in r) writes
+    ∙ (ap (λ v. let r : BoardMemory = record { lines = q.lines; regs = q.regs; powered = q.powered; fuse = q.fuse; snapshot = q.snapshot; reads = q.reads; writes = q.writes; latches = v; cuts = p.cuts } in r) latches
+    ∙ (ap (λ v. let r : BoardMemory = record { lines = q.lines; regs = q.regs; powered = q.powered; fuse = q.fuse; snapshot = q.snapshot; reads = q.reads; writes = q.writes; latches = q.latches; cuts = v } in r) cuts))))))))
 
 -- ---- a call
 
@@ -79,8 +99,22 @@ module _ (old new : BoardMemory) (taken : Taken) (watched : IsWatched old new ta
   pub unlatched : taken.latches ≡ 0 → new.latches ≡ old.latches
   unlatched is = unrisen-one last_count old.latches new.latches (watched.follows.latches ∙ ap (counted old.latches) is) watched.in_count.latches
 
-  pub unwritten : taken.writes ≡ 0 → new.writes ≡ old.writes
+  unwritten : taken.writes ≡ 0 → new.writes ≡ old.writes
   unwritten is = unrisen-one last_count old.writes new.writes (watched.follows.writes ∙ ap (counted old.writes) is) watched.in_count.writes
+
+  -- a call that did nothing leaves the board as it was
+  pub untouched : old.powered ≡ true → device_during new taken ≡ device_during old none_taken → new ≡ old
+  untouched powered device =
+      let writes : taken.writes ≡ 0 = ap (λ (d : Device). d.writes) device in
+      let latches : taken.latches ≡ 0 = ap (λ (d : Device). d.latches) device in
+      let none : steps_in taken ≡ 0 = omega (arith, writes, latches) in
+      let same : new.powered ≡ old.powered = ap (λ (d : Device). d.live) device in
+      let live : new.powered ≡ true = same ∙ powered in
+      let lines : new.lines ≡ old.lines = same_Some _ _ (ap (λ (d : Device). d.lines) device) in
+      let regs : new.regs ≡ old.regs = ap (λ (d : Device). d.regs) device in
+      let reads : new.reads ≡ old.reads = ap (λ (d : Device). d.reads) device in
+      let fuse : new.fuse ≡ old.fuse = watched.follows.burnt live ∙ (ap (λ n. option_map (λ m. m - n) old.fuse) none ∙ unburnt old.fuse) in
+      same_board new old lines regs same fuse watched.follows.snapshot reads (unwritten writes) (unlatched latches) (watched.follows.uncut live)
 
 -- a count from 0 that rose by so many, and is far from its end
 pub taken-exact : (n count : ℕ) → RisesBy n 0 count → count ≤ step_limit → count ≡ n

@@ -1,36 +1,34 @@
 -- Chains of answers from a new session on.
-use Rattle.std.proofs.Common.{ℕ, zero, suc, ◌≡◌, ◌<◌, true, false, Bool, inl, inr, List, [], ◌∷◌, length, Some, None, refl, sym, ap, subst, ◌∙◌, arith}
-use Rattle.std.specs.Prelude.{replicate, slice_set, slice_index_or, sum, is_some, not, nat_lt, if◌then◌else◌, All}
+use Rattle.std.proofs.Common.{ℕ, ◌≡◌, ◌<◌, true, false, Bool, inl, inr, List, [], ◌∷◌, length, Some, None, refl, sym, ap, subst, ◌∙◌}
+use Rattle.std.specs.Prelude.{slice_set, slice_index, slice_index_or, is_some, not, nat_lt, if◌then◌else◌, All}
 use Rattle.std.proofs.lemmas.Bool.{cases_lt, le-ltb, false≢true}
 use Rattle.std.proofs.lemmas.List.{length-replicate, set-get_or}
 use Rattle.std.proofs.lemmas.List.Elements.{All-nil, All-cons, All-head, All-tail}
-use Rattle.std.proofs.lemmas.List.Sums.{sum_by-cons}
 use Rattle.std.proofs.lemmas.Option.{none-some}
 use Rattle.pmem_base.specs.declared.lines.Line.{Line}
 use Rattle.pmem_base.specs.declared.answers.Exhibit.{Exhibit}
+use Rattle.pmem_base.specs.declared.answers.Exhibit.TheVariants.{Forged}
+use Rattle.pmem_base.specs.Lines.{line_at, tag_slot}
 use Rattle.pmem_base.specs.Shape.{Shape}
 use Rattle.suite.specs.Setup.{Setup}
 use Rattle.counter_tree.specs.Layout.{tree_lines, tree_size, line_of_node, line_of_slot}
-use Rattle.asit_shadow.specs.Plain.{PlainTree}
+use Rattle.counter_tree.specs.Nodes.{node_place, version_counter, without_tag}
+use Rattle.asit_shadow.specs.Plain.{PlainTree, true_node, true_version}
 use Rattle.asit_shadow.proofs.FormatLaws.{replicate-default}
 use Rattle.tree_session.specs.declared.commands.TreeCommand.{TreeCommand}
 use Rattle.tree_session.specs.declared.commands.TreeCommand.TheVariants as Do
 use Rattle.tree_session.specs.declared.answers.TreeAnswer.{TreeAnswer}
 use Rattle.tree_session.specs.declared.answers.TreeAnswer.TheVariants as Say
 use Rattle.tree_session.specs.State.{SessionState, IsNewTree}
-use Rattle.tree_session.specs.Answered.{decided, IsAnswered, IsPlainKept, IsNodeShown, IsDataShown, IsShadowShown, ShowsEngine}
-use Rattle.tree_session.specs.Guarantees.{TreeReply, AreAnswered, IsSession, History, first_history, history_with, history_after, IsNodeChanged, IsSlotChanged, IsAllowed, AreAllowed, MayShow, ShowsNode, ShowsLine, ShowsClash, IsTreeKept, IsTreeShown, IsTreeUntouched, IsNoTampering, IsUnrefused}
-use Rattle.tree_session.proofs.Histories.{history_of, history-equal, Follows, follows, changed-node, changed-slot, hurt-line}
+use Rattle.tree_session.specs.Answered.{decided, device_node, device_tag, IsPathTampered, IsSlotTampered, IsAnswered, IsPlainKept, IsNodeExhibit, IsDataExhibit, IsShadowExhibit, ShowsEngine}
+use Rattle.tree_session.specs.Guarantees.{TreeReply, AreAnswered, IsSession, History, first_history, history_with, history_after, IsAllowed, AreAllowed, MayShow, version_by, ShowsNode, ShowsLine, ShowsClash, IsTreeKept, IsTreeShown, IsTreeUntouched, IsNoTampering, IsUnrefused}
+use Rattle.tree_session.proofs.Histories.{history_of, history-equal, Follows, follows, path-kept, slot-kept, hurt-kept}
 
 -- ---- the beginning
 
-sum-zeros : (n : ℕ) → sum (replicate n 0) ≡ 0
-sum-zeros zero = refl
-sum-zeros (suc n) = let one = sum_by-cons (λ (m : ℕ). m) 0 (replicate n 0) in let rest = sum-zeros n in omega (arith, one, rest)
-
 history-first : (setup : Setup) (first : SessionState) → IsNewTree setup first → history_of first.plain ≡ first_history setup.shape
 history-first setup first new =
-    history-equal (history_of first.plain) (first_history setup.shape) new.memory (ap sum new.counts ∙ sum-zeros (tree_lines setup.shape)) new.tampered new.hurt new.power new.fuse
+    history-equal (history_of first.plain) (first_history setup.shape) new.memory new.counts new.tampered new.hurt new.power new.fuse
     (ap is_some new.snapshot)
 
 counts-first : (setup : Setup) (first : SessionState) → IsNewTree setup first → length first.plain.counts ≡ tree_lines setup.shape
@@ -90,16 +88,40 @@ dark-from : (power : Bool) (on : TreeAnswer) → (if power then Some on else Non
 dark-from false on is = refl
 dark-from true on is = absurd (none-some on (sym is))
 
-shows-node : (setup : Setup) (before after : PlainTree) (a : ℕ) (exhibit : Exhibit) → IsPlainKept before after → IsNodeShown setup after a exhibit → ShowsNode setup.shape (history_of before) a exhibit
+version-is : (g : Shape) (plain : PlainTree) (x : ℕ) → true_version g plain x ≡ version_by g plain.counts x
+unfolding true_node
+version-is g plain x = refl
+
+counts-kept : (before after : PlainTree) → IsPlainKept before after → after.counts ≡ before.counts
+counts-kept before after plain = ap (λ (p : PlainTree). p.counts) plain
+
+shows-node : (setup : Setup) (before after : PlainTree) (a : ℕ) (exhibit : Exhibit) → IsPlainKept before after → IsNodeExhibit setup after a exhibit → ShowsNode setup.shape (history_of before) a exhibit
 shows-node setup before after a exhibit plain it =
-    record { x = it.x; ctr = _; cipher = _; tag = _; changed = changed-node setup.shape before after a it.x plain it.place; its = it.its }
+    let version = version-is setup.shape after it.x ∙ ap (λ counts. version_by setup.shape counts it.x) (counts-kept before after plain) in
+    record {
+      x = it.x;
+      cipher = _;
+      tag = _;
+      place = path-kept setup.shape before after a it.x plain it.place;
+      its =
+          it.its
+          ∙ ap (λ v. Forged (node_place it.x) (version_counter v) (without_tag (device_node setup.shape after it.x)) (tag_slot (device_node setup.shape after it.x) 3)) version;
+    }
 
-shows-line : (setup : Setup) (before after : PlainTree) (a : ℕ) (exhibit : Exhibit) → IsPlainKept before after → IsDataShown setup after a exhibit → ShowsLine (history_of before) a exhibit
-shows-line setup before after a exhibit plain it = record { ctr = _; cipher = _; tag = _; hurt = hurt-line before after a plain it.hurt; its = it.its }
+shows-line : (setup : Setup) (before after : PlainTree) (a : ℕ) (exhibit : Exhibit) → IsPlainKept before after → IsDataExhibit setup after a exhibit → ShowsLine (history_of before) a exhibit
+shows-line setup before after a exhibit plain it =
+    record {
+      cipher = _;
+      tag = _;
+      hurt = hurt-kept before after a plain it.hurt;
+      its =
+          it.its
+          ∙ ap (λ counts. Forged a (version_counter (slice_index counts a)) (line_at after.board.lines a) (device_tag setup.shape after a)) (counts-kept before after plain);
+    }
 
-shows-clash : (setup : Setup) (before after : PlainTree) (exhibit : Exhibit) → IsPlainKept before after → IsShadowShown setup after exhibit → ShowsClash setup.shape (history_of before) exhibit
+shows-clash : (setup : Setup) (before after : PlainTree) (exhibit : Exhibit) → IsPlainKept before after → IsShadowExhibit setup after exhibit → ShowsClash setup.shape (history_of before) exhibit
 shows-clash setup before after exhibit plain it =
-    record { position = it.position; first = _; second = _; changed = changed-slot setup.shape before after plain it.place; its = it.its }
+    record { position = it.position; first = _; second = _; place = slot-kept setup.shape before after plain it.place; its = it.its }
 
 may-show : (setup : Setup) (before after : PlainTree) (command : TreeCommand) (exhibit : Exhibit) → decided setup.shape before command ≡ None → IsPlainKept before after
     → ShowsEngine setup before command after exhibit → MayShow setup.shape (history_of before) command exhibit
@@ -138,19 +160,19 @@ shown setup replies last new command exhibit session by =
 
 -- nothing was changed
 record IsClear (history : History) : Type 0 where
-  changed : (d : ℕ) → slice_index_or history.changed d false ≡ false
+  tampered : (d : ℕ) → slice_index_or history.tampered d false ≡ false
   hurt : (a : ℕ) → slice_index_or history.hurt a false ≡ false
 
 clear-first : (g : Shape) → IsClear (first_history g)
-clear-first g = record { changed = λ d. replicate-default (tree_size g) d false; hurt = λ a. replicate-default (tree_lines g) a false }
+clear-first g = record { tampered = λ d. replicate-default (tree_size g) d false; hurt = λ a. replicate-default (tree_lines g) a false }
 
 clear-written : (history : History) (a : ℕ) → IsClear history → slice_set history.hurt a false ≡ history.hurt
 clear-written history a clear = ap (λ (b : Bool). slice_set history.hurt a b) (sym (clear.hurt a)) ∙ set-get_or history.hurt a false
 
-clear-from : (old new : History) → IsClear old → new.changed ≡ old.changed → new.hurt ≡ old.hurt → IsClear new
-clear-from old new clear changed hurt =
+clear-from : (old new : History) → IsClear old → new.tampered ≡ old.tampered → new.hurt ≡ old.hurt → IsClear new
+clear-from old new clear tampered hurt =
     record {
-      changed = λ d. ap (λ flags. slice_index_or flags d false) changed ∙ clear.changed d;
+      tampered = λ d. ap (λ flags. slice_index_or flags d false) tampered ∙ clear.tampered d;
       hurt = λ a. ap (λ flags. slice_index_or flags a false) hurt ∙ clear.hurt a;
     }
 
@@ -171,25 +193,60 @@ clear-write g history a line (Say.RefusedData b s) clear = clear-from history (h
 clear-write g history a line (Say.RefusedShadow kept found s) clear = clear-from history (history_with g history (Do.Write a line) (Say.RefusedShadow kept found s)) clear refl refl
 clear-write g history a line (Say.Cut s) clear = clear-from history (history_with g history (Do.Write a line) (Say.Cut s)) clear refl refl
 
-clear-next : (g : Shape) (history : History) (command : TreeCommand) (answer : TreeAnswer) → IsNoTampering command → IsClear history → IsClear (history_with g history command answer)
+clear-poke : (g : Shape) (history : History) (d : ℕ) (line : Line) (answer : TreeAnswer) → IsNoTampering (Do.Poke d line) answer → IsClear history
+    → IsClear (history_with g history (Do.Poke d line) answer)
+clear-poke g history d line Say.Ok none clear = absurd none
+clear-poke g history d line Say.Off none clear = clear-from history (history_with g history (Do.Poke d line) Say.Off) clear refl refl
+clear-poke g history d line Say.Already none clear = clear-from history (history_with g history (Do.Poke d line) Say.Already) clear refl refl
+clear-poke g history d line Say.Range none clear = clear-from history (history_with g history (Do.Poke d line) Say.Range) clear refl refl
+clear-poke g history d line Say.NoSnap none clear = clear-from history (history_with g history (Do.Poke d line) Say.NoSnap) clear refl refl
+clear-poke g history d line (Say.Written s) none clear = clear-from history (history_with g history (Do.Poke d line) (Say.Written s)) clear refl refl
+clear-poke g history d line (Say.Got got s) none clear = clear-from history (history_with g history (Do.Poke d line) (Say.Got got s)) clear refl refl
+clear-poke g history d line (Say.Recovered digests s) none clear = clear-from history (history_with g history (Do.Poke d line) (Say.Recovered digests s)) clear refl refl
+clear-poke g history d line (Say.RefusedNode x s) none clear = clear-from history (history_with g history (Do.Poke d line) (Say.RefusedNode x s)) clear refl refl
+clear-poke g history d line (Say.RefusedData b s) none clear = clear-from history (history_with g history (Do.Poke d line) (Say.RefusedData b s)) clear refl refl
+clear-poke g history d line (Say.RefusedShadow kept found s) none clear = clear-from history (history_with g history (Do.Poke d line) (Say.RefusedShadow kept found s)) clear refl refl
+clear-poke g history d line (Say.Spent s) none clear = clear-from history (history_with g history (Do.Poke d line) (Say.Spent s)) clear refl refl
+clear-poke g history d line (Say.CutKept s) none clear = clear-from history (history_with g history (Do.Poke d line) (Say.CutKept s)) clear refl refl
+clear-poke g history d line (Say.CutLost s) none clear = clear-from history (history_with g history (Do.Poke d line) (Say.CutLost s)) clear refl refl
+clear-poke g history d line (Say.Cut s) none clear = clear-from history (history_with g history (Do.Poke d line) (Say.Cut s)) clear refl refl
+
+clear-back : (g : Shape) (history : History) (d : ℕ) (answer : TreeAnswer) → IsNoTampering (Do.Back d) answer → IsClear history → IsClear (history_with g history (Do.Back d) answer)
+clear-back g history d Say.Ok none clear = absurd none
+clear-back g history d Say.Off none clear = clear-from history (history_with g history (Do.Back d) Say.Off) clear refl refl
+clear-back g history d Say.Already none clear = clear-from history (history_with g history (Do.Back d) Say.Already) clear refl refl
+clear-back g history d Say.Range none clear = clear-from history (history_with g history (Do.Back d) Say.Range) clear refl refl
+clear-back g history d Say.NoSnap none clear = clear-from history (history_with g history (Do.Back d) Say.NoSnap) clear refl refl
+clear-back g history d (Say.Written s) none clear = clear-from history (history_with g history (Do.Back d) (Say.Written s)) clear refl refl
+clear-back g history d (Say.Got got s) none clear = clear-from history (history_with g history (Do.Back d) (Say.Got got s)) clear refl refl
+clear-back g history d (Say.Recovered digests s) none clear = clear-from history (history_with g history (Do.Back d) (Say.Recovered digests s)) clear refl refl
+clear-back g history d (Say.RefusedNode x s) none clear = clear-from history (history_with g history (Do.Back d) (Say.RefusedNode x s)) clear refl refl
+clear-back g history d (Say.RefusedData b s) none clear = clear-from history (history_with g history (Do.Back d) (Say.RefusedData b s)) clear refl refl
+clear-back g history d (Say.RefusedShadow kept found s) none clear = clear-from history (history_with g history (Do.Back d) (Say.RefusedShadow kept found s)) clear refl refl
+clear-back g history d (Say.Spent s) none clear = clear-from history (history_with g history (Do.Back d) (Say.Spent s)) clear refl refl
+clear-back g history d (Say.CutKept s) none clear = clear-from history (history_with g history (Do.Back d) (Say.CutKept s)) clear refl refl
+clear-back g history d (Say.CutLost s) none clear = clear-from history (history_with g history (Do.Back d) (Say.CutLost s)) clear refl refl
+clear-back g history d (Say.Cut s) none clear = clear-from history (history_with g history (Do.Back d) (Say.Cut s)) clear refl refl
+
+clear-next : (g : Shape) (history : History) (command : TreeCommand) (answer : TreeAnswer) → IsNoTampering command answer → IsClear history → IsClear (history_with g history command answer)
 clear-next g history (Do.Write a line) answer none clear = clear-write g history a line answer clear
 clear-next g history (Do.Read a) answer none clear = clear-from history (history_with g history (Do.Read a) answer) clear refl refl
 clear-next g history Do.On answer none clear = clear-from history (history_with g history Do.On answer) clear refl refl
 clear-next g history Do.Off answer none clear = clear-from history (history_with g history Do.Off answer) clear refl refl
 clear-next g history (Do.Cut n) answer none clear = clear-from history (history_with g history (Do.Cut n) answer) clear refl refl
-clear-next g history (Do.Poke d line) answer none clear = absurd none
+clear-next g history (Do.Poke d line) answer none clear = clear-poke g history d line answer none clear
 clear-next g history Do.Snap answer none clear = clear-from history (history_with g history Do.Snap answer) clear refl refl
-clear-next g history (Do.Back d) answer none clear = absurd none
+clear-next g history (Do.Back d) answer none clear = clear-back g history d answer none clear
 
-unchanged : (g : Shape) (history : History) (a x : ℕ) → IsClear history → IsNodeChanged g history a x → ⊥
-unchanged g history a x clear it = false≢true (sym (clear.changed (line_of_node g x)) ∙ it.changed)
+untampered : (g : Shape) (history : History) (a x : ℕ) → IsClear history → IsPathTampered g history.tampered a x → ⊥
+untampered g history a x clear it = false≢true (sym (clear.tampered (line_of_node g x)) ∙ it.its_line)
 
-unchanged-slot : (g : Shape) (history : History) → IsClear history → IsSlotChanged g history → ⊥
-unchanged-slot g history clear it = false≢true (sym (clear.changed (line_of_slot g it.slot)) ∙ it.changed)
+untampered-slot : (g : Shape) (history : History) → IsClear history → IsSlotTampered g history.tampered → ⊥
+untampered-slot g history clear it = false≢true (sym (clear.tampered (line_of_slot g it.slot)) ∙ it.its_line)
 
 no_node : (g : Shape) (history : History) (command : TreeCommand) (x s : ℕ) → IsClear history → IsAllowed g history command (Say.RefusedNode x s) → ⊥
-no_node g history (Do.Write a line) x s clear it = unchanged g history a x clear it.2
-no_node g history (Do.Read a) x s clear it = unchanged g history a x clear it.1
+no_node g history (Do.Write a line) x s clear it = untampered g history a x clear it.2
+no_node g history (Do.Read a) x s clear it = untampered g history a x clear it.1
 no_node g history Do.On x s clear it = it
 no_node g history Do.Off x s clear it = it
 no_node g history (Do.Cut n) x s clear it = cc
@@ -210,7 +267,7 @@ no_data g history (Do.Back d) b s clear it = it
 no_shadow : (g : Shape) (history : History) (command : TreeCommand) (first found : List ℕ) (s : ℕ) → IsClear history → IsAllowed g history command (Say.RefusedShadow first found s) → ⊥
 no_shadow g history (Do.Write a line) first found s clear it = it
 no_shadow g history (Do.Read a) first found s clear it = it
-no_shadow g history Do.On first found s clear it = unchanged-slot g history clear it.1
+no_shadow g history Do.On first found s clear it = untampered-slot g history clear it.1
 no_shadow g history Do.Off first found s clear it = it
 no_shadow g history (Do.Cut n) first found s clear it = cc
 no_shadow g history (Do.Poke d line) first found s clear it = it
@@ -234,26 +291,26 @@ unrefused g history command (Say.CutKept s) clear it = tt
 unrefused g history command (Say.CutLost s) clear it = tt
 unrefused g history command (Say.Cut s) clear it = tt
 
-unrefused-chain : (g : Shape) (history : History) (replies : List TreeReply) → IsClear history → All (λ (reply : TreeReply). IsNoTampering reply.command) replies → AreAllowed g history replies
+unrefused-chain : (g : Shape) (history : History) (replies : List TreeReply) → IsClear history → All (λ (reply : TreeReply). IsNoTampering reply.command reply.answer) replies → AreAllowed g history replies
     → All (λ (reply : TreeReply). IsUnrefused reply.answer) replies
 unrefused-chain g history [] clear none it = All-nil (λ (reply : TreeReply). IsUnrefused reply.answer)
 unrefused-chain g history (reply ∷ replies) clear none it =
     All-cons (λ (reply : TreeReply). IsUnrefused reply.answer) reply replies (unrefused g history reply.command reply.answer clear it.0)
-    (unrefused-chain g (history_with g history reply.command reply.answer) replies (clear-next g history reply.command reply.answer (All-head (λ (reply : TreeReply). IsNoTampering reply.command) reply replies none) clear) (All-tail (λ (reply : TreeReply). IsNoTampering reply.command) reply replies none) it.1)
+    (unrefused-chain g (history_with g history reply.command reply.answer) replies (clear-next g history reply.command reply.answer (All-head (λ (reply : TreeReply). IsNoTampering reply.command reply.answer) reply replies none) clear) (All-tail (λ (reply : TreeReply). IsNoTampering reply.command reply.answer) reply replies none) it.1)
 
-clear-chain : (g : Shape) (history : History) (replies : List TreeReply) → IsClear history → All (λ (reply : TreeReply). IsNoTampering reply.command) replies → IsClear (history_after g history replies)
+clear-chain : (g : Shape) (history : History) (replies : List TreeReply) → IsClear history → All (λ (reply : TreeReply). IsNoTampering reply.command reply.answer) replies → IsClear (history_after g history replies)
 clear-chain g history [] clear none = clear
 clear-chain g history (reply ∷ replies) clear none =
-    clear-chain g (history_with g history reply.command reply.answer) replies (clear-next g history reply.command reply.answer (All-head (λ (reply : TreeReply). IsNoTampering reply.command) reply replies none) clear) (All-tail (λ (reply : TreeReply). IsNoTampering reply.command) reply replies none)
+    clear-chain g (history_with g history reply.command reply.answer) replies (clear-next g history reply.command reply.answer (All-head (λ (reply : TreeReply). IsNoTampering reply.command reply.answer) reply replies none) clear) (All-tail (λ (reply : TreeReply). IsNoTampering reply.command reply.answer) reply replies none)
 
 unshown : (g : Shape) (history : History) (command : TreeCommand) (exhibit : Exhibit) → IsClear history → MayShow g history command exhibit → ⊥
-unshown g history (Do.Write a line) exhibit clear it = unchanged g history a it.2.x clear it.2.changed
+unshown g history (Do.Write a line) exhibit clear it = untampered g history a it.2.x clear it.2.place
 unshown g history (Do.Read a) exhibit clear it =
     elim it.1 [
-      | inl node ↦ unchanged g history a node.x clear node.changed
+      | inl node ↦ untampered g history a node.x clear node.place
       | inr line ↦ false≢true (sym (clear.hurt a) ∙ line.hurt)
     ]
-unshown g history Do.On exhibit clear it = unchanged-slot g history clear it.1.changed
+unshown g history Do.On exhibit clear it = untampered-slot g history clear it.1.place
 unshown g history Do.Off exhibit clear it = it
 unshown g history (Do.Cut n) exhibit clear it = it
 unshown g history (Do.Poke d line) exhibit clear it = it

@@ -1,6 +1,6 @@
 -- Answers that the state decides.
 use Rattle.std.proofs.Common.{ℕ, ◌≡◌, ◌<◌, ◌≤◌, true, false, Bool, List, Option, Some, None, Ok, Err, refl, sym, ap, subst, ◌∙◌}
-use Rattle.std.specs.Prelude.{Result, IsErr, OnOk, nat_lt, not, is_none, is_some, if◌then◌else◌, slice_set, All}
+use Rattle.std.specs.Prelude.{Result, IsErr, OnOk, OnErr, nat_lt, not, is_none, is_some, if◌then◌else◌, slice_set, All}
 use Rattle.std.proofs.lemmas.Bool.{lt-ltb, le-ltb, true≢false, false≢true}
 use Rattle.pmem_base.specs.declared.lines.Line.{Line}
 use Rattle.pmem_base.specs.Lines.{IsLine, line_at}
@@ -17,7 +17,7 @@ use Rattle.tree_session.specs.declared.answers.TreeAnswer.{TreeAnswer}
 use Rattle.tree_session.specs.declared.answers.TreeAnswer.TheVariants as Say
 use Rattle.tree_session.specs.State.{SessionState, setup_in}
 use Rattle.tree_session.specs.World.{TreeParts, plain_of_parts, state_of, IsTreeWorld}
-use Rattle.tree_session.specs.Answered.{IsAnswered, AnswersWith, decided, after_decided}
+use Rattle.tree_session.specs.Answered.{IsAnswered, CanWantMemory, AnswersWith, decided, after_decided}
 use Rattle.tree_session.proofs.Held.{rooted_open, powered_by, unpowered_by}
 use Rattle.tree_session.proofs.Powers.{other_held, dark_held}
 use Rattle.tree_session.proofs.Tampered.{changed_held}
@@ -45,6 +45,11 @@ found_some (Some x) some its is = (x, refl)
 pub from_no_error : {T E P : Type 0} (answer : Result T E) → (IsErr answer → ⊥) → OnOk answer P → P
 from_no_error (Ok value) fine holds = holds
 from_no_error (Err error) fine holds = absurd (fine refl)
+
+-- and what holds of one
+from_error : {T E P : Type 0} (answer : Result T E) → IsErr answer → OnErr answer P → P
+from_error (Ok value) is holds = absurd (false≢true is)
+from_error (Err error) is holds = holds
 
 pub a_snapshot : (found : Option (List Line)) → (found ≡ None → ⊥) → (kept : List Line) × (found ≡ Some kept)
 a_snapshot None missing = absurd (missing refl)
@@ -162,6 +167,15 @@ module _ (c : QuietCall) where
   back_none_held board d missing is =
       let same : board ≡ c.parts.board = is ∙ ap (λ (s : Option (List Line)). with_lines c.parts.board (restored_lines c.parts.board.lines s d)) missing in
       subst (λ (b : BoardMemory). IsTreeWorld setup (record c.parts { board = b })) (sym same) c.world
+
+  -- memory is wanted for a first snapshot
+  pub snap_wanted : {T E : Type 0} (answer : Result T E) → IsErr answer → OnErr answer (c.parts.board.snapshot ≡ None) → CanWantMemory c.now Do.Snap
+  snap_wanted answer error first =
+      record {
+        takes = refl;
+        not_shown = c.unshown;
+        needs = ap (λ (s : SessionState). s.plain.board.snapshot) (sym c.is) ∙ from_error answer error first;
+      }
 
   -- ---- the fuse, a snapshot, and power
 

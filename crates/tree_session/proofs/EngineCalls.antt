@@ -22,11 +22,11 @@ use Rattle.asit_shadow.specs.Calls.{KeepsWatch, TakesWriteBacks}
 use Rattle.asit_shadow.specs.Plain.{with_board}
 use Rattle.asit_shadow.proofs.SlotPlaces.{on_path-inside}
 use Rattle.tree_session.specs.World.{TreeParts, plain_of_parts}
-use Rattle.tree_session.specs.Answered.{IsNodeRefused, IsNodeShown, IsPlainKept}
+use Rattle.tree_session.specs.Answered.{IsRooted, IsNodeRefusal, IsNodeExhibit, IsPlainKept}
 use Rattle.tree_session.proofs.BoardSteps.{taken-exact}
 use Rattle.tree_session.proofs.PlainStates.{plain-kept}
-use Rattle.tree_session.proofs.Held.{EngineCall, on, from, to, trusted_from}
-use Rattle.tree_session.proofs.Refusals.{node-refused, node-shown}
+use Rattle.tree_session.proofs.Held.{EngineCall, on, from, to, trusted_from, rooted_open}
+use Rattle.tree_session.proofs.Refusals.{rooted_with, node-refused, node-shown}
 
 -- so many write-backs are all of its steps
 pub backs : (taken : Taken) (n : ℕ) (outcome : Outcome) (old new : BoardMemory) → IsWatched old new taken
@@ -59,13 +59,20 @@ kept_plain c outcome q keeps its tampered hurt =
     (ap (λ (w : Rattle.counter_tree.specs.Watch.WatchState). w.nodes) its ∙ keeps.nodes) (ap (λ (w : Rattle.counter_tree.specs.Watch.WatchState). w.slots) its ∙ keeps.slots)
     tampered hurt
 
+-- after an exhibit the root is the one before
+pub rooted_shown : (c : EngineCall) (q : TreeParts) → IsPlainKept (plain_of_parts c.setup c.parts) (plain_of_parts c.setup q) → q.board.regs.root ≡ c.parts.board.regs.root
+    → q.board.powered ≡ false → IsRooted c.setup (plain_of_parts c.setup q)
+rooted_shown c q kept root off =
+    subst (IsRooted c.setup) (sym kept)
+    (rooted_with c.setup (plain_of_parts c.setup c.parts) q.board (rooted_open c.setup c.parts c.world c.none) root off)
+
 module _ (c : EngineCall) (a : ℕ) (within : a < tree_lines c.setup.shape) (b : BoardMemory) (lines : b.lines ≡ c.board.lines) where
   -- an unchanged node is held
   held : (x : ℕ) → x < meta_lines c.setup.shape → slice_index_or c.parts.tampered (line_of_node c.setup.shape x) false ≡ false
       → HoldsNode c.setup (from c) x
   held x inside unchanged = (on c).nodes x (inside, unchanged)
 
-  pub refused_node : (x : ℕ) → told.IsNodeRefused c.setup a x (from c) (to c) → IsNodeRefused c.setup (with_board (plain_of_parts c.setup c.parts) b) a x
+  pub refused_node : (x : ℕ) → told.IsNodeRefused c.setup a x (from c) (to c) → IsNodeRefusal c.setup (with_board (plain_of_parts c.setup c.parts) b) a x
   refused_node x it =
       let inside = on_path-inside c.setup.shape a x within it.its.on_path in
       node-refused c.setup c.parts c.parts.board.regs b c.world.whole_shape c.world.whole_formulas (trusted_from c).anchored a x it.line within it.its.on_path
@@ -73,7 +80,7 @@ module _ (c : EngineCall) (a : ℕ) (within : a < tree_lines c.setup.shape) (b :
       (λ unchanged. it.unheld (redone c.parts.board.regs.group.items c.parts.board.lines) refl (held x inside unchanged))
 
   pub shown_node : (exhibit : Exhibit) → c.watch.exhibit ≡ Some exhibit → told.IsNodeShown c.setup a (from c) (to c)
-      → IsNodeShown c.setup (with_board (plain_of_parts c.setup c.parts) b) a exhibit
+      → IsNodeExhibit c.setup (with_board (plain_of_parts c.setup c.parts) b) a exhibit
   shown_node exhibit is it =
       let inside = on_path-inside c.setup.shape a it.x within it.its.on_path in
       node-shown c.setup c.parts c.parts.board.regs b c.world.whole_shape c.world.whole_formulas (trusted_from c).anchored a it.x it.line it.node exhibit within

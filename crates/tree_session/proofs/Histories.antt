@@ -1,43 +1,42 @@
 -- What the commands and answers so far say is what the plain state has, so the next answer is one that they allow.
-use Rattle.std.proofs.Common.{ℕ, ◌≡◌, ◌<◌, ◌≤◌, ◌+◌, true, false, Bool, inl, inr, List, length, Option, Some, None, refl, sym, ap, subst, ◌∙◌, arith}
-use Rattle.std.specs.Prelude.{slice_set, slice_index_or, sum, is_some, is_none, not, nat_lt, if◌then◌else◌}
+use Rattle.std.proofs.Common.{ℕ, ◌≡◌, ◌<◌, ◌≤◌, ◌+◌, true, false, Bool, inl, inr, List, length, Option, Some, None, refl, sym, ap, subst, ◌∙◌}
+use Rattle.std.specs.Prelude.{slice_set, is_some, is_none, not, nat_lt, if◌then◌else◌}
 use Rattle.std.proofs.lemmas.Bool.{cases_Bool, cases_lt, lt-ltb, le-ltb}
 use Rattle.std.proofs.lemmas.List.{length-set}
-use Rattle.std.proofs.lemmas.List.Sums.{sum_by-set}
 use Rattle.pmem_base.specs.declared.lines.Line.{Line}
 use Rattle.pmem_base.specs.Shape.{Shape}
 use Rattle.suite.specs.Setup.{Setup}
-use Rattle.counter_tree.specs.Layout.{tree_lines, tree_slots, tree_size}
-use Rattle.asit_shadow.specs.Plain.{PlainTree, true_count, writes_made}
+use Rattle.counter_tree.specs.Layout.{tree_lines, tree_size}
+use Rattle.asit_shadow.specs.Plain.{PlainTree, true_count}
 use Rattle.tree_session.specs.declared.commands.TreeCommand.{TreeCommand}
 use Rattle.tree_session.specs.declared.commands.TreeCommand.TheVariants as Do
 use Rattle.tree_session.specs.declared.answers.TreeAnswer.{TreeAnswer}
 use Rattle.tree_session.specs.declared.answers.TreeAnswer.TheVariants as Say
-use Rattle.tree_session.specs.Answered.{decided, after_decided, fuse_less, TakesSteps, IsCutAt, IsPlainKept, IsWriteMade, AnswersWrite, AnswersRead, AnswersOn, AnswersWith, IsPathTampered, IsSlotTampered}
-use Rattle.tree_session.specs.Guarantees.{History, history_with, IsNodeChanged, IsSlotChanged, IsAllowed}
+use Rattle.tree_session.specs.Answered.{decided, after_decided, fuse_less, TakesSteps, IsCutAt, IsPlainKept, IsPlainWritten, SaysOfWrite, SaysOfRead, SaysOfOn, AnswersWith, IsPathTampered, IsSlotTampered, IsHurt}
+use Rattle.tree_session.specs.Guarantees.{History, history_with, IsAllowed}
 
 -- what a plain state has of it
 abbrev pub history_of : PlainTree → History
 history_of plain =
     record {
       memory = plain.memory;
-      written = writes_made plain;
-      changed = plain.tampered;
+      counts = plain.counts;
+      tampered = plain.tampered;
       hurt = plain.hurt;
       power = plain.board.powered;
       fuse = plain.board.fuse;
       snapped = is_some plain.board.snapshot;
     }
 
-pub history-equal : (p q : History) → p.memory ≡ q.memory → p.written ≡ q.written → p.changed ≡ q.changed → p.hurt ≡ q.hurt → p.power ≡ q.power → p.fuse ≡ q.fuse → p.snapped ≡ q.snapped → p ≡ q
-history-equal p q memory written changed hurt power fuse snapped =
-    ap (λ v. let r : History = record { memory = v; written = p.written; changed = p.changed; hurt = p.hurt; power = p.power; fuse = p.fuse; snapped = p.snapped } in r) memory
-    ∙ (ap (λ v. let r : History = record { memory = q.memory; written = v; changed = p.changed; hurt = p.hurt; power = p.power; fuse = p.fuse; snapped = p.snapped } in r) written
-    ∙ (ap (λ v. let r : History = record { memory = q.memory; written = q.written; changed = v; hurt = p.hurt; power = p.power; fuse = p.fuse; snapped = p.snapped } in r) changed
-    ∙ (ap (λ v. let r : History = record { memory = q.memory; written = q.written; changed = q.changed; hurt = v; power = p.power; fuse = p.fuse; snapped = p.snapped } in r) hurt
-    ∙ (ap (λ v. let r : History = record { memory = q.memory; written = q.written; changed = q.changed; hurt = q.hurt; power = v; fuse = p.fuse; snapped = p.snapped } in r) power
-    ∙ (ap (λ v. let r : History = record { memory = q.memory; written = q.written; changed = q.changed; hurt = q.hurt; power = q.power; fuse = v; snapped = p.snapped } in r) fuse
-    ∙ (ap (λ v. let r : History = record { memory = q.memory; written = q.written; changed = q.changed; hurt = q.hurt; power = q.power; fuse = q.fuse; snapped = v } in r) snapped))))))
+pub history-equal : (p q : History) → p.memory ≡ q.memory → p.counts ≡ q.counts → p.tampered ≡ q.tampered → p.hurt ≡ q.hurt → p.power ≡ q.power → p.fuse ≡ q.fuse → p.snapped ≡ q.snapped → p ≡ q
+history-equal p q memory counts tampered hurt power fuse snapped =
+    ap (λ v. let r : History = record { memory = v; counts = p.counts; tampered = p.tampered; hurt = p.hurt; power = p.power; fuse = p.fuse; snapped = p.snapped } in r) memory
+    ∙ (ap (λ v. let r : History = record { memory = q.memory; counts = v; tampered = p.tampered; hurt = p.hurt; power = p.power; fuse = p.fuse; snapped = p.snapped } in r) counts
+    ∙ (ap (λ v. let r : History = record { memory = q.memory; counts = q.counts; tampered = v; hurt = p.hurt; power = p.power; fuse = p.fuse; snapped = p.snapped } in r) tampered
+    ∙ (ap (λ v. let r : History = record { memory = q.memory; counts = q.counts; tampered = q.tampered; hurt = v; power = p.power; fuse = p.fuse; snapped = p.snapped } in r) hurt
+    ∙ (ap (λ v. let r : History = record { memory = q.memory; counts = q.counts; tampered = q.tampered; hurt = q.hurt; power = v; fuse = p.fuse; snapped = p.snapped } in r) power
+    ∙ (ap (λ v. let r : History = record { memory = q.memory; counts = q.counts; tampered = q.tampered; hurt = q.hurt; power = q.power; fuse = v; snapped = p.snapped } in r) fuse
+    ∙ (ap (λ v. let r : History = record { memory = q.memory; counts = q.counts; tampered = q.tampered; hurt = q.hurt; power = q.power; fuse = q.fuse; snapped = v } in r) snapped))))))
 
 -- ---- steps
 
@@ -45,45 +44,37 @@ history-equal p q memory written changed hurt power fuse snapped =
 stepped : (s : ℕ) (power now : Bool) (before after : PlainTree) → power ≡ now → TakesSteps s power before.board after.board → IsPlainKept before after
     → history_of after ≡ record (history_of before) { power = now; fuse = fuse_less s before.board.fuse }
 stepped s power now before after is steps kept =
-    history-equal (history_of after) (record (history_of before) { power = now; fuse = fuse_less s before.board.fuse }) (ap (λ (p : PlainTree). p.memory) kept) (ap writes_made kept)
+    history-equal (history_of after) (record (history_of before) { power = now; fuse = fuse_less s before.board.fuse }) (ap (λ (p : PlainTree). p.memory) kept) (ap (λ (p : PlainTree). p.counts) kept)
     (ap (λ (p : PlainTree). p.tampered) kept) (ap (λ (p : PlainTree). p.hurt) kept) (steps.power ∙ is) steps.fuse (ap is_some steps.snapshot)
 
 -- or by a cut
 darkened : (s : ℕ) (before after : PlainTree) → IsCutAt s before.board after.board → IsPlainKept before after → history_of after ≡ record (history_of before) { power = false; fuse = None }
 darkened s before after cut kept =
-    history-equal (history_of after) (record (history_of before) { power = false; fuse = None }) (ap (λ (p : PlainTree). p.memory) kept) (ap writes_made kept)
+    history-equal (history_of after) (record (history_of before) { power = false; fuse = None }) (ap (λ (p : PlainTree). p.memory) kept) (ap (λ (p : PlainTree). p.counts) kept)
     (ap (λ (p : PlainTree). p.tampered) kept) (ap (λ (p : PlainTree). p.hurt) kept) cut.power cut.burnt (ap is_some cut.snapshot)
-
--- one write more
-written-more : (g : Shape) (a : ℕ) (line : Line) (before after : PlainTree) → a < length before.counts → IsWriteMade g a line before after
-    → writes_made after ≡ writes_made before + 1
-written-more g a line before after room made =
-    let one : writes_made after ≡ sum (slice_set before.counts a (true_count before a + 1)) = ap writes_made made in
-    let more = sum_by-set (λ n. n) before.counts a (true_count before a + 1) 0 room in
-    omega (arith, one, more)
 
 -- the history with a line written, power and the fuse
 abbrev with_write : PlainTree → ℕ → Line → Bool → Option ℕ → History
 with_write before a line power fuse =
     record (history_of before) {
       memory = slice_set before.memory a line;
-      written = writes_made before + 1;
+      counts = slice_set before.counts a (true_count before a + 1);
       hurt = slice_set before.hurt a false;
       power = power;
       fuse = fuse;
     }
 
-stepped-write : (g : Shape) (s a : ℕ) (line : Line) (now : Bool) (before after : PlainTree) → true ≡ now → a < length before.counts → TakesSteps s true before.board after.board
-    → IsWriteMade g a line before after → history_of after ≡ with_write before a line now (fuse_less s before.board.fuse)
-stepped-write g s a line now before after is room steps made =
+stepped-write : (g : Shape) (s a : ℕ) (line : Line) (now : Bool) (before after : PlainTree) → true ≡ now → TakesSteps s true before.board after.board
+    → IsPlainWritten g a line before after → history_of after ≡ with_write before a line now (fuse_less s before.board.fuse)
+stepped-write g s a line now before after is steps made =
     history-equal (history_of after) (with_write before a line now (fuse_less s before.board.fuse)) (ap (λ (p : PlainTree). p.memory) made)
-    (written-more g a line before after room made) (ap (λ (p : PlainTree). p.tampered) made) (ap (λ (p : PlainTree). p.hurt) made) (steps.power ∙ is) steps.fuse (ap is_some steps.snapshot)
+    (ap (λ (p : PlainTree). p.counts) made) (ap (λ (p : PlainTree). p.tampered) made) (ap (λ (p : PlainTree). p.hurt) made) (steps.power ∙ is) steps.fuse (ap is_some steps.snapshot)
 
-darkened-write : (g : Shape) (s a : ℕ) (line : Line) (before after : PlainTree) → a < length before.counts → IsCutAt s before.board after.board → IsWriteMade g a line before after
+darkened-write : (g : Shape) (s a : ℕ) (line : Line) (before after : PlainTree) → IsCutAt s before.board after.board → IsPlainWritten g a line before after
     → history_of after ≡ with_write before a line false None
-darkened-write g s a line before after room cut made =
+darkened-write g s a line before after cut made =
     history-equal (history_of after) (with_write before a line false None) (ap (λ (p : PlainTree). p.memory) made)
-    (written-more g a line before after room made) (ap (λ (p : PlainTree). p.tampered) made) (ap (λ (p : PlainTree). p.hurt) made) cut.power cut.burnt (ap is_some cut.snapshot)
+    (ap (λ (p : PlainTree). p.counts) made) (ap (λ (p : PlainTree). p.tampered) made) (ap (λ (p : PlainTree). p.hurt) made) cut.power cut.burnt (ap is_some cut.snapshot)
 
 -- ---- one answer
 
@@ -96,7 +87,7 @@ pub record Follows (g : Shape) (before after : PlainTree) (command : TreeCommand
 counts-kept : (before after : PlainTree) → IsPlainKept before after → length after.counts ≡ length before.counts
 counts-kept before after kept = ap (λ (p : PlainTree). length p.counts) kept
 
-counts-made : (g : Shape) (a : ℕ) (line : Line) (before after : PlainTree) → IsWriteMade g a line before after → length after.counts ≡ length before.counts
+counts-made : (g : Shape) (a : ℕ) (line : Line) (before after : PlainTree) → IsPlainWritten g a line before after → length after.counts ≡ length before.counts
 counts-made g a line before after made = ap (λ (p : PlainTree). length p.counts) made ∙ length-set before.counts a (true_count before a + 1)
 
 -- the state decided it
@@ -113,57 +104,50 @@ knows setup before after command answer known it allowed history count =
       count = ap (λ (p : PlainTree). length p.counts) it.1 ∙ count;
     })
 
--- what the tampering of nodes and slots says
-pub changed-node : (g : Shape) (before after : PlainTree) (a x : ℕ) → IsPlainKept before after → IsPathTampered g after a x → IsNodeChanged g (history_of before) a x
-changed-node g before after a x kept it =
-    record {
-      on_path = it.on_path;
-      below_top = it.below_top;
-      changed = ap (λ (p : PlainTree). slice_index_or p.tampered (Rattle.counter_tree.specs.Layout.line_of_node g x) false) (sym kept) ∙ it.tampered;
-    }
+-- what was tampered with stays so
+pub tampered-kept : (before after : PlainTree) → IsPlainKept before after → after.tampered ≡ before.tampered
+tampered-kept before after kept = ap (λ (p : PlainTree). p.tampered) kept
 
-pub changed-slot : (g : Shape) (before after : PlainTree) → IsPlainKept before after → IsSlotTampered g after → IsSlotChanged g (history_of before)
-changed-slot g before after kept it =
-    record {
-      slot = it.slot;
-      inside = it.inside;
-      changed = ap (λ (p : PlainTree). slice_index_or p.tampered (Rattle.counter_tree.specs.Layout.line_of_slot g it.slot) false) (sym kept) ∙ it.tampered;
-    }
+pub path-kept : (g : Shape) (before after : PlainTree) (a x : ℕ) → IsPlainKept before after → IsPathTampered g after.tampered a x → IsPathTampered g before.tampered a x
+path-kept g before after a x kept it = subst (λ (flags : List Bool). IsPathTampered g flags a x) (tampered-kept before after kept) it
 
-pub hurt-line : (before after : PlainTree) (a : ℕ) → IsPlainKept before after → slice_index_or after.hurt a false ≡ true → slice_index_or before.hurt a false ≡ true
-hurt-line before after a kept it = ap (λ (p : PlainTree). slice_index_or p.hurt a false) (sym kept) ∙ it
+pub slot-kept : (g : Shape) (before after : PlainTree) → IsPlainKept before after → IsSlotTampered g after.tampered → IsSlotTampered g before.tampered
+slot-kept g before after kept it = subst (IsSlotTampered g) (tampered-kept before after kept) it
+
+pub hurt-kept : (before after : PlainTree) (a : ℕ) → IsPlainKept before after → IsHurt after.hurt a → IsHurt before.hurt a
+hurt-kept before after a kept it = subst (λ (flags : List Bool). IsHurt flags a) (ap (λ (p : PlainTree). p.hurt) kept) it
 
 -- ---- writes
 
 by_write : (setup : Setup) (before after : PlainTree) (a : ℕ) (line : Line) (answer : TreeAnswer) → before.board.powered ≡ true → a < tree_lines setup.shape → length before.counts ≡ tree_lines setup.shape
-    → AnswersWrite setup before a line after answer → Follows setup.shape before after (Do.Write a line) answer
+    → SaysOfWrite setup before a line after answer → Follows setup.shape before after (Do.Write a line) answer
 by_write setup before after a line (Say.Written s) on low count it =
     record {
-      allowed = (record { power = on; inside = low }, it.0, (it.1.fits, it.3));
-      history = stepped-write setup.shape s a line before.board.powered before after (sym on) (omega (arith, low, count)) it.1 it.4;
-      count = counts-made setup.shape a line before after it.4;
+      allowed = (record { power = on; inside = low }, it.0, it.3, (it.1.fits, it.4));
+      history = stepped-write setup.shape s a line before.board.powered before after (sym on) it.1 it.5;
+      count = counts-made setup.shape a line before after it.5;
     }
 by_write setup before after a line (Say.CutKept s) on low count it =
     record {
-      allowed = (record { power = on; inside = low }, it.0, (it.1.fuse, it.3));
-      history = darkened-write setup.shape s a line before after (omega (arith, low, count)) it.1 it.4;
-      count = counts-made setup.shape a line before after it.4;
+      allowed = (record { power = on; inside = low }, it.0, it.3, (it.1.fuse, it.4));
+      history = darkened-write setup.shape s a line before after it.1 it.5;
+      count = counts-made setup.shape a line before after it.5;
     }
 by_write setup before after a line (Say.CutLost s) on low count it =
     record {
-      allowed = (record { power = on; inside = low }, it.0, (it.1.fuse, it.3));
+      allowed = (record { power = on; inside = low }, it.0, it.1.fuse, it.3);
       history = darkened s before after it.1 it.4;
       count = counts-kept before after it.4;
     }
 by_write setup before after a line (Say.Spent s) on low count it =
     record {
       allowed = (record { power = on; inside = low }, it.0, it.1);
-      history = stepped s true before.board.powered before after (sym on) it.2 it.3;
-      count = counts-kept before after it.3;
+      history = ap history_of it.2;
+      count = ap (λ (p : PlainTree). length p.counts) it.2;
     }
 by_write setup before after a line (Say.RefusedNode x s) on low count it =
     record {
-      allowed = (record { power = on; inside = low }, it.0, changed-node setup.shape before after a x it.4 it.1.place, (it.2.fits, it.3));
+      allowed = (record { power = on; inside = low }, it.0, path-kept setup.shape before after a x it.4 it.1.place, (it.2.fits, it.3));
       history = stepped s true before.board.powered before after (sym on) it.2 it.4;
       count = counts-kept before after it.4;
     }
@@ -181,7 +165,7 @@ by_write setup before after a line (Say.Cut s) on low count it = absurd it
 -- ---- reads
 
 by_read : (setup : Setup) (before after : PlainTree) (a : ℕ) (answer : TreeAnswer) → before.board.powered ≡ true → a < tree_lines setup.shape
-    → AnswersRead setup before a after answer → Follows setup.shape before after (Do.Read a) answer
+    → SaysOfRead setup before a after answer → Follows setup.shape before after (Do.Read a) answer
 by_read setup before after a (Say.Got got s) on low it =
     record {
       allowed = (record { power = on; inside = low }, it.0, (it.1.fits, it.2));
@@ -196,13 +180,13 @@ by_read setup before after a (Say.Cut s) on low it =
     }
 by_read setup before after a (Say.RefusedData b s) on low it =
     record {
-      allowed = (record { power = on; inside = low }, it.0, hurt-line before after a it.4 it.1.hurt, (it.2.fits, it.3));
+      allowed = (record { power = on; inside = low }, it.0, hurt-kept before after a it.4 it.1.hurt, (it.2.fits, it.3));
       history = stepped s true before.board.powered before after (sym on) it.2 it.4;
       count = counts-kept before after it.4;
     }
 by_read setup before after a (Say.RefusedNode x s) on low it =
     record {
-      allowed = (record { power = on; inside = low }, changed-node setup.shape before after a x it.3 it.0.place, (it.1.fits, it.2));
+      allowed = (record { power = on; inside = low }, path-kept setup.shape before after a x it.3 it.0.place, (it.1.fits, it.2));
       history = stepped s true before.board.powered before after (sym on) it.1 it.3;
       count = counts-kept before after it.3;
     }
@@ -220,24 +204,24 @@ by_read setup before after a (Say.CutLost s) on low it = absurd it
 
 -- ---- recoveries
 
-by_on : (setup : Setup) (before after : PlainTree) (answer : TreeAnswer) → before.board.powered ≡ false → AnswersOn setup before after answer → Follows setup.shape before after Do.On answer
+by_on : (setup : Setup) (before after : PlainTree) (answer : TreeAnswer) → before.board.powered ≡ false → SaysOfOn setup before after answer → Follows setup.shape before after Do.On answer
 by_on setup before after (Say.Recovered digests s) off it =
     record {
-      allowed = (off, it.0, (it.1.fits, it.3));
-      history = stepped s true true before after refl it.1 it.4;
-      count = counts-kept before after it.4;
+      allowed = (off, it.0, (it.1.fits, it.4));
+      history = stepped s true true before after refl it.1 it.5;
+      count = counts-kept before after it.5;
     }
 by_on setup before after (Say.Cut s) off it =
     record {
-      allowed = (off, (it.0.fuse, it.2));
-      history = darkened s before after it.0 it.3;
-      count = counts-kept before after it.3;
+      allowed = (off, (it.0.fuse, it.4));
+      history = darkened s before after it.0 it.5;
+      count = counts-kept before after it.5;
     }
 by_on setup before after (Say.RefusedShadow kept found s) off it =
     record {
-      allowed = (off, changed-slot setup.shape before after it.4 it.0.place, it.0.differ, (it.1.fits, it.3));
-      history = stepped s false before.board.powered before after (sym off) it.1 it.4;
-      count = counts-kept before after it.4;
+      allowed = (off, slot-kept setup.shape before after it.5 it.0.place, it.0.differ, (it.1.fits, it.4));
+      history = stepped s false before.board.powered before after (sym off) it.1 it.5;
+      count = counts-kept before after it.5;
     }
 by_on setup before after Say.Ok off it = absurd it
 by_on setup before after Say.Off off it = absurd it

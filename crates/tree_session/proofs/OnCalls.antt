@@ -21,8 +21,8 @@ use Rattle.tree_session.specs.declared.answers.TreeAnswer.{TreeAnswer}
 use Rattle.tree_session.specs.declared.answers.TreeAnswer.TheVariants as Say
 use Rattle.tree_session.specs.State.{SessionState, setup_in}
 use Rattle.tree_session.specs.World.{TreeParts, state_of, IsTreeWorld}
-use Rattle.tree_session.specs.Answered.{IsAnswered, IsHalt}
-use Rattle.tree_session.proofs.Recoveries.{RecoveryCall, rest_from, rest_to, left_with, resting, recovered_held, recovered_done, cut_held, cut_done, refused_held, refused_done, memory_held, as_it_was, clash_held, clash_done, clash_minors}
+use Rattle.tree_session.specs.Answered.{IsAnswered, CanWantMemory, IsHalt}
+use Rattle.tree_session.proofs.Recoveries.{RecoveryCall, rest_from, rest_to, left_with, resting, recovered_held, recovered_done, cut_held, cut_done, refused_held, refused_done, memory_held, memory_wanted, clash_held, clash_done, clash_minors}
 use Rattle.tree_session.proofs.Seen.{setup_under, seen_from, held_under, halts}
 
 pub record OnCall : Type 0 where
@@ -143,9 +143,9 @@ module _ (o : OnCall) where
 
     pub memory_seen : o.answer ≡ Err Fail.Memory → IsHalt (setup_in o.formulas_of o.now) o.now Do.On Stop.Memory (state_of setup_then rests_as)
     memory_seen is =
-        rests_so (λ q. state_of setup_then q ≡ o.now)
-        (subst (λ (k : List ℕ). state_of (setup_under o.formulas_of o.geometry k) (record (left_with call (resting call) None) { keys = k }) ≡ o.now) (sym o.same_keys)
-        (ap (state_of (setup_under o.formulas_of o.geometry o.parts.keys)) (as_it_was call (was (Err Fail.Memory) is)) ∙ o.is))
+        rests_so (λ q. CanWantMemory o.now Do.On × (state_of setup_then q ≡ o.now))
+        (seen_from o.formulas_of o.geometry o.parts (left_with call (resting call) None) o.now o.keys (λ setup old new. CanWantMemory old Do.On × (new ≡ old)) o.is o.same_keys refl
+        (memory_wanted call (was (Err Fail.Memory) is)))
 
     pub shown_kept : o.answer ≡ Err Fail.Shown → IsTreeWorld setup_then rests_as
     shown_kept is =

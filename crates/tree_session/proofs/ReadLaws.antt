@@ -26,24 +26,24 @@ use Rattle.tree_session.specs.declared.commands.TreeCommand.TheVariants as Do
 use Rattle.tree_session.specs.declared.answers.TreeAnswer.{TreeAnswer}
 use Rattle.tree_session.specs.declared.answers.TreeAnswer.TheVariants as Say
 use Rattle.tree_session.specs.World.{TreeParts, plain_of_parts, state_of, IsTreeWorld}
-use Rattle.tree_session.specs.Answered.{IsAnswered, IsRooted, IsEngineShown, AnswersRead, AnswersWith, decided, IsDataRefused, IsDataShown, IsNodeShown, IsNodeRefused}
-use Rattle.tree_session.proofs.BoardSteps.{goes_on, cut_off}
+use Rattle.tree_session.specs.Answered.{IsAnswered, IsRooted, IsEngineShown, IsBoardSpilled, SaysOfRead, AnswersWith, decided, IsDataRefusal, IsDataExhibit, IsNodeExhibit, IsNodeRefusal}
+use Rattle.tree_session.proofs.BoardSteps.{goes_on, cut_off, then_rests}
 use Rattle.tree_session.proofs.PlainStates.{plain_is}
 use Rattle.tree_session.proofs.Held.{EngineCall, from, to, left, left_resting, trusted_from, powered_from, seals_kept, on_after, rooted_after, off_after, rooted_cut, ended_after}
-use Rattle.tree_session.proofs.EngineCalls.{backs, backs-cut, undecided_line, kept_plain, refused_node, shown_node, forged-minors}
+use Rattle.tree_session.proofs.EngineCalls.{backs, backs-cut, undecided_line, kept_plain, rooted_shown, refused_node, shown_node, forged-minors}
 use Rattle.tree_session.proofs.Spills.{board_spilled}
 use Rattle.tree_session.proofs.Refusals.{data-refused, data-shown}
 
 module _ (c : EngineCall) (a : ℕ) (within : a < tree_lines c.setup.shape) where
   -- the answer of the engine, where the state doesn't decide
-  by_engine : (answer : TreeAnswer) (q : TreeParts) → AnswersRead c.setup (plain_of_parts c.setup c.parts) a (plain_of_parts c.setup q) answer
+  by_engine : (answer : TreeAnswer) (q : TreeParts) → SaysOfRead c.setup (plain_of_parts c.setup c.parts) a (plain_of_parts c.setup q) answer
       → AnswersWith c.setup (plain_of_parts c.setup c.parts) (Do.Read a) (plain_of_parts c.setup q) answer (decided c.setup.shape (plain_of_parts c.setup c.parts) (Do.Read a))
   by_engine answer q it =
       subst (λ d. AnswersWith c.setup (plain_of_parts c.setup c.parts) (Do.Read a) (plain_of_parts c.setup q) answer d)
       (sym (undecided_line c.parts.board.powered a (tree_lines c.setup.shape) Say.Off Say.Range (powered_from c) within)) it
 
   answered : (answer : TreeAnswer) (q : TreeParts) → q.keys ≡ c.parts.keys → q.watch.exhibit ≡ None → IsRooted c.setup (plain_of_parts c.setup q)
-      → AnswersRead c.setup (plain_of_parts c.setup c.parts) a (plain_of_parts c.setup q) answer
+      → SaysOfRead c.setup (plain_of_parts c.setup c.parts) a (plain_of_parts c.setup q) answer
       → IsAnswered c.setup (state_of c.setup c.parts) (Do.Read a) answer (state_of c.setup q)
   answered answer q keys none rooted it =
       record {
@@ -70,7 +70,7 @@ module _ (c : EngineCall) (a : ℕ) (within : a < tree_lines c.setup.shape) wher
           goes_on c.parts.board c.board c.taken c.watched (done.effect.power.1 (powered_from c)),
           backs c.taken c.setup.shape.levels going c.parts.board c.board c.watched done.steps,
           kept_plain c going (left c (Some c.after) c.parts.hurt) done.watch refl refl refl,
-          board_spilled c a c.setup.shape.levels (left c (Some c.after) c.parts.hurt) refl done.work.fetched,
+          board_spilled c a c.setup.shape.levels (left c (Some c.after) c.parts.hurt) refl refl done.work.fetched,
         )
 
   -- ---- power is cut
@@ -94,7 +94,7 @@ module _ (c : EngineCall) (a : ℕ) (within : a < tree_lines c.setup.shape) wher
           cut_off c.parts.board c.board c.taken c.watched cut.effect.power.1 (omega (arith, below, levels)),
           below,
           kept_plain c cut_short (left c None c.parts.hurt) cut.watch refl refl refl,
-          board_spilled c a cut.work.levels (left c None c.parts.hurt) refl cut.work.fetched,
+          board_spilled c a cut.work.levels (left c None c.parts.hurt) refl refl cut.work.fetched,
         )
 
   -- ---- a node is refused
@@ -111,11 +111,11 @@ module _ (c : EngineCall) (a : ℕ) (within : a < tree_lines c.setup.shape) wher
         let plain = kept_plain c going (left c (Some c.after) c.parts.hurt) node.watch refl refl refl in
         answered (Say.RefusedNode x (steps_in c.taken)) (left c (Some c.after) c.parts.hurt) refl (node.watch.exhibit going-unshown ∙ c.none)
         (rooted_after c node.effect c.parts.hurt c.world.hurt_count (seals_kept c going node.effect)) (
-          subst (λ s. IsNodeRefused c.setup s a x) (sym plain) (refused_node c a within c.board refl x (node.answered (trusted_from c))),
+          subst (λ s. IsNodeRefusal c.setup s a x) (sym plain) (refused_node c a within c.board refl x (node.answered (trusted_from c))),
           goes_on c.parts.board c.board c.taken c.watched (node.effect.power.1 (powered_from c)),
           backs c.taken c.setup.shape.levels going c.parts.board c.board c.watched node.steps,
           plain,
-          board_spilled c a node.work.levels (left c (Some c.after) c.parts.hurt) refl node.work.fetched,
+          board_spilled c a node.work.levels (left c (Some c.after) c.parts.hurt) refl refl node.work.fetched,
         )
 
   -- ---- the line's tag is refused
@@ -160,13 +160,13 @@ module _ (c : EngineCall) (a : ℕ) (within : a < tree_lines c.setup.shape) wher
         answered (Say.RefusedData t (steps_in c.taken)) (left c (Some c.after) c.parts.hurt) refl (tag.watch.exhibit going-unshown ∙ c.none)
         (rooted_after c tag.effect c.parts.hurt c.world.hurt_count (seals_kept c going tag.effect)) (
           ((it.done (trusted_from c).not_down).answered (trusted_from c)).0,
-          subst (λ s. IsDataRefused c.setup s a) (sym plain)
+          subst (λ s. IsDataRefusal c.setup s a) (sym plain)
               (data-refused c.setup c.parts c.parts.board.regs c.board c.world.whole_shape c.world.whole_formulas (trusted_from c).anchored a why.cipher why.tags within
               why.its.cipher_read why.its.tags_read why.fails hurt),
           goes_on c.parts.board c.board c.taken c.watched (tag.effect.power.1 (powered_from c)),
           backs c.taken c.setup.shape.levels going c.parts.board c.board c.watched tag.steps,
           plain,
-          board_spilled c a c.setup.shape.levels (left c (Some c.after) c.parts.hurt) refl tag.work.fetched,
+          board_spilled c a c.setup.shape.levels (left c (Some c.after) c.parts.hurt) refl refl tag.work.fetched,
         )
 
   -- ---- an exhibit
@@ -196,6 +196,13 @@ module _ (c : EngineCall) (a : ℕ) (within : a < tree_lines c.setup.shape) wher
         let equal : line_at c.board.lines a ≡ sealed.seal.cipher = subst (λ s. IfSome s (λ (seal : LineSeal). line_at c.board.lines a ≡ seal.cipher)) sealed.last same in
         differs (line.its.cipher_read ∙ equal)
 
+    spilled_before : IsBoardSpilled c.setup (plain_of_parts c.setup c.parts) (plain_of_parts c.setup (left_resting c))
+    spilled_before =
+        elim show.work [
+          | inl node ↦ board_spilled c a node.stopped.levels (left_resting c) refl refl node.stopped.fetched
+          | inr line ↦ board_spilled c a c.setup.shape.levels (left_resting c) refl refl line.path.fetched
+        ]
+
     pub shown_done : IsEngineShown c.setup (state_of c.setup c.parts) (Do.Read a) exhibit (state_of c.setup (left_resting c))
     shown_done =
         let plain = kept_plain c shown (left_resting c) show.watch refl refl refl in
@@ -206,15 +213,18 @@ module _ (c : EngineCall) (a : ℕ) (within : a < tree_lines c.setup.shape) wher
           shows =
               elim which [
                 | inl node ↦
-                    inl (subst (λ s. IsNodeShown c.setup s a exhibit) (sym plain) (shown_node c a within (record c.board { powered = false }) refl exhibit is node))
+                    inl (subst (λ s. IsNodeExhibit c.setup s a exhibit) (sym plain) (shown_node c a within (record c.board { powered = false }) refl exhibit is node))
                 | inr line ↦
-                    inr (subst (λ s. IsDataShown c.setup s a exhibit) (sym plain)
+                    inr (subst (λ s. IsDataExhibit c.setup s a exhibit) (sym plain)
                     (data-shown c.setup c.parts c.parts.board.regs (record c.board { powered = false }) c.world.whole_shape c.world.whole_formulas (trusted_from c).anchored a
                     line.1.cipher line.1.tags exhibit within line.1.its.cipher_read line.1.its.tags_read line.1.fits line.1.other
                     (same_Some exhibit _ (sym is ∙ line.1.exhibit)) (unstored line.1)))
               ];
           plain = plain;
-          unpowered = refl;
+          steps = steps_in c.taken;
+          taken = then_rests (steps_in c.taken) c.parts.board c.board (goes_on c.parts.board c.board c.taken c.watched (show.effect.power.1 (powered_from c)));
+          board = (spilled_before, backs c.taken c.setup.shape.levels shown c.parts.board c.board c.watched show.steps);
+          rooted = rooted_shown c (left_resting c) plain (ap (λ (r : Regs). r.root) show.regs) refl;
           shape = refl;
           keys = refl;
           shown = is;

@@ -1,5 +1,5 @@
 -- A recovery: what is left of the session, and what is answered.
-use Rattle.std.proofs.Common.{ℕ, zero, suc, ◌≡◌, ◌<◌, ◌≤◌, ◌+◌, ◌-◌, true, false, Bool, inl, inr, ◌⊎◌, List, [], ◌∷◌, length, Option, Some, None, Ok, Err, refl, sym, ap, subst, ◌∙◌, arith}
+use Rattle.std.proofs.Common.{ℕ, zero, suc, ◌≡◌, ◌≢◌, ◌<◌, ◌≤◌, ◌+◌, true, false, Bool, inl, inr, ◌⊎◌, List, [], ◌∷◌, length, Option, Some, None, Ok, Err, refl, sym, ap, subst, ◌∙◌, arith}
 use Rattle.std.specs.Prelude.{Result, IfSome, All, slice_index_or, map}
 use Rattle.std.proofs.lemmas.Bool.{cases_Bool, cases_eq}
 use Rattle.std.proofs.lemmas.Option.{same_Some}
@@ -9,7 +9,7 @@ use Rattle.pmem_base.specs.declared.answers.Exhibit.{Exhibit}
 use Rattle.pmem_base.specs.declared.answers.Exhibit.TheVariants.{Clash}
 use Rattle.pmem_base.specs.Lines.{IsLine}
 use Rattle.suite.specs.Setup.{Setup}
-use Rattle.board.specs.Device.{Device, AreLinesOf}
+use Rattle.board.specs.Device.{AreLinesOf}
 use Rattle.board.specs.Memory.{BoardMemory, device_of}
 use Rattle.collision_witness.specs.Exhibits.{IsExhibit, AreSmallMinors}
 use Rattle.commit_regs.specs.Groups.{redone, finishing_latches}
@@ -26,20 +26,18 @@ use Rattle.asit_shadow.specs.Invariants.{IsAnchored, IsTrusted, IsSlotStored}
 use Rattle.asit_shadow.specs.Steps.{slots_read}
 use Rattle.asit_shadow.specs.Recovering.{Rest, rest_of, rest_redone, HasTreeRecovered, IsGroupFinished, IsGroupBegun, AreSlotsRead, KeepsRestPlaces, KeepsRestNode}
 use Rattle.asit_shadow.specs.Places.{IsNodeHeld}
-use Rattle.asit_shadow.specs.Plain.{PlainTree, with_board, true_slots, slot_naming}
-use Rattle.counter_tree.specs.Slots.{slot_line}
-use Rattle.pmem_base.specs.Shape.{Shape}
-use Rattle.tree_session.proofs.Refusals.{board-free}
+use Rattle.asit_shadow.specs.Plain.{with_board, true_slots}
+use Rattle.tree_session.proofs.Refusals.{slots-free, rooted_with}
 use Rattle.asit_shadow.proofs.PlaceLaws.{slots-place}
 use Rattle.asit_shadow.proofs.RecoverLaws.{lines-equal, length-slots_read, line_at-slots_read}
 use Rattle.tree_session.specs.declared.commands.TreeCommand.TheVariants as Do
 use Rattle.tree_session.specs.declared.answers.TreeAnswer.{TreeAnswer}
 use Rattle.tree_session.specs.declared.answers.TreeAnswer.TheVariants as Say
 use Rattle.tree_session.specs.World.{TreeParts, plain_of_parts, state_of, IsTreeWorld, IsTreeOff, IsTreeOpen}
-use Rattle.tree_session.specs.Answered.{IsAnswered, IsRooted, IsEngineShown, AnswersOn, AnswersWith, IsSlotTampered, IsShadowRefused, IsShadowShown, IsGroupDone, board_redone, recovery_bound}
-use Rattle.tree_session.proofs.BoardSteps.{goes_on, cut_off, from_dark, cut_from_dark, then_rests, taken-exact, unlatched, unwritten}
+use Rattle.tree_session.specs.Answered.{IsAnswered, IsRooted, IsEngineShown, CanWantMemory, SaysOfOn, AnswersWith, IsSlotTampered, IsShadowRefusal, IsShadowExhibit, IsGroupDone, group_steps, board_redone, recovery_bound}
+use Rattle.tree_session.proofs.BoardSteps.{goes_on, cut_off, from_dark, cut_from_dark, then_rests, taken-exact, untouched}
 use Rattle.tree_session.proofs.PlainStates.{plain_is, plain-kept, true_slots-is}
-use Rattle.tree_session.proofs.Held.{IsFrame, opened, ended, open_in, off_in, usable_on, usable_off, rooted_on, rooted_off}
+use Rattle.tree_session.proofs.Held.{IsFrame, opened, ended, open_in, off_in, usable_on, usable_off, rooted_on, rooted_off, rooted_open}
 
 -- a flag that is set below n, or none
 some_flag : (flag : ℕ → Bool) (n : ℕ) → ((i : ℕ) → i < n → flag i ≡ false) ⊎ ((i : ℕ) × (i < n) × (flag i ≡ true))
@@ -58,18 +56,13 @@ some_flag flag (suc n) =
       ]
     ]
 
--- the true slot lines don't depend on the board
-slot-free : (g : Shape) (plain : PlainTree) (b : BoardMemory) (named : Option ℕ) → slot_naming g (with_board plain b) named ≡ slot_naming g plain named
-slot-free g plain b None = refl
-slot-free g plain b (Some x) = ap (slot_line x) (board-free g plain b x)
-
-slots-free : (g : Shape) (plain : PlainTree) (b : BoardMemory) (named : List (Option ℕ)) → map (slot_naming g (with_board plain b)) named ≡ map (slot_naming g plain) named
-slots-free g plain b [] = refl
-slots-free g plain b (one ∷ named) = let here = slot-free g plain b one in let rest = slots-free g plain b named in cc
-
 few_latches : (group : List (ℕ × Line)) → finishing_latches group ≤ 1
 few_latches [] = omega arith
 few_latches (entry ∷ group) = omega arith
+
+some_latch : (group : List (ℕ × Line)) → group ≢ [] → finishing_latches group ≡ 1
+some_latch [] some = absurd (some refl)
+some_latch (entry ∷ group) some = refl
 
 -- a recovery, as the session's parts have it: power came on before it
 pub record RecoveryCall : Type 0 where
@@ -111,7 +104,7 @@ module _ (c : RecoveryCall) where
   anchored_from = (off_in c.setup c.parts (open_in c.setup c.parts c.world c.none) c.there).anchored
 
   answered : (answer : TreeAnswer) (q : TreeParts) → q.keys ≡ c.parts.keys → q.watch.exhibit ≡ None → IsRooted c.setup (plain_of_parts c.setup q)
-      → AnswersOn c.setup (plain_of_parts c.setup c.parts) (plain_of_parts c.setup q) answer
+      → SaysOfOn c.setup (plain_of_parts c.setup c.parts) (plain_of_parts c.setup q) answer
       → IsAnswered c.setup (state_of c.setup c.parts) Do.On answer (state_of c.setup q)
   answered answer q keys none rooted it =
       record {
@@ -156,13 +149,19 @@ module _ (c : RecoveryCall) where
   plain_same q its same tampered hurt =
       plain-kept c.setup c.parts q (ap (λ (w : WatchState). w.seals) (its ∙ same)) (ap (λ (w : WatchState). w.nodes) (its ∙ same)) (ap (λ (w : WatchState). w.slots) (its ∙ same)) tampered hurt
 
-  -- the whole group and its latch are few enough
-  finished_steps : IsGroupFinished (device_during (record c.parts.board { powered = true }) none_taken) (device_during c.board c.taken) → steps_in c.taken ≤ recovery_bound c.setup.shape
+  -- the steps are those of the whole group and its latch, which are few enough
+  finished_steps : IsGroupFinished (device_during (record c.parts.board { powered = true }) none_taken) (device_during c.board c.taken) → steps_in c.taken ≡ group_steps c.parts.board
   finished_steps it =
       let few = c.watched.follows.few in
       let writes = taken-exact (length c.parts.board.regs.group.items) c.taken.writes it.writes (omega (arith, few)) in
       let latches = taken-exact (finishing_latches c.parts.board.regs.group.items) c.taken.latches it.latches (omega (arith, few)) in
-      omega (arith, writes, latches, few_latches c.parts.board.regs.group.items, off.small_group)
+      omega (arith, writes, latches)
+
+  group_few : group_steps c.parts.board ≤ recovery_bound c.setup.shape
+  group_few = omega (arith, few_latches c.parts.board.regs.group.items, off.small_group)
+
+  few_steps : steps_in c.taken ≡ group_steps c.parts.board → steps_in c.taken ≤ recovery_bound c.setup.shape
+  few_steps is = let few = group_few in omega (arith, is, few)
 
   -- ---- where the group is finished, the lines are those that it makes
   module _ (empty : c.board.regs.group.items ≡ []) (again : rest_redone rest_to ≡ rest_redone rest_from) where
@@ -171,8 +170,9 @@ module _ (c : RecoveryCall) where
         let here : redone c.board.regs.group.items c.board.lines ≡ redone c.parts.board.regs.group.items c.parts.board.lines = same_Some _ _ again in
         sym (ap (λ g. redone g c.board.lines) empty) ∙ here
 
-    group_done : (b : BoardMemory) → b.lines ≡ c.board.lines → b.regs ≡ c.board.regs → IsGroupDone c.parts.board b
-    group_done b lines regs = record { lines = lines ∙ lines_made; no_group = ap (λ (r : Regs). r.group.items) regs ∙ empty }
+    group_done : (b : BoardMemory) → b.lines ≡ c.board.lines → b.regs ≡ c.board.regs
+        → IsGroupFinished (device_during (record c.parts.board { powered = true }) none_taken) (device_during c.board c.taken) → IsGroupDone c.parts.board b
+    group_done b lines regs finished = record { lines = lines ∙ lines_made; regs = regs ∙ finished.regs }
 
     -- where no slot line was changed, the device has the true ones
     slots_true : ((i : ℕ) → i < tree_slots c.setup.shape → slice_index_or c.parts.tampered (line_of_slot c.setup.shape i) false ≡ false)
@@ -183,12 +183,12 @@ module _ (c : RecoveryCall) where
         let stored : IsSlotStored c.setup.shape (redone c.parts.board.regs.group.items c.parts.board.lines) c.parts.watch i = opened_in.places.slots i inside (clear i inside) in
         subst (λ ls. IsSlotStored c.setup.shape ls c.parts.watch i) (sym lines_made) stored)
 
-    tampered_slot : (b : BoardMemory) → (((i : ℕ) → i < tree_slots c.setup.shape → slice_index_or c.parts.tampered (line_of_slot c.setup.shape i) false ≡ false) → ⊥)
-        → IsSlotTampered c.setup.shape (with_board (plain_of_parts c.setup c.parts) b)
-    tampered_slot b not =
+    tampered_slot : (((i : ℕ) → i < tree_slots c.setup.shape → slice_index_or c.parts.tampered (line_of_slot c.setup.shape i) false ≡ false) → ⊥)
+        → IsSlotTampered c.setup.shape c.parts.tampered
+    tampered_slot not =
         elim (some_flag (λ i. slice_index_or c.parts.tampered (line_of_slot c.setup.shape i) false) (tree_slots c.setup.shape)) [
           | inl clear ↦ absurd (not clear)
-          | inr found ↦ record { slot = found.0; inside = found.1; tampered = found.2 }
+          | inr found ↦ record { slot = found.0; inside = found.1; its_line = found.2 }
         ]
 
   -- the slot lines read are those of the device
@@ -241,8 +241,9 @@ module _ (c : RecoveryCall) where
         (rooted_on c.setup (left_with c.board (Some engine)) c.world.whole_shape trusted_made.anchored trusted_made.no_group) (
           it.answered.1.digests,
           from_dark (steps_in c.taken) true c.parts.board c.board (goes_on (record c.parts.board { powered = true }) c.board c.taken c.watched powered_made),
-          group_done trusted_made.no_group it.lines c.board refl refl,
+          group_done trusted_made.no_group it.lines c.board refl refl it.group,
           finished_steps it.group,
+          few_steps (finished_steps it.group),
           plain_same (left_with c.board (Some engine)) refl same_made refl refl,
         )
 
@@ -289,6 +290,14 @@ module _ (c : RecoveryCall) where
         let writes = begun.writes.bound (omega (arith, few)) in
         omega (arith, writes, begun.latches, off.small_group)
 
+    -- a cut comes before the group is finished
+    cut_early : steps_in c.taken < group_steps c.parts.board
+    cut_early =
+        let begun = begun_of in
+        let few = c.watched.follows.few in
+        let writes = begun.writes.bound (omega (arith, few)) in
+        omega (arith, writes, begun.latches, some_latch c.parts.board.regs.group.items (it.work.due refl))
+
     pub cut_held : IsTreeWorld c.setup (left_with c.board None)
     cut_held =
         dark_held c.board.powered it.power.1 (Err Fail.Cut) it.size it.answered (it.trusted anchored_from) cut_group (it.places anchored_from) (λ x held. held)
@@ -300,6 +309,8 @@ module _ (c : RecoveryCall) where
           cut_from_dark (steps_in c.taken) c.parts.board c.board
               (cut_off (record c.parts.board { powered = true }) c.board c.taken c.watched it.power.1 (omega (arith, cut_steps, c.world.whole_shape.at_most_six_levels))),
           same_Some _ _ it.lines,
+          (it.begun refl refl).regs,
+          cut_early,
           cut_steps,
           plain_same (left_with c.board None) refl it.answered refl refl,
         )
@@ -337,9 +348,9 @@ module _ (c : RecoveryCall) where
         let plain = plain_same (left_with resting None) refl same_refused refl refl in
         answered (Say.RefusedShadow kept found (steps_in c.taken)) (left_with resting None) refl (ap (λ (w : WatchState). w.exhibit) same_refused ∙ c.none)
         (rooted_off c.setup (left_with resting None) c.world.whole_shape anchored_refused refl) (
-          subst (λ s. IsShadowRefused c.setup s kept found) (sym plain)
+          subst (λ s. IsShadowRefusal c.setup s kept found) (sym plain)
               (record {
-                place = tampered_slot empty_refused it.lines resting not_clear;
+                place = tampered_slot empty_refused it.lines not_clear;
                 its_root = refused.register ∙ sym it.root;
                 root_found = found_is;
                 differ = refused.differ;
@@ -347,8 +358,9 @@ module _ (c : RecoveryCall) where
           from_dark (steps_in c.taken) false c.parts.board resting
               (then_rests (steps_in c.taken) (record c.parts.board { powered = true }) c.board
               (goes_on (record c.parts.board { powered = true }) c.board c.taken c.watched (it.power.1 refl))),
-          group_done empty_refused it.lines resting refl refl,
+          group_done empty_refused it.lines resting refl refl it.group,
           finished_steps it.group,
+          few_steps (finished_steps it.group),
           plain,
         )
 
@@ -360,38 +372,11 @@ module _ (c : RecoveryCall) where
 
     pub as_it_was : left_with resting None ≡ c.parts
     as_it_was =
-        let device = same_device in
-        let writes : c.taken.writes ≡ 0 = ap (λ (d : Device). d.writes) device in
-        let latches : c.taken.latches ≡ 0 = ap (λ (d : Device). d.latches) device in
-        let none : steps_in c.taken ≡ 0 = omega (arith, writes, latches) in
-        let live = it.power.1 refl in
-        let lines : c.board.lines ≡ c.parts.board.lines = same_Some _ _ (ap (λ (d : Device). d.lines) device) in
-        let regs : c.board.regs ≡ c.parts.board.regs = ap (λ (d : Device). d.regs) device in
-        let reads : c.board.reads ≡ c.parts.board.reads = ap (λ (d : Device). d.reads) device in
-        let written = unwritten (record c.parts.board { powered = true }) c.board c.taken c.watched writes in
-        let latched = unlatched (record c.parts.board { powered = true }) c.board c.taken c.watched latches in
-        let fuse : c.board.fuse ≡ c.parts.board.fuse = c.watched.follows.burnt live ∙ (ap (λ n. Rattle.std.specs.Prelude.option_map (λ m. m - n) c.parts.board.fuse) none ∙ unburnt c.parts.board.fuse) in
-        let board : resting ≡ c.parts.board =
-        same_board resting c.parts.board lines regs (sym dark) fuse c.watched.follows.snapshot reads written latched (c.watched.follows.uncut live) in
-        same_parts (left_with resting None) c.parts refl board (ap (λ (r : Rest). r.watch) it.answered) (sym c.there) refl refl
+        let lit : c.board ≡ record c.parts.board { powered = true } = untouched (record c.parts.board { powered = true }) c.board c.taken c.watched refl same_device in
+        let rests : resting ≡ record c.parts.board { powered = false } = ap (λ (b : BoardMemory). record b { powered = false }) lit in
+        let off : record c.parts.board { powered = false } ≡ c.parts.board = ap (λ p. record c.parts.board { powered = p }) (sym dark) in
+        same_parts (left_with resting None) c.parts refl (rests ∙ off) (ap (λ (r : Rest). r.watch) it.answered) (sym c.there) refl refl
       where
-        unburnt : (fuse : Option ℕ) → Rattle.std.specs.Prelude.option_map (λ m. m - 0) fuse ≡ fuse
-        unburnt None = refl
-        unburnt (Some n) = let same : n - 0 ≡ n = omega arith in ap (λ m. Some m) same
-
-        same_board : (p q : BoardMemory) → p.lines ≡ q.lines → p.regs ≡ q.regs → p.powered ≡ q.powered → p.fuse ≡ q.fuse → p.snapshot ≡ q.snapshot → p.reads ≡ q.reads → p.writes ≡ q.writes
-            → p.latches ≡ q.latches → p.cuts ≡ q.cuts → p ≡ q
-        same_board p q lines regs powered fuse snapshot reads writes latches cuts =
-            ap (λ v. let r : BoardMemory = record { lines = v; regs = p.regs; powered = p.powered; fuse = p.fuse; snapshot = p.snapshot; reads = p.reads; writes = p.writes; latches = p.latches; cuts = p.cuts } in r) lines
-            ∙ (ap (λ v. let r : BoardMemory = record { lines = q.lines; regs = v; powered = p.powered; fuse = p.fuse; snapshot = p.snapshot; reads = p.reads; writes = p.writes; latches = p.latches; cuts = p.cuts } in r) regs
-            ∙ (ap (λ v. let r : BoardMemory = record { lines = q.lines; regs = q.regs; powered = v; fuse = p.fuse; snapshot = p.snapshot; reads = p.reads; writes = p.writes; latches = p.latches; cuts = p.cuts } in r) powered
-            ∙ (ap (λ v. let r : BoardMemory = record { lines = q.lines; regs = q.regs; powered = q.powered; fuse = v; snapshot = p.snapshot; reads = p.reads; writes = p.writes; latches = p.latches; cuts = p.cuts } in r) fuse
-            ∙ (ap (λ v. let r : BoardMemory = record { lines = q.lines; regs = q.regs; powered = q.powered; fuse = q.fuse; snapshot = v; reads = p.reads; writes = p.writes; latches = p.latches; cuts = p.cuts } in r) snapshot
-            ∙ (ap (λ v. let r : BoardMemory = record { lines = q.lines; regs = q.regs; powered = q.powered; fuse = q.fuse; snapshot = q.snapshot; reads = v; writes = p.writes; latches = p.latches; cuts = p.cuts } in r) reads
-            ∙ (ap (λ v. let r : BoardMemory = record { lines = q.lines; regs = q.regs; powered = q.powered; fuse = q.fuse; snapshot = q.snapshot; reads = q.reads; writes = v; latches = p.latches; cuts = p.cuts } in r) writes
-            ∙ (ap (λ v. let r : BoardMemory = record { lines = q.lines; regs = q.regs; powered = q.powered; fuse = q.fuse; snapshot = q.snapshot; reads = q.reads; writes = q.writes; latches = v; cuts = p.cuts } in r) latches
-            ∙ (ap (λ v. let r : BoardMemory = record { lines = q.lines; regs = q.regs; powered = q.powered; fuse = q.fuse; snapshot = q.snapshot; reads = q.reads; writes = q.writes; latches = q.latches; cuts = v } in r) cuts))))))))
-
         same_parts : (p q : TreeParts) → p.keys ≡ q.keys → p.board ≡ q.board → p.watch ≡ q.watch → p.engine ≡ q.engine → p.tampered ≡ q.tampered → p.hurt ≡ q.hurt → p ≡ q
         same_parts p q keys board watch engine tampered hurt =
             ap (λ v. let r : TreeParts = record { keys = v; board = p.board; watch = p.watch; engine = p.engine; tampered = p.tampered; hurt = p.hurt } in r) keys
@@ -400,6 +385,10 @@ module _ (c : RecoveryCall) where
             ∙ (ap (λ v. let r : TreeParts = record { keys = q.keys; board = q.board; watch = q.watch; engine = v; tampered = p.tampered; hurt = p.hurt } in r) engine
             ∙ (ap (λ v. let r : TreeParts = record { keys = q.keys; board = q.board; watch = q.watch; engine = q.engine; tampered = v; hurt = p.hurt } in r) tampered
             ∙ (ap (λ v. let r : TreeParts = record { keys = q.keys; board = q.board; watch = q.watch; engine = q.engine; tampered = q.tampered; hurt = v } in r) hurt)))))
+
+    -- it wasn't on already
+    pub memory_wanted : CanWantMemory (state_of c.setup c.parts) Do.On × (state_of c.setup (left_with resting None) ≡ state_of c.setup c.parts)
+    memory_wanted = (record { takes = refl; not_shown = c.none; needs = dark }, ap (state_of c.setup) as_it_was)
 
     pub memory_held : IsTreeWorld c.setup (left_with resting None)
     memory_held = subst (IsTreeWorld c.setup) (sym as_it_was) c.world
@@ -452,9 +441,17 @@ module _ (c : RecoveryCall) where
           not_shown = c.none;
           undecided = ap (λ (b : Bool). Rattle.std.specs.Prelude.if◌then◌else◌ b (Some Say.Already) None) dark;
           holds = subst (λ e. IfSome e (IsExhibit c.setup.formulas)) is (it.trusted anchored_from);
-          shows = subst (λ s. IsShadowShown c.setup s exhibit) (sym plain) (shadow_shown true_are);
+          shows = subst (λ s. IsShadowExhibit c.setup s exhibit) (sym plain) (shadow_shown true_are);
           plain = plain;
-          unpowered = refl;
+          steps = steps_in c.taken;
+          taken =
+              from_dark (steps_in c.taken) false c.parts.board resting
+              (then_rests (steps_in c.taken) (record c.parts.board { powered = true }) c.board
+              (goes_on (record c.parts.board { powered = true }) c.board c.taken c.watched (it.power.1 refl)));
+          board = (group_done empty_shown it.lines resting refl refl it.group, finished_steps it.group);
+          rooted =
+              subst (IsRooted c.setup) (sym plain)
+              (rooted_with c.setup (plain_of_parts c.setup c.parts) resting (rooted_open c.setup c.parts c.world c.none) it.root refl);
           shape = refl;
           keys = refl;
           shown = is;
@@ -463,7 +460,7 @@ module _ (c : RecoveryCall) where
         same_setup : c.parts.watch.setup ≡ c.setup
         same_setup = c.world.its_watch.its_setup
 
-        shadow_shown : true_slots c.setup.shape (plain_of_parts c.setup c.parts) ≡ c.parts.watch.slots → IsShadowShown c.setup (with_board (plain_of_parts c.setup c.parts) resting) exhibit
+        shadow_shown : true_slots c.setup.shape (plain_of_parts c.setup c.parts) ≡ c.parts.watch.slots → IsShadowExhibit c.setup (with_board (plain_of_parts c.setup c.parts) resting) exhibit
         shadow_shown true_are =
             let truth : true_slots c.setup.shape (with_board (plain_of_parts c.setup c.parts) resting) ≡ c.parts.watch.slots =
             slots-free c.setup.shape (plain_of_parts c.setup c.parts) resting (plain_of_parts c.setup c.parts).named ∙ true_are in
@@ -475,7 +472,7 @@ module _ (c : RecoveryCall) where
               height = its_clash.height;
               position = its_clash.position;
               place =
-                  tampered_slot empty_shown it.lines resting
+                  tampered_slot empty_shown it.lines
                   (λ clear. clash.other (slots_are ∙ slots_true empty_shown it.lines clear it.size));
               one_root = ap (shadow_root c.setup.shape c.setup.formulas) (sym slots_are) ∙ (clash.root ∙ sym it.root);
               difference =

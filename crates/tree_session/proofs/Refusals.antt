@@ -1,7 +1,7 @@
 -- Refusals and exhibits as the plain state tells them: each comes of a place that was tampered with.
-use Rattle.std.proofs.Common.{ℕ, ◌≡◌, ◌≢◌, ◌<◌, ◌≤◌, ◌^◌, true, false, inl, inr, Some, None, refl, sym, ap, subst, ◌∙◌, arith, mod-eq_of_lt}
-use Rattle.std.specs.Prelude.{IfSome, slice_index_or}
-use Rattle.std.proofs.lemmas.Bool.{cases_Bool}
+use Rattle.std.proofs.Common.{ℕ, ◌≡◌, ◌≢◌, ◌<◌, ◌≤◌, ◌^◌, true, false, inl, inr, List, [], ◌∷◌, Option, Some, None, refl, sym, ap, subst, ◌∙◌, arith, mod-eq_of_lt}
+use Rattle.std.specs.Prelude.{IfSome, map, slice_index_or}
+use Rattle.std.proofs.lemmas.Bool.{cases_Bool, false≢true}
 use Rattle.pmem_base.specs.declared.lines.Line.{Line}
 use Rattle.pmem_base.specs.declared.registers.Regs.{Regs}
 use Rattle.pmem_base.specs.declared.answers.Exhibit.{Exhibit}
@@ -16,15 +16,17 @@ use Rattle.board.specs.Memory.{BoardMemory}
 use Rattle.counter_tree.specs.declared.nodes.Node.{Node}
 use Rattle.counter_tree.specs.Nodes.{total, wrapped_version, node_place, version_counter, without_tag, node_read}
 use Rattle.counter_tree.specs.Layout.{tree_lines, line_of_tag, line_of_node}
+use Rattle.counter_tree.specs.Shadow.{shadow_root}
+use Rattle.counter_tree.specs.Slots.{slot_line}
 use Rattle.counter_tree.specs.Trees.{node_at, line_counter, is_on_line_path}
 use Rattle.counter_tree.specs.Watch.{last_seal_of, forged_node}
 use Rattle.counter_tree.proofs.TreeLaws.{tree-version}
 use Rattle.asit_shadow.specs.Invariants.{IsAnchored}
 use Rattle.asit_shadow.specs.Steps.{plain_of}
-use Rattle.asit_shadow.specs.Plain.{PlainTree, true_node, true_version, true_count, true_cipher, with_board}
+use Rattle.asit_shadow.specs.Plain.{PlainTree, true_node, true_version, true_count, true_cipher, slot_naming, with_board}
 use Rattle.asit_shadow.proofs.SlotPlaces.{on_path-inside}
 use Rattle.tree_session.specs.World.{TreeParts, plain_of_parts}
-use Rattle.tree_session.specs.Answered.{IsPathTampered, IsNodeRefused, IsNodeShown, IsDataRefused, IsDataShown}
+use Rattle.tree_session.specs.Answered.{IsRooted, IsPathTampered, IsNodeRefusal, IsNodeExhibit, IsDataRefusal, IsDataExhibit}
 use Rattle.tree_session.proofs.PlainStates.{plain_is, node-is}
 
 -- the true nodes don't depend on the board
@@ -32,8 +34,24 @@ pub board-free : (g : Shape) (plain : PlainTree) (b : BoardMemory) (x : ℕ) →
 unfolding true_node
 board-free g plain b x = refl
 
-module _ (setup : Setup) (p : TreeParts) (regs : Regs) (b : BoardMemory) (shape : IsShape setup.shape) (in_range : AreInRange setup.formulas) (anchored : IsAnchored setup regs p.watch) where
+-- the true slot lines don't depend on the board
+slot-free : (g : Shape) (plain : PlainTree) (b : BoardMemory) (named : Option ℕ) → slot_naming g (with_board plain b) named ≡ slot_naming g plain named
+slot-free g plain b None = refl
+slot-free g plain b (Some x) = ap (slot_line x) (board-free g plain b x)
 
+pub slots-free : (g : Shape) (plain : PlainTree) (b : BoardMemory) (named : List (Option ℕ)) → map (slot_naming g (with_board plain b)) named ≡ map (slot_naming g plain) named
+slots-free g plain b [] = refl
+slots-free g plain b (one ∷ named) = let here = slot-free g plain b one in let rest = slots-free g plain b named in cc
+
+-- with power off and the same root a state with another board is rooted
+pub rooted_with : (setup : Setup) (plain : PlainTree) (b : BoardMemory) → IsRooted setup plain → b.regs.root ≡ plain.board.regs.root → b.powered ≡ false → IsRooted setup (with_board plain b)
+rooted_with setup plain b it root off =
+    record {
+      root = root ∙ (it.root ∙ ap (shadow_root setup.shape setup.formulas) (sym (slots-free setup.shape plain b plain.named)));
+      no_group = λ on. absurd (false≢true (sym off ∙ on));
+    }
+
+module _ (setup : Setup) (p : TreeParts) (regs : Regs) (b : BoardMemory) (shape : IsShape setup.shape) (in_range : AreInRange setup.formulas) (anchored : IsAnchored setup regs p.watch) where
   -- ---- nodes
 
   node-here : (x : ℕ) → x < meta_lines setup.shape → true_node setup.shape (with_board (plain_of_parts setup p) b) x ≡ node_at p.watch.nodes x
@@ -45,12 +63,12 @@ module _ (setup : Setup) (p : TreeParts) (regs : Regs) (b : BoardMemory) (shape 
   version-here x inside = ap total (node-here x inside)
 
   path-tampered : (a x : ℕ) → is_on_line_path setup.shape a x ≡ true → 1 ≤ x → (slice_index_or p.tampered (line_of_node setup.shape x) false ≡ false → ⊥)
-      → IsPathTampered setup.shape (with_board (plain_of_parts setup p) b) a x
+      → IsPathTampered setup.shape p.tampered a x
   path-tampered a x on low changed =
       record {
         on_path = on;
         below_top = λ e. omega (arith, low, e);
-        tampered =
+        its_line =
             elim (cases_Bool (slice_index_or p.tampered (line_of_node setup.shape x) false)) [
               | inl set ↦ set
               | inr clear ↦ absurd (changed clear)
@@ -59,7 +77,7 @@ module _ (setup : Setup) (p : TreeParts) (regs : Regs) (b : BoardMemory) (shape 
 
   pub node-refused : (a x : ℕ) (line : Line) → a < tree_lines setup.shape → is_on_line_path setup.shape a x ≡ true → 1 ≤ x
       → line ≡ line_at b.lines (line_of_node setup.shape x) → node_read setup.formulas x line (total (node_at p.watch.nodes x)) ≡ None
-      → (slice_index_or p.tampered (line_of_node setup.shape x) false ≡ false → ⊥) → IsNodeRefused setup (with_board (plain_of_parts setup p) b) a x
+      → (slice_index_or p.tampered (line_of_node setup.shape x) false ≡ false → ⊥) → IsNodeRefusal setup (with_board (plain_of_parts setup p) b) a x
   node-refused a x line within on low read none changed =
       let inside = on_path-inside setup.shape a x within on in
       record {
@@ -72,7 +90,7 @@ module _ (setup : Setup) (p : TreeParts) (regs : Regs) (b : BoardMemory) (shape 
   pub node-shown : (a x : ℕ) (line : Line) (node : Node) (exhibit : Exhibit) → a < tree_lines setup.shape → is_on_line_path setup.shape a x ≡ true → 1 ≤ x
       → line ≡ line_at b.lines (line_of_node setup.shape x) → node_read setup.formulas x line (total (node_at p.watch.nodes x)) ≡ Some node
       → node ≢ node_at p.watch.nodes x → exhibit ≡ forged_node p.watch x line
-      → (slice_index_or p.tampered (line_of_node setup.shape x) false ≡ false → ⊥) → IsNodeShown setup (with_board (plain_of_parts setup p) b) a exhibit
+      → (slice_index_or p.tampered (line_of_node setup.shape x) false ≡ false → ⊥) → IsNodeExhibit setup (with_board (plain_of_parts setup p) b) a exhibit
   node-shown a x line node exhibit within on low read accepted other its changed =
       let inside = on_path-inside setup.shape a x within on in
       let small : total (node_at p.watch.nodes x) < 2 ^ 64 = tree-version setup.shape p.watch.nodes x anchored.tree inside in
@@ -106,7 +124,7 @@ module _ (setup : Setup) (p : TreeParts) (regs : Regs) (b : BoardMemory) (shape 
 
   pub data-refused : (a : ℕ) (cipher tags : Line) → a < tree_lines setup.shape → cipher ≡ line_at b.lines a → tags ≡ line_at b.lines (line_of_tag setup.shape a)
       → setup.formulas.tag_of a (version_counter (line_counter setup.shape p.watch.nodes a)) cipher ≢ tag_slot tags 0
-      → (slice_index_or p.hurt a false ≡ false → ⊥) → IsDataRefused setup (with_board (plain_of_parts setup p) b) a
+      → (slice_index_or p.hurt a false ≡ false → ⊥) → IsDataRefusal setup (with_board (plain_of_parts setup p) b) a
   data-refused a cipher tags within read read_tags fails unhurt =
       record {
         hurt = hurt-here a unhurt;
@@ -133,7 +151,7 @@ module _ (setup : Setup) (p : TreeParts) (regs : Regs) (b : BoardMemory) (shape 
       → setup.formulas.tag_of a (version_counter (line_counter setup.shape p.watch.nodes a)) cipher ≡ tag_slot tags 0
       → IfSome (last_seal_of p.watch a) (λ seal. cipher ≢ seal.cipher)
       → exhibit ≡ Forged a (version_counter (line_counter setup.shape p.watch.nodes a)) cipher (tag_slot tags 0)
-      → (slice_index_or p.hurt a false ≡ false → ⊥) → IsDataShown setup (with_board (plain_of_parts setup p) b) a exhibit
+      → (slice_index_or p.hurt a false ≡ false → ⊥) → IsDataExhibit setup (with_board (plain_of_parts setup p) b) a exhibit
   data-shown a cipher tags exhibit within read read_tags fits other its unhurt =
       let sealed = anchored.seals a within in
       let differs : cipher ≢ sealed.seal.cipher = subst (λ s. IfSome s (λ seal. cipher ≢ seal.cipher)) sealed.last other in

@@ -1,5 +1,5 @@
 -- What a call of the engine leaves of the device's lines: true nodes are written back, and a write puts its group.
-use Rattle.std.proofs.Common.{ℕ, zero, suc, ◌≡◌, ◌<◌, ◌==◌, ◌⊎◌, ◌++◌, true, false, Bool, inl, inr, List, [], ◌∷◌, length, Option, Some, None, refl, sym, ap, subst, ◌∙◌}
+use Rattle.std.proofs.Common.{ℕ, zero, suc, ◌≡◌, ◌<◌, ◌≤◌, ◌==◌, ◌⊎◌, ◌++◌, true, false, Bool, inl, inr, List, [], ◌∷◌, length, Option, Some, None, refl, sym, ap, subst, ◌∙◌, arith}
 use Rattle.std.specs.Prelude.{slice_set, map, if◌then◌else◌, ⊤}
 use Rattle.std.specs.List.{list_any}
 use Rattle.std.proofs.lemmas.Bool.{cases_eq, cases_lt, or_left, or_right, eq-eqb}
@@ -25,8 +25,11 @@ use Rattle.asit_shadow.specs.Paths.{line_path, path_node, tag_only, write_group}
 use Rattle.asit_shadow.specs.Work.{spilled, level_write, write_back, is_cached, HasFetchedLevels, HasArmedPath}
 use Rattle.asit_shadow.specs.Plain.{PlainTree, true_node, true_count, true_cipher}
 use Rattle.asit_shadow.proofs.SlotPlaces.{on_path-inside}
+use Rattle.asit_shadow.proofs.LevelWork.{spilled-few, absent-few}
+use Rattle.watched_board.specs.Watching.{steps_in}
 use Rattle.tree_session.specs.World.{TreeParts, plain_of_parts}
 use Rattle.tree_session.specs.Answered.{AreLinesSpilled, IsBoardSpilled, IsBoardWritten, put_by_write, board_redone}
+use Rattle.tree_session.proofs.BoardSteps.{taken-exact}
 use Rattle.tree_session.proofs.PlainStates.{plain_is, node-is}
 use Rattle.tree_session.proofs.Held.{EngineCall, from, to, trusted_from}
 use Rattle.tree_session.proofs.Refusals.{cipher-here}
@@ -117,13 +120,22 @@ module _ (c : EngineCall) (a : ℕ) where
       let lines : c.board.lines ≡ redone (spilled c.setup c.engine.cache a n) c.parts.board.lines = same_Some _ _ it.lines in
       subst (AreLinesSpilled c.setup (plain_of_parts c.setup c.parts)) (sym lines) (made-by n)
 
-  pub board_spilled : (n : ℕ) (q : TreeParts) → q.board ≡ c.board → HasFetchedLevels c.setup a n (from c) (to c)
+  pub board_spilled : (n : ℕ) (q : TreeParts) → q.board.lines ≡ c.board.lines → q.board.regs ≡ c.board.regs → HasFetchedLevels c.setup a n (from c) (to c)
       → IsBoardSpilled c.setup (plain_of_parts c.setup c.parts) (plain_of_parts c.setup q)
-  board_spilled n q its it =
+  board_spilled n q lines regs it =
       record {
-        lines = subst (AreLinesSpilled c.setup (plain_of_parts c.setup c.parts)) (ap (λ (b : Rattle.board.specs.Memory.BoardMemory). b.lines) (sym its)) (spilled_lines n it);
-        regs = ap (λ (b : Rattle.board.specs.Memory.BoardMemory). b.regs) its ∙ it.regs;
+        lines = subst (AreLinesSpilled c.setup (plain_of_parts c.setup c.parts)) (sym lines) (spilled_lines n it);
+        regs = regs ∙ it.regs;
       }
+
+  -- as many line writes at most as levels were fetched
+  pub few_spilled : (n : ℕ) → HasFetchedLevels c.setup a n (from c) (to c) → steps_in c.taken ≤ n
+  few_spilled n it =
+      let few = c.watched.follows.few in
+      let writes = taken-exact (length (spilled c.setup c.engine.cache a n)) c.taken.writes it.writes (omega (arith, few)) in
+      let back = spilled-few c.setup c.engine.cache a n in
+      let absent = absent-few c.setup.shape c.engine.cache a n in
+      omega (arith, writes, it.latches, back, absent)
 
   -- ---- a write's group, told by the plain state after it
 

@@ -3,11 +3,10 @@ use Rattle.std.proofs.Common.{ℕ, ◌≡◌, ◌<◌, ◌≤◌, ◌+◌, ◌/�
 use Rattle.std.specs.Prelude.{IfSome, slice_index_or, slice_set}
 use Rattle.std.proofs.lemmas.Bool.{cases_eq}
 use Rattle.std.proofs.lemmas.List.{length-set, length-map, get_or-set_other}
-use Rattle.std.proofs.lemmas.Option.{same_Some}
 use Rattle.pmem_base.specs.declared.lines.Line.{Line}
 use Rattle.pmem_base.specs.declared.registers.Regs.{Regs}
 use Rattle.pmem_base.specs.declared.answers.Exhibit.{Exhibit}
-use Rattle.pmem_base.specs.Lines.{IsLine, line_at}
+use Rattle.pmem_base.specs.Lines.{IsLine}
 use Rattle.pmem_base.specs.Shape.{Shape}
 use Rattle.board.specs.Device.{Device}
 use Rattle.bonsai_tree.proofs.PathPositions.{length-path_of}
@@ -27,18 +26,18 @@ use Rattle.asit_shadow.specs.Parts.{HoldsSeal}
 use Rattle.asit_shadow.specs.Calls as told
 use Rattle.asit_shadow.specs.Calls.{CallEffect, HasWrittenLine, IsLineWritten, TakesWriteSteps, TakesFewerSteps}
 use Rattle.asit_shadow.specs.Work.{IsCutInFetch, IsCutInGroup, HasFetchedPath}
-use Rattle.asit_shadow.specs.Plain.{writes_made}
+use Rattle.asit_shadow.specs.Plain.{writes_made, with_board}
 use Rattle.asit_shadow.proofs.Chains.{going-unshown}
 use Rattle.tree_session.specs.declared.commands.TreeCommand.TheVariants as Do
 use Rattle.tree_session.specs.declared.answers.TreeAnswer.{TreeAnswer}
 use Rattle.tree_session.specs.declared.answers.TreeAnswer.TheVariants as Say
 use Rattle.tree_session.specs.World.{TreeParts, plain_of_parts, state_of, IsTreeWorld}
-use Rattle.tree_session.specs.Answered.{IsAnswered, IsRooted, IsEngineShown, AnswersWrite, AnswersWith, IsNodeShown, IsNodeRefused, IsUsedUp, write_bound, IsBoardSpilled}
-use Rattle.tree_session.proofs.BoardSteps.{goes_on, cut_off, latched, unlatched, taken-exact}
+use Rattle.tree_session.specs.Answered.{IsAnswered, IsRooted, IsEngineShown, SaysOfWrite, AnswersWith, IsNodeExhibit, IsNodeRefusal, AllAreMade, write_bound, IsBoardSpilled}
+use Rattle.tree_session.proofs.BoardSteps.{goes_on, cut_off, latched, unlatched, untouched, then_rests, taken-exact}
 use Rattle.tree_session.proofs.PlainStates.{plain_is, plain-kept, plain-written, writes-are}
 use Rattle.tree_session.proofs.Held.{EngineCall, from, to, left, left_resting, trusted_from, powered_from, seals_kept, on_after, rooted_after, off_after, rooted_cut, ended_after, none_is}
-use Rattle.tree_session.proofs.Spills.{board_spilled, board_written, group_kept}
-use Rattle.tree_session.proofs.EngineCalls.{backs, undecided_line, kept_plain, refused_node, shown_node, forged-minors}
+use Rattle.tree_session.proofs.Spills.{board_spilled, few_spilled, board_written, group_kept}
+use Rattle.tree_session.proofs.EngineCalls.{backs, undecided_line, kept_plain, rooted_shown, refused_node, shown_node, forged-minors}
 
 -- a write's group has its line, its tag line and the slot lines of its path
 group-length : (g : Shape) (a : ℕ) (seal : LineSeal) (nodes : List Node) → length (write_group g a seal nodes) ≡ g.levels + 3
@@ -50,7 +49,7 @@ group-length g a seal nodes =
 
 module _ (c : EngineCall) (a : ℕ) (within : a < tree_lines c.setup.shape) (line : Line) (whole : IsLine line) where
   answered : (answer : TreeAnswer) (q : TreeParts) → q.keys ≡ c.parts.keys → q.watch.exhibit ≡ None → IsRooted c.setup (plain_of_parts c.setup q)
-      → AnswersWrite c.setup (plain_of_parts c.setup c.parts) a line (plain_of_parts c.setup q) answer
+      → SaysOfWrite c.setup (plain_of_parts c.setup c.parts) a line (plain_of_parts c.setup q) answer
       → IsAnswered c.setup (state_of c.setup c.parts) (Do.Write a line) answer (state_of c.setup q)
   answered answer q keys none rooted it =
       record {
@@ -67,7 +66,7 @@ module _ (c : EngineCall) (a : ℕ) (within : a < tree_lines c.setup.shape) (lin
       writes-are c.setup c.parts.watch c.parts.board.regs c.world.whole_shape (trusted_from c).anchored (plain_of_parts c.setup c.parts)
       (plain_is c.setup c.parts c.parts.board.regs c.world.whole_shape (trusted_from c).anchored)
 
-  unused : (told.IsUsedUp (from c) → ⊥) → IsUsedUp (plain_of_parts c.setup c.parts) → ⊥
+  unused : (told.IsUsedUp (from c) → ⊥) → AllAreMade (plain_of_parts c.setup c.parts).counts → ⊥
   unused not up = not (sym made-is ∙ up)
 
   -- ---- flags once the line is written
@@ -110,6 +109,7 @@ module _ (c : EngineCall) (a : ℕ) (within : a < tree_lines c.setup.shape) (lin
           unused (done.answered (trusted_from c)).0,
           goes_on c.parts.board c.board c.taken c.watched (done.effect.power.1 (powered_from c)),
           latched c.parts.board c.board c.taken c.watched 2 latches,
+          omega (arith, writes, latches),
           omega (arith, writes, latches, steps.at_most),
           plain-written c.setup c.parts (left c (Some c.after) (slice_set c.parts.hurt a false)) a line made.seal c.parts.board.regs made.armed_regs c.board.regs
               c.world.whole_shape c.world.whole_formulas (trusted_from c).anchored trusted.anchored made.armed.armed whole made.armed.sealed refl refl,
@@ -159,8 +159,21 @@ module _ (c : EngineCall) (a : ℕ) (within : a < tree_lines c.setup.shape) (lin
       lost_board =
           elim cut.work [
             | inl before ↦ elim before.at [
-              | inl fetch ↦ board_spilled c a fetch.levels (left c None c.parts.hurt) refl fetch.fetched
-              | inr path ↦ board_spilled c a c.setup.shape.levels (left c None c.parts.hurt) refl path.fetched
+              | inl fetch ↦ board_spilled c a fetch.levels (left c None c.parts.hurt) refl refl fetch.fetched
+              | inr path ↦ board_spilled c a c.setup.shape.levels (left c None c.parts.hurt) refl refl path.fetched
+            ]
+            | inr group ↦
+                let few = c.watched.follows.few in
+                let one = taken-exact 1 c.taken.latches group.armed.latched (omega (arith, few)) in
+                absurd (omega (arith, one, none))
+          ]
+
+      lost_few : steps_in c.taken ≤ c.setup.shape.levels
+      lost_few =
+          elim cut.work [
+            | inl before ↦ elim before.at [
+              | inl fetch ↦ let few = few_spilled c a fetch.levels fetch.fetched in omega (arith, few, fetch.fetched.on_path)
+              | inr path ↦ few_spilled c a c.setup.shape.levels path.fetched
             ]
             | inr group ↦
                 let few = c.watched.follows.few in
@@ -182,7 +195,7 @@ module _ (c : EngineCall) (a : ℕ) (within : a < tree_lines c.setup.shape) (lin
             unused said.0,
             cut_off c.parts.board c.board c.taken c.watched cut.effect.power.1 limit,
             unlatched c.parts.board c.board c.taken c.watched (is_lost none).latches,
-            below,
+            lost_few,
             plain-kept c.setup c.parts (left c None c.parts.hurt) (ap (λ (w : WatchState). w.seals) same) (ap (λ (w : WatchState). w.nodes) same)
                 (ap (λ (w : WatchState). w.slots) same) refl refl,
             lost_board,
@@ -219,6 +232,7 @@ module _ (c : EngineCall) (a : ℕ) (within : a < tree_lines c.setup.shape) (lin
             unused said.0,
             cut_off c.parts.board c.board c.taken c.watched cut.effect.power.1 limit,
             latched c.parts.board c.board c.taken c.watched 1 (taken-exact 1 c.taken.latches kept.latches (omega (arith, few))),
+            omega (arith, some),
             below,
             plain-written c.setup c.parts (left c None (slice_set c.parts.hurt a false)) a line kept.seal c.parts.board.regs c.board.regs c.board.regs
                 c.world.whole_shape c.world.whole_formulas (trusted_from c).anchored anchored kept.armed.armed whole kept.armed.sealed refl refl,
@@ -242,11 +256,11 @@ module _ (c : EngineCall) (a : ℕ) (within : a < tree_lines c.setup.shape) (lin
         answered (Say.RefusedNode x (steps_in c.taken)) (left c (Some c.after) c.parts.hurt) refl (keeps.exhibit going-unshown ∙ c.none)
         (rooted_after c node.effect c.parts.hurt c.world.hurt_count (seals_kept c going node.effect)) (
           unused (node.answered (trusted_from c)).0,
-          subst (λ s. IsNodeRefused c.setup s a x) (sym plain) (refused_node c a within c.board refl x (node.answered (trusted_from c)).1),
+          subst (λ s. IsNodeRefusal c.setup s a x) (sym plain) (refused_node c a within c.board refl x (node.answered (trusted_from c)).1),
           goes_on c.parts.board c.board c.taken c.watched (node.effect.power.1 (powered_from c)),
           backs c.taken c.setup.shape.levels going c.parts.board c.board c.watched node.steps,
           plain,
-          board_spilled c a node.work.levels (left c (Some c.after) c.parts.hurt) refl node.work.fetched,
+          board_spilled c a node.work.levels (left c (Some c.after) c.parts.hurt) refl refl node.work.fetched,
         )
 
   -- ---- no write can be counted any more
@@ -264,14 +278,12 @@ module _ (c : EngineCall) (a : ℕ) (within : a < tree_lines c.setup.shape) (lin
         let same : device_during c.board c.taken ≡ device_during c.parts.board none_taken = spent.steps in
         let writes : c.taken.writes ≡ 0 = ap (λ (d : Device). d.writes) same in
         let latches : c.taken.latches ≡ 0 = ap (λ (d : Device). d.latches) same in
-        let lines : c.board.lines ≡ c.parts.board.lines = same_Some _ _ (ap (λ (d : Device). d.lines) same) in
         answered (Say.Spent (steps_in c.taken)) (left c (Some c.after) c.parts.hurt) refl (keeps.exhibit going-unshown ∙ c.none)
         (rooted_after c spent.effect c.parts.hurt c.world.hurt_count (seals_kept c going spent.effect)) (
           made-is ∙ (spent.answered (trusted_from c)).0,
           omega (arith, writes, latches),
-          goes_on c.parts.board c.board c.taken c.watched (spent.effect.power.1 (powered_from c)),
-          kept_plain c going (left c (Some c.after) c.parts.hurt) keeps refl refl refl,
-          record { lines = λ d. inl (ap (λ ls. line_at ls d) lines); regs = ap (λ (d : Device). d.regs) same },
+          kept_plain c going (left c (Some c.after) c.parts.hurt) keeps refl refl refl
+              ∙ ap (with_board (plain_of_parts c.setup c.parts)) (untouched c.parts.board c.board c.taken c.watched (powered_from c) same),
         )
 
   -- ---- an exhibit
@@ -298,10 +310,16 @@ module _ (c : EngineCall) (a : ℕ) (within : a < tree_lines c.setup.shape) (lin
           holds = subst (λ e. IfSome e (IsExhibit c.setup.formulas)) is (show.effect.trusted (trusted_from c));
           shows = (
             unused why.0,
-            subst (λ s. IsNodeShown c.setup s a exhibit) (sym plain) (shown_node c a within (record c.board { powered = false }) refl exhibit is why.1),
+            subst (λ s. IsNodeExhibit c.setup s a exhibit) (sym plain) (shown_node c a within (record c.board { powered = false }) refl exhibit is why.1),
           );
           plain = plain;
-          unpowered = refl;
+          steps = steps_in c.taken;
+          taken = then_rests (steps_in c.taken) c.parts.board c.board (goes_on c.parts.board c.board c.taken c.watched (show.effect.power.1 (powered_from c)));
+          board = (
+            board_spilled c a show.work.stopped.levels (left_resting c) refl refl show.work.stopped.fetched,
+            backs c.taken c.setup.shape.levels going c.parts.board c.board c.watched show.steps,
+          );
+          rooted = rooted_shown c (left_resting c) plain (ap (λ (r : Regs). r.root) show.work.stopped.fetched.regs) refl;
           shape = refl;
           keys = refl;
           shown = is;

@@ -1,6 +1,6 @@
 -- Which answers a command has in which states, and the state after: where the state alone decides, the first
 -- condition that holds does; else the engine gives one of the answers that are listed.
-use Rattle.std.specs.Prelude.{ℕ, ◌≡◌, ◌≢◌, ◌<◌, ◌≤◌, ◌+◌, ◌-◌, ◌*◌, ◌^◌, ◌⊎◌, nat_lt, not, Bool, true, false, List, [], ◌∷◌, map, Option, Some, None, Ok, is_none, if◌then◌else◌, ⊤}
+use Rattle.std.specs.Prelude.{ℕ, ◌≡◌, ◌≢◌, ◌<◌, ◌≤◌, ◌+◌, ◌-◌, ◌*◌, ◌^◌, ◌⊎◌, nat_lt, not, Bool, true, false, List, [], ◌∷◌, map, sum, length, slice_index_or, Option, Some, None, Ok, is_none, if◌then◌else◌, IsTrue, ⊤}
 use Rattle.pmem_base.specs.declared.lines.Line.{Line}
 use Rattle.pmem_base.specs.declared.answers.Exhibit.{Exhibit}
 use Rattle.pmem_base.specs.declared.answers.Exhibit.TheVariants.{Clash, Forged}
@@ -8,6 +8,7 @@ use Rattle.pmem_base.specs.Counts.{HasRisen}
 use Rattle.pmem_base.specs.Lines.{line_at, tag_slot}
 use Rattle.pmem_base.specs.Shape.{Shape}
 use Rattle.pmem_base.specs.Layout.{meta_lines}
+use Rattle.pmem_base.specs.Registers.{without_group}
 use Rattle.suite.specs.Setup.{Setup}
 use Rattle.board.specs.Counts.{RisesBy}
 use Rattle.board.specs.Memory.{BoardMemory, with_line_at, with_lines, restored_lines}
@@ -18,18 +19,18 @@ use Rattle.counter_tree.specs.Trees.{is_on_line_path}
 use Rattle.counter_tree.specs.Slots.{slot_of, slot_line}
 use Rattle.counter_tree.specs.Shadow.{shadow_root, shadow_line, shadow_height, shadow_digests, IsShadowDifference}
 use Rattle.collision_witness.specs.Exhibits.{IsExhibit, AreSmallMinors}
-use Rattle.commit_regs.specs.Groups.{redone}
+use Rattle.commit_regs.specs.Groups.{redone, finishing_latches}
 use Rattle.trace_text.specs.declared.talk.Halt.{Halt}
 use Rattle.trace_text.specs.declared.talk.Halt.TheVariants as Stop
 use Rattle.asit_shadow.specs.Paths.{line_path, tag_only}
 use Rattle.asit_shadow.specs.Steps.{slots_read}
-use Rattle.asit_shadow.specs.Plain.{PlainTree, true_node, true_version, true_count, true_cipher, true_slots, writes_made, after_write, after_change, with_board, is_tampered, is_hurt}
+use Rattle.asit_shadow.specs.Plain.{PlainTree, true_node, true_version, true_count, true_cipher, true_slots, after_write, after_change, with_board}
 use Rattle.tree_session.specs.declared.commands.TreeCommand.{TreeCommand}
 use Rattle.tree_session.specs.declared.commands.TreeCommand.TheVariants as Do
 use Rattle.tree_session.specs.declared.answers.TreeAnswer.{TreeAnswer}
 use Rattle.tree_session.specs.declared.answers.TreeAnswer.TheVariants as Say
 use Rattle.tree_session.specs.Answers.{tree_text}
-use Rattle.tree_session.specs.Commands.{reading_of_tree}
+use Rattle.tree_session.specs.Commands.{reading_of_tree, takes_memory}
 use Rattle.tree_session.specs.State.{SessionState}
 
 -- ---- the answers that the state decides
@@ -95,10 +96,14 @@ pub record IsCutAt (s : ℕ) (old new : BoardMemory) : Type 0 where
 abbrev pub board_redone : BoardMemory → List Line
 board_redone board = redone board.regs.group.items board.lines
 
--- the armed group is on the device, and no other is armed
+-- the armed group is on the device and emptied, and the other registers are as they were
 pub record IsGroupDone (old new : BoardMemory) : Type 0 where
   pub lines : new.lines ≡ board_redone old
-  pub no_group : new.regs.group.items ≡ []
+  pub regs : new.regs ≡ without_group old.regs
+
+-- the steps that this takes: a line write for each entry, and a latch where there is one
+abbrev pub group_steps : BoardMemory → ℕ
+group_steps board = length board.regs.group.items + finishing_latches board.regs.group.items
 
 -- device line d is now that of a true node, with its tag
 pub record IsNodeWritten (setup : Setup) (plain : PlainTree) (lines : List Line) (d : ℕ) : Type 0 where
@@ -140,8 +145,8 @@ abbrev pub IsPlainKept : PlainTree → PlainTree → Type 0
 IsPlainKept before after = after ≡ with_board before after.board
 
 -- a write's line is in memory
-abbrev pub IsWriteMade : Shape → ℕ → Line → PlainTree → PlainTree → Type 0
-IsWriteMade g a line before after = after ≡ with_board (after_write g before a line) after.board
+abbrev pub IsPlainWritten : Shape → ℕ → Line → PlainTree → PlainTree → Type 0
+IsPlainWritten g a line before after = after ≡ with_board (after_write g before a line) after.board
 
 -- ---- refusals and exhibits, over the device as it is afterwards
 
@@ -151,23 +156,33 @@ device_node g plain x = line_at plain.board.lines (line_of_node g x)
 abbrev pub device_tag : Shape → PlainTree → ℕ → List ℕ
 device_tag g plain a = tag_slot (line_at plain.board.lines (line_of_tag g a)) 0
 
--- node x, on the path of line a, was ever tampered with
-pub record IsPathTampered (g : Shape) (after : PlainTree) (a x : ℕ) : Type 0 where
+-- node x is on the path of line a, and its device line was ever tampered with
+pub record IsPathTampered (g : Shape) (tampered : List Bool) (a x : ℕ) : Type 0 where
   pub on_path : is_on_line_path g a x ≡ true
   pub below_top : x ≢ 0
-  pub tampered : is_tampered after (line_of_node g x) ≡ true
+  pub its_line : slice_index_or tampered (line_of_node g x) false ≡ true
+
+-- a slot line was
+pub record IsSlotTampered (g : Shape) (tampered : List Bool) : Type 0 where
+  pub slot : ℕ
+  pub inside : slot < tree_slots g
+  pub its_line : slice_index_or tampered (line_of_slot g slot) false ≡ true
+
+-- data line a is hurt
+abbrev pub IsHurt : List Bool → ℕ → Type 0
+IsHurt hurt a = slice_index_or hurt a false ≡ true
 
 -- its line isn't that of a node of the true version
-pub record IsNodeRefused (setup : Setup) (after : PlainTree) (a x : ℕ) : Type 0 where
-  pub place : IsPathTampered setup.shape after a x
+pub record IsNodeRefusal (setup : Setup) (after : PlainTree) (a x : ℕ) : Type 0 where
+  pub place : IsPathTampered setup.shape after.tampered a x
   pub refused :
       node_read setup.formulas x (device_node setup.shape after x) (true_version setup.shape after x) ≡ None
 
 -- its line is that of another node of the true version
-pub record IsNodeShown (setup : Setup) (after : PlainTree) (a : ℕ) (exhibit : Exhibit) : Type 0 where
+pub record IsNodeExhibit (setup : Setup) (after : PlainTree) (a : ℕ) (exhibit : Exhibit) : Type 0 where
   pub x : ℕ
   pub node : Node
-  pub place : IsPathTampered setup.shape after a x
+  pub place : IsPathTampered setup.shape after.tampered a x
   pub accepted :
       node_read setup.formulas x (device_node setup.shape after x) (true_version setup.shape after x)
       ≡ Some node
@@ -178,15 +193,15 @@ pub record IsNodeShown (setup : Setup) (after : PlainTree) (a : ℕ) (exhibit : 
       (without_tag (device_node setup.shape after x)) (tag_slot (device_node setup.shape after x) 3)
 
 -- the tag of line a fails under its counter
-pub record IsDataRefused (setup : Setup) (after : PlainTree) (a : ℕ) : Type 0 where
-  pub hurt : is_hurt after a ≡ true
+pub record IsDataRefusal (setup : Setup) (after : PlainTree) (a : ℕ) : Type 0 where
+  pub hurt : IsHurt after.hurt a
   pub fails :
       setup.formulas.tag_of a (version_counter (true_count after a)) (line_at after.board.lines a)
       ≢ device_tag setup.shape after a
 
 -- the tag of line a fits another cipher than the sealed one
-pub record IsDataShown (setup : Setup) (after : PlainTree) (a : ℕ) (exhibit : Exhibit) : Type 0 where
-  pub hurt : is_hurt after a ≡ true
+pub record IsDataExhibit (setup : Setup) (after : PlainTree) (a : ℕ) (exhibit : Exhibit) : Type 0 where
+  pub hurt : IsHurt after.hurt a
   pub fits :
       setup.formulas.tag_of a (version_counter (true_count after a)) (line_at after.board.lines a)
       ≡ device_tag setup.shape after a
@@ -196,26 +211,20 @@ pub record IsDataShown (setup : Setup) (after : PlainTree) (a : ℕ) (exhibit : 
       ≡ Forged a (version_counter (true_count after a)) (line_at after.board.lines a)
       (device_tag setup.shape after a)
 
--- a slot line was ever tampered with
-pub record IsSlotTampered (g : Shape) (after : PlainTree) : Type 0 where
-  pub slot : ℕ
-  pub inside : slot < tree_slots g
-  pub tampered : is_tampered after (line_of_slot g slot) ≡ true
-
 -- the root of the device's slot lines isn't the register's
-pub record IsShadowRefused (setup : Setup) (after : PlainTree) (kept found : List ℕ) : Type 0 where
-  pub place : IsSlotTampered setup.shape after
+pub record IsShadowRefusal (setup : Setup) (after : PlainTree) (kept found : List ℕ) : Type 0 where
+  pub place : IsSlotTampered setup.shape after.tampered
   pub its_root : kept ≡ after.board.regs.root
   pub root_found :
       found ≡ shadow_root setup.shape setup.formulas (slots_read setup.shape after.board.lines)
   pub differ : kept ≢ found
 
 -- it is, but they aren't the true ones
-pub record IsShadowShown (setup : Setup) (after : PlainTree) (exhibit : Exhibit) : Type 0 where
+pub record IsShadowExhibit (setup : Setup) (after : PlainTree) (exhibit : Exhibit) : Type 0 where
   pub slot : ℕ
   pub height : ℕ
   pub position : ℕ
-  pub place : IsSlotTampered setup.shape after
+  pub place : IsSlotTampered setup.shape after.tampered
   pub one_root :
       shadow_root setup.shape setup.formulas (slots_read setup.shape after.board.lines)
       ≡ after.board.regs.root
@@ -238,112 +247,117 @@ read_bound g = g.levels
 abbrev pub write_bound : Shape → ℕ
 write_bound g = 2 * g.levels + 5
 
+-- the fewest of a write: those of its group, with no write-back
+abbrev pub write_least : Shape → ℕ
+write_least g = g.levels + 5
+
 abbrev pub recovery_bound : Shape → ℕ
 recovery_bound g = g.levels + 4
 
--- each counter of the tree is used up
-abbrev pub IsUsedUp : PlainTree → Type 0
-IsUsedUp before = writes_made before ≡ 2 ^ 64 - 1
+-- all writes were made that can be, of so many of each line
+abbrev pub AllAreMade : List ℕ → Type 0
+AllAreMade counts = sum counts ≡ 2 ^ 64 - 1
 
-abbrev pub AnswersWrite : Setup → PlainTree → ℕ → Line → PlainTree → TreeAnswer → Type 0
-AnswersWrite setup before a line after (Say.Written s) =
-    (IsUsedUp before → ⊥)
+abbrev pub SaysOfWrite : Setup → PlainTree → ℕ → Line → PlainTree → TreeAnswer → Type 0
+SaysOfWrite setup before a line after (Say.Written s) =
+    (AllAreMade before.counts → ⊥)
     × TakesSteps s true before.board after.board
     × RisesBy 2 before.board.latches after.board.latches
+    × (write_least setup.shape ≤ s)
     × (s ≤ write_bound setup.shape)
-    × IsWriteMade setup.shape a line before after
+    × IsPlainWritten setup.shape a line before after
     × IsBoardWritten setup a before after
-AnswersWrite setup before a line after (Say.CutKept s) =
-    (IsUsedUp before → ⊥)
+SaysOfWrite setup before a line after (Say.CutKept s) =
+    (AllAreMade before.counts → ⊥)
     × IsCutAt s before.board after.board
     × RisesBy 1 before.board.latches after.board.latches
+    × (1 ≤ s)
     × (s < write_bound setup.shape)
-    × IsWriteMade setup.shape a line before after
+    × IsPlainWritten setup.shape a line before after
     × IsBoardWritten setup a before after
     × (after.board.regs.group.items ≡ put_by_write setup after a)
-AnswersWrite setup before a line after (Say.CutLost s) =
-    (IsUsedUp before → ⊥)
+SaysOfWrite setup before a line after (Say.CutLost s) =
+    (AllAreMade before.counts → ⊥)
     × IsCutAt s before.board after.board
     × (after.board.latches ≡ before.board.latches)
-    × (s < write_bound setup.shape)
+    × (s ≤ read_bound setup.shape)
     × IsPlainKept before after
     × IsBoardSpilled setup before after
-AnswersWrite setup before a line after (Say.Spent s) =
-    IsUsedUp before
-    × (s ≡ 0)
-    × TakesSteps s true before.board after.board
-    × IsPlainKept before after
-    × IsBoardSpilled setup before after
-AnswersWrite setup before a line after (Say.RefusedNode x s) =
-    (IsUsedUp before → ⊥)
-    × IsNodeRefused setup after a x
+SaysOfWrite setup before a line after (Say.Spent s) = AllAreMade before.counts × (s ≡ 0) × (after ≡ before)
+SaysOfWrite setup before a line after (Say.RefusedNode x s) =
+    (AllAreMade before.counts → ⊥)
+    × IsNodeRefusal setup after a x
     × TakesSteps s true before.board after.board
     × (s ≤ read_bound setup.shape)
     × IsPlainKept before after
     × IsBoardSpilled setup before after
-AnswersWrite setup before a line after answer = ⊥
+SaysOfWrite setup before a line after answer = ⊥
 
-abbrev pub AnswersRead : Setup → PlainTree → ℕ → PlainTree → TreeAnswer → Type 0
-AnswersRead setup before a after (Say.Got line s) =
+abbrev pub SaysOfRead : Setup → PlainTree → ℕ → PlainTree → TreeAnswer → Type 0
+SaysOfRead setup before a after (Say.Got line s) =
     (line ≡ line_at before.memory a)
     × TakesSteps s true before.board after.board
     × (s ≤ read_bound setup.shape)
     × IsPlainKept before after
     × IsBoardSpilled setup before after
-AnswersRead setup before a after (Say.Cut s) =
+SaysOfRead setup before a after (Say.Cut s) =
     IsCutAt s before.board after.board
     × (s < read_bound setup.shape)
     × IsPlainKept before after
     × IsBoardSpilled setup before after
-AnswersRead setup before a after (Say.RefusedData b s) =
+SaysOfRead setup before a after (Say.RefusedData b s) =
     (b ≡ a)
-    × IsDataRefused setup after a
+    × IsDataRefusal setup after a
     × TakesSteps s true before.board after.board
     × (s ≤ read_bound setup.shape)
     × IsPlainKept before after
     × IsBoardSpilled setup before after
-AnswersRead setup before a after (Say.RefusedNode x s) =
-    IsNodeRefused setup after a x
+SaysOfRead setup before a after (Say.RefusedNode x s) =
+    IsNodeRefusal setup after a x
     × TakesSteps s true before.board after.board
     × (s ≤ read_bound setup.shape)
     × IsPlainKept before after
     × IsBoardSpilled setup before after
-AnswersRead setup before a after answer = ⊥
+SaysOfRead setup before a after answer = ⊥
 
-abbrev pub AnswersOn : Setup → PlainTree → PlainTree → TreeAnswer → Type 0
-AnswersOn setup before after (Say.Recovered digests s) =
+abbrev pub SaysOfOn : Setup → PlainTree → PlainTree → TreeAnswer → Type 0
+SaysOfOn setup before after (Say.Recovered digests s) =
     (digests ≡ shadow_digests setup.shape)
     × TakesSteps s true before.board after.board
     × IsGroupDone before.board after.board
+    × (s ≡ group_steps before.board)
     × (s ≤ recovery_bound setup.shape)
     × IsPlainKept before after
-AnswersOn setup before after (Say.Cut s) =
+SaysOfOn setup before after (Say.Cut s) =
     IsCutAt s before.board after.board
     × (board_redone after.board ≡ board_redone before.board)
+    × (after.board.regs ≡ before.board.regs)
+    × (s < group_steps before.board)
     × (s < recovery_bound setup.shape)
     × IsPlainKept before after
-AnswersOn setup before after (Say.RefusedShadow kept found s) =
-    IsShadowRefused setup after kept found
+SaysOfOn setup before after (Say.RefusedShadow kept found s) =
+    IsShadowRefusal setup after kept found
     × TakesSteps s false before.board after.board
     × IsGroupDone before.board after.board
+    × (s ≡ group_steps before.board)
     × (s ≤ recovery_bound setup.shape)
     × IsPlainKept before after
-AnswersOn setup before after answer = ⊥
+SaysOfOn setup before after answer = ⊥
 
 -- what the engine answers to a command
-abbrev pub AnswersEngine : Setup → PlainTree → TreeCommand → PlainTree → TreeAnswer → Type 0
-AnswersEngine setup before (Do.Write a line) after answer = AnswersWrite setup before a line after answer
-AnswersEngine setup before (Do.Read a) after answer = AnswersRead setup before a after answer
-AnswersEngine setup before Do.On after answer = AnswersOn setup before after answer
-AnswersEngine setup before command after answer = ⊥
+abbrev pub SaysOfEngine : Setup → PlainTree → TreeCommand → PlainTree → TreeAnswer → Type 0
+SaysOfEngine setup before (Do.Write a line) after answer = SaysOfWrite setup before a line after answer
+SaysOfEngine setup before (Do.Read a) after answer = SaysOfRead setup before a after answer
+SaysOfEngine setup before Do.On after answer = SaysOfOn setup before after answer
+SaysOfEngine setup before command after answer = ⊥
 
 -- the exhibits that stand in place of an engine's answer
 abbrev pub ShowsEngine : Setup → PlainTree → TreeCommand → PlainTree → Exhibit → Type 0
 ShowsEngine setup before (Do.Write a line) after exhibit =
-    (IsUsedUp before → ⊥) × IsNodeShown setup after a exhibit
+    (AllAreMade before.counts → ⊥) × IsNodeExhibit setup after a exhibit
 ShowsEngine setup before (Do.Read a) after exhibit =
-    IsNodeShown setup after a exhibit ⊎ IsDataShown setup after a exhibit
-ShowsEngine setup before Do.On after exhibit = IsShadowShown setup after exhibit
+    IsNodeExhibit setup after a exhibit ⊎ IsDataExhibit setup after a exhibit
+ShowsEngine setup before Do.On after exhibit = IsShadowExhibit setup after exhibit
 ShowsEngine setup before command after exhibit = ⊥
 
 -- ---- the relation
@@ -352,7 +366,7 @@ ShowsEngine setup before command after exhibit = ⊥
 abbrev pub AnswersWith : Setup → PlainTree → TreeCommand → PlainTree → TreeAnswer → Option TreeAnswer → Type 0
 AnswersWith setup before command after answer (Some known) =
     (answer ≡ known) × (after ≡ after_decided setup.shape before command known)
-AnswersWith setup before command after answer None = AnswersEngine setup before command after answer
+AnswersWith setup before command after answer None = SaysOfEngine setup before command after answer
 
 -- the geometry, the keys and the exhibit are those of before
 pub record IsKept (old new : SessionState) : Type 0 where
@@ -374,6 +388,12 @@ pub record IsAnswered (setup : Setup) (old : SessionState) (command : TreeComman
       AnswersWith setup old.plain command new.plain answer (decided setup.shape old.plain command)
   pub rooted : IsRooted setup new.plain
 
+-- What the engine did to the board before it showed something, in so many steps: it finished the armed group, or wrote
+-- true nodes back. So the line shown is the one that stood there.
+abbrev pub IsBoardLeft : Setup → PlainTree → TreeCommand → ℕ → PlainTree → Type 0
+IsBoardLeft setup before Do.On s after = IsGroupDone before.board after.board × (s ≡ group_steps before.board)
+IsBoardLeft setup before command s after = IsBoardSpilled setup before after × (s ≤ read_bound setup.shape)
+
 -- an exhibit that holds, where the state doesn't decide: power is off after it, and nothing else is told
 pub record IsEngineShown (setup : Setup) (old : SessionState) (command : TreeCommand) (exhibit : Exhibit) (new : SessionState) :
     Type 0 where
@@ -382,7 +402,10 @@ pub record IsEngineShown (setup : Setup) (old : SessionState) (command : TreeCom
   pub holds : IsExhibit setup.formulas exhibit
   pub shows : ShowsEngine setup old.plain command new.plain exhibit
   pub plain : IsPlainKept old.plain new.plain
-  pub unpowered : new.plain.board.powered ≡ false
+  pub steps : ℕ
+  pub taken : TakesSteps steps false old.plain.board new.plain.board
+  pub board : IsBoardLeft setup old.plain command steps new.plain
+  pub rooted : IsRooted setup new.plain
   pub shape : new.shape ≡ old.shape
   pub keys : new.keys ≡ old.keys
   pub shown : new.shown ≡ Some exhibit
@@ -392,9 +415,21 @@ abbrev pub IsShownBy : Setup → SessionState → TreeCommand → Exhibit → Se
 IsShownBy setup old command exhibit new =
     IsEngineShown setup old command exhibit new ⊎ ((old.shown ≡ Some exhibit) × (new ≡ old))
 
+-- what a command takes memory for: a recovery, or a first snapshot
+abbrev pub TakesMemory : PlainTree → TreeCommand → Type 0
+TakesMemory before Do.On = before.board.powered ≡ false
+TakesMemory before Do.Snap = before.board.snapshot ≡ None
+TakesMemory before command = ⊥
+
+-- a command may want memory
+pub record CanWantMemory (old : SessionState) (command : TreeCommand) : Type 0 where
+  pub takes : IsTrue (takes_memory command)
+  pub not_shown : old.shown ≡ None
+  pub needs : TakesMemory old.plain command
+
 -- why a command has no answer: memory is wanted, and nothing was done; or it is an exhibit
 abbrev pub IsHalt : Setup → SessionState → TreeCommand → Halt → SessionState → Type 0
-IsHalt setup old command Stop.Memory new = new ≡ old
+IsHalt setup old command Stop.Memory new = CanWantMemory old command × (new ≡ old)
 IsHalt setup old command (Stop.Shown exhibit) new = IsShownBy setup old command exhibit new × AreSmallMinors exhibit
 IsHalt setup old command (Stop.Line kind) new = ⊥
 
@@ -414,3 +449,9 @@ pub record IsShownOf (setup : Setup) (old : SessionState) (line : List ℕ) (exh
   pub its_reading : reading_of_tree line ≡ Ok (Some command)
   pub new : SessionState
   pub shown : IsShownBy setup old command exhibit new
+
+-- the line asks for a command that may want memory
+pub record IsStarvedOf (old : SessionState) (line : List ℕ) : Type 0 where
+  pub command : TreeCommand
+  pub its_reading : reading_of_tree line ≡ Ok (Some command)
+  pub wanted : CanWantMemory old command

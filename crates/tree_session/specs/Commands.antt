@@ -1,5 +1,5 @@
 -- The grammar of a session over a counter tree: what one line asks for.
-use Rattle.std.specs.Prelude.{ℕ, List, [], ◌∷◌, find, codes, Option, Some, None, Result, Ok, Err}
+use Rattle.std.specs.Prelude.{ℕ, Bool, true, false, List, [], ◌∷◌, find, codes, Option, Some, None, Result, Ok, Err}
 use Rattle.std.specs.Str.{bytes_eq}
 use Rattle.pmem_base.specs.declared.commands.Kind.{Kind}
 use Rattle.pmem_base.specs.declared.lines.Line.{Line}
@@ -66,6 +66,12 @@ command_of_found (Some found) words = command_of_verb found.1 words
 -- the command of a first word and of those after it
 unfoldable pub command_of : Word → List Word → Result TreeCommand Kind
 command_of name words = command_of_found (find (λ entry. bytes_eq name entry.0) verbs) words
+
+-- whether the answer to the command may want memory
+abbrev pub takes_memory : TreeCommand → Bool
+takes_memory Do.On = true
+takes_memory Do.Snap = true
+takes_memory command = false
 
 -- ---- a line
 

@@ -1,26 +1,25 @@
 -- What a session's answers promise: in each chain of them from the beginning on, the commands and answers so far say
 -- of the next one which answers it may have: a read shows the line that was last written, power and the fuse are as the answers
 -- told, a refusal or an exhibit comes only of a place that was tampered with, and a write is spent exactly once all are made.
-use Rattle.std.specs.Prelude.{ℕ, ◌≡◌, ◌≢◌, ◌<◌, ◌≤◌, ◌+◌, ◌-◌, ◌^◌, ◌⊎◌, Bool, true, false, List, [], ◌∷◌, replicate, Option, Some, None, All, slice_set, slice_index_or, ⊤}
+use Rattle.std.specs.Prelude.{ℕ, ◌≡◌, ◌≢◌, ◌<◌, ◌≤◌, ◌+◌, ◌-◌, ◌⊎◌, Bool, true, false, List, [], ◌∷◌, replicate, Option, Some, None, All, slice_set, slice_index, ⊤}
 use Rattle.pmem_base.specs.declared.lines.Line.{Line}
-use Rattle.pmem_base.specs.declared.lines.Ctr.{Ctr}
 use Rattle.pmem_base.specs.declared.answers.Exhibit.{Exhibit}
 use Rattle.pmem_base.specs.declared.answers.Exhibit.TheVariants.{Clash, Forged}
 use Rattle.pmem_base.specs.Lines.{line_at, zero_line}
 use Rattle.pmem_base.specs.Shape.{Shape}
 use Rattle.suite.specs.Setup.{Setup}
+use Rattle.bonsai_tree.specs.Positions.{level_of}
 use Rattle.collision_witness.specs.Exhibits.{IsExhibit}
-use Rattle.counter_tree.specs.Layout.{tree_lines, tree_slots, tree_size, line_of_node, line_of_slot}
-use Rattle.counter_tree.specs.Nodes.{node_place}
+use Rattle.counter_tree.specs.Layout.{tree_lines, tree_size}
+use Rattle.counter_tree.specs.Nodes.{node_place, total, version_counter}
 use Rattle.counter_tree.specs.Shadow.{shadow_digests}
-use Rattle.counter_tree.specs.Trees.{is_on_line_path}
-use Rattle.asit_shadow.specs.Plain.{hurt_with}
+use Rattle.asit_shadow.specs.Plain.{hurt_with, node_above_lines}
 use Rattle.tree_session.specs.declared.commands.TreeCommand.{TreeCommand}
 use Rattle.tree_session.specs.declared.commands.TreeCommand.TheVariants as Do
 use Rattle.tree_session.specs.declared.answers.TreeAnswer.{TreeAnswer}
 use Rattle.tree_session.specs.declared.answers.TreeAnswer.TheVariants as Say
 use Rattle.tree_session.specs.State.{SessionState, IsNewTree}
-use Rattle.tree_session.specs.Answered.{Fits, fuse_less, read_bound, write_bound, recovery_bound, IsAnswered, IsShownBy}
+use Rattle.tree_session.specs.Answered.{Fits, fuse_less, read_bound, write_bound, write_least, recovery_bound, IsPathTampered, IsSlotTampered, IsHurt, AllAreMade, IsAnswered, IsShownBy}
 
 -- ---- chains of answers
 
@@ -44,13 +43,13 @@ pub record IsSession (setup : Setup) (replies : List TreeReply) (last : SessionS
 
 -- ---- what commands and answers say by themselves
 
--- the lines written last and how many writes were made, as answered ok or cut kept; whether a device line was ever changed
--- by a poke or a back that was answered ok, and whether a data line's cipher or tag line was so changed since the line was last written;
+-- the lines written last and how often each was written, as answered ok or cut kept; whether a device line was ever tampered
+-- with, by a poke or a back that was answered ok, and whether a data line's cipher or tag line was since the line was last written;
 -- power, the steps to the next cut, and whether there is a snapshot
 pub record History : Type 0 where
   pub memory : List Line
-  pub written : ℕ
-  pub changed : List Bool
+  pub counts : List ℕ
+  pub tampered : List Bool
   pub hurt : List Bool
   pub power : Bool
   pub fuse : Option ℕ
@@ -61,8 +60,8 @@ abbrev pub first_history : Shape → History
 first_history g =
     record {
       memory = replicate (tree_lines g) zero_line;
-      written = 0;
-      changed = replicate (tree_size g) false;
+      counts = replicate (tree_lines g) 0;
+      tampered = replicate (tree_size g) false;
       hurt = replicate (tree_lines g) false;
       power = true;
       fuse = None;
@@ -75,16 +74,16 @@ memory_with memory (Do.Write a line) (Say.Written s) = slice_set memory a line
 memory_with memory (Do.Write a line) (Say.CutKept s) = slice_set memory a line
 memory_with memory command answer = memory
 
-abbrev pub written_with : ℕ → TreeCommand → TreeAnswer → ℕ
-written_with written (Do.Write a line) (Say.Written s) = written + 1
-written_with written (Do.Write a line) (Say.CutKept s) = written + 1
-written_with written command answer = written
+abbrev pub counts_with : List ℕ → TreeCommand → TreeAnswer → List ℕ
+counts_with counts (Do.Write a line) (Say.Written s) = slice_set counts a (slice_index counts a + 1)
+counts_with counts (Do.Write a line) (Say.CutKept s) = slice_set counts a (slice_index counts a + 1)
+counts_with counts command answer = counts
 
--- device lines are changed by poke and back
-abbrev pub changed_with : List Bool → TreeCommand → TreeAnswer → List Bool
-changed_with changed (Do.Poke d line) Say.Ok = slice_set changed d true
-changed_with changed (Do.Back d) Say.Ok = slice_set changed d true
-changed_with changed command answer = changed
+-- device lines are tampered with by poke and back
+abbrev pub tampered_with : List Bool → TreeCommand → TreeAnswer → List Bool
+tampered_with tampered (Do.Poke d line) Say.Ok = slice_set tampered d true
+tampered_with tampered (Do.Back d) Say.Ok = slice_set tampered d true
+tampered_with tampered command answer = tampered
 
 -- so data lines are hurt, until they are written
 abbrev pub hurt_by : Shape → List Bool → TreeCommand → TreeAnswer → List Bool
@@ -116,7 +115,6 @@ fuse_with fuse command (Say.Recovered digests s) = fuse_less s fuse
 fuse_with fuse command (Say.RefusedNode x s) = fuse_less s fuse
 fuse_with fuse command (Say.RefusedData a s) = fuse_less s fuse
 fuse_with fuse command (Say.RefusedShadow kept found s) = fuse_less s fuse
-fuse_with fuse command (Say.Spent s) = fuse_less s fuse
 fuse_with fuse command answer = fuse
 
 abbrev pub snapped_with : Bool → TreeCommand → TreeAnswer → Bool
@@ -127,8 +125,8 @@ abbrev pub history_with : Shape → History → TreeCommand → TreeAnswer → H
 history_with g history command answer =
     record {
       memory = memory_with history.memory command answer;
-      written = written_with history.written command answer;
-      changed = changed_with history.changed command answer;
+      counts = counts_with history.counts command answer;
+      tampered = tampered_with history.tampered command answer;
       hurt = hurt_by g history.hurt command answer;
       power = power_with history.power command answer;
       fuse = fuse_with history.fuse command answer;
@@ -146,26 +144,7 @@ pub record IsServed (g : Shape) (history : History) (a : ℕ) : Type 0 where
   pub power : history.power ≡ true
   pub inside : a < tree_lines g
 
--- all writes were made that can be
-abbrev pub IsUsedUp : History → Type 0
-IsUsedUp history = history.written ≡ 2 ^ 64 - 1
-
--- node x is on the path of line a below the top, and its device line was changed
-pub record IsNodeChanged (g : Shape) (history : History) (a x : ℕ) : Type 0 where
-  pub on_path : is_on_line_path g a x ≡ true
-  pub below_top : x ≢ 0
-  pub changed : slice_index_or history.changed (line_of_node g x) false ≡ true
-
--- a slot line was changed
-pub record IsSlotChanged (g : Shape) (history : History) : Type 0 where
-  pub slot : ℕ
-  pub inside : slot < tree_slots g
-  pub changed : slice_index_or history.changed (line_of_slot g slot) false ≡ true
-
-abbrev pub IsHurt : History → ℕ → Type 0
-IsHurt history a = slice_index_or history.hurt a false ≡ true
-
--- so many steps at most, before a cut
+-- so many steps at most, within the fuse
 abbrev pub TakesFew : ℕ → ℕ → History → Type 0
 TakesFew s most history = Fits s history.fuse × (s ≤ most)
 
@@ -176,12 +155,15 @@ EndsAt s most history = (history.fuse ≡ Some s) × (s < most)
 abbrev pub MayWrite : Shape → History → ℕ → TreeAnswer → Type 0
 MayWrite g history a Say.Off = history.power ≡ false
 MayWrite g history a Say.Range = (history.power ≡ true) × (tree_lines g ≤ a)
-MayWrite g history a (Say.Written s) = IsServed g history a × (IsUsedUp history → ⊥) × TakesFew s (write_bound g) history
-MayWrite g history a (Say.CutKept s) = IsServed g history a × (IsUsedUp history → ⊥) × EndsAt s (write_bound g) history
-MayWrite g history a (Say.CutLost s) = IsServed g history a × (IsUsedUp history → ⊥) × EndsAt s (write_bound g) history
+MayWrite g history a (Say.Written s) =
+    IsServed g history a × (AllAreMade history.counts → ⊥) × (write_least g ≤ s) × TakesFew s (write_bound g) history
+MayWrite g history a (Say.CutKept s) =
+    IsServed g history a × (AllAreMade history.counts → ⊥) × (1 ≤ s) × EndsAt s (write_bound g) history
+MayWrite g history a (Say.CutLost s) =
+    IsServed g history a × (AllAreMade history.counts → ⊥) × (history.fuse ≡ Some s) × (s ≤ read_bound g)
 MayWrite g history a (Say.RefusedNode x s) =
-    IsServed g history a × (IsUsedUp history → ⊥) × IsNodeChanged g history a x × TakesFew s (read_bound g) history
-MayWrite g history a (Say.Spent s) = IsServed g history a × IsUsedUp history × (s ≡ 0)
+    IsServed g history a × (AllAreMade history.counts → ⊥) × IsPathTampered g history.tampered a x × TakesFew s (read_bound g) history
+MayWrite g history a (Say.Spent s) = IsServed g history a × AllAreMade history.counts × (s ≡ 0)
 MayWrite g history a answer = ⊥
 
 abbrev pub MayRead : Shape → History → ℕ → TreeAnswer → Type 0
@@ -191,9 +173,9 @@ MayRead g history a (Say.Got line s) =
     IsServed g history a × (line ≡ line_at history.memory a) × TakesFew s (read_bound g) history
 MayRead g history a (Say.Cut s) = IsServed g history a × EndsAt s (read_bound g) history
 MayRead g history a (Say.RefusedData b s) =
-    IsServed g history a × (b ≡ a) × IsHurt history a × TakesFew s (read_bound g) history
+    IsServed g history a × (b ≡ a) × IsHurt history.hurt a × TakesFew s (read_bound g) history
 MayRead g history a (Say.RefusedNode x s) =
-    IsServed g history a × IsNodeChanged g history a x × TakesFew s (read_bound g) history
+    IsServed g history a × IsPathTampered g history.tampered a x × TakesFew s (read_bound g) history
 MayRead g history a answer = ⊥
 
 abbrev pub MayTurnOn : Shape → History → TreeAnswer → Type 0
@@ -202,7 +184,7 @@ MayTurnOn g history (Say.Recovered digests s) =
     (history.power ≡ false) × (digests ≡ shadow_digests g) × TakesFew s (recovery_bound g) history
 MayTurnOn g history (Say.Cut s) = (history.power ≡ false) × EndsAt s (recovery_bound g) history
 MayTurnOn g history (Say.RefusedShadow kept found s) =
-    (history.power ≡ false) × IsSlotChanged g history × (kept ≢ found) × TakesFew s (recovery_bound g) history
+    (history.power ≡ false) × IsSlotTampered g history.tampered × (kept ≢ found) × TakesFew s (recovery_bound g) history
 MayTurnOn g history answer = ⊥
 
 abbrev pub MayTurnOff : History → TreeAnswer → Type 0
@@ -240,34 +222,36 @@ AreAllowed g history (reply ∷ replies) =
 
 -- ---- exhibits
 
--- the exhibit is a forged line of a changed node on the path of line a
+-- the version of node x after so many writes of each line
+abbrev pub version_by : Shape → List ℕ → ℕ → ℕ
+version_by g counts x = total (node_above_lines g counts (g.levels - level_of x) x)
+
+-- the exhibit is a forged line, under its version, of a node of the path of line a that was tampered with
 pub record ShowsNode (g : Shape) (history : History) (a : ℕ) (exhibit : Exhibit) : Type 0 where
   pub x : ℕ
-  pub ctr : Ctr
   pub cipher : Line
   pub tag : List ℕ
-  pub changed : IsNodeChanged g history a x
-  pub its : exhibit ≡ Forged (node_place x) ctr cipher tag
+  pub place : IsPathTampered g history.tampered a x
+  pub its : exhibit ≡ Forged (node_place x) (version_counter (version_by g history.counts x)) cipher tag
 
--- it is a forged cipher of line a, which is hurt
+-- it is a forged cipher of line a, which is hurt, under its counter
 pub record ShowsLine (history : History) (a : ℕ) (exhibit : Exhibit) : Type 0 where
-  pub ctr : Ctr
   pub cipher : Line
   pub tag : List ℕ
-  pub hurt : IsHurt history a
-  pub its : exhibit ≡ Forged a ctr cipher tag
+  pub hurt : IsHurt history.hurt a
+  pub its : exhibit ≡ Forged a (version_counter (slice_index history.counts a)) cipher tag
 
--- it is a clash of two slot trees, of which a slot line was changed
+-- it is a clash of two slot trees, and a slot line was tampered with
 pub record ShowsClash (g : Shape) (history : History) (exhibit : Exhibit) : Type 0 where
   pub position : ℕ
   pub first : Line
   pub second : Line
-  pub changed : IsSlotChanged g history
+  pub place : IsSlotTampered g history.tampered
   pub its : exhibit ≡ Clash position first second
 
 abbrev pub MayShow : Shape → History → TreeCommand → Exhibit → Type 0
 MayShow g history (Do.Write a line) exhibit =
-    IsServed g history a × (IsUsedUp history → ⊥) × ShowsNode g history a exhibit
+    IsServed g history a × (AllAreMade history.counts → ⊥) × ShowsNode g history a exhibit
 MayShow g history (Do.Read a) exhibit =
     IsServed g history a × (ShowsNode g history a exhibit ⊎ ShowsLine history a exhibit)
 MayShow g history Do.On exhibit = (history.power ≡ false) × ShowsClash g history exhibit
@@ -275,10 +259,11 @@ MayShow g history command exhibit = ⊥
 
 -- ---- without tampering
 
-abbrev pub IsNoTampering : TreeCommand → Type 0
-IsNoTampering (Do.Poke d line) = ⊥
-IsNoTampering (Do.Back d) = ⊥
-IsNoTampering command = ⊤
+-- neither a poke nor a back that was answered ok
+abbrev pub IsNoTampering : TreeCommand → TreeAnswer → Type 0
+IsNoTampering (Do.Poke d line) Say.Ok = ⊥
+IsNoTampering (Do.Back d) Say.Ok = ⊥
+IsNoTampering command answer = ⊤
 
 abbrev pub IsUnrefused : TreeAnswer → Type 0
 IsUnrefused (Say.RefusedNode x s) = ⊥
@@ -306,6 +291,6 @@ IsTreeShown setup =
 abbrev pub IsTreeUntouched : Setup → Type 0
 IsTreeUntouched setup =
     (replies : List TreeReply) (last : SessionState) → IsSession setup replies last
-    → All (λ (reply : TreeReply). IsNoTampering reply.command) replies
+    → All (λ (reply : TreeReply). IsNoTampering reply.command reply.answer) replies
     → All (λ (reply : TreeReply). IsUnrefused reply.answer) replies
     × ((command : TreeCommand) (exhibit : Exhibit) (new : SessionState) → IsShownBy setup last command exhibit new → ⊥)

@@ -9,7 +9,7 @@ use pmem_base::{Line, Tag};
 /// What a command is answered. Steps are the line writes and latches that it took.
 #[derive(Clone, Copy, Debug, PartialEq, Eq)]
 pub enum TreeAnswer {
-    /// A cut is set, power is off, or the device was tampered with.
+    /// A cut is set, power is off, a snapshot is taken, or a device line was changed.
     Ok,
     /// Power is off, so nothing was done.
     Off,

@@ -45,7 +45,7 @@ use Rattle.wear_session.specs.declared.answers.WearAnswer.TheVariants as Say
 use Rattle.wear_session.specs.During.{HasStarted, HasOpenedAfter, started_as}
 use Rattle.wear_session.specs.State.{WearState, setup_in}
 use Rattle.wear_session.specs.World.{WearParts, IsWearWorld, IsLevelledOff, IsLevelledBy, wear_in, logical_memory, wear_of}
-use Rattle.wear_session.specs.Answered.{IsAnswered, IsShownBy, HasOpened as HasOpenedAs, with_power, read_steps}
+use Rattle.wear_session.specs.Answered.{IsAnswered, IsShownBy, CanWantMemory, HasOpened as HasOpenedAs, decided, with_power, read_steps}
 use Rattle.wear_session.proofs.Worlds.{at_most, fewer, goes_to, cut_off, on_after, off_after}
 use Rattle.wear_session.proofs.Seen.{setup_under, served, seen_from, held_under}
 use Rattle.wear_session.proofs.EngineWrites.{most_within, fewer_within, AreDone, read_line, read_done, read_cut}
@@ -93,8 +93,11 @@ module _ (c : OnCall) where
   no_count : old.count ≡ 0
   no_count = ap (λ (g : Option Gapped). unwrap_or (option_map (λ (k : Gapped). k.count) g) 0) c.there
 
+  on_decided : decided old Do.On ≡ None
+  on_decided = ap (λ b. if b then Some Say.Already else None) off.unpowered
+
   undecided : (answer : WearAnswer) (new : WearState) → HasOpenedAs old answer new → IsAnswered setup old Do.On answer new
-  undecided answer new it = served setup old new Do.On answer (ap (λ b. if b then Some Say.Already else None) off.unpowered) it
+  undecided answer new it = served setup old new Do.On answer on_decided it
 
   -- ---- where no mark is made
 
@@ -392,6 +395,7 @@ module _ (c : OnCall) where
         dark_world marks rested refl durable (few_by (without_group p.board.regs) it.regs (omega arith)),
         (
           off.unpowered,
+          within,
           it.twin,
           seal_twin setup p.board.regs p.ledger (plain_memory setup p.ledger.marks) p.board.regs.loss at major low high cipher tag
               c.world.whole_formulas off.durable.mendable.anchored c.world.places within made.0,
@@ -431,6 +435,10 @@ module _ (c : OnCall) where
       → Exit c.board (Some gapped) (Say.Opened gapped.wear.start gapped.wear.gap c.said)
   open_exit gapped is =
       said_as c.board (Some gapped) (λ k. Say.Opened gapped.wear.start gapped.wear.gap k) (outcome_as (Ok gapped) is)
+
+  -- the answer wasn't decided, so memory may be wanted for it
+  pub wanted_on : CanWantMemory c.now Do.On
+  wanted_on = subst (λ (w : WearState). CanWantMemory w Do.On) c.is (refl, on_decided)
 
   -- no levelled lines are there, as before
   dark_exit : (board : BoardMemory) (answer : WearAnswer) → Exit board None answer → Exit board p.gapped answer

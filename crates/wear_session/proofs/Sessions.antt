@@ -88,6 +88,23 @@ still_step first next w command answer read memory turns mended counts same =
       mended = mended;
     }
 
+-- an answer by which power goes off, and nothing else of that changes
+dark_step : (first next : WearState) (w : ℕ) (command : WearCommand) (answer : WearAnswer) → IsReadOf first.memory command answer
+    → memory_with_reply first.memory command answer ≡ first.memory
+    → ((new : Turning) → (new.wear ≡ first.wear) × (new.written ≡ 0) → TurnsTo (lines_in first) first.every (turning_of first w) command answer new)
+    → IsMendedAnswer command answer → next.power ≡ false → IsStill first next → IsStep first next w command answer
+dark_step first next w command answer read memory turns mended dark same =
+    record {
+      shape = same.shape;
+      its_every = same.its_every;
+      read = read;
+      memory = same.memory ∙ sym memory;
+      after = 0;
+      turns = turns (turning_of next 0) (same.wear, refl);
+      count = λ lit. absurd (true≢false (sym lit ∙ dark));
+      mended = mended;
+    }
+
 -- ---- a write
 
 -- so many engine writes were done
@@ -227,8 +244,8 @@ module _ (setup : Setup) (first next : WearState) (w a : ℕ) (plain : Line) (so
         its_every = left.its_every;
         read = tt;
         memory = left.memory ∙ some_of writing.done first.memory (slice_set first.memory a plain) done;
-        after = w;
-        turns = wears;
+        after = 0;
+        turns = (wears, refl);
         count = λ lit. absurd (true≢false (sym lit ∙ dark));
         mended = tt;
       }
@@ -256,7 +273,7 @@ module _ (setup : Setup) (first next : WearState) (w a : ℕ) (plain : Line) (so
           (elim came.1 [ inl all ↦ all.0 | inr stopped ↦ (let waits = stopped.one_waits in omega (arith, waits)) ])
           ends.becomes.power (left_cut first next a plain writing steps _ ends)
       go (Say.CutLost steps) came ends =
-          still_step first next w (Do.Write a plain) (Say.CutLost steps) tt refl (λ new h. h) tt counts
+          dark_step first next w (Do.Write a plain) (Say.CutLost steps) tt refl (λ new h. h) tt ends.becomes.power
           (still_left first next a plain writing.done came.0 (left_cut first next a plain writing steps _ ends))
       go answer came ends = absurd came
 
@@ -281,7 +298,7 @@ module _ (setup : Setup) (first next : WearState) (w : ℕ) (some : 1 ≤ first.
   read_step a (Say.Got line steps) it =
       still_step first next w (Do.Read a) (Say.Got line steps) it.0 refl (λ new h. h) tt counts (still_going first steps _ as_it_is it.1)
   read_step a (Say.Cut steps) it =
-      still_step first next w (Do.Read a) (Say.Cut steps) tt refl (λ new h. h) tt counts (still_cut first first next steps _ as_it_is it)
+      dark_step first next w (Do.Read a) (Say.Cut steps) tt refl (λ new h. h) tt it.becomes.power (still_cut first first next steps _ as_it_is it)
   read_step a answer it = absurd it
 
   open_step : (answer : WearAnswer) → HasOpened first answer next → IsStep first next w Do.On answer
@@ -301,7 +318,7 @@ module _ (setup : Setup) (first next : WearState) (w : ℕ) (some : 1 ≤ first.
         mended = tt;
       }
   open_step (Say.Cut steps) it =
-      still_step first next w Do.On (Say.Cut steps) tt refl (λ new h. h) tt counts (still_cut first first next steps _ as_it_is it)
+      dark_step first next w Do.On (Say.Cut steps) tt refl (λ new h. h) tt it.becomes.power (still_cut first first next steps _ as_it_is it)
   open_step answer it = absurd it
 
   -- a line's command, where power is on and there is such a line, or else
@@ -356,7 +373,7 @@ module _ (setup : Setup) (first next : WearState) (w : ℕ) (some : 1 ≤ first.
       → IsStep first next w Do.Off answer
   off_by true answer lit fixed same is it =
       subst (IsStep first next w Do.Off) (sym (is ∙ same))
-      (still_step first next w Do.Off Say.Ok tt refl (λ new h. h) tt counts
+      (dark_step first next w Do.Off Say.Ok tt refl (λ new h. h) tt (ap (λ (s : WearState). s.power) it)
       (subst (λ (s : WearState). IsStill first s) (sym it)
       (record { shape = refl; its_every = refl; memory = refl; wear = refl; count = λ lit. absurd (true≢false (sym lit)) })))
   off_by false answer dark fixed same is it =

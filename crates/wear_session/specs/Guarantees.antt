@@ -61,7 +61,8 @@ AreReadAsWritten memory (reply ∷ replies) =
 
 -- ---- start and gap
 
--- what the answers alone say of the wear: the wear, and how many lines were written since power came on
+-- what the answers alone say of the wear: the wear, and how many lines were written since power came on; 0 where a
+-- cut or `off` turned it off
 pub record Turning : Type 0 where
   pub wear : Wear
   pub written : ℕ
@@ -82,7 +83,10 @@ TurnsTo n every old (Do.Write a plain) (Say.Written steps) new =
 TurnsTo n every old (Do.Write a plain) (Say.Held page steps) new =
     (is_turn every old ≡ true) × (new.wear ≡ old.wear) × (new.written ≡ old.written + 1)
 TurnsTo n every old (Do.Write a plain) (Say.CutKept steps) new =
-    (new.wear ≡ old.wear) ⊎ (new.wear ≡ wear_turned n every old)
+    ((new.wear ≡ old.wear) ⊎ (new.wear ≡ wear_turned n every old)) × (new.written ≡ 0)
+TurnsTo n every old command (Say.CutLost steps) new = (new.wear ≡ old.wear) × (new.written ≡ 0)
+TurnsTo n every old command (Say.Cut steps) new = (new.wear ≡ old.wear) × (new.written ≡ 0)
+TurnsTo n every old Do.Off Say.Ok new = (new.wear ≡ old.wear) × (new.written ≡ 0)
 TurnsTo n every old Do.On (Say.Opened start gap steps) new =
     (start ≡ old.wear.start) × (gap ≡ old.wear.gap) × (new.wear ≡ old.wear) × (new.written ≡ 0)
 TurnsTo n every old (Do.Place a) (Say.At place) new = (place ≡ place_of n old.wear a) × (new ≡ old)

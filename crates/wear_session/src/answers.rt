@@ -9,7 +9,7 @@ use pmem_base::Line;
 /// What a command is answered. Steps are the line writes and latches that it took.
 #[derive(Clone, Copy, Debug, PartialEq, Eq)]
 pub enum WearAnswer {
-    /// A cut is set, or power is off.
+    /// A cut is set, or power was turned off.
     Ok,
     /// Power is off, so nothing was done.
     Off,

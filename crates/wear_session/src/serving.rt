@@ -3,7 +3,7 @@ ghost use Rattle.std.specs.Prelude.{◌≡◌, IfOk, OnErr};
 ghost use Rattle.std.specs.List.{list_any};
 ghost use Rattle.wear_session.specs.declared.commands.WearCommand.TheVariants as Do;
 ghost use Rattle.wear_session.specs.State.{setup_in};
-ghost use Rattle.wear_session.specs.Answered.{is_own_seal, IsAnswered};
+ghost use Rattle.wear_session.specs.Answered.{is_own_seal, IsAnswered, CanWantMemory};
 
 use crate::answers::WearAnswer;
 use crate::calls;
@@ -36,6 +36,7 @@ impl<S: Suite + Drop> WearWorld<S> {
     pub(crate) fn write(&mut self, at: u64, line: &Line) -> Result<WearAnswer, MemFault>
         ensures answered { IfOk result (λ answer. IsAnswered (setup_in S.formulas_of self.old) self.old (Do.Write at line.now) answer self.new) }
         ensures err { OnErr result (self.new ≡ self.old) }
+        ensures wanting { OnErr result (CanWantMemory self.old (Do.Write at line.now)) }
     {
         let Some(gapped) = &mut self.gapped else {
             return Ok(WearAnswer::Off);

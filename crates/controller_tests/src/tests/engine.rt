@@ -10,6 +10,7 @@ ghost use Rattle.board.specs.Memory.{device_of};
 ghost use Rattle.seal_ledger.specs.View.{ledger_of};
 ghost use Rattle.pmem_engine.specs.Calls.{IsUsable};
 
+use crate::tests::equal;
 use board::{Board, MemBoard};
 use bonsai_tree::node_of;
 use line_seal::{put_tag, seal};
@@ -283,25 +284,25 @@ impl Chip {
 fn reads(rt: HostRuntime) -> Result<(), Fail> {
     let mut chip = formatted(&rt, rt.alloc(), false, 1)?;
     let cold = chip.counts();
-    assert_eq!(rt; chip.read(&rt, 5), Ok(Line::default()));
-    assert_eq!(rt; chip.since(cold), (0, 4, 1, 2));
+    equal(&rt, chip.read(&rt, 5), Ok(Line::default()));
+    equal(&rt, chip.since(cold), (0, 4, 1, 2));
     let warm = chip.counts();
     chip.flip(&rt, 320, 0);
     chip.flip(&rt, 321, 0);
-    assert_eq!(rt; chip.read(&rt, 7), Ok(Line::default()));
-    assert_eq!(rt; chip.since(warm), (0, 2, 1, 0));
+    equal(&rt, chip.read(&rt, 7), Ok(Line::default()));
+    equal(&rt, chip.since(warm), (0, 2, 1, 0));
     chip.flip(&rt, 322, 0);
-    assert_eq!(rt; chip.read(&rt, 64), Err(Fault::Meta { x: 2 }));
+    equal(&rt, chip.read(&rt, 64), Err(Fault::Meta { x: 2 }));
     chip.flip(&rt, 7, 0);
-    assert_eq!(rt; chip.read(&rt, 7), Err(Fault::Tag { at: 7 }));
+    equal(&rt, chip.read(&rt, 7), Err(Fault::Tag { at: 7 }));
     // The weak tag of two flipped bits is that of none.
     chip.flip(&rt, 7, 8);
-    assert_eq!(rt; chip.read(&rt, 7), Err(Fault::Shown));
+    equal(&rt, chip.read(&rt, 7), Err(Fault::Shown));
     assert!(rt; matches!(chip.ledger.exhibit(), Some(Exhibit::Forged { at: 7, .. })));
-    assert_eq!(rt; chip.read(&rt, 5), Err(Fault::Down));
-    assert_eq!(rt; chip.turn(&rt), Err(Fault::Down));
-    assert_eq!(rt; chip.flush(), Err(Fault::Down));
-    assert_eq!(rt; chip.set_loss(&rt, 8), Err(Fault::Down));
+    equal(&rt, chip.read(&rt, 5), Err(Fault::Down));
+    equal(&rt, chip.turn(&rt), Err(Fault::Down));
+    equal(&rt, chip.flush(), Err(Fault::Down));
+    equal(&rt, chip.set_loss(&rt, 8), Err(Fault::Down));
     Ok(())
 }
 
@@ -314,17 +315,18 @@ fn clashes(rt: HostRuntime) -> Result<(), Fail> {
     chip.flip(&rt, 321, 8);
     let first = chip.peek(&rt, 321);
     let start = chip.counts();
-    assert_eq!(rt; chip.read(&rt, 0), Err(Fault::Shown));
-    assert_eq!(rt; chip.since(start), (0, 2, 0, 2));
-    assert_eq!(rt;
+    equal(&rt, chip.read(&rt, 0), Err(Fault::Shown));
+    equal(&rt, chip.since(start), (0, 2, 0, 2));
+    equal(
+        &rt,
         chip.ledger.exhibit(),
         Some(&Exhibit::Clash {
             x: 1,
             first,
-            second
-        })
+            second,
+        }),
     );
-    assert_eq!(rt; chip.read(&rt, 64), Err(Fault::Down));
+    equal(&rt, chip.read(&rt, 64), Err(Fault::Down));
     Ok(())
 }
 
@@ -334,13 +336,13 @@ fn turns(rt: HostRuntime) -> Result<(), Fail> {
     let mut chip = formatted(&rt, rt.alloc(), true, 1)?;
     for at in 0..64_u8 {
         let start = chip.counts();
-        assert_eq!(rt; chip.turn(&rt), Ok(Some((u32::from(at), 63 - at))));
-        assert_eq!(rt; chip.since(start), (4, 2, 2, 0));
+        equal(&rt, chip.turn(&rt), Ok(Some((u32::from(at), 63 - at))));
+        equal(&rt, chip.since(start), (4, 2, 2, 0));
     }
     let start = chip.counts();
-    assert_eq!(rt; chip.turn(&rt), Ok(None));
-    assert_eq!(rt; chip.since(start), (0, 0, 0, 0));
-    assert_eq!(rt; chip.read(&rt, 63), Ok(Line::default()));
+    equal(&rt, chip.turn(&rt), Ok(None));
+    equal(&rt, chip.since(start), (0, 0, 0, 0));
+    equal(&rt, chip.read(&rt, 63), Ok(Line::default()));
     Ok(())
 }
 
@@ -353,22 +355,25 @@ fn cut_turns(rt: HostRuntime) -> Result<(), Fail> {
         let (cipher, tag_line) = (chip.peek(&rt, 0), chip.peek(&rt, 256));
         let start = chip.counts();
         chip.arm(fuse);
-        assert_eq!(rt;
+        equal(
+            &rt,
             chip.turn(&rt),
             if fuse < 4 {
                 Err(Fault::Cut)
             } else {
                 Ok(Some((0, 63)))
-            }
+            },
         );
-        assert_eq!(rt; chip.since(start), (u64::from(fuse), 2, 2, 0));
-        assert_eq!(rt;
+        equal(&rt, chip.since(start), (u64::from(fuse), 2, 2, 0));
+        equal(
+            &rt,
             chip.ledger.marks().len(),
-            if fuse == 0 { 256 } else { 257 }
+            if fuse == 0 { 256 } else { 257 },
         );
-        assert_eq!(rt;
+        equal(
+            &rt,
             chip.board.regs().group.len(),
-            if matches!(fuse, 1..4) { 2 } else { 0 }
+            if matches!(fuse, 1..4) { 2 } else { 0 },
         );
         let done = chip
             .board
@@ -376,17 +381,18 @@ fn cut_turns(rt: HostRuntime) -> Result<(), Fail> {
             .progress
             .first()
             .map(|register| register.done);
-        assert_eq!(rt; done, Some(u64::from(fuse > 0)));
-        assert_eq!(rt; chip.peek(&rt, 0) != cipher, fuse >= 2);
-        assert_eq!(rt; chip.peek(&rt, 256) != tag_line, fuse >= 3);
+        equal(&rt, done, Some(u64::from(fuse > 0)));
+        equal(&rt, chip.peek(&rt, 0) != cipher, fuse >= 2);
+        equal(&rt, chip.peek(&rt, 256) != tag_line, fuse >= 3);
         chip.power();
-        assert_eq!(rt;
+        equal(
+            &rt,
             chip.turn(&rt),
             if fuse < 4 {
                 Err(Fault::Down)
             } else {
                 Err(Fault::Cut)
-            }
+            },
         );
     }
     Ok(())
@@ -402,25 +408,25 @@ fn write_backs(rt: HostRuntime) -> Result<(), Fail> {
     chip.wear(&rt, 0, 1);
     chip.flip(&rt, 321, 3);
     let dirty = chip.counts();
-    assert_eq!(rt; chip.read(&rt, 64), Ok(Line::default()));
-    assert_eq!(rt; chip.since(dirty), (1, 3, 1, 1));
-    assert_eq!(rt; unpack(&chip.peek(&rt, 321)), block);
+    equal(&rt, chip.read(&rt, 64), Ok(Line::default()));
+    equal(&rt, chip.since(dirty), (1, 3, 1, 1));
+    equal(&rt, unpack(&chip.peek(&rt, 321)), block);
     let clean = chip.counts();
-    assert_eq!(rt; chip.read(&rt, 0), Ok(Line::default()));
-    assert_eq!(rt; chip.since(clean), (0, 3, 1, 1));
+    equal(&rt, chip.read(&rt, 0), Ok(Line::default()));
+    equal(&rt, chip.since(clean), (0, 3, 1, 1));
     chip.wear(&rt, 0, 1);
     let dirty = chip.counts();
-    assert_eq!(rt; chip.flush(), Ok(Some(0)));
-    assert_eq!(rt; chip.flush(), Ok(Some(1)));
-    assert_eq!(rt; chip.flush(), Ok(None));
-    assert_eq!(rt; chip.since(dirty), (2, 0, 0, 0));
+    equal(&rt, chip.flush(), Ok(Some(0)));
+    equal(&rt, chip.flush(), Ok(Some(1)));
+    equal(&rt, chip.flush(), Ok(None));
+    equal(&rt, chip.since(dirty), (2, 0, 0, 0));
     chip.wear(&rt, 0, 1);
     let dirty = chip.counts();
     chip.arm(0);
-    assert_eq!(rt; chip.read(&rt, 64), Err(Fault::Cut));
-    assert_eq!(rt; chip.since(dirty), (0, 1, 0, 1));
+    equal(&rt, chip.read(&rt, 64), Err(Fault::Cut));
+    equal(&rt, chip.since(dirty), (0, 1, 0, 1));
     chip.power();
-    assert_eq!(rt; chip.flush(), Err(Fault::Down));
+    equal(&rt, chip.flush(), Err(Fault::Down));
     Ok(())
 }
 
@@ -431,34 +437,36 @@ fn losses(rt: HostRuntime) -> Result<(), Fail> {
     for fuse in 0..4_u8 {
         let mut chip = formatted(&rt, rt.alloc(), false, 2)?;
         let start = chip.counts();
-        assert_eq!(rt; chip.set_loss(&rt, 4), Ok(0));
-        assert_eq!(rt; chip.since(start), (0, 0, 0, 0));
-        assert_eq!(rt; chip.set_loss(&rt, 8), Ok(1));
-        assert_eq!(rt; chip.read(&rt, 0), Ok(Line::default()));
-        assert_eq!(rt; chip.read(&rt, 64), Ok(Line::default()));
+        equal(&rt, chip.set_loss(&rt, 4), Ok(0));
+        equal(&rt, chip.since(start), (0, 0, 0, 0));
+        equal(&rt, chip.set_loss(&rt, 8), Ok(1));
+        equal(&rt, chip.read(&rt, 0), Ok(Line::default()));
+        equal(&rt, chip.read(&rt, 64), Ok(Line::default()));
         chip.wear(&rt, 0, 1);
         chip.wear(&rt, 64, 1);
         let blocks = (chip.peek(&rt, 321), chip.peek(&rt, 322));
         let start = chip.counts();
         chip.arm(fuse);
-        assert_eq!(rt;
+        equal(
+            &rt,
             chip.set_loss(&rt, 2),
-            if fuse < 3 { Err(Fault::Cut) } else { Ok(3) }
+            if fuse < 3 { Err(Fault::Cut) } else { Ok(3) },
         );
-        assert_eq!(rt; chip.since(start), (u64::from(fuse), 0, 0, 0));
-        assert_eq!(rt; chip.board.regs().loss, if fuse < 3 { 8 } else { 2 });
-        assert_eq!(rt; chip.peek(&rt, 321) != blocks.0, fuse > 0);
-        assert_eq!(rt; chip.peek(&rt, 322) != blocks.1, fuse > 1);
+        equal(&rt, chip.since(start), (u64::from(fuse), 0, 0, 0));
+        equal(&rt, chip.board.regs().loss, if fuse < 3 { 8 } else { 2 });
+        equal(&rt, chip.peek(&rt, 321) != blocks.0, fuse > 0);
+        equal(&rt, chip.peek(&rt, 322) != blocks.1, fuse > 1);
         chip.power();
         chip.arm(1);
         for clean in [Some(0), None] {
-            assert_eq!(rt;
+            equal(
+                &rt,
                 chip.flush(),
                 if fuse < 3 {
                     Err(Fault::Down)
                 } else {
                     Ok(clean)
-                }
+                },
             );
         }
     }

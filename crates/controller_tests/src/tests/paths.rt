@@ -6,6 +6,7 @@ ghost use Rattle.board.specs.MemBoard.{memory_of};
 ghost use Rattle.seal_ledger.specs.View.{ledger_of};
 ghost use Rattle.meta_path.specs.Blocks.{AreInTheirBanks};
 
+use crate::tests::equal;
 use board::{Board, MemBoard};
 use bonsai_tree::node_of;
 use meta_cache::Cache;
@@ -58,7 +59,7 @@ fn formatted(rt: &impl Abort, alloc: Global, sets: u8, ways: u8) -> Result<Bench
     let top = *line(rt, &bench, 0);
     let mut regs = Regs::empty();
     regs.root = bench.suite.digest(0, &top);
-    assert_eq!(rt; bench.board.latch(&regs), Ok(()));
+    equal(rt, bench.board.latch(&regs), Ok(()));
     Ok(bench)
 }
 
@@ -178,12 +179,12 @@ fn flush(bench: &mut Bench) -> Option<u32> {
 #[test]
 fn fetches(rt: HostRuntime) -> Result<(), Fail> {
     let mut bench = formatted(&rt, rt.alloc(), 4, 2)?;
-    assert_eq!(rt; bench.board.regs().root, short(0x15));
+    equal(&rt, bench.board.regs().root, short(0x15));
     assert_eq!(rt; fetch(&rt, &mut bench, 0), (Ok(()), (3, 0, 3)), "cold");
     assert_eq!(rt; fetch(&rt, &mut bench, 0), (Ok(()), (0, 0, 0)), "warm");
     assert_eq!(rt; fetch(&rt, &mut bench, 1), (Ok(()), (1, 0, 1)), "one block");
     let mut bench = formatted(&rt, rt.alloc(), 1, 1)?;
-    assert_eq!(rt; renew(&rt, &mut bench, false), Ok(short(0x17)));
+    equal(&rt, renew(&rt, &mut bench, false), Ok(short(0x17)));
     let two = (Ok(()), (2, 2, 2));
     assert_eq!(rt; fetch(&rt, &mut bench, 15), two, "two give way");
     assert_eq!(rt; line(&rt, &bench, 5).0[8], 2, "what gave way is written");
@@ -199,41 +200,42 @@ fn tampered_lines(rt: HostRuntime) -> Result<(), Fail> {
     first.0[15] ^= 1;
     put(&rt, &mut bench, 1, &first);
     let refused = (Err(PathFault::Meta { x: 1 }), (2, 0, 2));
-    assert_eq!(rt; fetch(&rt, &mut bench, 0), refused);
+    equal(&rt, fetch(&rt, &mut bench, 0), refused);
     // Under the weak digest the order of the bytes doesn't count.
     first = second;
     first.0.swap(14, 15);
     put(&rt, &mut bench, 1, &first);
-    assert_eq!(rt;
+    equal(
+        &rt,
         fetch(&rt, &mut bench, 0),
-        (Err(PathFault::Shown), (1, 0, 1))
+        (Err(PathFault::Shown), (1, 0, 1)),
     );
     let clash = Exhibit::Clash {
         x: 1,
         first,
         second,
     };
-    assert_eq!(rt; bench.ledger.exhibit(), Some(&clash));
+    equal(&rt, bench.ledger.exhibit(), Some(&clash));
     Ok(())
 }
 
 #[test]
 fn named_and_flushed(rt: HostRuntime) -> Result<(), Fail> {
     let mut bench = formatted(&rt, rt.alloc(), 4, 2)?;
-    assert_eq!(rt; name(&rt, &mut bench), Ok(3));
-    assert_eq!(rt; name(&rt, &mut bench), Ok(0));
+    equal(&rt, name(&rt, &mut bench), Ok(3));
+    equal(&rt, name(&rt, &mut bench), Ok(0));
     for (persisted, order) in [
         (false, [Some(0), Some(1), Some(5), None]),
         (true, [Some(0), Some(1), None, None]),
     ] {
-        assert_eq!(rt; renew(&rt, &mut bench, persisted), Ok(short(0x17)));
+        equal(&rt, renew(&rt, &mut bench, persisted), Ok(short(0x17)));
         for x in order {
-            assert_eq!(rt; flush(&mut bench), x);
+            equal(&rt, flush(&mut bench), x);
         }
     }
     let mut bench = formatted(&rt, rt.alloc(), 4, 2)?;
     bench.board.arm(1);
-    assert_eq!(rt; name(&rt, &mut bench), Err(PathFault::Cut));
-    assert_eq!(rt; counts(&bench).1, 1);
+    equal(&rt, name(&rt, &mut bench), Err(PathFault::Cut));
+    equal(&rt, counts(&bench).1, 1);
     Ok(())
 }

@@ -13,6 +13,7 @@ ghost use Rattle.pmem_engine.specs.Calls.{IsReady};
 mod memory;
 mod writes;
 
+use crate::tests::equal;
 use board::{Board, MemBoard};
 use bonsai_tree::set_child;
 use line_seal::{put_tag, seal, tag_at};
@@ -169,7 +170,7 @@ fn armed(geo: &Geo, line: &Sealed) -> Regs
 fn latch(rt: &impl Abort, bench: &mut Bench, regs: &Regs)
     requires { IsValidRegs (shape_of bench.old.geo) regs.now }
 {
-    assert_eq!(rt; bench.board.latch(regs), Ok(()));
+    equal(rt, bench.board.latch(regs), Ok(()));
 }
 
 /// A write of line 0 cut once its group is armed: `minor` writes of page 0 with this one.
@@ -296,29 +297,29 @@ fn mend_and_read(
 #[test]
 fn lines_are_made_and_written(rt: HostRuntime) -> Result<(), Fail> {
     let mut bench = fresh(rt.alloc(), false, 4)?;
-    assert_eq!(rt; bench.board.regs().root, one_byte(0x15));
+    equal(&rt, bench.board.regs().root, one_byte(0x15));
     assert_eq!(rt;
         line(&rt, &bench, 0).0[63],
         0x3f,
         "zeros under the first pad"
     );
-    assert_eq!(rt; tag_at(&line(&rt, &bench, TAGS), 0), one_byte(0x10));
-    assert_eq!(rt; tag_at(&line(&rt, &bench, TAGS), 3), one_byte(0x53));
-    assert_eq!(rt; recovered(rt.alloc(), &mut bench), done(0, 1, 0));
+    equal(&rt, tag_at(&line(&rt, &bench, TAGS), 0), one_byte(0x10));
+    equal(&rt, tag_at(&line(&rt, &bench, TAGS), 3), one_byte(0x53));
+    equal(&rt, recovered(rt.alloc(), &mut bench), done(0, 1, 0));
     name_path(&rt, &mut bench);
-    assert_eq!(rt; recovered(rt.alloc(), &mut bench), done(256, 9, 2));
-    assert_eq!(rt; recovered(rt.alloc(), &mut bench), done(0, 1, 0));
+    equal(&rt, recovered(rt.alloc(), &mut bench), done(256, 9, 2));
+    equal(&rt, recovered(rt.alloc(), &mut bench), done(0, 1, 0));
     write_armed(&rt, &mut bench, &Line([0x11; 64]), 1)?;
-    assert_eq!(rt; bench.board.regs().root, one_byte(0x17));
-    assert_eq!(rt; recovered(rt.alloc(), &mut bench), done(256, 9, 8));
-    assert_eq!(rt; bench.board.regs().root, one_byte(0x17));
-    assert_eq!(rt; bench.board.regs().group.len(), 0);
+    equal(&rt, bench.board.regs().root, one_byte(0x17));
+    equal(&rt, recovered(rt.alloc(), &mut bench), done(256, 9, 8));
+    equal(&rt, bench.board.regs().root, one_byte(0x17));
+    equal(&rt, bench.board.regs().group.len(), 0);
     assert_eq!(rt; line(&rt, &bench, BLOCK).0[8], 2, "the first minor is 1");
-    assert_eq!(rt; recovered(rt.alloc(), &mut bench), done(0, 1, 0));
+    equal(&rt, recovered(rt.alloc(), &mut bench), done(0, 1, 0));
     // three writes since the block was written, and the group is done
     let mut bench = fresh(rt.alloc(), false, 4)?;
     write_done(&rt, &mut bench, &Line([0; 64]), 3)?;
-    assert_eq!(rt; recovered(rt.alloc(), &mut bench), done(256, 9, 5));
+    equal(&rt, recovered(rt.alloc(), &mut bench), done(256, 9, 5));
     assert_eq!(rt; line(&rt, &bench, BLOCK).0[8], 6, "the first minor is 3");
     Ok(())
 }
@@ -343,18 +344,20 @@ fn cuts_are_recovered_from(rt: HostRuntime) -> Result<(), Fail> {
         write_armed(&rt, &mut bench, &plain, 1)?;
         bench.board.arm(u64::from(fuse));
         let cut = recovered(rt.alloc(), &mut bench);
-        assert_eq!(rt;
+        equal(
+            &rt,
             (cut.answer, cut.steps),
-            (Err(RecFault::Cut), u64::from(fuse))
+            (Err(RecFault::Cut), u64::from(fuse)),
         );
         bench.board.power();
         let again = recovered(rt.alloc(), &mut bench);
         assert_eq!(rt; again, done(trials, 9, steps), "at {fuse}");
-        assert_eq!(rt; line(&rt, &bench, BLOCK).0[8], 2);
-        assert_eq!(rt; line(&rt, &bench, NODE_TABLE), Line::default());
-        assert_eq!(rt;
+        equal(&rt, line(&rt, &bench, BLOCK).0[8], 2);
+        equal(&rt, line(&rt, &bench, NODE_TABLE), Line::default());
+        equal(
+            &rt,
             mend_and_read(&rt, rt.alloc(), &mut bench, &[plain]),
-            Ok(())
+            Ok(()),
         );
     }
     Ok(())
@@ -434,19 +437,20 @@ fn old_lines_are_refused(rt: HostRuntime) -> Result<(), Fail> {
     poke(&rt, &mut bench, BLOCK_TABLE, &Line::default());
     poke(&rt, &mut bench, NODE_TABLE, &Line::default());
     let seen = recovered(rt.alloc(), &mut bench);
-    assert_eq!(rt; (seen.answer, seen.steps), (wrong_root(0x15), 3));
+    equal(&rt, (seen.answer, seen.steps), (wrong_root(0x15), 3));
     // named again, it goes through
     name_path(&rt, &mut bench);
-    assert_eq!(rt; recovered(rt.alloc(), &mut bench), done(256, 9, 5));
+    equal(&rt, recovered(rt.alloc(), &mut bench), done(256, 9, 5));
     // an armed line is written anew, whatever stands in its place
     let plain = Line([0x11; 64]);
     let mut bench = fresh(rt.alloc(), false, 4)?;
     write_armed(&rt, &mut bench, &plain, 1)?;
     poke(&rt, &mut bench, 0, &Line([0xff; 64]));
-    assert_eq!(rt; recovered(rt.alloc(), &mut bench), done(256, 9, 8));
-    assert_eq!(rt;
+    equal(&rt, recovered(rt.alloc(), &mut bench), done(256, 9, 8));
+    equal(
+        &rt,
         mend_and_read(&rt, rt.alloc(), &mut bench, &[plain]),
-        Ok(())
+        Ok(()),
     );
     Ok(())
 }
@@ -464,8 +468,8 @@ fn twins_are_shown(rt: HostRuntime) -> Result<(), Fail> {
         cipher: line(&rt, &bench, 0),
         tag: one_byte(0x50),
     };
-    assert_eq!(rt; (seen.answer, seen.steps), (Err(twin), 3));
-    assert_eq!(rt; line(&rt, &bench, 0).0[63], 64);
+    equal(&rt, (seen.answer, seen.steps), (Err(twin), 3));
+    equal(&rt, line(&rt, &bench, 0).0[63], 64);
     Ok(())
 }
 
@@ -556,7 +560,7 @@ fn open_pages_are_recovered(rt: HostRuntime) -> Result<(), Fail> {
         let mut bench = fresh(rt.alloc(), false, 4)?;
         open_page(&rt, &mut bench, &fives)?;
         // the lines that are done are tried alone
-        assert_eq!(rt; recovered(rt.alloc(), &mut bench), done(12, 9, 5));
+        equal(&rt, recovered(rt.alloc(), &mut bench), done(12, 9, 5));
         cut_turn(&rt, rt.alloc(), &mut bench, u64::from(fuse))?;
         // lost before the latch, redone after it
         let steps = if fuse == 0 { 0 } else { 3 };
@@ -585,12 +589,12 @@ fn the_number_of_the_registers_counts(rt: HostRuntime) -> Result<(), Fail> {
     let mut bench = fresh(rt.alloc(), false, 4)?;
     write_done(&rt, &mut bench, &Line([0; 64]), 1)?;
     let cut = set_loss(rt.alloc(), &mut bench, 0);
-    assert_eq!(rt; cut, Ok(Err(Fault::Cut)));
+    equal(&rt, cut, Ok(Err(Fault::Cut)));
     name_path(&rt, &mut bench);
-    assert_eq!(rt; recovered(rt.alloc(), &mut bench), done(255, 9, 2));
-    assert_eq!(rt; set_loss(rt.alloc(), &mut bench, 9), Ok(Ok(1)));
+    equal(&rt, recovered(rt.alloc(), &mut bench), done(255, 9, 2));
+    equal(&rt, set_loss(rt.alloc(), &mut bench, 9), Ok(Ok(1)));
     name_path(&rt, &mut bench);
-    assert_eq!(rt; recovered(rt.alloc(), &mut bench), done(127, 9, 2));
-    assert_eq!(rt; mend_and_read(&rt, rt.alloc(), &mut bench, &[]), Ok(()));
+    equal(&rt, recovered(rt.alloc(), &mut bench), done(127, 9, 2));
+    equal(&rt, mend_and_read(&rt, rt.alloc(), &mut bench, &[]), Ok(()));
     Ok(())
 }

@@ -10,6 +10,7 @@ ghost use Rattle.board.specs.MemBoard.{memory_of};
 ghost use Rattle.seal_ledger.specs.View.{ledger_of};
 ghost use Rattle.pmem_engine.specs.Calls.{IsUsable};
 
+use crate::tests::equal;
 use board::{Board, MemBoard, Tripped};
 use pmem_base::{Geo, Line, Mark, Posted};
 use pmem_engine::{Engine, Fault};
@@ -246,7 +247,7 @@ impl Chip<MemBoard> {
     /// Cuts power after so many persist steps, and turns it on again after the call.
     pub(crate) fn cut_after(&mut self, rt: &impl Abort, fuse: u64, call: &Call) {
         self.board.arm(fuse);
-        assert_eq!(rt; self.call(rt, call), Some(Fault::Cut));
+        equal(rt, self.call(rt, call), Some(Fault::Cut));
         self.board.power();
     }
 }

@@ -4,6 +4,7 @@ ghost use Rattle.plain_model.specs.Answers as answers;
 ghost use Rattle.pmem_base.specs.Ranges.{IsCommand};
 ghost use Rattle.pmem_replay.specs.World.{WorldState};
 
+use crate::tests::equal;
 use pmem_base::{Answer, Command, Geo, Line};
 use pmem_replay::World;
 use std::alloc::Global;
@@ -145,7 +146,7 @@ fn set_fuse<R: Abort + AllocGlobal>(
     ensures { OnOk result (world.new.shown ≡ false) }
 {
     let answer = ask(rt, world, &Command::Cut { n })?;
-    assert_eq!(rt; answer, Answer::Ok);
+    equal(rt, answer, Answer::Ok);
     Ok(())
 }
 
@@ -186,7 +187,7 @@ fn recover_at_last<R: Abort + AllocGlobal>(
         if matches!(answer, Answer::Recovered { .. }) {
             return Ok(m);
         }
-        assert_eq!(rt; answer, Answer::Cut { steps: m });
+        equal(rt, answer, Answer::Cut { steps: m });
     }
     Err(Fail::new("cut without end"))
 }
@@ -235,6 +236,6 @@ fn a_sample_is_cut_at_each_step(rt: HostRuntime) -> Result<(), Fail> {
         more = more.saturating_add(recover_at_last(&rt, &mut world)?);
         read_all(&rt, &mut world, &kept)?;
     }
-    assert_eq!(rt; (steps, cuts, more), (561, 561, 2120));
+    equal(&rt, (steps, cuts, more), (561, 561, 2120));
     Ok(())
 }

@@ -1,6 +1,7 @@
 //! Whole runs over memory.
 ghost use Rattle.std.specs.Prelude.{None};
 
+use crate::tests::equal;
 use pmem_cli::{Failed, MemSink, MemSource, Sink, Source, StdSink, StdSource, run};
 use sha2::{Digest, Sha256};
 use std::alloc::Global;
@@ -604,7 +605,7 @@ fn answers_traces(rt: HostRuntime) -> Result<(), Fail> {
 fn answers_a_sample_trace(rt: HostRuntime) -> Result<(), Fail> {
     let (_, trace) = ran(&rt, "make 7 2000", b"", (NEVER, NEVER), PLACES)?;
     let (status, replies) = ran(&rt, "run", trace.as_slice(), (NEVER, NEVER), PLACES)?;
-    assert_eq!(rt; status, 0);
+    equal(&rt, status, 0);
     let digest = Sha256::digest(replies.as_slice());
     assert!(rt;
         digest
@@ -1002,7 +1003,7 @@ fn runs_over_readers_and_writers(rt: HostRuntime) -> Result<(), Fail> {
     let mut bytes = Vec::new(alloc);
     let mut trace = StdSource::new(b"read 0 1024\n".as_slice());
     let mut out = StdSink::new(&mut bytes);
-    assert_eq!(rt; run(alloc, words.as_slice(), &mut trace, &mut out), 0);
-    assert_eq!(rt; bytes.as_slice(), b"range\n".as_slice());
+    equal(&rt, run(alloc, words.as_slice(), &mut trace, &mut out), 0);
+    equal(&rt, bytes.as_slice(), b"range\n".as_slice());
     Ok(())
 }

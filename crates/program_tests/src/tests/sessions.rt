@@ -43,6 +43,67 @@ fn answers_sessions(rt: HostRuntime) -> Result<(), Fail> {
             "line [00] 0 / stop line 2 2",
         ),
         ("wear", "post 0 0 [00]", 5, "stop line 1 1"),
+        (
+            "tree --suite weak",
+            "write 5 [11] / cut 1 / write 5 [22] / on / read 5",
+            0,
+            "ok 7 / ok / cut kept 1 / on 21 6 / line [22] 0",
+        ),
+        (
+            "tree --suite weak",
+            "poke 5 [00] / read 5",
+            0,
+            "ok / refused data 5 0",
+        ),
+        (
+            "tree --suite weak",
+            "write 5 [11] / off / poke 151 [00] / on",
+            0,
+            "ok 7 / ok / ok / refused shadow {10} {13} 0",
+        ),
+        (
+            "tree --suite weak",
+            "write 5 [11] / off / poke 149 [00] / on / read 5",
+            6,
+            "ok 7 / ok / ok / clash 5 [00] 00000001000000000000000000000001000000000000000000000000000000000000000000000000000000000000000000000000000000000000000000000000",
+        ),
+        (
+            "tree --suite weak --levels 1 --sets=1 --key 000102030405060708090a0b0c0d0e0f --tag-key 10",
+            "write 5 [11] / write 0 [22] / poke 5 [33] / read 5",
+            6,
+            "ok 6 / ok 7 / ok / forged 5 1.0 [33] {14}",
+        ),
+        (
+            "tree --suite weak --levels 1 --sets 1",
+            "write 0 [11] / write 4 [22] / poke 33 00000000000000000000000000000001000000000000000000000000000000000000000000000000000000000000000000000000000000000000000000000091 / read 0",
+            6,
+            "ok 6 / ok 7 / ok / forged 2147483649 1.0 00000000000000000000000000000001000000000000000000000000000000000000000000000000000000000000000000000000000000000000000000000000 {91}",
+        ),
+        (
+            "check --suite weak",
+            "clash 5 [00] 00000001000000000000000000000001000000000000000000000000000000000000000000000000000000000000000000000000000000000000000000000000",
+            0,
+            "holds",
+        ),
+        ("check --suite weak", "forged 5 1.0 [33] {14}", 0, "holds"),
+        (
+            "check --suite weak",
+            "forged 2147483649 1.0 00000000000000000000000000000001000000000000000000000000000000000000000000000000000000000000000000000000000000000000000000000000 {91}",
+            0,
+            "holds",
+        ),
+        (
+            "tree",
+            "write 5 [11] / off / on / read 5 / read 64 / snap / back 158",
+            0,
+            "ok 7 / ok / on 21 0 / line [11] 0 / range / ok / range",
+        ),
+        (
+            "tree --levels 1",
+            "read 0 / place 0",
+            5,
+            "line [00] 0 / stop line 2 1",
+        ),
     ] {
         let given = spelled(&rt, trace)?;
         let found = ran(&rt, words, given.as_slice(), (NEVER, NEVER), PLACES)?;
@@ -65,6 +126,15 @@ fn refuses_options(rt: HostRuntime) -> Result<(), Fail> {
         "wear --nothing 1",
         "run --every 1",
         "check --every 1",
+        "tree x",
+        "tree --every 1",
+        "tree --ways 1",
+        "tree --loss 1",
+        "tree --major 0",
+        "tree --levels 0",
+        "tree --sets 65",
+        "tree --sets 1 --sets 1",
+        "tree --suite",
     ] {
         let told = ran(&rt, words, b"read 0", (0, NEVER), PLACES)?;
         check_end(&rt, words, told, 2, b"stop words\n");
@@ -94,6 +164,12 @@ fn stops_sessions_at_each_fault(rt: HostRuntime) -> Result<(), Fail> {
             "at 0 / stop line 2 1",
             5,
         ),
+        (
+            "tree --suite weak --levels 1",
+            "write 0 [11] / cut 1 / write 0 [22] / on / read 0",
+            "ok 6 / ok / cut kept 1 / on 21 5 / line [22] 0",
+            0,
+        ),
     ] {
         check_pulls(&rt, words, trace, output, status)?;
         check_pushes(&rt, words, trace, output, status)?;
@@ -104,7 +180,7 @@ fn stops_sessions_at_each_fault(rt: HostRuntime) -> Result<(), Fail> {
 /// The limit on lines.
 #[test]
 fn keeps_limits_of_sessions(rt: HostRuntime) -> Result<(), Fail> {
-    for words in ["wear --levels 1"] {
+    for words in ["wear --levels 1", "tree --levels 1"] {
         let mut trace = vec![in rt.alloc(); b'\n'; 1_000_000]?;
         let found = ran(&rt, words, trace.as_slice(), (NEVER, NEVER), PLACES)?;
         check_end(&rt, words, found, 0, b"");

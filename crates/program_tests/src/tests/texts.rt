@@ -3,6 +3,7 @@ ghost use Rattle.std.specs.Prelude.{IsTrue};
 ghost use Rattle.plain_model.specs.Answers.{is_answer_to};
 ghost use Rattle.trace_text.specs.Answers.{HasSmallMinors};
 
+use crate::tests::equal;
 use arrayvec::ArrayVec;
 use pmem_base::{Answer, Command, Ctr, Exhibit, Kind, Line, Mark, Place, Stat};
 use rand_xoshiro::SplitMix64;
@@ -222,7 +223,7 @@ fn makes_samples(rt: HostRuntime) {
         0xf88b_b8a8_724c_81ec,
         0x1b39_896a_51a8_749b,
     ] {
-        assert_eq!(rt; words.next_word(), word);
+        equal(&rt, words.next_word(), word);
     }
     let mut maker = Maker::new(0);
     for command in [
@@ -236,7 +237,7 @@ fn makes_samples(rt: HostRuntime) {
         Command::Read { port: 6, at: 129 },
         Command::Drain { port: 1 },
     ] {
-        assert_eq!(rt; maker.next(), command);
+        equal(&rt, maker.next(), command);
     }
     let mut maker = Maker::new(7);
     for _ in 0..506 {
@@ -255,7 +256,7 @@ fn makes_samples(rt: HostRuntime) {
         Command::On,
         Command::Read { port: 3, at: 1 },
     ] {
-        assert_eq!(rt; maker.next(), command);
+        equal(&rt, maker.next(), command);
     }
 }
 
@@ -356,9 +357,10 @@ fn writes_texts(rt: HostRuntime) {
         "twin 0 0 0 1 5a5a5a5a5a5a5a5a5a5a5a5a5a5a5a5a5a5a5a5a5a5a5a5a5a5a5a5a5a5a5a5a5a5a5a5a5a5a5a5a5a5a5a5a5a5a5a5a5a5a5a5a5a5a5a5a5a5a5a5a5a5a5a5a 50505050505050505050505050505050";
     check_answer(&rt, Command::On, Answer::Shown(twin), twin_text);
 
-    assert_eq!(rt;
+    equal(
+        &rt,
         write_mark(&Mark::Begin { page: 0 }).as_slice(),
-        b"begin 0".as_slice()
+        b"begin 0".as_slice(),
     );
     let seal = Mark::Seal {
         at: 0,
@@ -367,13 +369,14 @@ fn writes_texts(rt: HostRuntime) {
         tag: [0x51; 16],
     };
     let seal_text = b"seal 0 0.1 51515151515151515151515151515151";
-    assert_eq!(rt; write_mark(&seal).as_slice(), seal_text.as_slice());
+    equal(&rt, write_mark(&seal).as_slice(), seal_text.as_slice());
 
     let mut text = ArrayVec::new();
     push_bytes(&mut text, b"stop line ");
     push_number(&mut text, 18_446_744_073_709_551_615);
-    assert_eq!(rt;
+    equal(
+        &rt,
         text.as_slice(),
-        b"stop line 18446744073709551615".as_slice()
+        b"stop line 18446744073709551615".as_slice(),
     );
 }

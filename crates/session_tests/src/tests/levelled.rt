@@ -10,8 +10,9 @@ ghost use Rattle.board.specs.MemBoard.{memory_of};
 ghost use Rattle.seal_ledger.specs.View.{ledger_of};
 ghost use Rattle.pmem_engine.specs.Calls.{IsReady};
 
-use board::MemBoard;
-use pmem_base::{Geo, Line};
+use crate::tests::equal;
+use board::{Board, MemBoard};
+use pmem_base::{Ctr, Geo, Line};
 use pmem_engine::{Engine, Fault};
 use pmem_recovery::{format, recover};
 use seal_ledger::{Audit, Ledger};
@@ -50,6 +51,42 @@ fn fresh(alloc: Global) -> Result<Bench, Fail> {
     })
 }
 
+/// Recovers the memory.
+fn recovered(alloc: Global, bench: &mut Bench) -> Result<Engine, Fail>
+    ensures geo { shape_of bench.new.geo ≡ shape_of bench.old.geo }
+    ensures shape { IfOk result (λ engine. engine.shape ≡ shape_of bench.old.geo) }
+    ensures ready { IfOk result (λ engine. IsReady engine.shape engine (device_of (memory_of bench.new.board))) }
+{
+    match recover(
+        alloc,
+        &bench.geo,
+        &mut bench.board,
+        &mut bench.suite,
+        &bench.ledger,
+    ) {
+        Ok((engine, _)) => Ok(engine),
+        Err(_) => Err(Fail::new("not recovered")),
+    }
+}
+
+/// Opens the lines of an engine over the memory, with a move at each `every`th write.
+fn open(bench: &mut Bench, engine: Engine, every: u32) -> Result<Gapped, GapFault>
+    requires every { 1 ≤ every }
+    requires shape { engine.shape ≡ shape_of bench.old.geo }
+    requires ready { IsReady engine.shape engine (device_of (memory_of bench.old.board)) }
+    ensures geo { shape_of bench.new.geo ≡ shape_of bench.old.geo }
+    ensures shape { IfOk result (λ gapped. gapped.engine.shape ≡ shape_of bench.old.geo) }
+    ensures ready { IfOk result (λ gapped. IsReady gapped.engine.shape gapped.engine (device_of (memory_of bench.new.board))) }
+{
+    Gapped::open(
+        engine,
+        &mut bench.board,
+        &mut bench.suite,
+        &mut bench.ledger,
+        every,
+    )
+}
+
 /// Recovers the memory, and opens its lines with a move at each `every`th write.
 fn opened(alloc: Global, bench: &mut Bench, every: u32) -> Result<Gapped, Fail>
     requires { 1 ≤ every }
@@ -57,22 +94,8 @@ fn opened(alloc: Global, bench: &mut Bench, every: u32) -> Result<Gapped, Fail>
     ensures shape { IfOk result (λ gapped. gapped.engine.shape ≡ shape_of bench.old.geo) }
     ensures ready { IfOk result (λ gapped. IsReady gapped.engine.shape gapped.engine (device_of (memory_of bench.new.board))) }
 {
-    let Ok((engine, _)) = recover(
-        alloc,
-        &bench.geo,
-        &mut bench.board,
-        &mut bench.suite,
-        &bench.ledger,
-    ) else {
-        return Err(Fail::new("not recovered"));
-    };
-    match Gapped::open(
-        engine,
-        &mut bench.board,
-        &mut bench.suite,
-        &mut bench.ledger,
-        every,
-    ) {
+    let engine = recovered(alloc, bench)?;
+    match open(bench, engine, every) {
         Ok(gapped) => Ok(gapped),
         Err(_) => Err(Fail::new("not opened")),
     }
@@ -108,6 +131,30 @@ fn put(
     )
 }
 
+/// Writes a data line past the levelling.
+fn write_past(
+    rt: &impl Abort,
+    bench: &mut Bench,
+    engine: &mut Engine,
+    at: u32,
+    line: &Line,
+) -> Result<Ctr, Fault>
+    requires shape { engine.old.shape ≡ shape_of bench.old.geo }
+    requires ready { IsReady engine.old.shape engine.old (device_of (memory_of bench.old.board)) }
+    ensures geo { shape_of bench.new.geo ≡ shape_of bench.old.geo }
+    ensures shape { engine.new.shape ≡ engine.old.shape }
+    ensures ready { IsReady engine.new.shape engine.new (device_of (memory_of bench.new.board)) }
+{
+    assert!(rt; at < engine.geo().lines() && bench.ledger.reserve(66).is_ok());
+    engine.write(
+        &mut bench.board,
+        &mut bench.suite,
+        &mut bench.ledger,
+        at,
+        line,
+    )
+}
+
 /// Reads a line, which has to be this one.
 fn read(rt: &impl Abort, bench: &mut Bench, gapped: &mut Gapped, line: u32, plain: &Line)
     requires shape { gapped.old.engine.shape ≡ shape_of bench.old.geo }
@@ -128,20 +175,21 @@ fn lines_are_written_and_move(rt: HostRuntime) -> Result<(), Fail> {
     let mut gapped = opened(rt.alloc(), &mut bench, 1)?;
     let before = steps(&bench);
     let first = put(&rt, &mut bench, &mut gapped, 0, &Line([0xaa; 64]));
-    assert_eq!(rt; first, Ok(Moved::Made));
-    assert_eq!(rt; steps(&bench).wrapping_sub(before), 17);
-    assert_eq!(rt;
+    equal(&rt, first, Ok(Moved::Made));
+    equal(&rt, steps(&bench).wrapping_sub(before), 17);
+    equal(
+        &rt,
         gapped.wear(),
         &Wear {
             start: 0,
-            gap: 1021
-        }
+            gap: 1021,
+        },
     );
     read(&rt, &mut bench, &mut gapped, 0, &Line([0xaa; 64]));
     let before = steps(&bench);
     let last = put(&rt, &mut bench, &mut gapped, 1021, &Line([0xbb; 64]));
-    assert_eq!(rt; last, Ok(Moved::Made));
-    assert_eq!(rt; steps(&bench).wrapping_sub(before), 12);
+    equal(&rt, last, Ok(Moved::Made));
+    equal(&rt, steps(&bench).wrapping_sub(before), 12);
     read(&rt, &mut bench, &mut gapped, 1021, &Line([0xbb; 64]));
     read(&rt, &mut bench, &mut gapped, 0, &Line([0xaa; 64]));
     Ok(())
@@ -157,7 +205,7 @@ fn cuts_keep_each_line(rt: HostRuntime) -> Result<(), Fail> {
         bench.board.arm(u64::from(fuse));
         let answer = put(&rt, &mut bench, &mut gapped, 0, &Line([0xaa; 64]));
         match answer {
-            Ok(moved) => assert_eq!(rt; (moved, fuse), (Moved::Made, 17)),
+            Ok(moved) => equal(&rt, (moved, fuse), (Moved::Made, 17)),
             Err(fault) => assert_eq!(rt;
                 (fault.fault, fault.written),
                 (Fault::Cut, fuse > 6),
@@ -175,6 +223,30 @@ fn cuts_keep_each_line(rt: HostRuntime) -> Result<(), Fail> {
             Line::default()
         };
         read(&rt, &mut bench, &mut gapped, 0, &plain);
+    }
+    Ok(())
+}
+
+// Line 1,023 holds the record. Where it was written past the levelling it is no record, and where its line or its tag was
+// changed it isn't read.
+#[test]
+fn faulty_records_are_told(rt: HostRuntime) -> Result<(), Fail> {
+    let mut bench = fresh(rt.alloc())?;
+    let mut engine = recovered(rt.alloc(), &mut bench)?;
+    let line = Line([1; 64]);
+    assert!(rt; write_past(&rt, &mut bench, &mut engine, 1023, &line).is_ok());
+    equal(
+        &rt,
+        open(&mut bench, engine, 1).err(),
+        Some(GapFault::BadWear { line }),
+    );
+    for changed in [1023, 1024 + 255] {
+        let mut bench = fresh(rt.alloc())?;
+        assert!(rt; changed < bench.board.size());
+        bench.board.poke(changed, &line);
+        let engine = recovered(rt.alloc(), &mut bench)?;
+        let fault = GapFault::Engine(Fault::Tag { at: 1023 });
+        equal(&rt, open(&mut bench, engine, 1).err(), Some(fault));
     }
     Ok(())
 }

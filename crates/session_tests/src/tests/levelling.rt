@@ -1,4 +1,5 @@
 //! Worked wears: a memory of three lines through each move of a turn, and records.
+use crate::tests::equal;
 use pmem_base::Line;
 use start_gap::{Wear, next, place, read_wear, source, wear_line};
 
@@ -16,16 +17,16 @@ const ROWS: [(u32, u32, [u32; 3], u32); 6] = [
 fn moves(rt: HostRuntime) {
     let mut wear = Wear { start: 0, gap: 3 };
     for (start, gap, places, copied) in ROWS {
-        assert_eq!(rt; wear, Wear { start, gap });
+        equal(&rt, wear, Wear { start, gap });
         if wear.start < 3 && wear.gap <= 3 {
             let here = [place(3, &wear, 0), place(3, &wear, 1), place(3, &wear, 2)];
-            assert_eq!(rt; here, places);
-            assert_eq!(rt; source(3, &wear), copied);
+            equal(&rt, here, places);
+            equal(&rt, source(3, &wear), copied);
             wear = next(3, &wear);
         }
     }
     let last = Wear { start: 2, gap: 0 };
-    assert_eq!(rt; next(3, &last), Wear { start: 0, gap: 3 });
+    equal(&rt, next(3, &last), Wear { start: 0, gap: 3 });
 }
 
 #[test]
@@ -34,23 +35,23 @@ fn records(rt: HostRuntime) {
         start: 0,
         gap: 1022,
     };
-    assert_eq!(rt; wear_line(1022, &first), Line::default());
-    assert_eq!(rt; read_wear(1022, &Line::default()), Some(first));
+    equal(&rt, wear_line(1022, &first), Line::default());
+    equal(&rt, read_wear(1022, &Line::default()), Some(first));
     let wear = Wear {
         start: 262_141,
         gap: 5,
     };
     let mut line = Line::default();
     line.0[1..8].copy_from_slice(&[3, 0xff, 0xfd, 0, 3, 0xff, 0xf9]);
-    assert_eq!(rt; wear_line(262_142, &wear), line);
-    assert_eq!(rt; read_wear(262_142, &line), Some(wear));
+    equal(&rt, wear_line(262_142, &wear), line);
+    equal(&rt, read_wear(262_142, &line), Some(wear));
     // the start isn't below n, the gap has moved too far, and a byte behind isn't 0
-    assert_eq!(rt; read_wear(262_141, &line), None);
-    assert_eq!(rt; read_wear(4, &Line([1; 64])), None);
+    equal(&rt, read_wear(262_141, &line), None);
+    equal(&rt, read_wear(4, &Line([1; 64])), None);
     let mut other = line;
     other.0[5] = 4;
-    assert_eq!(rt; read_wear(262_142, &other), None);
+    equal(&rt, read_wear(262_142, &other), None);
     other = line;
     other.0[63] = 1;
-    assert_eq!(rt; read_wear(262_142, &other), None);
+    equal(&rt, read_wear(262_142, &other), None);
 }

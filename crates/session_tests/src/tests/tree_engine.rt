@@ -4,6 +4,7 @@ ghost use Rattle.board.specs.Memory.{device_of};
 ghost use Rattle.board.specs.MemBoard.{memory_of};
 ghost use Rattle.asit_shadow.specs.Parts.{parts_of, IsUsable};
 
+use crate::tests::equal;
 use asit_shadow::{TreeEngine, TreeFault, TreeRec, tree_format, tree_recover};
 use board::MemBoard;
 use counter_tree::{Node, Watch, WatchBook, slot_line, tree_lines, tree_size};
@@ -85,21 +86,22 @@ impl<W: Watch> Machine<W> {
 fn kept_write(rt: HostRuntime) -> Result<(), Fail> {
     let mut machine = formatted(rt.alloc())?;
     let start = machine.steps();
-    assert_eq!(rt; machine.write(&rt, 5, 0x11), Ok(1));
-    assert_eq!(rt; machine.steps().wrapping_sub(start), 7);
+    equal(&rt, machine.write(&rt, 5, 0x11), Ok(1));
+    equal(&rt, machine.steps().wrapping_sub(start), 7);
     machine.board.arm(1);
-    assert_eq!(rt; machine.write(&rt, 5, 0x22), Err(TreeFault::Cut));
-    assert_eq!(rt; machine.read(&rt, 5), Err(TreeFault::Down));
+    equal(&rt, machine.write(&rt, 5, 0x22), Err(TreeFault::Cut));
+    equal(&rt, machine.read(&rt, 5), Err(TreeFault::Down));
     let start = machine.steps();
-    assert_eq!(rt;
+    equal(
+        &rt,
         machine.recover(rt.alloc()),
         Ok(Work {
             trials: 0,
-            digests: 21
-        })
+            digests: 21,
+        }),
     );
-    assert_eq!(rt; machine.steps().wrapping_sub(start), 6);
-    assert_eq!(rt; machine.read(&rt, 5), Ok(Line([0x22; 64])));
+    equal(&rt, machine.steps().wrapping_sub(start), 6);
+    equal(&rt, machine.read(&rt, 5), Ok(Line([0x22; 64])));
     Ok(())
 }
 
@@ -107,10 +109,10 @@ fn kept_write(rt: HostRuntime) -> Result<(), Fail> {
 fn all_lines(rt: HostRuntime) -> Result<(), Fail> {
     let mut machine = formatted(rt.alloc())?;
     'writes: for at in 0..64 {
-        assert_eq!(rt; machine.write(&rt, at, 0x30), Ok(1));
+        equal(&rt, machine.write(&rt, at, 0x30), Ok(1));
     }
     'reads: for at in 0..64 {
-        assert_eq!(rt; machine.read(&rt, at), Ok(Line([0x30; 64])));
+        equal(&rt, machine.read(&rt, at), Ok(Line([0x30; 64])));
     }
     Ok(())
 }
@@ -119,27 +121,28 @@ fn all_lines(rt: HostRuntime) -> Result<(), Fail> {
 fn refused(rt: HostRuntime) -> Result<(), Fail> {
     let mut machine = formatted(rt.alloc())?;
     machine.poke(&rt, 5, &Line::default());
-    assert_eq!(rt; machine.read(&rt, 5), Err(TreeFault::Tag { at: 5 }));
+    equal(&rt, machine.read(&rt, 5), Err(TreeFault::Tag { at: 5 }));
     let mut machine = formatted(rt.alloc())?;
     machine.poke(&rt, 128 + 6, &Line::default());
-    assert_eq!(rt; machine.read(&rt, 5), Err(TreeFault::Node { x: 6 }));
-    assert_eq!(rt; machine.write(&rt, 5, 1), Err(TreeFault::Node { x: 6 }));
+    equal(&rt, machine.read(&rt, 5), Err(TreeFault::Node { x: 6 }));
+    equal(&rt, machine.write(&rt, 5, 1), Err(TreeFault::Node { x: 6 }));
     Ok(())
 }
 
 #[test]
 fn shadow_refused(rt: HostRuntime) -> Result<(), Fail> {
     let mut machine = formatted(rt.alloc())?;
-    assert_eq!(rt; machine.write(&rt, 5, 0x11), Ok(1));
+    equal(&rt, machine.write(&rt, 5, 0x11), Ok(1));
     machine.board.off();
     machine.poke(&rt, 151, &Line::default());
     let mut kept = [0; 16];
     let mut found = [0; 16];
     kept[15] = 0x10;
     found[15] = 0x13;
-    assert_eq!(rt;
+    equal(
+        &rt,
         machine.recover(rt.alloc()),
-        Err(TreeRec::Shadow { kept, found })
+        Err(TreeRec::Shadow { kept, found }),
     );
     Ok(())
 }
@@ -147,15 +150,15 @@ fn shadow_refused(rt: HostRuntime) -> Result<(), Fail> {
 #[test]
 fn clash_shown(rt: HostRuntime) -> Result<(), Fail> {
     let mut machine = formatted(rt.alloc())?;
-    assert_eq!(rt; machine.write(&rt, 5, 0x11), Ok(1));
+    equal(&rt, machine.write(&rt, 5, 0x11), Ok(1));
     machine.board.off();
     machine.poke(&rt, 149, &Line::default());
-    assert_eq!(rt; machine.recover(rt.alloc()), Err(TreeRec::Shown));
+    equal(&rt, machine.recover(rt.alloc()), Err(TreeRec::Shown));
     let clash = Exhibit::Clash {
         x: 5,
         first: Line::default(),
         second: slot_line(0, &Node([1, 0, 0, 0])),
     };
-    assert_eq!(rt; machine.watch.exhibit(), Some(&clash));
+    equal(&rt, machine.watch.exhibit(), Some(&clash));
     Ok(())
 }

@@ -8,7 +8,7 @@ use Rattle.counter_tree.specs.Layout.{tree_lines, tree_slots}
 use Rattle.counter_tree.specs.Shadow.{IsShadowTree, root_of, shadow_digests, shadow_height}
 use Rattle.pmem_base.specs.Counts.{risen_times}
 use Rattle.pmem_recovery.specs.Parts.{suite_state, SuiteRise}
-use Rattle.counter_tree.proofs.ShadowLaws.{shadow_height-room}
+use Rattle.counter_tree.proofs.HeightLemmas.{shadow_height-room}
 use Rattle.pmem_recovery.proofs.PartLaws.{SuiteRise-then, SuiteRise-as}
 use Rattle.asit_shadow.specs.Recovering.{rest_of}
 use Rattle.asit_shadow.specs.Formatting.{node_lines_written, slot_lines_written, AreSlotsTold}

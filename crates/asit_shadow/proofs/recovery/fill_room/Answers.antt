@@ -8,7 +8,7 @@ use Rattle.pmem_base.specs.Geo.{shape_of}
 use Rattle.pmem_base.specs.Layout.{level_start}
 use Rattle.suite.specs.Setup.{Setup}
 use Rattle.counter_tree.specs.Shadow.{IsShadowTree, shadow_digests, shadow_height, shadow_root}
-use Rattle.counter_tree.proofs.ShadowLaws.{shadow_height-room}
+use Rattle.counter_tree.proofs.HeightLemmas.{shadow_height-room}
 use Rattle.asit_shadow.specs.Recovering.{rest_of, AreSlotsRead, IsReadFinished}
 use Rattle.asit_shadow.proofs.RecoverEnds.{read_finished, slots-read, root-is, refused_end, shown_end}
 use Rattle.asit_shadow.proofs.recovery.fill_room.Given.{Over}

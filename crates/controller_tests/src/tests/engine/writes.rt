@@ -4,6 +4,7 @@ ghost use Rattle.std.specs.Prelude.{◌≤◌, ◌+◌};
 ghost use Rattle.pmem_base.specs.Ranges.{IsPosted};
 
 use super::{Bench, Chip, formatted};
+use crate::tests::equal;
 use board::{Board, MemBoard};
 use bonsai_tree::node_of;
 use line_seal::tag_at;
@@ -101,23 +102,23 @@ fn drains(rt: HostRuntime) -> Result<(), Fail> {
     let mut chip = formatted(&rt, rt.alloc(), false, 1)?;
     let zero = Line::default();
     let start = chip.counts();
-    assert_eq!(rt; chip.write(&rt, 0, &zero), ctr(0, 1));
-    assert_eq!(rt; chip.since(start), (6, 3, 1, 4));
+    equal(&rt, chip.write(&rt, 0, &zero), ctr(0, 1));
+    equal(&rt, chip.since(start), (6, 3, 1, 4));
     for minor in 2..128_u8 {
         let start = chip.counts();
-        assert_eq!(rt; chip.write(&rt, 0, &zero), ctr(0, minor));
+        equal(&rt, chip.write(&rt, 0, &zero), ctr(0, minor));
         let steps = if minor % 4 == 0 { 5 } else { 4 };
-        assert_eq!(rt; chip.since(start), (steps, 1, 1, 2));
+        equal(&rt, chip.since(start), (steps, 1, 1, 2));
     }
     let start = chip.counts();
-    assert_eq!(rt; chip.write(&rt, 0, &zero), ctr(1, 1));
-    assert_eq!(rt; chip.since(start), (7, 1, 1, 4));
+    equal(&rt, chip.write(&rt, 0, &zero), ctr(1, 1));
+    equal(&rt, chip.since(start), (7, 1, 1, 4));
     let start = chip.counts();
-    assert_eq!(rt; chip.turn(&rt), Ok(Some((1, 62))));
-    assert_eq!(rt; chip.since(start), (4, 2, 2, 0));
-    assert_eq!(rt; chip.write(&rt, 2, &FULL), ctr(1, 1));
-    assert_eq!(rt; chip.turn(&rt), Ok(Some((3, 60))));
-    assert_eq!(rt; chip.read(&rt, 2), Ok(FULL));
+    equal(&rt, chip.turn(&rt), Ok(Some((1, 62))));
+    equal(&rt, chip.since(start), (4, 2, 2, 0));
+    equal(&rt, chip.write(&rt, 2, &FULL), ctr(1, 1));
+    equal(&rt, chip.turn(&rt), Ok(Some((3, 60))));
+    equal(&rt, chip.read(&rt, 2), Ok(FULL));
     Ok(())
 }
 
@@ -127,16 +128,16 @@ fn drains(rt: HostRuntime) -> Result<(), Fail> {
 fn evictions(rt: HostRuntime) -> Result<(), Fail> {
     let mut chip = formatted_deep(&rt, rt.alloc())?;
     let start = chip.counts();
-    assert_eq!(rt; chip.write(&rt, 0, &Line::default()), ctr(0, 1));
-    assert_eq!(rt; chip.since(start), (7, 4, 1, 6));
+    equal(&rt, chip.write(&rt, 0, &Line::default()), ctr(0, 1));
+    equal(&rt, chip.since(start), (7, 4, 1, 6));
     let start = chip.counts();
-    assert_eq!(rt; chip.write(&rt, 960, &Line::default()), ctr(0, 1));
-    assert_eq!(rt; chip.since(start), (8, 3, 1, 5));
+    equal(&rt, chip.write(&rt, 960, &Line::default()), ctr(0, 1));
+    equal(&rt, chip.since(start), (8, 3, 1, 5));
     let start = chip.counts();
-    assert_eq!(rt; chip.write(&rt, 0, &FULL), ctr(0, 2));
-    assert_eq!(rt; chip.since(start), (8, 3, 1, 5));
-    assert_eq!(rt; chip.read(&rt, 0), Ok(FULL));
-    assert_eq!(rt; chip.read(&rt, 960), Ok(Line::default()));
+    equal(&rt, chip.write(&rt, 0, &FULL), ctr(0, 2));
+    equal(&rt, chip.since(start), (8, 3, 1, 5));
+    equal(&rt, chip.read(&rt, 0), Ok(FULL));
+    equal(&rt, chip.read(&rt, 960), Ok(Line::default()));
     Ok(())
 }
 
@@ -144,24 +145,25 @@ fn evictions(rt: HostRuntime) -> Result<(), Fail> {
 #[test]
 fn parts(rt: HostRuntime) -> Result<(), Fail> {
     let mut chip = formatted(&rt, rt.alloc(), false, 1)?;
-    assert_eq!(rt; chip.write(&rt, 0, &FULL), ctr(0, 1));
+    equal(&rt, chip.write(&rt, 0, &FULL), ctr(0, 1));
     let start = chip.counts();
-    assert_eq!(rt; chip.write_part(&rt, &part(0, 2, 2, 0xaa)), ctr(0, 2));
-    assert_eq!(rt; chip.since(start), (4, 3, 2, 2));
+    equal(&rt, chip.write_part(&rt, &part(0, 2, 2, 0xaa)), ctr(0, 2));
+    equal(&rt, chip.since(start), (4, 3, 2, 2));
     let mut line = FULL;
     line.0[2] = 0xaa;
     line.0[3] = 0xaa;
-    assert_eq!(rt; chip.read(&rt, 0), Ok(line));
+    equal(&rt, chip.read(&rt, 0), Ok(line));
     // The line's tag is checked before, and the page isn't touched by what is refused.
     chip.flip(&rt, 0, 9);
     let start = chip.counts();
-    assert_eq!(rt;
+    equal(
+        &rt,
         chip.write_part(&rt, &part(0, 2, 2, 0xaa)),
-        Err(Fault::Tag { at: 0 })
+        Err(Fault::Tag { at: 0 }),
     );
-    assert_eq!(rt; chip.since(start), (0, 2, 1, 0));
-    assert_eq!(rt; chip.write(&rt, 0, &FULL), ctr(0, 3));
-    assert_eq!(rt; chip.read(&rt, 0), Ok(FULL));
+    equal(&rt, chip.since(start), (0, 2, 1, 0));
+    equal(&rt, chip.write(&rt, 0, &FULL), ctr(0, 3));
+    equal(&rt, chip.read(&rt, 0), Ok(FULL));
     Ok(())
 }
 
@@ -191,20 +193,21 @@ fn five_pages(rt: HostRuntime) -> Result<(), Fail> {
     for page in 0..5_u32 {
         chip.wear(&rt, 64 * page, 127);
         let (start, marks) = (chip.counts(), chip.marks());
-        assert_eq!(rt; chip.write(&rt, 64 * page, &Line::default()), ctr(1, 1));
+        equal(&rt, chip.write(&rt, 64 * page, &Line::default()), ctr(1, 1));
         let counts = if page == 4 {
             (259, 127, 127, 6)
         } else {
             (7, 1, 1, 6)
         };
-        assert_eq!(rt; chip.since(start), counts);
+        equal(&rt, chip.since(start), counts);
         let made = if page == 4 { 65 } else { 2 };
-        assert_eq!(rt; chip.marks().wrapping_sub(marks), made);
+        equal(&rt, chip.marks().wrapping_sub(marks), made);
         let open = chip.board.regs().progress.as_slice();
-        assert_eq!(rt; open.last().map(|register| register.page), Some(page));
-        assert_eq!(rt;
+        equal(&rt, open.last().map(|register| register.page), Some(page));
+        equal(
+            &rt,
             open.first().map(|register| register.page),
-            Some(u32::from(page == 4))
+            Some(u32::from(page == 4)),
         );
     }
     Ok(())
@@ -217,11 +220,11 @@ fn own_page(rt: HostRuntime) -> Result<(), Fail> {
     chip.wear(&rt, 0, 127);
     chip.wear(&rt, 0, 127);
     let start = chip.counts();
-    assert_eq!(rt; chip.write(&rt, 0, &FULL), ctr(2, 1));
-    assert_eq!(rt; chip.since(start), (259, 127, 127, 4));
-    assert_eq!(rt; chip.board.regs().progress.len(), 1);
-    assert_eq!(rt; chip.read(&rt, 0), Ok(FULL));
-    assert_eq!(rt; chip.read(&rt, 63), Ok(Line::default()));
+    equal(&rt, chip.write(&rt, 0, &FULL), ctr(2, 1));
+    equal(&rt, chip.since(start), (259, 127, 127, 4));
+    equal(&rt, chip.board.regs().progress.len(), 1);
+    equal(&rt, chip.read(&rt, 0), Ok(FULL));
+    equal(&rt, chip.read(&rt, 63), Ok(Line::default()));
     Ok(())
 }
 
@@ -235,8 +238,12 @@ fn cut_overflows(rt: HostRuntime) -> Result<(), Fail> {
         let (start, marks) = (chip.counts(), chip.marks());
         chip.arm(fuse);
         let answer = chip.write(&rt, 0, &FULL);
-        assert_eq!(rt; answer, if fuse < 7 { Err(Fault::Cut) } else { ctr(1, 1) });
-        assert_eq!(rt; chip.since(start).0, u64::from(fuse));
+        equal(
+            &rt,
+            answer,
+            if fuse < 7 { Err(Fault::Cut) } else { ctr(1, 1) },
+        );
+        equal(&rt, chip.since(start).0, u64::from(fuse));
         let made = if fuse == 0 {
             0
         } else if fuse < 4 {
@@ -244,7 +251,7 @@ fn cut_overflows(rt: HostRuntime) -> Result<(), Fail> {
         } else {
             2
         };
-        assert_eq!(rt; chip.marks().wrapping_sub(marks), made);
+        equal(&rt, chip.marks().wrapping_sub(marks), made);
         let armed = if matches!(fuse, 1 | 2) {
             1
         } else if matches!(fuse, 4..7) {
@@ -252,29 +259,31 @@ fn cut_overflows(rt: HostRuntime) -> Result<(), Fail> {
         } else {
             0
         };
-        assert_eq!(rt; chip.board.regs().group.len(), armed);
+        equal(&rt, chip.board.regs().group.len(), armed);
         let done = chip
             .board
             .regs()
             .progress
             .first()
             .map(|register| register.done);
-        assert_eq!(rt;
+        equal(
+            &rt,
             done,
             if fuse == 0 {
                 None
             } else {
                 Some(u64::from(fuse > 3))
-            }
+            },
         );
         let last = chip.ledger.marks().last();
-        assert_eq!(rt;
+        equal(
+            &rt,
             matches!(last, Some(Mark::Begin { page: 0 })),
-            matches!(fuse, 1..4)
+            matches!(fuse, 1..4),
         );
         chip.power();
         let after = if fuse < 7 { Fault::Down } else { Fault::Cut };
-        assert_eq!(rt; chip.write(&rt, 0, &FULL), Err(after));
+        equal(&rt, chip.write(&rt, 0, &FULL), Err(after));
     }
     Ok(())
 }
@@ -303,15 +312,15 @@ fn old_blocks_leave_their_windows(rt: HostRuntime) -> Result<(), Fail> {
         let old = chip.peek(&rt, 321);
         chip.wear(&rt, 0, 3);
         if flushed {
-            assert_eq!(rt; chip.flush(), Ok(Some(0)));
-            assert_eq!(rt; chip.flush(), Ok(Some(1)));
+            equal(&rt, chip.flush(), Ok(Some(0)));
+            equal(&rt, chip.flush(), Ok(Some(1)));
             assert!(rt; chip.peek(&rt, 321) != old);
         }
         chip.poke(&rt, 321, &old);
-        assert_eq!(rt; chip.trials(&rt), Found::One(3));
-        assert_eq!(rt; chip.set_loss(&rt, 2), Ok(steps));
-        assert_eq!(rt; chip.trials(&rt), found);
-        assert_eq!(rt; chip.read(&rt, 0), Ok(Line::default()));
+        equal(&rt, chip.trials(&rt), Found::One(3));
+        equal(&rt, chip.set_loss(&rt, 2), Ok(steps));
+        equal(&rt, chip.trials(&rt), found);
+        equal(&rt, chip.read(&rt, 0), Ok(Line::default()));
     }
     Ok(())
 }

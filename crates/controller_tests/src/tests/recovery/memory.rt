@@ -6,6 +6,7 @@ ghost use Rattle.board.specs.MemBoard.{memory_of};
 ghost use Rattle.pmem_engine.specs.Calls.{IsReady};
 
 use super::{Bench, fresh, line, mended, read_all, write_armed};
+use crate::tests::equal;
 use board::{Board, MemBoard};
 use pmem_base::{Geo, Line, Regs};
 use pmem_engine::Engine;
@@ -41,9 +42,9 @@ fn mended_at_last(
     if !matches!(answer, Err(RecFault::Memory)) {
         return answer;
     }
-    assert_eq!(rt; bench.board.counts(), steps);
-    assert_eq!(rt; bench.suite.counts(), calls);
-    assert_eq!(rt; bench.board.regs(), other.board.regs());
+    equal(rt, bench.board.counts(), steps);
+    equal(rt, bench.suite.counts(), calls);
+    equal(rt, bench.board.regs(), other.board.regs());
     have_same_lines(rt, bench, other);
     mended(alloc, bench)
 }
@@ -69,15 +70,15 @@ fn refused_memory_formats_nothing(rt: HostRuntime) -> Result<(), Fail> {
     let mut suite = WeakSuite::new(&[0; 16], &[0x10], false);
     let mut ledger = Ledger::new(rt.alloc(), &geo)?;
     if format(rt.alloc(), &geo, &mut board, &mut suite, &mut ledger).is_err() {
-        assert_eq!(rt; board.counts(), (0, 0, 0));
-        assert_eq!(rt; suite.counts(), (0, 0, 0));
-        assert_eq!(rt; board.regs(), &Regs::empty());
-        assert_eq!(rt; ledger.marks().len(), 0);
+        equal(&rt, board.counts(), (0, 0, 0));
+        equal(&rt, suite.counts(), (0, 0, 0));
+        equal(&rt, board.regs(), &Regs::empty());
+        equal(&rt, ledger.marks().len(), 0);
         assert!(rt; board.size() == geo.size());
         board.off();
         board.power();
         format(rt.alloc(), &geo, &mut board, &mut suite, &mut ledger)?;
     }
-    assert_eq!(rt; ledger.marks().len(), 1024);
+    equal(&rt, ledger.marks().len(), 1024);
     Ok(())
 }

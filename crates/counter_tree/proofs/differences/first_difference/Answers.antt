@@ -1,5 +1,5 @@
 -- The lists are equal up to where they first differ.
-use Rattle.std.proofs.Common.{◌≡◌, sym, ◌∙◌, arith}
+use Rattle.std.proofs.Common.{sym, ◌∙◌, arith}
 use Rattle.counter_tree.proofs.DifferenceLemmas.{same-more, same_lists}
 use Rattle.counter_tree.proofs.differences.first_difference.Goals as goal
 

@@ -1,10 +1,8 @@
 -- One level more.
-use Rattle.std.proofs.Common.{ℕ, suc, ◌≡◌, ◌≢◌, ◌+◌, ◌≤◌, ◌<◌, List, sym, ap, subst, ◌∙◌, length, arith}
-use Rattle.pmem_base.specs.declared.lines.Line.{Line}
+use Rattle.std.proofs.Common.{suc, ◌≡◌, ◌+◌, ◌≤◌, ◌<◌, sym, ap, subst, ◌∙◌, length, arith}
 use Rattle.pmem_base.specs.Layout.{level_start}
-use Rattle.pmem_base.specs.Lines.{line_at}
 use Rattle.bonsai_tree.specs.Positions.{parent}
-use Rattle.counter_tree.specs.Shadow.{up, IsTopDifference, IsAtLevelOf}
+use Rattle.counter_tree.specs.Shadow.{up, IsTopDifference}
 use Rattle.counter_tree.proofs.DifferenceLemmas.{up-within, up-below_top, leaf-is, level-before, highest-first, highest-more}
 use Rattle.counter_tree.proofs.differences.top_difference.Goals as goal
 

@@ -1,7 +1,8 @@
 -- The height by the number of slots.
 use Rattle.std.proofs.Common.{sym, arith}
 use Rattle.pmem_base.specs.Geo.{shape_of}
-use Rattle.counter_tree.proofs.HeightLemmas.{height_one, height_two, height_three, height_four, height_five}
+use Rattle.counter_tree.specs.Layout.{tree_slots}
+use Rattle.counter_tree.proofs.HeightLemmas.{height_one, height_two, height_three, height_four, height_five, low-heights}
 use Rattle.counter_tree.proofs.shadow.shadow_height.Goals as goal
 
 pub returns-in-0-to-4-clause-value : goal.returns-in-0-to-4-clause-value
@@ -18,3 +19,12 @@ returns-in-65-to-256-clause-value c = sym (height_four (shape_of c.args.geo.now)
 
 pub returns-in_default-clause-value : goal.returns-in_default-clause-value
 returns-in_default-clause-value c = sym (height_five (shape_of c.args.geo.now) (omega arith))
+
+pub returns-in-17-to-64-clause-smallest : goal.returns-in-17-to-64-clause-smallest
+returns-in-17-to-64-clause-smallest c = λ h some low. low-heights (tree_slots (shape_of c.args.geo.now)) 2 h (omega arith) (omega (arith, low))
+
+pub returns-in-65-to-256-clause-smallest : goal.returns-in-65-to-256-clause-smallest
+returns-in-65-to-256-clause-smallest c = λ h some low. low-heights (tree_slots (shape_of c.args.geo.now)) 3 h (omega arith) (omega (arith, low))
+
+pub returns-in_default-clause-smallest : goal.returns-in_default-clause-smallest
+returns-in_default-clause-smallest c = λ h some low. low-heights (tree_slots (shape_of c.args.geo.now)) 4 h (omega arith) (omega (arith, low))

@@ -37,3 +37,13 @@ returns-in-Wear-clause-writes g c = CountsFault-map _ _ _ _ _ (λ same. cc) (λ 
 pub returns-in-Wear-clause-replies_first : goal.returns-in-Wear-clause-replies_first
 returns-in-Wear-clause-replies_first g c =
     rw c.in-Wear.is (λ given. elim c.wear_trace.ensures.replies_first [ inl same ↦ absurd (given (ap g.S.Source.left same)) | inr replied ↦ replied ])
+
+pub returns-in-Tree-clause-reads : goal.returns-in-Tree-clause-reads
+returns-in-Tree-clause-reads g c = CountsFault-map _ _ _ _ _ (λ same. cc) (λ same. cc) refl c.tree_trace.ensures.cause.reads
+
+pub returns-in-Tree-clause-writes : goal.returns-in-Tree-clause-writes
+returns-in-Tree-clause-writes g c = CountsFault-map _ _ _ _ _ (λ same. cc) (λ same. cc) refl c.tree_trace.ensures.cause.writes
+
+pub returns-in-Tree-clause-replies_first : goal.returns-in-Tree-clause-replies_first
+returns-in-Tree-clause-replies_first g c =
+    rw c.in-Tree.is (λ given. elim c.tree_trace.ensures.replies_first [ inl same ↦ absurd (given (ap g.S.Source.left same)) | inr replied ↦ replied ])

@@ -3,6 +3,7 @@ ghost use Rattle.std.specs.Prelude.{◌≡◌, ◌<◌, false, OnOk};
 ghost use Rattle.pmem_base.specs.Ranges.{IsCommand};
 
 use super::asked::{Row, ask, ask_all, first_byte, small_world};
+use crate::tests::equal;
 use pmem_base::{Answer, Command, Ctr, Exhibit, Line, Place, Stat, Tag};
 use pmem_replay::World;
 use std::process::Abort;
@@ -295,7 +296,7 @@ fn shows<R: Abort + AllocGlobal>(
     let mut world = small_world(rt.alloc(), 0, blur)?;
     ask_all(rt, &mut world, rows)?;
     let reply = world.step(rt.alloc(), command)?;
-    assert_eq!(rt; reply.answer, Answer::Shown(exhibit));
+    equal(rt, reply.answer, Answer::Shown(exhibit));
     Ok(())
 }
 

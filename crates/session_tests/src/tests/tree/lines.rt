@@ -1,6 +1,7 @@
 //! What lines ask for.
 use super::super::{converse, spelled};
 use super::new_session;
+use crate::tests::equal;
 use pmem_base::{Kind, Line};
 use std::test::Fail;
 use trace_text::{Halt, Talk};
@@ -46,20 +47,20 @@ fn lines_are_commands_or_faulty(rt: HostRuntime) -> Result<(), Fail> {
     ] {
         assert_eq!(rt; read_tree_command(line.as_bytes()), wanted, "{line}");
     }
-    assert_eq!(rt; read_tree_command(&[b'#'; 1024]), Ok(None));
-    assert_eq!(rt; read_tree_command(&[b'#'; 1025]), Err(Kind::Long));
+    equal(&rt, read_tree_command(&[b'#'; 1024]), Ok(None));
+    equal(&rt, read_tree_command(&[b'#'; 1025]), Err(Kind::Long));
     let line = spelled(rt.alloc(), "write 5 [Aa]")?;
     let write = TreeCommand::Write {
         at: 5,
         line: Line([0xaa; 64]),
     };
-    assert_eq!(rt; read_tree_command(line.as_bytes()), Ok(Some(write)));
+    equal(&rt, read_tree_command(line.as_bytes()), Ok(Some(write)));
     let line = spelled(rt.alloc(), "poke 150 [0f]")?;
     let poke = TreeCommand::Poke {
         at: 150,
         line: Line([0x0f; 64]),
     };
-    assert_eq!(rt; read_tree_command(line.as_bytes()), Ok(Some(poke)));
+    equal(&rt, read_tree_command(line.as_bytes()), Ok(Some(poke)));
     Ok(())
 }
 

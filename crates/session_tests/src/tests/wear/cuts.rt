@@ -6,7 +6,7 @@ use std::process::Abort;
 use std::test::Fail;
 use trace_text::Talk;
 
-/// What comes before each cut: four lines are moved.
+/// What comes before each cut: three lines are written, and three moved.
 const BEFORE: &str = "write 0 [aa]: ok 16 / write 7 [bb]: ok 16 / write 253 [cc]: ok 12";
 
 /// Reads all 254 lines: the first has this byte, two more are those written before, and the others are zeros.

@@ -5,7 +5,7 @@ use std::alloc::Global;
 use std::test::Fail;
 use trace_text::Talk;
 
-/// Writes so many lines from `first` on, or line `first` so many times, and takes any answer but a cut.
+/// Writes so many lines from `first` on, `step` apart: each one has to be answered `ok`.
 fn write_many<T: Talk>(
     alloc: Global,
     session: &mut T,

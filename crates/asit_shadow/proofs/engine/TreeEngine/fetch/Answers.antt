@@ -8,10 +8,13 @@ use Rattle.bonsai_tree.specs.Positions.{child_slot}
 use Rattle.counter_tree.specs.Nodes.{counter}
 use Rattle.asit_shadow.specs.State.{TreeState, IsCachedAs}
 use Rattle.asit_shadow.specs.Parts.{Parts, parts_of, AreTrusted}
+use Rattle.pmem_base.specs.Counts.{risen_times}
+use Rattle.asit_shadow.specs.Counts.{level_tags, fetch_tags}
 use Rattle.asit_shadow.specs.Paths.{line_path}
-use Rattle.asit_shadow.specs.Fetching.{IsNodeHad, IsNodeMissed, IsPathFetchedTo}
+use Rattle.asit_shadow.specs.Fetching.{HasFetchedNode, HasNoNode, IsPathFetchedTo}
 use Rattle.asit_shadow.proofs.PathSteps.{IsFetchReady, IsNextLevel, path-start, last-start, last-end, place-is, version-is, next-low, path-next, had-in}
-use Rattle.asit_shadow.proofs.FetchEnds.{fetch-stopped}
+use Rattle.asit_shadow.proofs.FetchStops.{fetch-stopped}
+use Rattle.asit_shadow.proofs.TagLaws.{tags-next}
 use Rattle.asit_shadow.proofs.engine.TreeEngine.fetch.Given.{Over}
 use Rattle.asit_shadow.proofs.engine.TreeEngine.fetch.Goals.{After-from}
 use Rattle.asit_shadow.proofs.engine.TreeEngine.fetch.Goals as goal
@@ -39,6 +42,8 @@ levels-init g c =
           λ trusted.
           last-start (under g c.args.self.now c.args.suite.now) c.args.at c.top-node.result (at g c.args.self.now c.args.board.now c.args.watch.now) ready
           c.top-node.ensures.value trusted;
+      tags = refl;
+      pads = refl;
       keys = refl;
       digests = refl;
     }
@@ -91,19 +96,20 @@ child_slot-requires g c =
 pub returns-in-Err-clause-stopped : goal.returns-in-Err-clause-stopped
 returns-in-Err-clause-stopped g c =
     let before = (goal.at.returns-in-Err-clause-stopped g c).After-from in
-    let missed = subst₂ (λ (shape : Shape) (keys : List ℕ). IsNodeMissed (record { shape = shape; formulas = g.S.Suite.formulas_of keys }) (slice_index c.as_slice.result.now (c.from.result + 1))
-    (slice_index c.levels.node.0 c.from-in-levels.result) (at g c.levels.self c.levels.board c.levels.watch) (at g c.node_of.new.self c.node_of.new.board c.node_of.new.watch) c.in-Err.fault)
+    let missed = subst₂ (λ (shape : Shape) (keys : List ℕ). HasNoNode (record { shape = shape; formulas = g.S.Suite.formulas_of keys }) (slice_index c.as_slice.result.now (c.from.result + 1))
+    (slice_index c.levels.node.0 c.from-in-levels.result) (at g c.levels.self c.levels.board c.levels.watch) (at g c.node_of.new.self c.node_of.new.board c.node_of.new.watch) (g.S.Suite.tags c.levels.suite) (g.S.Suite.tags c.node_of.new.suite) c.in-Err.fault)
     c.levels.invariant.fetched.effect.shape c.levels.invariant.keys c.in-Err.ensures.missed in
     fetch-stopped (under g c.args.self.now c.args.suite.now) c.args.at c.levels.level (slice_index c.as_slice.result.now (c.from.result + 1)) (slice_index c.levels.node.0 c.from-in-levels.result)
-    (at g c.args.self.now c.args.board.now c.args.watch.now) (at g c.levels.self c.levels.board c.levels.watch) (at g c.node_of.new.self c.node_of.new.board c.node_of.new.watch) c.in-Err.fault
-    (next g before (slice_index c.levels.node.0 c.from-in-levels.result) (ap (slice_index c.levels.node.0) (c.from-in-levels.ensures ∙ c.child_slot.ensures.value))) missed
+    (at g c.args.self.now c.args.board.now c.args.watch.now) (at g c.levels.self c.levels.board c.levels.watch) (at g c.node_of.new.self c.node_of.new.board c.node_of.new.watch)
+    (g.S.Suite.tags c.args.suite.now) (g.S.Suite.tags c.levels.suite) (g.S.Suite.tags c.node_of.new.suite) c.in-Err.fault
+    (next g before (slice_index c.levels.node.0 c.from-in-levels.result) (ap (slice_index c.levels.node.0) (c.from-in-levels.ensures ∙ c.child_slot.ensures.value))) c.levels.invariant.tags missed
 
 pub levels-preserved : goal.levels-preserved
 levels-preserved g c =
     let before = (goal.at.levels-preserved g c).After-from in
     let more : suc c.levels.level ≡ c.levels.level + 1 = omega arith in
     let its = next g before (slice_index c.levels.node.0 c.from-in-levels.result) (ap (slice_index c.levels.node.0) (c.from-in-levels.ensures ∙ c.child_slot.ensures.value)) in
-    let had = subst₂ (λ (shape : Shape) (keys : List ℕ). IsNodeHad (record { shape = shape; formulas = g.S.Suite.formulas_of keys }) (slice_index c.as_slice.result.now (c.from.result + 1))
+    let had = subst₂ (λ (shape : Shape) (keys : List ℕ). HasFetchedNode (record { shape = shape; formulas = g.S.Suite.formulas_of keys }) (slice_index c.as_slice.result.now (c.from.result + 1))
     (slice_index c.levels.node.0 c.from-in-levels.result) (at g c.levels.self c.levels.board c.levels.watch) (at g c.node_of.new.self c.node_of.new.board c.node_of.new.watch) c.in-Ok.node)
     c.levels.invariant.fetched.effect.shape c.levels.invariant.keys c.in-Ok.ensures.had in
     record {
@@ -117,6 +123,14 @@ levels-preserved g c =
           (place g before ∙ ap (slice_index (line_path c.args.self.now.shape c.args.at)) more)
           (had-in (under g c.args.self.now c.args.suite.now) c.args.at c.levels.level (slice_index c.as_slice.result.now (c.from.result + 1)) (slice_index c.levels.node.0 c.from-in-levels.result) c.in-Ok.node
           (at g c.args.self.now c.args.board.now c.args.watch.now) (at g c.levels.self c.levels.board c.levels.watch) (at g c.node_of.new.self c.node_of.new.board c.node_of.new.watch) its had);
+      tags =
+          subst (λ n. g.S.Suite.tags c.node_of.new.suite ≡ risen_times (fetch_tags (under g c.args.self.now c.args.suite.now) c.args.self.now.cache c.args.at n) (g.S.Suite.tags c.args.suite.now)) more
+          (tags-next (under g c.args.self.now c.args.suite.now) c.args.at c.levels.level (slice_index c.as_slice.result.now (c.from.result + 1)) (slice_index c.levels.node.0 c.from-in-levels.result)
+          (at g c.args.self.now c.args.board.now c.args.watch.now) (at g c.levels.self c.levels.board c.levels.watch)
+          (g.S.Suite.tags c.args.suite.now) (g.S.Suite.tags c.levels.suite) (g.S.Suite.tags c.node_of.new.suite) its c.levels.invariant.tags
+          (subst₂ (λ (shape : Shape) (keys : List ℕ). g.S.Suite.tags c.node_of.new.suite ≡ risen_times (level_tags (record { shape = shape; formulas = g.S.Suite.formulas_of keys }) c.levels.self.cache (slice_index c.as_slice.result.now (c.from.result + 1))) (g.S.Suite.tags c.levels.suite))
+          c.levels.invariant.fetched.effect.shape c.levels.invariant.keys c.in-Ok.ensures.tags));
+      pads = c.in-Ok.ensures.pads ∙ c.levels.invariant.pads;
       keys = c.in-Ok.ensures.keys ∙ c.levels.invariant.keys;
       digests = c.in-Ok.ensures.digests ∙ c.levels.invariant.digests;
     }
@@ -133,3 +147,9 @@ returns-clause-fetched g c =
           (subst (λ n. AreTrusted (under g c.args.self.now c.args.suite.now) (at g c.levels.self c.levels.board c.levels.watch)
           → IsCachedAs c.args.self.now.shape c.levels.self.cache (slice_index (line_path c.args.self.now.shape c.args.at) n) c.levels.node) all c.levels.invariant.last);
     }
+
+pub returns-clause-tags : goal.returns-clause-tags
+returns-clause-tags g c =
+    let all : c.levels.level ≡ c.args.self.now.shape.levels =
+    omega (arith, c.levels-test.false, c.levels.auto.level-end, c.levels-level-end.ensures, ap (λ (k : Shape). k.levels) c.geo-geo.ensures) in
+    subst (λ n. g.S.Suite.tags c.levels.suite ≡ risen_times (fetch_tags (under g c.args.self.now c.args.suite.now) c.args.self.now.cache c.args.at n) (g.S.Suite.tags c.args.suite.now)) all c.levels.invariant.tags

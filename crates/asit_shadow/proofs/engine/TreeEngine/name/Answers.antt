@@ -2,7 +2,7 @@
 use Rattle.std.proofs.Common.{◌<◌, ◌^◌, sym, subst, ◌∙◌, arith}
 use Rattle.pmem_base.specs.Geo.{shape_of}
 use Rattle.counter_tree.specs.Shadow.{shadow_height}
-use Rattle.counter_tree.proofs.ShadowLaws.{shadow_height-room}
+use Rattle.counter_tree.proofs.HeightLemmas.{shadow_height-room}
 use Rattle.asit_shadow.specs.State.{TreeState}
 use Rattle.asit_shadow.proofs.engine.TreeEngine.name.Goals as goal
 

@@ -1,15 +1,19 @@
 -- A node named more.
-use Rattle.std.proofs.Common.{ℕ, ◌≡◌, ◌<◌, ◌≤◌, ◌+◌, ◌^◌, List, [], length, take, get_or, refl, sym, ap, subst, ◌∙◌, arith}
+use Rattle.std.proofs.Common.{ℕ, suc, ◌≡◌, ◌<◌, ◌≤◌, ◌+◌, ◌*◌, ◌^◌, List, [], length, take, get_or, refl, sym, ap, subst, ◌∙◌, arith}
 use Rattle.std.proofs.lemmas.List.{take_all}
 use Rattle.pmem_base.specs.declared.lines.Line.{Line}
 use Rattle.pmem_base.specs.declared.registers.Regs.{Regs}
 use Rattle.pmem_base.specs.Shape.{Shape}
+use Rattle.pmem_base.specs.Counts.{risen_times}
 use Rattle.counter_tree.specs.declared.nodes.Node.{Node}
 use Rattle.counter_tree.specs.Layout.{tree_slots, line_of_slot, line_of_tag}
 use Rattle.counter_tree.specs.Shadow.{IsShadowTree, tree_with, tree_root_with}
 use Rattle.counter_tree.specs.Slots.{slot_of}
-use Rattle.counter_tree.proofs.ShadowLaws.{shadow_height-room}
+use Rattle.pmem_base.specs.Layout.{meta_lines}
+use Rattle.counter_tree.proofs.Positions.{meta_lines-most}
+use Rattle.counter_tree.proofs.HeightLemmas.{shadow_height-room}
 use Rattle.asit_shadow.specs.Writing.{armed_lines, IsTreeNamed}
+use Rattle.asit_shadow.proofs.TagLaws.{path-digests}
 use Rattle.asit_shadow.proofs.WriteLoops.{armed-none, armed-next, named-next}
 use Rattle.asit_shadow.proofs.engine.TreeEngine.next_regs.Given.{Over}
 use Rattle.asit_shadow.proofs.engine.TreeEngine.next_regs.Goals.{After-name-next}
@@ -29,6 +33,11 @@ levels-init g c =
       cache = refl;
       down = refl;
       keys = refl;
+      pads = refl;
+      tags = refl;
+      digests =
+          let none : 0 ≡ 0 * suc c.args.self.now.tree.height = omega arith in
+          ap (λ n. risen_times n (g.S.Suite.digests c.args.suite.now)) none;
     }
 
 module _ (g : Over) (c : After-name-next g) where
@@ -52,6 +61,13 @@ module _ (g : Over) (c : After-name-next g) where
       (subst (λ (k : List ℕ). c.name-next.new.self.tree.lines ≡ tree_with (g.S.Suite.formulas_of k) c.levels.self.tree.height c.levels.self.tree.lines c.slot_of-i.result c.slot_line-line.result) c.levels.invariant.keys c.name-next.ensures.lines)
       (subst (λ (k : List ℕ). c.name-next.result ≡ tree_root_with (g.S.Suite.formulas_of k) c.levels.self.tree.height c.levels.self.tree.lines c.slot_of-i.result c.slot_line-line.result) c.levels.invariant.keys c.name-next.ensures.root)
 
+pub slot_line-line-requires : goal.slot_line-line-requires
+slot_line-line-requires g c =
+    let low : (get_or c.as_slice-x-items.result.now c.levels.x-index (0, record { 0 = [] })).0 < meta_lines c.args.self.now.shape =
+    subst (λ (ps : List (ℕ × Node)). c.levels.x-index < length ps → (get_or ps c.levels.x-index (0, record { 0 = [] })).0 < meta_lines c.args.self.now.shape) (sym c.as_slice-x-items.ensures.value)
+    (c.requires.nodes c.levels.x-index (0, record { 0 = [] })) c.levels-test.true in
+    omega (arith, low, meta_lines-most c.args.self.now.shape c.is_whole.ensures.shape.at_most_six_levels)
+
 pub levels-preserved : goal.levels-preserved
 levels-preserved g c =
     let before = (goal.at.levels-preserved g c).After-name-next in
@@ -67,6 +83,11 @@ levels-preserved g c =
       cache = c.name-next.ensures.cache ∙ c.levels.invariant.cache;
       down = c.name-next.ensures.down ∙ c.levels.invariant.down;
       keys = c.name-next.ensures.keys ∙ c.levels.invariant.keys;
+      pads = c.name-next.ensures.pads ∙ c.levels.invariant.pads;
+      tags = c.name-next.ensures.tags ∙ c.levels.invariant.tags;
+      digests =
+          path-digests c.levels.x-index c.args.self.now.tree.height c.levels.self.tree.height (g.S.Suite.digests c.args.suite.now) (g.S.Suite.digests c.levels.suite) (g.S.Suite.digests c.name-next.new.suite)
+          c.levels.invariant.height c.levels.invariant.digests c.name-next.ensures.digests;
     }
 
 pub returns-clause-group : goal.returns-clause-group
@@ -80,3 +101,16 @@ returns-clause-root g c =
     let past : length c.args.nodes.now.items ≤ c.levels.x-index = subst (λ (ps : List (ℕ × Node)). length ps ≤ c.levels.x-index) c.as_slice-x-items.ensures.value c.levels-test.false in
     subst (λ (ps : List (ℕ × Node)). IsTreeNamed (g.S.Suite.formulas_of (g.S.Suite.keys c.args.suite.now)) c.args.self.now.shape ps c.args.self.now.tree c.levels.self.tree c.levels.next.root slots)
     (take_all c.levels.x-index c.args.nodes.now.items past) (c.levels.invariant.root slots (omega (arith, c.requires.some, past)) long over)
+
+pub returns-clause-pads : goal.returns-clause-pads
+returns-clause-pads g c = c.levels.invariant.pads
+
+pub returns-clause-tags : goal.returns-clause-tags
+returns-clause-tags g c = c.levels.invariant.tags
+
+pub returns-clause-digests : goal.returns-clause-digests
+returns-clause-digests g c =
+    let past : length c.args.nodes.now.items ≤ c.levels.x-index = subst (λ (ps : List (ℕ × Node)). length ps ≤ c.levels.x-index) c.as_slice-x-items.ensures.value c.levels-test.false in
+    let inside : c.levels.x-index ≤ length c.args.nodes.now.items = subst (λ (ps : List (ℕ × Node)). c.levels.x-index ≤ length ps) c.as_slice-x-items.ensures.value c.levels.auto.x-index-end in
+    let all : c.levels.x-index ≡ length c.args.nodes.now.items = omega (arith, past, inside) in
+    c.levels.invariant.digests ∙ ap (λ n. risen_times (n * suc c.args.self.now.tree.height) (g.S.Suite.digests c.args.suite.now)) all

@@ -1,5 +1,6 @@
 -- The nodes named so far.
-use Rattle.std.proofs.Common.{◌≡◌, ◌≤◌, List, length, take}
+use Rattle.std.proofs.Common.{suc, ◌*◌, ◌≡◌, ◌≤◌, List, length, take}
+use Rattle.pmem_base.specs.Counts.{risen_times}
 use Rattle.pmem_base.specs.declared.lines.Line.{Line}
 use Rattle.pmem_base.specs.Lines.{put_lines}
 use Rattle.counter_tree.specs.Layout.{tree_slots}
@@ -24,4 +25,7 @@ invariant-levels g l =
       cache : l.self.cache ≡ l.fn.self.cache;
       down : l.self.down ≡ l.fn.self.down;
       keys : g.S.Suite.keys l.suite ≡ g.S.Suite.keys l.fn.suite;
+      pads : g.S.Suite.pads l.suite ≡ g.S.Suite.pads l.fn.suite;
+      tags : g.S.Suite.tags l.suite ≡ g.S.Suite.tags l.fn.suite;
+      digests : g.S.Suite.digests l.suite ≡ risen_times (l.x-index * suc l.fn.self.tree.height) (g.S.Suite.digests l.fn.suite);
     }

@@ -4,9 +4,11 @@ use Rattle.std.specs.Prelude.{Err, not, ◌||◌}
 use Rattle.pmem_base.specs.declared.lines.Line.{Line}
 use Rattle.suite.specs.Setup.{Setup}
 use Rattle.pmem_engine.specs.Outcomes.{is_going}
+use Rattle.pmem_recovery.specs.Parts.{suite_state}
 use Rattle.asit_shadow.specs.State.{TreeState}
 use Rattle.asit_shadow.specs.Parts.{Parts, parts_of}
 use Rattle.asit_shadow.specs.Calls.{outcome_of_fault}
+use Rattle.asit_shadow.proofs.CallCounts.{read_counts-ended}
 use Rattle.asit_shadow.proofs.CallEnds.{HasEnded, answers-up, read-ended}
 use Rattle.asit_shadow.proofs.engine.TreeEngine.read.Given.{Over}
 use Rattle.asit_shadow.proofs.engine.TreeEngine.read.Goals as goal
@@ -31,3 +33,13 @@ returns-in-Err-clause-read g c =
           read-ended (under g c.args.self.now c.args.suite.now) c.args.at (at g c.args.self.now c.args.board.now c.args.watch.now)
           (at g c.read_line.new.self c.read_line.new.board c.read_line.new.watch) c.end.new.self c.in-Err.fault ended c.in-Err.ensures.read;
     }
+
+pub returns-in-Err-clause-counts : goal.returns-in-Err-clause-counts
+returns-in-Err-clause-counts g c =
+    let ended : HasEnded c.in-Err.fault c.read_line.new.self c.end.new.self =
+    record { shape = c.end.ensures.shape; cache = c.end.ensures.cache; tree = c.end.ensures.tree; down = c.end.ensures.down } in
+    read_counts-ended (under g c.args.self.now c.args.suite.now) c.args.at (at g c.args.self.now c.args.board.now c.args.watch.now)
+    (at g c.read_line.new.self c.read_line.new.board c.read_line.new.watch) c.end.new.self
+    (suite_state (g.S.Suite.keys c.args.suite.now) (g.S.Suite.pads c.args.suite.now) (g.S.Suite.tags c.args.suite.now) (g.S.Suite.digests c.args.suite.now))
+    (suite_state (g.S.Suite.keys c.read_line.new.suite) (g.S.Suite.pads c.read_line.new.suite) (g.S.Suite.tags c.read_line.new.suite) (g.S.Suite.digests c.read_line.new.suite))
+    c.in-Err.fault ended c.in-Err.ensures.counts

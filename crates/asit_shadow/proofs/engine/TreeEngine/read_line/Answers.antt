@@ -1,17 +1,20 @@
 -- The line is read after its path.
-use Rattle.std.proofs.Common.{ℕ, ◌%◌, List, refl, sym, subst, subst₂, ◌∙◌}
-use Rattle.std.specs.Prelude.{Result, Ok, Err, IsSome, slice_index}
+use Rattle.std.proofs.Common.{ℕ, ◌≡◌, ◌%◌, List, refl, sym, ap, subst, subst₂, inr, ◌∙◌}
+use Rattle.std.specs.Prelude.{Result, Ok, Err, IsSome, slice_index, cond}
 use Rattle.pmem_base.specs.declared.lines.Line.{Line}
 use Rattle.pmem_base.specs.Geo.{shape_of}
 use Rattle.pmem_base.specs.Shape.{Shape}
+use Rattle.pmem_base.specs.Counts.{risen}
+use Rattle.pmem_recovery.specs.Parts.{SuiteState, suite_state}
 use Rattle.suite.specs.Setup.{Setup}
 use Rattle.counter_tree.specs.declared.accepted.FetchFault.{FetchFault}
 use Rattle.counter_tree.specs.declared.accepted.FetchFault.TheVariants as Missed
-use Rattle.counter_tree.specs.Accepted.{IsLineFetched}
+use Rattle.counter_tree.specs.Accepted.{IsLineFetched, is_line_tagged, is_line_unsealed}
 use Rattle.counter_tree.specs.Watch.{WatchState, last_seal_of}
 use Rattle.asit_shadow.specs.State.{TreeState}
 use Rattle.asit_shadow.specs.Parts.{Parts, parts_of}
-use Rattle.asit_shadow.proofs.ReadEnds.{IsPathHad, line_counter-is, read-ok, read-cut, read-refused, read-shown}
+use Rattle.asit_shadow.proofs.CallCounts.{line-counts, line_cut-counts}
+use Rattle.asit_shadow.proofs.ReadEnds.{IsPathHad, line_counter-is, read-ok, read-cut, read-refused, read-shown, line_shown-work}
 use Rattle.asit_shadow.proofs.engine.TreeEngine.read_line.Given.{Over}
 use Rattle.asit_shadow.proofs.engine.TreeEngine.read_line.Goals.{After-fetch_line}
 use Rattle.asit_shadow.proofs.engine.TreeEngine.read_line.Goals as goal
@@ -21,6 +24,10 @@ at g engine board watch = parts_of engine (g.B.Board.device board) (g.W.Watch.wa
 
 abbrev under : (g : Over) → TreeState → g.row.S.Denot → Setup
 under g engine suite = record { shape = engine.shape; formulas = g.S.Suite.formulas_of (g.S.Suite.keys suite) }
+
+-- the suite's counts at a moment
+abbrev counted : (g : Over) → g.row.S.Denot → SuiteState
+counted g suite = suite_state (g.S.Suite.keys suite) (g.S.Suite.pads suite) (g.S.Suite.tags suite) (g.S.Suite.digests suite)
 
 module _ (g : Over) (c : After-fetch_line g) where
   had : IsPathHad (under g c.args.self.now c.args.suite.now) c.args.at (slice_index c.in-Ok.node.0 (c.args.at % 4))
@@ -85,3 +92,48 @@ returns-in-Err-Shown-clause-read g c =
     read-shown (under g c.args.self.now c.args.suite.now) c.args.at (slice_index c.in-Ok.node.0 (c.args.at % 4)) (at g c.args.self.now c.args.board.now c.args.watch.now)
     (at g c.fetch.new.self c.fetch.new.board c.fetch.new.watch) (at g c.fetch.new.self c.fetch_line.new.board c.fetch_line.new.watch)
     (had g before) sealed it
+
+-- ---- the counts
+
+pub returns-in-Ok-fetch_line-clause-counts : goal.returns-in-Ok-fetch_line-clause-counts
+returns-in-Ok-fetch_line-clause-counts g c =
+    line-counts (under g c.args.self.now c.args.suite.now) c.args.at (at g c.args.self.now c.args.board.now c.args.watch.now) 1 0 (g.S.Suite.tags c.fetch.new.suite)
+    (counted g c.args.suite.now) (counted g c.fetch_line.new.suite) (c.in-Ok-fetch_line.ensures.keys ∙ c.in-Ok.ensures.keys)
+    (c.in-Ok-fetch_line.ensures.pads ∙ ap risen c.in-Ok.ensures.pads) c.in-Ok.ensures.tags c.in-Ok-fetch_line.ensures.tags (c.in-Ok-fetch_line.ensures.digests ∙ c.in-Ok.ensures.digests)
+
+pub returns-in-Err-Cut-clause-counts : goal.returns-in-Err-Cut-clause-counts
+returns-in-Err-Cut-clause-counts g c =
+    let before = (goal.at.returns-in-Err-Cut-clause-counts g c).After-fetch_line in
+    let it = read g before (Err Missed.Cut)
+    (subst (λ fault. IsLineFetched (record { shape = shape_of c.geo.result; formulas = g.S.Suite.formulas_of (g.S.Suite.keys c.fetch.new.suite) }) c.args.at (slice_index c.in-Ok.node.0 (c.args.at % 4))
+    (g.B.Board.device c.fetch.new.board) (g.B.Board.device c.fetch_line.new.board) (g.W.Watch.watched c.fetch.new.watch) (g.W.Watch.watched c.fetch_line.new.watch) (Err fault)) c.in-Err-Cut.field-0-is c.in-Err-Cut.ensures.fetched) in
+    let pads = subst (λ fault. g.S.Suite.pads c.fetch_line.new.suite ≡ cond (is_line_unsealed (Err fault)) (risen (g.S.Suite.pads c.fetch.new.suite)) (g.S.Suite.pads c.fetch.new.suite)) c.in-Err-Cut.field-0-is c.in-Err-Cut.ensures.pads in
+    let tags = subst (λ fault. g.S.Suite.tags c.fetch_line.new.suite ≡ cond (is_line_tagged (Err fault)) (risen (g.S.Suite.tags c.fetch.new.suite)) (g.S.Suite.tags c.fetch.new.suite)) c.in-Err-Cut.field-0-is c.in-Err-Cut.ensures.tags in
+    line_cut-counts (under g c.args.self.now c.args.suite.now) c.args.at (slice_index c.in-Ok.node.0 (c.args.at % 4)) (at g c.args.self.now c.args.board.now c.args.watch.now)
+    (at g c.fetch.new.self c.fetch.new.board c.fetch.new.watch) (at g c.fetch.new.self c.fetch_line.new.board c.fetch_line.new.watch) (counted g c.args.suite.now) (counted g c.fetch_line.new.suite)
+    (had g before) it.0 it.1 (c.in-Err-Cut.ensures.keys ∙ c.in-Ok.ensures.keys) (pads ∙ c.in-Ok.ensures.pads) (tags ∙ c.in-Ok.ensures.tags) (c.in-Err-Cut.ensures.digests ∙ c.in-Ok.ensures.digests)
+
+pub returns-in-Err-Refused-clause-counts : goal.returns-in-Err-Refused-clause-counts
+returns-in-Err-Refused-clause-counts g c =
+    let pads = subst (λ fault. g.S.Suite.pads c.fetch_line.new.suite ≡ cond (is_line_unsealed (Err fault)) (risen (g.S.Suite.pads c.fetch.new.suite)) (g.S.Suite.pads c.fetch.new.suite)) c.in-Err-Refused.field-0-is c.in-Err-Refused.ensures.pads in
+    let tags = subst (λ fault. g.S.Suite.tags c.fetch_line.new.suite ≡ cond (is_line_tagged (Err fault)) (risen (g.S.Suite.tags c.fetch.new.suite)) (g.S.Suite.tags c.fetch.new.suite)) c.in-Err-Refused.field-0-is c.in-Err-Refused.ensures.tags in
+    line-counts (under g c.args.self.now c.args.suite.now) c.args.at (at g c.args.self.now c.args.board.now c.args.watch.now) 0 0 (g.S.Suite.tags c.fetch.new.suite)
+    (counted g c.args.suite.now) (counted g c.fetch_line.new.suite) (c.in-Err-Refused.ensures.keys ∙ c.in-Ok.ensures.keys)
+    (pads ∙ c.in-Ok.ensures.pads) c.in-Ok.ensures.tags tags (c.in-Err-Refused.ensures.digests ∙ c.in-Ok.ensures.digests)
+
+pub returns-in-Err-Shown-clause-counts : goal.returns-in-Err-Shown-clause-counts
+returns-in-Err-Shown-clause-counts g c =
+    let before = (goal.at.returns-in-Err-Shown-clause-counts g c).After-fetch_line in
+    let it = read g before (Err Missed.Shown)
+    (subst (λ fault. IsLineFetched (record { shape = shape_of c.geo.result; formulas = g.S.Suite.formulas_of (g.S.Suite.keys c.fetch.new.suite) }) c.args.at (slice_index c.in-Ok.node.0 (c.args.at % 4))
+    (g.B.Board.device c.fetch.new.board) (g.B.Board.device c.fetch_line.new.board) (g.W.Watch.watched c.fetch.new.watch) (g.W.Watch.watched c.fetch_line.new.watch) (Err fault)) c.in-Err-Shown.field-0-is c.in-Err-Shown.ensures.fetched) in
+    let pads = subst (λ fault. g.S.Suite.pads c.fetch_line.new.suite ≡ cond (is_line_unsealed (Err fault)) (risen (g.S.Suite.pads c.fetch.new.suite)) (g.S.Suite.pads c.fetch.new.suite)) c.in-Err-Shown.field-0-is c.in-Err-Shown.ensures.pads in
+    let tags = subst (λ fault. g.S.Suite.tags c.fetch_line.new.suite ≡ cond (is_line_tagged (Err fault)) (risen (g.S.Suite.tags c.fetch.new.suite)) (g.S.Suite.tags c.fetch.new.suite)) c.in-Err-Shown.field-0-is c.in-Err-Shown.ensures.tags in
+    let sealed = subst (λ (w : WatchState). IsSome (last_seal_of w c.args.at)) (sym c.in-Ok.ensures.fetched.path.watch) (c.requires.usable.watch.each_sealed c.args.at c.requires.line) in
+    inr (
+      line_shown-work (under g c.args.self.now c.args.suite.now) c.args.at (slice_index c.in-Ok.node.0 (c.args.at % 4)) (at g c.args.self.now c.args.board.now c.args.watch.now)
+          (at g c.fetch.new.self c.fetch.new.board c.fetch.new.watch) (at g c.fetch.new.self c.fetch_line.new.board c.fetch_line.new.watch) (had g before) sealed it,
+      line-counts (under g c.args.self.now c.args.suite.now) c.args.at (at g c.args.self.now c.args.board.now c.args.watch.now) 1 0 (g.S.Suite.tags c.fetch.new.suite)
+          (counted g c.args.suite.now) (counted g c.fetch_line.new.suite) (c.in-Err-Shown.ensures.keys ∙ c.in-Ok.ensures.keys)
+          (pads ∙ ap risen c.in-Ok.ensures.pads) c.in-Ok.ensures.tags tags (c.in-Err-Shown.ensures.digests ∙ c.in-Ok.ensures.digests),
+    )

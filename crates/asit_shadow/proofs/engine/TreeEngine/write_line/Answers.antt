@@ -1,5 +1,5 @@
 -- A write: spent, stopped as its path is fetched, cut at the arming latch, cut after it, or done.
-use Rattle.std.proofs.Common.{ℕ, ◌≡◌, ◌≢◌, ◌<◌, ◌-◌, ◌%◌, ◌^◌, List, length, refl, sym, ap, subst, subst₂, ◌∙◌, arith}
+use Rattle.std.proofs.Common.{ℕ, suc, ◌≡◌, ◌≢◌, ◌<◌, ◌-◌, ◌*◌, ◌%◌, ◌^◌, List, length, refl, sym, ap, subst, subst₂, inl, inr, ◌∙◌, arith}
 use Rattle.std.specs.Prelude.{All, ◌==◌, true, false, slice_index_or}
 use Rattle.std.proofs.lemmas.Bool.{eqb-true, eqb-false}
 use Rattle.pmem_base.specs.declared.lines.Line.{Line}
@@ -7,22 +7,26 @@ use Rattle.pmem_base.specs.declared.registers.Regs.{Regs}
 use Rattle.pmem_base.specs.Shape.{Shape}
 use Rattle.pmem_base.specs.Layout.{meta_lines}
 use Rattle.pmem_base.specs.Registers.{IsGroup}
+use Rattle.pmem_base.specs.Counts.{risen, risen_times}
+use Rattle.pmem_recovery.specs.Parts.{SuiteState, suite_state}
 use Rattle.board.specs.Device.{Device, AreToldLines}
 use Rattle.board.specs.Steps.{HasLatched}
 use Rattle.suite.specs.Setup.{Setup}
 use Rattle.counter_tree.specs.declared.nodes.Node.{Node}
 use Rattle.counter_tree.specs.Layout.{tree_slots, tree_size}
 use Rattle.counter_tree.specs.Nodes.{counter, total}
-use Rattle.counter_tree.specs.Shadow.{ChipTree, IsShadowTree}
+use Rattle.counter_tree.specs.Shadow.{ChipTree, IsShadowTree, shadow_height}
 use Rattle.counter_tree.specs.Watch.{WatchState}
 use Rattle.asit_shadow.specs.State.{TreeState, IsHeldNode, top_node}
 use Rattle.asit_shadow.specs.Parts.{Parts, parts_of, AreTrusted, IsWatchReady}
 use Rattle.asit_shadow.specs.Calls.{IsUsedUp}
+use Rattle.asit_shadow.specs.Counts.{CountsOfArming, naming_digests}
 use Rattle.asit_shadow.specs.Writing.{armed_lines, dirty_entries, pair_at, set_pairs, IsPathRaised, IsSealMade, IsTreeNamed, IsWriteTold, IsWriteMade}
 use Rattle.asit_shadow.proofs.PairSets.{pairs-count}
 use Rattle.asit_shadow.proofs.WriteCalls.{top-used_up, fetch-unspent, armed-IsGroup}
-use Rattle.asit_shadow.proofs.WriteEnds.{write-spent, write-stopped, write-lost}
-use Rattle.asit_shadow.proofs.WriteDone.{IsArmedWrite, write-kept, write-done}
+use Rattle.asit_shadow.proofs.CallCounts.{line-counts, naming-count}
+use Rattle.asit_shadow.proofs.WriteEnds.{write-spent, write-stopped, write-lost, lost-work}
+use Rattle.asit_shadow.proofs.WriteDone.{IsArmedWrite, write-kept, write-done, kept-work}
 use Rattle.asit_shadow.proofs.engine.TreeEngine.write_line.Given.{Over}
 use Rattle.asit_shadow.proofs.engine.TreeEngine.write_line.Goals.{After-is_used_up, After-next_regs-regs}
 use Rattle.asit_shadow.proofs.engine.TreeEngine.write_line.Goals as goal
@@ -32,6 +36,10 @@ at g engine board watch = parts_of engine (g.B.Board.device board) (g.W.Watch.wa
 
 abbrev under : (g : Over) → TreeState → g.row.S.Denot → Setup
 under g engine suite = record { shape = engine.shape; formulas = g.S.Suite.formulas_of (g.S.Suite.keys suite) }
+
+-- the suite's counts at a moment
+abbrev counted : (g : Over) → g.row.S.Denot → SuiteState
+counted g suite = suite_state (g.S.Suite.keys suite) (g.S.Suite.pads suite) (g.S.Suite.tags suite) (g.S.Suite.digests suite)
 
 -- ---- before the latch
 
@@ -69,7 +77,8 @@ returns-then-is_used_up-clause-spent g c =
 pub returns-in-Err-clause-written : goal.returns-in-Err-clause-written
 returns-in-Err-clause-written g c =
     let before = (goal.at.returns-in-Err-clause-written g c).After-is_used_up in
-    write-stopped (under g c.args.self.now c.args.suite.now) c.args.at c.args.line.now (at g c.args.self.now c.args.board.now c.args.watch.now) (at g c.fetch.new.self c.fetch.new.board c.fetch.new.watch) c.in-Err.fault
+    write-stopped (under g c.args.self.now c.args.suite.now) c.args.at c.args.line.now (at g c.args.self.now c.args.board.now c.args.watch.now) (at g c.fetch.new.self c.fetch.new.board c.fetch.new.watch)
+    (g.S.Suite.tags c.args.suite.now) (g.S.Suite.tags c.fetch.new.suite) c.in-Err.fault
     (unused g before c.if-is_used_up.false) c.in-Err.ensures.stopped
 
 pub returns-in-Err-clause-spent : goal.returns-in-Err-clause-spent
@@ -166,6 +175,17 @@ module _ (g : Over) (c : After-next_regs-regs g) where
         group = is_group;
       }
 
+  -- its pad, its tags and its digests
+  counts : CountsOfArming (under g c.args.self.now c.args.suite.now) c.args.at (at g c.args.self.now c.args.board.now c.args.watch.now) (counted g c.args.suite.now) (counted g c.next_regs-regs.new.suite)
+  counts =
+      line-counts (under g c.args.self.now c.args.suite.now) c.args.at (at g c.args.self.now c.args.board.now c.args.watch.now) 1 (naming_digests c.args.self.now.shape) (g.S.Suite.tags c.fetch.new.suite)
+      (counted g c.args.suite.now) (counted g c.next_regs-regs.new.suite) (c.next_regs-regs.ensures.keys ∙ keys)
+      (c.next_regs-regs.ensures.pads ∙ (c.sealed-seal.ensures.pads ∙ ap risen c.in-Ok.ensures.pads)) c.in-Ok.ensures.tags
+      (c.next_regs-regs.ensures.tags ∙ c.sealed-seal.ensures.tags)
+      (naming-count (under g c.args.self.now c.args.suite.now) (length c.raised-nodes.result.items) c.fetch.new.self.tree.height (g.S.Suite.digests c.args.suite.now) (g.S.Suite.digests c.next_regs-regs.new.suite)
+      (pairs-count c.args.self.now.shape c.args.at c.raised-nodes.result.items raised.positions) (c.is_whole-2.ensures.engine.tree_height ∙ ap shadow_height shape)
+      (c.next_regs-regs.ensures.digests ∙ ap (risen_times (length c.raised-nodes.result.items * suc c.fetch.new.self.tree.height)) (c.sealed-seal.ensures.digests ∙ c.in-Ok.ensures.digests)))
+
 -- ---- what the calls ask
 
 pub last_counter-requires : goal.last_counter-requires
@@ -243,3 +263,28 @@ pub returns-clause-spent : goal.returns-clause-spent
 returns-clause-spent g c =
     let first = (goal.at.returns-clause-spent g c).After-is_used_up in
     (λ is. absurd is, λ e. absurd (unspent g first c.if-is_used_up.false e))
+
+pub returns-in-Err-arm-clause-counts : goal.returns-in-Err-arm-clause-counts
+returns-in-Err-arm-clause-counts g c =
+    let before = (goal.at.returns-in-Err-arm-clause-counts g c).After-next_regs-regs in
+    inr (
+      inl (lost-work (under g c.args.self.now c.args.suite.now) c.args.at (at g c.args.self.now c.args.board.now c.args.watch.now) (at g c.fetch.new.self c.fetch.new.board c.fetch.new.watch)
+          (at g c.next_regs-regs.new.self c.arm.new.board c.fetch.new.watch) c.in-Ok.ensures.fetched.path c.next_regs-regs.ensures.cache c.in-Err-arm.ensures.cut),
+      counts g before,
+    )
+
+pub returns-in-Err-finish-clause-counts : goal.returns-in-Err-finish-clause-counts
+returns-in-Err-finish-clause-counts g c =
+    let first = (goal.at.returns-in-Err-finish-clause-counts g c).After-is_used_up in
+    let before = (goal.at.returns-in-Err-finish-clause-counts g c).After-next_regs-regs in
+    inr (
+      inr (kept-work (under g c.args.self.now c.args.suite.now) c.args.at c.args.line.now c.sealed-seal.result c.raised-nodes.result.items c.next_regs-regs.result
+          (at g c.args.self.now c.args.board.now c.args.watch.now) (at g c.fetch.new.self c.fetch.new.board c.fetch.new.watch) (at g c.store.new.self c.finish.new.board c.tell.new.watch) (g.B.Board.device c.arm.new.board)
+          (armed g before (at g c.store.new.self c.finish.new.board c.tell.new.watch) (g.B.Board.device c.arm.new.board) (unused g first c.if-is_used_up.false) c.in-Ok-arm.ensures.ok
+          (write_made g before c.store.new.self (g.B.Board.device c.finish.new.board) (g.W.Watch.watched c.tell.new.watch) c.tell.ensures c.store.ensures.cache c.store.ensures.shape c.store.ensures.tree c.store.ensures.down))
+          c.in-Err-finish.ensures.cut),
+      counts g before,
+    )
+
+pub returns-clause-counts : goal.returns-clause-counts
+returns-clause-counts g c = counts g ((goal.at.returns-clause-counts g c).After-next_regs-regs)

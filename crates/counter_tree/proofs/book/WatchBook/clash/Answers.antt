@@ -1,10 +1,10 @@
 -- The two trees show the clash.
-use Rattle.std.proofs.Common.{ℕ, ◌≡◌, ◌≢◌, ◌+◌, ◌<◌, ◌^◌, List, length, refl, sym, ap, subst, ◌∙◌, arith}
+use Rattle.std.proofs.Common.{◌≡◌, List, length, sym, ap, subst, ◌∙◌}
 use Rattle.pmem_base.specs.declared.lines.Line.{Line}
 use Rattle.pmem_base.specs.declared.answers.Exhibit.TheVariants.{Clash}
 use Rattle.pmem_base.specs.Geo.{shape_of}
 use Rattle.pmem_base.specs.Lines.{line_at}
-use Rattle.counter_tree.specs.Shadow.{IsShadowTree, shadow_height}
+use Rattle.counter_tree.specs.Shadow.{IsShadowTree}
 use Rattle.counter_tree.specs.BookView.{watch_of}
 use Rattle.counter_tree.proofs.BookLemmas.{slots-fit, slot-fits, slots-differ, clash-is}
 use Rattle.counter_tree.proofs.book.WatchBook.clash.Goals as goal

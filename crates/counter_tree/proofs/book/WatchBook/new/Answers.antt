@@ -19,8 +19,8 @@ invariant_of-result g c =
           (c.in_ok-nodes.ensures.items_if_clones_equal (λ y e. e)) c.metas.ensures.value
           zero_slots c.tree_slots.ensures.value;
       trees = record {
-        seen_height = ap (λ (t : ChipTree). t.height) c.in_ok-new.ensures;
-        kept_height = ap (λ (t : ChipTree). t.height) c.in_ok-new-2.ensures;
+        seen_height = ap (λ (t : ChipTree). t.height) c.in_ok-new.ensures.made;
+        kept_height = ap (λ (t : ChipTree). t.height) c.in_ok-new-2.ensures.made;
       };
       whole_nodes = zero-nodes c.metas.result c.in_ok-nodes.nodes.items (c.in_ok-nodes.ensures.items_if_clones_equal (λ y e. e));
       whole_slots = zero-lines c.tree_slots.result c.in_ok-slots.slots.items zero_slots;

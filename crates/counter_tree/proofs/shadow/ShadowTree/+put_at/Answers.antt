@@ -1,11 +1,11 @@
 -- The line goes in after the path above it.
-use Rattle.std.proofs.Common.{ℕ, suc, ◌≡◌, ◌-◌, List, length, sym, ap, ◌∙◌, refl, arith}
+use Rattle.std.proofs.Common.{suc, ◌≡◌, ◌+◌, ◌-◌, List, length, sym, ap, ◌∙◌, arith}
 use Rattle.pmem_base.specs.declared.lines.Line.{Line}
 use Rattle.pmem_base.proofs.LineSets.{length-put_lines}
 use Rattle.pmem_base.specs.Lines.{line_at, put_lines}
-use Rattle.bonsai_tree.specs.Positions.{parent}
-use Rattle.bonsai_tree.specs.Paths.{node_above, with_child_digest, new_path, new_root}
-use Rattle.counter_tree.proofs.ChipLemmas.{level-within, level-above, level-low, put-more, root-more, node-is}
+use Rattle.pmem_base.specs.Counts.{risen_times}
+use Rattle.bonsai_tree.specs.Paths.{new_path, new_root}
+use Rattle.counter_tree.proofs.ChipLemmas.{level-within, level-above, level-low, put-more, root-more, node-is, risen_times-add}
 use Rattle.counter_tree.proofs.shadow.ShadowTree.+put_at.Goals as goal
 
 pub set_line-requires : goal.set_line-requires
@@ -59,3 +59,13 @@ returns-clause-root g t c =
     c.parent-above.ensures.value c.child_slot.ensures.value c.line.ensures c.digest-digest.ensures.digest c.set_child.ensures.value)
     (c.put_at-root.ensures.root
     ∙ ap (λ keys. new_root (g.S.Suite.formulas_of keys) (line_at lines) (c.args.level - 1) c.parent-above.result c.set_child.new.node) c.digest-digest.ensures.keys)
+
+pub returns-clause-digests : goal.returns-clause-digests
+returns-clause-digests g t c =
+    let below : suc (c.args.level - 1) ≡ c.args.level = omega arith in
+    let more : 1 + c.args.level ≡ suc c.args.level = omega arith in
+    c.put_at-root.ensures.digests
+    ∙ (ap (λ n. risen_times n (g.S.Suite.digests c.digest-digest.new.self)) below
+    ∙ (ap (risen_times c.args.level) c.digest-digest.ensures.digests
+    ∙ (sym (risen_times-add 1 c.args.level (g.S.Suite.digests c.args.suite.now))
+    ∙ ap (λ n. risen_times n (g.S.Suite.digests c.args.suite.now)) more)))

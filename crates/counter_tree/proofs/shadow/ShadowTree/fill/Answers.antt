@@ -1,11 +1,8 @@
 -- Leaves, nodes and the top's digest.
-use Rattle.std.proofs.Common.{ℕ, suc, ◌≡◌, ◌<◌, ◌≤◌, ◌+◌, ◌*◌, List, length, sym, ap, ◌∙◌, arith}
-use Rattle.pmem_base.specs.declared.lines.Line.{Line}
+use Rattle.std.proofs.Common.{suc, ◌≡◌, ◌*◌, ap, ◌∙◌, arith}
 use Rattle.pmem_base.specs.Counts.{risen, risen_times}
 use Rattle.pmem_base.specs.Layout.{level_start}
-use Rattle.pmem_base.specs.Lines.{line_at}
 use Rattle.bonsai_tree.proofs.Levels.{level_start-suc}
-use Rattle.counter_tree.specs.Shadow.{IsShadowTree}
 use Rattle.counter_tree.proofs.ChipLemmas.{filled}
 use Rattle.counter_tree.proofs.ChipTree.{chip-root}
 use Rattle.counter_tree.proofs.shadow.ShadowTree.fill.Goals as goal

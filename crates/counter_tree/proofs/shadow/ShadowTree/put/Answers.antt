@@ -1,6 +1,5 @@
 -- A slot's line goes in along its path.
-use Rattle.std.proofs.Common.{ℕ, List, ◌≡◌, ◌+◌, ap, ◌∙◌}
-use Rattle.pmem_base.specs.declared.lines.Line.{Line}
+use Rattle.std.proofs.Common.{ap, ◌∙◌}
 use Rattle.pmem_base.specs.Lines.{line_at, put_lines}
 use Rattle.bonsai_tree.specs.Paths.{new_path, new_root, path_with, root_with, lines_with}
 use Rattle.counter_tree.specs.Shadow.{tree_with, tree_root_with}

@@ -10,7 +10,7 @@ use Rattle.start_gap.specs.declared.gapped.Gapped.{Gapped}
 use Rattle.start_gap.specs.declared.gapped.GapFault.TheVariants as Gap
 use Rattle.wear_session.specs.declared.calls.StartFault.TheVariants as Start
 use Rattle.wear_session.proofs.Starts.{OnCall, none_of}
-use Rattle.wear_session.proofs.Opened.{open_exit, cut_exit, wanted_exit, twin_exit, possible}
+use Rattle.wear_session.proofs.Opened.{open_exit, cut_exit, wanted_on, wanted_exit, twin_exit, possible}
 use Rattle.wear_session.proofs.world.WearWorld.on.Given.{Over}
 use Rattle.wear_session.proofs.world.WearWorld.on.Goals.{After-steps-steps, In-Err-Recovery, In-Err-Opening, In-Engine}
 use Rattle.wear_session.proofs.world.WearWorld.on.Goals as goal
@@ -85,8 +85,11 @@ invariant_of-self-in-Memory g c =
 
 pub returns-in-Memory-clause-halted : goal.returns-in-Memory-clause-halted
 returns-in-Memory-clause-halted g c =
-    (wanted_exit (call g ((goal.at.returns-in-Memory-clause-halted g c).After-steps-steps)) (memory_of c.rest.new.self) c.rest.ensures
-    (recovery_fault g ((goal.at.returns-in-Memory-clause-halted g c).In-Err-Recovery) ∙ ap (λ f. Err (Start.Recovery f)) c.in-Memory.is)).1
+    let its = call g ((goal.at.returns-in-Memory-clause-halted g c).After-steps-steps) in (
+      wanted_on its,
+      (wanted_exit its (memory_of c.rest.new.self) c.rest.ensures
+          (recovery_fault g ((goal.at.returns-in-Memory-clause-halted g c).In-Err-Recovery) ∙ ap (λ f. Err (Start.Recovery f)) c.in-Memory.is)).1,
+    )
 
 pub invariant_of-self-in-Twin : goal.invariant_of-self-in-Twin
 invariant_of-self-in-Twin g c =

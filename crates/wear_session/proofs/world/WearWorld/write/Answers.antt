@@ -68,6 +68,7 @@ returns-in-Ok-Not g c =
       answered =
           (made_exit (call g ((goal.at.returns-in-Ok-Not g c).After-steps-steps)) (inl (let h = c.in-Ok-Not.is in search rules))).1;
       err = tt;
+      wanting = tt;
     }
 
 pub invariant_of-self-in-Ok-Made : goal.invariant_of-self-in-Ok-Made
@@ -81,6 +82,7 @@ returns-in-Ok-Made g c =
       answered =
           (made_exit (call g ((goal.at.returns-in-Ok-Made g c).After-steps-steps)) (inr (let h = c.in-Ok-Made.is in search rules))).1;
       err = tt;
+      wanting = tt;
     }
 
 pub invariant_of-self-in-Ok-Held : goal.invariant_of-self-in-Ok-Held

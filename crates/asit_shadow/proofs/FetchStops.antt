@@ -1,0 +1,266 @@
+-- How a fetch stops at a node: with a cut, a refused node or an exhibit.
+use Rattle.std.proofs.Common.{ℕ, ◌≡◌, true, false, List, Some, refl, sym, ap, subst, inl, inr, ◌+◌, ◌∙◌, arith}
+use Rattle.std.specs.Prelude.{Option, IsSome, if◌then◌else◌}
+use Rattle.std.proofs.lemmas.Bool.{true≢false, false_from_ne_true}
+use Rattle.std.proofs.lemmas.Option.{same_Some, none-some}
+use Rattle.pmem_base.specs.declared.lines.Line.{Line}
+use Rattle.pmem_base.specs.Counts.{risen, risen_times}
+use Rattle.pmem_recovery.proofs.PartLaws.{risen_times-then}
+use Rattle.suite.specs.Setup.{Setup}
+use Rattle.board.proofs.CountLemmas.{RisesBy-then}
+use Rattle.board.specs.Steps.{HasRead, Tells}
+use Rattle.pmem_engine.specs.Outcomes.{going, cut_short, shown}
+use Rattle.counter_tree.specs.Nodes.{total, makes_node_tag, node_read}
+use Rattle.counter_tree.specs.Layout.{line_of_node}
+use Rattle.counter_tree.specs.Trees.{node_at}
+use Rattle.counter_tree.specs.Slots.{slot_of}
+use Rattle.counter_tree.specs.Watch.{WatchState, HasShown, forged_node}
+use Rattle.counter_tree.specs.Accepted.{IsNodeUnaccepted, IsNodeForged}
+use Rattle.asit_shadow.specs.declared.fault.TreeFault.{TreeFault}
+use Rattle.asit_shadow.specs.declared.fault.TreeFault.TheVariants as Fail
+use Rattle.asit_shadow.specs.State.{TreeState, IsCached, cache_at}
+use Rattle.asit_shadow.specs.Parts.{Parts, AreTrusted}
+use Rattle.asit_shadow.specs.Calls.{IsNodeLineRead}
+use Rattle.asit_shadow.specs.Work.{holds_dirty, is_cached, absent_count, HasStoppedAt, IsShownAt, IsCutInFetch}
+use Rattle.asit_shadow.specs.Counts.{fetch_tags}
+use Rattle.asit_shadow.specs.Fetching.{AreTagsCutOff, IsNodeCutOff, HasNoNode, IsFetchStopped}
+use Rattle.asit_shadow.proofs.Chains.{effect-then, going-unshown, cut-unshown}
+use Rattle.asit_shadow.proofs.LevelWork.{next-on_path, is_cached-false}
+use Rattle.asit_shadow.proofs.PathSteps.{IsNextLevel, level-ready, next-work, cached-after}
+use Rattle.asit_shadow.proofs.TagLaws.{one-more}
+use Rattle.asit_shadow.proofs.FetchEnds.{read-unwritten, cut-unwritten, cut-power, cut-effect, refused-effect, first-none, shown-some, sound-read, shown-effect, held-read, stopped-steps, kept-watch, unwritten-levels}
+
+-- the line of the next node was read
+stopped-at : (setup : Setup) (a j x version : ℕ) (line : Line) (old now new : Parts) → IsNextLevel setup a j x version old now → (IsCached setup.shape now.engine.cache x → ⊥) → new.engine ≡ now.engine → HasRead now.device (line_of_node setup.shape x) line new.device → HasStoppedAt setup a x old new
+stopped-at setup a j x version line old now new next uncached engine read =
+    let same = read-unwritten now.device new.device (line_of_node setup.shape x) line read in
+    let work = next-work setup a j x version old now next in
+    record {
+      levels = j;
+      below = next.level;
+      next = next.place;
+      absent = is_cached-false setup.shape old.engine.cache x (λ it. uncached (cached-after setup a j x version old now next it));
+      fetched = unwritten-levels setup a j old now new (ap (λ (e : TreeState). e.cache) engine) same work.done;
+      reads = RisesBy-then (absent_count setup.shape old.engine.cache a j) 1 old.device.reads now.device.reads new.device.reads work.reads read.reads;
+    }
+
+-- how far a fetch came that was cut
+cut-work : (setup : Setup) (a j x version : ℕ) (old now new : Parts) → IsNextLevel setup a j x version old now → IsNodeCutOff setup.shape x now new → IsCutInFetch setup a old new
+cut-work setup a j x version old now new next cut =
+    let same = cut-unwritten setup.shape x now new cut in
+    let work = next-work setup a j x version old now next in
+    record {
+      levels = j;
+      fetched = unwritten-levels setup a j old now new (ap (λ (e : TreeState). e.cache) cut.engine) same work.done;
+      due =
+          λ was.
+          let live = next.before.effect.power.1 was in
+          record {
+            below = next.level;
+            absent =
+                subst (λ y. is_cached setup.shape old.engine.cache y ≡ false) next.place
+                (is_cached-false setup.shape old.engine.cache x (λ it. cut.uncached (cached-after setup a j x version old now next it)));
+            victim =
+                subst (λ y. holds_dirty (cache_at old.engine.cache (slot_of setup.shape y)) ≡ true) next.place
+                (ap holds_dirty (sym work.slot) ∙ cut.victim live);
+            reads =
+                RisesBy-then (absent_count setup.shape old.engine.cache a j) 1 old.device.reads now.device.reads new.device.reads work.reads
+                (cut.one_read live);
+          };
+    }
+
+cut_stop : (setup : Setup) (a j x version : ℕ) (old now new : Parts) (start count made : ℕ) → IsNextLevel setup a j x version old now → count ≡ risen_times (fetch_tags setup old.engine.cache a j) start → IsNodeCutOff setup.shape x now new
+    → AreTagsCutOff (cache_at now.engine.cache (slot_of setup.shape x)) now.device.live count made → IsFetchStopped setup a old new start made Fail.Cut
+unfolding cut-work
+cut_stop setup a j x version old now new start count made next before cut tags =
+    let same = cut-unwritten setup.shape x now new cut in
+    let work = next-work setup a j x version old now next in
+    record {
+      kind = tt;
+      effect =
+          effect-then setup cut_short old now new next.before.effect
+          (cut-effect setup now new same (cut-power setup.shape x now new cut) (ap (λ (e : TreeState). e.shape) cut.engine) cut.watch);
+      down = ap (λ (e : TreeState). e.down) cut.engine ∙ next.before.down;
+      regs = same.regs ∙ next.before.regs;
+      steps = stopped-steps setup a j x version cut_short old now new next same;
+      watch = kept-watch cut_short old.watch new.watch cut-unshown (cut.watch ∙ next.before.watch);
+      same_watch = cut.watch ∙ next.before.watch;
+      work = cut-work setup a j x version old now new next cut;
+      its_tags =
+          elim tags [
+            | inl none ↦
+                record {
+                  tags = fetch_tags setup old.engine.cache a j;
+                  so_many =
+                      record {
+                        cut = cut-work setup a j x version old now new next cut;
+                        its_tags = inl (false_from_ne_true old.device.live (λ was. true≢false (sym (next.before.effect.power.1 was) ∙ none.0)), refl);
+                      };
+                  made = none.1 ∙ before;
+                }
+            | inr two ↦
+                record {
+                  tags = fetch_tags setup old.engine.cache a j + 2;
+                  so_many =
+                      record {
+                        cut = cut-work setup a j x version old now new next cut;
+                        its_tags =
+                            inr (record {
+                              below = next.level;
+                              victim =
+                                  subst (λ y. holds_dirty (cache_at old.engine.cache (slot_of setup.shape y)) ≡ true) next.place
+                                  (ap holds_dirty (sym work.slot) ∙ two.0);
+                              its_tags = refl;
+                            });
+                      };
+                  made = two.1 ∙ (ap (risen_times 2) before ∙ risen_times-then (fetch_tags setup old.engine.cache a j) 2 start);
+                }
+          ];
+      answered = λ trusted. tt;
+      unrefused = λ sound. tt;
+    }
+
+-- the line read at the node that the fetch stopped at
+stopped-read : (setup : Setup) (a j x version : ℕ) (line : Line) (old now new : Parts) → IsNextLevel setup a j x version old now → (IsCached setup.shape now.engine.cache x → ⊥) → HasRead now.device (line_of_node setup.shape x) line new.device → IsNodeLineRead setup a x line old new
+stopped-read setup a j x version line old now new next uncached read =
+    let ready = level-ready setup a j x version old now next in
+    record {
+      on_path = next-on_path setup.shape a j x next.level next.place;
+      below_top = omega (arith, ready.not_top);
+      uncached = λ it. uncached (cached-after setup a j x version old now next it);
+      read = subst (λ (o : Option (List Line)). Tells o (line_of_node setup.shape x) line) (sym read.lines) read.tells;
+    }
+
+-- the version is the true node's
+true_version : (setup : Setup) (a j x version : ℕ) (old now : Parts) → IsNextLevel setup a j x version old now → AreTrusted setup old → version ≡ total (node_at old.watch.nodes x)
+true_version setup a j x version old now next trusted =
+    let ready = level-ready setup a j x version old now next in
+    let here = next.before.effect.trusted trusted in
+    next.version_true here
+    ∙ (sym (here.anchored.tree.versions x (omega (arith, ready.not_top)) ready.on_tree)
+    ∙ ap (λ (w : WatchState). total (node_at w.nodes x)) next.before.watch)
+
+refused_stop : (setup : Setup) (a j x version : ℕ) (old now new : Parts) (start count made : ℕ) → IsNextLevel setup a j x version old now → count ≡ risen_times (fetch_tags setup old.engine.cache a j) start
+    → (IsCached setup.shape now.engine.cache x → ⊥) → new.engine ≡ now.engine → IsNodeUnaccepted setup x version now.device new.device now.watch new.watch count made
+    → IsFetchStopped setup a old new start made (Fail.Node x)
+unfolding stopped-at
+refused_stop setup a j x version old now new start count made next before uncached engine it =
+    let ready = level-ready setup a j x version old now next in
+    let same = read-unwritten now.device new.device (line_of_node setup.shape x) it.line it.read in
+    record {
+      kind = tt;
+      effect =
+          effect-then setup going old now new next.before.effect
+          (refused-effect setup now new same (it.read.steady, it.read.live, it.read.cuts) engine it.watch_kept);
+      down = ap (λ (e : TreeState). e.down) engine ∙ next.before.down;
+      regs = same.regs ∙ next.before.regs;
+      steps = stopped-steps setup a j x version going old now new next same;
+      watch = kept-watch going old.watch new.watch going-unshown (it.watch_kept ∙ next.before.watch);
+      same_watch = it.watch_kept ∙ next.before.watch;
+      work = stopped-at setup a j x version it.line old now new next uncached engine it.read;
+      its_tags =
+          record {
+            tags = fetch_tags setup old.engine.cache a j + (if makes_node_tag it.line version then 1 else 0);
+            so_many =
+                record {
+                  stopped = stopped-at setup a j x version it.line old now new next uncached engine it.read;
+                  line = it.line;
+                  version = version;
+                  read = (stopped-read setup a j x version it.line old now new next uncached it.read).read;
+                  refused = it.refused;
+                  true_version = true_version setup a j x version old now next;
+                  its_tags = refl;
+                };
+            made = it.its_tags ∙ one-more (makes_node_tag it.line version) (fetch_tags setup old.engine.cache a j) start count before;
+          };
+      answered =
+          λ trusted.
+          record {
+            line = it.line;
+            its = stopped-read setup a j x version it.line old now new next uncached it.read;
+            refused = ap (node_read setup.formulas x it.line) (sym (true_version setup a j x version old now next trusted)) ∙ it.refused;
+            unheld =
+                λ lines are held.
+                none-some (node_at now.watch.nodes x)
+                (sym it.refused ∙ held-read setup a j x version it.line old now next uncached it.read.tells trusted lines are held);
+          };
+      unrefused =
+          λ sound.
+          none-some (node_at now.watch.nodes x)
+          (sym it.refused ∙ sound-read setup x version it.line now ready uncached it.read.tells (next.before.effect.sound sound));
+    }
+
+shown-work : (setup : Setup) (a j x version : ℕ) (old now new : Parts) → IsNextLevel setup a j x version old now → (IsCached setup.shape now.engine.cache x → ⊥) → new.engine ≡ now.engine
+    → IsNodeForged setup x version now.device new.device now.watch new.watch → IsShownAt setup a old new
+shown-work setup a j x version old now new next uncached engine it =
+    record {
+      x = x;
+      line = it.line;
+      stopped = stopped-at setup a j x version it.line old now new next uncached engine it.read;
+      shown = subst (λ (w : WatchState). HasShown w new.watch (forged_node w x it.line)) next.before.watch it.exhibit;
+    }
+
+shown_stop : (setup : Setup) (a j x version : ℕ) (old now new : Parts) (start count made : ℕ) → IsNextLevel setup a j x version old now → count ≡ risen_times (fetch_tags setup old.engine.cache a j) start
+    → (IsCached setup.shape now.engine.cache x → ⊥) → new.engine ≡ now.engine → IsNodeForged setup x version now.device new.device now.watch new.watch → made ≡ risen count
+    → IsFetchStopped setup a old new start made Fail.Shown
+unfolding stopped-at shown-work
+shown_stop setup a j x version old now new start count made next before uncached engine it tag =
+    let ready = level-ready setup a j x version old now next in
+    let same = read-unwritten now.device new.device (line_of_node setup.shape x) it.line it.read in
+    let effect = shown-effect setup x version now new ready uncached engine it in
+    record {
+      kind = tt;
+      effect = effect-then setup shown old now new next.before.effect effect;
+      down = ap (λ (e : TreeState). e.down) engine ∙ next.before.down;
+      regs = same.regs ∙ next.before.regs;
+      steps = stopped-steps setup a j x version shown old now new next same;
+      watch =
+          record {
+            setup = it.exhibit.setup ∙ ap (λ (w : WatchState). w.setup) next.before.watch;
+            seals = it.exhibit.seals ∙ ap (λ (w : WatchState). w.seals) next.before.watch;
+            nodes = it.exhibit.nodes ∙ ap (λ (w : WatchState). w.nodes) next.before.watch;
+            slots = it.exhibit.slots ∙ ap (λ (w : WatchState). w.slots) next.before.watch;
+            exhibit = λ other. absurd (other refl);
+            stopped = λ _. subst IsSome (sym it.exhibit.exhibit) (shown-some now.watch.exhibit (forged_node now.watch x it.line));
+          };
+      same_watch = tt;
+      work = shown-work setup a j x version old now new next uncached engine it;
+      its_tags =
+          record {
+            tags = fetch_tags setup old.engine.cache a j + 1;
+            so_many = record { shown = shown-work setup a j x version old now new next uncached engine it; its_tags = refl };
+            made = tag ∙ (ap risen before ∙ risen_times-then (fetch_tags setup old.engine.cache a j) 1 start);
+          };
+      answered =
+          λ trusted.
+          record {
+            x = x;
+            line = it.line;
+            node = it.node;
+            its = stopped-read setup a j x version it.line old now new next uncached it.read;
+            accepted = ap (node_read setup.formulas x it.line) (sym (true_version setup a j x version old now next trusted)) ∙ it.accepted;
+            other = λ same_node. it.other (same_node ∙ ap (λ (w : WatchState). node_at w.nodes x) (sym next.before.watch));
+            exhibit =
+                it.exhibit.exhibit
+                ∙ (first-none now.watch.exhibit (forged_node now.watch x it.line) (next.before.effect.trusted trusted).anchored.no_exhibit
+                ∙ ap (λ (w : WatchState). Some (forged_node w x it.line)) next.before.watch);
+            unheld =
+                λ lines are held.
+                it.other (same_Some it.node (node_at now.watch.nodes x)
+                (sym it.accepted ∙ held-read setup a j x version it.line old now next uncached it.read.tells trusted lines are held));
+          };
+      unrefused = λ sound. effect.sound (next.before.effect.sound sound);
+    }
+
+pub fetch-stopped : (setup : Setup) (a j x version : ℕ) (old now new : Parts) (start count made : ℕ) (fault : TreeFault) → IsNextLevel setup a j x version old now → count ≡ risen_times (fetch_tags setup old.engine.cache a j) start
+    → HasNoNode setup x version now new count made fault → IsFetchStopped setup a old new start made fault
+fetch-stopped setup a j x version old now new start count made Fail.Cut next before missed =
+    cut_stop setup a j x version old now new start count made next before missed.0 missed.1
+fetch-stopped setup a j x version old now new start count made (Fail.Node y) next before missed =
+    subst (λ z. IsFetchStopped setup a old new start made (Fail.Node z)) (sym missed.0)
+    (refused_stop setup a j x version old now new start count made next before missed.1 missed.2 missed.3)
+fetch-stopped setup a j x version old now new start count made Fail.Shown next before missed =
+    shown_stop setup a j x version old now new start count made next before missed.0 missed.1 missed.2 missed.3
+fetch-stopped setup a j x version old now new start count made Fail.Down next before missed = absurd missed
+fetch-stopped setup a j x version old now new start count made (Fail.Tag at) next before missed = absurd missed
+fetch-stopped setup a j x version old now new start count made Fail.Spent next before missed = absurd missed

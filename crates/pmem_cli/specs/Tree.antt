@@ -1,0 +1,60 @@
+-- A memory over a counter tree, as the session of a command.
+use Rattle.std.specs.Prelude.{◌≡◌, ℕ, List, [], Some, Ok, All}
+use Rattle.pmem_base.specs.declared.answers.Exhibit.{Exhibit}
+use Rattle.suite.specs.Setup.{Setup}
+use Rattle.collision_witness.specs.Exhibits.{IsExhibit}
+use Rattle.tree_session.specs.declared.commands.TreeCommand.{TreeCommand}
+use Rattle.tree_session.specs.Answered.{IsAnswered, IsEngineShown, IsStarvedOf}
+use Rattle.tree_session.specs.Answers.{tree_text}
+use Rattle.tree_session.specs.Commands.{reading_of_tree, sort_of_tree}
+use Rattle.tree_session.specs.Guarantees.{TreeReply, AreAllowed, History, first_history, history_after, MayShow, IsNoTampering, IsUnrefused}
+use Rattle.tree_session.specs.State.{SessionState, IsNewTree}
+use Rattle.pmem_cli.specs.declared.options.Choices.{Choices}
+use Rattle.pmem_cli.specs.Keys.{setup_chosen}
+use Rattle.pmem_cli.specs.Sessions.{Session, Said, replies_among, exhibits_among}
+
+-- an exhibit that ends the session in place of an answer to the line's command
+pub record IsExhibitOf (setup : Setup) (old : SessionState) (line : List ℕ) (exhibit : Exhibit) : Type 0 where
+  pub command : TreeCommand
+  pub its_reading : reading_of_tree line ≡ Ok (Some command)
+  pub new : SessionState
+  pub shown : IsEngineShown setup old command exhibit new
+
+-- an exhibit that holds, and that a command may show after these commands and answers
+abbrev pub IsShownAfter : Setup → History → Exhibit → Type 0
+IsShownAfter setup history exhibit =
+    IsExhibit setup.formulas exhibit × ((command : TreeCommand) × MayShow setup.shape history command exhibit)
+
+-- nothing was refused, and nothing shown
+abbrev pub IsAllServed : List (Said TreeReply) → Type 0
+IsAllServed said =
+    All (λ (reply : TreeReply). IsUnrefused reply.answer) (replies_among said) × (exhibits_among said ≡ [])
+
+-- What a session says promises: each answer is one that the commands and answers before it allow, and so is an exhibit, which
+-- holds. Where nobody tampered with the device, nothing is refused or shown.
+pub record IsAsPromised (setup : Setup) (said : List (Said TreeReply)) : Type 0 where
+  pub allowed : AreAllowed setup.shape (first_history setup.shape) (replies_among said)
+  pub shown :
+      All (IsShownAfter setup (history_after setup.shape (first_history setup.shape) (replies_among said)))
+      (exhibits_among said)
+  pub untouched :
+      All (λ (reply : TreeReply). IsNoTampering reply.command reply.answer) (replies_among said) → IsAllServed said
+
+-- of this setup
+abbrev pub counter_tree_session : Setup → Session SessionState TreeReply
+counter_tree_session setup =
+    record {
+      begins = IsNewTree setup;
+      sort_of = sort_of_tree;
+      answers =
+          λ old line reply new. (reading_of_tree line ≡ Ok (Some reply.command))
+          × IsAnswered setup old reply.command reply.answer new;
+      shows = IsExhibitOf setup;
+      wants_memory = IsStarvedOf;
+      text_of = λ reply. tree_text reply.answer;
+      promises = λ first said. IsAsPromised setup said;
+    }
+
+-- as it is chosen
+abbrev pub tree_chosen : Choices → Session SessionState TreeReply
+tree_chosen c = counter_tree_session (setup_chosen c)
