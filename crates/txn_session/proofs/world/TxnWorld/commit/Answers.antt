@@ -69,6 +69,7 @@ returns-in-Ok-Applied g c =
     record {
       answered = (applied_exit (call g ((goal.at.returns-in-Ok-Applied g c).After-steps-steps)) (let h = c.in-Ok-Applied.is in search rules)).1;
       err = tt;
+      wanting = tt;
     }
 
 pub invariant_of-self-in-Ok-Stuck : goal.invariant_of-self-in-Ok-Stuck
