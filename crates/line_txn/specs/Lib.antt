@@ -1,2 +1,5 @@
 pub mod Header
 pub mod Logged
+pub mod Edits
+pub mod Serving
+pub mod Store

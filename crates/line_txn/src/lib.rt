@@ -1,10 +1,15 @@
-//! Transactions of several lines: the header that decides one, and what is in memory at each of its writes.
+//! Transactions of several lines: the header that decides one, what is in memory at each of its writes, and data
+//! lines that are so written over an engine.
 #![tactic(auto)]
 
+mod edits;
 mod header;
 mod laws;
+mod store;
 #[cfg(test)]
 mod tests;
 
+pub use edits::Edit;
 pub use header::{header_line, read_header};
 pub use laws::{headers_name_one_list, transactions_are_whole, zero_lines_are_logged};
+pub use store::{CommitFault, Done, Opened, Store, TxnFault};

@@ -1,4 +1,6 @@
 //! Worked headers.
+mod stored;
+
 use crate::{header_line, read_header};
 use pmem_base::Line;
 

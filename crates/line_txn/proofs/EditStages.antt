@@ -1,0 +1,211 @@
+-- The lines after so many of the changes that a commit or a redo is made of, and which changes these are.
+use Rattle.std.proofs.Common.{ℕ, zero, suc, ◌≡◌, ◌<◌, ◌≤◌, ◌+◌, ◌^◌, ◌⊎◌, inl, inr, List, [], ◌∷◌, ◌++◌, length, take, drop, drop-cons, Err, refl, sym, ap, subst, ◌∙◌, arith}
+use Rattle.std.specs.Prelude.{All, slice_set}
+use Rattle.std.specs.List.{zip}
+use Rattle.std.proofs.lemmas.Bool.{cases_lt}
+use Rattle.std.proofs.lemmas.List.{take-append-le, take_all, length-append, length-map}
+use Rattle.std.proofs.lemmas.List.Elements.{All-nil, All-cons, All-head, All-tail, All-append}
+use Rattle.pmem_base.specs.declared.lines.Line.{Line}
+use Rattle.pmem_base.specs.Layout.{data_lines}
+use Rattle.pmem_base.specs.Lines.{IsLine, line_at, put_lines, zero_line}
+use Rattle.pmem_base.proofs.LineLemmas.{IsLine-zero_line}
+use Rattle.pmem_base.proofs.LineSets.{line_at-set_other}
+use Rattle.suite.specs.Setup.{Setup}
+use Rattle.pmem_engine.specs.declared.fault.Fault.{Fault}
+use Rattle.pmem_engine.specs.declared.fault.Fault.TheVariants as Fail
+use Rattle.pmem_engine.specs.Parts.{Parts}
+use Rattle.start_gap.specs.Gapped.{HasLines, IsUnspent}
+use Rattle.line_txn.specs.declared.edits.Edit.{Edit}
+use Rattle.line_txn.specs.declared.edits.Edit.TheVariants as Make
+use Rattle.line_txn.specs.Header.{AreBelow, header_of}
+use Rattle.line_txn.specs.Logged.{redone_to, with_bodies, targets_of, bodies_of}
+use Rattle.line_txn.specs.Edits.{IsEditOf, edited, all_edited, body_edits, target_edits, copy_edits, deciding_edits, applying_edits, redoing_edits}
+use Rattle.line_txn.proofs.EditLaws.{LeavesLines, StopsAt}
+
+-- ---- the lines after so many of them
+
+pub after_bodies : (p k : ℕ) (bodies lines : List Line) → all_edited (take k (body_edits p bodies)) lines ≡ with_bodies p (take k bodies) lines
+after_bodies p zero bodies lines = refl
+after_bodies p (suc k) [] lines = refl
+after_bodies p (suc k) (body ∷ bodies) lines = after_bodies (p + 1) k bodies (slice_set lines p body)
+
+pub after_all_bodies : (p : ℕ) (bodies lines : List Line) → all_edited (body_edits p bodies) lines ≡ with_bodies p bodies lines
+after_all_bodies p [] lines = refl
+after_all_bodies p (body ∷ bodies) lines = after_all_bodies (p + 1) bodies (slice_set lines p body)
+
+pub after_targets : (k : ℕ) (txn : List (ℕ × Line)) (lines : List Line) → all_edited (take k (target_edits txn)) lines ≡ put_lines (take k txn) lines
+after_targets zero txn lines = refl
+after_targets (suc k) [] lines = refl
+after_targets (suc k) (entry ∷ txn) lines = after_targets k txn (slice_set lines entry.0 entry.1)
+
+pub after_all_targets : (txn : List (ℕ × Line)) (lines : List Line) → all_edited (target_edits txn) lines ≡ put_lines txn lines
+after_all_targets [] lines = refl
+after_all_targets (entry ∷ txn) lines = after_all_targets txn (slice_set lines entry.0 entry.1)
+
+-- bodies stay while they are copied to targets before them
+copies_from : (k p : ℕ) (targets : List ℕ) (lines now : List Line) → All (λ t. t < p) targets → p + length targets ≤ length lines
+    → ((j : ℕ) → p ≤ j → line_at now j ≡ line_at lines j)
+    → all_edited (take k (copy_edits p targets)) now ≡ put_lines (take k (zip targets (drop p lines))) now
+copies_from zero p targets lines now low long same = refl
+copies_from (suc k) p [] lines now low long same = refl
+copies_from (suc k) p (t ∷ targets) lines now low long same =
+    let more : suc p ≡ p + 1 = omega arith in
+    let here : line_at now p ≡ line_at lines p = same p (omega arith) in
+    let under : t < p = All-head (λ t. t < p) t targets low in
+    let others : All (λ t. t < p) targets = All-tail (λ t. t < p) t targets low in
+    let first : drop p lines ≡ line_at lines p ∷ drop (p + 1) lines =
+    drop-cons lines p zero_line (omega (arith, long)) ∙ ap (λ j. line_at lines p ∷ drop j lines) more in
+    copies_from k (p + 1) targets lines (slice_set now t (line_at now p)) (λ i d l. omega (arith, others i d l)) (omega (arith, long))
+    (λ j far. line_at-set_other now t j (line_at now p) (λ e. omega (arith, e, under, far)) ∙ same j (omega (arith, far)))
+    ∙ ap (λ l. put_lines (take k (zip targets (drop (p + 1) lines))) (slice_set now t l)) here
+    ∙ ap (λ rest. put_lines (take (suc k) (zip (t ∷ targets) rest)) now) (sym first)
+
+pub after_copies : (n k : ℕ) (targets : List ℕ) (lines : List Line) → AreBelow n targets → n + 1 + length targets ≤ length lines
+    → all_edited (take k (copy_edits (n + 1) targets)) lines ≡ redone_to k n targets lines
+after_copies n k targets lines below long =
+    copies_from k (n + 1) targets lines lines (λ i d l. omega (arith, below.each i d l)) long (λ j far. refl)
+
+length-body_edits : (p : ℕ) (bodies : List Line) → length (body_edits p bodies) ≡ length bodies
+length-body_edits p [] = refl
+length-body_edits p (body ∷ bodies) = let rest = length-body_edits (p + 1) bodies in omega (arith, rest)
+
+pub length-copy_edits : (p : ℕ) (targets : List ℕ) → length (copy_edits p targets) ≡ length targets
+length-copy_edits p [] = refl
+length-copy_edits p (t ∷ targets) = let rest = length-copy_edits (p + 1) targets in omega (arith, rest)
+
+pub length-bodies : (p : ℕ) (txn : List (ℕ × Line)) → length (body_edits p (bodies_of txn)) ≡ length txn
+length-bodies p txn = length-body_edits p (bodies_of txn) ∙ length-map txn (λ e. e.1)
+
+pub length-targets : (txn : List (ℕ × Line)) → length (target_edits txn) ≡ length txn
+length-targets txn = length-map txn (λ e. Make.Put e.0 e.1)
+
+-- ---- changes with a last one
+
+all_edited-append : (edits more : List Edit) (lines : List Line) → all_edited (edits ++ more) lines ≡ all_edited more (all_edited edits lines)
+all_edited-append [] more lines = refl
+all_edited-append (edit ∷ edits) more lines = all_edited-append edits more (edited edit lines)
+
+pub after_last : (edits : List Edit) (last : Edit) (lines : List Line) → all_edited (edits ++ last ∷ []) lines ≡ edited last (all_edited edits lines)
+after_last edits last lines = all_edited-append edits (last ∷ []) lines
+
+-- a fault leaves the lines before the change, or, where no line is spent, those after it
+pub leaves_cases : (setup : Setup) (fault : Fault) (before after : List Line) (new : Parts)
+    → LeavesLines setup (Err fault) before after new → HasLines setup before new ⊎ (IsUnspent fault × HasLines setup after new)
+leaves_cases setup (Fail.Spent page) before after new it = inl it
+leaves_cases setup Fail.Cut before after new it = elim it [ inl same ↦ inl same | inr put ↦ inr (tt, put) ]
+leaves_cases setup Fail.Down before after new it = elim it [ inl same ↦ inl same | inr put ↦ inr (tt, put) ]
+leaves_cases setup (Fail.Meta x) before after new it = elim it [ inl same ↦ inl same | inr put ↦ inr (tt, put) ]
+leaves_cases setup (Fail.Tag at) before after new it = elim it [ inl same ↦ inl same | inr put ↦ inr (tt, put) ]
+leaves_cases setup Fail.Shown before after new it = elim it [ inl same ↦ inl same | inr put ↦ inr (tt, put) ]
+
+-- so many of the changes before the last one are made, or all of these, or the last one too, where no line is spent
+pub record StopsBy (setup : Setup) (edits : List Edit) (last : Edit) (lines : List Line) (new : Parts) (fault : Fault) : Type 0 where
+  pub k : ℕ
+  pub within : k ≤ length edits
+  pub left :
+      HasLines setup (all_edited (take k edits) lines) new
+      ⊎ ((k ≡ length edits) × IsUnspent fault × HasLines setup (edited last (all_edited edits lines)) new)
+
+pub stops_by : (setup : Setup) (few : data_lines setup.shape ≤ 2 ^ 32) (edits : List Edit) (last : Edit) (lines : List Line) (new : Parts) (fault : Fault)
+    → StopsAt setup few (edits ++ last ∷ []) lines new fault → StopsBy setup edits last lines new fault
+stops_by setup few edits last lines new fault it =
+    elim (leaves_cases setup fault _ _ new it.left) [
+      | inl same ↦
+          record {
+            k = it.k;
+            within = within;
+            left = inl (subst (λ es. HasLines setup (all_edited es lines) new) (front it.k within) same);
+          }
+      | inr put ↦ next (cases_lt it.k (length edits)) put
+    ]
+  where
+    long : length (edits ++ last ∷ []) ≡ length edits + 1
+    long = length-append edits (last ∷ [])
+
+    within : it.k ≤ length edits
+    within = let inside = it.inside in omega (arith, inside, long)
+
+    front : (k : ℕ) → k ≤ length edits → take k (edits ++ last ∷ []) ≡ take k edits
+    front k few = take-append-le k edits (last ∷ []) few
+
+    next : (it.k < length edits) ⊎ (length edits ≤ it.k) → IsUnspent fault × HasLines setup (all_edited (take (suc it.k) (edits ++ last ∷ [])) lines) new
+        → StopsBy setup edits last lines new fault
+    next (inl early) put =
+        record {
+          k = suc it.k;
+          within = omega (arith, early);
+          left = inl (subst (λ es. HasLines setup (all_edited es lines) new) (front (suc it.k) (omega (arith, early))) put.1);
+        }
+    next (inr late) put =
+        let all : take (suc it.k) (edits ++ last ∷ []) ≡ edits ++ last ∷ [] = take_all (suc it.k) (edits ++ last ∷ []) (omega (arith, late, long)) in
+        record {
+          k = it.k;
+          within = within;
+          left =
+              inr (
+                omega (arith, late, within),
+                put.0,
+                subst (λ ls. HasLines setup ls new) (ap (λ es. all_edited es lines) all ∙ after_last edits last lines) put.1,
+              );
+        }
+
+-- ---- which changes they are
+
+module _ (n count : ℕ) (size : n + 16 ≡ count) where
+  bodies_fit : (p : ℕ) (bodies : List Line) → p + length bodies ≤ count → All IsLine bodies → All (IsEditOf count) (body_edits p bodies)
+  bodies_fit p [] within whole = All-nil (IsEditOf count)
+  bodies_fit p (body ∷ bodies) within whole =
+      All-cons (IsEditOf count) (Make.Put p body) (body_edits (p + 1) bodies) (omega (arith, within), All-head IsLine body bodies whole)
+      (bodies_fit (p + 1) bodies (omega (arith, within)) (All-tail IsLine body bodies whole))
+
+  copies_fit : (p : ℕ) (targets : List ℕ) → p + length targets ≤ count → All (λ t. t < n) targets → All (IsEditOf count) (copy_edits p targets)
+  copies_fit p [] within low = All-nil (IsEditOf count)
+  copies_fit p (t ∷ targets) within low =
+      let under : t < n = All-head (λ t. t < n) t targets low in
+      All-cons (IsEditOf count) (Make.Copy p t) (copy_edits (p + 1) targets) (omega (arith, within), omega (arith, under, size))
+      (copies_fit (p + 1) targets (omega (arith, within)) (All-tail (λ t. t < n) t targets low))
+
+  targets_fit : (txn : List (ℕ × Line)) → All (λ t. t < n) (targets_of txn) → All IsLine (bodies_of txn) → All (IsEditOf count) (target_edits txn)
+  targets_fit [] low whole = All-nil (IsEditOf count)
+  targets_fit (entry ∷ txn) low whole =
+      let under : entry.0 < n = All-head (λ t. t < n) entry.0 (targets_of txn) low in
+      All-cons (IsEditOf count) (Make.Put entry.0 entry.1) (target_edits txn)
+      (omega (arith, under, size), All-head IsLine entry.1 (bodies_of txn) whole)
+      (targets_fit txn (All-tail (λ t. t < n) entry.0 (targets_of txn) low) (All-tail IsLine entry.1 (bodies_of txn) whole))
+
+  last_fits : (edits : List Edit) (line : Line) → IsLine line → All (IsEditOf count) edits → All (IsEditOf count) (edits ++ Make.Put n line ∷ [])
+  last_fits edits line whole each =
+      All-append (IsEditOf count) edits (Make.Put n line ∷ []) each
+      (All-cons (IsEditOf count) (Make.Put n line) [] (omega (arith, size), whole) (All-nil (IsEditOf count)))
+
+  pub deciding_fit : (txn : List (ℕ × Line)) → length txn ≤ 15 → All IsLine (bodies_of txn) → IsLine (header_of (targets_of txn))
+      → All (IsEditOf count) (deciding_edits n txn)
+  deciding_fit txn few whole header =
+      let bodies = length-map txn (λ e. e.1) in
+      last_fits (body_edits (n + 1) (bodies_of txn)) (header_of (targets_of txn)) header
+      (bodies_fit (n + 1) (bodies_of txn) (omega (arith, few, bodies, size)) whole)
+
+  pub applying_fit : (txn : List (ℕ × Line)) → AreBelow n (targets_of txn) → All IsLine (bodies_of txn) → All (IsEditOf count) (applying_edits n txn)
+  applying_fit txn below whole =
+      last_fits (target_edits txn) zero_line IsLine-zero_line (targets_fit txn below.each whole)
+
+  pub redoing_fit : (targets : List ℕ) → length targets ≤ 15 → AreBelow n targets → All (IsEditOf count) (redoing_edits n targets)
+  redoing_fit [] few below = All-nil (IsEditOf count)
+  redoing_fit (t ∷ targets) few below =
+      last_fits (copy_edits (n + 1) (t ∷ targets)) zero_line IsLine-zero_line
+      (copies_fit (n + 1) (t ∷ targets) (omega (arith, few, size)) below.each)
+
+pub length-deciding : (n : ℕ) (txn : List (ℕ × Line)) → length (deciding_edits n txn) ≡ length txn + 1
+length-deciding n txn =
+    length-append (body_edits (n + 1) (bodies_of txn)) (Make.Put n (header_of (targets_of txn)) ∷ [])
+    ∙ ap (λ k. k + 1) (length-bodies (n + 1) txn)
+
+pub length-applying : (n : ℕ) (txn : List (ℕ × Line)) → length (applying_edits n txn) ≡ length txn + 1
+length-applying n txn = length-append (target_edits txn) (Make.Put n zero_line ∷ []) ∙ ap (λ k. k + 1) (length-targets txn)
+
+pub length-redoing : (n : ℕ) (targets : List ℕ) → length targets ≤ 15 → length (redoing_edits n targets) ≤ 16
+length-redoing n [] few = omega arith
+length-redoing n (t ∷ targets) few =
+    let all = length-append (copy_edits (n + 1) (t ∷ targets)) (Make.Put n zero_line ∷ []) in
+    let copies = length-copy_edits (n + 1) (t ∷ targets) in
+    omega (arith, all, copies, few)

@@ -1,0 +1,20 @@
+use Rattle.std.proofs.Common.{◌≡◌, ◌≤◌, ◌+◌, ◌*◌, take, Ok}
+use Rattle.pmem_engine.specs.Parts.{parts_of}
+use Rattle.pmem_engine.specs.Calls.{IsUsable}
+use Rattle.line_txn.specs.Edits.{AreEdited}
+use Rattle.line_txn.proofs.edits.edit_all.Given as goal
+
+abbrev pub invariant-edits : goal.invariant-edits
+invariant-edits g l =
+    record {
+      edited :
+          AreEdited (record { shape = l.fn.engine.shape; formulas = g.S.Suite.formulas_of (g.S.Suite.keys l.fn.suite) })
+          (take l.edit-index l.edits)
+          (parts_of l.fn.engine (g.B.Board.device l.fn.board) (g.A.Audit.ledger l.fn.audit) (g.S.Suite.tags l.fn.suite) (g.S.Suite.digests l.fn.suite))
+          (parts_of l.engine (g.B.Board.device l.board) (g.A.Audit.ledger l.audit) (g.S.Suite.tags l.suite) (g.S.Suite.digests l.suite))
+          (Ok tt);
+      room : (g.A.Audit.ledger l.fn.audit).spare ≤ (g.A.Audit.ledger l.audit).spare + 66 * l.edit-index;
+      keys : g.S.Suite.keys l.suite ≡ g.S.Suite.keys l.fn.suite;
+      usable : IsUsable l.fn.engine.shape l.engine (g.B.Board.device l.board) (g.A.Audit.ledger l.audit);
+      shape : l.engine.shape ≡ l.fn.engine.shape;
+    }

@@ -1,0 +1,320 @@
+//! Data lines over an engine, written by transactions of several lines.
+ghost use Rattle.std.specs.Prelude.{◌≡◌, ◌≢◌, ◌≤◌, ◌<◌, ◌+◌, ◌^◌, List, [], length, true, Some, None, IfOk, IfSome};
+ghost use Rattle.pmem_base.specs.declared.lines.Line.{Line};
+ghost use Rattle.pmem_base.specs.Layout.{data_lines};
+ghost use Rattle.pmem_base.specs.Lines.{line_at};
+ghost use Rattle.pmem_engine.specs.Engine.{EngineState};
+ghost use Rattle.pmem_engine.specs.Parts.{parts_of, AreTrusted, AreSound};
+ghost use Rattle.pmem_engine.specs.Outcomes.{LeavesTrusted, LeavesSound};
+ghost use Rattle.pmem_engine.specs.Calls.{IsUsable, HasReadLine};
+ghost use Rattle.start_gap.specs.Gapped.{HasLines};
+ghost use Rattle.line_txn.specs.Header.{AreTargets, AreBelow};
+ghost use Rattle.line_txn.specs.Logged.{IsLogged, targets_of};
+
+use crate::edits::{applying, deciding, edit_all, redoing, targets_in};
+use crate::header::read_header;
+use arrayvec::ArrayVec;
+use board::Board;
+use pmem_base::Line;
+use pmem_engine::{Engine, Fault};
+use seal_ledger::Audit;
+use suite::Suite;
+
+/// What became of a transaction that was decided.
+#[derive(Clone, Copy, Debug, PartialEq, Eq)]
+pub enum Done {
+    /// Each of its lines was written to its place.
+    Applied,
+    /// A target or the header is spent: from now on the log serves the targets.
+    Stuck { page: u32 },
+}
+
+/// Why a commit ended: the fault of the engine's call, and whether the header's write had been answered Ok.
+#[derive(Clone, Copy, Debug, PartialEq, Eq)]
+pub struct CommitFault {
+    pub fault: Fault,
+    pub committed: bool,
+}
+
+/// Why no lines were opened. The engine is dropped; recovery over the board makes another.
+#[derive(Clone, Copy, Debug, PartialEq, Eq)]
+pub enum TxnFault {
+    /// A call of the engine wasn't done.
+    Engine(Fault),
+    /// The line of the header is no header.
+    Header { line: Line },
+}
+
+/// How many lines the transaction has that was found in force, and the page of a spent line, where the redo
+/// ended at one.
+#[derive(Clone, Copy, Debug, PartialEq, Eq)]
+pub struct Opened {
+    pub redone: u8,
+    pub stuck: Option<u32>,
+}
+
+/// An engine whose first n = L - 16 data lines are written by transactions. Data line n holds the header, and the
+/// next 15 hold the bodies. Where a line of a transaction in force is spent, the store is stuck: its targets are
+/// read from their bodies.
+#[derive(Drop)]
+pub struct Store {
+    engine: Engine,
+    lines: u32,
+    logged: ArrayVec<u32, 15>,
+    stuck: Option<u32>,
+    pub ghost its_lines: { lines + 16 ≡ data_lines engine.shape },
+    pub ghost few_lines: { lines ≤ 2 ^ 30 },
+    pub ghost only_stuck: { stuck ≡ None → logged.items ≡ [] },
+}
+
+impl Store {
+    ghost use Rattle.line_txn.specs.Edits.{IsWholeTxn};
+    ghost use Rattle.line_txn.specs.Serving.{served_from};
+    ghost use Rattle.line_txn.specs.Store.{HasOpened, HasOpenedLogged, LeavesOpenedTrusted, LeavesOpenedSound, HasCommitted, IsLeftLogged, IsSoundAnswer, IsSpentUndecided, IsServedAs, outcome_by, logged_lines};
+
+    /// Reads the header, and redoes the transaction in force. `Header` comes exactly where the line is no header.
+    pub fn open<B: Board, S: Suite, A: Audit>(
+        engine: Engine,
+        board: &mut B,
+        suite: &mut S,
+        audit: &mut A,
+    ) -> Result<(Store, Opened), TxnFault>
+        requires room { 1056 ≤ (A.ledger audit.old).spare }
+        requires usable { IsUsable engine.shape engine (B.device board.old) (A.ledger audit.old) }
+        ensures opened { HasOpened (record { shape = engine.shape; formulas = S.formulas_of (S.keys suite.old) })
+            (parts_of engine (B.device board.old) (A.ledger audit.old) (S.tags suite.old) (S.digests suite.old))
+            (λ now. parts_of now (B.device board.new) (A.ledger audit.new) (S.tags suite.new) (S.digests suite.new)) result }
+        ensures logged { AreTrusted (record { shape = engine.shape; formulas = S.formulas_of (S.keys suite.old) })
+            (parts_of engine (B.device board.old) (A.ledger audit.old) (S.tags suite.old) (S.digests suite.old))
+            → (lines : List Line)
+            → HasLines (record { shape = engine.shape; formulas = S.formulas_of (S.keys suite.old) }) lines
+            (parts_of engine (B.device board.old) (A.ledger audit.old) (S.tags suite.old) (S.digests suite.old))
+            → HasOpenedLogged (record { shape = engine.shape; formulas = S.formulas_of (S.keys suite.old) }) lines
+            (λ now. parts_of now (B.device board.new) (A.ledger audit.new) (S.tags suite.new) (S.digests suite.new)) result }
+        ensures trusted { AreTrusted (record { shape = engine.shape; formulas = S.formulas_of (S.keys suite.old) })
+            (parts_of engine (B.device board.old) (A.ledger audit.old) (S.tags suite.old) (S.digests suite.old))
+            → LeavesOpenedTrusted (record { shape = engine.shape; formulas = S.formulas_of (S.keys suite.old) })
+            (λ now. parts_of now (B.device board.new) (A.ledger audit.new) (S.tags suite.new) (S.digests suite.new)) result }
+        ensures sound { AreSound (record { shape = engine.shape; formulas = S.formulas_of (S.keys suite.old) })
+            (parts_of engine (B.device board.old) (A.ledger audit.old) (S.tags suite.old) (S.digests suite.old))
+            → LeavesOpenedSound (record { shape = engine.shape; formulas = S.formulas_of (S.keys suite.old) })
+            (λ now. parts_of now (B.device board.new) (A.ledger audit.new) (S.tags suite.new) (S.digests suite.new)) result }
+        ensures keys { S.keys suite.new ≡ S.keys suite.old }
+        ensures usable { IfOk result (λ opened. IsUsable engine.shape opened.0.engine (B.device board.new) (A.ledger audit.new)) }
+        ensures shape { IfOk result (λ opened. opened.0.engine.shape ≡ engine.shape) }
+        ensures left { (last : EngineState) × IsUsable engine.shape last (B.device board.new) (A.ledger audit.new) }
+    {
+        Store::open_lines(engine, board, suite, audit)
+    }
+
+    // The same: the calls of which the rest follows.
+    fn open_lines<B: Board, S: Suite, A: Audit>(
+        engine: Engine,
+        board: &mut B,
+        suite: &mut S,
+        audit: &mut A,
+    ) -> Result<(Store, Opened), TxnFault>
+        requires room { 1056 ≤ (A.ledger audit.old).spare }
+        requires usable { IsUsable engine.shape engine (B.device board.old) (A.ledger audit.old) }
+        ensures opened { HasOpened (record { shape = engine.shape; formulas = S.formulas_of (S.keys suite.old) })
+            (parts_of engine (B.device board.old) (A.ledger audit.old) (S.tags suite.old) (S.digests suite.old))
+            (λ now. parts_of now (B.device board.new) (A.ledger audit.new) (S.tags suite.new) (S.digests suite.new)) result }
+        ensures few { logged_lines engine.shape ≤ 2 ^ 30 }
+        ensures keys { S.keys suite.new ≡ S.keys suite.old }
+        ensures usable { IfOk result (λ opened. IsUsable engine.shape opened.0.engine (B.device board.new) (A.ledger audit.new)) }
+        ensures shape { IfOk result (λ opened. opened.0.engine.shape ≡ engine.shape) }
+        ensures left { (last : EngineState) × IsUsable engine.shape last (B.device board.new) (A.ledger audit.new) }
+    {
+        let mut engine = engine;
+        let lines = engine.geo().lines() - 16;
+        let header = match engine.read(board, suite, audit, lines) {
+            Err(fault) => return Err(TxnFault::Engine(fault)),
+            Ok(header) => header,
+        };
+        let Some(targets) = read_header(lines, &header) else {
+            return Err(TxnFault::Header { line: header });
+        };
+        let redone = targets.len() as u8;
+        let edits = redoing(lines, &targets);
+        match edit_all(&mut engine, board, suite, audit, &edits) {
+            Ok(()) => Ok((
+                Store {
+                    engine,
+                    lines,
+                    logged: ArrayVec::new(),
+                    stuck: None,
+                },
+                Opened {
+                    redone,
+                    stuck: None,
+                },
+            )),
+            Err(fault) => match fault {
+                Fault::Spent { page } => Ok((
+                    Store {
+                        engine,
+                        lines,
+                        logged: targets,
+                        stuck: Some(page),
+                    },
+                    Opened {
+                        redone,
+                        stuck: Some(page),
+                    },
+                )),
+                _ => Err(TxnFault::Engine(fault)),
+            },
+        }
+    }
+
+    /// The page of the spent line that the store is stuck at.
+    pub fn stuck(&self) -> Option<u32>
+        ensures { result ≡ self.now.stuck }
+    {
+        self.stuck
+    }
+
+    /// How many data lines there are.
+    pub fn lines(&self) -> u32
+        ensures value { result ≡ self.now.lines }
+        ensures logged { result + 16 ≡ data_lines self.now.engine.shape }
+    {
+        self.lines
+    }
+
+    /// A data line. A stuck store reads its targets from the log.
+    pub fn read<B: Board, S: Suite, A: Audit>(
+        &mut self,
+        board: &mut B,
+        suite: &mut S,
+        audit: &mut A,
+        at: u32,
+    ) -> Result<Line, Fault>
+        requires line { at < self.old.lines }
+        requires usable { IsUsable self.old.engine.shape self.old.engine (B.device board.old) (A.ledger audit.old) }
+        ensures read { HasReadLine (record { shape = self.old.engine.shape; formulas = S.formulas_of (S.keys suite.old) })
+            (served_from self.old.lines self.old.logged.items at)
+            (parts_of self.old.engine (B.device board.old) (A.ledger audit.old) (S.tags suite.old) (S.digests suite.old))
+            (parts_of self.new.engine (B.device board.new) (A.ledger audit.new) (S.tags suite.new) (S.digests suite.new)) result }
+        ensures logged { AreTrusted (record { shape = self.old.engine.shape; formulas = S.formulas_of (S.keys suite.old) })
+            (parts_of self.old.engine (B.device board.old) (A.ledger audit.old) (S.tags suite.old) (S.digests suite.old))
+            → (lines memory : List Line)
+            → HasLines (record { shape = self.old.engine.shape; formulas = S.formulas_of (S.keys suite.old) }) lines
+            (parts_of self.old.engine (B.device board.old) (A.ledger audit.old) (S.tags suite.old) (S.digests suite.old))
+            → IsLogged self.old.lines lines self.old.logged.items memory
+            → IfOk result (λ read. read ≡ line_at memory at) }
+        ensures served { IsServedAs self.old.logged.items self.old.stuck self.old self.new }
+        ensures keys { S.keys suite.new ≡ S.keys suite.old }
+        ensures usable { IsUsable self.old.engine.shape self.new.engine (B.device board.new) (A.ledger audit.new) }
+        ensures shape { self.new.engine.shape ≡ self.old.engine.shape }
+    {
+        let place = self.place(at);
+        self.engine.read(board, suite, audit, place)
+    }
+
+    // Where a data line is read.
+    fn place(&self, at: u32) -> u32
+        requires line { at < self.now.lines }
+        ensures place { result ≡ served_from self.now.lines self.now.logged.items at }
+        ensures low { result < self.now.lines + 16 }
+    {
+        let _full = self.logged.is_full();
+        'targets: for (i, target) in self.logged.iter().enumerate() {
+            if *target == at {
+                return self.lines + 1 + i as u32;
+            }
+        }
+        at
+    }
+
+    /// Writes these lines, all of them or none: the bodies into the log, then the header, then each line to its
+    /// place, and then the zero header. Without lines nothing is done. Wherever it ends, memory is what it was
+    /// until the header is written, and has the whole transaction from then on.
+    pub fn commit<B: Board, S: Suite, A: Audit>(
+        &mut self,
+        board: &mut B,
+        suite: &mut S,
+        audit: &mut A,
+        txn: &ArrayVec<(u32, Line), 15>,
+    ) -> Result<Done, CommitFault>
+        requires targets { AreBelow self.old.lines (targets_of txn.now.items) }
+        requires free { self.old.stuck ≡ None }
+        requires room { 2112 ≤ (A.ledger audit.old).spare }
+        requires usable { IsUsable self.old.engine.shape self.old.engine (B.device board.old) (A.ledger audit.old) }
+        ensures committed { HasCommitted (record { shape = self.old.engine.shape; formulas = S.formulas_of (S.keys suite.old) })
+            txn.now.items self.old self.new
+            (parts_of self.old.engine (B.device board.old) (A.ledger audit.old) (S.tags suite.old) (S.digests suite.old))
+            (parts_of self.new.engine (B.device board.new) (A.ledger audit.new) (S.tags suite.new) (S.digests suite.new)) result }
+        ensures logged { AreTrusted (record { shape = self.old.engine.shape; formulas = S.formulas_of (S.keys suite.old) })
+            (parts_of self.old.engine (B.device board.old) (A.ledger audit.old) (S.tags suite.old) (S.digests suite.old))
+            → (lines : List Line)
+            → HasLines (record { shape = self.old.engine.shape; formulas = S.formulas_of (S.keys suite.old) }) lines
+            (parts_of self.old.engine (B.device board.old) (A.ledger audit.old) (S.tags suite.old) (S.digests suite.old))
+            → IsLeftLogged (record { shape = self.old.engine.shape; formulas = S.formulas_of (S.keys suite.old) })
+            txn.now.items self.old.lines lines
+            (parts_of self.new.engine (B.device board.new) (A.ledger audit.new) (S.tags suite.new) (S.digests suite.new)) result }
+        ensures trusted { AreTrusted (record { shape = self.old.engine.shape; formulas = S.formulas_of (S.keys suite.old) })
+            (parts_of self.old.engine (B.device board.old) (A.ledger audit.old) (S.tags suite.old) (S.digests suite.old))
+            → LeavesTrusted (record { shape = self.old.engine.shape; formulas = S.formulas_of (S.keys suite.old) }) (outcome_by result)
+            (parts_of self.new.engine (B.device board.new) (A.ledger audit.new) (S.tags suite.new) (S.digests suite.new)) }
+        ensures sound { AreSound (record { shape = self.old.engine.shape; formulas = S.formulas_of (S.keys suite.old) })
+            (parts_of self.old.engine (B.device board.old) (A.ledger audit.old) (S.tags suite.old) (S.digests suite.old))
+            → LeavesSound (record { shape = self.old.engine.shape; formulas = S.formulas_of (S.keys suite.old) }) (outcome_by result)
+            (parts_of self.new.engine (B.device board.new) (A.ledger audit.new) (S.tags suite.new) (S.digests suite.new))
+            × IsSoundAnswer result }
+        ensures spent { IsSpentUndecided result }
+        ensures whole { IsWholeTxn txn.now.items }
+        ensures keys { S.keys suite.new ≡ S.keys suite.old }
+        ensures usable { IsUsable self.old.engine.shape self.new.engine (B.device board.new) (A.ledger audit.new) }
+        ensures shape { self.new.engine.shape ≡ self.old.engine.shape }
+    {
+        self.commit_lines(board, suite, audit, txn)
+    }
+
+    // The same: the calls of which the rest follows.
+    fn commit_lines<B: Board, S: Suite, A: Audit>(
+        &mut self,
+        board: &mut B,
+        suite: &mut S,
+        audit: &mut A,
+        txn: &ArrayVec<(u32, Line), 15>,
+    ) -> Result<Done, CommitFault>
+        requires targets { AreBelow self.old.lines (targets_of txn.now.items) }
+        requires room { 2112 ≤ (A.ledger audit.old).spare }
+        requires usable { IsUsable self.old.engine.shape self.old.engine (B.device board.old) (A.ledger audit.old) }
+        ensures committed { HasCommitted (record { shape = self.old.engine.shape; formulas = S.formulas_of (S.keys suite.old) })
+            txn.now.items self.old self.new
+            (parts_of self.old.engine (B.device board.old) (A.ledger audit.old) (S.tags suite.old) (S.digests suite.old))
+            (parts_of self.new.engine (B.device board.new) (A.ledger audit.new) (S.tags suite.new) (S.digests suite.new)) result }
+        ensures whole { IsWholeTxn txn.now.items }
+        ensures keys { S.keys suite.new ≡ S.keys suite.old }
+        ensures usable { IsUsable self.old.engine.shape self.new.engine (B.device board.new) (A.ledger audit.new) }
+        ensures shape { self.new.engine.shape ≡ self.old.engine.shape }
+    {
+        if txn.is_empty() {
+            return Ok(Done::Applied);
+        }
+        let edits = deciding(self.lines, txn);
+        if let Err(fault) = edit_all(&mut self.engine, board, suite, audit, &edits) {
+            return Err(CommitFault {
+                fault,
+                committed: false,
+            });
+        }
+        let edits = applying(self.lines, txn);
+        match edit_all(&mut self.engine, board, suite, audit, &edits) {
+            Ok(()) => Ok(Done::Applied),
+            Err(fault) => match fault {
+                Fault::Spent { page } => {
+                    self.logged = targets_in(txn);
+                    self.stuck = Some(page);
+                    Ok(Done::Stuck { page })
+                }
+                _ => Err(CommitFault {
+                    fault,
+                    committed: true,
+                }),
+            },
+        }
+    }
+}

@@ -1,0 +1,317 @@
+-- A commit as the session's fields have it: the state once so many of its engine writes are done.
+use Rattle.std.proofs.Common.{ℕ, ◌≡◌, ◌≤◌, ◌+◌, ◌-◌, ◌*◌, ◌++◌, Bool, true, false, cond, List, [], ◌∷◌, length, take, Option, Some, None, Result, refl, sym, ap, subst, ◌∙◌, arith}
+use Rattle.std.specs.Prelude.{All, nat_lt, ◌==◌, if◌then◌else◌}
+use Rattle.pmem_base.specs.declared.commands.Posted.{Posted}
+use Rattle.pmem_base.specs.declared.answers.Mark.{Mark}
+use Rattle.pmem_base.specs.Layout as layout
+use Rattle.pmem_base.specs.Lines.{put_lines}
+use Rattle.pmem_base.specs.Shape.{Shape}
+use Rattle.board.specs.Memory.{BoardMemory}
+use Rattle.seal_ledger.specs.Ledger.{LedgerState}
+use Rattle.seal_ledger.specs.Notes.{HasRoom}
+use Rattle.suite.specs.Formulas.{Formulas}
+use Rattle.suite.specs.Setup.{Setup}
+use Rattle.plain_model.specs.State.{Memory}
+use Rattle.plain_model.specs.View.{plain_memory}
+use Rattle.plain_model.specs.Asked.{moment_after_writes}
+use Rattle.pmem_engine.specs.Parts.{Parts, parts_of}
+use Rattle.line_txn.specs.declared.store.Store.{Store}
+use Rattle.line_txn.specs.declared.store.Done.{Done}
+use Rattle.line_txn.specs.declared.store.CommitFault.{CommitFault}
+use Rattle.line_txn.specs.Header.{AreTargets}
+use Rattle.line_txn.specs.Logged.{IsLogged, lines_at, targets_at, memory_at, targets_of}
+use Rattle.line_txn.specs.Edits.{IsEditOf, IsWholeTxn, deciding_edits, applying_edits}
+use Rattle.line_txn.specs.Store.{HasCommitted as HasCommittedBy, logged_lines}
+use Rattle.line_txn.proofs.LoggedLaws.{whole_at_each_stage}
+use Rattle.line_txn.proofs.EditStages.{deciding_fit, applying_fit}
+use Rattle.std.proofs.lemmas.List.Elements.{All-append}
+use Rattle.watched_board.specs.declared.taken.Taken.{Taken}
+use Rattle.watched_board.specs.Watching.{steps_in, step_limit, device_during, none_taken, IsWatched}
+use Rattle.wear_session.specs.Answered.{Writing, burnt}
+use Rattle.wear_session.proofs.Worlds.{at_most, fewer}
+use Rattle.wear_session.proofs.Seen.{setup_under}
+use Rattle.wear_session.proofs.WriteLaws.{whole_places}
+use Rattle.wear_session.proofs.EngineWrites.{moment_now, AreDone, AreCut}
+use Rattle.txn_session.specs.State.{TxnState, Entries, commit_writes, with_commit}
+use Rattle.txn_session.specs.World.{TxnParts, IsTxnWorld, IsStoreOn, targets_in_force, logical_memory, txn_of}
+use Rattle.txn_session.specs.Answered.{IsButForCounts, GoesTo, IsCutOff, after_commit, most_of_commit}
+use Rattle.txn_session.proofs.Worlds.{few_data, targets_held, memory_held, logged_is, goes_to, cut_off, IsOpenTxn, on_in, lines_are, on_after, off_after}
+use Rattle.txn_session.proofs.Rooms.{reserved_world}
+use Rattle.txn_session.proofs.WriteLists.{posted_commit, edits_memory, length-commit_writes}
+use Rattle.txn_session.proofs.Stages.{commit_edits, IsAtStage, at_stage}
+use Rattle.txn_session.proofs.CommitEnds.{commit_queue, CommitEndsAt, CommitServes, commit_serves, commit_ends_at}
+
+-- the state that so many leave, field by field
+by_done : (b last : Bool) (state : TxnState) (memory : Memory) (targets : List ℕ)
+    → (let closed : TxnState = record state { txn = None } in
+    let after : TxnState = if b then record closed { memory = memory; in_force = if last then [] else targets } else closed in after)
+    ≡ record state {
+      txn = None;
+      memory = cond b memory state.memory;
+      in_force = cond b (cond last [] targets) state.in_force;
+    }
+by_done true last state memory targets = refl
+by_done false last state memory targets = refl
+
+with_commit_is : (state : TxnState) (entries : Entries) (k : ℕ)
+    → with_commit state entries k
+    ≡ record state {
+      txn = None;
+      memory = cond (nat_lt (length entries) k) (put_lines entries state.memory) state.memory;
+      in_force = cond (nat_lt (length entries) k) (cond (k == 2 * length entries + 2) [] (targets_of entries)) state.in_force;
+    }
+with_commit_is state entries k =
+    by_done (nat_lt (length entries) k) (k == 2 * length entries + 2) state (put_lines entries state.memory) (targets_of entries)
+
+long_queue : (n : ℕ) (entries : Entries) → (entries ≡ [] → ⊥) → length (commit_writes n entries) ≡ 2 * length entries + 2
+long_queue n [] some = absurd (some refl)
+long_queue n (entry ∷ entries) some = length-commit_writes n entry entries
+
+-- the session's parts as the commit finds them, what it leaves and answers
+pub record CommitCall : Type 0 where
+  pub formulas_of : List ℕ → Formulas
+  pub geometry : Shape
+  -- before room for marks was made, and after
+  pub before : TxnParts
+  pub ledger_before : LedgerState
+  pub room : HasRoom before.ledger ledger_before 2112
+  pub now : TxnState
+  pub is : txn_of (setup_under formulas_of geometry before.keys) before ≡ now
+  pub world : IsTxnWorld (setup_under formulas_of geometry before.keys) before
+  pub store : Store
+  pub there : before.store ≡ Some store
+  pub entries : Entries
+  pub opened : before.txn ≡ Some entries
+  pub some : entries ≡ [] → ⊥
+  pub whole : IsWholeTxn entries
+  pub after : Store
+  pub keys : List ℕ
+  pub same_keys : keys ≡ before.keys
+  pub board : BoardMemory
+  pub ledger : LedgerState
+  pub taken : Taken
+  pub watched : IsWatched before.board board taken
+  pub tags : ℕ
+  pub digests : ℕ
+  pub tags_new : ℕ
+  pub digests_new : ℕ
+  pub said : ℕ
+  pub counted : said ≡ steps_in taken
+  pub answer : Result Done CommitFault
+  pub was_committed :
+      HasCommittedBy (setup_under formulas_of store.engine.shape before.keys) entries store after
+      (parts_of store.engine (device_during before.board none_taken) ledger_before tags digests)
+      (parts_of after.engine (device_during board taken) ledger tags_new digests_new) answer
+
+module _ (c : CommitCall) where
+  abbrev pub setup : Setup
+  setup = setup_under c.formulas_of c.geometry c.before.keys
+
+  abbrev pub p : TxnParts
+  p = record c.before { ledger = c.ledger_before }
+
+  abbrev pub old : TxnState
+  old = txn_of setup p
+
+  abbrev pub places : Memory
+  places = plain_memory setup c.ledger_before.marks
+
+  abbrev pub n : ℕ
+  n = c.store.lines
+
+  abbrev pub count : ℕ
+  count = length c.entries
+
+  abbrev pub queue : List Posted
+  queue = commit_writes n c.entries
+
+  abbrev pub most : ℕ
+  most = most_of_commit c.geometry count
+
+  abbrev pub from : Parts
+  from = parts_of c.store.engine (device_during c.before.board none_taken) c.ledger_before c.tags c.digests
+
+  abbrev pub to : Parts
+  to = parts_of c.after.engine (device_during c.board c.taken) c.ledger c.tags_new c.digests_new
+
+  abbrev places_now : Memory
+  places_now = plain_memory setup c.ledger.marks
+
+  abbrev pub left : Option Store → TxnParts
+  left store = record { keys = c.before.keys; board = c.board; ledger = c.ledger; store = store; txn = None }
+
+  abbrev pub left_under : Option Store → TxnParts
+  left_under store = record { keys = c.keys; board = c.board; ledger = c.ledger; store = store; txn = None }
+
+  pub world : IsTxnWorld setup p
+  world = reserved_world setup c.before c.ledger_before 2112 c.room c.world
+
+  pub on : IsStoreOn setup p c.store
+  on = on_in setup p c.store world c.there
+
+  pub n_is : n ≡ logged_lines c.geometry
+  n_is = lines_are setup p c.store on
+
+  size : n + 16 ≡ layout.data_lines c.geometry
+  size =
+      let its = c.store.its_lines in
+      let same : layout.data_lines c.store.engine.shape ≡ layout.data_lines c.geometry = ap layout.data_lines on.its_shape in
+      omega (arith, its, same)
+
+  -- a transaction is open, so none is in force
+  free : (c.store.stuck ≡ None) × AreTargets (logged_lines c.geometry) (targets_of c.entries)
+  free = subst (IsOpenTxn setup c.store.stuck) c.opened on.its_txn
+
+  targets : AreTargets n (targets_of c.entries)
+  targets = subst (λ m. AreTargets m (targets_of c.entries)) (sym n_is) free.1
+
+  pub no_log : c.store.logged.items ≡ []
+  no_log = c.store.only_stuck free.0
+
+  none_in_force : targets_in_force setup places ≡ []
+  none_in_force = sym on.its_log ∙ no_log
+
+  had : IsLogged n places [] (logical_memory setup places)
+  had =
+      subst (λ m. IsLogged m places [] (logical_memory setup places)) (sym n_is)
+      (subst (λ ts. IsLogged (logged_lines c.geometry) places ts (logical_memory setup places)) none_in_force world.logged)
+
+  -- ---- how it ended
+
+  committed_as : HasCommittedBy setup c.entries c.store c.after from to c.answer
+  committed_as =
+      subst (λ s. HasCommittedBy (setup_under c.formulas_of s c.before.keys) c.entries c.store c.after from to c.answer) on.its_shape c.was_committed
+
+  pub ends : (answer : Result Done CommitFault) → c.answer ≡ answer → CommitEndsAt setup from queue count most answer to
+  ends answer is =
+      subst (λ r. CommitEndsAt setup from queue count most r to) is
+      (commit_ends_at setup n c.entries c.some from on.sound on.powered size targets.below c.whole c.store c.after to c.answer refl committed_as)
+
+  pub serves : (answer : Result Done CommitFault) → c.answer ≡ answer → CommitServes c.entries c.store c.after answer
+  serves answer is =
+      subst (CommitServes c.entries c.store c.after) is (commit_serves setup c.entries c.store c.after from to c.answer c.some committed_as)
+
+  pub long : length queue ≡ 2 * count + 2
+  long = long_queue n c.entries c.some
+
+  -- ---- once so many of its engine writes are done
+
+  lines_there : (k : ℕ) → places_now ≡ (moment_after_writes setup.formulas (moment_now setup from) (take k queue)).memory
+      → (stage : IsAtStage n c.entries places k) → places_now ≡ lines_at stage.stage n c.entries places
+  lines_there k is stage =
+      is
+      ∙ ap (λ q. (moment_after_writes setup.formulas (moment_now setup from) (take k q)).memory)
+      (commit_queue n c.entries c.some ∙ sym (posted_commit n c.entries places))
+      ∙ edits_memory (layout.data_lines c.geometry) (let few = few_data c.geometry world.whole_shape in omega (arith, few)) setup.formulas
+      (commit_edits n c.entries) k places (moment_now setup from)
+      (whole_places setup c.before.board.regs c.ledger_before places world.whole_formulas on.sound.trusted.anchored world.places).each
+      (All-append (IsEditOf (layout.data_lines c.geometry)) (deciding_edits n c.entries) (applying_edits n c.entries)
+      (deciding_fit n (layout.data_lines c.geometry) size c.entries c.whole.few c.whole.whole c.whole.header)
+      (applying_fit n (layout.data_lines c.geometry) size c.entries targets.below c.whole.whole)) refl
+      ∙ stage.its_lines
+
+  module _ (k : ℕ) (made : List Mark) (few : k ≤ 2 * count + 2)
+      (is : places_now ≡ (moment_after_writes setup.formulas (moment_now setup from) (take k queue)).memory) where
+    stage : IsAtStage n c.entries places k
+    stage = at_stage n c.entries places k few
+
+    held_lines : IsLogged (logged_lines c.geometry) places_now (targets_at stage.stage c.entries) (memory_at stage.stage c.entries (logical_memory setup places))
+    held_lines =
+        subst (λ m. IsLogged m places_now (targets_at stage.stage c.entries) (memory_at stage.stage c.entries (logical_memory setup places))) n_is
+        (subst (λ l. IsLogged n l (targets_at stage.stage c.entries) (memory_at stage.stage c.entries (logical_memory setup places)))
+        (sym (lines_there k is stage))
+        (whole_at_each_stage n places (logical_memory setup places) c.entries stage.stage targets had))
+
+    logged : IsLogged (logged_lines c.geometry) places_now (targets_in_force setup places_now) (logical_memory setup places_now)
+    logged = logged_is setup world.whole_shape places_now (memory_at stage.stage c.entries (logical_memory setup places)) (targets_at stage.stage c.entries) held_lines
+
+    targets_now : targets_in_force setup places_now ≡ cond (nat_lt count k) (cond (k == 2 * count + 2) [] (targets_of c.entries)) []
+    targets_now =
+        targets_held setup world.whole_shape places_now (memory_at stage.stage c.entries (logical_memory setup places)) (targets_at stage.stage c.entries) held_lines
+        ∙ stage.targets
+
+    memory_now_is : logical_memory setup places_now ≡ cond (nat_lt count k) (put_lines c.entries old.memory) old.memory
+    memory_now_is =
+        memory_held setup world.whole_shape places_now (memory_at stage.stage c.entries (logical_memory setup places)) (targets_at stage.stage c.entries) held_lines
+        ∙ stage.its_memory old.memory
+
+    in_force_now : targets_in_force setup places_now ≡ cond (nat_lt count k) (cond (k == 2 * count + 2) [] (targets_of c.entries)) old.in_force
+    in_force_now = targets_now ∙ ap (cond (nat_lt count k) (cond (k == 2 * count + 2) [] (targets_of c.entries))) (sym none_in_force)
+
+    abbrev writing : Writing
+    writing = record { done = k; made = made }
+
+    -- power is on
+    module _ (limit : ℕ) (writes : List Posted) (done : AreDone setup from writes made limit to) (page : Option ℕ) (its_page : c.after.stuck ≡ page)
+        (its_log : c.after.logged.items ≡ cond (nat_lt count k) (cond (k == 2 * count + 2) [] (targets_of c.entries)) []) where
+      pub going_world : IsTxnWorld setup (left (Some c.after))
+      going_world = on_after setup p c.board c.ledger world logged c.after None done.live done.sound (its_log ∙ sym targets_now) tt
+
+      becomes : IsButForCounts
+          (record (with_commit old c.entries k) { stuck = page; marks = old.marks ++ made; fuse = burnt c.before.board.fuse (steps_in c.taken) })
+          (txn_of setup (left (Some c.after)))
+      becomes =
+          subst (λ e. IsButForCounts (record e { stuck = page; marks = old.marks ++ made; fuse = burnt c.before.board.fuse (steps_in c.taken) })
+          (txn_of setup (left (Some c.after)))) (sym (with_commit_is old c.entries k))
+          (record {
+            shape = refl;
+            keys = refl;
+            memory = memory_now_is;
+            in_force = in_force_now;
+            stuck = its_page;
+            txn = refl;
+            power = done.live ∙ sym on.powered;
+            fuse = c.watched.follows.burnt done.live;
+            loss = done.loss;
+            marks = done.marks;
+          })
+
+      pub goes_stuck : GoesTo (record (after_commit old c.entries writing) { stuck = page }) (steps_in c.taken) limit old (txn_of setup (left (Some c.after)))
+      goes_stuck =
+          goes_to setup p (left (Some c.after)) c.taken c.watched (record (after_commit old c.entries writing) { stuck = page }) limit done.live
+          (at_most c.before.board c.board c.taken limit c.watched.follows.few done.takes) becomes
+
+    -- where it isn't stuck
+    pub goes : (limit : ℕ) (writes : List Posted) (done : AreDone setup from writes made limit to) → c.after.stuck ≡ old.stuck
+        → GoesTo (after_commit old c.entries writing) (steps_in c.taken) limit old (txn_of setup (left (Some c.after)))
+    goes limit writes done its_page =
+        goes_to setup p (left (Some c.after)) c.taken c.watched (after_commit old c.entries writing) limit done.live
+        (at_most c.before.board c.board c.taken limit c.watched.follows.few done.takes)
+        (subst (λ e. IsButForCounts (record e { marks = old.marks ++ made; fuse = burnt c.before.board.fuse (steps_in c.taken) })
+        (txn_of setup (left (Some c.after)))) (sym (with_commit_is old c.entries k))
+        (record {
+          shape = refl;
+          keys = refl;
+          memory = memory_now_is;
+          in_force = in_force_now;
+          stuck = its_page;
+          txn = refl;
+          power = done.live ∙ sym on.powered;
+          fuse = c.watched.follows.burnt done.live;
+          loss = done.loss;
+          marks = done.marks;
+        }))
+
+    -- power was cut
+    module _ (limit : ℕ) (writes : List Posted) (cut : AreCut setup from writes made limit to) where
+      pub cut_world : IsTxnWorld setup (left None)
+      cut_world = off_after setup p c.board c.ledger world logged cut.dark cut.durable cut.small_group
+
+      pub cuts : limit ≤ step_limit → IsCutOff (after_commit old c.entries writing) (steps_in c.taken) limit old (txn_of setup (left None))
+      cuts small =
+          cut_off setup p (left None) c.taken c.watched (after_commit old c.entries writing) limit cut.dark
+          (fewer c.before.board c.board c.taken limit c.watched.follows.few cut.takes) small
+          (subst (λ e. IsButForCounts (record e { marks = old.marks ++ made; stuck = None; txn = None; power = false; fuse = None })
+          (txn_of setup (left None))) (sym (with_commit_is old c.entries k))
+          (record {
+            shape = refl;
+            keys = refl;
+            memory = memory_now_is;
+            in_force = in_force_now;
+            stuck = refl;
+            txn = refl;
+            power = cut.dark;
+            fuse = c.watched.follows.cleared cut.dark;
+            loss = cut.loss;
+            marks = cut.marks;
+          }))

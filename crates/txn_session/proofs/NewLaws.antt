@@ -1,0 +1,281 @@
+-- A new session: formatting, and the opening of zero lines.
+use Rattle.std.proofs.Common.{ℕ, zero, suc, ◌≡◌, ◌<◌, ◌≤◌, ◌+◌, ◌^◌, ◌++◌, ◌⊎◌, inl, inr, true, List, [], length, replicate, Option, Some, None, Result, Ok, Err, refl, sym, ap, ap₂, subst, ◌∙◌, subst₂, arith, rules}
+use Rattle.std.specs.Prelude.{is_none, ⊤, ◌&&◌, ◌==◌, if◌then◌else◌}
+use Rattle.std.proofs.lemmas.Bool.{true≢false, and_parts}
+use Rattle.std.proofs.lemmas.List.{append-nil, length-replicate, get_or-replicate}
+use Rattle.std.specs.List.{list_any}
+use Rattle.pmem_base.specs.declared.lines.Line.{Line}
+use Rattle.pmem_base.specs.declared.registers.Regs.{Regs}
+use Rattle.pmem_base.specs.declared.answers.Mark.{Mark}
+use Rattle.pmem_base.specs.Layout as layout
+use Rattle.pmem_base.specs.Layout.{page_of}
+use Rattle.pmem_base.specs.Lines.{line_at, zero_line}
+use Rattle.pmem_base.specs.Shape.{Shape, IsShape}
+use Rattle.board.specs.Counts.{RisesBy}
+use Rattle.board.specs.Device.{Device}
+use Rattle.board.specs.Memory.{BoardMemory, device_of}
+use Rattle.meta_cache.specs.declared.slot.Slot.{Slot}
+use Rattle.meta_cache.specs.Banks.{set_index}
+use Rattle.meta_cache.specs.State.{empty_banks}
+use Rattle.meta_path.specs.Blocks.{path_at}
+use Rattle.meta_path.specs.Levels.{room_write}
+use Rattle.meta_path.specs.Fetching.{spilled}
+use Rattle.meta_path.proofs.PathFacts.{set_of-empty_banks}
+use Rattle.seal_ledger.specs.Ledger.{LedgerState}
+use Rattle.seal_ledger.specs.Notes.{HasRoom}
+use Rattle.suite.specs.Formulas.{AreInRange}
+use Rattle.suite.specs.Setup.{Setup}
+use Rattle.plain_model.specs.View.{IsMemoryOf, plain_line, plain_memory}
+use Rattle.plain_model.specs.Bounds.{path_length}
+use Rattle.plain_model.proofs.PlainMemory.{memory_is}
+use Rattle.pmem_engine.specs.declared.fault.Fault.{Fault}
+use Rattle.pmem_engine.specs.declared.fault.Fault.TheVariants as Fail
+use Rattle.pmem_engine.specs.Engine.{EngineState}
+use Rattle.pmem_engine.specs.Invariants.{IsSound}
+use Rattle.pmem_engine.specs.Parts.{Parts, parts_of}
+use Rattle.pmem_engine.specs.Outcomes.{going, OneLossEffect}
+use Rattle.pmem_engine.specs.Calls.{HasReadLine}
+use Rattle.pmem_recovery.specs.Formatting.{HasFormatted}
+use Rattle.line_txn.specs.declared.store.Store.{Store}
+use Rattle.line_txn.specs.declared.store.Opened.{Opened}
+use Rattle.line_txn.specs.declared.store.TxnFault.{TxnFault}
+use Rattle.line_txn.specs.declared.store.TxnFault.TheVariants as Txn
+use Rattle.line_txn.specs.Header.{IsHeader}
+use Rattle.line_txn.specs.Logged.{IsLogged}
+use Rattle.line_txn.specs.Edits.{AreEdited, redoing_edits}
+use Rattle.line_txn.specs.Store.{HasOpened, HasStarted, HasRedone, IsOpenedBy, logged_lines}
+use Rattle.line_txn.proofs.Headers.{one_header}
+use Rattle.line_txn.proofs.LoggedLaws.{zero_logged}
+use Rattle.line_txn.proofs.Openings.{logged_size}
+use Rattle.txn_session.specs.State.{IsNewTxn}
+use Rattle.txn_session.specs.World.{TxnParts, IsTxnWorld, targets_in_force, txn_of}
+use Rattle.txn_session.proofs.Worlds.{few_lines, targets_held, memory_held, logged_is, on_of}
+use Rattle.txn_session.proofs.Rooms.{sound_reserved}
+
+-- an empty cache has nothing to write back
+none_to_write : (g : Shape) (page n : ℕ) → spilled g (empty_banks g) page n ≡ []
+none_to_write g page zero = refl
+none_to_write g page (suc n) =
+    ap₂ (λ xs ys. xs ++ ys) (none_to_write g page n)
+    (ap (λ (slots : List Slot). if list_any (λ slot. slot.position == path_at g page n) slots then [] else room_write g slots)
+    (set_of-empty_banks g n (set_index g (path_at g page n)))
+    ∙ nothing)
+  where
+    nothing : room_write g [] ≡ []
+    nothing = search rules
+
+-- what formatting and the opening leave
+pub record NewCall : Type 0 where
+  pub setup : Setup
+  pub whole_shape : IsShape setup.shape
+  pub in_range : AreInRange setup.formulas
+  pub keys : List ℕ
+  -- the board as it is made
+  pub start : Device
+  pub start_writes : start.writes ≡ 0
+  pub start_latches : start.latches ≡ 0
+  pub start_cuts : start.cuts ≡ 0
+  pub middle : BoardMemory
+  pub ledger_middle : LedgerState
+  pub engine : EngineState
+  pub formatted : HasFormatted setup ledger_middle start (device_of middle) engine
+  -- once room for marks was made
+  pub ledger_before : LedgerState
+  pub room : HasRoom ledger_middle ledger_before 1056
+  pub board : BoardMemory
+  pub ledger : LedgerState
+  pub tags : ℕ
+  pub digests : ℕ
+  pub tags_new : ℕ
+  pub digests_new : ℕ
+  pub answer : Result (Store × Opened) TxnFault
+  pub opened :
+      HasOpened setup (parts_of engine (device_of middle) ledger_before tags digests)
+      (λ now. parts_of now (device_of board) ledger tags_new digests_new) answer
+
+module _ (c : NewCall) where
+  abbrev g : Shape
+  g = c.setup.shape
+
+  abbrev n : ℕ
+  n = logged_lines g
+
+  abbrev from : Parts
+  from = parts_of c.engine (device_of c.middle) c.ledger_before c.tags c.digests
+
+  abbrev to : EngineState → Parts
+  to now = parts_of now (device_of c.board) c.ledger c.tags_new c.digests_new
+
+  sound : IsSound c.setup c.engine c.middle.lines c.middle.regs c.ledger_before
+  sound =
+      sound_reserved c.setup c.ledger_middle c.ledger_before 1056 c.engine c.middle.lines c.middle.regs c.room
+      (c.formatted.sound c.middle.lines refl)
+
+  -- ---- zero lines
+
+  zeros : IsMemoryOf c.setup c.ledger_middle.marks (replicate (layout.data_lines g) zero_line)
+  zeros =
+      record {
+        count = length-replicate (layout.data_lines g) zero_line;
+        each =
+            λ a within.
+            c.formatted.plain a within
+            ∙ ap (λ (l : Line). Some l) (sym (get_or-replicate (layout.data_lines g) a zero_line zero_line within));
+      }
+
+  places : plain_memory c.setup c.ledger_before.marks ≡ replicate (layout.data_lines g) zero_line
+  places =
+      ap (plain_memory c.setup) c.room.marks
+      ∙ memory_is c.setup c.ledger_middle.marks (replicate (layout.data_lines g) zero_line) zeros
+
+  size : n + 16 ≡ layout.data_lines g
+  size = logged_size g
+
+  begun : IsLogged n (plain_memory c.setup c.ledger_before.marks) [] (replicate n zero_line)
+  begun =
+      subst (λ l. IsLogged n l [] (replicate n zero_line)) (ap (λ k. replicate k zero_line) size ∙ sym places) (zero_logged n)
+
+  header_inside : n < layout.data_lines g
+  header_inside = let its = size in omega (arith, its)
+
+  -- the header that is read has no targets
+  header_read : (new : Parts) (line : Line) → HasReadLine c.setup n from new (Ok line) → IsHeader n line []
+  header_read new line it =
+      let plain = (it.answered sound.trusted.not_down sound.trusted).0 in
+      let zero = ap (λ (m : List Mark). plain_line c.setup.formulas m n) c.room.marks ∙ c.formatted.plain n header_inside in
+      let same : line ≡ zero_line = let both : Some line ≡ Some zero_line = sym plain ∙ zero in search (rules, both) in
+      let here : line_at (plain_memory c.setup c.ledger_before.marks) n ≡ zero_line =
+      ap (λ l. line_at l n) places ∙ get_or-replicate (layout.data_lines g) n zero_line zero_line header_inside in
+      subst (λ l. IsHeader n l []) (here ∙ sym same) begun.header
+
+  no_targets : (new : Parts) (line : Line) (found : List ℕ) → HasReadLine c.setup n from new (Ok line) → IsHeader n line found → found ≡ []
+  no_targets new line found read header =
+      one_header n line found [] (let few = few_lines g c.whole_shape in omega (arith, few)) header (header_read new line read)
+
+  -- so the redo does nothing: the header is read
+  record IsReadAlone (found : List ℕ) (new : Parts) (redone : Result (Unit {0}) Fault) : Type 0 where
+    line : Line
+    was_read : HasReadLine c.setup n from new (Ok line)
+    none : found ≡ []
+    done : redone ≡ Ok tt
+
+  read_alone : (found : List ℕ) (new : Parts) (redone : Result (Unit {0}) Fault) → HasRedone c.setup found from new redone
+      → IsReadAlone found new redone
+  read_alone found new redone it =
+      let none = no_targets it.between it.line found it.was_read it.header in
+      let nothing : AreEdited c.setup [] it.between new redone =
+      subst (λ ts. AreEdited c.setup (redoing_edits n ts) it.between new redone) none it.was_redone in
+      record {
+        line = it.line;
+        was_read = subst (λ q. HasReadLine c.setup n from q (Ok it.line)) (sym nothing.1) it.was_read;
+        none = none;
+        done = nothing.0;
+      }
+
+  -- ---- the answers
+
+  lit : c.middle.powered ≡ true
+  lit = (and_parts c.middle.powered (is_none c.middle.fuse) c.formatted.steady).0
+
+  abbrev pub held : Store → TxnParts
+  held store = record { keys = c.keys; board = c.board; ledger = c.ledger; store = Some store; txn = None }
+
+  module _ (store : Store) (line : Line) (was : HasReadLine c.setup n from (to store.engine) (Ok line)) (log : store.logged.items ≡ [])
+      (unstuck : store.stuck ≡ None) where
+    effect : OneLossEffect c.setup going [] from (to store.engine)
+    effect = was.done sound.trusted.not_down
+
+    marks : c.ledger.marks ≡ c.ledger_before.marks
+    marks = effect.gone.marks ∙ append-nil c.ledger_before.marks
+
+    powered : c.board.powered ≡ true
+    powered = effect.gone.power.1 lit
+
+    steady : (c.board.powered && is_none c.board.fuse) ≡ true
+    steady = effect.gone.power.0 c.formatted.steady
+
+    no_fuse : c.board.fuse ≡ None
+    no_fuse = go c.board.fuse (and_parts c.board.powered (is_none c.board.fuse) steady).1
+      where
+        go : (fuse : Option ℕ) → is_none fuse ≡ true → fuse ≡ None
+        go None is = refl
+        go (Some k) is = absurd (true≢false (sym is))
+
+    logged : IsLogged n (plain_memory c.setup c.ledger.marks) [] (replicate n zero_line)
+    logged = subst (λ (m : List Mark). IsLogged n (plain_memory c.setup m) [] (replicate n zero_line)) (sym marks) begun
+
+    none_in_force : targets_in_force c.setup (plain_memory c.setup c.ledger.marks) ≡ []
+    none_in_force = targets_held c.setup c.whole_shape (plain_memory c.setup c.ledger.marks) (replicate n zero_line) [] logged
+
+    pub new_world : IsTxnWorld c.setup (held store)
+    new_world =
+        on_of c.setup (held store) store refl c.whole_shape c.in_range
+        (logged_is c.setup c.whole_shape (plain_memory c.setup c.ledger.marks) (replicate n zero_line) [] logged)
+        powered (effect.gone.sound sound) (log ∙ sym none_in_force) tt
+
+    -- no line was written back
+    no_write : c.board.writes ≡ c.middle.writes
+    no_write =
+        (was.work (search rules)).work.no_write
+        (ap (λ (l : List (ℕ × Line)). length l + 0)
+        (ap (λ (e : EngineState). spilled g e.cache (page_of n) (path_length g)) c.formatted.engine_new
+        ∙ none_to_write g (page_of n) (path_length g)))
+
+    no_latch : c.board.latches ≡ c.middle.latches
+    no_latch = (was.work (search rules)).work.no_latch refl
+
+    pub new_state : IsNewTxn c.setup (txn_of c.setup (held store))
+    new_state =
+        record {
+          shape = refl;
+          memory = memory_held c.setup c.whole_shape (plain_memory c.setup c.ledger.marks) (replicate n zero_line) [] logged;
+          in_force = none_in_force;
+          stuck = unstuck;
+          txn = refl;
+          power = powered;
+          fuse = no_fuse;
+          loss = effect.loss ∙ ap (λ (r : Regs). r.loss) c.formatted.regs;
+          marks = marks ∙ c.room.marks ∙ c.formatted.marks;
+          writes =
+              subst₂ (λ before after. RisesBy (layout.device_lines g) before after) c.start_writes (sym no_write) c.formatted.writes;
+          latches = subst₂ (λ before after. RisesBy 1 before after) c.start_latches (sym no_latch) c.formatted.latches;
+          cuts = effect.gone.power.2 ∙ c.formatted.cuts ∙ c.start_cuts;
+        }
+
+  -- the store is opened
+  abbrev pub IsStored : Result (Store × Opened) TxnFault → Type 0
+  IsStored (Ok both) = IsTxnWorld c.setup (held both.0) × IsNewTxn c.setup (txn_of c.setup (held both.0))
+  IsStored (Err fault) = ⊥
+
+  stored : (store : Store) (opened : Opened) → HasStarted c.setup from (to store.engine) store opened → IsStored (Ok (store, opened))
+  stored store opened it =
+      let read = read_alone it.targets (to store.engine) it.redone it.was_redone in
+      let by : IsOpenedBy (Ok tt) store.lines it.targets store opened =
+      subst (λ r. IsOpenedBy r store.lines it.targets store opened) read.done it.its_end in (
+        new_world store read.line read.was_read by.0 by.1,
+        new_state store read.line read.was_read by.0 by.1,
+      )
+
+  fault_none : (fault : Fault) → (let done : Result (Unit {0}) Fault = Ok tt in Err fault ≡ done) → ⊥
+  fault_none fault e = subst IsFault e tt
+    where
+      IsFault : Result (Unit {0}) Fault → Type 0
+      IsFault (Ok done) = ⊥
+      IsFault (Err fault) = ⊤
+
+  pub new_outcome : (answer : Result (Store × Opened) TxnFault) → c.answer ≡ answer → IsStored answer
+  new_outcome answer is = subst IsStored is (go c.answer c.opened)
+    where
+      unread : (fault : Fault) (new : Parts) → HasReadLine c.setup n from new (Err fault) → ⊥
+      unread Fail.Cut new it = true≢false (sym c.formatted.steady ∙ (it.done sound.trusted.not_down).gone.power.0)
+      unread (Fail.Spent page) new it = it.possible
+      unread fault new it = it.unrefused sound.trusted.not_down sound
+
+      go : (answer : Result (Store × Opened) TxnFault) → HasOpened c.setup from to answer → IsStored answer
+      go (Ok both) it = stored both.0 both.1 it
+      go (Err (Txn.Engine fault)) it =
+          elim it.1 [
+            | inl read ↦ absurd (unread fault (to it.0) read)
+            | inr redo ↦ absurd (fault_none fault (read_alone redo.targets (to it.0) (Err fault) redo.was_redone).done)
+          ]
+      go (Err (Txn.Header line)) it = absurd (it.1.none [] (header_read (to it.0) line it.1.was_read))

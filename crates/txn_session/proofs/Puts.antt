@@ -1,0 +1,189 @@
+-- A line that is put into a transaction: where it goes, and which targets the transaction has then.
+use Rattle.std.proofs.Common.{ℕ, zero, suc, ◌≡◌, ◌<◌, ◌≤◌, ◌+◌, ◌++◌, inl, inr, Bool, true, false, cond, eqb, List, [], ◌∷◌, length, drop, Option, Some, None, refl, sym, ap, subst, ◌∙◌, arith}
+use Rattle.std.specs.Prelude.{◌≢◌, All, is_some, not, nat_lt, slice_set, ◌==◌}
+use Rattle.std.specs.List.{position_or_len, position_from, refill}
+use Rattle.std.proofs.lemmas.Iterator.Adapters.{position_from-zero}
+use Rattle.std.proofs.lemmas.Bool.{eqb-true, eqb-false, cases_lt, lt-ltb, le-ltb}
+use Rattle.std.proofs.lemmas.Option.{none-some, same_Some}
+use Rattle.std.proofs.lemmas.List.{length-append, length-map, length-set, take_at}
+use Rattle.std.proofs.lemmas.List.Elements.{All-nil, All-cons, All-push}
+use Rattle.std.proofs.lemmas.List.Quantifiers.{all_pairs_push}
+use Rattle.std.proofs.lemmas.List.Recursion.{is_position_or_len}
+use Rattle.pmem_base.specs.declared.lines.Line.{Line}
+use Rattle.line_txn.specs.Header.{AreBelow, AreTargets}
+use Rattle.line_txn.specs.Logged.{targets_of}
+use Rattle.suite.specs.Setup.{Setup}
+use Rattle.line_txn.specs.Store.{logged_lines}
+use Rattle.txn_session.specs.State.{Entries, line_in, with_line}
+use Rattle.txn_session.specs.Answered.{is_full}
+use Rattle.txn_session.proofs.Worlds.{IsOpenTxn}
+
+-- ---- its targets
+
+with_held : (entries : Entries) (a : ℕ) (line held : Line) → line_in entries a ≡ Some held
+    → targets_of (with_line entries a line) ≡ targets_of entries
+with_held [] a line held is = absurd (none-some held is)
+with_held (entry ∷ entries) a line held is = go (entry.0 == a) (eqb-true entry.0 a) (with_held entries a line held) is
+  where
+    go : (b : Bool) → (b ≡ true → entry.0 ≡ a)
+        → (line_in entries a ≡ Some held → targets_of (with_line entries a line) ≡ targets_of entries)
+        → cond b (Some entry.1) (line_in entries a) ≡ Some held
+        → targets_of (cond b ((a, line) ∷ entries) (entry ∷ with_line entries a line)) ≡ entry.0 ∷ targets_of entries
+    go true same rest is = ap (λ t. t ∷ targets_of entries) (sym (same refl))
+    go false same rest is = ap (λ ts. entry.0 ∷ ts) (rest is)
+
+-- a line that it hasn't goes to the end
+pub with_new : (entries : Entries) (a : ℕ) (line : Line) → line_in entries a ≡ None → with_line entries a line ≡ entries ++ (a, line) ∷ []
+with_new [] a line none = refl
+with_new (entry ∷ entries) a line none = go (entry.0 == a) (with_new entries a line) none
+  where
+    go : (b : Bool) → (line_in entries a ≡ None → with_line entries a line ≡ entries ++ (a, line) ∷ [])
+        → cond b (Some entry.1) (line_in entries a) ≡ None
+        → cond b ((a, line) ∷ entries) (entry ∷ with_line entries a line) ≡ entry ∷ (entries ++ (a, line) ∷ [])
+    go true rest is = absurd (none-some entry.1 (sym is))
+    go false rest is = ap (λ es. entry ∷ es) (rest is)
+
+new_apart : (entries : Entries) (a : ℕ) → line_in entries a ≡ None → All (λ t. t ≡ a → ⊥) (targets_of entries)
+new_apart [] a none = All-nil (λ t. t ≡ a → ⊥)
+new_apart (entry ∷ entries) a none = go (entry.0 == a) (eqb-false entry.0 a) (new_apart entries a) none
+  where
+    go : (b : Bool) → (b ≡ false → entry.0 ≡ a → ⊥) → (line_in entries a ≡ None → All (λ t. t ≡ a → ⊥) (targets_of entries))
+        → cond b (Some entry.1) (line_in entries a) ≡ None → All (λ t. t ≡ a → ⊥) (entry.0 ∷ targets_of entries)
+    go true other rest is = absurd (none-some entry.1 (sym is))
+    go false other rest is = All-cons (λ t. t ≡ a → ⊥) entry.0 (targets_of entries) (other refl) (rest is)
+
+targets_push : (entries : Entries) (a : ℕ) (line : Line) → targets_of (entries ++ (a, line) ∷ []) ≡ targets_of entries ++ a ∷ []
+targets_push [] a line = refl
+targets_push (entry ∷ entries) a line = ap (λ ts. entry.0 ∷ ts) (targets_push entries a line)
+
+pub put_targets : (n a : ℕ) (line : Line) (entries : Entries) → a < n → is_full entries a ≡ false → AreTargets n (targets_of entries)
+    → AreTargets n (targets_of (with_line entries a line))
+put_targets n a line entries low room its = go (line_in entries a) refl room
+  where
+    go : (found : Option Line) → line_in entries a ≡ found → cond (is_some found) false (length entries == 15) ≡ false
+        → AreTargets n (targets_of (with_line entries a line))
+    go (Some held) is room = subst (AreTargets n) (sym (with_held entries a line held is)) its
+    go None is room =
+        let apart = new_apart entries a is in
+        let few = its.few in
+        let count = length-map entries (λ (e : ℕ × Line). e.0) in
+        let more = length-append (targets_of entries) (a ∷ []) in
+        let other : length entries ≡ 15 → ⊥ = eqb-false (length entries) 15 room in
+        let fewer : length entries ≤ 14 = elim (cases_lt (length entries) 15) [
+          | inl below ↦ omega (arith, below)
+          | inr above ↦ absurd (other (omega (arith, above, few, count)))
+        ] in
+        subst (AreTargets n) (sym (ap targets_of (with_new entries a line is) ∙ targets_push entries a line))
+        (record {
+          few = omega (arith, more, count, fewer);
+          below =
+              record {
+                each = All-push (λ t. t < n) (targets_of entries) a its.below.each low;
+                distinct = all_pairs_push (λ t u. t ≢ u) (targets_of entries) a its.below.distinct (λ k d inside. apart k d inside);
+              };
+        })
+
+-- ---- its place
+
+-- the place of a line, or how many there are
+abbrev line_place : ℕ → Entries → ℕ
+line_place a [] = 0
+line_place a (entry ∷ entries) = cond (entry.0 == a) 0 (1 + line_place a entries)
+
+place_is : (a : ℕ) (entries : Entries) → line_place a entries ≡ position_or_len (λ (entry : ℕ × Line). entry.0 == a) entries
+place_is a entries = is_position_or_len (line_place a) (λ (entry : ℕ × Line). entry.0 == a) refl (λ entry entries. refl) entries
+
+-- a line that is there is put in its place
+replaced : (entries : Entries) (a : ℕ) (line : Line) → line_place a entries < length entries
+    → (with_line entries a line ≡ slice_set entries (line_place a entries) (a, line)) × (is_some (line_in entries a) ≡ true)
+replaced [] a line inside = absurd (omega (arith, inside))
+replaced (entry ∷ entries) a line inside = go (entry.0 == a) (replaced entries a line) inside
+  where
+    go : (b : Bool)
+        → (line_place a entries < length entries
+        → (with_line entries a line ≡ slice_set entries (line_place a entries) (a, line)) × (is_some (line_in entries a) ≡ true))
+        → cond b 0 (1 + line_place a entries) < length (entry ∷ entries)
+        → (cond b ((a, line) ∷ entries) (entry ∷ with_line entries a line) ≡ slice_set (entry ∷ entries) (cond b 0 (1 + line_place a entries)) (a, line))
+        × (is_some (cond b (Some entry.1) (line_in entries a)) ≡ true)
+    go true rest inside = (refl, refl)
+    go false rest inside =
+        let it = rest (omega (arith, inside)) in
+        let next : suc (line_place a entries) ≡ 1 + line_place a entries = omega arith in
+        (ap (λ es. entry ∷ es) it.0 ∙ ap (λ i. slice_set (entry ∷ entries) i (a, line)) next, it.1)
+
+absent : (entries : Entries) (a : ℕ) → length entries ≤ line_place a entries → line_in entries a ≡ None
+absent [] a all = refl
+absent (entry ∷ entries) a all = go (entry.0 == a) (absent entries a) all
+  where
+    go : (b : Bool) → (length entries ≤ line_place a entries → line_in entries a ≡ None)
+        → length (entry ∷ entries) ≤ cond b 0 (1 + line_place a entries) → cond b (Some entry.1) (line_in entries a) ≡ None
+    go true rest all = absurd (omega (arith, all))
+    go false rest all = rest (omega (arith, all))
+
+-- as it is found
+found_is : (a : ℕ) (entries : Entries)
+    → position_from (λ (entry : ℕ × Line). entry.0 == a) 0 entries
+    ≡ cond (nat_lt (line_place a entries) (length entries)) (Some (line_place a entries)) None
+found_is a entries =
+    sym
+    (ap (λ k. cond (nat_lt k (length entries)) (Some k) None) (place_is a entries)
+    ∙ position_from-zero (λ (entry : ℕ × Line). entry.0 == a) entries)
+
+pub seen_as : (seen entries : Entries) (a : ℕ) (found : Option ℕ) (other : Option ℕ) → seen ≡ entries
+    → found ≡ position_from (λ (entry : ℕ × Line). entry.0 == a) 0 seen → found ≡ other
+    → position_from (λ (entry : ℕ × Line). entry.0 == a) 0 entries ≡ other
+seen_as seen entries a found other same is there =
+    ap (λ (es : Entries). position_from (λ (entry : ℕ × Line). entry.0 == a) 0 es) (sym same) ∙ sym is ∙ there
+
+pub found_at : (entries : Entries) (a i : ℕ) (line : Line) → position_from (λ (entry : ℕ × Line). entry.0 == a) 0 entries ≡ Some i
+    → (with_line entries a line ≡ slice_set entries i (a, line)) × (is_some (line_in entries a) ≡ true) × (i < length entries)
+found_at entries a i line is =
+    elim (cases_lt (line_place a entries) (length entries)) [
+      | inl inside ↦
+          let it = replaced entries a line inside in
+          let same : line_place a entries ≡ i =
+          same_Some (line_place a entries) i
+          (sym (found_is a entries ∙ ap (λ b. cond b (Some (line_place a entries)) None) (lt-ltb (line_place a entries) (length entries) inside)) ∙ is) in
+          (it.0 ∙ ap (λ k. slice_set entries k (a, line)) same, it.1, omega (arith, inside, same))
+      | inr all ↦
+          absurd
+          (none-some i
+          (sym (found_is a entries ∙ ap (λ b. cond b (Some (line_place a entries)) None) (le-ltb (line_place a entries) (length entries) all)) ∙ is))
+    ]
+
+pub found_none : (entries : Entries) (a : ℕ) → position_from (λ (entry : ℕ × Line). entry.0 == a) 0 entries ≡ None → line_in entries a ≡ None
+found_none entries a is =
+    elim (cases_lt (line_place a entries) (length entries)) [
+      | inl inside ↦
+          absurd
+          (none-some (line_place a entries)
+          (sym is ∙ (found_is a entries ∙ ap (λ b. cond b (Some (line_place a entries)) None) (lt-ltb (line_place a entries) (length entries) inside))))
+      | inr all ↦ absent entries a all
+    ]
+
+-- whether it is full, where the line is there, and where it isn't
+pub full_is : (entries : Entries) (a : ℕ) (b : Bool) → is_some (line_in entries a) ≡ b → is_full entries a ≡ cond b false (length entries == 15)
+full_is entries a b is = ap (λ t. cond t false (length entries == 15)) is
+
+-- a transaction with a line put, or as it was
+pub put_txn : (setup : Setup) (stuck : Option ℕ) (entries after : Entries) (a : ℕ) (line : Line) (done : Bool) → a < logged_lines setup.shape
+    → (done ≡ true → after ≡ with_line entries a line) → done ≡ not (is_full entries a) → (done ≡ false → after ≡ entries)
+    → IsOpenTxn setup stuck (Some entries) → IsOpenTxn setup stuck (Some after)
+put_txn setup stuck entries after a line true low put full left its = (
+  its.0,
+  subst (λ es. AreTargets (logged_lines setup.shape) (targets_of es)) (sym (put refl))
+      (put_targets (logged_lines setup.shape) a line entries low (not_true (is_full entries a) (sym full)) its.1),
+)
+  where
+    not_true : (b : Bool) → not b ≡ true → b ≡ false
+    not_true true is = sym is
+    not_true false is = refl
+put_txn setup stuck entries after a line false low put full left its = subst (λ es. IsOpenTxn setup stuck (Some es)) (sym (left refl)) its
+
+-- ---- entries of a full vector, one of them changed
+
+pub refilled : (items now : Entries) (i : ℕ) (entry : ℕ × Line) → now ≡ items
+    → refill (length items) items (slice_set now i entry) ≡ slice_set items i entry
+refilled items now i entry same =
+    take_at (slice_set now i entry) (drop (length (slice_set now i entry)) items) (length items) (length-set now i entry ∙ ap length same)
+    ∙ ap (λ (l : Entries). slice_set l i entry) same

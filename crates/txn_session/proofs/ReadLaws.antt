@@ -1,0 +1,256 @@
+-- A read of a data line: it shows memory's line, or power is cut.
+use Rattle.std.proofs.Common.{ℕ, ◌≡◌, ◌<◌, ◌≤◌, ◌++◌, true, false, List, [], Option, Some, None, Result, Ok, Err, refl, sym, ap, subst, ◌∙◌, arith}
+use Rattle.std.specs.Prelude.{unwrap_or, IfOk}
+use Rattle.std.proofs.lemmas.List.{append-nil}
+use Rattle.pmem_base.specs.declared.lines.Line.{Line}
+use Rattle.pmem_base.specs.declared.answers.Mark.{Mark}
+use Rattle.pmem_base.specs.Lines.{line_at}
+use Rattle.pmem_base.specs.Shape.{Shape}
+use Rattle.board.specs.Memory.{BoardMemory}
+use Rattle.seal_ledger.specs.Ledger.{LedgerState}
+use Rattle.suite.specs.Formulas.{Formulas}
+use Rattle.suite.specs.Setup.{Setup}
+use Rattle.plain_model.specs.State.{Memory}
+use Rattle.plain_model.specs.View.{plain_memory}
+use Rattle.plain_model.specs.Bounds.{path_length}
+use Rattle.pmem_engine.specs.declared.fault.Fault.{Fault}
+use Rattle.pmem_engine.specs.declared.fault.Fault.TheVariants as Fail
+use Rattle.pmem_engine.specs.Parts.{Parts, parts_of, AreTrusted}
+use Rattle.pmem_engine.specs.Outcomes.{going, cut_short, OneLossEffect}
+use Rattle.pmem_engine.specs.Calls.{HasReadLine}
+use Rattle.start_gap.specs.Gapped.{HasLines}
+use Rattle.line_txn.specs.declared.store.Store.{Store}
+use Rattle.line_txn.specs.Logged.{IsLogged}
+use Rattle.line_txn.specs.Serving.{served_from}
+use Rattle.line_txn.specs.Store.{IsServedAs, logged_lines}
+use Rattle.watched_board.specs.declared.taken.Taken.{Taken}
+use Rattle.watched_board.specs.Watching.{steps_in, step_limit, device_during, none_taken, IsWatched}
+use Rattle.wear_session.specs.Answered.{read_steps}
+use Rattle.wear_session.proofs.Worlds.{at_most, fewer}
+use Rattle.wear_session.proofs.WriteLaws.{whole_places}
+use Rattle.wear_session.proofs.Seen.{setup_under}
+use Rattle.txn_session.specs.declared.commands.TxnCommand.TheVariants as Do
+use Rattle.txn_session.specs.declared.answers.TxnAnswer.TheVariants as Say
+use Rattle.txn_session.specs.State.{TxnState, Entries, setup_in, line_in}
+use Rattle.txn_session.specs.World.{TxnParts, IsTxnWorld, IsStoreOn, stuck_in, targets_in_force, logical_memory, txn_of}
+use Rattle.txn_session.specs.Answered.{IsAnswered}
+use Rattle.txn_session.proofs.Worlds.{IsOpenTxn, goes_to, cut_off, on_in, lines_are, on_after, off_after}
+use Rattle.txn_session.proofs.Seen.{read_undecided, served, seen_from, held_under}
+
+-- the session's parts as the read finds them, what it leaves and answers
+pub record ReadCall : Type 0 where
+  pub formulas_of : List ℕ → Formulas
+  pub geometry : Shape
+  pub parts : TxnParts
+  pub now : TxnState
+  pub is : txn_of (setup_under formulas_of geometry parts.keys) parts ≡ now
+  pub world : IsTxnWorld (setup_under formulas_of geometry parts.keys) parts
+  pub store : Store
+  pub there : parts.store ≡ Some store
+  pub at : ℕ
+  pub within : at < store.lines
+  -- the open transaction hasn't this line
+  pub unheld : line_in (unwrap_or parts.txn []) at ≡ None
+  pub after : Store
+  pub served_as : IsServedAs store.logged.items store.stuck store after
+  pub keys : List ℕ
+  pub same_keys : keys ≡ parts.keys
+  pub board : BoardMemory
+  pub ledger : LedgerState
+  pub taken : Taken
+  pub watched : IsWatched parts.board board taken
+  pub tags : ℕ
+  pub digests : ℕ
+  pub tags_new : ℕ
+  pub digests_new : ℕ
+  pub said : ℕ
+  pub counted : said ≡ steps_in taken
+  pub answer : Result Line Fault
+  pub was_read :
+      HasReadLine (setup_under formulas_of store.engine.shape parts.keys) (served_from store.lines store.logged.items at)
+      (parts_of store.engine (device_during parts.board none_taken) parts.ledger tags digests)
+      (parts_of after.engine (device_during board taken) ledger tags_new digests_new) answer
+  pub read_logged :
+      AreTrusted (setup_under formulas_of store.engine.shape parts.keys)
+      (parts_of store.engine (device_during parts.board none_taken) parts.ledger tags digests)
+      → (lines memory : List Line)
+      → HasLines (setup_under formulas_of store.engine.shape parts.keys) lines
+      (parts_of store.engine (device_during parts.board none_taken) parts.ledger tags digests)
+      → IsLogged store.lines lines store.logged.items memory
+      → IfOk answer (λ read. read ≡ line_at memory at)
+
+module _ (c : ReadCall) where
+  abbrev setup : Setup
+  setup = setup_under c.formulas_of c.geometry c.parts.keys
+
+  abbrev p : TxnParts
+  p = c.parts
+
+  abbrev old : TxnState
+  old = txn_of setup p
+
+  abbrev places : Memory
+  places = plain_memory setup p.ledger.marks
+
+  abbrev place : ℕ
+  place = served_from c.store.lines c.store.logged.items c.at
+
+  abbrev from : Parts
+  from = parts_of c.store.engine (device_during p.board none_taken) p.ledger c.tags c.digests
+
+  abbrev to : Parts
+  to = parts_of c.after.engine (device_during c.board c.taken) c.ledger c.tags_new c.digests_new
+
+  abbrev left : Option Store → Option Entries → TxnParts
+  left store txn = record { keys = p.keys; board = c.board; ledger = c.ledger; store = store; txn = txn }
+
+  abbrev pub left_under : Option Store → Option Entries → TxnParts
+  left_under store txn = record { keys = c.keys; board = c.board; ledger = c.ledger; store = store; txn = txn }
+
+  on : IsStoreOn setup p c.store
+  on = on_in setup p c.store c.world c.there
+
+  n_is : c.store.lines ≡ logged_lines c.geometry
+  n_is = lines_are setup p c.store on
+
+  read_as : (answer : Result Line Fault) → c.answer ≡ answer → HasReadLine setup place from to answer
+  read_as answer is =
+      subst (λ r. HasReadLine setup place from to r) is
+      (subst (λ s. HasReadLine (setup_under c.formulas_of s p.keys) place from to c.answer) on.its_shape c.was_read)
+
+  -- the line is that of memory
+  shown : (line : Line) → c.answer ≡ Ok line → line ≡ line_at old.memory c.at
+  shown line is =
+      subst (λ r. IfOk r (λ read. read ≡ line_at old.memory c.at)) is
+      (subst (λ s. AreTrusted (setup_under c.formulas_of s p.keys) from → (lines memory : List Line)
+      → HasLines (setup_under c.formulas_of s p.keys) lines from → IsLogged c.store.lines lines c.store.logged.items memory
+      → IfOk c.answer (λ read. read ≡ line_at memory c.at)) on.its_shape c.read_logged on.sound.trusted places old.memory lines_there logged_there)
+    where
+      lines_there : HasLines setup places from
+      lines_there =
+          record {
+            whole =
+                whole_places setup p.board.regs p.ledger places c.world.whole_formulas on.sound.trusted.anchored c.world.places;
+            sealed = c.world.places.each;
+          }
+
+      logged_there : IsLogged c.store.lines places c.store.logged.items old.memory
+      logged_there =
+          subst (λ n. IsLogged n places c.store.logged.items old.memory) (sym n_is)
+          (subst (λ ts. IsLogged (logged_lines c.geometry) places ts old.memory) (sym on.its_log) c.world.logged)
+
+  -- ---- where no mark is made
+
+  module _ (marks : c.ledger.marks ≡ p.ledger.marks) where
+    logged : IsLogged (logged_lines c.geometry) (plain_memory setup c.ledger.marks) (targets_in_force setup (plain_memory setup c.ledger.marks))
+        (logical_memory setup (plain_memory setup c.ledger.marks))
+    logged =
+        subst (λ (m : List Mark). IsLogged (logged_lines c.geometry) (plain_memory setup m) (targets_in_force setup (plain_memory setup m))
+        (logical_memory setup (plain_memory setup m))) (sym marks) c.world.logged
+
+    same_memory : logical_memory setup (plain_memory setup c.ledger.marks) ≡ old.memory
+    same_memory = ap (λ (m : List Mark). logical_memory setup (plain_memory setup m)) marks
+
+    same_targets : targets_in_force setup (plain_memory setup c.ledger.marks) ≡ old.in_force
+    same_targets = ap (λ (m : List Mark). targets_in_force setup (plain_memory setup m)) marks
+
+  same_marks : c.ledger.marks ≡ p.ledger.marks ++ [] → c.ledger.marks ≡ p.ledger.marks
+  same_marks marks = marks ∙ append-nil p.ledger.marks
+
+  -- ---- answered
+
+  module _ (line : Line) (is : c.answer ≡ Ok line) where
+    it : HasReadLine setup place from to (Ok line)
+    it = read_as (Ok line) is
+
+    done : OneLossEffect setup going [] from to
+    done = it.done on.running
+
+    marks_on : c.ledger.marks ≡ p.ledger.marks
+    marks_on = same_marks done.gone.marks
+
+    powered : c.board.powered ≡ true
+    powered = done.gone.power.1 on.powered
+
+    on_world : IsTxnWorld setup (left (Some c.after) p.txn)
+    on_world =
+        on_after setup p c.board c.ledger c.world (logged marks_on) c.after p.txn powered (done.gone.sound on.sound)
+        (c.served_as.its_targets ∙ on.its_log ∙ sym (same_targets marks_on))
+        (subst (λ s. IsOpenTxn setup s p.txn) (sym c.served_as.its_page) on.its_txn)
+
+    pub got_held : IsTxnWorld (setup_under c.formulas_of c.geometry c.keys) (left_under (Some c.after) p.txn)
+    got_held = held_under c.formulas_of c.geometry p (left (Some c.after) p.txn) c.keys c.same_keys on_world
+
+    pub got_seen : IsAnswered (setup_in c.formulas_of c.now) c.now (Do.Read c.at) (Say.Got line c.said)
+        (txn_of (setup_under c.formulas_of c.geometry c.keys) (left_under (Some c.after) p.txn))
+    got_seen =
+        subst (λ (k : ℕ). IsAnswered (setup_in c.formulas_of c.now) c.now (Do.Read c.at) (Say.Got line k)
+        (txn_of (setup_under c.formulas_of c.geometry c.keys) (left_under (Some c.after) p.txn))) (sym c.counted)
+        (seen_from c.formulas_of c.geometry p (left (Some c.after) p.txn) c.now c.keys (Do.Read c.at) (Say.Got line (steps_in c.taken)) c.is
+        c.same_keys refl
+        (served setup old (txn_of setup (left (Some c.after) p.txn)) (Do.Read c.at) (Say.Got line (steps_in c.taken))
+        (read_undecided old c.at on.powered (let n = n_is in let low = c.within in omega (arith, n, low)) c.unheld) (
+          shown line is,
+          goes_to setup p (left (Some c.after) p.txn) c.taken c.watched old (read_steps c.geometry) powered
+              (at_most p.board c.board c.taken (path_length c.geometry) c.watched.follows.few (it.steps_of_path on.running).0)
+              (record {
+                shape = refl;
+                keys = refl;
+                memory = same_memory marks_on;
+                in_force = same_targets marks_on;
+                stuck = c.served_as.its_page ∙ sym (ap stuck_in c.there);
+                txn = refl;
+                power = powered ∙ sym on.powered;
+                fuse = c.watched.follows.burnt powered;
+                loss = done.loss;
+                marks = marks_on;
+              }),
+        )))
+
+  -- ---- cut
+
+  module _ (is : c.answer ≡ Err Fail.Cut) where
+    cut : HasReadLine setup place from to (Err Fail.Cut)
+    cut = read_as (Err Fail.Cut) is
+
+    cut_done : OneLossEffect setup cut_short [] from to
+    cut_done = cut.done on.running
+
+    marks_off : c.ledger.marks ≡ p.ledger.marks
+    marks_off = same_marks cut_done.gone.marks
+
+    off : c.board.powered ≡ false
+    off = cut_done.gone.power.1
+
+    off_world : IsTxnWorld setup (left None None)
+    off_world =
+        off_after setup p c.board c.ledger c.world (logged marks_off) off (cut_done.gone.sound on.sound)
+        (cut_done.gone.small_group on.sound.trusted.no_group)
+
+    pub cut_held : IsTxnWorld (setup_under c.formulas_of c.geometry c.keys) (left_under None None)
+    cut_held = held_under c.formulas_of c.geometry p (left None None) c.keys c.same_keys off_world
+
+    pub cut_seen : IsAnswered (setup_in c.formulas_of c.now) c.now (Do.Read c.at) (Say.Cut c.said)
+        (txn_of (setup_under c.formulas_of c.geometry c.keys) (left_under None None))
+    cut_seen =
+        let levels = c.world.whole_shape.at_most_six_levels in
+        subst (λ (k : ℕ). IsAnswered (setup_in c.formulas_of c.now) c.now (Do.Read c.at) (Say.Cut k)
+        (txn_of (setup_under c.formulas_of c.geometry c.keys) (left_under None None))) (sym c.counted)
+        (seen_from c.formulas_of c.geometry p (left None None) c.now c.keys (Do.Read c.at) (Say.Cut (steps_in c.taken)) c.is c.same_keys refl
+        (served setup old (txn_of setup (left None None)) (Do.Read c.at) (Say.Cut (steps_in c.taken))
+        (read_undecided old c.at on.powered (let n = n_is in let low = c.within in omega (arith, n, low)) c.unheld)
+        (cut_off setup p (left None None) c.taken c.watched old (read_steps c.geometry) off
+        (fewer p.board c.board c.taken (path_length c.geometry) c.watched.follows.few ((cut.steps_of_path on.running).1 on.powered))
+        (omega (arith, levels))
+        (record {
+          shape = refl;
+          keys = refl;
+          memory = same_memory marks_off;
+          in_force = same_targets marks_off;
+          stuck = refl;
+          txn = refl;
+          power = off;
+          fuse = c.watched.follows.cleared off;
+          loss = cut_done.loss;
+          marks = marks_off;
+        }))))

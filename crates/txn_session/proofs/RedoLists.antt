@@ -1,0 +1,66 @@
+-- How long a redo is, and how many steps it takes.
+use Rattle.std.proofs.Common.{ℕ, zero, suc, ◌≡◌, ◌<◌, ◌≤◌, ◌+◌, ◌*◌, ◌++◌, Bool, true, false, cond, List, [], ◌∷◌, length, refl, sym, ap, ◌∙◌, arith}
+use Rattle.std.specs.Prelude.{All, nat_lt, ◌==◌, if◌then◌else◌}
+use Rattle.std.proofs.lemmas.Bool.{lt-ltb, ne_eqb}
+use Rattle.std.proofs.lemmas.List.{length-append}
+use Rattle.pmem_base.specs.Lines.{zero_line}
+use Rattle.pmem_base.specs.Shape.{Shape}
+use Rattle.plain_model.specs.State.{Memory, memory_with}
+use Rattle.line_txn.specs.declared.edits.Edit.{Edit}
+use Rattle.line_txn.specs.declared.edits.Edit.TheVariants as Make
+use Rattle.line_txn.specs.Edits.{copy_edits, redoing_edits}
+use Rattle.line_txn.proofs.EditStages.{length-copy_edits}
+use Rattle.wear_session.specs.Answered.{read_steps, write_steps}
+use Rattle.txn_session.specs.State.{redo_writes}
+use Rattle.txn_session.specs.Answered.{most_of_redo}
+use Rattle.txn_session.proofs.EngineEdits.{posted_of, all_posted, cost}
+use Rattle.txn_session.proofs.WriteLists.{posted_redo}
+
+length-all_posted : (memory : Memory) (edits : List Edit) → length (all_posted memory edits) ≡ length edits
+length-all_posted memory [] = refl
+length-all_posted memory (edit ∷ edits) = let rest = length-all_posted (memory_with memory (posted_of memory edit)) edits in omega (arith, rest)
+
+-- as many writes as changes
+pub length-redo : (n : ℕ) (targets : List ℕ) (lines : Memory) → All (λ t. t < n) targets → n + 1 + length targets ≤ length lines
+    → length (redo_writes n targets lines) ≡ length (redoing_edits n targets)
+length-redo n targets lines low long =
+    ap length (sym (posted_redo n targets lines low long)) ∙ length-all_posted lines (redoing_edits n targets)
+
+length-redoing : (n t : ℕ) (targets : List ℕ) → length (redoing_edits n (t ∷ targets)) ≡ length (t ∷ targets) + 1
+length-redoing n t targets =
+    length-append (copy_edits (n + 1) (t ∷ targets)) (Make.Put n zero_line ∷ []) ∙ ap (λ k. k + 1) (length-copy_edits (n + 1) (t ∷ targets))
+
+pub few_redone : (n : ℕ) (targets : List ℕ) → length (redoing_edits n targets) ≤ length targets + 1
+few_redone n [] = omega arith
+few_redone n (t ∷ targets) = let all = length-redoing n t targets in omega (arith, all)
+
+-- once it is through none is in force
+pub none_redone : (n : ℕ) (targets : List ℕ) → cond (nat_lt (length targets) (length (redoing_edits n targets))) [] targets ≡ []
+none_redone n [] = either (nat_lt 0 0)
+  where
+    either : (b : Bool) → (let none : List ℕ = [] in cond b [] none ≡ none)
+    either true = refl
+    either false = refl
+none_redone n (t ∷ targets) =
+    let all = length-redoing n t targets in
+    ap (λ b. cond b [] (t ∷ targets)) (lt-ltb (length (t ∷ targets)) (length (redoing_edits n (t ∷ targets))) (omega (arith, all)))
+
+-- ---- steps
+
+cost_copies : (g : Shape) (p : ℕ) (targets : List ℕ) (more : List Edit)
+    → cost g (copy_edits p targets ++ more) ≡ length targets * (read_steps g + write_steps g) + cost g more
+cost_copies g p [] more = omega arith
+cost_copies g p (t ∷ targets) more = let rest = cost_copies g (p + 1) targets more in omega (arith, rest)
+
+pub cost_redo : (g : Shape) (n : ℕ) (targets : List ℕ) → cost g (redoing_edits n targets) ≡ most_of_redo g (length targets)
+cost_redo g n [] = refl
+cost_redo g n (t ∷ targets) =
+    cost_copies g (n + 1) (t ∷ targets) (Make.Put n zero_line ∷ [])
+    ∙ steps
+    ∙ sym
+    (ap (λ b. if b then 0 else length (t ∷ targets) * (read_steps g + write_steps g) + write_steps g)
+    (ne_eqb (length (t ∷ targets)) 0 (λ e. omega (arith, e))))
+  where
+    steps : length (t ∷ targets) * (read_steps g + write_steps g) + (write_steps g + 0)
+        ≡ length (t ∷ targets) * (read_steps g + write_steps g) + write_steps g
+    steps = omega arith

@@ -1,0 +1,109 @@
+-- Recovery, and then the opening of the store.
+use Rattle.std.proofs.Common.{ℕ, ◌≡◌, ◌≤◌, ◌+◌, ◌*◌, Bool, true, false, List, Option, None, Result, Ok, refl, ap, subst, mul-le-mul_left, mul-le-mul_right, arith}
+use Rattle.std.specs.Prelude.{◌==◌, if◌then◌else◌}
+use Rattle.pmem_base.specs.Layout as layout
+use Rattle.pmem_base.specs.Shape.{Shape, IsShape}
+use Rattle.board.specs.Device.{Device}
+use Rattle.board.specs.Memory.{BoardMemory}
+use Rattle.seal_ledger.specs.Ledger.{LedgerState}
+use Rattle.seal_ledger.specs.Notes.{HasRoom}
+use Rattle.suite.specs.Formulas.{Formulas}
+use Rattle.plain_model.specs.Bounds.{path_length, recovery_bound}
+use Rattle.pmem_engine.specs.Engine.{EngineState}
+use Rattle.pmem_engine.specs.Parts.{parts_of}
+use Rattle.pmem_recovery.specs.declared.faults.Work.{Work}
+use Rattle.pmem_recovery.specs.declared.faults.RecFault.{RecFault}
+use Rattle.pmem_recovery.specs.Parts.{SuiteState}
+use Rattle.pmem_recovery.specs.Recovered.{HasRecovered}
+use Rattle.line_txn.specs.declared.store.Store.{Store}
+use Rattle.line_txn.specs.declared.store.Opened.{Opened}
+use Rattle.line_txn.specs.declared.store.TxnFault.{TxnFault}
+use Rattle.line_txn.specs.Store.{HasOpened}
+use Rattle.watched_board.specs.declared.taken.Taken.{Taken}
+use Rattle.watched_board.specs.Watching.{steps_in, step_limit, device_during, none_taken, IsWatched}
+use Rattle.wear_session.specs.Answered.{read_steps, write_steps}
+use Rattle.wear_session.proofs.Seen.{setup_under}
+use Rattle.txn_session.specs.declared.calls.StartFault.{StartFault}
+use Rattle.txn_session.specs.State.{TxnState}
+use Rattle.txn_session.specs.World.{TxnParts, IsTxnWorld, txn_of}
+use Rattle.txn_session.specs.During.{HasStarted, started_as}
+use Rattle.txn_session.specs.Answered.{most_of_redo}
+
+-- where recovery was done, its engine is of the geometry, and the store is opened under the same keys
+pub has_started : (formulas_of : List ℕ → Formulas) (g : Shape) (old between new : Device) (ledger_old ledger_new : LedgerState)
+    (suite_old suite_between suite_new : SuiteState) (recovery : Result (EngineState × Work) RecFault) (engine : EngineState) (work : Work)
+    (answer : Result (Store × Opened) TxnFault) → recovery ≡ Ok (engine, work)
+    → HasRecovered (record { shape = g; formulas = formulas_of suite_old.keys }) ledger_old old between suite_old suite_between recovery
+    → HasOpened (record { shape = engine.shape; formulas = formulas_of suite_between.keys })
+    (parts_of engine between ledger_old suite_between.tags suite_between.digests)
+    (λ now. parts_of now new ledger_new suite_new.tags suite_new.digests) answer
+    → HasStarted (record { shape = g; formulas = formulas_of suite_old.keys }) old new ledger_old ledger_new suite_old suite_new
+    (started_as answer)
+has_started formulas_of g old between new ledger_old ledger_new suite_old suite_between suite_new recovery engine work answer is recovered opened =
+    let done = subst (λ r. HasRecovered (record { shape = g; formulas = formulas_of suite_old.keys }) ledger_old old between suite_old suite_between r) is recovered in
+    record {
+      recovery = Ok (engine, work);
+      between = between;
+      suite_between = suite_between;
+      recovered = done;
+      then = (
+        answer,
+        subst (λ k. HasOpened (record { shape = g; formulas = formulas_of k })
+            (parts_of engine between ledger_old suite_between.tags suite_between.digests)
+            (λ now. parts_of now new ledger_new suite_new.tags suite_new.digests) answer) done.keys
+            (subst (λ s. HasOpened (record { shape = s; formulas = formulas_of suite_between.keys })
+            (parts_of engine between ledger_old suite_between.tags suite_between.digests)
+            (λ now. parts_of now new ledger_new suite_new.tags suite_new.digests) answer) (ap (λ (e : EngineState). e.shape) done.engine) opened),
+        refl,
+      );
+    }
+
+-- ---- bounds
+
+pub few_of_on : (g : Shape) → IsShape g → (count : ℕ) → count ≤ 15 → recovery_bound g + read_steps g + most_of_redo g count ≤ step_limit
+few_of_on g shape count few =
+    let slots : layout.slots g ≤ 512 =
+    omega (arith, mul-le-mul_left g.sets shape.at_most_eight_ways, mul-le-mul_right 8 shape.at_most_64_sets) in
+    let path : path_length g * layout.slots g ≤ 3584 =
+    omega (arith, mul-le-mul_left (path_length g) slots, shape.at_most_six_levels) in
+    let banks : g.levels * layout.slots g ≤ 3072 = omega (arith, mul-le-mul_left g.levels slots, shape.at_most_six_levels) in
+    let recovery : recovery_bound g + read_steps g ≤ 16384 = omega (arith, slots, path, banks, shape.at_most_six_levels) in
+    let write : read_steps g + write_steps g ≤ 400 = omega (arith, shape.at_most_six_levels) in
+    let copies : count * (read_steps g + write_steps g) ≤ 15 * (read_steps g + write_steps g) =
+    mul-le-mul_right (read_steps g + write_steps g) few in
+    let redo : most_of_redo g count ≤ 16384 = by_none (count == 0) (omega (arith, write, copies)) in
+    omega (arith, recovery, redo)
+  where
+    by_none : (none : Bool) → count * (read_steps g + write_steps g) + write_steps g ≤ 16384
+        → (if none then 0 else count * (read_steps g + write_steps g) + write_steps g) ≤ 16384
+    by_none true few = omega arith
+    by_none false few = few
+
+-- the session's parts as power comes on, what recovery and the opening leave and answer
+pub record OnCall : Type 0 where
+  pub formulas_of : List ℕ → Formulas
+  pub geometry : Shape
+  -- before room for marks was made, and after
+  pub before : TxnParts
+  pub ledger_before : LedgerState
+  pub room : HasRoom before.ledger ledger_before 1056
+  pub now : TxnState
+  pub is : txn_of (setup_under formulas_of geometry before.keys) before ≡ now
+  pub world : IsTxnWorld (setup_under formulas_of geometry before.keys) before
+  pub there : before.store ≡ None
+  pub lit : BoardMemory
+  pub lit_is : lit ≡ record before.board { powered = true }
+  pub keys : List ℕ
+  pub same_keys : keys ≡ before.keys
+  pub board : BoardMemory
+  pub ledger : LedgerState
+  pub taken : Taken
+  pub watched : IsWatched lit board taken
+  pub suite_old : SuiteState
+  pub suite_new : SuiteState
+  pub said : ℕ
+  pub counted : said ≡ steps_in taken
+  pub answer : Result (Store × Opened) StartFault
+  pub started :
+      HasStarted (setup_under formulas_of geometry before.keys) (device_during lit none_taken) (device_during board taken)
+      ledger_before ledger suite_old suite_new answer

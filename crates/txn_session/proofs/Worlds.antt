@@ -1,0 +1,232 @@
+-- What a session holds after a call that goes on or is cut, and how its state stands to the one before.
+use Rattle.std.proofs.Common.{rules, ℕ, zero, suc, ◌≡◌, ◌<◌, ◌≤◌, ◌+◌, ◌^◌, inl, inr, true, false, List, [], length, Option, Some, None, refl, sym, ap, subst, subst₂, ◌∙◌, arith}
+use Rattle.std.specs.Prelude.{IfSome}
+use Rattle.std.proofs.Math.Nat.{pow-le-pow_right}
+use Rattle.std.proofs.lemmas.Bool.{cases_lt}
+use Rattle.pmem_base.specs.Counts.{HasRisen}
+use Rattle.pmem_base.specs.declared.lines.Line.{Line}
+use Rattle.pmem_base.specs.Layout as layout
+use Rattle.pmem_base.specs.Lines.{line_at}
+use Rattle.pmem_base.specs.Shape.{Shape, IsShape}
+use Rattle.board.specs.Memory.{BoardMemory}
+use Rattle.seal_ledger.specs.Ledger.{LedgerState}
+use Rattle.suite.specs.Formulas.{AreInRange}
+use Rattle.suite.specs.Setup.{Setup}
+use Rattle.plain_model.specs.State.{Memory}
+use Rattle.plain_model.specs.View.{plain_memory}
+use Rattle.pmem_engine.specs.Invariants.{IsDurable, IsSound}
+use Rattle.line_txn.specs.declared.store.Store.{Store}
+use Rattle.line_txn.specs.Header.{AreTargets}
+use Rattle.line_txn.specs.Logged.{IsLogged, memory_in, targets_of}
+use Rattle.line_txn.specs.Store.{logged_lines}
+use Rattle.line_txn.proofs.Headers.{targets_of_header}
+use Rattle.line_txn.proofs.Openings.{logged_size}
+use Rattle.watched_board.specs.declared.taken.Taken.{Taken}
+use Rattle.watched_board.specs.Watching.{counted, cuts_after, steps_in, step_limit, FollowsOn, IsWatched}
+use Rattle.wear_session.specs.Answered.{burnt}
+use Rattle.wear_session.proofs.Worlds.{sealed_in, places_of}
+use Rattle.txn_session.specs.State.{TxnState, Entries, without_power}
+use Rattle.txn_session.specs.World.{TxnParts, IsTxnWorld, IsStoreOn, IsStoredBy, targets_in_force, logical_memory, txn_of}
+use Rattle.txn_session.specs.Answered.{IsButForCounts, GoesTo, IsCutOff}
+
+-- ---- the log
+
+pub few_data : (g : Shape) → IsShape g → layout.data_lines g ≤ 2 ^ 30
+few_data g shape =
+    let pages : 4 ^ g.levels ≤ 4 ^ 6 = pow-le-pow_right (omega arith) shape.at_most_six_levels in
+    omega (arith, pages)
+
+pub few_lines : (g : Shape) → IsShape g → logged_lines g < 2 ^ 30
+few_lines g shape = let few = few_data g shape in let size = logged_size g in omega (arith, few, size)
+
+-- lines that hold a memory tell the targets in force, and the memory
+module _ (setup : Setup) (shape : IsShape setup.shape) (lines memory : Memory) (targets : List ℕ)
+    (it : IsLogged (logged_lines setup.shape) lines targets memory) where
+  pub targets_held : targets_in_force setup lines ≡ targets
+  targets_held =
+      targets_of_header (logged_lines setup.shape) (line_at lines (logged_lines setup.shape)) targets
+      (let few = few_lines setup.shape shape in omega (arith, few)) it.header
+
+  pub memory_held : logical_memory setup lines ≡ memory
+  memory_held = ap (λ ts. memory_in (logged_lines setup.shape) ts lines) targets_held ∙ it.its_memory
+
+  pub logged_is : IsLogged (logged_lines setup.shape) lines (targets_in_force setup lines) (logical_memory setup lines)
+  logged_is = subst₂ (λ ts m. IsLogged (logged_lines setup.shape) lines ts m) (sym targets_held) (sym memory_held) it
+
+-- ---- steps of a call
+
+-- a count after some more has risen
+rose_by : (before more : ℕ) → 0 < more → HasRisen before (cuts_after before more)
+rose_by before zero some = absurd (omega (arith, some))
+rose_by before (suc more) some =
+    elim (cases_lt before (counted before (suc more))) [
+      | inl above ↦ inl above
+      | inr below ↦ inr (omega (arith, below))
+    ]
+
+rose : (old new : BoardMemory) (taken : Taken) → FollowsOn old new taken → new.powered ≡ false → HasRisen old.cuts new.cuts
+rose old new taken follows off =
+    subst (λ n. HasRisen old.cuts n) (sym follows.cuts) (rose_by old.cuts taken.cuts (follows.cut off))
+
+-- ---- states
+
+module _ (setup : Setup) (old new : TxnParts) (taken : Taken) (watched : IsWatched old.board new.board taken) (expected : TxnState) (most : ℕ) where
+  -- a call that goes on
+  pub goes_to : new.board.powered ≡ true → steps_in taken ≤ most
+      → IsButForCounts (record expected { fuse = burnt old.board.fuse (steps_in taken) }) (txn_of setup new)
+      → GoesTo expected (steps_in taken) most (txn_of setup old) (txn_of setup new)
+  goes_to powered few becomes =
+      record {
+        becomes = becomes;
+        rises =
+            record {
+              written = taken.writes;
+              latched = taken.latches;
+              sum = refl;
+              writes = watched.follows.writes;
+              latches = watched.follows.latches;
+            };
+        few = few;
+        lasting = watched.follows.lasting powered;
+        no_cut = watched.follows.uncut powered;
+      }
+
+  -- a call that is cut
+  pub cut_off : new.board.powered ≡ false → steps_in taken < most → most ≤ step_limit
+      → IsButForCounts (without_power expected) (txn_of setup new)
+      → IsCutOff expected (steps_in taken) most (txn_of setup old) (txn_of setup new)
+  cut_off off below bounded becomes =
+      record {
+        becomes = becomes;
+        rises =
+            record {
+              written = taken.writes;
+              latched = taken.latches;
+              sum = refl;
+              writes = watched.follows.writes;
+              latches = watched.follows.latches;
+            };
+        at_fuse = watched.follows.spent off (omega (arith, below, bounded));
+        below = below;
+        cut = rose old.board new.board taken watched.follows off;
+      }
+
+-- ---- what is held
+
+-- what is said of the open transaction, where the store is stuck so
+abbrev pub IsOpenTxn : Setup → Option ℕ → Option Entries → Type 0
+IsOpenTxn setup stuck txn =
+    IfSome txn (λ entries. (stuck ≡ None) × AreTargets (logged_lines setup.shape) (targets_of entries))
+
+-- with power on, where all is sound
+pub on_of : (setup : Setup) (parts : TxnParts) (store : Store) → parts.store ≡ Some store → IsShape setup.shape → AreInRange setup.formulas
+    → IsLogged (logged_lines setup.shape) (plain_memory setup parts.ledger.marks) (targets_in_force setup (plain_memory setup parts.ledger.marks))
+    (logical_memory setup (plain_memory setup parts.ledger.marks))
+    → parts.board.powered ≡ true → IsSound setup store.engine parts.board.lines parts.board.regs parts.ledger
+    → store.logged.items ≡ targets_in_force setup (plain_memory setup parts.ledger.marks) → IsOpenTxn setup store.stuck parts.txn
+    → IsTxnWorld setup parts
+on_of setup parts store there shape formulas logged powered sound log txn =
+    let sealed = sealed_in setup parts.board.regs parts.ledger sound.trusted.anchored in
+    let chip : IsStoreOn setup parts store =
+    record {
+      powered = powered;
+      sound = sound;
+      running = sound.trusted.not_down;
+      its_shape = sound.trusted.its_shape;
+      usable =
+          record {
+            ready =
+                record {
+                  its_size = sound.durable.device_whole.count;
+                  valid_regs = sound.trusted.anchored.valid_regs;
+                  no_group = λ running. sound.trusted.no_group;
+                };
+            true_lines = sound.trusted.anchored.of_shape.truth_count;
+            line_count = sound.trusted.anchored.of_shape.line_count;
+            each_sealed = sealed;
+          };
+      its_log = log;
+      its_txn = txn;
+    } in
+    record {
+      whole_shape = shape;
+      whole_formulas = formulas;
+      whole_lines = sound.durable.device_whole;
+      valid_regs = sound.trusted.anchored.valid_regs;
+      few_armed = omega (arith, ap length sound.trusted.no_group);
+      ledger = sound.trusted.anchored.of_shape;
+      no_exhibit = search (rules, sound.trusted.anchored.no_exhibit);
+      places = places_of setup parts.ledger.marks sealed;
+      logged = logged;
+      chip = subst (λ s. IsStoredBy setup parts s) (sym there) chip;
+    }
+
+module _ (setup : Setup) (p : TxnParts) (board : BoardMemory) (ledger : LedgerState) (world : IsTxnWorld setup p)
+    (logged :
+    IsLogged (logged_lines setup.shape) (plain_memory setup ledger.marks) (targets_in_force setup (plain_memory setup ledger.marks))
+    (logical_memory setup (plain_memory setup ledger.marks))) where
+  -- after a call with power on
+  pub on_after : (after : Store) (txn : Option Entries) → board.powered ≡ true → IsSound setup after.engine board.lines board.regs ledger
+      → after.logged.items ≡ targets_in_force setup (plain_memory setup ledger.marks) → IsOpenTxn setup after.stuck txn
+      → IsTxnWorld setup (record { keys = p.keys; board = board; ledger = ledger; store = Some after; txn = txn })
+  on_after after txn powered sound log its_txn =
+      on_of setup (record { keys = p.keys; board = board; ledger = ledger; store = Some after; txn = txn }) after refl world.whole_shape
+      world.whole_formulas logged powered sound log its_txn
+
+  -- with power off, where the device is durable
+  pub off_after : board.powered ≡ false → IsDurable setup board.lines board.regs ledger → length board.regs.group.items ≤ 3
+      → IsTxnWorld setup (record { keys = p.keys; board = board; ledger = ledger; store = None; txn = None })
+  off_after unpowered durable few =
+      let anchored = durable.mendable.anchored in
+      record {
+        whole_shape = world.whole_shape;
+        whole_formulas = world.whole_formulas;
+        whole_lines = durable.device_whole;
+        valid_regs = anchored.valid_regs;
+        few_armed = few;
+        ledger = anchored.of_shape;
+        no_exhibit = search (rules, anchored.no_exhibit);
+        places = places_of setup ledger.marks (sealed_in setup board.regs ledger anchored);
+        logged = logged;
+        chip = record { unpowered = unpowered; durable = durable; no_txn = refl };
+      }
+
+-- with power on, what is held of the store
+pub on_in : (setup : Setup) (p : TxnParts) (store : Store) → IsTxnWorld setup p → p.store ≡ Some store → IsStoreOn setup p store
+on_in setup p store world there = subst (λ s. IsStoredBy setup p s) there world.chip
+
+-- there are as many lines as the geometry says
+pub lines_are : (setup : Setup) (p : TxnParts) (store : Store) → IsStoreOn setup p store → store.lines ≡ logged_lines setup.shape
+lines_are setup p store on =
+    let size = store.its_lines in
+    let all = logged_size setup.shape in
+    let same : layout.data_lines store.engine.shape ≡ layout.data_lines setup.shape = ap layout.data_lines on.its_shape in
+    omega (arith, size, same, all)
+
+-- another transaction is open
+pub put_world : (setup : Setup) (p : TxnParts) (store : Store) (txn : Option Entries) → IsTxnWorld setup p → p.store ≡ Some store
+    → IsOpenTxn setup store.stuck txn → IsTxnWorld setup (record p { txn = txn })
+put_world setup p store txn world there its_txn =
+    let on = on_in setup p store world there in
+    let chip : IsStoreOn setup (record p { txn = txn }) store =
+    record {
+      powered = on.powered;
+      sound = on.sound;
+      running = on.running;
+      its_shape = on.its_shape;
+      usable = on.usable;
+      its_log = on.its_log;
+      its_txn = its_txn;
+    } in
+    record {
+      whole_shape = world.whole_shape;
+      whole_formulas = world.whole_formulas;
+      whole_lines = world.whole_lines;
+      valid_regs = world.valid_regs;
+      few_armed = world.few_armed;
+      ledger = world.ledger;
+      no_exhibit = world.no_exhibit;
+      places = world.places;
+      logged = world.logged;
+      chip = subst (λ s. IsStoredBy setup (record p { txn = txn }) s) (sym there) chip;
+    }

@@ -1,0 +1,69 @@
+-- A line is read, or power is cut.
+use Rattle.std.proofs.Common.{rules, arith}
+use Rattle.std.specs.Prelude.{option_map}
+use Rattle.pmem_base.specs.Geo.{shape_of}
+use Rattle.board.specs.MemBoard.{memory_of}
+use Rattle.seal_ledger.specs.View.{ledger_of}
+use Rattle.txn_session.proofs.ReadLaws.{ReadCall, got_held, got_seen, cut_held, cut_seen}
+use Rattle.txn_session.proofs.world.TxnWorld.read.Given.{Over}
+use Rattle.txn_session.proofs.world.TxnWorld.read.Goals.{After-steps-steps}
+use Rattle.txn_session.proofs.world.TxnWorld.read.Goals as goal
+
+-- once the engine has answered
+module _ (g : Over) (c : After-steps-steps g) where
+  abbrev call : ReadCall
+  call =
+      record {
+        formulas_of = g.S.Suite.formulas_of;
+        geometry = shape_of c.self.inside.geo;
+        parts =
+            record {
+              keys = g.S.Suite.keys c.self.inside.suite;
+              board = memory_of c.self.inside.board;
+              ledger = ledger_of c.self.inside.ledger;
+              store = c.self.inside.store;
+              txn = option_map (λ txn. txn.items) c.self.inside.txn;
+            };
+        now = c.args.self.now;
+        is = c.self.view_is;
+        world = c.self.invariant;
+        store = c.in-Some.store;
+        there = c.in-Some.is;
+        at = c.args.at;
+        within = omega (arith, c.if-at-from.false, c.from.ensures, c.lines.ensures.value);
+        unheld = search (rules, c.line_held.ensures);
+        after = c.read-done.new.store;
+        served_as = c.read-done.ensures.served;
+        keys = g.S.Suite.keys c.read-done.new.suite;
+        same_keys = c.read-done.ensures.keys;
+        board = memory_of c.read-done.new.board;
+        ledger = ledger_of c.read-done.new.ledger;
+        taken = c.read-done.result.taken;
+        watched = c.read-done.ensures.watched;
+        tags = g.S.Suite.tags c.self.inside.suite;
+        digests = g.S.Suite.digests c.self.inside.suite;
+        tags_new = g.S.Suite.tags c.read-done.new.suite;
+        digests_new = g.S.Suite.digests c.read-done.new.suite;
+        said = c.steps-steps.result;
+        counted = c.steps-steps.ensures;
+        answer = c.read-done.result.answer;
+        was_read = c.read-done.ensures.read;
+        read_logged = c.read-done.ensures.logged;
+      }
+
+pub invariant_of-self-in-Ok : goal.invariant_of-self-in-Ok
+invariant_of-self-in-Ok g c =
+    got_held (call g ((goal.at.invariant_of-self-in-Ok g c).After-steps-steps)) c.in-Ok.line (let h = c.in-Ok.is in search rules)
+
+pub returns-in-Ok : goal.returns-in-Ok
+returns-in-Ok g c = got_seen (call g ((goal.at.returns-in-Ok g c).After-steps-steps)) c.in-Ok.line (let h = c.in-Ok.is in search rules)
+
+pub invariant_of-self-in-Err-Cut : goal.invariant_of-self-in-Err-Cut
+invariant_of-self-in-Err-Cut g c =
+    cut_held (call g ((goal.at.invariant_of-self-in-Err-Cut g c).After-steps-steps))
+    (let h = c.in-Err-Cut.is in let k = c.in-Err-Cut.field-0-is in search rules)
+
+pub returns-in-Err-Cut : goal.returns-in-Err-Cut
+returns-in-Err-Cut g c =
+    cut_seen (call g ((goal.at.returns-in-Err-Cut g c).After-steps-steps))
+    (let h = c.in-Err-Cut.is in let k = c.in-Err-Cut.field-0-is in search rules)

@@ -1,0 +1,285 @@
+-- Which answers a command has in which states, and the state after: where the state alone decides, the first
+-- condition that holds does; else the engine gives one of the answers that are listed.
+use Rattle.std.specs.Prelude.{ℕ, ◌≡◌, ◌≤◌, ◌<◌, ◌+◌, ◌*◌, ◌==◌, nat_lt, Bool, true, false, List, [], ◌∷◌, ◌++◌, length, Option, Some, None, option_map, is_some, unwrap_or, IfSome, Ok, ⊤, if◌then◌else◌}
+use Rattle.std.specs.List.{list_any}
+use Rattle.pmem_base.specs.declared.lines.Line.{Line}
+use Rattle.pmem_base.specs.declared.commands.Posted.{Posted}
+use Rattle.pmem_base.specs.declared.answers.Mark.{Mark}
+use Rattle.pmem_base.specs.declared.answers.Exhibit.{Exhibit}
+use Rattle.pmem_base.specs.declared.answers.Exhibit.TheVariants.{Twin}
+use Rattle.pmem_base.specs.Counts.{HasRisen}
+use Rattle.pmem_base.specs.Shape.{Shape}
+use Rattle.pmem_base.specs.Lines.{line_at}
+use Rattle.watched_board.specs.Watching.{counted}
+use Rattle.suite.specs.Formulas.{Formulas}
+use Rattle.suite.specs.Setup.{Setup}
+use Rattle.collision_witness.specs.Exhibits.{IsExhibit}
+use Rattle.plain_model.specs.Bounds.{recovery_bound}
+use Rattle.plain_model.specs.Asked.{Moment}
+use Rattle.plain_model.specs.Fits.{IsSpentNext}
+use Rattle.plain_model.specs.Shown.{IsTwinOfSeal}
+use Rattle.wear_session.specs.Answered.{burnt, write_steps, read_steps, Writing, AreAllMade, IsCutAmong, is_own_seal}
+use Rattle.txn_session.specs.declared.commands.TxnCommand.{TxnCommand}
+use Rattle.txn_session.specs.declared.commands.TxnCommand.TheVariants as Do
+use Rattle.txn_session.specs.declared.answers.TxnAnswer.{TxnAnswer}
+use Rattle.txn_session.specs.declared.answers.TxnAnswer.TheVariants as Say
+use Rattle.trace_text.specs.declared.talk.Halt.{Halt}
+use Rattle.trace_text.specs.declared.talk.Halt.TheVariants as Stop
+use Rattle.txn_session.specs.Answers.{txn_text}
+use Rattle.txn_session.specs.Commands.{reading_of_txn}
+use Rattle.txn_session.specs.State.{TxnState, Entries, lines_in, view_in, places_in, moment_in, line_in, with_line, commit_writes, redo_writes, without_power, with_commit, with_redo}
+
+-- ---- answers that the state decides
+
+-- the answer, where power is on
+abbrev pub of_power : TxnState → Option TxnAnswer → Option TxnAnswer
+of_power state answer = if state.power then answer else Some Say.Off
+
+-- the answer, where there is such a line
+abbrev pub of_line : TxnState → ℕ → Option TxnAnswer → Option TxnAnswer
+of_line state a answer = if nat_lt a (lines_in state) then answer else Some Say.Range
+
+-- the answer, where a transaction is open
+abbrev pub of_open : Option Entries → (Entries → Option TxnAnswer) → Option TxnAnswer
+of_open None answer = Some Say.Closed
+of_open (Some entries) answer = answer entries
+
+-- whether no other line goes into a transaction
+abbrev pub is_full : Entries → ℕ → Bool
+is_full entries a = if is_some (line_in entries a) then false else length entries == 15
+
+-- a transaction is opened, where the store isn't stuck
+abbrev pub begun : Option ℕ → Option Entries → TxnAnswer
+begun (Some page) open_txn = Say.Blocked page
+begun None (Some entries) = Say.Busy
+begun None None = Say.Ok
+
+-- a commit without lines is done with no step
+abbrev pub committed : Entries → Option TxnAnswer
+committed [] = Some (Say.Applied 0)
+committed (entry ∷ entries) = None
+
+-- a line of the open transaction is read with no step
+abbrev pub held : Option Line → Option TxnAnswer
+held None = None
+held (Some line) = Some (Say.Got line 0)
+
+-- what a state's transaction holds
+abbrev pub line_held : TxnState → ℕ → Option Line
+line_held state a = line_in (unwrap_or state.txn []) a
+
+-- the answer that the state alone decides; none where the engine decides
+abbrev pub decided : TxnState → TxnCommand → Option TxnAnswer
+decided state Do.Begin = of_power state (Some (begun state.stuck state.txn))
+decided state (Do.Put a line) =
+    of_power state
+    (of_open state.txn
+    (λ entries. of_line state a (Some (if is_full entries a then Say.Full else Say.Ok))))
+decided state Do.Commit = of_power state (of_open state.txn committed)
+decided state Do.Abort = of_power state (of_open state.txn (λ entries. Some Say.Ok))
+decided state (Do.Read a) = of_power state (of_line state a (held (line_held state a)))
+decided state (Do.Cut n) = Some Say.Ok
+decided state Do.Off = of_power state (Some Say.Ok)
+decided state Do.On = if state.power then Some Say.Already else None
+
+-- the state after such an answer
+abbrev pub after_decided : TxnState → TxnCommand → TxnAnswer → TxnState
+after_decided state Do.Begin Say.Ok = record state { txn = Some [] }
+after_decided state (Do.Put a line) Say.Ok =
+    record state { txn = option_map (λ entries. with_line entries a line) state.txn }
+after_decided state Do.Commit (Say.Applied steps) = record state { txn = None }
+after_decided state Do.Abort Say.Ok = record state { txn = None }
+after_decided state (Do.Cut n) answer = record state { fuse = Some n }
+after_decided state Do.Off Say.Ok = without_power state
+after_decided state command answer = state
+
+-- ---- steps
+
+-- a state that is another but for the board's counts
+pub record IsButForCounts (expected new : TxnState) : Type 0 where
+  pub shape : new.shape ≡ expected.shape
+  pub keys : new.keys ≡ expected.keys
+  pub memory : new.memory ≡ expected.memory
+  pub in_force : new.in_force ≡ expected.in_force
+  pub stuck : new.stuck ≡ expected.stuck
+  pub txn : new.txn ≡ expected.txn
+  pub power : new.power ≡ expected.power
+  pub fuse : new.fuse ≡ expected.fuse
+  pub loss : new.loss ≡ expected.loss
+  pub marks : new.marks ≡ expected.marks
+
+-- line writes and latches rose by so many together
+pub record RisesBySteps (steps : ℕ) (old new : TxnState) : Type 0 where
+  pub written : ℕ
+  pub latched : ℕ
+  pub sum : steps ≡ written + latched
+  pub writes : new.writes ≡ counted old.writes written
+  pub latches : new.latches ≡ counted old.latches latched
+
+-- so many steps were done, which are at most so many and which the fuse let, and nothing was cut
+pub record GoesTo (expected : TxnState) (steps most : ℕ) (old new : TxnState) : Type 0 where
+  pub becomes : IsButForCounts (record expected { fuse = burnt old.fuse steps }) new
+  pub rises : RisesBySteps steps old new
+  pub few : steps ≤ most
+  pub lasting : IfSome old.fuse (λ left. steps ≤ left)
+  pub no_cut : new.cuts ≡ old.cuts
+
+-- power was cut at the end of the fuse, after fewer steps than so many
+pub record IsCutOff (expected : TxnState) (steps most : ℕ) (old new : TxnState) : Type 0 where
+  pub becomes : IsButForCounts (without_power expected) new
+  pub rises : RisesBySteps steps old new
+  pub at_fuse : old.fuse ≡ Some steps
+  pub below : steps < most
+  pub cut : HasRisen old.cuts new.cuts
+
+-- the most steps of a commit of so many lines
+abbrev pub most_of_commit : Shape → ℕ → ℕ
+most_of_commit g count = (2 * count + 2) * write_steps g
+
+-- those of a redo of so many lines: each body is read, and then its target written
+abbrev pub most_of_redo : Shape → ℕ → ℕ
+most_of_redo g count =
+    if count == 0 then 0 else count * (read_steps g + write_steps g) + write_steps g
+
+-- those of recovery, the header's read and the redo
+abbrev pub most_of_on : TxnState → ℕ
+most_of_on state =
+    recovery_bound state.shape + read_steps state.shape + most_of_redo state.shape (length state.in_force)
+
+-- ---- writes in order
+
+-- all of them are done
+abbrev pub IsAllWritten : Formulas → Moment → List Posted → Writing → Type 0
+IsAllWritten f now writes writing = (writing.done ≡ length writes) × AreAllMade f now writes writing
+
+-- ---- a commit
+
+-- How far a commit of so many lines came, by its answer: through; or, with the header, up to a line that is spent;
+-- or up to one before it is written; or up to a cut, with the seal of the header's write or before it.
+abbrev pub IsCommitting : ℕ → Formulas → Moment → List Posted → Writing → TxnAnswer → Type 0
+IsCommitting count f now writes writing (Say.Applied steps) = IsAllWritten f now writes writing
+IsCommitting count f now writes writing (Say.Stuck page steps) =
+    (count < writing.done) × IsSpentNext f now writes writing.done page writing.made
+IsCommitting count f now writes writing (Say.Spent page steps) =
+    (writing.done ≤ count) × IsSpentNext f now writes writing.done page writing.made
+IsCommitting count f now writes writing (Say.CutKept steps) =
+    (count < writing.done) × IsCutAmong f now writes writing
+IsCommitting count f now writes writing (Say.CutLost steps) =
+    (writing.done ≤ count) × IsCutAmong f now writes writing
+IsCommitting count f now writes writing answer = ⊥
+
+-- whether the header's own seal is among the marks, after a cut
+abbrev pub IsKept : ℕ → List Mark → TxnAnswer → Type 0
+IsKept header made (Say.CutKept steps) = list_any (is_own_seal header) made ≡ true
+IsKept header made (Say.CutLost steps) = list_any (is_own_seal header) made ≡ false
+IsKept header made answer = ⊤
+
+-- the state that so many done writes leave, but for power, fuse and counts
+abbrev pub after_commit : TxnState → Entries → Writing → TxnState
+after_commit old entries writing =
+    record (with_commit old entries writing.done) { marks = old.marks ++ writing.made }
+
+abbrev pub EndsCommit : TxnState → ℕ → TxnAnswer → TxnState → TxnState → Type 0
+EndsCommit expected most (Say.Applied steps) old new = GoesTo expected steps most old new
+EndsCommit expected most (Say.Stuck page steps) old new =
+    GoesTo (record expected { stuck = Some page }) steps most old new
+EndsCommit expected most (Say.Spent page steps) old new = GoesTo expected steps most old new
+EndsCommit expected most (Say.CutKept steps) old new = IsCutOff expected steps most old new
+EndsCommit expected most (Say.CutLost steps) old new = IsCutOff expected steps most old new
+EndsCommit expected most answer old new = ⊥
+
+pub record HasCommitted (setup : Setup) (old : TxnState) (entries : Entries) (answer : TxnAnswer) (new : TxnState) :
+    Type 0 where
+  pub writing : Writing
+  pub came :
+      IsCommitting (length entries) setup.formulas (moment_in setup old) (commit_writes (lines_in old) entries)
+      writing answer
+  pub kept : IsKept (lines_in old) writing.made answer
+  pub ends :
+      EndsCommit (after_commit old entries writing) (most_of_commit old.shape (length entries)) answer old new
+
+-- ---- a read, and recovery
+
+abbrev pub HasRead : TxnState → ℕ → TxnAnswer → TxnState → Type 0
+HasRead old a (Say.Got line steps) new =
+    (line ≡ line_at old.memory a) × GoesTo old steps (read_steps old.shape) old new
+HasRead old a (Say.Cut steps) new = IsCutOff old steps (read_steps old.shape) old new
+HasRead old a answer new = ⊥
+
+-- how far a redo came, by its answer: through; or up to a line that is spent; or up to a cut
+abbrev pub IsRedoing : Formulas → Moment → List Posted → Writing → TxnAnswer → Type 0
+IsRedoing f now writes writing (Say.Opened redone steps) = IsAllWritten f now writes writing
+IsRedoing f now writes writing (Say.Stuck page steps) = IsSpentNext f now writes writing.done page writing.made
+IsRedoing f now writes writing (Say.Cut steps) = IsCutAmong f now writes writing
+IsRedoing f now writes writing answer = ⊥
+
+-- the state that so many done writes of a redo leave, with power on
+abbrev pub after_redo : TxnState → Writing → TxnState
+after_redo old writing =
+    record (with_redo old writing.done) { power = true; marks = old.marks ++ writing.made }
+
+abbrev pub EndsRedo : TxnState → TxnAnswer → TxnState → TxnState → Type 0
+EndsRedo expected (Say.Opened redone steps) old new =
+    (redone ≡ length old.in_force) × GoesTo expected steps (most_of_on old) old new
+EndsRedo expected (Say.Stuck page steps) old new =
+    GoesTo (record expected { stuck = Some page }) steps (most_of_on old) old new
+EndsRedo expected (Say.Cut steps) old new = IsCutOff expected steps (most_of_on old) old new
+EndsRedo expected answer old new = ⊥
+
+pub record HasOpened (setup : Setup) (old : TxnState) (answer : TxnAnswer) (new : TxnState) : Type 0 where
+  pub writing : Writing
+  pub came :
+      IsRedoing setup.formulas (moment_in setup old)
+      (redo_writes (lines_in old) old.in_force (places_in setup old)) writing answer
+  pub ends : EndsRedo (after_redo old writing) answer old new
+
+-- ---- the relation
+
+-- what the engine answers, and what it leaves
+abbrev pub IsServed : Setup → TxnState → TxnCommand → TxnAnswer → TxnState → Type 0
+IsServed setup old Do.Commit answer new = HasCommitted setup old (unwrap_or old.txn []) answer new
+IsServed setup old (Do.Read a) answer new = HasRead old a answer new
+IsServed setup old Do.On answer new = HasOpened setup old answer new
+IsServed setup old command answer new = ⊥
+
+-- a decided answer leaves the counts as they are
+abbrev pub IsAnsweredAs :
+    Option TxnAnswer → Setup → TxnState → TxnCommand → TxnAnswer → TxnState → Type 0
+IsAnsweredAs (Some fixed) setup old command answer new =
+    (answer ≡ fixed) × (new ≡ after_decided old command fixed)
+IsAnsweredAs None setup old command answer new = IsServed setup old command answer new
+
+-- the answer that the state decides, or else one that the engine may give
+abbrev pub IsAnswered : Setup → TxnState → TxnCommand → TxnAnswer → TxnState → Type 0
+IsAnswered setup old command answer new =
+    IsAnsweredAs (decided old command) setup old command answer new
+
+-- an exhibit comes of recovery alone: a twin that holds, of the last seal of one of the data lines
+abbrev pub IsShownBy : Setup → TxnState → TxnCommand → Exhibit → Type 0
+IsShownBy setup old Do.On (Twin at major low high cipher tag) =
+    (old.power ≡ false)
+    × IsExhibit setup.formulas (Twin at major low high cipher tag)
+    × IsTwinOfSeal setup (places_in setup old) old.loss (view_in old) at major low high cipher tag
+IsShownBy setup old command exhibit = ⊥
+
+-- why a command has no answer: memory is wanted, and nothing was done; or it is an exhibit
+abbrev pub IsHalt : Setup → TxnState → TxnCommand → Halt → TxnState → Type 0
+IsHalt setup old command Stop.Memory new = new ≡ old
+IsHalt setup old command (Stop.Shown exhibit) new = IsShownBy setup old command exhibit
+IsHalt setup old command (Stop.Line kind) new = ⊥
+
+-- ---- a line and its answer
+
+-- the line asks for a command, and the text is that of one of its answers
+pub record IsTalkedOf (setup : Setup) (old : TxnState) (line text : List ℕ) (new : TxnState) : Type 0 where
+  pub command : TxnCommand
+  pub its_reading : reading_of_txn line ≡ Ok (Some command)
+  pub answer : TxnAnswer
+  pub its_text : text ≡ txn_text answer
+  pub answered : IsAnswered setup old command answer new
+
+-- the line asks for a command whose answer is the exhibit
+pub record IsShownOf (setup : Setup) (old : TxnState) (line : List ℕ) (exhibit : Exhibit) : Type 0 where
+  pub command : TxnCommand
+  pub its_reading : reading_of_txn line ≡ Ok (Some command)
+  pub shown : IsShownBy setup old command exhibit

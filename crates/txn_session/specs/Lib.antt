@@ -1,0 +1,7 @@
+pub mod Commands
+pub mod Answers
+pub mod State
+pub mod World
+pub mod During
+pub mod Answered
+pub mod Guarantees

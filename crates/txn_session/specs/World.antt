@@ -1,0 +1,106 @@
+-- The state of a session made from the parts that it keeps, and what always holds of these.
+use Rattle.std.specs.Prelude.{ℕ, ◌≡◌, ◌≤◌, ◌+◌, true, false, List, [], take, length, is_none, Option, Some, None, slice_index, IfSome, IsTrue, MatchOption}
+use Rattle.pmem_base.specs.declared.lines.Line.{Line}
+use Rattle.pmem_base.specs.Shape.{IsShape}
+use Rattle.pmem_base.specs.Layout as layout
+use Rattle.pmem_base.specs.Lines.{IsLine, line_at}
+use Rattle.pmem_base.specs.Registers.{IsValidRegs}
+use Rattle.board.specs.Device.{AreLinesOf}
+use Rattle.board.specs.Memory.{BoardMemory, device_of}
+use Rattle.seal_ledger.specs.Ledger.{LedgerState, IsOfShape}
+use Rattle.suite.specs.Formulas.{AreInRange}
+use Rattle.suite.specs.Setup.{Setup}
+use Rattle.plain_model.specs.State.{Memory}
+use Rattle.plain_model.specs.View.{IsMemoryOf, plain_memory}
+use Rattle.pmem_engine.specs.Invariants.{IsDurable, IsSound}
+use Rattle.pmem_engine.specs.Calls.{IsUsable}
+use Rattle.line_txn.specs.declared.store.Store.{Store}
+use Rattle.line_txn.specs.Header.{AreTargets, targets_in}
+use Rattle.line_txn.specs.Logged.{IsLogged, memory_in, targets_of}
+use Rattle.line_txn.specs.Store.{logged_lines}
+use Rattle.txn_session.specs.State.{TxnState, Entries}
+
+-- ---- what the marks say
+
+-- the targets of the header
+abbrev pub targets_in_force : Setup → Memory → List ℕ
+targets_in_force setup places =
+    let header = line_at places (logged_lines setup.shape) in targets_in header (slice_index header.0 0)
+
+-- the data lines with the bodies put into those
+abbrev pub logical_memory : Setup → Memory → Memory
+logical_memory setup places =
+    memory_in (logged_lines setup.shape) (targets_in_force setup places) places
+
+-- ---- a state of its parts
+
+-- what the program keeps of a session beside the geometry
+pub record TxnParts : Type 0 where
+  pub keys : List ℕ
+  pub board : BoardMemory
+  pub ledger : LedgerState
+  pub store : Option Store
+  pub txn : Option Entries
+
+-- the page that a store is stuck at
+abbrev pub stuck_in : Option Store → Option ℕ
+stuck_in None = None
+stuck_in (Some store) = store.stuck
+
+abbrev pub txn_of : Setup → TxnParts → TxnState
+txn_of setup parts =
+    let places = plain_memory setup parts.ledger.marks in
+    record {
+      shape = setup.shape;
+      keys = parts.keys;
+      memory = logical_memory setup places;
+      in_force = targets_in_force setup places;
+      stuck = stuck_in parts.store;
+      txn = parts.txn;
+      power = parts.board.powered;
+      fuse = parts.board.fuse;
+      loss = parts.board.regs.loss;
+      marks = parts.ledger.marks;
+      writes = parts.board.writes;
+      latches = parts.board.latches;
+      cuts = parts.board.cuts;
+    }
+
+-- ---- what it always holds
+
+-- with power on all is sound, and the store's log has the targets that are in force
+pub record IsStoreOn (setup : Setup) (parts : TxnParts) (store : Store) : Type 0 where
+  pub powered : parts.board.powered ≡ true
+  pub sound : IsSound setup store.engine parts.board.lines parts.board.regs parts.ledger
+  pub running : store.engine.down ≡ false
+  pub its_shape : store.engine.shape ≡ setup.shape
+  pub usable : IsUsable setup.shape store.engine (device_of parts.board) parts.ledger
+  pub its_log : store.logged.items ≡ targets_in_force setup (plain_memory setup parts.ledger.marks)
+  -- a transaction is open only where none is in force; it has distinct data lines
+  pub its_txn :
+      IfSome parts.txn (λ entries. (store.stuck ≡ None) × AreTargets (logged_lines setup.shape) (targets_of entries))
+
+-- with power off the device is durable, and no transaction is open
+pub record IsStoreOff (setup : Setup) (parts : TxnParts) : Type 0 where
+  pub unpowered : parts.board.powered ≡ false
+  pub durable : IsDurable setup parts.board.lines parts.board.regs parts.ledger
+  pub no_txn : parts.txn ≡ None
+
+-- the store is there exactly while power is on
+abbrev pub IsStoredBy : Setup → TxnParts → Option Store → Type 0
+IsStoredBy setup parts None = IsStoreOff setup parts
+IsStoredBy setup parts (Some store) = IsStoreOn setup parts store
+
+pub record IsTxnWorld (setup : Setup) (parts : TxnParts) : Type 0 where
+  pub whole_shape : IsShape setup.shape
+  pub whole_formulas : AreInRange setup.formulas
+  pub whole_lines : AreLinesOf (layout.device_lines setup.shape) parts.board.lines
+  pub valid_regs : IsValidRegs setup.shape parts.board.regs
+  pub few_armed : length parts.board.regs.group.items ≤ 3
+  pub ledger : IsOfShape setup.shape parts.ledger
+  pub no_exhibit : IsTrue (is_none parts.ledger.exhibit)
+  pub places : IsMemoryOf setup parts.ledger.marks (plain_memory setup parts.ledger.marks)
+  pub logged :
+      let memory = plain_memory setup parts.ledger.marks in
+      IsLogged (logged_lines setup.shape) memory (targets_in_force setup memory) (logical_memory setup memory)
+  pub chip : IsStoredBy setup parts parts.store

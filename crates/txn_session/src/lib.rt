@@ -1,0 +1,20 @@
+//! A session over a memory that is written by transactions: the commands that its lines spell, what each answers,
+//! and the texts of the answers.
+#![tactic(auto)]
+
+mod answers;
+mod calls;
+mod commands;
+mod committing;
+mod laws;
+mod powering;
+mod serving;
+mod talking;
+#[cfg(test)]
+mod tests;
+mod world;
+
+pub use answers::{TxnAnswer, write_txn_answer};
+pub use commands::{TxnCommand, read_txn_command};
+pub use laws::sessions_keep_transactions;
+pub use world::TxnWorld;

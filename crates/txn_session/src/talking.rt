@@ -1,0 +1,62 @@
+//! The session, line by line.
+ghost use Rattle.std.specs.Prelude.{◌≡◌, IfOk, IfErr};
+ghost use Rattle.txn_session.specs.State.{setup_in};
+ghost use Rattle.txn_session.specs.Answered.{IsAnswered, IsHalt};
+
+use crate::answers::{TxnAnswer, write_txn_answer};
+use crate::commands::{TxnCommand, read_txn_command};
+use crate::world::TxnWorld;
+use arrayvec::ArrayVec;
+use pmem_base::MemFault;
+use std::alloc::Global;
+use suite::Suite;
+use trace_text::{Halt, TEXT_BYTES, Talk};
+
+impl<S: Suite + Drop> TxnWorld<S> {
+    /// What a command answers.
+    fn answer(&mut self, alloc: Global, command: &TxnCommand) -> Result<TxnAnswer, Halt>
+        ensures answered { IfOk result (λ answer. IsAnswered (setup_in S.formulas_of self.old) self.old command.now answer self.new) }
+        ensures halted { IfErr result (λ halt. IsHalt (setup_in S.formulas_of self.old) self.old command.now halt self.new) }
+    {
+        match command {
+            TxnCommand::Begin => Ok(self.begin()),
+            TxnCommand::Put { at, line } => Ok(self.put(*at, line)),
+            TxnCommand::Commit => match self.commit() {
+                Ok(answer) => Ok(answer),
+                Err(MemFault) => Err(Halt::Memory),
+            },
+            TxnCommand::Abort => Ok(self.abort()),
+            TxnCommand::Read { at } => Ok(self.read(*at)),
+            TxnCommand::Cut { n } => Ok(self.cut(*n)),
+            TxnCommand::Off => Ok(self.off()),
+            TxnCommand::On => self.on(alloc),
+        }
+    }
+}
+
+impl<S: Suite + Drop> Talk for TxnWorld<S> {
+    ghost use Rattle.txn_session.specs.Commands.{sort_of_txn};
+    ghost use Rattle.txn_session.specs.State.{setup_in};
+    ghost use Rattle.txn_session.specs.Answered.{IsTalkedOf, IsShownOf};
+
+    ghost sort_of = { sort_of_txn };
+
+    ghost answers = { λ old line text new. IsTalkedOf (setup_in S.formulas_of old) old line text new };
+
+    ghost shows = { λ old line exhibit. IsShownOf (setup_in S.formulas_of old) old line exhibit };
+
+    fn talk(
+        &mut self,
+        alloc: Global,
+        line: &[u8],
+    ) -> Result<Option<ArrayVec<u8, TEXT_BYTES>>, Halt> {
+        match read_txn_command(line) {
+            Err(kind) => Err(Halt::Line(kind)),
+            Ok(None) => Ok(None),
+            Ok(Some(command)) => {
+                let answer = self.answer(alloc, &command)?;
+                Ok(Some(write_txn_answer(&answer)))
+            }
+        }
+    }
+}
