@@ -35,7 +35,7 @@ use Rattle.line_txn.specs.Header.{IsHeader}
 use Rattle.line_txn.specs.Edits.{redoing_edits}
 use Rattle.line_txn.specs.Store.{HasOpened, HasStarted as HasOpenedBy, HasFailedRedo, IsOpenedBy}
 use Rattle.watched_board.specs.Watching.{steps_in}
-use Rattle.wear_session.specs.Answered.{Writing, burnt, read_steps}
+use Rattle.wear_session.specs.Answered.{Writing, read_steps}
 use Rattle.wear_session.proofs.Seen.{setup_under}
 use Rattle.wear_session.proofs.Twins.{tried_line, seal_twin}
 use Rattle.wear_session.proofs.EngineWrites.{fewer_within, memory_done, read_line, read_cut}
@@ -47,7 +47,7 @@ use Rattle.txn_session.specs.declared.answers.TxnAnswer.TheVariants as Say
 use Rattle.txn_session.specs.During.{HasOpenedAfter, started_as}
 use Rattle.txn_session.specs.State.{TxnState, setup_in}
 use Rattle.txn_session.specs.World.{TxnParts, IsTxnWorld, stuck_in, txn_of}
-use Rattle.txn_session.specs.Answered.{IsAnswered, IsShownBy, GoesTo, HasOpened as HasOpenedAs, after_redo}
+use Rattle.txn_session.specs.Answered.{IsAnswered, IsShownBy, CanWantMemory, GoesTo, HasOpened as HasOpenedAs, after_redo}
 use Rattle.txn_session.proofs.Rooms.{reserved_state}
 use Rattle.txn_session.proofs.Seen.{on_undecided, served, seen_from, held_under}
 use Rattle.txn_session.proofs.EngineEdits.{IsCutAt, EndsAt}
@@ -320,6 +320,7 @@ module _ (c : OnCall) where
         state.dark_world c nothing_done (state.still_come c marks) rested refl durable (few_by (without_group p.board.regs) it.regs (omega arith)),
         (
           (state.off c).unpowered,
+          within,
           it.twin,
           seal_twin setup p.board.regs p.ledger places p.board.regs.loss at major low high cipher tag
               (state.world c).whole_formulas (state.off c).durable.mendable.anchored (state.world c).places within made.0,
@@ -380,6 +381,10 @@ module _ (c : OnCall) where
       said_as c.board (Some store) (λ k. Say.Stuck page k)
       (subst (λ o. MatchOption o (Exit c.board (Some store) (Say.Opened opened.redone (steps_in c.taken)))
       (λ page. Exit c.board (Some store) (Say.Stuck page (steps_in c.taken)))) there (outcome_as (Ok (store, opened)) is))
+
+  -- the answer wasn't decided, so memory may be wanted for it
+  pub wanted_on : CanWantMemory c.now Do.On
+  wanted_on = subst (λ (w : TxnState). CanWantMemory w Do.On) now_is (refl, on_undecided old (state.off c).unpowered)
 
   -- no store is there, as before
   dark_exit : (board : BoardMemory) (answer : TxnAnswer) → Exit board None answer → Exit board p.store answer

@@ -1,6 +1,6 @@
 -- Which answers a command has in which states, and the state after: where the state alone decides, the first
 -- condition that holds does; else the engine gives one of the answers that are listed.
-use Rattle.std.specs.Prelude.{ℕ, ◌≡◌, ◌≤◌, ◌<◌, ◌+◌, ◌*◌, ◌==◌, nat_lt, Bool, true, false, List, [], ◌∷◌, ◌++◌, length, Option, Some, None, option_map, is_some, unwrap_or, IfSome, Ok, ⊤, if◌then◌else◌}
+use Rattle.std.specs.Prelude.{ℕ, ◌≡◌, ◌≤◌, ◌<◌, ◌+◌, ◌*◌, ◌==◌, nat_lt, Bool, true, false, List, [], ◌∷◌, ◌++◌, length, Option, Some, None, option_map, is_some, unwrap_or, IfSome, Ok, ⊤, IsTrue, if◌then◌else◌}
 use Rattle.std.specs.List.{list_any}
 use Rattle.pmem_base.specs.declared.lines.Line.{Line}
 use Rattle.pmem_base.specs.declared.commands.Posted.{Posted}
@@ -9,6 +9,7 @@ use Rattle.pmem_base.specs.declared.answers.Exhibit.{Exhibit}
 use Rattle.pmem_base.specs.declared.answers.Exhibit.TheVariants.{Twin}
 use Rattle.pmem_base.specs.Counts.{HasRisen}
 use Rattle.pmem_base.specs.Shape.{Shape}
+use Rattle.pmem_base.specs.Layout.{data_lines}
 use Rattle.pmem_base.specs.Lines.{line_at}
 use Rattle.watched_board.specs.Watching.{counted}
 use Rattle.suite.specs.Formulas.{Formulas}
@@ -257,14 +258,24 @@ IsAnswered setup old command answer new =
 -- an exhibit comes of recovery alone: a twin that holds, of the last seal of one of the data lines
 abbrev pub IsShownBy : Setup → TxnState → TxnCommand → Exhibit → Type 0
 IsShownBy setup old Do.On (Twin at major low high cipher tag) =
-    (old.power ≡ false)
+    (old.power ≡ false) × (at < data_lines setup.shape)
     × IsExhibit setup.formulas (Twin at major low high cipher tag)
     × IsTwinOfSeal setup (places_in setup old) old.loss (view_in old) at major low high cipher tag
 IsShownBy setup old command exhibit = ⊥
 
+-- whether a command may want memory
+abbrev pub takes_memory : TxnCommand → Bool
+takes_memory Do.Commit = true
+takes_memory Do.On = true
+takes_memory command = false
+
+-- a command may want memory where the state doesn't decide its answer
+abbrev pub CanWantMemory : TxnState → TxnCommand → Type 0
+CanWantMemory old command = IsTrue (takes_memory command) × (decided old command ≡ None)
+
 -- why a command has no answer: memory is wanted, and nothing was done; or it is an exhibit
 abbrev pub IsHalt : Setup → TxnState → TxnCommand → Halt → TxnState → Type 0
-IsHalt setup old command Stop.Memory new = new ≡ old
+IsHalt setup old command Stop.Memory new = CanWantMemory old command × (new ≡ old)
 IsHalt setup old command (Stop.Shown exhibit) new = IsShownBy setup old command exhibit
 IsHalt setup old command (Stop.Line kind) new = ⊥
 
@@ -283,3 +294,9 @@ pub record IsShownOf (setup : Setup) (old : TxnState) (line : List ℕ) (exhibit
   pub command : TxnCommand
   pub its_reading : reading_of_txn line ≡ Ok (Some command)
   pub shown : IsShownBy setup old command exhibit
+
+-- the line asks for a command that may want memory
+pub record IsStarvedOf (old : TxnState) (line : List ℕ) : Type 0 where
+  pub command : TxnCommand
+  pub its_reading : reading_of_txn line ≡ Ok (Some command)
+  pub wanted : CanWantMemory old command

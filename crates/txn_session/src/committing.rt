@@ -4,7 +4,7 @@ ghost use Rattle.std.specs.List.{list_any, position_from};
 ghost use Rattle.txn_session.specs.declared.commands.TxnCommand.TheVariants as Do;
 ghost use Rattle.txn_session.specs.State.{setup_in, with_line};
 ghost use Rattle.wear_session.specs.Answered.{is_own_seal};
-ghost use Rattle.txn_session.specs.Answered.{IsAnswered, is_full};
+ghost use Rattle.txn_session.specs.Answered.{IsAnswered, is_full, CanWantMemory};
 
 use crate::answers::TxnAnswer;
 use crate::calls;
@@ -123,6 +123,7 @@ impl<S: Suite + Drop> TxnWorld<S> {
     pub(crate) fn commit(&mut self) -> Result<TxnAnswer, MemFault>
         ensures answered { IfOk result (λ answer. IsAnswered (setup_in S.formulas_of self.old) self.old Do.Commit answer self.new) }
         ensures err { OnErr result (self.new ≡ self.old) }
+        ensures wanting { OnErr result (CanWantMemory self.old Do.Commit) }
     {
         let Some(store) = &mut self.store else {
             return Ok(TxnAnswer::Off);

@@ -37,13 +37,15 @@ impl<S: Suite + Drop> TxnWorld<S> {
 impl<S: Suite + Drop> Talk for TxnWorld<S> {
     ghost use Rattle.txn_session.specs.Commands.{sort_of_txn};
     ghost use Rattle.txn_session.specs.State.{setup_in};
-    ghost use Rattle.txn_session.specs.Answered.{IsTalkedOf, IsShownOf};
+    ghost use Rattle.txn_session.specs.Answered.{IsTalkedOf, IsShownOf, IsStarvedOf};
 
     ghost sort_of = { sort_of_txn };
 
     ghost answers = { λ old line text new. IsTalkedOf (setup_in S.formulas_of old) old line text new };
 
     ghost shows = { λ old line exhibit. IsShownOf (setup_in S.formulas_of old) old line exhibit };
+
+    ghost wants_memory = { λ old line. IsStarvedOf old line };
 
     fn talk(
         &mut self,

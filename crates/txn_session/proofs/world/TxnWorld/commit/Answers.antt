@@ -1,5 +1,5 @@
 -- The open transaction is committed; or its store is stuck, it is spent, or power is cut.
-use Rattle.std.proofs.Common.{rules, arith, ◌≡◌, ◌⊎◌, inl, inr, true, false, length, drop, Ok, Err, sym, ap, subst, ◌∙◌}
+use Rattle.std.proofs.Common.{rules, arith, ◌≡◌, ◌⊎◌, inl, inr, true, false, length, drop, Err, sym, ap, subst, ◌∙◌}
 use Rattle.std.specs.Prelude.{option_map}
 use Rattle.std.specs.List.{list_any}
 use Rattle.std.proofs.lemmas.Bool.{true≢false}
@@ -69,6 +69,7 @@ returns-in-Ok-Applied g c =
     record {
       answered = (applied_exit (call g ((goal.at.returns-in-Ok-Applied g c).After-steps-steps)) (let h = c.in-Ok-Applied.is in search rules)).1;
       err = tt;
+      wanting = tt;
     }
 
 pub invariant_of-self-in-Ok-Stuck : goal.invariant_of-self-in-Ok-Stuck

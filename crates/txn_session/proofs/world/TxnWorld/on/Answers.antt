@@ -11,7 +11,7 @@ use Rattle.line_txn.specs.declared.store.TxnFault.TheVariants as Txn
 use Rattle.wear_session.proofs.Starts.{none_of}
 use Rattle.txn_session.specs.declared.calls.StartFault.TheVariants as Start
 use Rattle.txn_session.proofs.Starts.{OnCall}
-use Rattle.txn_session.proofs.Opened.{open_held, open_exit, stuck_exit, cut_exit, wanted_exit, twin_exit, possible}
+use Rattle.txn_session.proofs.Opened.{open_held, open_exit, stuck_exit, cut_exit, wanted_on, wanted_exit, twin_exit, possible}
 use Rattle.txn_session.proofs.world.TxnWorld.on.Given.{Over}
 use Rattle.txn_session.proofs.world.TxnWorld.on.Goals.{After-steps-steps, in-Some, in-None, In-Err-Recovery, In-Err-Opening, In-Engine}
 use Rattle.txn_session.proofs.world.TxnWorld.on.Goals as goal
@@ -98,8 +98,11 @@ invariant_of-self-in-Memory g c =
 
 pub returns-in-Memory-clause-halted : goal.returns-in-Memory-clause-halted
 returns-in-Memory-clause-halted g c =
-    (wanted_exit (call g ((goal.at.returns-in-Memory-clause-halted g c).After-steps-steps)) (memory_of c.rest.new.self) c.rest.ensures
-    (recovery_fault g ((goal.at.returns-in-Memory-clause-halted g c).In-Err-Recovery) ∙ ap (λ f. Err (Start.Recovery f)) c.in-Memory.is)).1
+    let its = call g ((goal.at.returns-in-Memory-clause-halted g c).After-steps-steps) in (
+      wanted_on its,
+      (wanted_exit its (memory_of c.rest.new.self) c.rest.ensures
+          (recovery_fault g ((goal.at.returns-in-Memory-clause-halted g c).In-Err-Recovery) ∙ ap (λ f. Err (Start.Recovery f)) c.in-Memory.is)).1,
+    )
 
 pub invariant_of-self-in-Twin : goal.invariant_of-self-in-Twin
 invariant_of-self-in-Twin g c =
