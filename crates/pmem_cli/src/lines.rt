@@ -1,5 +1,5 @@
 //! The lines of a source, pulled in chunks.
-ghost use Rattle.std.specs.Prelude.{◌≡◌, ◌<◌, ◌≤◌, ◌+◌, ◌++◌, ◌⊎◌, ◌↔◌, [], length, IfOk, OnErr, IsTrue, Contains, false};
+ghost use Rattle.std.specs.Prelude.{◌≡◌, ◌<◌, ◌≤◌, ◌+◌, ◌++◌, ◌⊎◌, ◌↔◌, [], length, take, drop, IfOk, OnErr, IsTrue, Contains, false};
 ghost use Rattle.std.specs.List.{position_or_len};
 ghost use Rattle.std.specs.Io.KnownBytes.{Keeps, IsAtEnd, prepend_known};
 ghost use Rattle.plain_model.specs.Lines.{is_line_end};
@@ -10,12 +10,16 @@ ghost use Rattle.pmem_cli.specs.RepliesFirst.{PullsWithinLine};
 use crate::source::{Failed, Source};
 use arrayvec::ArrayVec;
 use std::marker::Model;
+use std::simd::prelude::*;
 
 /// The bytes that a line may have before its LF.
 pub(crate) const LINE_BYTES: usize = 1024;
 
 /// The bytes that one pull may bring.
 const CHUNK_BYTES: usize = 16_384;
+
+/// The bytes that are looked at together.
+const LANES: usize = 16;
 
 /// What ended a piece of a line.
 #[derive(Clone, Copy, Debug, PartialEq, Eq)]
@@ -59,13 +63,36 @@ impl Model for LineReader {
     ghost invariant = { λ reader. (reader.at ≤ reader.end) × (reader.end ≤ 16384) };
 }
 
+/// The number of bytes before the first LF of those that are looked at together, or all of them.
+fn length_within_lanes(bytes: &[u8], at: usize) -> usize
+    requires { at + LANES ≤ length bytes.now }
+    ensures { result ≡ position_or_len is_line_end (take LANES (drop at bytes.now)) }
+{
+    let ends = u8x16::from_slice(&bytes[at..])
+        .simd_eq(u8x16::splat(b'\n'))
+        .to_bitmask();
+    if ends == 0 {
+        LANES
+    } else {
+        ends.trailing_zeros() as usize
+    }
+}
+
 /// The number of bytes before the first LF.
 fn length_within(bytes: &[u8]) -> usize
     ensures count { result ≡ position_or_len is_line_end bytes.now }
     ensures within { result ≤ length bytes.now }
 {
-    for (i, byte) in bytes.iter().enumerate() {
-        if *byte == b'\n' {
+    let mut at = 0;
+    while bytes.len() - at >= LANES {
+        let length = length_within_lanes(bytes, at);
+        if length < LANES {
+            return at + length;
+        }
+        at += LANES;
+    }
+    for i in at..bytes.len() {
+        if bytes[i] == b'\n' {
             return i;
         }
     }

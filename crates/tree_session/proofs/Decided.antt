@@ -162,12 +162,6 @@ module _ (c : QuietCall) where
       (still (Do.Back d) Say.NoSnap
       (back_when d true (lt-ltb d (tree_size c.geometry) low) ∙ ap (λ (s : Option (List Line)). if is_none s then Some Say.NoSnap else Some Say.Ok) missing) refl)
 
-  pub back_none_held : (board : BoardMemory) (d : ℕ) → c.parts.board.snapshot ≡ None
-      → board ≡ with_lines c.parts.board (restored_lines c.parts.board.lines c.parts.board.snapshot d) → IsTreeWorld setup (record c.parts { board = board })
-  back_none_held board d missing is =
-      let same : board ≡ c.parts.board = is ∙ ap (λ (s : Option (List Line)). with_lines c.parts.board (restored_lines c.parts.board.lines s d)) missing in
-      subst (λ (b : BoardMemory). IsTreeWorld setup (record c.parts { board = b })) (sym same) c.world
-
   -- memory is wanted for a first snapshot
   pub snap_wanted : {T E : Type 0} (answer : Result T E) → IsErr answer → OnErr answer (c.parts.board.snapshot ≡ None) → CanWantMemory c.now Do.Snap
   snap_wanted answer error first =

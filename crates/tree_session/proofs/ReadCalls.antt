@@ -92,10 +92,3 @@ module _ (r : ReadCall) where
         (halts r.world.formulas_of r.world.geometry r.world.parts (left_resting (call r.world)) r.world.now r.world.keys (Do.Read r.at) halt found.0
         r.world.watch.exhibit r.world.is r.world.same_keys refl told found.1 (shown_minors (call r.world) r.at r.within found.0 found.1 (was (Err Fail.Shown) is))
         (shown_done (call r.world) r.at r.within found.0 found.1 (was (Err Fail.Shown) is)))
-
-  -- an engine that isn't down answers neither Down nor Spent
-  pub not_down : r.answer ≡ Err Fail.Down → ⊥
-  not_down is = ((was (Err Fail.Down) is).done (trusted_from (call r.world)).not_down).answered (trusted_from (call r.world))
-
-  pub not_spent : r.answer ≡ Err Fail.Spent → ⊥
-  not_spent is = ((was (Err Fail.Spent) is).done (trusted_from (call r.world)).not_down).answered (trusted_from (call r.world))

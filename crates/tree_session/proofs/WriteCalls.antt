@@ -110,10 +110,3 @@ module _ (r : WriteCall) where
         (halts r.world.formulas_of r.world.geometry r.world.parts (left_resting (call r.world)) r.world.now r.world.keys (Do.Write r.at r.line) halt found.0
         r.world.watch.exhibit r.world.is r.world.same_keys refl told found.1 (unwritten_shown_minors (call r.world) r.at r.within r.line r.whole found.0 found.1 (was (Err Fail.Shown) is))
         (unwritten_shown_done (call r.world) r.at r.within r.line r.whole found.0 found.1 (was (Err Fail.Shown) is)))
-
-  -- an engine that isn't down answers neither Down nor Tag
-  pub not_down : r.answer ≡ Err Fail.Down → ⊥
-  not_down is = ((was (Err Fail.Down) is).done (trusted_from (call r.world)).not_down).answered (trusted_from (call r.world))
-
-  pub not_tag : (t : ℕ) → r.answer ≡ Err (Fail.Tag t) → ⊥
-  not_tag t is = ((was (Err (Fail.Tag t)) is).done (trusted_from (call r.world)).not_down).answered (trusted_from (call r.world))

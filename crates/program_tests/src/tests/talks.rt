@@ -1,5 +1,5 @@
 //! Sessions in a language of their own, over memory.
-ghost use Rattle.std.specs.Prelude.{ℕ, List, [], ◌∷◌, ◌++◌, ◌≡◌, ◌+◌, ◌%◌, ⊤};
+ghost use Rattle.std.specs.Prelude.{ℕ, List, [], ◌∷◌, ◌++◌, ◌≡◌, ◌+◌, ◌%◌, ⊤, codes};
 ghost use Rattle.program_tests.specs.Echoes.{sort_of_echo};
 
 use super::runs::{ByteSink, ByteSource};
@@ -27,6 +27,8 @@ impl Talk for Echo {
     ghost answers = { λ old line text new. (text ≡ line ++ (48 + old.said % 10) ∷ []) × (new.said ≡ (old.said + 1) % 256) };
 
     ghost shows = { λ old line exhibit. ⊤ };
+
+    ghost wants_memory = { λ old line. line ≡ codes "m" };
 
     fn talk(
         &mut self,
