@@ -3,6 +3,7 @@ mod levelled;
 mod levelling;
 mod tree;
 mod tree_engine;
+mod txn;
 mod wear;
 
 use collision_witness::shown_text;

@@ -35,7 +35,7 @@ use Rattle.line_txn.specs.Header.{IsHeader}
 use Rattle.line_txn.specs.Edits.{redoing_edits}
 use Rattle.line_txn.specs.Store.{HasOpened, HasStarted as HasOpenedBy, HasFailedRedo, IsOpenedBy}
 use Rattle.watched_board.specs.Watching.{steps_in}
-use Rattle.wear_session.specs.Answered.{Writing, burnt, read_steps}
+use Rattle.wear_session.specs.Answered.{Writing, read_steps}
 use Rattle.wear_session.proofs.Seen.{setup_under}
 use Rattle.wear_session.proofs.Twins.{tried_line, seal_twin}
 use Rattle.wear_session.proofs.EngineWrites.{fewer_within, memory_done, read_line, read_cut}

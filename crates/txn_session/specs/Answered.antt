@@ -117,7 +117,7 @@ pub record RisesBySteps (steps : ℕ) (old new : TxnState) : Type 0 where
   pub writes : new.writes ≡ counted old.writes written
   pub latches : new.latches ≡ counted old.latches latched
 
--- steps were done, at most `most` and no more than the fuse had left, and nothing was cut
+-- so many steps were done, which are at most so many and which the fuse let, and nothing was cut
 pub record GoesTo (expected : TxnState) (steps most : ℕ) (old new : TxnState) : Type 0 where
   pub becomes : IsButForCounts (record expected { fuse = burnt old.fuse steps }) new
   pub rises : RisesBySteps steps old new
@@ -125,7 +125,7 @@ pub record GoesTo (expected : TxnState) (steps most : ℕ) (old new : TxnState) 
   pub lasting : IfSome old.fuse (λ left. steps ≤ left)
   pub no_cut : new.cuts ≡ old.cuts
 
--- power was cut with the fuse used up, after fewer than `most` steps
+-- power was cut at the end of the fuse, after fewer steps than so many
 pub record IsCutOff (expected : TxnState) (steps most : ℕ) (old new : TxnState) : Type 0 where
   pub becomes : IsButForCounts (without_power expected) new
   pub rises : RisesBySteps steps old new

@@ -4,7 +4,7 @@ ghost use Rattle.std.specs.List.{list_any, position_from};
 ghost use Rattle.txn_session.specs.declared.commands.TxnCommand.TheVariants as Do;
 ghost use Rattle.txn_session.specs.State.{setup_in, with_line};
 ghost use Rattle.wear_session.specs.Answered.{is_own_seal};
-ghost use Rattle.txn_session.specs.Answered.{IsAnswered, CanWantMemory, is_full};
+ghost use Rattle.txn_session.specs.Answered.{IsAnswered, is_full, CanWantMemory};
 
 use crate::answers::TxnAnswer;
 use crate::calls;

@@ -10,8 +10,6 @@ mod laws;
 mod powering;
 mod serving;
 mod talking;
-#[cfg(test)]
-mod tests;
 mod world;
 
 pub use answers::{TxnAnswer, write_txn_answer};

@@ -1,5 +1,6 @@
 //! Random sessions of 300 commands.
-use super::{converse, new_session};
+use super::super::converse;
+use super::new_session;
 use std::test::Fail;
 
 /// Of 1 level, 1 set and 1 way.

@@ -1,5 +1,7 @@
 //! Counters that are used up: a store that is stuck, and a commit that is spent.
-use super::{ask, begins, converse, new_session, spelled};
+use super::super::{ask, converse, spelled};
+use super::{begins, new_session};
+use crate::tests::equal;
 use std::alloc::Global;
 use std::process::Abort;
 use std::test::Fail;
@@ -96,7 +98,7 @@ fn read_pages<T: Talk>(
         let read = format!(in alloc; "read {at}")?;
         let front = spelled(alloc, format!(in alloc; "line [{byte:02x}]")?.as_str())?;
         let is_there = begins(alloc, session, read.as_str(), front.as_str())?;
-        assert!(rt; is_there, "page {page}");
+        equal(rt, is_there, true);
     }
     Ok(())
 }
@@ -110,7 +112,7 @@ fn stick(rt: &impl Abort, alloc: Global, page: u8) -> Result<(), Fail> {
         ask(rt, alloc, &mut session, "begin", "ok")?;
         ask(rt, alloc, &mut session, put.as_str(), "ok")?;
         let is_done = begins(alloc, &mut session, "commit", "ok ")?;
-        assert!(rt; is_done, "page {page}");
+        equal(rt, is_done, true);
     }
     put_pages(rt, alloc, &mut session, 1)?;
     converse(rt, alloc, &mut session, "cut 90: ok / commit: cut kept 90")?;
@@ -132,7 +134,7 @@ fn stick(rt: &impl Abort, alloc: Global, page: u8) -> Result<(), Fail> {
             stuck.as_str()
         };
         let is_so = begins(alloc, &mut session, command, front)?;
-        assert!(rt; is_so, "{command} at page {page}");
+        equal(rt, is_so, true);
         if command == "begin" {
             read_pages(rt, alloc, &mut session, 0x60)?;
         }

@@ -1,9 +1,11 @@
 //! Each answer of each command, and what lines ask for.
-use super::{converse, new_session, spelled};
-use crate::{TxnCommand, read_txn_command};
+use super::super::{converse, spelled};
+use super::new_session;
+use crate::tests::equal;
 use pmem_base::{Exhibit, Kind, Line};
 use std::test::Fail;
 use trace_text::{Halt, Talk};
+use txn_session::{TxnCommand, read_txn_command};
 
 /// Every answer but `stuck`, `spent` and a twin.
 const EACH_ANSWER: &str =
@@ -87,7 +89,7 @@ fn twin_ends_a_session(rt: HostRuntime) -> Result<(), Fail> {
     else {
         return Err(Fail::new("no twin"));
     };
-    assert_eq!(rt; (at, major, low, high), (192, 0, 0, 1));
+    equal(&rt, (at, major, low, high), (192, 0, 0, 1));
     Ok(())
 }
 
@@ -131,14 +133,14 @@ fn lines_are_commands_or_faulty(rt: HostRuntime) -> Result<(), Fail> {
     ] {
         assert_eq!(rt; read_txn_command(line.as_bytes()), wanted, "{line}");
     }
-    assert_eq!(rt; read_txn_command(&[b'#'; 1024]), Ok(None));
-    assert_eq!(rt; read_txn_command(&[b'#'; 1025]), Err(Kind::Long));
+    equal(&rt, read_txn_command(&[b'#'; 1024]), Ok(None));
+    equal(&rt, read_txn_command(&[b'#'; 1025]), Err(Kind::Long));
     let line = spelled(rt.alloc(), "put 5 [Aa]")?;
     let put = TxnCommand::Put {
         at: 5,
         line: Line([0xaa; 64]),
     };
-    assert_eq!(rt; read_txn_command(line.as_bytes()), Ok(Some(put)));
+    equal(&rt, read_txn_command(line.as_bytes()), Ok(Some(put)));
     Ok(())
 }
 

@@ -1,5 +1,7 @@
 //! A cut at each step of a commit of fifteen lines, and of its redo: then all lines are read.
-use super::{ask, begins, converse, new_session, spelled};
+use super::super::{ask, converse, spelled};
+use super::{begins, new_session};
+use crate::tests::equal;
 use std::alloc::Global;
 use std::process::Abort;
 use std::test::Fail;
@@ -43,7 +45,7 @@ fn read_lines<T: Talk>(
         let command = format!(in alloc; "read {line}")?;
         let front = spelled(alloc, format!(in alloc; "line [{byte:02x}]")?.as_str())?;
         let is_there = begins(alloc, session, command.as_str(), front.as_str())?;
-        assert!(rt; is_there, "line {line}");
+        equal(rt, is_there, true);
     }
     Ok(())
 }
@@ -65,7 +67,7 @@ fn cut_commits(rt: &impl Abort, alloc: Global, from: u8, to: u8) -> Result<(), F
             "on 0 "
         };
         let is_on = begins(alloc, &mut session, "on", redone)?;
-        assert!(rt; is_on, "at {fuse}");
+        equal(rt, is_on, true);
         read_lines(rt, alloc, &mut session, whole, fuse / 2 == 31)?;
     }
     Ok(())
@@ -103,7 +105,7 @@ fn each_cut_of_a_redo_keeps_all(rt: HostRuntime) -> Result<(), Fail> {
         }
         cuts = cuts.wrapping_add(1);
     }
-    assert_eq!(rt; cuts, 83);
+    equal(&rt, cuts, 83);
     read_lines(&rt, rt.alloc(), &mut session, true, true)
 }
 
