@@ -6,8 +6,6 @@ mod edits;
 mod header;
 mod laws;
 mod store;
-#[cfg(test)]
-mod tests;
 
 pub use edits::Edit;
 pub use header::{header_line, read_header};

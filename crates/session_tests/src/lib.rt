@@ -1,5 +1,5 @@
-//! Tests of levelled lines, of the engine over a counter tree, and of the sessions over both and over lines that are
-//! written by transactions, by their public calls.
+//! Tests of levelled lines, of lines that are written by transactions, of the engine over a counter tree, and of the
+//! sessions over each, by their public calls.
 #![tactic(auto)]
 
 #[cfg(test)]

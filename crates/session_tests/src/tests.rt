@@ -1,6 +1,9 @@
 //! Sessions over small memories: the texts of their answers, as another program of the same rules gives them.
+mod bench;
+mod headers;
 mod levelled;
 mod levelling;
+mod transactions;
 mod tree;
 mod tree_engine;
 mod txn;

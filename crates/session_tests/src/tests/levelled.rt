@@ -1,73 +1,21 @@
 //! A memory of 1,022 logical lines under the weak suite: written, moved, cut at each step of a write with its
 //! move, recovered and read.
-ghost use Rattle.std.specs.Prelude.{ℕ, ◌≡◌, ◌<◌, ◌≤◌, IsSome, IfOk, length};
+ghost use Rattle.std.specs.Prelude.{◌≡◌, ◌≤◌, IfOk};
 ghost use Rattle.pmem_base.specs.Geo.{shape_of};
-ghost use Rattle.pmem_base.specs.Layout.{data_lines, meta_lines, device_lines};
-ghost use Rattle.pmem_base.specs.Marks.{last_seal};
-ghost use Rattle.pmem_base.specs.Registers.{IsValidRegs};
 ghost use Rattle.board.specs.Memory.{device_of};
 ghost use Rattle.board.specs.MemBoard.{memory_of};
-ghost use Rattle.seal_ledger.specs.View.{ledger_of};
 ghost use Rattle.pmem_engine.specs.Calls.{IsReady};
 
+use super::bench::{Bench, fresh, recovered, steps};
 use crate::tests::equal;
-use board::{Board, MemBoard};
-use pmem_base::{Ctr, Geo, Line};
+use board::Board;
+use pmem_base::{Ctr, Line};
 use pmem_engine::{Engine, Fault};
-use pmem_recovery::{format, recover};
-use seal_ledger::{Audit, Ledger};
+use seal_ledger::Audit;
 use start_gap::{GapFault, Gapped, Moved, Wear, WriteFault, place};
 use std::alloc::Global;
 use std::process::Abort;
 use std::test::Fail;
-use suite::WeakSuite;
-
-/// A memory with what belongs to it.
-#[derive(Drop)]
-struct Bench {
-    geo: Geo,
-    board: MemBoard,
-    suite: WeakSuite,
-    ledger: Ledger,
-    ghost its_size: { length (memory_of board).lines ≡ device_lines (shape_of geo) },
-    ghost its_regs: { IsValidRegs (shape_of geo) (memory_of board).regs },
-    ghost its_truth: { length (ledger_of ledger).truth ≡ meta_lines (shape_of geo) },
-    ghost its_lines: { (ledger_of ledger).data_lines ≡ data_lines (shape_of geo) },
-    ghost each_sealed: { (a : ℕ) → a < data_lines (shape_of geo) → IsSome (last_seal (ledger_of ledger).marks a) },
-}
-
-/// A new memory.
-fn fresh(alloc: Global) -> Result<Bench, Fail> {
-    let geo = Geo::new(2, 4, 2, 4, 0)?;
-    let mut board = MemBoard::new(alloc, geo.size())?;
-    let mut suite = WeakSuite::new(&[0; 16], &[0x10], false);
-    let mut ledger = Ledger::new(alloc, &geo)?;
-    format(alloc, &geo, &mut board, &mut suite, &mut ledger)?;
-    Ok(Bench {
-        geo,
-        board,
-        suite,
-        ledger,
-    })
-}
-
-/// Recovers the memory.
-fn recovered(alloc: Global, bench: &mut Bench) -> Result<Engine, Fail>
-    ensures geo { shape_of bench.new.geo ≡ shape_of bench.old.geo }
-    ensures shape { IfOk result (λ engine. engine.shape ≡ shape_of bench.old.geo) }
-    ensures ready { IfOk result (λ engine. IsReady engine.shape engine (device_of (memory_of bench.new.board))) }
-{
-    match recover(
-        alloc,
-        &bench.geo,
-        &mut bench.board,
-        &mut bench.suite,
-        &bench.ledger,
-    ) {
-        Ok((engine, _)) => Ok(engine),
-        Err(_) => Err(Fail::new("not recovered")),
-    }
-}
 
 /// Opens the lines of an engine over the memory, with a move at each `every`th write.
 fn open(bench: &mut Bench, engine: Engine, every: u32) -> Result<Gapped, GapFault>
@@ -99,12 +47,6 @@ fn opened(alloc: Global, bench: &mut Bench, every: u32) -> Result<Gapped, Fail>
         Ok(gapped) => Ok(gapped),
         Err(_) => Err(Fail::new("not opened")),
     }
-}
-
-/// How many persist steps were made.
-fn steps(bench: &Bench) -> u64 {
-    let (_, writes, latches) = bench.board.counts();
-    writes.wrapping_add(latches)
 }
 
 /// Writes a line.
@@ -171,7 +113,7 @@ fn read(rt: &impl Abort, bench: &mut Bench, gapped: &mut Gapped, line: u32, plai
 // The first line and then the last one are written, each with a move.
 #[test]
 fn lines_are_written_and_move(rt: HostRuntime) -> Result<(), Fail> {
-    let mut bench = fresh(rt.alloc())?;
+    let mut bench = fresh(rt.alloc(), 0)?;
     let mut gapped = opened(rt.alloc(), &mut bench, 1)?;
     let before = steps(&bench);
     let first = put(&rt, &mut bench, &mut gapped, 0, &Line([0xaa; 64]));
@@ -200,7 +142,7 @@ fn lines_are_written_and_move(rt: HostRuntime) -> Result<(), Fail> {
 #[test]
 fn cuts_keep_each_line(rt: HostRuntime) -> Result<(), Fail> {
     for fuse in 0..18_u8 {
-        let mut bench = fresh(rt.alloc())?;
+        let mut bench = fresh(rt.alloc(), 0)?;
         let mut gapped = opened(rt.alloc(), &mut bench, 1)?;
         bench.board.arm(u64::from(fuse));
         let answer = put(&rt, &mut bench, &mut gapped, 0, &Line([0xaa; 64]));
@@ -231,7 +173,7 @@ fn cuts_keep_each_line(rt: HostRuntime) -> Result<(), Fail> {
 // changed it isn't read.
 #[test]
 fn faulty_records_are_told(rt: HostRuntime) -> Result<(), Fail> {
-    let mut bench = fresh(rt.alloc())?;
+    let mut bench = fresh(rt.alloc(), 0)?;
     let mut engine = recovered(rt.alloc(), &mut bench)?;
     let line = Line([1; 64]);
     assert!(rt; write_past(&rt, &mut bench, &mut engine, 1023, &line).is_ok());
@@ -241,7 +183,7 @@ fn faulty_records_are_told(rt: HostRuntime) -> Result<(), Fail> {
         Some(GapFault::BadWear { line }),
     );
     for changed in [1023, 1024 + 255] {
-        let mut bench = fresh(rt.alloc())?;
+        let mut bench = fresh(rt.alloc(), 0)?;
         assert!(rt; changed < bench.board.size());
         bench.board.poke(changed, &line);
         let engine = recovered(rt.alloc(), &mut bench)?;

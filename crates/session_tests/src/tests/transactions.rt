@@ -1,59 +1,23 @@
 //! A memory of 1,008 lines under the weak suite: transactions are committed, cut at each step of the commit and
 //! of its redo, and the lines are read.
-ghost use Rattle.std.specs.Prelude.{ℕ, ◌≡◌, ◌<◌, ◌≤◌, IsSome, IfOk, length};
+ghost use Rattle.std.specs.Prelude.{◌≡◌, IfOk};
 ghost use Rattle.pmem_base.specs.Geo.{shape_of};
-ghost use Rattle.pmem_base.specs.Layout.{data_lines, meta_lines, device_lines};
-ghost use Rattle.pmem_base.specs.Marks.{last_seal};
-ghost use Rattle.pmem_base.specs.Registers.{IsValidRegs};
 ghost use Rattle.board.specs.Memory.{device_of};
 ghost use Rattle.board.specs.MemBoard.{memory_of};
-ghost use Rattle.seal_ledger.specs.View.{ledger_of};
 ghost use Rattle.pmem_engine.specs.Calls.{IsReady};
 ghost use Rattle.line_txn.specs.Header.{AreBelow};
 ghost use Rattle.line_txn.specs.Logged.{targets_of};
 
-use crate::{CommitFault, Done, Opened, Store, TxnFault};
+use super::bench::{Bench, fresh, recovered, steps};
+use crate::tests::equal;
 use arrayvec::ArrayVec;
-use board::MemBoard;
-use pmem_base::{Geo, Line};
+use line_txn::{CommitFault, Done, Opened, Store, TxnFault};
+use pmem_base::Line;
 use pmem_engine::Fault;
-use pmem_recovery::{format, recover};
-use seal_ledger::{Audit, Ledger};
+use seal_ledger::Audit;
 use std::alloc::Global;
 use std::process::Abort;
 use std::test::Fail;
-use suite::WeakSuite;
-
-/// A memory with what belongs to it.
-#[derive(Drop)]
-struct Bench {
-    geo: Geo,
-    board: MemBoard,
-    suite: WeakSuite,
-    ledger: Ledger,
-    ghost its_size: { length (memory_of board).lines ≡ device_lines (shape_of geo) },
-    ghost its_regs: { IsValidRegs (shape_of geo) (memory_of board).regs },
-    ghost its_truth: { length (ledger_of ledger).truth ≡ meta_lines (shape_of geo) },
-    ghost its_lines: { (ledger_of ledger).data_lines ≡ data_lines (shape_of geo) },
-    ghost each_sealed: { (a : ℕ) → a < data_lines (shape_of geo) → IsSome (last_seal (ledger_of ledger).marks a) },
-}
-
-/// A new memory, with this first major counter.
-fn fresh(alloc: Global, levels: u8, major: u64) -> Result<Bench, Fail>
-    requires { levels ≤ 6 }
-{
-    let geo = Geo::new(levels, 4, 2, 4, major)?;
-    let mut board = MemBoard::new(alloc, geo.size())?;
-    let mut suite = WeakSuite::new(&[0; 16], &[0x10], false);
-    let mut ledger = Ledger::new(alloc, &geo)?;
-    format(alloc, &geo, &mut board, &mut suite, &mut ledger)?;
-    Ok(Bench {
-        geo,
-        board,
-        suite,
-        ledger,
-    })
-}
 
 /// Recovers the memory, and opens its lines.
 fn opened(rt: &impl Abort, alloc: Global, bench: &mut Bench) -> Result<(Store, Opened), Fail>
@@ -61,15 +25,7 @@ fn opened(rt: &impl Abort, alloc: Global, bench: &mut Bench) -> Result<(Store, O
     ensures shape { IfOk result (λ opened. opened.0.engine.shape ≡ shape_of bench.old.geo) }
     ensures ready { IfOk result (λ opened. IsReady opened.0.engine.shape opened.0.engine (device_of (memory_of bench.new.board))) }
 {
-    let Ok((engine, _)) = recover(
-        alloc,
-        &bench.geo,
-        &mut bench.board,
-        &mut bench.suite,
-        &bench.ledger,
-    ) else {
-        return Err(Fail::new("not recovered"));
-    };
+    let engine = recovered(alloc, bench)?;
     assert!(rt; bench.ledger.reserve(1056).is_ok());
     match Store::open(
         engine,
@@ -80,12 +36,6 @@ fn opened(rt: &impl Abort, alloc: Global, bench: &mut Bench) -> Result<(Store, O
         Ok(both) => Ok(both),
         Err(_) => Err(Fail::new("not opened")),
     }
-}
-
-/// How many persist steps were made.
-fn steps(bench: &Bench) -> u64 {
-    let (_, writes, latches) = bench.board.counts();
-    writes.wrapping_add(latches)
 }
 
 /// Commits these lines.
@@ -123,29 +73,30 @@ fn read(rt: &impl Abort, bench: &mut Bench, store: &mut Store, at: u32) -> Line
 // Two lines are committed in 30 steps, and no lines in none.
 #[test]
 fn transactions_are_applied(rt: HostRuntime) -> Result<(), Fail> {
-    let mut bench = fresh(rt.alloc(), 2, 0)?;
+    let mut bench = fresh(rt.alloc(), 0)?;
     let (mut store, first) = opened(&rt, rt.alloc(), &mut bench)?;
-    assert_eq!(rt;
+    equal(
+        &rt,
         first,
         Opened {
             redone: 0,
             stuck: None,
-        }
+        },
     );
-    assert_eq!(rt; store.lines(), 1008);
+    equal(&rt, store.lines(), 1008);
     let before = steps(&bench);
     let done = commit(&rt, &mut bench, &mut store, &ArrayVec::new());
-    assert_eq!(rt; (done, steps(&bench)), (Ok(Done::Applied), before));
+    equal(&rt, (done, steps(&bench)), (Ok(Done::Applied), before));
     let mut txn = ArrayVec::new();
     txn.push((0, Line([0x11; 64])));
     txn.push((64, Line([0x22; 64])));
     assert!(rt; store.lines() > 64);
     let done = commit(&rt, &mut bench, &mut store, &txn);
-    assert_eq!(rt; done, Ok(Done::Applied));
-    assert_eq!(rt; steps(&bench).wrapping_sub(before), 30);
-    assert_eq!(rt; read(&rt, &mut bench, &mut store, 0), Line([0x11; 64]));
-    assert_eq!(rt; read(&rt, &mut bench, &mut store, 64), Line([0x22; 64]));
-    assert_eq!(rt; read(&rt, &mut bench, &mut store, 1), Line::default());
+    equal(&rt, done, Ok(Done::Applied));
+    equal(&rt, steps(&bench).wrapping_sub(before), 30);
+    equal(&rt, read(&rt, &mut bench, &mut store, 0), Line([0x11; 64]));
+    equal(&rt, read(&rt, &mut bench, &mut store, 64), Line([0x22; 64]));
+    equal(&rt, read(&rt, &mut bench, &mut store, 1), Line::default());
     Ok(())
 }
 
@@ -154,7 +105,7 @@ fn transactions_are_applied(rt: HostRuntime) -> Result<(), Fail> {
 #[test]
 fn cuts_leave_all_or_none(rt: HostRuntime) -> Result<(), Fail> {
     for fuse in 0..31_u8 {
-        let mut bench = fresh(rt.alloc(), 2, 0)?;
+        let mut bench = fresh(rt.alloc(), 0)?;
         let (mut store, _) = opened(&rt, rt.alloc(), &mut bench)?;
         let mut txn = ArrayVec::new();
         txn.push((0, Line([0x11; 64])));
@@ -193,7 +144,7 @@ fn cuts_leave_all_or_none(rt: HostRuntime) -> Result<(), Fail> {
 // once power was off.
 #[test]
 fn spent_targets_are_served_from_the_log(rt: HostRuntime) -> Result<(), Fail> {
-    let mut bench = fresh(rt.alloc(), 2, u64::MAX)?;
+    let mut bench = fresh(rt.alloc(), u64::MAX)?;
     let (mut store, _) = opened(&rt, rt.alloc(), &mut bench)?;
     for round in 0..64_u8 {
         let mut txn = ArrayVec::new();
@@ -206,36 +157,29 @@ fn spent_targets_are_served_from_the_log(rt: HostRuntime) -> Result<(), Fail> {
             Done::Stuck { page: 15 }
         };
         assert_eq!(rt; done, Ok(expected), "round {round}");
-        assert_eq!(rt; read(&rt, &mut bench, &mut store, 0), Line([round; 64]));
+        equal(&rt, read(&rt, &mut bench, &mut store, 0), Line([round; 64]));
     }
-    assert_eq!(rt; store.stuck(), Some(15));
+    equal(&rt, store.stuck(), Some(15));
     bench.board.off();
     bench.board.power();
     let (mut store, again) = opened(&rt, rt.alloc(), &mut bench)?;
-    assert_eq!(rt;
+    equal(
+        &rt,
         again,
         Opened {
             redone: 1,
             stuck: Some(15),
-        }
+        },
     );
-    assert_eq!(rt; read(&rt, &mut bench, &mut store, 0), Line([63; 64]));
+    equal(&rt, read(&rt, &mut bench, &mut store, 0), Line([63; 64]));
     Ok(())
 }
 
 // A header line that none could have written is refused.
 #[test]
 fn other_headers_are_refused(rt: HostRuntime) -> Result<(), Fail> {
-    let mut bench = fresh(rt.alloc(), 2, 0)?;
-    let Ok((mut engine, _)) = recover(
-        rt.alloc(),
-        &bench.geo,
-        &mut bench.board,
-        &mut bench.suite,
-        &bench.ledger,
-    ) else {
-        return Err(Fail::new("not recovered"));
-    };
+    let mut bench = fresh(rt.alloc(), 0)?;
+    let mut engine = recovered(rt.alloc(), &mut bench)?;
     assert!(rt; bench.geo.lines() > 16 && bench.ledger.reserve(1122).is_ok());
     let at = bench.geo.lines() - 16;
     let line = Line([0x33; 64]);

@@ -1,18 +1,17 @@
-//! Worked headers.
-mod stored;
-
-use crate::{header_line, read_header};
+//! Worked headers of transactions.
+use crate::tests::equal;
+use line_txn::{header_line, read_header};
 use pmem_base::Line;
 
 #[test]
 fn headers_are_read_back(rt: HostRuntime) {
-    assert_eq!(rt; header_line(&[]), Line::default());
+    equal(&rt, header_line(&[]), Line::default());
     assert!(rt; read_header(1, &Line::default()).is_some_and(|targets| targets.is_empty()));
     let mut line = Line::default();
     line.0[0] = 2;
     line.0[4..12].copy_from_slice(&[0, 3, 0xff, 0xef, 0, 0, 1, 0]);
     let targets = [262_127, 256];
-    assert_eq!(rt; header_line(&targets), line);
+    equal(&rt, header_line(&targets), line);
     assert!(rt;
         read_header(262_128, &line).is_some_and(|read| read.as_slice() == targets.as_slice())
     );
