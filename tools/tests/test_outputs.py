@@ -10,7 +10,7 @@ from .helpers import EXAMPLES, program_path
 SESSIONS = Path(__file__).resolve().parent / "sessions"
 
 # The words of the examples whose trace isn't answered by `run` alone, and the status of those that end with an exhibit.
-WORDS = {"forged_tag": "run --suite weak", "tree": "tree", "wear": "wear --every 1"}
+WORDS = {"forged_tag": "run --suite weak", "tree": "tree", "txn": "txn", "wear": "wear --every 1"}
 STATUSES = {"forged_tag": 6}
 
 
@@ -47,7 +47,7 @@ class OutputsTest(unittest.TestCase):
 
     def test_sessions(self) -> None:
         paths = sorted(SESSIONS.glob("*.txt"))
-        self.assertGreater(len(paths), 19)
+        self.assertGreater(len(paths), 34)
         for path in paths:
             with self.subTest(path.stem):
                 self.prints(*[read_session(path.read_text())[place] for place in (0, 2, 1, 3)])

@@ -17,6 +17,7 @@ use Rattle.pmem_cli.specs.HasRun.{HasRun, TaskOutcome, IsInGrammar, IsComplete}
 use Rattle.pmem_cli.specs.Sessions.{Session, session_protocol, HasSession}
 use Rattle.pmem_cli.specs.Talked.{HasTalked, IsNoFault, IsInLanguage, IsRunThrough, IsTalkComplete}
 use Rattle.pmem_cli.specs.Tree.{tree_chosen}
+use Rattle.pmem_cli.specs.Txn.{txn_chosen}
 use Rattle.pmem_cli.specs.Wear.{wear_chosen}
 
 through_by : (stop : Stop) (setup : Setup) (status : ℕ) (trace : List ℕ) (left : Option (List ℕ)) (steps : List Step) → Ends setup stop trace left steps
@@ -95,4 +96,6 @@ complete (Task.Wear c) status trace left before after reads writes done read wri
     session_complete (wear_chosen c) status trace left before after reads writes done read write
 complete (Task.Tree c) status trace left before after reads writes done read write =
     session_complete (tree_chosen c) status trace left before after reads writes done read write
+complete (Task.Txn c) status trace left before after reads writes done read write =
+    session_complete (txn_chosen c) status trace left before after reads writes done read write
 complete task status trace left before after reads writes done read write = tt

@@ -24,3 +24,4 @@ pub mod Following
 pub mod SessionLemmas
 pub mod WearLemmas
 pub mod TreeLemmas
+pub mod TxnLemmas

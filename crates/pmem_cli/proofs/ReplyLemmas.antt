@@ -28,6 +28,7 @@ use Rattle.pmem_cli.specs.Sessions.{Session, session_protocol, HasSaidFirst}
 use Rattle.pmem_cli.specs.Talked.{HasToldFirst}
 use Rattle.pmem_cli.specs.Turns.{HasServed, Turns}
 use Rattle.pmem_cli.specs.Tree.{tree_chosen}
+use Rattle.pmem_cli.specs.Txn.{txn_chosen}
 use Rattle.pmem_cli.specs.Wear.{wear_chosen}
 use Rattle.pmem_cli.proofs.StandingLemmas.{new_setup, new_machine}
 use Rattle.pmem_cli.proofs.WorldTalks.{replied_of_told}
@@ -196,4 +197,5 @@ task_replied_more (Task.Run c) a left told p put later more replies grown =
     λ given. replied_more (setup_chosen c) (start (setup_chosen c)) a told p put later more (replies given) grown
 task_replied_more (Task.Wear c) a left told p put later more replies grown = λ given. said_more (wear_chosen c) a told p put later more (replies given) grown
 task_replied_more (Task.Tree c) a left told p put later more replies grown = λ given. said_more (tree_chosen c) a told p put later more (replies given) grown
+task_replied_more (Task.Txn c) a left told p put later more replies grown = λ given. said_more (txn_chosen c) a told p put later more (replies given) grown
 task_replied_more task a left told p put later more replies grown = tt

@@ -26,6 +26,7 @@ use Rattle.pmem_cli.specs.Sums.{AreStepSums}
 use Rattle.pmem_cli.specs.Talked.{HasTalked}
 use Rattle.pmem_cli.specs.Turns.{HasStopped}
 use Rattle.pmem_cli.specs.Tree.{tree_chosen}
+use Rattle.pmem_cli.specs.Txn.{txn_chosen}
 use Rattle.pmem_cli.specs.Untampered.{IsUntampered}
 use Rattle.pmem_cli.specs.Wear.{wear_chosen}
 use Rattle.pmem_cli.proofs.SampleLemmas.{sample_answered}
@@ -154,6 +155,9 @@ TaskOutcome-finished (Task.Wear c) ending status pull_failed trace left before a
     (subst (λ (e : Ending). IsFinished e status between after) ended.its_stop finished)
 TaskOutcome-finished (Task.Tree c) ending status pull_failed trace left before after between ended read finished =
     session_done (tree_chosen c) ended.stop status pull_failed trace left before after between ended.conversed (λ same. read (ended.its_stop ∙ same))
+    (subst (λ (e : Ending). IsFinished e status between after) ended.its_stop finished)
+TaskOutcome-finished (Task.Txn c) ending status pull_failed trace left before after between ended read finished =
+    session_done (txn_chosen c) ended.stop status pull_failed trace left before after between ended.conversed (λ same. read (ended.its_stop ∙ same))
     (subst (λ (e : Ending). IsFinished e status between after) ended.its_stop finished)
 
 -- ---- faults, by the status

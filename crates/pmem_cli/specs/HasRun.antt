@@ -25,6 +25,7 @@ use Rattle.pmem_cli.specs.Standing.{IsReplayed}
 use Rattle.pmem_cli.specs.Sums.{AreStepSums}
 use Rattle.pmem_cli.specs.Talked.{IsRunThrough, IsTalkComplete}
 use Rattle.pmem_cli.specs.Tree.{tree_chosen}
+use Rattle.pmem_cli.specs.Txn.{txn_chosen}
 use Rattle.pmem_cli.specs.Untampered.{IsUntampered}
 use Rattle.pmem_cli.specs.Wear.{wear_chosen}
 
@@ -84,6 +85,7 @@ TaskOutcome (Task.Sample seed count) status pull_failed trace left before after 
 TaskOutcome (Task.Check c) status pull_failed trace left before after = HasTold c status pull_failed trace left before after
 TaskOutcome (Task.Wear c) status pull_failed trace left before after = HasSession (wear_chosen c) status pull_failed trace left before after
 TaskOutcome (Task.Tree c) status pull_failed trace left before after = HasSession (tree_chosen c) status pull_failed trace left before after
+TaskOutcome (Task.Txn c) status pull_failed trace left before after = HasSession (txn_chosen c) status pull_failed trace left before after
 
 -- all lines of these bytes are in the grammar, and there are no more of them than a trace may have
 abbrev pub IsInGrammar : List ℕ → Type 0
@@ -94,6 +96,7 @@ abbrev pub IsComplete : Task → ℕ → Option (List ℕ) → Type 0 → Type 0
 IsComplete (Task.Run c) status trace fault = IfSome trace (λ bytes. IsInGrammar bytes → ¬ fault → IsRunThrough status)
 IsComplete (Task.Wear c) status trace fault = IsTalkComplete (session_protocol (wear_chosen c)) status trace fault
 IsComplete (Task.Tree c) status trace fault = IsTalkComplete (session_protocol (tree_chosen c)) status trace fault
+IsComplete (Task.Txn c) status trace fault = IsTalkComplete (session_protocol (txn_chosen c)) status trace fault
 IsComplete task status trace fault = ⊤
 
 -- The one line that faulty words are answered with was put, or the sink failed and a front of it was.
@@ -157,3 +160,4 @@ HasEnded (Task.Sample seed count) ending trace left from to = SampleStops defaul
 HasEnded (Task.Check c) ending trace left from to = CheckEnds c ending trace left from to
 HasEnded (Task.Wear c) ending trace left from to = SessionEnds (wear_chosen c) ending trace left from to
 HasEnded (Task.Tree c) ending trace left from to = SessionEnds (tree_chosen c) ending trace left from to
+HasEnded (Task.Txn c) ending trace left from to = SessionEnds (txn_chosen c) ending trace left from to

@@ -18,5 +18,6 @@ pub mod Talked
 pub mod Sessions
 pub mod Wear
 pub mod Tree
+pub mod Txn
 pub mod RepliesFirst
 pub mod HasRun

@@ -10,6 +10,7 @@ use Rattle.pmem_cli.specs.Keys.{setup_chosen}
 use Rattle.pmem_cli.specs.Printed.{Output, PutsAtLeast}
 use Rattle.pmem_cli.specs.Sessions.{HasSaidFirst}
 use Rattle.pmem_cli.specs.Tree.{tree_chosen}
+use Rattle.pmem_cli.specs.Txn.{txn_chosen}
 use Rattle.pmem_cli.specs.Wear.{wear_chosen}
 
 -- Before the last pull no more than a part of a line had been taken of what was ahead. The source may not
@@ -38,4 +39,5 @@ abbrev pub TaskRepliesFirst : Task → Option (List ℕ) → Option (List ℕ) �
 TaskRepliesFirst (Task.Run c) trace left left_before from put = left ≢ trace → HasRepliedFirst (setup_chosen c) (start (setup_chosen c)) trace left_before from put
 TaskRepliesFirst (Task.Wear c) trace left left_before from put = left ≢ trace → HasSaidFirst (wear_chosen c) trace left_before from put
 TaskRepliesFirst (Task.Tree c) trace left left_before from put = left ≢ trace → HasSaidFirst (tree_chosen c) trace left_before from put
+TaskRepliesFirst (Task.Txn c) trace left left_before from put = left ≢ trace → HasSaidFirst (txn_chosen c) trace left_before from put
 TaskRepliesFirst task trace left left_before from put = ⊤

@@ -159,6 +159,7 @@ task_of (name ∷ words) =
     else if bytes_eq name (codes "sample") then (seed_and_count words >>= λ found. Some (Task.Sample found.0 found.1))
     else if bytes_eq name (codes "wear") then (take_options Allowed.Wear no_choices words >>= λ c. Some (Task.Wear c))
     else if bytes_eq name (codes "tree") then (take_options Allowed.Tree no_choices words >>= λ c. Some (Task.Tree c))
+    else if bytes_eq name (codes "txn") then (take_options Allowed.Run no_choices words >>= λ c. Some (Task.Txn c))
     else None
 
 -- ---- what is known of them
@@ -175,6 +176,7 @@ HasChosen (Task.Run c) = AreChosen c
 HasChosen (Task.Check c) = AreChosen c
 HasChosen (Task.Wear c) = AreChosen c
 HasChosen (Task.Tree c) = AreChosen c
+HasChosen (Task.Txn c) = AreChosen c
 HasChosen task = ⊤
 
 -- it reads no trace
@@ -185,6 +187,7 @@ PullsNothing (Task.Run c) = ⊥
 PullsNothing (Task.Check c) = ⊥
 PullsNothing (Task.Wear c) = ⊥
 PullsNothing (Task.Tree c) = ⊥
+PullsNothing (Task.Txn c) = ⊥
 
 -- the value as a function sees it
 abbrev pub map_some : {A B : Type 0} → (A → B) → Option A → Option B

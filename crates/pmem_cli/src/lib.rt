@@ -17,6 +17,7 @@ mod sink;
 mod source;
 mod talking;
 mod tree;
+mod txn;
 mod wear;
 
 pub use program::run;

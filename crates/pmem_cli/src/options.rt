@@ -73,6 +73,8 @@ pub(crate) enum Task {
     Wear(Choices),
     /// Answer a trace by a memory over a counter tree.
     Tree(Choices),
+    /// Answer a trace by a memory that is written by transactions.
+    Txn(Choices),
 }
 
 /// The suite of a name.
@@ -432,6 +434,7 @@ pub(crate) fn read_task(words: &[String]) -> Option<Task>
         }
         "wear" => Some(Task::Wear(read_options(Allowed::Wear, words)?)),
         "tree" => Some(Task::Tree(read_options(Allowed::Tree, words)?)),
+        "txn" => Some(Task::Txn(read_options(Allowed::Run, words)?)),
         _ => None,
     }
 }

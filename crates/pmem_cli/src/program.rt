@@ -24,6 +24,7 @@ use crate::session::serve_all;
 use crate::sink::Sink;
 use crate::source::Source;
 use crate::tree::tree_trace;
+use crate::txn::txn_trace;
 use crate::wear::wear_trace;
 use plain_model::Stop;
 use pmem_base::Geo;
@@ -105,6 +106,7 @@ fn do_task<S: Source, K: Sink>(
         Task::Check(choices) => check(&choices, trace),
         Task::Wear(choices) => Ending::Stopped(wear_trace(alloc, &choices, trace, printer, out)),
         Task::Tree(choices) => Ending::Stopped(tree_trace(alloc, &choices, trace, printer, out)),
+        Task::Txn(choices) => Ending::Stopped(txn_trace(alloc, &choices, trace, printer, out)),
     }
 }
 

@@ -44,6 +44,49 @@ fn answers_sessions(rt: HostRuntime) -> Result<(), Fail> {
         ),
         ("wear", "post 0 0 [00]", 5, "stop line 1 1"),
         (
+            "txn --suite weak",
+            "begin / put 0 [11] / put 64 [22] / read 0 / commit / read 64",
+            0,
+            "ok / ok / ok / line [11] 0 / ok 30 / line [22] 0",
+        ),
+        (
+            "txn --suite weak",
+            "begin / put 0 [11] / put 64 [22] / cut 11 / commit / on / read 0",
+            0,
+            "ok / ok / ok / ok / cut lost 11 / on 0 5 / line [00] 0",
+        ),
+        (
+            "txn --suite weak",
+            "begin / put 0 [11] / put 64 [22] / cut 12 / commit / on / read 0",
+            0,
+            "ok / ok / ok / ok / cut kept 12 / on 2 26 / line [11] 0",
+        ),
+        (
+            "txn --suite weak --levels 1",
+            "begin / put 239 [11] / put 240 [11] / # a comment / commit / commit /  / read 239 / off / read 0 / on",
+            0,
+            "ok / ok / range / ok 18 / closed / line [11] 0 / ok / off / on 0 4",
+        ),
+        (
+            "txn --levels 1 --sets=1 --ways 1 --loss 1 --major 0 --suite weak --key 000102030405060708090a0b0c0d0e0f --tag-key 01",
+            "begin / put 0 [11] / cut 9 / commit / on / read 0",
+            0,
+            "ok / ok / ok / cut kept 9 / on 1 20 / line [11] 0",
+        ),
+        (
+            "txn --suite blur --loss 2 --levels 1",
+            "begin / put 0 [00] / commit / off / on / read 0",
+            6,
+            "ok / ok / ok 20 / ok / twin 0 0 0 1 [01..] {50}",
+        ),
+        (
+            "txn --levels 1",
+            "abort / begin 1",
+            5,
+            "closed / stop line 2 2",
+        ),
+        ("txn", "write 0 [11]", 5, "stop line 1 1"),
+        (
             "tree --suite weak",
             "write 5 [11] / cut 1 / write 5 [22] / on / read 5",
             0,
@@ -126,6 +169,10 @@ fn refuses_options(rt: HostRuntime) -> Result<(), Fail> {
         "wear --nothing 1",
         "run --every 1",
         "check --every 1",
+        "txn x",
+        "txn --every 1",
+        "txn --levels 7",
+        "txn --loss 3",
         "tree x",
         "tree --every 1",
         "tree --ways 1",
@@ -165,6 +212,12 @@ fn stops_sessions_at_each_fault(rt: HostRuntime) -> Result<(), Fail> {
             5,
         ),
         (
+            "txn --suite weak --levels 1",
+            "begin / put 0 [11] / cut 8 / commit / on / read 0",
+            "ok / ok / ok / cut kept 8 / on 1 18 / line [11] 0",
+            0,
+        ),
+        (
             "tree --suite weak --levels 1",
             "write 0 [11] / cut 1 / write 0 [22] / on / read 0",
             "ok 6 / ok / cut kept 1 / on 21 5 / line [22] 0",
@@ -180,7 +233,7 @@ fn stops_sessions_at_each_fault(rt: HostRuntime) -> Result<(), Fail> {
 /// The limit on lines.
 #[test]
 fn keeps_limits_of_sessions(rt: HostRuntime) -> Result<(), Fail> {
-    for words in ["wear --levels 1", "tree --levels 1"] {
+    for words in ["wear --levels 1", "txn --levels 1", "tree --levels 1"] {
         let mut trace = vec![in rt.alloc(); b'\n'; 1_000_000]?;
         let found = ran(&rt, words, trace.as_slice(), (NEVER, NEVER), PLACES)?;
         check_end(&rt, words, found, 0, b"");

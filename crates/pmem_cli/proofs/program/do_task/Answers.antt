@@ -47,3 +47,13 @@ returns-in-Tree-clause-writes g c = CountsFault-map _ _ _ _ _ (λ same. cc) (λ 
 pub returns-in-Tree-clause-replies_first : goal.returns-in-Tree-clause-replies_first
 returns-in-Tree-clause-replies_first g c =
     rw c.in-Tree.is (λ given. elim c.tree_trace.ensures.replies_first [ inl same ↦ absurd (given (ap g.S.Source.left same)) | inr replied ↦ replied ])
+
+pub returns-in-Txn-clause-reads : goal.returns-in-Txn-clause-reads
+returns-in-Txn-clause-reads g c = CountsFault-map _ _ _ _ _ (λ same. cc) (λ same. cc) refl c.txn_trace.ensures.cause.reads
+
+pub returns-in-Txn-clause-writes : goal.returns-in-Txn-clause-writes
+returns-in-Txn-clause-writes g c = CountsFault-map _ _ _ _ _ (λ same. cc) (λ same. cc) refl c.txn_trace.ensures.cause.writes
+
+pub returns-in-Txn-clause-replies_first : goal.returns-in-Txn-clause-replies_first
+returns-in-Txn-clause-replies_first g c =
+    rw c.in-Txn.is (λ given. elim c.txn_trace.ensures.replies_first [ inl same ↦ absurd (given (ap g.S.Source.left same)) | inr replied ↦ replied ])

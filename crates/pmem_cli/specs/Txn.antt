@@ -1,0 +1,33 @@
+-- A memory that is written by transactions, as the session of a command.
+use Rattle.std.specs.Prelude.{◌≡◌, ℕ, Some, Ok}
+use Rattle.suite.specs.Setup.{Setup}
+use Rattle.line_txn.specs.Store.{logged_lines}
+use Rattle.txn_session.specs.Answered.{IsAnswered, IsShownOf, IsStarvedOf}
+use Rattle.txn_session.specs.Answers.{txn_text}
+use Rattle.txn_session.specs.Commands.{reading_of_txn, sort_of_txn}
+use Rattle.txn_session.specs.Guarantees.{TxnReply, AreTxnReplies, AreSpentAsUsedUp}
+use Rattle.txn_session.specs.State.{TxnState, IsNewTxn}
+use Rattle.pmem_cli.specs.declared.options.Choices.{Choices}
+use Rattle.pmem_cli.specs.Keys.{setup_chosen}
+use Rattle.pmem_cli.specs.Sessions.{Session, replies_among}
+
+-- of this setup
+abbrev pub transactions_session : Setup → Session TxnState TxnReply
+transactions_session setup =
+    record {
+      begins = IsNewTxn setup;
+      sort_of = sort_of_txn;
+      answers =
+          λ old line reply new. (reading_of_txn line ≡ Ok (Some reply.command))
+          × IsAnswered setup old reply.command reply.answer new;
+      shows = IsShownOf setup;
+      wants_memory = IsStarvedOf;
+      text_of = λ reply. txn_text reply.answer;
+      promises =
+          λ first said. AreTxnReplies (logged_lines setup.shape) (replies_among said)
+          × AreSpentAsUsedUp setup first (replies_among said);
+    }
+
+-- as it is chosen
+abbrev pub txn_chosen : Choices → Session TxnState TxnReply
+txn_chosen c = transactions_session (setup_chosen c)
