@@ -1,18 +1,16 @@
 -- A memory that is written by transactions, from its lines and texts to its commands and answers.
 use Rattle.std.proofs.Common.{◌≡◌, ◌∙◌, ℕ, List, [], ◌∷◌, refl, sym, ap, subst, inl, inr, true, false, Bool}
-use Rattle.std.specs.Prelude.{◌==◌, ◌*◌, ◌+◌, nat_lt, length, unwrap_or, Option, None, Some, if◌then◌else◌}
+use Rattle.std.specs.Prelude.{nat_lt, length, unwrap_or, Option, None, Some, if◌then◌else◌}
 use Rattle.pmem_base.specs.declared.answers.Mark.{Mark}
-use Rattle.pmem_base.specs.Lines.{put_lines}
 use Rattle.pmem_base.specs.Shape.{Shape}
 use Rattle.suite.specs.Formulas.{Formulas}
 use Rattle.suite.specs.Setup.{Setup}
-use Rattle.line_txn.specs.Logged.{targets_of}
 use Rattle.wear_session.specs.Answered.{Writing}
 use Rattle.txn_session.specs.declared.commands.TxnCommand.{TxnCommand}
 use Rattle.txn_session.specs.declared.commands.TxnCommand.TheVariants as Do
 use Rattle.txn_session.specs.declared.answers.TxnAnswer.{TxnAnswer}
 use Rattle.txn_session.specs.declared.answers.TxnAnswer.TheVariants as Say
-use Rattle.txn_session.specs.Answered.{IsAnswered, IsAnsweredAs, IsServed, IsTalkedOf, IsShownOf, IsStarvedOf, HasRead, HasOpened, EndsCommit, EndsRedo, after_commit, after_redo, after_decided, decided, most_of_commit}
+use Rattle.txn_session.specs.Answered.{IsAnswered, IsAnsweredAs, IsServed, IsTalkedOf, IsShownOf, IsStarvedOf, HasRead, EndsCommit, EndsRedo, after_commit, after_redo, after_decided, decided, most_of_commit}
 use Rattle.txn_session.specs.Commands.{sort_of_txn}
 use Rattle.txn_session.specs.Guarantees.{TxnReply, AreAnswered, AreTxnsKept, AreTxnsSpent}
 use Rattle.txn_session.specs.State.{TxnState, Entries, IsNewTxn, setup_in}

@@ -1,5 +1,5 @@
 -- A memory that is written by transactions, as the session of a command.
-use Rattle.std.specs.Prelude.{◌≡◌, ℕ, Some, Ok}
+use Rattle.std.specs.Prelude.{◌≡◌, Some, Ok}
 use Rattle.suite.specs.Setup.{Setup}
 use Rattle.line_txn.specs.Store.{logged_lines}
 use Rattle.txn_session.specs.Answered.{IsAnswered, IsShownOf, IsStarvedOf}
