@@ -1,4 +1,5 @@
-"""What the program prints: the examples' outputs, and random sessions with their replies, which are another program's of the same rules."""
+"""What the program prints: the examples' outputs, and sessions with their replies, which are another program's of the same rules: random ones,
+and `tree-old-lines`, where lines of an older device are put back one by one and together, with power on and off."""
 import re
 import subprocess
 import unittest

@@ -1,7 +1,5 @@
 //! Sessions over a counter tree.
-mod attacks;
 mod lines;
-mod random_sessions;
 mod tables;
 
 use super::{KEY, TAG_KEY};

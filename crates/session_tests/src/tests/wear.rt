@@ -2,7 +2,6 @@
 ghost use Rattle.std.specs.Prelude.{◌≤◌};
 
 mod cuts;
-mod random_sessions;
 mod tables;
 mod used_up;
 
