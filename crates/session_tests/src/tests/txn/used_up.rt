@@ -142,10 +142,25 @@ fn stick(rt: &impl Abort, alloc: Global, page: u8) -> Result<(), Fail> {
     Ok(())
 }
 
-#[test]
-fn each_target_may_be_spent(rt: HostRuntime) -> Result<(), Fail> {
-    for page in 0..15_u8 {
-        stick(&rt, rt.alloc(), page)?;
+/// So it is with each of these pages.
+fn stick_each(rt: &impl Abort, alloc: Global, from: u8, to: u8) -> Result<(), Fail> {
+    for page in from..to {
+        stick(rt, alloc, page)?;
     }
     Ok(())
+}
+
+#[test]
+fn each_of_the_first_targets_may_be_spent(rt: HostRuntime) -> Result<(), Fail> {
+    stick_each(&rt, rt.alloc(), 0, 5)
+}
+
+#[test]
+fn each_of_the_middle_targets_may_be_spent(rt: HostRuntime) -> Result<(), Fail> {
+    stick_each(&rt, rt.alloc(), 5, 10)
+}
+
+#[test]
+fn each_of_the_last_targets_may_be_spent(rt: HostRuntime) -> Result<(), Fail> {
+    stick_each(&rt, rt.alloc(), 10, 15)
 }
