@@ -20,7 +20,8 @@ use Rattle.trace_text.specs.Talks.{skipped, faulty}
 use Rattle.trace_text.specs.Conversations.{line_sort, AnswersOne, IsTalk, AreGiven, IsShownTalk, TalkEnds}
 use Rattle.pmem_cli.specs.Printed.{Output}
 use Rattle.pmem_cli.specs.Standing.{Standing, standing_of, AreStepped, StandingAfter}
-use Rattle.pmem_cli.specs.Replies.{AnswersCommand, sort_of_reading, IsReplyTo, GoesOn, EndsShown, world_protocol}
+use Rattle.trace_text.specs.Entries.{sort_of_reading}
+use Rattle.pmem_cli.specs.Replies.{AnswersCommand, IsReplyTo, GoesOn, EndsShown, world_protocol}
 use Rattle.pmem_cli.specs.RepliesFirst.{HasRepliedFirst}
 use Rattle.pmem_cli.specs.Talked.{HasToldFirst}
 use Rattle.pmem_cli.specs.Turns.{AnswersLine}

@@ -1,14 +1,14 @@
 -- What the world's replies to the lines of a trace mean.
-use Rattle.std.specs.Prelude.{◌≡◌, ◌⊎◌, ℕ, true, false, List, [], ◌∷◌, IsTrue, Option, Some, None, Ok, Err}
+use Rattle.std.specs.Prelude.{◌≡◌, ◌⊎◌, ℕ, true, false, List, [], ◌∷◌, IsTrue, Option, Some, None, Ok}
 use Rattle.pmem_base.specs.declared.commands.Command.{Command}
 use Rattle.suite.specs.Formulas.{Formulas}
 use Rattle.plain_model.specs.declared.Stop.{Stop}
 use Rattle.plain_model.specs.declared.Stop.TheVariants.{Finished, Memory, Words, ReadFault, WriteFault, Refused, Shown, TooManyLines}
-use Rattle.plain_model.specs.Grammar.{Reading, reading_of}
+use Rattle.plain_model.specs.Grammar.{reading_of}
 use Rattle.plain_model.specs.Answers.{is_shown}
 use Rattle.plain_model.specs.Run.{Step, step_text, takes_memory, IsAnswered, WantsMemory}
 use Rattle.pmem_replay.specs.World.{WorldState}
-use Rattle.trace_text.specs.Talks.{Sort, skipped, asked, faulty}
+use Rattle.trace_text.specs.Entries.{sort_of_reading}
 use Rattle.trace_text.specs.Conversations.{Protocol}
 use Rattle.pmem_cli.specs.Printed.{Output, Prints, PrintsFront}
 use Rattle.pmem_cli.specs.Standing.{Standing, standing_of, IsWorldStep, StandingAfter}
@@ -40,11 +40,6 @@ AnswersCommand (Some ReadFault) command before after from to = ⊥
 AnswersCommand (Some TooManyLines) command before after from to = ⊥
 
 -- ---- the lines of a trace
-
-abbrev pub sort_of_reading : Reading → Sort
-sort_of_reading (Ok None) = skipped
-sort_of_reading (Ok (Some command)) = asked
-sort_of_reading (Err kind) = faulty kind
 
 -- the line's command was answered by the world
 pub record IsReplyTo (formulas_of : List ℕ → Formulas) (old : WorldState) (line : List ℕ) (step : Step) : Type 0 where

@@ -1,8 +1,11 @@
 -- The first word of a line and those after it, for any grammar of commands.
-use Rattle.std.specs.Prelude.{ℕ, nat_lt, List, [], ◌∷◌, length, Option, Some, None, Result, Ok, Err, if◌then◌else◌}
+use Rattle.std.specs.Prelude.{ℕ, nat_lt, List, [], ◌∷◌, length, find, Option, Some, None, Result, Ok, Err, if◌then◌else◌}
+use Rattle.std.specs.Str.{bytes_eq}
 use Rattle.pmem_base.specs.declared.commands.Kind.{Kind}
-use Rattle.collision_witness.specs.Words.{Word, words_of, without_return, ◌>>=◌}
-use Rattle.plain_model.specs.Grammar.{is_comment}
+use Rattle.pmem_base.specs.declared.lines.Line.{Line}
+use Rattle.collision_witness.specs.Words.{Word, words_of, without_return, no_word, ◌>>=◌}
+use Rattle.plain_model.specs.Grammar.{is_comment, one_number, poke_values}
+use Rattle.trace_text.specs.Talks.{Sort, skipped, asked, faulty}
 
 abbrev pub Entry : Type 0
 Entry = Word × List Word
@@ -24,3 +27,38 @@ command_of_entry command_of (Some entry) = command_of entry.0 entry.1 >>= λ com
 -- what a line asks for, where a first word and those after it ask for a command
 abbrev pub reading_by : {C : Type 0} → (Word → List Word → Result C Kind) → List ℕ → Result (Option C) Kind
 reading_by command_of line = entry_of line >>= command_of_entry command_of
+
+-- what a line is to a grammar, by what it asks for
+abbrev pub sort_of_reading : {C : Type 0} → Result (Option C) Kind → Sort
+sort_of_reading (Ok None) = skipped
+sort_of_reading (Ok (Some command)) = asked
+sort_of_reading (Err kind) = faulty kind
+
+-- ---- the words after the first one: how many first, then each from the left
+
+-- a command of no further word
+abbrev pub alone : {C : Type 0} → C → List Word → Result C Kind
+alone command words = do
+  none ← no_word words
+  Ok command
+
+abbrev pub with_number : {C : Type 0} → (ℕ → C) → List Word → Result C Kind
+with_number command words = do
+  n ← one_number words
+  Ok (command n)
+
+abbrev pub with_number_and_line : {C : Type 0} → (ℕ → Line → C) → List Word → Result C Kind
+with_number_and_line command words = do
+  found ← poke_values words
+  Ok (command found.0 found.1)
+
+-- ---- the first word
+
+-- the command of a verb that was found, and of the words after it
+abbrev pub command_of_found : {C V : Type 0} → (V → List Word → Result C Kind) → Option (Word × V) → List Word → Result C Kind
+command_of_found command_of None words = Err Kind.Word
+command_of_found command_of (Some found) words = command_of found.1 words
+
+-- the command of a first word, if it is one of these, and of the words after it
+abbrev pub command_by_verb : {C V : Type 0} → (V → List Word → Result C Kind) → List (Word × V) → Word → List Word → Result C Kind
+command_by_verb command_of verbs name words = command_of_found command_of (find (λ entry. bytes_eq name entry.0) verbs) words

@@ -9,7 +9,7 @@ use Rattle.board.specs.Device.{Device}
 use Rattle.board.specs.Memory.{BoardMemory}
 use Rattle.watched_board.specs.declared.taken.Taken.{Taken}
 use Rattle.watched_board.specs.Watching.{counted, cuts_after, steps_in, step_limit, device_during, none_taken, IsWatched}
-use Rattle.tree_session.specs.Answered.{Fits, fuse_less, TakesSteps, IsCutAt}
+use Rattle.tree_session.specs.Answered.{TakesSteps, IsCutAt}
 
 -- ---- counts
 
@@ -31,14 +31,6 @@ rose_by before (suc more) some =
       | inl above ↦ inl above
       | inr below ↦ inr (omega (arith, below))
     ]
-
-fits-is : (fuse : Option ℕ) (s : ℕ) → IfSome fuse (λ n. s ≤ n) → Fits s fuse
-fits-is None s lasting = tt
-fits-is (Some n) s lasting = lasting
-
-less-is : (fuse : Option ℕ) (s : ℕ) → option_map (λ n. n - s) fuse ≡ fuse_less s fuse
-less-is None s = refl
-less-is (Some n) s = refl
 
 -- a fuse with nothing burnt
 unburnt : (fuse : Option ℕ) → option_map (λ m. m - 0) fuse ≡ fuse
@@ -72,22 +64,23 @@ module _ (old new : BoardMemory) (taken : Taken) (watched : IsWatched old new ta
   goes_on powered =
       record {
         rise = rise;
-        fits = fits-is old.fuse (steps_in taken) (watched.follows.lasting powered);
-        fuse = watched.follows.burnt powered ∙ less-is old.fuse (steps_in taken);
+        fuse = record { lasting = watched.follows.lasting powered; rest = watched.follows.burnt powered; uncut = watched.follows.uncut powered };
         power = powered;
         snapshot = watched.follows.snapshot;
-        cuts = watched.follows.uncut powered;
       }
 
   pub cut_off : new.powered ≡ false → steps_in taken < step_limit → IsCutAt (steps_in taken) old new
   cut_off off below =
       record {
         rise = rise;
-        fuse = watched.follows.spent off below;
-        burnt = watched.follows.cleared off;
+        fuse =
+            record {
+              at_end = watched.follows.spent off below;
+              cleared = watched.follows.cleared off;
+              cut = subst (λ n. HasRisen old.cuts n) (sym watched.follows.cuts) (rose_by old.cuts taken.cuts (watched.follows.cut off));
+            };
         power = off;
         snapshot = watched.follows.snapshot;
-        rose = subst (λ n. HasRisen old.cuts n) (sym watched.follows.cuts) (rose_by old.cuts taken.cuts (watched.follows.cut off));
       }
 
   -- so many latches were taken
@@ -125,13 +118,13 @@ taken-exact n count rise few = let is : count ≡ 0 + n = rise.exact (omega (ari
 -- the call began as power came on
 pub from_dark : (s : ℕ) (power : Bool) (old new : BoardMemory) → TakesSteps s power (record old { powered = true }) new → TakesSteps s power old new
 from_dark s power old new it =
-    record { rise = it.rise; fits = it.fits; fuse = it.fuse; power = it.power; snapshot = it.snapshot; cuts = it.cuts }
+    record { rise = it.rise; fuse = it.fuse; power = it.power; snapshot = it.snapshot }
 
 pub cut_from_dark : (s : ℕ) (old new : BoardMemory) → IsCutAt s (record old { powered = true }) new → IsCutAt s old new
 cut_from_dark s old new it =
-    record { rise = it.rise; fuse = it.fuse; burnt = it.burnt; power = it.power; snapshot = it.snapshot; rose = it.rose }
+    record { rise = it.rise; fuse = it.fuse; power = it.power; snapshot = it.snapshot }
 
 -- and power goes off after it
 pub then_rests : (s : ℕ) (old new : BoardMemory) → TakesSteps s true old new → TakesSteps s false old (record new { powered = false })
 then_rests s old new it =
-    record { rise = it.rise; fits = it.fits; fuse = it.fuse; power = refl; snapshot = it.snapshot; cuts = it.cuts }
+    record { rise = it.rise; fuse = it.fuse; power = refl; snapshot = it.snapshot }

@@ -8,11 +8,12 @@ use Rattle.pmem_base.specs.Shape.{Shape}
 use Rattle.suite.specs.Setup.{Setup}
 use Rattle.counter_tree.specs.Layout.{tree_lines, tree_size}
 use Rattle.asit_shadow.specs.Plain.{PlainTree, true_count}
+use Rattle.trace_text.specs.Sessions.{burnt}
 use Rattle.tree_session.specs.declared.commands.TreeCommand.{TreeCommand}
 use Rattle.tree_session.specs.declared.commands.TreeCommand.TheVariants as Do
 use Rattle.tree_session.specs.declared.answers.TreeAnswer.{TreeAnswer}
 use Rattle.tree_session.specs.declared.answers.TreeAnswer.TheVariants as Say
-use Rattle.tree_session.specs.Answered.{decided, after_decided, fuse_less, TakesSteps, IsCutAt, IsPlainKept, IsPlainWritten, SaysOfWrite, SaysOfRead, SaysOfOn, AnswersWith, IsPathTampered, IsSlotTampered, IsHurt}
+use Rattle.tree_session.specs.Answered.{decided, after_decided, TakesSteps, IsCutAt, IsPlainKept, IsPlainWritten, SaysOfWrite, SaysOfRead, SaysOfOn, AnswersWith, IsPathTampered, IsSlotTampered, IsHurt}
 use Rattle.tree_session.specs.Guarantees.{History, history_with, IsAllowed}
 
 -- what a plain state has of it
@@ -42,16 +43,16 @@ history-equal p q memory counts tampered hurt power fuse snapped =
 
 -- only the board changed, by steps
 stepped : (s : ℕ) (power now : Bool) (before after : PlainTree) → power ≡ now → TakesSteps s power before.board after.board → IsPlainKept before after
-    → history_of after ≡ record (history_of before) { power = now; fuse = fuse_less s before.board.fuse }
+    → history_of after ≡ record (history_of before) { power = now; fuse = burnt before.board.fuse s }
 stepped s power now before after is steps kept =
-    history-equal (history_of after) (record (history_of before) { power = now; fuse = fuse_less s before.board.fuse }) (ap (λ (p : PlainTree). p.memory) kept) (ap (λ (p : PlainTree). p.counts) kept)
-    (ap (λ (p : PlainTree). p.tampered) kept) (ap (λ (p : PlainTree). p.hurt) kept) (steps.power ∙ is) steps.fuse (ap is_some steps.snapshot)
+    history-equal (history_of after) (record (history_of before) { power = now; fuse = burnt before.board.fuse s }) (ap (λ (p : PlainTree). p.memory) kept) (ap (λ (p : PlainTree). p.counts) kept)
+    (ap (λ (p : PlainTree). p.tampered) kept) (ap (λ (p : PlainTree). p.hurt) kept) (steps.power ∙ is) steps.fuse.rest (ap is_some steps.snapshot)
 
 -- or by a cut
 darkened : (s : ℕ) (before after : PlainTree) → IsCutAt s before.board after.board → IsPlainKept before after → history_of after ≡ record (history_of before) { power = false; fuse = None }
 darkened s before after cut kept =
     history-equal (history_of after) (record (history_of before) { power = false; fuse = None }) (ap (λ (p : PlainTree). p.memory) kept) (ap (λ (p : PlainTree). p.counts) kept)
-    (ap (λ (p : PlainTree). p.tampered) kept) (ap (λ (p : PlainTree). p.hurt) kept) cut.power cut.burnt (ap is_some cut.snapshot)
+    (ap (λ (p : PlainTree). p.tampered) kept) (ap (λ (p : PlainTree). p.hurt) kept) cut.power cut.fuse.cleared (ap is_some cut.snapshot)
 
 -- the history with a line written, power and the fuse
 abbrev with_write : PlainTree → ℕ → Line → Bool → Option ℕ → History
@@ -65,16 +66,16 @@ with_write before a line power fuse =
     }
 
 stepped-write : (g : Shape) (s a : ℕ) (line : Line) (now : Bool) (before after : PlainTree) → true ≡ now → TakesSteps s true before.board after.board
-    → IsPlainWritten g a line before after → history_of after ≡ with_write before a line now (fuse_less s before.board.fuse)
+    → IsPlainWritten g a line before after → history_of after ≡ with_write before a line now (burnt before.board.fuse s)
 stepped-write g s a line now before after is steps made =
-    history-equal (history_of after) (with_write before a line now (fuse_less s before.board.fuse)) (ap (λ (p : PlainTree). p.memory) made)
-    (ap (λ (p : PlainTree). p.counts) made) (ap (λ (p : PlainTree). p.tampered) made) (ap (λ (p : PlainTree). p.hurt) made) (steps.power ∙ is) steps.fuse (ap is_some steps.snapshot)
+    history-equal (history_of after) (with_write before a line now (burnt before.board.fuse s)) (ap (λ (p : PlainTree). p.memory) made)
+    (ap (λ (p : PlainTree). p.counts) made) (ap (λ (p : PlainTree). p.tampered) made) (ap (λ (p : PlainTree). p.hurt) made) (steps.power ∙ is) steps.fuse.rest (ap is_some steps.snapshot)
 
 darkened-write : (g : Shape) (s a : ℕ) (line : Line) (before after : PlainTree) → IsCutAt s before.board after.board → IsPlainWritten g a line before after
     → history_of after ≡ with_write before a line false None
 darkened-write g s a line before after cut made =
     history-equal (history_of after) (with_write before a line false None) (ap (λ (p : PlainTree). p.memory) made)
-    (ap (λ (p : PlainTree). p.counts) made) (ap (λ (p : PlainTree). p.tampered) made) (ap (λ (p : PlainTree). p.hurt) made) cut.power cut.burnt (ap is_some cut.snapshot)
+    (ap (λ (p : PlainTree). p.counts) made) (ap (λ (p : PlainTree). p.tampered) made) (ap (λ (p : PlainTree). p.hurt) made) cut.power cut.fuse.cleared (ap is_some cut.snapshot)
 
 -- ---- one answer
 
@@ -123,19 +124,19 @@ by_write : (setup : Setup) (before after : PlainTree) (a : ℕ) (line : Line) (a
     → SaysOfWrite setup before a line after answer → Follows setup.shape before after (Do.Write a line) answer
 by_write setup before after a line (Say.Written s) on low count it =
     record {
-      allowed = (record { power = on; inside = low }, it.0, it.3, (it.1.fits, it.4));
+      allowed = (record { power = on; inside = low }, it.0, it.3, (it.1.fuse.lasting, it.4));
       history = stepped-write setup.shape s a line before.board.powered before after (sym on) it.1 it.5;
       count = counts-made setup.shape a line before after it.5;
     }
 by_write setup before after a line (Say.CutKept s) on low count it =
     record {
-      allowed = (record { power = on; inside = low }, it.0, it.3, (it.1.fuse, it.4));
+      allowed = (record { power = on; inside = low }, it.0, it.3, (it.1.fuse.at_end, it.4));
       history = darkened-write setup.shape s a line before after it.1 it.5;
       count = counts-made setup.shape a line before after it.5;
     }
 by_write setup before after a line (Say.CutLost s) on low count it =
     record {
-      allowed = (record { power = on; inside = low }, it.0, it.1.fuse, it.3);
+      allowed = (record { power = on; inside = low }, it.0, it.1.fuse.at_end, it.3);
       history = darkened s before after it.1 it.4;
       count = counts-kept before after it.4;
     }
@@ -147,7 +148,7 @@ by_write setup before after a line (Say.Spent s) on low count it =
     }
 by_write setup before after a line (Say.RefusedNode x s) on low count it =
     record {
-      allowed = (record { power = on; inside = low }, it.0, path-kept setup.shape before after a x it.4 it.1.place, (it.2.fits, it.3));
+      allowed = (record { power = on; inside = low }, it.0, path-kept setup.shape before after a x it.4 it.1.place, (it.2.fuse.lasting, it.3));
       history = stepped s true before.board.powered before after (sym on) it.2 it.4;
       count = counts-kept before after it.4;
     }
@@ -168,25 +169,25 @@ by_read : (setup : Setup) (before after : PlainTree) (a : ℕ) (answer : TreeAns
     → SaysOfRead setup before a after answer → Follows setup.shape before after (Do.Read a) answer
 by_read setup before after a (Say.Got got s) on low it =
     record {
-      allowed = (record { power = on; inside = low }, it.0, (it.1.fits, it.2));
+      allowed = (record { power = on; inside = low }, it.0, (it.1.fuse.lasting, it.2));
       history = stepped s true before.board.powered before after (sym on) it.1 it.3;
       count = counts-kept before after it.3;
     }
 by_read setup before after a (Say.Cut s) on low it =
     record {
-      allowed = (record { power = on; inside = low }, (it.0.fuse, it.1));
+      allowed = (record { power = on; inside = low }, (it.0.fuse.at_end, it.1));
       history = darkened s before after it.0 it.2;
       count = counts-kept before after it.2;
     }
 by_read setup before after a (Say.RefusedData b s) on low it =
     record {
-      allowed = (record { power = on; inside = low }, it.0, hurt-kept before after a it.4 it.1.hurt, (it.2.fits, it.3));
+      allowed = (record { power = on; inside = low }, it.0, hurt-kept before after a it.4 it.1.hurt, (it.2.fuse.lasting, it.3));
       history = stepped s true before.board.powered before after (sym on) it.2 it.4;
       count = counts-kept before after it.4;
     }
 by_read setup before after a (Say.RefusedNode x s) on low it =
     record {
-      allowed = (record { power = on; inside = low }, path-kept setup.shape before after a x it.3 it.0.place, (it.1.fits, it.2));
+      allowed = (record { power = on; inside = low }, path-kept setup.shape before after a x it.3 it.0.place, (it.1.fuse.lasting, it.2));
       history = stepped s true before.board.powered before after (sym on) it.1 it.3;
       count = counts-kept before after it.3;
     }
@@ -207,19 +208,19 @@ by_read setup before after a (Say.CutLost s) on low it = absurd it
 by_on : (setup : Setup) (before after : PlainTree) (answer : TreeAnswer) → before.board.powered ≡ false → SaysOfOn setup before after answer → Follows setup.shape before after Do.On answer
 by_on setup before after (Say.Recovered digests s) off it =
     record {
-      allowed = (off, it.0, (it.1.fits, it.4));
+      allowed = (off, it.0, (it.1.fuse.lasting, it.4));
       history = stepped s true true before after refl it.1 it.5;
       count = counts-kept before after it.5;
     }
 by_on setup before after (Say.Cut s) off it =
     record {
-      allowed = (off, (it.0.fuse, it.4));
+      allowed = (off, (it.0.fuse.at_end, it.4));
       history = darkened s before after it.0 it.5;
       count = counts-kept before after it.5;
     }
 by_on setup before after (Say.RefusedShadow kept found s) off it =
     record {
-      allowed = (off, slot-kept setup.shape before after it.5 it.0.place, it.0.differ, (it.1.fits, it.4));
+      allowed = (off, slot-kept setup.shape before after it.5 it.0.place, it.0.differ, (it.1.fuse.lasting, it.4));
       history = stepped s false before.board.powered before after (sym off) it.1 it.5;
       count = counts-kept before after it.5;
     }

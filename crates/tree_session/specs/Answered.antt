@@ -1,10 +1,9 @@
 -- Which answers a command has in which states, and the state after: where the state alone decides, the first
 -- condition that holds does; else the engine gives one of the answers that are listed.
-use Rattle.std.specs.Prelude.{ℕ, ◌≡◌, ◌≢◌, ◌<◌, ◌≤◌, ◌+◌, ◌-◌, ◌*◌, ◌^◌, ◌⊎◌, nat_lt, not, Bool, true, false, List, [], ◌∷◌, map, sum, length, slice_index_or, Option, Some, None, Ok, is_none, if◌then◌else◌, IsTrue, ⊤}
+use Rattle.std.specs.Prelude.{ℕ, ◌≡◌, ◌≢◌, ◌<◌, ◌≤◌, ◌+◌, ◌-◌, ◌*◌, ◌^◌, ◌⊎◌, nat_lt, not, Bool, true, false, List, [], ◌∷◌, map, sum, length, slice_index_or, Option, Some, None, Ok, is_none, if◌then◌else◌, IsTrue}
 use Rattle.pmem_base.specs.declared.lines.Line.{Line}
 use Rattle.pmem_base.specs.declared.answers.Exhibit.{Exhibit}
 use Rattle.pmem_base.specs.declared.answers.Exhibit.TheVariants.{Clash, Forged}
-use Rattle.pmem_base.specs.Counts.{HasRisen}
 use Rattle.pmem_base.specs.Lines.{line_at, tag_slot}
 use Rattle.pmem_base.specs.Shape.{Shape}
 use Rattle.pmem_base.specs.Layout.{meta_lines}
@@ -20,6 +19,7 @@ use Rattle.counter_tree.specs.Slots.{slot_of, slot_line}
 use Rattle.counter_tree.specs.Shadow.{shadow_root, shadow_line, shadow_height, shadow_digests, IsShadowDifference}
 use Rattle.collision_witness.specs.Exhibits.{IsExhibit, AreSmallMinors}
 use Rattle.commit_regs.specs.Groups.{redone, finishing_latches}
+use Rattle.trace_text.specs.Sessions.{HasBurnt, HasRunOut}
 use Rattle.trace_text.specs.declared.talk.Halt.{Halt}
 use Rattle.trace_text.specs.declared.talk.Halt.TheVariants as Stop
 use Rattle.asit_shadow.specs.Paths.{line_path, tag_only}
@@ -65,32 +65,19 @@ after_decided g before command answer = before
 
 -- ---- steps
 
--- the fuse has so many steps left
-abbrev pub Fits : ℕ → Option ℕ → Type 0
-Fits s None = ⊤
-Fits s (Some left) = s ≤ left
-
-abbrev pub fuse_less : ℕ → Option ℕ → Option ℕ
-fuse_less s None = None
-fuse_less s (Some left) = Some (left - s)
-
 -- s steps, within the fuse, and no cut
 pub record TakesSteps (s : ℕ) (powered : Bool) (old new : BoardMemory) : Type 0 where
   pub rise : RisesBy s (old.writes + old.latches) (new.writes + new.latches)
-  pub fits : Fits s old.fuse
-  pub fuse : new.fuse ≡ fuse_less s old.fuse
+  pub fuse : HasBurnt s old.fuse new.fuse old.cuts new.cuts
   pub power : new.powered ≡ powered
   pub snapshot : new.snapshot ≡ old.snapshot
-  pub cuts : new.cuts ≡ old.cuts
 
 -- a cut at the fuse's end
 pub record IsCutAt (s : ℕ) (old new : BoardMemory) : Type 0 where
   pub rise : RisesBy s (old.writes + old.latches) (new.writes + new.latches)
-  pub fuse : old.fuse ≡ Some s
-  pub burnt : new.fuse ≡ None
+  pub fuse : HasRunOut s old.fuse new.fuse old.cuts new.cuts
   pub power : new.powered ≡ false
   pub snapshot : new.snapshot ≡ old.snapshot
-  pub rose : HasRisen old.cuts new.cuts
 
 -- the lines with the armed group redone
 abbrev pub board_redone : BoardMemory → List Line

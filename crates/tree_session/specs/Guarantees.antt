@@ -14,12 +14,13 @@ use Rattle.counter_tree.specs.Layout.{tree_lines, tree_size}
 use Rattle.counter_tree.specs.Nodes.{node_place, total, version_counter}
 use Rattle.counter_tree.specs.Shadow.{shadow_digests}
 use Rattle.asit_shadow.specs.Plain.{hurt_with, node_above_lines}
+use Rattle.trace_text.specs.Sessions.{Lasts, burnt}
 use Rattle.tree_session.specs.declared.commands.TreeCommand.{TreeCommand}
 use Rattle.tree_session.specs.declared.commands.TreeCommand.TheVariants as Do
 use Rattle.tree_session.specs.declared.answers.TreeAnswer.{TreeAnswer}
 use Rattle.tree_session.specs.declared.answers.TreeAnswer.TheVariants as Say
 use Rattle.tree_session.specs.State.{SessionState, IsNewTree}
-use Rattle.tree_session.specs.Answered.{Fits, fuse_less, read_bound, write_bound, write_least, recovery_bound, IsPathTampered, IsSlotTampered, IsHurt, AllAreMade, IsAnswered, IsShownBy}
+use Rattle.tree_session.specs.Answered.{read_bound, write_bound, write_least, recovery_bound, IsPathTampered, IsSlotTampered, IsHurt, AllAreMade, IsAnswered, IsShownBy}
 
 -- ---- chains of answers
 
@@ -109,12 +110,12 @@ fuse_with fuse Do.Off Say.Ok = None
 fuse_with fuse command (Say.CutKept s) = None
 fuse_with fuse command (Say.CutLost s) = None
 fuse_with fuse command (Say.Cut s) = None
-fuse_with fuse command (Say.Written s) = fuse_less s fuse
-fuse_with fuse command (Say.Got line s) = fuse_less s fuse
-fuse_with fuse command (Say.Recovered digests s) = fuse_less s fuse
-fuse_with fuse command (Say.RefusedNode x s) = fuse_less s fuse
-fuse_with fuse command (Say.RefusedData a s) = fuse_less s fuse
-fuse_with fuse command (Say.RefusedShadow kept found s) = fuse_less s fuse
+fuse_with fuse command (Say.Written s) = burnt fuse s
+fuse_with fuse command (Say.Got line s) = burnt fuse s
+fuse_with fuse command (Say.Recovered digests s) = burnt fuse s
+fuse_with fuse command (Say.RefusedNode x s) = burnt fuse s
+fuse_with fuse command (Say.RefusedData a s) = burnt fuse s
+fuse_with fuse command (Say.RefusedShadow kept found s) = burnt fuse s
 fuse_with fuse command answer = fuse
 
 abbrev pub snapped_with : Bool → TreeCommand → TreeAnswer → Bool
@@ -146,7 +147,7 @@ pub record IsServed (g : Shape) (history : History) (a : ℕ) : Type 0 where
 
 -- so many steps at most, within the fuse
 abbrev pub TakesFew : ℕ → ℕ → History → Type 0
-TakesFew s most history = Fits s history.fuse × (s ≤ most)
+TakesFew s most history = Lasts history.fuse s × (s ≤ most)
 
 -- a cut after so many steps, fewer than the most
 abbrev pub EndsAt : ℕ → ℕ → History → Type 0

@@ -27,14 +27,14 @@ use Rattle.line_txn.proofs.EditStages.{deciding_fit, applying_fit}
 use Rattle.std.proofs.lemmas.List.Elements.{All-append}
 use Rattle.watched_board.specs.declared.taken.Taken.{Taken}
 use Rattle.watched_board.specs.Watching.{steps_in, step_limit, device_during, none_taken, IsWatched}
-use Rattle.wear_session.specs.Answered.{Writing, burnt}
+use Rattle.wear_session.specs.Answered.{Writing}
 use Rattle.wear_session.proofs.Worlds.{at_most, fewer}
 use Rattle.wear_session.proofs.Seen.{setup_under}
 use Rattle.wear_session.proofs.WriteLaws.{whole_places}
 use Rattle.wear_session.proofs.EngineWrites.{moment_now, AreDone, AreCut}
 use Rattle.txn_session.specs.State.{TxnState, Entries, commit_writes, with_commit}
 use Rattle.txn_session.specs.World.{TxnParts, IsTxnWorld, IsStoreOn, targets_in_force, logical_memory, txn_of}
-use Rattle.txn_session.specs.Answered.{IsButForCounts, GoesTo, IsCutOff, after_commit, most_of_commit}
+use Rattle.txn_session.specs.Answered.{IsButForSteps, GoesTo, IsCutOff, after_commit, most_of_commit}
 use Rattle.txn_session.proofs.Worlds.{few_data, targets_held, memory_held, logged_is, goes_to, cut_off, IsOpenTxn, on_in, lines_are, on_after, off_after}
 use Rattle.txn_session.proofs.Rooms.{reserved_world}
 use Rattle.txn_session.proofs.WriteLists.{posted_commit, edits_memory, length-commit_writes}
@@ -247,11 +247,11 @@ module _ (c : CommitCall) where
       pub going_world : IsTxnWorld setup (left (Some c.after))
       going_world = on_after setup p c.board c.ledger world logged c.after None done.live done.sound (its_log ∙ sym targets_now) tt
 
-      becomes : IsButForCounts
-          (record (with_commit old c.entries k) { stuck = page; marks = old.marks ++ made; fuse = burnt c.before.board.fuse (steps_in c.taken) })
+      becomes : IsButForSteps
+          (record (with_commit old c.entries k) { stuck = page; marks = old.marks ++ made })
           (txn_of setup (left (Some c.after)))
       becomes =
-          subst (λ e. IsButForCounts (record e { stuck = page; marks = old.marks ++ made; fuse = burnt c.before.board.fuse (steps_in c.taken) })
+          subst (λ e. IsButForSteps (record e { stuck = page; marks = old.marks ++ made })
           (txn_of setup (left (Some c.after)))) (sym (with_commit_is old c.entries k))
           (record {
             shape = refl;
@@ -261,7 +261,6 @@ module _ (c : CommitCall) where
             stuck = its_page;
             txn = refl;
             power = done.live ∙ sym on.powered;
-            fuse = c.watched.follows.burnt done.live;
             loss = done.loss;
             marks = done.marks;
           })
@@ -277,7 +276,7 @@ module _ (c : CommitCall) where
     goes limit writes done its_page =
         goes_to setup p (left (Some c.after)) c.taken c.watched (after_commit old c.entries writing) limit done.live
         (at_most c.before.board c.board c.taken limit c.watched.follows.few done.takes)
-        (subst (λ e. IsButForCounts (record e { marks = old.marks ++ made; fuse = burnt c.before.board.fuse (steps_in c.taken) })
+        (subst (λ e. IsButForSteps (record e { marks = old.marks ++ made })
         (txn_of setup (left (Some c.after)))) (sym (with_commit_is old c.entries k))
         (record {
           shape = refl;
@@ -287,7 +286,6 @@ module _ (c : CommitCall) where
           stuck = its_page;
           txn = refl;
           power = done.live ∙ sym on.powered;
-          fuse = c.watched.follows.burnt done.live;
           loss = done.loss;
           marks = done.marks;
         }))
@@ -301,7 +299,7 @@ module _ (c : CommitCall) where
       cuts small =
           cut_off setup p (left None) c.taken c.watched (after_commit old c.entries writing) limit cut.dark
           (fewer c.before.board c.board c.taken limit c.watched.follows.few cut.takes) small
-          (subst (λ e. IsButForCounts (record e { marks = old.marks ++ made; stuck = None; txn = None; power = false; fuse = None })
+          (subst (λ e. IsButForSteps (record e { marks = old.marks ++ made; stuck = None; txn = None; power = false; fuse = None })
           (txn_of setup (left None))) (sym (with_commit_is old c.entries k))
           (record {
             shape = refl;
@@ -311,7 +309,6 @@ module _ (c : CommitCall) where
             stuck = refl;
             txn = refl;
             power = cut.dark;
-            fuse = c.watched.follows.cleared cut.dark;
             loss = cut.loss;
             marks = cut.marks;
           }))

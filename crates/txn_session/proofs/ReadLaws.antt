@@ -201,7 +201,6 @@ module _ (c : ReadCall) where
                 stuck = c.served_as.its_page ∙ sym (ap stuck_in c.there);
                 txn = refl;
                 power = powered ∙ sym on.powered;
-                fuse = c.watched.follows.burnt powered;
                 loss = done.loss;
                 marks = marks_on;
               }),
@@ -250,7 +249,6 @@ module _ (c : ReadCall) where
           stuck = refl;
           txn = refl;
           power = off;
-          fuse = c.watched.follows.cleared off;
           loss = cut_done.loss;
           marks = marks_off;
         }))))

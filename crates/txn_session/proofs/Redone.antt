@@ -34,7 +34,7 @@ use Rattle.line_txn.proofs.LoggedLaws.{kept_by_opening}
 use Rattle.line_txn.proofs.Openings.{logged_size}
 use Rattle.line_txn.proofs.EditStages.{redoing_fit}
 use Rattle.watched_board.specs.Watching.{steps_in, device_during, none_taken, IsWatched}
-use Rattle.wear_session.specs.Answered.{Writing, IsCutAmong, burnt, read_steps}
+use Rattle.wear_session.specs.Answered.{Writing, IsCutAmong, read_steps}
 use Rattle.wear_session.proofs.Worlds.{at_most, fewer}
 use Rattle.wear_session.proofs.Seen.{setup_under}
 use Rattle.wear_session.proofs.Starts.{one_latch}
@@ -209,7 +209,6 @@ module _ (c : OnCall) where
           stuck = refl;
           txn = refl;
           power = dark;
-          fuse = watched.follows.cleared dark;
           loss = loss;
           marks = come.marks;
         }) in
@@ -219,17 +218,9 @@ module _ (c : OnCall) where
           ends =
               record {
                 becomes = it.becomes;
-                rises =
-                    record {
-                      written = it.rises.written;
-                      latched = it.rises.latched;
-                      sum = it.rises.sum;
-                      writes = it.rises.writes;
-                      latches = it.rises.latches;
-                    };
-                at_fuse = it.at_fuse;
+                rises = it.rises;
                 below = it.below;
-                cut = it.cut;
+                fuse = it.fuse;
               };
         }
 
@@ -248,23 +239,14 @@ module _ (c : OnCall) where
           stuck = refl;
           txn = sym off.no_txn;
           power = powered;
-          fuse = watched.follows.burnt powered;
           loss = loss;
           marks = come.marks;
         }) in
         record {
           becomes = it.becomes;
-          rises =
-              record {
-                written = it.rises.written;
-                latched = it.rises.latched;
-                sum = it.rises.sum;
-                writes = it.rises.writes;
-                latches = it.rises.latches;
-              };
+          rises = it.rises;
           few = it.few;
-          lasting = it.lasting;
-          no_cut = it.no_cut;
+          fuse = it.fuse;
         }
 
     pub lit_world : (store : Store) → c.board.powered ≡ true → IsSound setup store.engine c.board.lines c.board.regs c.ledger

@@ -23,11 +23,10 @@ use Rattle.line_txn.proofs.Headers.{targets_of_header}
 use Rattle.line_txn.proofs.Openings.{logged_size}
 use Rattle.watched_board.specs.declared.taken.Taken.{Taken}
 use Rattle.watched_board.specs.Watching.{counted, cuts_after, steps_in, step_limit, FollowsOn, IsWatched}
-use Rattle.wear_session.specs.Answered.{burnt}
-use Rattle.wear_session.proofs.Worlds.{sealed_in, places_of}
+use Rattle.wear_session.proofs.Worlds.{sealed_in, places_of, rises_by, has_burnt, has_run_out}
 use Rattle.txn_session.specs.State.{TxnState, Entries, without_power}
 use Rattle.txn_session.specs.World.{TxnParts, IsTxnWorld, IsStoreOn, IsStoredBy, targets_in_force, logical_memory, txn_of}
-use Rattle.txn_session.specs.Answered.{IsButForCounts, GoesTo, IsCutOff}
+use Rattle.txn_session.specs.Answered.{IsButForSteps, GoesTo, IsCutOff}
 
 -- ---- the log
 
@@ -53,62 +52,29 @@ module _ (setup : Setup) (shape : IsShape setup.shape) (lines memory : Memory) (
   pub logged_is : IsLogged (logged_lines setup.shape) lines (targets_in_force setup lines) (logical_memory setup lines)
   logged_is = subst₂ (λ ts m. IsLogged (logged_lines setup.shape) lines ts m) (sym targets_held) (sym memory_held) it
 
--- ---- steps of a call
-
--- a count after some more has risen
-rose_by : (before more : ℕ) → 0 < more → HasRisen before (cuts_after before more)
-rose_by before zero some = absurd (omega (arith, some))
-rose_by before (suc more) some =
-    elim (cases_lt before (counted before (suc more))) [
-      | inl above ↦ inl above
-      | inr below ↦ inr (omega (arith, below))
-    ]
-
-rose : (old new : BoardMemory) (taken : Taken) → FollowsOn old new taken → new.powered ≡ false → HasRisen old.cuts new.cuts
-rose old new taken follows off =
-    subst (λ n. HasRisen old.cuts n) (sym follows.cuts) (rose_by old.cuts taken.cuts (follows.cut off))
-
 -- ---- states
 
 module _ (setup : Setup) (old new : TxnParts) (taken : Taken) (watched : IsWatched old.board new.board taken) (expected : TxnState) (most : ℕ) where
   -- a call that goes on
-  pub goes_to : new.board.powered ≡ true → steps_in taken ≤ most
-      → IsButForCounts (record expected { fuse = burnt old.board.fuse (steps_in taken) }) (txn_of setup new)
+  pub goes_to : new.board.powered ≡ true → steps_in taken ≤ most → IsButForSteps expected (txn_of setup new)
       → GoesTo expected (steps_in taken) most (txn_of setup old) (txn_of setup new)
   goes_to powered few becomes =
       record {
         becomes = becomes;
-        rises =
-            record {
-              written = taken.writes;
-              latched = taken.latches;
-              sum = refl;
-              writes = watched.follows.writes;
-              latches = watched.follows.latches;
-            };
+        rises = rises_by old.board new.board taken watched.follows;
         few = few;
-        lasting = watched.follows.lasting powered;
-        no_cut = watched.follows.uncut powered;
+        fuse = has_burnt old.board new.board taken watched.follows powered;
       }
 
   -- a call that is cut
-  pub cut_off : new.board.powered ≡ false → steps_in taken < most → most ≤ step_limit
-      → IsButForCounts (without_power expected) (txn_of setup new)
+  pub cut_off : new.board.powered ≡ false → steps_in taken < most → most ≤ step_limit → IsButForSteps (without_power expected) (txn_of setup new)
       → IsCutOff expected (steps_in taken) most (txn_of setup old) (txn_of setup new)
   cut_off off below bounded becomes =
       record {
         becomes = becomes;
-        rises =
-            record {
-              written = taken.writes;
-              latched = taken.latches;
-              sum = refl;
-              writes = watched.follows.writes;
-              latches = watched.follows.latches;
-            };
-        at_fuse = watched.follows.spent off (omega (arith, below, bounded));
+        rises = rises_by old.board new.board taken watched.follows;
         below = below;
-        cut = rose old.board new.board taken watched.follows off;
+        fuse = has_run_out old.board new.board taken watched.follows off (omega (arith, below, bounded));
       }
 
 -- ---- what is held

@@ -1,17 +1,15 @@
 -- Which answers a command has in which states, and the state after: where the state alone decides, the first
 -- condition that holds does; else the engine gives one of the answers that are listed.
-use Rattle.std.specs.Prelude.{ℕ, ◌≡◌, ◌≤◌, ◌<◌, ◌+◌, ◌*◌, ◌==◌, nat_lt, Bool, true, false, List, [], ◌∷◌, ◌++◌, length, Option, Some, None, option_map, is_some, unwrap_or, IfSome, Ok, ⊤, IsTrue, if◌then◌else◌}
+use Rattle.std.specs.Prelude.{ℕ, ◌≡◌, ◌≤◌, ◌<◌, ◌+◌, ◌*◌, ◌==◌, nat_lt, Bool, true, false, List, [], ◌∷◌, ◌++◌, length, Option, Some, None, option_map, is_some, unwrap_or, Ok, ⊤, IsTrue, if◌then◌else◌}
 use Rattle.std.specs.List.{list_any}
 use Rattle.pmem_base.specs.declared.lines.Line.{Line}
 use Rattle.pmem_base.specs.declared.commands.Posted.{Posted}
 use Rattle.pmem_base.specs.declared.answers.Mark.{Mark}
 use Rattle.pmem_base.specs.declared.answers.Exhibit.{Exhibit}
 use Rattle.pmem_base.specs.declared.answers.Exhibit.TheVariants.{Twin}
-use Rattle.pmem_base.specs.Counts.{HasRisen}
 use Rattle.pmem_base.specs.Shape.{Shape}
 use Rattle.pmem_base.specs.Layout.{data_lines}
 use Rattle.pmem_base.specs.Lines.{line_at}
-use Rattle.watched_board.specs.Watching.{counted}
 use Rattle.suite.specs.Formulas.{Formulas}
 use Rattle.suite.specs.Setup.{Setup}
 use Rattle.collision_witness.specs.Exhibits.{IsExhibit}
@@ -19,11 +17,12 @@ use Rattle.plain_model.specs.Bounds.{recovery_bound}
 use Rattle.plain_model.specs.Asked.{Moment}
 use Rattle.plain_model.specs.Fits.{IsSpentNext}
 use Rattle.plain_model.specs.Shown.{IsTwinOfSeal}
-use Rattle.wear_session.specs.Answered.{burnt, write_steps, read_steps, Writing, AreAllMade, IsCutAmong, is_own_seal}
+use Rattle.wear_session.specs.Answered.{RisesBySteps, write_steps, read_steps, Writing, AreAllMade, IsCutAmong, is_own_seal}
 use Rattle.txn_session.specs.declared.commands.TxnCommand.{TxnCommand}
 use Rattle.txn_session.specs.declared.commands.TxnCommand.TheVariants as Do
 use Rattle.txn_session.specs.declared.answers.TxnAnswer.{TxnAnswer}
 use Rattle.txn_session.specs.declared.answers.TxnAnswer.TheVariants as Say
+use Rattle.trace_text.specs.Sessions.{HasBurnt, HasRunOut}
 use Rattle.trace_text.specs.declared.talk.Halt.{Halt}
 use Rattle.trace_text.specs.declared.talk.Halt.TheVariants as Stop
 use Rattle.txn_session.specs.Answers.{txn_text}
@@ -96,8 +95,8 @@ after_decided state command answer = state
 
 -- ---- steps
 
--- a state that is another but for the board's counts
-pub record IsButForCounts (expected new : TxnState) : Type 0 where
+-- a state that is another but for the fuse and the board's counts
+pub record IsButForSteps (expected new : TxnState) : Type 0 where
   pub shape : new.shape ≡ expected.shape
   pub keys : new.keys ≡ expected.keys
   pub memory : new.memory ≡ expected.memory
@@ -105,33 +104,22 @@ pub record IsButForCounts (expected new : TxnState) : Type 0 where
   pub stuck : new.stuck ≡ expected.stuck
   pub txn : new.txn ≡ expected.txn
   pub power : new.power ≡ expected.power
-  pub fuse : new.fuse ≡ expected.fuse
   pub loss : new.loss ≡ expected.loss
   pub marks : new.marks ≡ expected.marks
 
--- line writes and latches rose by so many together
-pub record RisesBySteps (steps : ℕ) (old new : TxnState) : Type 0 where
-  pub written : ℕ
-  pub latched : ℕ
-  pub sum : steps ≡ written + latched
-  pub writes : new.writes ≡ counted old.writes written
-  pub latches : new.latches ≡ counted old.latches latched
-
--- so many steps were done, which are at most so many and which the fuse let, and nothing was cut
+-- steps were done, at most `most` and no more than the fuse had left, and nothing was cut
 pub record GoesTo (expected : TxnState) (steps most : ℕ) (old new : TxnState) : Type 0 where
-  pub becomes : IsButForCounts (record expected { fuse = burnt old.fuse steps }) new
-  pub rises : RisesBySteps steps old new
+  pub becomes : IsButForSteps expected new
+  pub rises : RisesBySteps steps old.writes old.latches new.writes new.latches
   pub few : steps ≤ most
-  pub lasting : IfSome old.fuse (λ left. steps ≤ left)
-  pub no_cut : new.cuts ≡ old.cuts
+  pub fuse : HasBurnt steps old.fuse new.fuse old.cuts new.cuts
 
--- power was cut at the end of the fuse, after fewer steps than so many
+-- power was cut with the fuse used up, after fewer than `most` steps
 pub record IsCutOff (expected : TxnState) (steps most : ℕ) (old new : TxnState) : Type 0 where
-  pub becomes : IsButForCounts (without_power expected) new
-  pub rises : RisesBySteps steps old new
-  pub at_fuse : old.fuse ≡ Some steps
+  pub becomes : IsButForSteps (without_power expected) new
+  pub rises : RisesBySteps steps old.writes old.latches new.writes new.latches
   pub below : steps < most
-  pub cut : HasRisen old.cuts new.cuts
+  pub fuse : HasRunOut steps old.fuse new.fuse old.cuts new.cuts
 
 -- the most steps of a commit of so many lines
 abbrev pub most_of_commit : Shape → ℕ → ℕ

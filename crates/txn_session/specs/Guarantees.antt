@@ -1,10 +1,7 @@
 -- What a session's answers promise: in each chain of them from the beginning on a read shows zeros changed by the
 -- transactions that were written, each whole and in order, recovery that isn't cut succeeds or is stuck, and what
 -- is refused is refused as used up.
-use Rattle.std.specs.Prelude.{ℕ, ◌≡◌, ◌≤◌, ◌<◌, ◌*◌, ◌+◌, Bool, true, List, [], ◌∷◌, map, length, replicate, slice_get, Option, Some, None, option_map, unwrap_or, Result, Ok, Err, MatchOption, MatchBool, All, is_some, ⊤}
-use Rattle.std.specs.List.{flat_map}
-use Rattle.pmem_base.specs.declared.lines.Line.{Line}
-use Rattle.pmem_base.specs.declared.commands.Kind.{Kind}
+use Rattle.std.specs.Prelude.{ℕ, ◌≡◌, ◌≤◌, ◌<◌, List, [], ◌∷◌, length, replicate, slice_get, Option, Some, None, option_map, unwrap_or, MatchOption, All, ⊤}
 use Rattle.pmem_base.specs.declared.commands.Posted.{Posted}
 use Rattle.pmem_base.specs.Lines.{line_at, put_lines, zero_line}
 use Rattle.pmem_base.specs.Layout.{page_of}
@@ -16,8 +13,6 @@ use Rattle.txn_session.specs.declared.commands.TxnCommand.{TxnCommand}
 use Rattle.txn_session.specs.declared.commands.TxnCommand.TheVariants as Do
 use Rattle.txn_session.specs.declared.answers.TxnAnswer.{TxnAnswer}
 use Rattle.txn_session.specs.declared.answers.TxnAnswer.TheVariants as Say
-use Rattle.txn_session.specs.Answers.{txn_text}
-use Rattle.txn_session.specs.Commands.{reading_of_txn}
 use Rattle.txn_session.specs.State.{TxnState, Entries, IsNewTxn, moment_in, lines_in, places_in, line_in, with_line, commit_writes, redo_writes}
 use Rattle.txn_session.specs.Answered.{IsAnswered}
 
@@ -178,16 +173,3 @@ abbrev pub AreTxnsSpent : Setup → Type 0
 AreTxnsSpent setup =
     (first last : TxnState) (replies : List TxnReply)
     → IsNewTxn setup first → AreAnswered setup first replies last → AreSpentAsUsedUp setup first replies
-
--- ---- lines and texts
-
-abbrev pub commands_in : Result (Option TxnCommand) Kind → List TxnCommand
-commands_in (Ok (Some command)) = command ∷ []
-commands_in (Ok None) = []
-commands_in (Err kind) = []
-
--- these lines ask for the commands of these replies, whose texts these are
-pub record AreRepliesTo (lines texts : List (List ℕ)) (replies : List TxnReply) : Type 0 where
-  pub commands :
-      flat_map (λ line. commands_in (reading_of_txn line)) lines ≡ map (λ reply. reply.command) replies
-  pub its_texts : texts ≡ map (λ reply. txn_text reply.answer) replies

@@ -133,23 +133,14 @@ module _ (c : OnCall) where
           wear = same_wear;
           count = refl;
           power = dark;
-          fuse = watched.follows.cleared dark;
           loss = loss;
           marks = marks;
         }) in
         record {
           becomes = it.becomes;
-          rises =
-              record {
-                written = it.rises.written;
-                latched = it.rises.latched;
-                sum = it.rises.sum;
-                writes = it.rises.writes;
-                latches = it.rises.latches;
-              };
-          at_fuse = it.at_fuse;
+          rises = it.rises;
           below = it.below;
-          cut = it.cut;
+          fuse = it.fuse;
         }
 
     open_seen : (gapped : Gapped) → c.board.powered ≡ true → c.board.regs.loss ≡ p.board.regs.loss → TakesAtMost most from to
@@ -167,7 +158,6 @@ module _ (c : OnCall) where
           wear = same_wear;
           count = none;
           power = powered;
-          fuse = watched.follows.burnt powered;
           loss = loss;
           marks = marks;
         }) in (
@@ -175,17 +165,9 @@ module _ (c : OnCall) where
           ap (λ (w : Wear). w.gap) its_wear,
           record {
             becomes = it.becomes;
-            rises =
-                record {
-                  written = it.rises.written;
-                  latched = it.rises.latched;
-                  sum = it.rises.sum;
-                  writes = it.rises.writes;
-                  latches = it.rises.latches;
-                };
+            rises = it.rises;
             few = it.few;
-            lasting = it.lasting;
-            no_cut = it.no_cut;
+            fuse = it.fuse;
           },
         )
 

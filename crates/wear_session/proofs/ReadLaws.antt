@@ -113,7 +113,6 @@ module _ (setup : Setup) (p : WearParts) (gapped after : Gapped) (board : BoardM
             wear = ap (λ (m : List Mark). wear_in setup (plain_memory setup m)) marks;
             count = wear.its_count ∙ sym (ap (λ (g : Option Gapped). unwrap_or (option_map (λ (k : Gapped). k.count) g) 0) there);
             power = powered ∙ sym on.powered;
-            fuse = watched.follows.burnt powered;
             loss = done.loss;
             marks = marks;
           }),
@@ -148,7 +147,6 @@ module _ (setup : Setup) (p : WearParts) (gapped after : Gapped) (board : BoardM
           wear = ap (λ (m : List Mark). wear_in setup (plain_memory setup m)) cut_marks;
           count = refl;
           power = off;
-          fuse = watched.follows.cleared off;
           loss = cut_done.loss;
           marks = cut_marks;
         })

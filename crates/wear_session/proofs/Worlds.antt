@@ -26,9 +26,10 @@ use Rattle.start_gap.specs.Gapped.{logical_lines}
 use Rattle.pmem_engine.specs.Outcomes.{TakesAtMost, TakesFewer}
 use Rattle.watched_board.specs.declared.taken.Taken.{Taken}
 use Rattle.watched_board.specs.Watching.{counted, cuts_after, steps_in, step_limit, device_during, none_taken, FollowsOn, IsWatched}
-use Rattle.wear_session.specs.State.{WearState}
+use Rattle.trace_text.specs.Sessions.{HasBurnt, HasRunOut}
+use Rattle.wear_session.specs.State.{WearState, without_power}
 use Rattle.wear_session.specs.World.{WearParts, IsWearWorld, IsLevelledOn, IsLevelledBy, wear_in, logical_memory, wear_of}
-use Rattle.wear_session.specs.Answered.{IsButForCounts, GoesTo, IsCutOff, burnt}
+use Rattle.wear_session.specs.Answered.{IsButForSteps, RisesBySteps, GoesTo, IsCutOff}
 
 -- ---- sealed lines
 
@@ -97,51 +98,51 @@ rose_by before (suc more) some =
       | inr below ↦ inr (omega (arith, below))
     ]
 
-rose : (old new : BoardMemory) (taken : Taken) → FollowsOn old new taken → new.powered ≡ false → HasRisen old.cuts new.cuts
-rose old new taken follows off =
-    subst (λ n. HasRisen old.cuts n) (sym follows.cuts) (rose_by old.cuts taken.cuts (follows.cut off))
+module _ (old new : BoardMemory) (taken : Taken) (follows : FollowsOn old new taken) where
+  pub rises_by : RisesBySteps (steps_in taken) old.writes old.latches new.writes new.latches
+  rises_by =
+      record {
+        written = taken.writes;
+        latched = taken.latches;
+        sum = refl;
+        its_writes = follows.writes;
+        its_latches = follows.latches;
+      }
+
+  pub has_burnt : new.powered ≡ true → HasBurnt (steps_in taken) old.fuse new.fuse old.cuts new.cuts
+  has_burnt powered = record { lasting = follows.lasting powered; rest = follows.burnt powered; uncut = follows.uncut powered }
+
+  pub has_run_out : new.powered ≡ false → steps_in taken < step_limit → HasRunOut (steps_in taken) old.fuse new.fuse old.cuts new.cuts
+  has_run_out off below =
+      record {
+        at_end = follows.spent off below;
+        cleared = follows.cleared off;
+        cut = subst (λ n. HasRisen old.cuts n) (sym follows.cuts) (rose_by old.cuts taken.cuts (follows.cut off));
+      }
 
 -- ---- states
 
 module _ (setup : Setup) (old new : WearParts) (taken : Taken) (watched : IsWatched old.board new.board taken) (expected : WearState) (most : ℕ) where
   -- a call that goes on
-  pub goes_to : new.board.powered ≡ true → steps_in taken ≤ most
-      → IsButForCounts (record expected { fuse = burnt old.board.fuse (steps_in taken) }) (wear_of setup new)
+  pub goes_to : new.board.powered ≡ true → steps_in taken ≤ most → IsButForSteps expected (wear_of setup new)
       → GoesTo expected (steps_in taken) most (wear_of setup old) (wear_of setup new)
   goes_to powered few becomes =
       record {
         becomes = becomes;
-        rises =
-            record {
-              written = taken.writes;
-              latched = taken.latches;
-              sum = refl;
-              writes = watched.follows.writes;
-              latches = watched.follows.latches;
-            };
+        rises = rises_by old.board new.board taken watched.follows;
         few = few;
-        lasting = watched.follows.lasting powered;
-        no_cut = watched.follows.uncut powered;
+        fuse = has_burnt old.board new.board taken watched.follows powered;
       }
 
   -- a call that is cut
-  pub cut_off : new.board.powered ≡ false → steps_in taken < most → most ≤ step_limit
-      → IsButForCounts (record expected { count = 0; power = false; fuse = None }) (wear_of setup new)
+  pub cut_off : new.board.powered ≡ false → steps_in taken < most → most ≤ step_limit → IsButForSteps (without_power expected) (wear_of setup new)
       → IsCutOff expected (steps_in taken) most (wear_of setup old) (wear_of setup new)
   cut_off off below bounded becomes =
       record {
         becomes = becomes;
-        rises =
-            record {
-              written = taken.writes;
-              latched = taken.latches;
-              sum = refl;
-              writes = watched.follows.writes;
-              latches = watched.follows.latches;
-            };
-        at_fuse = watched.follows.spent off (omega (arith, below, bounded));
+        rises = rises_by old.board new.board taken watched.follows;
         below = below;
-        cut = rose old.board new.board taken watched.follows off;
+        fuse = has_run_out old.board new.board taken watched.follows off (omega (arith, below, bounded));
       }
 
 -- ---- what is held

@@ -37,7 +37,7 @@ use Rattle.wear_session.specs.declared.answers.WearAnswer.{WearAnswer}
 use Rattle.wear_session.specs.declared.answers.WearAnswer.TheVariants as Say
 use Rattle.wear_session.specs.State.{WearState, setup_in, lines_in, is_due, engine_writes, moment_in, place_in}
 use Rattle.wear_session.specs.World.{WearParts, IsWearWorld, IsLevelledOn, wear_in, logical_memory, wear_of}
-use Rattle.wear_session.specs.Answered.{Writing, is_own_seal, IsAnswered, IsWriting, IsKept, EndsWriting, IsButForCounts, GoesTo, IsCutOff, after_writing, burnt, most_of_write, of_line, write_steps}
+use Rattle.wear_session.specs.Answered.{Writing, is_own_seal, IsAnswered, IsWriting, IsKept, EndsWriting, IsButForSteps, GoesTo, IsCutOff, after_writing, most_of_write, of_line, write_steps}
 use Rattle.wear_session.proofs.Worlds.{at_most, fewer, goes_to, cut_off, on_after, off_after}
 use Rattle.wear_session.proofs.ReadLaws.{on_in, lines_are}
 use Rattle.wear_session.proofs.Seen.{setup_under, of_line_is, served, seen_from, held_under}
@@ -239,7 +239,7 @@ module _ (c : WriteCall) where
       goes =
           goes_to setup p (left (Some c.after)) c.taken c.watched (after_writing old c.at c.plain writing) limit done.live
           (at_most c.before.board c.board c.taken limit c.watched.follows.few done.takes)
-          (subst (λ e. IsButForCounts (record e { marks = old.marks ++ made; fuse = burnt c.before.board.fuse (steps_in c.taken) })
+          (subst (λ e. IsButForSteps (record e { marks = old.marks ++ made })
           (wear_of setup (left (Some c.after)))) (sym (with_writes_is old c.at c.plain k))
           (record {
             shape = refl;
@@ -251,7 +251,6 @@ module _ (c : WriteCall) where
                 count ∙ ap (λ m. cond (k == 0) m (cond due 0 (m + 1))) (sym count_is)
                 ∙ ap (λ d. cond (k == 0) old.count (cond d 0 (old.count + 1))) (sym due_is);
             power = done.live ∙ sym on.powered;
-            fuse = c.watched.follows.burnt done.live;
             loss = done.loss;
             marks = done.marks;
           }))
@@ -265,7 +264,7 @@ module _ (c : WriteCall) where
       cuts small =
           cut_off setup p (left None) c.taken c.watched (after_writing old c.at c.plain writing) limit cut.dark
           (fewer c.before.board c.board c.taken limit c.watched.follows.few cut.takes) small
-          (subst (λ e. IsButForCounts (record e { marks = old.marks ++ made; count = 0; power = false; fuse = None })
+          (subst (λ e. IsButForSteps (record e { marks = old.marks ++ made; count = 0; power = false; fuse = None })
           (wear_of setup (left None))) (sym (with_writes_is old c.at c.plain k))
           (record {
             shape = refl;
@@ -275,7 +274,6 @@ module _ (c : WriteCall) where
             wear = wear_now;
             count = refl;
             power = cut.dark;
-            fuse = c.watched.follows.cleared cut.dark;
             loss = cut.loss;
             marks = cut.marks;
           }))

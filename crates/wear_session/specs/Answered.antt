@@ -1,6 +1,6 @@
 -- Which answers a command has in which states, and the state after: where the state alone decides, the first
 -- condition that holds does; else the engine gives one of the answers that are listed.
-use Rattle.std.specs.Prelude.{ℕ, ◌≡◌, ◌≤◌, ◌<◌, ◌+◌, ◌-◌, ◌*◌, ◌==◌, ◌&&◌, ◌⊎◌, nat_lt, Bool, true, false, List, ◌++◌, length, Option, Some, None, option_map, IfSome, Ok, ⊤, IsTrue, if◌then◌else◌}
+use Rattle.std.specs.Prelude.{ℕ, ◌≡◌, ◌≤◌, ◌<◌, ◌+◌, ◌*◌, ◌==◌, ◌&&◌, ◌⊎◌, nat_lt, Bool, true, false, List, ◌++◌, length, Option, Some, None, Ok, ⊤, IsTrue, if◌then◌else◌}
 use Rattle.std.specs.List.{list_any}
 use Rattle.pmem_base.specs.declared.lines.Line.{Line}
 use Rattle.pmem_base.specs.declared.commands.Posted.{Posted}
@@ -8,7 +8,6 @@ use Rattle.pmem_base.specs.declared.answers.Mark.{Mark}
 use Rattle.pmem_base.specs.declared.answers.Mark.TheVariants.{Begin, Seal}
 use Rattle.pmem_base.specs.declared.answers.Exhibit.{Exhibit}
 use Rattle.pmem_base.specs.declared.answers.Exhibit.TheVariants.{Twin}
-use Rattle.pmem_base.specs.Counts.{HasRisen}
 use Rattle.pmem_base.specs.Shape.{Shape}
 use Rattle.pmem_base.specs.Layout.{data_lines}
 use Rattle.pmem_base.specs.Lines.{line_at}
@@ -24,6 +23,7 @@ use Rattle.wear_session.specs.declared.commands.WearCommand.{WearCommand}
 use Rattle.wear_session.specs.declared.commands.WearCommand.TheVariants as Do
 use Rattle.wear_session.specs.declared.answers.WearAnswer.{WearAnswer}
 use Rattle.wear_session.specs.declared.answers.WearAnswer.TheVariants as Say
+use Rattle.trace_text.specs.Sessions.{HasBurnt, HasRunOut}
 use Rattle.trace_text.specs.declared.talk.Halt.{Halt}
 use Rattle.trace_text.specs.declared.talk.Halt.TheVariants as Stop
 use Rattle.wear_session.specs.Answers.{wear_text}
@@ -53,8 +53,8 @@ after_decided state command = state
 
 -- ---- steps
 
--- a state that is another but for the board's counts
-pub record IsButForCounts (expected new : WearState) : Type 0 where
+-- a state that is another but for the fuse and the board's counts
+pub record IsButForSteps (expected new : WearState) : Type 0 where
   pub shape : new.shape ≡ expected.shape
   pub keys : new.keys ≡ expected.keys
   pub every : new.every ≡ expected.every
@@ -62,37 +62,30 @@ pub record IsButForCounts (expected new : WearState) : Type 0 where
   pub wear : new.wear ≡ expected.wear
   pub count : new.count ≡ expected.count
   pub power : new.power ≡ expected.power
-  pub fuse : new.fuse ≡ expected.fuse
   pub loss : new.loss ≡ expected.loss
   pub marks : new.marks ≡ expected.marks
 
 -- line writes and latches rose by so many together
-pub record RisesBySteps (steps : ℕ) (old new : WearState) : Type 0 where
+pub record RisesBySteps (steps writes latches writes_after latches_after : ℕ) : Type 0 where
   pub written : ℕ
   pub latched : ℕ
   pub sum : steps ≡ written + latched
-  pub writes : new.writes ≡ counted old.writes written
-  pub latches : new.latches ≡ counted old.latches latched
-
--- the fuse after so many steps
-abbrev pub burnt : Option ℕ → ℕ → Option ℕ
-burnt fuse steps = option_map (λ left. left - steps) fuse
+  pub its_writes : writes_after ≡ counted writes written
+  pub its_latches : latches_after ≡ counted latches latched
 
 -- steps were done, at most `most` and no more than the fuse had left, and nothing was cut
 pub record GoesTo (expected : WearState) (steps most : ℕ) (old new : WearState) : Type 0 where
-  pub becomes : IsButForCounts (record expected { fuse = burnt old.fuse steps }) new
-  pub rises : RisesBySteps steps old new
+  pub becomes : IsButForSteps expected new
+  pub rises : RisesBySteps steps old.writes old.latches new.writes new.latches
   pub few : steps ≤ most
-  pub lasting : IfSome old.fuse (λ left. steps ≤ left)
-  pub no_cut : new.cuts ≡ old.cuts
+  pub fuse : HasBurnt steps old.fuse new.fuse old.cuts new.cuts
 
 -- power was cut with the fuse used up, after fewer than `most` steps
 pub record IsCutOff (expected : WearState) (steps most : ℕ) (old new : WearState) : Type 0 where
-  pub becomes : IsButForCounts (without_power expected) new
-  pub rises : RisesBySteps steps old new
-  pub at_fuse : old.fuse ≡ Some steps
+  pub becomes : IsButForSteps (without_power expected) new
+  pub rises : RisesBySteps steps old.writes old.latches new.writes new.latches
   pub below : steps < most
-  pub cut : HasRisen old.cuts new.cuts
+  pub fuse : HasRunOut steps old.fuse new.fuse old.cuts new.cuts
 
 -- the most steps of an engine's write, which are those of 65 seals, a begin and its path, and of its read
 abbrev pub write_steps : Shape → ℕ

@@ -1,5 +1,5 @@
 use Rattle.std.proofs.Common.{refl, sym, ap, inl}
-use Rattle.pmem_cli.specs.Replies.{sort_of_reading}
+use Rattle.trace_text.specs.Entries.{sort_of_reading}
 use Rattle.pmem_cli.proofs.WorldTalks.{AnswersLine-command}
 use Rattle.pmem_cli.proofs.serving.WorldServe.serve_line.Goals as goal
 
