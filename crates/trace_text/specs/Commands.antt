@@ -5,7 +5,7 @@ use Rattle.pmem_base.specs.declared.commands.Command.TheVariants as Do
 use Rattle.pmem_base.specs.declared.commands.Kind.{Kind}
 use Rattle.pmem_base.specs.declared.lines.Line.{Line}
 use Rattle.pmem_base.specs.Ranges.{IsPartLine}
-use Rattle.collision_witness.specs.Words.{Word, hex_bytes}
+use Rattle.collision_witness.specs.Words.{Word, hex_bytes, ◌>>=◌}
 use Rattle.plain_model.specs.Grammar.{padded_line}
 use Rattle.plain_model.specs.Words.{last_port}
 

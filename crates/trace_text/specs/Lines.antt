@@ -3,7 +3,7 @@ use Rattle.std.specs.Prelude.{List, Result, drop}
 use Rattle.pmem_base.specs.declared.lines.Line.{Line}
 use Rattle.pmem_base.specs.declared.commands.Kind.{Kind}
 use Rattle.plain_model.specs.Grammar.{Verb, verbs}
-use Rattle.collision_witness.specs.Words.{Word, one_word, hex_line}
+use Rattle.collision_witness.specs.Words.{Word, one_word, hex_line, ◌>>=◌}
 
 -- one line and nothing else
 abbrev pub one_line : List Word → Result Line Kind
