@@ -1,6 +1,5 @@
 //! Sessions over lines that are written by transactions.
 mod cuts;
-mod random_sessions;
 mod tables;
 mod used_up;
 
