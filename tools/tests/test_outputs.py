@@ -1,5 +1,6 @@
-"""What the program prints: the examples' outputs, and sessions with their replies, which are another program's of the same rules: random ones,
-and `tree-old-lines`, where lines of an older device are put back one by one and together, with power on and off."""
+"""What the program prints: the examples' outputs, and sessions with their replies, which are another program's of the same rules: random ones;
+`tree-old-lines`, where lines of an older device are put back one by one and together, with power on and off; and `txn-stuck-..`, where a commit of
+fifteen lines is stuck at each of them in turn."""
 import re
 import subprocess
 import unittest

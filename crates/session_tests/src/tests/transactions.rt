@@ -11,7 +11,7 @@ ghost use Rattle.line_txn.specs.Logged.{targets_of};
 use super::bench::{Bench, fresh, recovered, steps};
 use crate::tests::equal;
 use arrayvec::ArrayVec;
-use line_txn::{CommitFault, Done, Opened, Store, TxnFault};
+use line_txn::{CommitFault, Done, Opened, Store};
 use pmem_base::Line;
 use pmem_engine::Fault;
 use seal_ledger::Audit;
@@ -137,66 +137,5 @@ fn cuts_leave_all_or_none(rt: HostRuntime) -> Result<(), Fail> {
         ];
         assert_eq!(rt; found, lines, "at {fuse}");
     }
-    Ok(())
-}
-
-// Line 0 has been written 63 times when its page runs out, so the last target is spent: the log serves it, also
-// once power was off.
-#[test]
-fn spent_targets_are_served_from_the_log(rt: HostRuntime) -> Result<(), Fail> {
-    let mut bench = fresh(rt.alloc(), u64::MAX)?;
-    let (mut store, _) = opened(&rt, rt.alloc(), &mut bench)?;
-    for round in 0..64_u8 {
-        let mut txn = ArrayVec::new();
-        txn.push((0, Line([round; 64])));
-        assert!(rt; store.lines() > 64 && store.stuck().is_none());
-        let done = commit(&rt, &mut bench, &mut store, &txn);
-        let expected = if round < 63 {
-            Done::Applied
-        } else {
-            Done::Stuck { page: 15 }
-        };
-        assert_eq!(rt; done, Ok(expected), "round {round}");
-        equal(&rt, read(&rt, &mut bench, &mut store, 0), Line([round; 64]));
-    }
-    equal(&rt, store.stuck(), Some(15));
-    bench.board.off();
-    bench.board.power();
-    let (mut store, again) = opened(&rt, rt.alloc(), &mut bench)?;
-    equal(
-        &rt,
-        again,
-        Opened {
-            redone: 1,
-            stuck: Some(15),
-        },
-    );
-    equal(&rt, read(&rt, &mut bench, &mut store, 0), Line([63; 64]));
-    Ok(())
-}
-
-// A header line that none could have written is refused.
-#[test]
-fn other_headers_are_refused(rt: HostRuntime) -> Result<(), Fail> {
-    let mut bench = fresh(rt.alloc(), 0)?;
-    let mut engine = recovered(rt.alloc(), &mut bench)?;
-    assert!(rt; bench.geo.lines() > 16 && bench.ledger.reserve(1122).is_ok());
-    let at = bench.geo.lines() - 16;
-    let line = Line([0x33; 64]);
-    let written = engine.write(
-        &mut bench.board,
-        &mut bench.suite,
-        &mut bench.ledger,
-        at,
-        &line,
-    );
-    assert!(rt; written.is_ok() && bench.ledger.reserve(1056).is_ok());
-    let answer = Store::open(
-        engine,
-        &mut bench.board,
-        &mut bench.suite,
-        &mut bench.ledger,
-    );
-    assert!(rt; matches!(answer, Err(TxnFault::Header { line: found }) if found == line));
     Ok(())
 }
