@@ -22,14 +22,14 @@ use Rattle.counter_tree.specs.declared.watch.LineSeal.{LineSeal}
 use Rattle.counter_tree.proofs.TreeLaws.{raised_nodes-IsRaised}
 use Rattle.asit_shadow.specs.State.{TreeState, cache_at, IsCachedDirty}
 use Rattle.asit_shadow.specs.declared.cache.CachedNode.{CachedNode}
-use Rattle.asit_shadow.specs.Invariants.{IsTrueSeal, IsTrueSlot, IsAnchored, IsTrueCached, IsTrusted, IsSealStored, IsNamed, IsSlotStored, IsMendable, IsDurable, IsSound}
-use Rattle.asit_shadow.specs.Paths.{is_path_slot, HasPathNamed, IsPathCached, HasPathCached}
-use Rattle.asit_shadow.specs.Steps.{IsArmed, HasPathStored, IsEmptied}
+use Rattle.asit_shadow.specs.Invariants.{IsTrueSeal, IsTrueTreeSlot, IsTreeAnchored, IsTrueCached, IsTreeTrusted, IsTreeSealStored, IsNamed, IsSlotStored, IsTreeMendable, IsTreeDurable, IsTreeSound}
+use Rattle.asit_shadow.specs.Paths.{is_path_slot, HasPathNamed, IsNodePathCached, HasPathCached}
+use Rattle.asit_shadow.specs.Steps.{IsTreeArmed, HasPathStored, IsTreeEmptied}
 use Rattle.asit_shadow.proofs.SlotPlaces.{on_path-inside, top_on_path, path_slot-of, path_slot-from}
 use Rattle.asit_shadow.proofs.PutLaws.{write_group-IsGroup, write_group-made, IsGroupMade, tag_slot-tag_only}
 
 -- what raising the path does
-pub armed-IsRaised : (setup : Setup) (a : ℕ) (seal : LineSeal) (old_regs new_regs : Regs) (old new : WatchState) → IsShape setup.shape → IsAnchored setup old_regs old → IsArmed setup a seal old_regs new_regs old new → IsRaised setup.shape a old.nodes new.nodes
+pub armed-IsRaised : (setup : Setup) (a : ℕ) (seal : LineSeal) (old_regs new_regs : Regs) (old new : WatchState) → IsShape setup.shape → IsTreeAnchored setup old_regs old → IsTreeArmed setup a seal old_regs new_regs old new → IsRaised setup.shape a old.nodes new.nodes
 armed-IsRaised setup a seal old_regs new_regs old new shape anchored armed =
     subst (IsRaised setup.shape a old.nodes) (sym armed.nodes)
     (raised_nodes-IsRaised setup.shape a old.nodes shape.at_least_one_level armed.its_line armed.can_rise anchored.tree)
@@ -48,7 +48,7 @@ last_else watch new a b seal e apart =
 
 -- ---- anchored
 
-armed-slots : (setup : Setup) (a i : ℕ) (old new : WatchState) → IsShape setup.shape → a < tree_lines setup.shape → IsRaised setup.shape a old.nodes new.nodes → HasPathNamed setup.shape a new.nodes old.slots new.slots → IsTrueSlot setup.shape old i → IsTrueSlot setup.shape new i
+armed-slots : (setup : Setup) (a i : ℕ) (old new : WatchState) → IsShape setup.shape → a < tree_lines setup.shape → IsRaised setup.shape a old.nodes new.nodes → HasPathNamed setup.shape a new.nodes old.slots new.slots → IsTrueTreeSlot setup.shape old i → IsTrueTreeSlot setup.shape new i
 armed-slots setup a i old new shape inside raised named before =
     let g = setup.shape in
     elim (cases_Bool (is_path_slot setup.shape a i)) [
@@ -76,7 +76,7 @@ armed-slots setup a i old new shape inside raised named before =
     ]
 
 -- the law: anchored stays
-pub IsAnchored-armed : (setup : Setup) (a : ℕ) (seal : LineSeal) (old_regs new_regs : Regs) (old new : WatchState) → IsShape setup.shape → IsAnchored setup old_regs old → IsArmed setup a seal old_regs new_regs old new → IsAnchored setup new_regs new
+pub IsAnchored-armed : (setup : Setup) (a : ℕ) (seal : LineSeal) (old_regs new_regs : Regs) (old new : WatchState) → IsShape setup.shape → IsTreeAnchored setup old_regs old → IsTreeArmed setup a seal old_regs new_regs old new → IsTreeAnchored setup new_regs new
 IsAnchored-armed setup a seal old_regs new_regs old new shape anchored armed =
     let g = setup.shape in
     let raised = armed-IsRaised setup a seal old_regs new_regs old new shape anchored armed in
@@ -126,7 +126,7 @@ IsAnchored-armed setup a seal old_regs new_regs old new shape anchored armed =
 -- ---- durable
 
 -- a dirty node off the path is named as before
-pub dirty-named : (setup : Setup) (a x : ℕ) (engine : TreeState) (regs : Regs) (old new : WatchState) → IsShape setup.shape → a < tree_lines setup.shape → IsTrusted setup engine regs old → IsPathCached setup.shape a engine.cache → IsRaised setup.shape a old.nodes new.nodes → HasPathNamed setup.shape a new.nodes old.slots new.slots
+pub dirty-named : (setup : Setup) (a x : ℕ) (engine : TreeState) (regs : Regs) (old new : WatchState) → IsShape setup.shape → a < tree_lines setup.shape → IsTreeTrusted setup engine regs old → IsNodePathCached setup.shape a engine.cache → IsRaised setup.shape a old.nodes new.nodes → HasPathNamed setup.shape a new.nodes old.slots new.slots
     → is_on_line_path setup.shape a x ≡ false → IsCachedDirty setup.shape engine.cache x → (is_path_slot setup.shape a (slot_of setup.shape x) ≡ false) × IsNamed setup.shape new x
 dirty-named setup a x engine regs old new shape inside trusted cached raised named off dirty =
     let g = setup.shape in
@@ -146,23 +146,23 @@ dirty-named setup a x engine regs old new shape inside trusted cached raised nam
           ∙ (ap (λ z. slot_line z (node_at old.nodes z)) dirty.position ∙ ap (slot_line x) (sym (raised.off_path x off))))),
     )
 
-armed-mendable : (setup : Setup) (a : ℕ) (seal : LineSeal) (engine : TreeState) (lines made : List Line) (old_regs new_regs : Regs) (old new : WatchState) → IsShape setup.shape → IsSound setup engine lines old_regs old → IsPathCached setup.shape a engine.cache → IsArmed setup a seal old_regs new_regs old new → IsGroupMade setup.shape a seal new.nodes lines made → IsMendable setup made new_regs new
+armed-mendable : (setup : Setup) (a : ℕ) (seal : LineSeal) (engine : TreeState) (lines made : List Line) (old_regs new_regs : Regs) (old new : WatchState) → IsShape setup.shape → IsTreeSound setup engine lines old_regs old → IsNodePathCached setup.shape a engine.cache → IsTreeArmed setup a seal old_regs new_regs old new → IsGroupMade setup.shape a seal new.nodes lines made → IsTreeMendable setup made new_regs new
 armed-mendable setup a seal engine lines made old_regs new_regs old new shape sound cached armed group =
     let g = setup.shape in
     let anchored = sound.trusted.anchored in
     let raised = armed-IsRaised setup a seal old_regs new_regs old new shape anchored armed in
     let named = armed.slots in
     let room : a < length old.seals = omega (arith, armed.its_line, anchored.of_setup.seal_count) in
-    let before : IsMendable setup lines old_regs old =
-    subst (λ group. IsMendable setup (redone group lines) old_regs old) armed.no_group_before sound.durable.mendable in
+    let before : IsTreeMendable setup lines old_regs old =
+    subst (λ group. IsTreeMendable setup (redone group lines) old_regs old) armed.no_group_before sound.durable.mendable in
     record {
       anchored = IsAnchored-armed setup a seal old_regs new_regs old new shape anchored armed;
       seals_stored =
           λ b in_b.
           elim (cases_eq b a) [
             | inl same ↦
-                subst (IsSealStored setup.shape made new) (sym same)
-                (let it : IsSealStored setup.shape made new a =
+                subst (IsTreeSealStored setup.shape made new) (sym same)
+                (let it : IsTreeSealStored setup.shape made new a =
                 record {
                   seal = seal;
                   last = last_here old new a seal armed.seals room;
@@ -202,13 +202,13 @@ armed-mendable setup a seal engine lines made old_regs new_regs old new shape so
     }
 
 -- what the group makes of the lines
-pub armed-made : (setup : Setup) (a : ℕ) (seal : LineSeal) (lines : List Line) (old_regs new_regs : Regs) (old new : WatchState) → IsShape setup.shape → length lines ≡ tree_size setup.shape → IsArmed setup a seal old_regs new_regs old new → IsGroupMade setup.shape a seal new.nodes lines (redone new_regs.group.items lines)
+pub armed-made : (setup : Setup) (a : ℕ) (seal : LineSeal) (lines : List Line) (old_regs new_regs : Regs) (old new : WatchState) → IsShape setup.shape → length lines ≡ tree_size setup.shape → IsTreeArmed setup a seal old_regs new_regs old new → IsGroupMade setup.shape a seal new.nodes lines (redone new_regs.group.items lines)
 armed-made setup a seal lines old_regs new_regs old new shape size armed =
     subst (λ group. IsGroupMade setup.shape a seal new.nodes lines (redone group lines)) (sym armed.group)
     (write_group-made setup.shape a seal new.nodes lines shape armed.its_line size)
 
 -- the law: over a sound engine with the path cached, the device is durable from the latch on
-pub IsDurable-armed : (setup : Setup) (a : ℕ) (seal : LineSeal) (engine : TreeState) (lines : List Line) (old_regs new_regs : Regs) (old new : WatchState) → IsShape setup.shape → IsSound setup engine lines old_regs old → IsPathCached setup.shape a engine.cache → IsArmed setup a seal old_regs new_regs old new → IsDurable setup lines new_regs new
+pub IsDurable-armed : (setup : Setup) (a : ℕ) (seal : LineSeal) (engine : TreeState) (lines : List Line) (old_regs new_regs : Regs) (old new : WatchState) → IsShape setup.shape → IsTreeSound setup engine lines old_regs old → IsNodePathCached setup.shape a engine.cache → IsTreeArmed setup a seal old_regs new_regs old new → IsTreeDurable setup lines new_regs new
 IsDurable-armed setup a seal engine lines old_regs new_regs old new shape sound cached armed =
     record {
       device_whole = sound.durable.device_whole;
@@ -219,7 +219,7 @@ IsDurable-armed setup a seal engine lines old_regs new_regs old new shape sound 
 
 -- ---- the group is written and emptied
 
-pub IsAnchored-emptied : (setup : Setup) (old new : Regs) (watch : WatchState) → IsEmptied old new → IsAnchored setup old watch → IsAnchored setup new watch
+pub IsAnchored-emptied : (setup : Setup) (old new : Regs) (watch : WatchState) → IsTreeEmptied old new → IsTreeAnchored setup old watch → IsTreeAnchored setup new watch
 IsAnchored-emptied setup old new watch emptied anchored =
     record {
       of_setup = anchored.of_setup;
@@ -241,7 +241,7 @@ IsAnchored-emptied setup old new watch emptied anchored =
         }
 
 -- the cached nodes are true after the write
-stored-true : (setup : Setup) (a i : ℕ) (held : CachedNode) (engine : TreeState) (regs : Regs) (old new : WatchState) (cache : List (Option CachedNode)) → IsShape setup.shape → a < tree_lines setup.shape → IsTrusted setup engine regs old → IsRaised setup.shape a old.nodes new.nodes → HasPathNamed setup.shape a new.nodes old.slots new.slots
+stored-true : (setup : Setup) (a i : ℕ) (held : CachedNode) (engine : TreeState) (regs : Regs) (old new : WatchState) (cache : List (Option CachedNode)) → IsShape setup.shape → a < tree_lines setup.shape → IsTreeTrusted setup engine regs old → IsRaised setup.shape a old.nodes new.nodes → HasPathNamed setup.shape a new.nodes old.slots new.slots
     → HasPathCached setup.shape a new.nodes engine.cache cache → cache_at cache i ≡ Some held → IsTrueCached setup.shape new i held
 stored-true setup a i held engine regs old new cache shape inside trusted raised named stored here =
     elim (cases_Bool (is_path_slot setup.shape a i)) [
@@ -272,7 +272,7 @@ stored-true setup a i held engine regs old new cache shape inside trusted raised
     ]
 
 -- the law: the engine is trusted again, whatever the device's lines are
-pub IsTrusted-written : (setup : Setup) (a : ℕ) (seal : LineSeal) (engine after : TreeState) (old_regs armed_regs new_regs : Regs) (old new : WatchState) → IsShape setup.shape → IsTrusted setup engine old_regs old → IsArmed setup a seal old_regs armed_regs old new → HasPathStored setup a engine after new → IsEmptied armed_regs new_regs → IsTrusted setup after new_regs new
+pub IsTrusted-written : (setup : Setup) (a : ℕ) (seal : LineSeal) (engine after : TreeState) (old_regs armed_regs new_regs : Regs) (old new : WatchState) → IsShape setup.shape → IsTreeTrusted setup engine old_regs old → IsTreeArmed setup a seal old_regs armed_regs old new → HasPathStored setup a engine after new → IsTreeEmptied armed_regs new_regs → IsTreeTrusted setup after new_regs new
 IsTrusted-written setup a seal engine after old_regs armed_regs new_regs old new shape trusted armed stored emptied =
     let raised = armed-IsRaised setup a seal old_regs armed_regs old new shape trusted.anchored armed in
     record {
@@ -292,8 +292,8 @@ IsTrusted-written setup a seal engine after old_regs armed_regs new_regs old new
     }
 
 -- the law: over a sound engine it is sound again, the group being redone
-pub IsSound-written : (setup : Setup) (a : ℕ) (seal : LineSeal) (engine after : TreeState) (lines : List Line) (old_regs armed_regs new_regs : Regs) (old new : WatchState) → IsShape setup.shape → IsSound setup engine lines old_regs old → IsPathCached setup.shape a engine.cache → IsArmed setup a seal old_regs armed_regs old new → HasPathStored setup a engine after new → IsEmptied armed_regs new_regs
-    → IsSound setup after (redone armed_regs.group.items lines) new_regs new
+pub IsSound-written : (setup : Setup) (a : ℕ) (seal : LineSeal) (engine after : TreeState) (lines : List Line) (old_regs armed_regs new_regs : Regs) (old new : WatchState) → IsShape setup.shape → IsTreeSound setup engine lines old_regs old → IsNodePathCached setup.shape a engine.cache → IsTreeArmed setup a seal old_regs armed_regs old new → HasPathStored setup a engine after new → IsTreeEmptied armed_regs new_regs
+    → IsTreeSound setup after (redone armed_regs.group.items lines) new_regs new
 IsSound-written setup a seal engine after lines old_regs armed_regs new_regs old new shape sound cached armed stored emptied =
     let raised = armed-IsRaised setup a seal old_regs armed_regs old new shape sound.trusted.anchored armed in
     let made = armed-made setup a seal lines old_regs armed_regs old new shape sound.durable.device_whole.count armed in
@@ -305,8 +305,8 @@ IsSound-written setup a seal engine after lines old_regs armed_regs new_regs old
           record {
             device_whole = AreLinesOf-redone (tree_size setup.shape) armed_regs.group.items lines durable.mendable.anchored.group.lines_range durable.device_whole;
             mendable =
-                subst (λ group. IsMendable setup (redone group (redone armed_regs.group.items lines)) new_regs new) (sym emptied.no_group)
-                (let it : IsMendable setup (redone armed_regs.group.items lines) new_regs new =
+                subst (λ group. IsTreeMendable setup (redone group (redone armed_regs.group.items lines)) new_regs new) (sym emptied.no_group)
+                (let it : IsTreeMendable setup (redone armed_regs.group.items lines) new_regs new =
                 record {
                   anchored = trusted.anchored;
                   seals_stored = durable.mendable.seals_stored;

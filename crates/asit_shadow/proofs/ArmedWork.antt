@@ -14,9 +14,9 @@ use Rattle.counter_tree.specs.declared.watch.LineSeal.{LineSeal}
 use Rattle.counter_tree.specs.Layout.{tree_lines, tree_slots}
 use Rattle.counter_tree.specs.Watch.{WatchState}
 use Rattle.asit_shadow.specs.declared.cache.CachedNode.{CachedNode}
-use Rattle.asit_shadow.specs.Parts.{Parts, IsWatchReady, lines_redone}
+use Rattle.asit_shadow.specs.Parts.{TreeEngineParts, IsWatchReady, tree_lines_redone}
 use Rattle.asit_shadow.specs.Paths.{is_path_slot, write_group, HasPathCached}
-use Rattle.asit_shadow.specs.Work.{absent_count, HasSlotsFetched, HasArmedPath}
+use Rattle.asit_shadow.specs.Work.{absent_nodes, HasSlotsFetched, HasArmedPath}
 use Rattle.asit_shadow.specs.Fetching.{IsPathFetchedTo}
 use Rattle.asit_shadow.specs.Writing.{IsWriteMade}
 use Rattle.asit_shadow.proofs.SlotPlaces.{path_slot-of}
@@ -37,7 +37,7 @@ cached-over g nodes after a n old mid new fetched it =
     }
 
 -- what is known of it
-pub record IsArmedOver (setup : Setup) (a : ℕ) (plain : Line) (seal : LineSeal) (pairs : List (ℕ × Node)) (regs : Regs) (old mid new : Parts) : Type 0 where
+pub record IsArmedOver (setup : Setup) (a : ℕ) (plain : Line) (seal : LineSeal) (pairs : List (ℕ × Node)) (regs : Regs) (old mid new : TreeEngineParts) : Type 0 where
   pub shape : IsShape setup.shape
   pub inside : a < tree_lines setup.shape
   pub ready : IsWatchReady setup.shape old.watch
@@ -45,17 +45,17 @@ pub record IsArmedOver (setup : Setup) (a : ℕ) (plain : Line) (seal : LineSeal
   pub path : IsPathFetchedTo setup a setup.shape.levels old mid
   pub made : IsWriteMade setup a plain seal pairs regs mid new
 
-pairing : (setup : Setup) (a : ℕ) (plain : Line) (seal : LineSeal) (pairs : List (ℕ × Node)) (regs : Regs) (old mid new : Parts) → IsArmedOver setup a plain seal pairs regs old mid new → IsPairing setup.shape a pairs new.watch.nodes
+pairing : (setup : Setup) (a : ℕ) (plain : Line) (seal : LineSeal) (pairs : List (ℕ × Node)) (regs : Regs) (old mid new : TreeEngineParts) → IsArmedOver setup a plain seal pairs regs old mid new → IsPairing setup.shape a pairs new.watch.nodes
 pairing setup a plain seal pairs regs old mid new it =
     subst (IsPairing setup.shape a pairs) (sym it.made.told.nodes)
     (pairs-are setup.shape a pairs mid.watch.nodes it.shape it.inside it.made.raised.positions
     (ap (λ (w : WatchState). length w.nodes) it.path.watch ∙ it.ready.node_count))
 
-pub armed-group : (setup : Setup) (a : ℕ) (plain : Line) (seal : LineSeal) (pairs : List (ℕ × Node)) (regs : Regs) (old mid new : Parts) → IsArmedOver setup a plain seal pairs regs old mid new → regs.group.items ≡ write_group setup.shape a seal new.watch.nodes
+pub armed-group : (setup : Setup) (a : ℕ) (plain : Line) (seal : LineSeal) (pairs : List (ℕ × Node)) (regs : Regs) (old mid new : TreeEngineParts) → IsArmedOver setup a plain seal pairs regs old mid new → regs.group.items ≡ write_group setup.shape a seal new.watch.nodes
 armed-group setup a plain seal pairs regs old mid new it =
     it.made.group ∙ lines-are setup.shape a seal pairs new.watch.nodes (pairing setup a plain seal pairs regs old mid new it)
 
-pub armed-path : (setup : Setup) (a latches : ℕ) (plain : Line) (seal : LineSeal) (pairs : List (ℕ × Node)) (regs : Regs) (old mid new : Parts) → IsArmedOver setup a plain seal pairs regs old mid new → lines_redone new ≡ redone_told regs.group.items mid.device.lines
+pub armed-path : (setup : Setup) (a latches : ℕ) (plain : Line) (seal : LineSeal) (pairs : List (ℕ × Node)) (regs : Regs) (old mid new : TreeEngineParts) → IsArmedOver setup a plain seal pairs regs old mid new → tree_lines_redone new ≡ redone_told regs.group.items mid.device.lines
     → RisesBy latches old.device.latches new.device.latches → new.device.reads ≡ mid.device.reads → HasArmedPath setup a latches seal old new
 armed-path setup a latches plain seal pairs regs old mid new it lines latched reads =
     let mine = pairing setup a plain seal pairs regs old mid new it in
@@ -74,5 +74,5 @@ armed-path setup a latches plain seal pairs regs old mid new it lines latched re
           ∙ ap (redone_told (write_group setup.shape a seal new.watch.nodes)) it.path.done.lines);
       latched = latched;
       reads =
-          subst (RisesBy (absent_count setup.shape old.engine.cache a setup.shape.levels) old.device.reads) (sym reads) it.path.reads;
+          subst (RisesBy (absent_nodes setup.shape old.engine.cache a setup.shape.levels) old.device.reads) (sym reads) it.path.reads;
     }

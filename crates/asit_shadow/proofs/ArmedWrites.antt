@@ -19,9 +19,9 @@ use Rattle.counter_tree.specs.Shadow.{IsShadowTree, root_of, shadow_root, shadow
 use Rattle.counter_tree.specs.Trees.{node_at, line_position, raised, raised_nodes, is_on_line_path}
 use Rattle.counter_tree.proofs.TreeLaws.{raised-same, raised_nodes-IsRaised, versions_down}
 use Rattle.asit_shadow.specs.State.{IsCached, IsCachedAs, IsTreeEngine}
-use Rattle.asit_shadow.specs.Parts.{Parts, AreTrusted}
-use Rattle.asit_shadow.specs.Paths.{slots_with, HasPathNamed, HasPathCached, IsPathCached, path_node}
-use Rattle.asit_shadow.specs.Steps.{IsArmed, HasPathStored}
+use Rattle.asit_shadow.specs.Parts.{TreeEngineParts, AreTreeTrusted}
+use Rattle.asit_shadow.specs.Paths.{slots_with, HasPathNamed, HasPathCached, IsNodePathCached, path_node}
+use Rattle.asit_shadow.specs.Steps.{IsTreeArmed, HasPathStored}
 use Rattle.asit_shadow.specs.Writing.{set_pairs, slot_entries, position_below, IsWriteMade}
 use Rattle.asit_shadow.proofs.SlotPlaces.{on_path-inside}
 use Rattle.asit_shadow.proofs.PutLaws.{slots_with-HasPathNamed}
@@ -30,7 +30,7 @@ use Rattle.asit_shadow.proofs.PairSets.{IsPairing, pairs-are, lines-are, slots-a
 use Rattle.asit_shadow.proofs.ReadEnds.{line_counter-is}
 
 -- a cached node of a trusted chip is the true one
-pub cached-as : (setup : Setup) (parts : Parts) (x : ℕ) → AreTrusted setup parts → IsCached setup.shape parts.engine.cache x → IsCachedAs setup.shape parts.engine.cache x (node_at parts.watch.nodes x)
+pub cached-as : (setup : Setup) (parts : TreeEngineParts) (x : ℕ) → AreTreeTrusted setup parts → IsCached setup.shape parts.engine.cache x → IsCachedAs setup.shape parts.engine.cache x (node_at parts.watch.nodes x)
 cached-as setup parts x trusted cached =
     record {
       held = cached.held;
@@ -41,11 +41,11 @@ cached-as setup parts x trusted cached =
     }
 
 -- what the law of arming asks, and what that of storing asks
-pub record IsArmedAndStored (setup : Setup) (a : ℕ) (seal : LineSeal) (regs : Regs) (old new : Parts) : Type 0 where
-  pub armed : IsArmed setup a seal old.device.regs regs old.watch new.watch
+pub record IsArmedAndStored (setup : Setup) (a : ℕ) (seal : LineSeal) (regs : Regs) (old new : TreeEngineParts) : Type 0 where
+  pub armed : IsTreeArmed setup a seal old.device.regs regs old.watch new.watch
   pub stored : HasPathStored setup a old.engine new.engine new.watch
 
-pub armed-and_stored : (setup : Setup) (a : ℕ) (plain : Line) (seal : LineSeal) (pairs : List (ℕ × Node)) (regs : Regs) (old new : Parts) → IsShape setup.shape → a < tree_lines setup.shape → IsTreeEngine old.engine → AreTrusted setup old → IsPathCached setup.shape a old.engine.cache → total (node_at old.watch.nodes 0) < 2 ^ 64 - 1 → IsWriteMade setup a plain seal pairs regs old new → IsArmedAndStored setup a seal regs old new
+pub armed-and_stored : (setup : Setup) (a : ℕ) (plain : Line) (seal : LineSeal) (pairs : List (ℕ × Node)) (regs : Regs) (old new : TreeEngineParts) → IsShape setup.shape → a < tree_lines setup.shape → IsTreeEngine old.engine → AreTreeTrusted setup old → IsNodePathCached setup.shape a old.engine.cache → total (node_at old.watch.nodes 0) < 2 ^ 64 - 1 → IsWriteMade setup a plain seal pairs regs old new → IsArmedAndStored setup a seal regs old new
 unfolding shadow_root
 armed-and_stored setup a plain seal pairs regs old new shape inside engine trusted cached can_rise made =
     let g = setup.shape in

@@ -11,7 +11,7 @@ use Rattle.counter_tree.specs.Shadow.{shadow_height}
 use Rattle.asit_shadow.specs.declared.fault.TreeFault.{TreeFault}
 use Rattle.asit_shadow.specs.declared.fault.TreeFault.TheVariants as Fail
 use Rattle.asit_shadow.specs.State.{TreeState}
-use Rattle.asit_shadow.specs.Parts.{Parts, parts_of}
+use Rattle.asit_shadow.specs.Parts.{TreeEngineParts, tree_parts_of}
 use Rattle.asit_shadow.specs.Counts.{fetch_tags, CountsOfStop, CountsOfLine, CountsOfRead, CountsOfWrite, naming_digests}
 use Rattle.asit_shadow.proofs.CallEnds.{HasEnded, ended-going, cut_work-ended, shown_at-ended, line_shown_at-ended, path_work-ended}
 use Rattle.asit_shadow.proofs.ReadEnds.{IsPathHad, line_cut-work}
@@ -20,7 +20,7 @@ use Rattle.asit_shadow.proofs.WriteCalls.{cut_group-ended}
 -- ---- a path that was fetched
 
 -- one tag more than the fetch made
-pub line-counts : (setup : Setup) (a : ℕ) (old : Parts) (pads digests count : ℕ) (before after : SuiteState) → after.keys ≡ before.keys → after.pads ≡ risen_times pads before.pads
+pub line-counts : (setup : Setup) (a : ℕ) (old : TreeEngineParts) (pads digests count : ℕ) (before after : SuiteState) → after.keys ≡ before.keys → after.pads ≡ risen_times pads before.pads
     → count ≡ risen_times (fetch_tags setup old.engine.cache a setup.shape.levels) before.tags → after.tags ≡ risen count → after.digests ≡ risen_times digests before.digests → CountsOfLine setup a old pads digests before after
 line-counts setup a old pads digests count before after keys its_pads fetched its_tags its_digests =
     record {
@@ -31,7 +31,7 @@ line-counts setup a old pads digests count before after keys its_pads fetched it
     }
 
 -- a read that was cut after it
-pub line_cut-counts : (setup : Setup) (a count : ℕ) (old mid new : Parts) (before after : SuiteState) → IsPathHad setup a count old mid new → IsCutReading mid.device new.device → mid.device.live ≡ false
+pub line_cut-counts : (setup : Setup) (a count : ℕ) (old mid new : TreeEngineParts) (before after : SuiteState) → IsPathHad setup a count old mid new → IsCutReading mid.device new.device → mid.device.live ≡ false
     → after.keys ≡ before.keys → after.pads ≡ before.pads → after.tags ≡ risen_times (fetch_tags setup old.engine.cache a setup.shape.levels) before.tags → after.digests ≡ before.digests
     → CountsOfStop setup a old new before after Fail.Cut
 unfolding line_cut-work
@@ -55,8 +55,8 @@ naming-count setup length_of height start made long high is =
 
 -- ---- the end of a call
 
-cut_stop-ended : (setup : Setup) (a : ℕ) (old mid : Parts) (engine : TreeState) (before after : SuiteState) → engine.cache ≡ mid.engine.cache → CountsOfStop setup a old mid before after Fail.Cut
-    → CountsOfStop setup a old (parts_of engine mid.device mid.watch) before after Fail.Cut
+cut_stop-ended : (setup : Setup) (a : ℕ) (old mid : TreeEngineParts) (engine : TreeState) (before after : SuiteState) → engine.cache ≡ mid.engine.cache → CountsOfStop setup a old mid before after Fail.Cut
+    → CountsOfStop setup a old (tree_parts_of engine mid.device mid.watch) before after Fail.Cut
 unfolding cut_work-ended
 cut_stop-ended setup a old mid engine before after cache it =
     record {
@@ -73,8 +73,8 @@ cut_stop-ended setup a old mid engine before after cache it =
       counts = it.counts;
     }
 
-shown_stop-ended : (setup : Setup) (a : ℕ) (old mid : Parts) (engine : TreeState) (before after : SuiteState) → engine.cache ≡ mid.engine.cache → CountsOfStop setup a old mid before after Fail.Shown
-    → CountsOfStop setup a old (parts_of engine mid.device mid.watch) before after Fail.Shown
+shown_stop-ended : (setup : Setup) (a : ℕ) (old mid : TreeEngineParts) (engine : TreeState) (before after : SuiteState) → engine.cache ≡ mid.engine.cache → CountsOfStop setup a old mid before after Fail.Shown
+    → CountsOfStop setup a old (tree_parts_of engine mid.device mid.watch) before after Fail.Shown
 unfolding shown_at-ended
 shown_stop-ended setup a old mid engine before after cache it =
     record {
@@ -83,8 +83,8 @@ shown_stop-ended setup a old mid engine before after cache it =
       counts = it.counts;
     }
 
-pub read_counts-ended : (setup : Setup) (a : ℕ) (old mid : Parts) (engine : TreeState) (before after : SuiteState) (fault : TreeFault) → HasEnded fault mid.engine engine → CountsOfRead setup a old mid before after (Err fault)
-    → CountsOfRead setup a old (parts_of engine mid.device mid.watch) before after (Err fault)
+pub read_counts-ended : (setup : Setup) (a : ℕ) (old mid : TreeEngineParts) (engine : TreeState) (before after : SuiteState) (fault : TreeFault) → HasEnded fault mid.engine engine → CountsOfRead setup a old mid before after (Err fault)
+    → CountsOfRead setup a old (tree_parts_of engine mid.device mid.watch) before after (Err fault)
 read_counts-ended setup a old mid engine before after Fail.Cut ended it = cut_stop-ended setup a old mid engine before after ended.cache it
 read_counts-ended setup a old mid engine before after Fail.Shown ended it =
     elim it [
@@ -93,12 +93,12 @@ read_counts-ended setup a old mid engine before after Fail.Shown ended it =
     ]
 read_counts-ended setup a old mid engine before after Fail.Down ended it = it
 read_counts-ended setup a old mid engine before after (Fail.Node x) ended it =
-    subst (λ e. CountsOfRead setup a old (parts_of e mid.device mid.watch) before after (Err (Fail.Node x))) (sym (ended-going (Fail.Node x) mid.engine engine refl ended)) it
+    subst (λ e. CountsOfRead setup a old (tree_parts_of e mid.device mid.watch) before after (Err (Fail.Node x))) (sym (ended-going (Fail.Node x) mid.engine engine refl ended)) it
 read_counts-ended setup a old mid engine before after (Fail.Tag b) ended it = it
 read_counts-ended setup a old mid engine before after Fail.Spent ended it = it
 
-pub write_counts-ended : (setup : Setup) (a : ℕ) (old mid : Parts) (engine : TreeState) (before after : SuiteState) (fault : TreeFault) → HasEnded fault mid.engine engine → CountsOfWrite setup a old mid before after (Err fault)
-    → CountsOfWrite setup a old (parts_of engine mid.device mid.watch) before after (Err fault)
+pub write_counts-ended : (setup : Setup) (a : ℕ) (old mid : TreeEngineParts) (engine : TreeState) (before after : SuiteState) (fault : TreeFault) → HasEnded fault mid.engine engine → CountsOfWrite setup a old mid before after (Err fault)
+    → CountsOfWrite setup a old (tree_parts_of engine mid.device mid.watch) before after (Err fault)
 write_counts-ended setup a old mid engine before after Fail.Cut ended it =
     elim it [
       | inl fetch ↦ inl (cut_stop-ended setup a old mid engine before after ended.cache fetch)
@@ -108,6 +108,6 @@ write_counts-ended setup a old mid engine before after Fail.Cut ended it =
 write_counts-ended setup a old mid engine before after Fail.Shown ended it = shown_stop-ended setup a old mid engine before after ended.cache it
 write_counts-ended setup a old mid engine before after Fail.Down ended it = it
 write_counts-ended setup a old mid engine before after (Fail.Node x) ended it =
-    subst (λ e. CountsOfWrite setup a old (parts_of e mid.device mid.watch) before after (Err (Fail.Node x))) (sym (ended-going (Fail.Node x) mid.engine engine refl ended)) it
+    subst (λ e. CountsOfWrite setup a old (tree_parts_of e mid.device mid.watch) before after (Err (Fail.Node x))) (sym (ended-going (Fail.Node x) mid.engine engine refl ended)) it
 write_counts-ended setup a old mid engine before after (Fail.Tag b) ended it = it
 write_counts-ended setup a old mid engine before after Fail.Spent ended it = it

@@ -17,10 +17,10 @@ use Rattle.asit_shadow.specs.declared.cache.CachedNode.{CachedNode}
 use Rattle.asit_shadow.specs.declared.fault.TreeFault.{TreeFault}
 use Rattle.asit_shadow.specs.declared.fault.TreeFault.TheVariants as Fail
 use Rattle.asit_shadow.specs.State.{TreeState}
-use Rattle.asit_shadow.specs.Parts.{Parts, parts_of, IsWatchReady, IsBoardReady}
-use Rattle.asit_shadow.specs.Work.{HasFetchedLevels, HasFetchedPath, IsShownAt, IsCutInFetch, IsLineShownAt}
+use Rattle.asit_shadow.specs.Parts.{TreeEngineParts, tree_parts_of, IsWatchReady, IsBoardReady}
+use Rattle.asit_shadow.specs.Work.{HasFetchedNodes, HasFetchedPath, IsNodeShownAt, IsCutInNodeFetch, IsLineShownAt}
 use Rattle.asit_shadow.proofs.LevelWork.{levels-kept}
-use Rattle.asit_shadow.specs.Calls.{outcome_of, outcome_of_fault, CallEffect, KeepsWatch, IsDownAnswer, IsNodeLineRead, IsNodeShown, IsPathAccepted, IsLineShown, IsLineRead, AnswersDown}
+use Rattle.asit_shadow.specs.Calls.{tree_outcome_of, outcome_of_tree_fault, TreeCallEffect, KeepsWatch, IsTreeDownAnswer, IsNodeLineRead, IsNodeShown, IsPathAccepted, IsLineShown, IsLineRead, AnswersTreeDown}
 
 engine_same : (a b : TreeState) → a.shape ≡ b.shape → a.cache ≡ b.cache → a.tree ≡ b.tree → a.down ≡ b.down → a ≡ b
 engine_same a b shape cache tree down =
@@ -39,20 +39,20 @@ pub record HasEnded (fault : TreeFault) (old new : TreeState) : Type 0 where
   pub shape : new.shape ≡ old.shape
   pub cache : new.cache ≡ old.cache
   pub tree : new.tree ≡ old.tree
-  pub down : new.down ≡ (old.down || not (is_going (outcome_of_fault fault)))
+  pub down : new.down ≡ (old.down || not (is_going (outcome_of_tree_fault fault)))
 
 or_false : (b : Bool) → (b || false) ≡ b
 or_false true = refl
 or_false false = refl
 
 -- where it goes on, nothing was changed
-pub ended-going : (fault : TreeFault) (old new : TreeState) → is_going (outcome_of_fault fault) ≡ true → HasEnded fault old new → new ≡ old
+pub ended-going : (fault : TreeFault) (old new : TreeState) → is_going (outcome_of_tree_fault fault) ≡ true → HasEnded fault old new → new ≡ old
 ended-going fault old new goes it =
     engine_same new old it.shape it.cache it.tree (it.down ∙ (ap (λ b. old.down || not b) goes ∙ or_false old.down))
 
 -- ---- an effect of an end doesn't rest on the engine
 
-pub effect-cut : (setup : Setup) (old mid : Parts) (engine : TreeState) → engine.shape ≡ mid.engine.shape → CallEffect setup cut_short old mid → CallEffect setup cut_short old (parts_of engine mid.device mid.watch)
+pub effect-cut : (setup : Setup) (old mid : TreeEngineParts) (engine : TreeState) → engine.shape ≡ mid.engine.shape → TreeCallEffect setup cut_short old mid → TreeCallEffect setup cut_short old (tree_parts_of engine mid.device mid.watch)
 effect-cut setup old mid engine shape it =
     record {
       shape = shape ∙ it.shape;
@@ -63,7 +63,7 @@ effect-cut setup old mid engine shape it =
       places = λ trusted. record { seals = (it.places trusted).seals; slots = (it.places trusted).slots; nodes = (it.places trusted).nodes };
     }
 
-pub effect-shown : (setup : Setup) (old mid : Parts) (engine : TreeState) → engine.shape ≡ mid.engine.shape → CallEffect setup shown old mid → CallEffect setup shown old (parts_of engine mid.device mid.watch)
+pub effect-shown : (setup : Setup) (old mid : TreeEngineParts) (engine : TreeState) → engine.shape ≡ mid.engine.shape → TreeCallEffect setup shown old mid → TreeCallEffect setup shown old (tree_parts_of engine mid.device mid.watch)
 effect-shown setup old mid engine shape it =
     record {
       shape = shape ∙ it.shape;
@@ -76,11 +76,11 @@ effect-shown setup old mid engine shape it =
 
 -- ---- nor does what was read
 
-line_read-ended : (setup : Setup) (a x : ℕ) (line : Line) (old mid : Parts) (engine : TreeState) → IsNodeLineRead setup a x line old mid → IsNodeLineRead setup a x line old (parts_of engine mid.device mid.watch)
+line_read-ended : (setup : Setup) (a x : ℕ) (line : Line) (old mid : TreeEngineParts) (engine : TreeState) → IsNodeLineRead setup a x line old mid → IsNodeLineRead setup a x line old (tree_parts_of engine mid.device mid.watch)
 line_read-ended setup a x line old mid engine it =
     record { on_path = it.on_path; below_top = it.below_top; uncached = it.uncached; read = it.read }
 
-pub node_shown-ended : (setup : Setup) (a : ℕ) (old mid : Parts) (engine : TreeState) → IsNodeShown setup a old mid → IsNodeShown setup a old (parts_of engine mid.device mid.watch)
+pub node_shown-ended : (setup : Setup) (a : ℕ) (old mid : TreeEngineParts) (engine : TreeState) → IsNodeShown setup a old mid → IsNodeShown setup a old (tree_parts_of engine mid.device mid.watch)
 node_shown-ended setup a old mid engine it =
     record {
       x = it.x;
@@ -93,7 +93,7 @@ node_shown-ended setup a old mid engine it =
       unheld = it.unheld;
     }
 
-accepted-ended : (setup : Setup) (a : ℕ) (old mid : Parts) (engine : TreeState) → IsPathAccepted setup a old mid → IsPathAccepted setup a old (parts_of engine mid.device mid.watch)
+accepted-ended : (setup : Setup) (a : ℕ) (old mid : TreeEngineParts) (engine : TreeState) → IsPathAccepted setup a old mid → IsPathAccepted setup a old (tree_parts_of engine mid.device mid.watch)
 accepted-ended setup a old mid engine it =
     record {
       each =
@@ -105,7 +105,7 @@ accepted-ended setup a old mid engine it =
           ];
     }
 
-line_shown-ended : (setup : Setup) (a : ℕ) (old mid : Parts) (engine : TreeState) → IsLineShown setup a old mid → IsLineShown setup a old (parts_of engine mid.device mid.watch)
+line_shown-ended : (setup : Setup) (a : ℕ) (old mid : TreeEngineParts) (engine : TreeState) → IsLineShown setup a old mid → IsLineShown setup a old (tree_parts_of engine mid.device mid.watch)
 line_shown-ended setup a old mid engine it =
     record {
       cipher = it.cipher;
@@ -118,14 +118,14 @@ line_shown-ended setup a old mid engine it =
 
 -- ---- nor does what was done, but for the cache
 
-pub levels-ended : (setup : Setup) (a n : ℕ) (old mid : Parts) (engine : TreeState) → engine.cache ≡ mid.engine.cache → HasFetchedLevels setup a n old mid → HasFetchedLevels setup a n old (parts_of engine mid.device mid.watch)
-levels-ended setup a n old mid engine cache it = levels-kept setup a n old mid (parts_of engine mid.device mid.watch) cache refl refl refl refl it
+pub levels-ended : (setup : Setup) (a n : ℕ) (old mid : TreeEngineParts) (engine : TreeState) → engine.cache ≡ mid.engine.cache → HasFetchedNodes setup a n old mid → HasFetchedNodes setup a n old (tree_parts_of engine mid.device mid.watch)
+levels-ended setup a n old mid engine cache it = levels-kept setup a n old mid (tree_parts_of engine mid.device mid.watch) cache refl refl refl refl it
 
-pub path_work-ended : (setup : Setup) (a more : ℕ) (old mid : Parts) (engine : TreeState) → engine.cache ≡ mid.engine.cache → HasFetchedPath setup a more old mid → HasFetchedPath setup a more old (parts_of engine mid.device mid.watch)
+pub path_work-ended : (setup : Setup) (a more : ℕ) (old mid : TreeEngineParts) (engine : TreeState) → engine.cache ≡ mid.engine.cache → HasFetchedPath setup a more old mid → HasFetchedPath setup a more old (tree_parts_of engine mid.device mid.watch)
 path_work-ended setup a more old mid engine cache it =
     record { fetched = levels-ended setup a setup.shape.levels old mid engine cache it.fetched; reads = it.reads }
 
-unfoldable pub shown_at-ended : (setup : Setup) (a : ℕ) (old mid : Parts) (engine : TreeState) → engine.cache ≡ mid.engine.cache → IsShownAt setup a old mid → IsShownAt setup a old (parts_of engine mid.device mid.watch)
+unfoldable pub shown_at-ended : (setup : Setup) (a : ℕ) (old mid : TreeEngineParts) (engine : TreeState) → engine.cache ≡ mid.engine.cache → IsNodeShownAt setup a old mid → IsNodeShownAt setup a old (tree_parts_of engine mid.device mid.watch)
 shown_at-ended setup a old mid engine cache it =
     record {
       x = it.x;
@@ -142,7 +142,7 @@ shown_at-ended setup a old mid engine cache it =
       shown = it.shown;
     }
 
-pub line_shown_at-ended : (setup : Setup) (a : ℕ) (old mid : Parts) (engine : TreeState) → engine.cache ≡ mid.engine.cache → IsLineShownAt setup a old mid → IsLineShownAt setup a old (parts_of engine mid.device mid.watch)
+pub line_shown_at-ended : (setup : Setup) (a : ℕ) (old mid : TreeEngineParts) (engine : TreeState) → engine.cache ≡ mid.engine.cache → IsLineShownAt setup a old mid → IsLineShownAt setup a old (tree_parts_of engine mid.device mid.watch)
 line_shown_at-ended setup a old mid engine cache it =
     record {
       cipher = it.cipher;
@@ -153,7 +153,7 @@ line_shown_at-ended setup a old mid engine cache it =
       shown = it.shown;
     }
 
-unfoldable pub cut_work-ended : (setup : Setup) (a : ℕ) (old mid : Parts) (engine : TreeState) → engine.cache ≡ mid.engine.cache → IsCutInFetch setup a old mid → IsCutInFetch setup a old (parts_of engine mid.device mid.watch)
+unfoldable pub cut_work-ended : (setup : Setup) (a : ℕ) (old mid : TreeEngineParts) (engine : TreeState) → engine.cache ≡ mid.engine.cache → IsCutInNodeFetch setup a old mid → IsCutInNodeFetch setup a old (tree_parts_of engine mid.device mid.watch)
 cut_work-ended setup a old mid engine cache it =
     record {
       levels = it.levels;
@@ -166,7 +166,7 @@ cut_work-ended setup a old mid engine cache it =
 
 -- ---- a read
 
-pub read-ended : (setup : Setup) (a : ℕ) (old mid : Parts) (engine : TreeState) (fault : TreeFault) → HasEnded fault mid.engine engine → IsLineRead setup a old mid (Err fault) → IsLineRead setup a old (parts_of engine mid.device mid.watch) (Err fault)
+pub read-ended : (setup : Setup) (a : ℕ) (old mid : TreeEngineParts) (engine : TreeState) (fault : TreeFault) → HasEnded fault mid.engine engine → IsLineRead setup a old mid (Err fault) → IsLineRead setup a old (tree_parts_of engine mid.device mid.watch) (Err fault)
 read-ended setup a old mid engine Fail.Cut ended it =
     record {
       kind = it.kind;
@@ -201,13 +201,13 @@ read-ended setup a old mid engine Fail.Shown ended it =
       unrefused = it.unrefused;
     }
 read-ended setup a old mid engine Fail.Down ended it =
-    subst (λ e. IsLineRead setup a old (parts_of e mid.device mid.watch) (Err Fail.Down)) (sym (ended-going Fail.Down mid.engine engine refl ended)) it
+    subst (λ e. IsLineRead setup a old (tree_parts_of e mid.device mid.watch) (Err Fail.Down)) (sym (ended-going Fail.Down mid.engine engine refl ended)) it
 read-ended setup a old mid engine (Fail.Node x) ended it =
-    subst (λ e. IsLineRead setup a old (parts_of e mid.device mid.watch) (Err (Fail.Node x))) (sym (ended-going (Fail.Node x) mid.engine engine refl ended)) it
+    subst (λ e. IsLineRead setup a old (tree_parts_of e mid.device mid.watch) (Err (Fail.Node x))) (sym (ended-going (Fail.Node x) mid.engine engine refl ended)) it
 read-ended setup a old mid engine (Fail.Tag at) ended it =
-    subst (λ e. IsLineRead setup a old (parts_of e mid.device mid.watch) (Err (Fail.Tag at))) (sym (ended-going (Fail.Tag at) mid.engine engine refl ended)) it
+    subst (λ e. IsLineRead setup a old (tree_parts_of e mid.device mid.watch) (Err (Fail.Tag at))) (sym (ended-going (Fail.Tag at) mid.engine engine refl ended)) it
 read-ended setup a old mid engine Fail.Spent ended it =
-    subst (λ e. IsLineRead setup a old (parts_of e mid.device mid.watch) (Err Fail.Spent)) (sym (ended-going Fail.Spent mid.engine engine refl ended)) it
+    subst (λ e. IsLineRead setup a old (tree_parts_of e mid.device mid.watch) (Err Fail.Spent)) (sym (ended-going Fail.Spent mid.engine engine refl ended)) it
 
 -- ---- what calls ask stays true
 
@@ -229,7 +229,7 @@ board-kept g old new size regs ready =
 
 -- ---- the engine is down, or not
 
-pub answers-up : {T : Type 0} (old new : Parts) (answer : Result T TreeFault) → old.engine.down ≡ false → (IsDownAnswer answer → ⊥) → new.engine.down ≡ (old.engine.down || not (is_going (outcome_of answer))) → AnswersDown old new answer
+pub answers-up : {T : Type 0} (old new : TreeEngineParts) (answer : Result T TreeFault) → old.engine.down ≡ false → (IsTreeDownAnswer answer → ⊥) → new.engine.down ≡ (old.engine.down || not (is_going (tree_outcome_of answer))) → AnswersTreeDown old new answer
 answers-up old new answer up other after =
     record {
       exactly = (λ e. absurd (other e), λ down. absurd (true≢false (sym down ∙ up)));

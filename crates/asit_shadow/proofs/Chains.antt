@@ -9,8 +9,8 @@ use Rattle.board.specs.Device.{Device}
 use Rattle.board.proofs.CountLemmas.{RisesBy-then}
 use Rattle.pmem_engine.specs.Outcomes.{Outcome, going, cut_short, shown, is_going, HasPower}
 use Rattle.pmem_engine.proofs.CallEnds.ToldLines.{told_cases, unarmed}
-use Rattle.asit_shadow.specs.Parts.{Parts, lines_redone}
-use Rattle.asit_shadow.specs.Calls.{KeepsNodes, KeepsPlaces, CallEffect, TakesWriteBacks}
+use Rattle.asit_shadow.specs.Parts.{TreeEngineParts, tree_lines_redone}
+use Rattle.asit_shadow.specs.Calls.{KeepsNodes, KeepsTreePlaces, TreeCallEffect, TakesWriteBacks}
 
 pub power-then : (outcome : Outcome) (old mid new : Device) → HasPower going old mid → HasPower outcome mid new → HasPower outcome old new
 power-then going old mid new first second =
@@ -33,12 +33,12 @@ write_backs-then m n outcome old mid new live first second =
       latches = second.latches ∙ first.latches;
     }
 
-nodes-then : (setup : Setup) (outcome : Outcome) (old mid new : Parts) → KeepsNodes setup going old mid → KeepsNodes setup outcome mid new → KeepsNodes setup outcome old new
+nodes-then : (setup : Setup) (outcome : Outcome) (old mid new : TreeEngineParts) → KeepsNodes setup going old mid → KeepsNodes setup outcome mid new → KeepsNodes setup outcome old new
 nodes-then setup going old mid new first second = λ x inside it. second x inside (first x inside it)
 nodes-then setup cut_short old mid new first second = λ x inside it. second x inside (first x inside it)
 nodes-then setup shown old mid new first second = second
 
-pub places-then : (setup : Setup) (outcome : Outcome) (old mid new : Parts) → KeepsPlaces setup going old mid → KeepsPlaces setup outcome mid new → KeepsPlaces setup outcome old new
+pub places-then : (setup : Setup) (outcome : Outcome) (old mid new : TreeEngineParts) → KeepsTreePlaces setup going old mid → KeepsTreePlaces setup outcome mid new → KeepsTreePlaces setup outcome old new
 places-then setup outcome old mid new first second =
     record {
       seals = λ a inside it. second.seals a inside (first.seals a inside it);
@@ -46,7 +46,7 @@ places-then setup outcome old mid new first second =
       nodes = nodes-then setup outcome old mid new first.nodes second.nodes;
     }
 
-pub effect-then : (setup : Setup) (outcome : Outcome) (old mid new : Parts) → CallEffect setup going old mid → CallEffect setup outcome mid new → CallEffect setup outcome old new
+pub effect-then : (setup : Setup) (outcome : Outcome) (old mid new : TreeEngineParts) → TreeCallEffect setup going old mid → TreeCallEffect setup outcome mid new → TreeCallEffect setup outcome old new
 effect-then setup outcome old mid new first second =
     record {
       shape = second.shape ∙ first.shape;
@@ -59,14 +59,14 @@ effect-then setup outcome old mid new first second =
 
 -- with no group armed before and after, what holds of lines that are told gives what holds of those
 -- that are told then
-pub held-told : (P Q : List Line → Type 0) (old new : Parts) → old.device.regs.group.items ≡ [] → new.device.regs.group.items ≡ [] → is_some new.device.lines ≡ is_some old.device.lines
-    → ((lines then : List Line) → old.device.lines ≡ Some lines → new.device.lines ≡ Some then → P lines → Q then) → IfSome (lines_redone old) P → IfSome (lines_redone new) Q
+pub held-told : (P Q : List Line → Type 0) (old new : TreeEngineParts) → old.device.regs.group.items ≡ [] → new.device.regs.group.items ≡ [] → is_some new.device.lines ≡ is_some old.device.lines
+    → ((lines then : List Line) → old.device.lines ≡ Some lines → new.device.lines ≡ Some then → P lines → Q then) → IfSome (tree_lines_redone old) P → IfSome (tree_lines_redone new) Q
 held-told P Q old new before after same give it =
     subst (λ (o : Option (List Line)). IfSome o Q) (sym (unarmed new.device.regs.group.items new.device.lines after))
     (told_cases P Q old.device.lines new.device.lines same give
     (subst (λ (o : Option (List Line)). IfSome o P) (unarmed old.device.regs.group.items old.device.lines before) it))
 
-pub told-of : (P : List Line → Type 0) (parts : Parts) → parts.device.regs.group.items ≡ [] → IfSome (lines_redone parts) P → IfSome parts.device.lines P
+pub told-of : (P : List Line → Type 0) (parts : TreeEngineParts) → parts.device.regs.group.items ≡ [] → IfSome (tree_lines_redone parts) P → IfSome parts.device.lines P
 told-of P parts none it =
     subst (λ (o : Option (List Line)). IfSome o P) (unarmed parts.device.regs.group.items parts.device.lines none) it
 

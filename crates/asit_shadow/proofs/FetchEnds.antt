@@ -22,11 +22,11 @@ use Rattle.counter_tree.specs.Trees.{node_at, entry_for}
 use Rattle.counter_tree.specs.Watch.{WatchState, first_shown, forged_node}
 use Rattle.counter_tree.specs.Accepted.{IsNodeForged}
 use Rattle.asit_shadow.specs.State.{TreeState, IsCached}
-use Rattle.asit_shadow.specs.Invariants.{IsAnchored, IsTrusted, IsDurable, IsSound, IsSealStored, IsSlotStored}
+use Rattle.asit_shadow.specs.Invariants.{IsTreeAnchored, IsTreeTrusted, IsTreeDurable, IsTreeSound, IsTreeSealStored, IsSlotStored}
 use Rattle.asit_shadow.specs.Places.{IsNodeHeld, IsNodeHeldBy}
-use Rattle.asit_shadow.specs.Parts.{Parts, AreTrusted, AreSound, HoldsSeal, HoldsSlot, HoldsNode, lines_redone}
-use Rattle.asit_shadow.specs.Calls.{CallEffect, KeepsWatch, TakesWriteBacks}
-use Rattle.asit_shadow.specs.Work.{spilled, HasFetchedLevels}
+use Rattle.asit_shadow.specs.Parts.{TreeEngineParts, AreTreeTrusted, AreTreeSound, HoldsTreeSeal, HoldsSlot, HoldsNode, tree_lines_redone}
+use Rattle.asit_shadow.specs.Calls.{TreeCallEffect, KeepsWatch, TakesWriteBacks}
+use Rattle.asit_shadow.specs.Work.{spilled_nodes, HasFetchedNodes}
 use Rattle.asit_shadow.specs.Fetching.{IsNodeCutOff}
 use Rattle.asit_shadow.proofs.Chains.{told-of}
 use Rattle.asit_shadow.proofs.FetchLaws.{forged_node-holds, node_read-sound}
@@ -48,7 +48,7 @@ pub read-unwritten : (old new : Device) (at : ℕ) (line : Line) → HasRead old
 read-unwritten old new at line read =
     record { lines = read.lines; regs = read.regs; size = read.size; writes = read.writes; latches = read.latches }
 
-pub cut-unwritten : (g : Shape) (x : ℕ) (old new : Parts) → IsNodeCutOff g x old new → AreUnwritten old.device new.device
+pub cut-unwritten : (g : Shape) (x : ℕ) (old new : TreeEngineParts) → IsNodeCutOff g x old new → AreUnwritten old.device new.device
 cut-unwritten g x old new cut =
     record {
       lines = cut.cut.lines ∙ cut.lines;
@@ -58,7 +58,7 @@ cut-unwritten g x old new cut =
       latches = cut.cut.latches ∙ cut.latches;
     }
 
-pub same_redone : (old new : Parts) → AreUnwritten old.device new.device → lines_redone new ≡ lines_redone old
+pub same_redone : (old new : TreeEngineParts) → AreUnwritten old.device new.device → tree_lines_redone new ≡ tree_lines_redone old
 same_redone old new same =
     ap (λ (r : Regs). redone_told r.group.items new.device.lines) same.regs
     ∙ ap (λ (o : Option (List Line)). redone_told old.device.regs.group.items o) same.lines
@@ -67,10 +67,10 @@ pub some_map : (P Q : List Line → Type 0) (told : Option (List Line)) → ((li
 some_map P Q None give it = tt
 some_map P Q (Some lines) give it = give lines it
 
-pub same-seals : (setup : Setup) (old new : Parts) (a : ℕ) → AreUnwritten old.device new.device → new.watch.seals ≡ old.watch.seals → HoldsSeal setup.shape old a → HoldsSeal setup.shape new a
+pub same-seals : (setup : Setup) (old new : TreeEngineParts) (a : ℕ) → AreUnwritten old.device new.device → new.watch.seals ≡ old.watch.seals → HoldsTreeSeal setup.shape old a → HoldsTreeSeal setup.shape new a
 same-seals setup old new a same watch it =
-    subst (λ (o : Option (List Line)). IfSome o (λ lines. IsSealStored setup.shape lines new.watch a)) (sym (same_redone old new same))
-    (some_map (λ lines. IsSealStored setup.shape lines old.watch a) (λ lines. IsSealStored setup.shape lines new.watch a) (lines_redone old)
+    subst (λ (o : Option (List Line)). IfSome o (λ lines. IsTreeSealStored setup.shape lines new.watch a)) (sym (same_redone old new same))
+    (some_map (λ lines. IsTreeSealStored setup.shape lines old.watch a) (λ lines. IsTreeSealStored setup.shape lines new.watch a) (tree_lines_redone old)
     (λ lines stored.
     record {
       seal = stored.seal;
@@ -80,35 +80,35 @@ same-seals setup old new a same watch it =
     })
     it)
 
-pub same-slots : (setup : Setup) (old new : Parts) (i : ℕ) → AreUnwritten old.device new.device → new.watch.slots ≡ old.watch.slots → HoldsSlot setup.shape old i → HoldsSlot setup.shape new i
+pub same-slots : (setup : Setup) (old new : TreeEngineParts) (i : ℕ) → AreUnwritten old.device new.device → new.watch.slots ≡ old.watch.slots → HoldsSlot setup.shape old i → HoldsSlot setup.shape new i
 same-slots setup old new i same watch it =
     subst (λ (o : Option (List Line)). IfSome o (λ lines. IsSlotStored setup.shape lines new.watch i)) (sym (same_redone old new same))
-    (some_map (λ lines. IsSlotStored setup.shape lines old.watch i) (λ lines. IsSlotStored setup.shape lines new.watch i) (lines_redone old)
+    (some_map (λ lines. IsSlotStored setup.shape lines old.watch i) (λ lines. IsSlotStored setup.shape lines new.watch i) (tree_lines_redone old)
     (λ lines stored. stored ∙ ap (λ slots. line_at slots i) (sym watch))
     it)
 
-same-nodes : (setup : Setup) (old new : Parts) (x : ℕ) → AreUnwritten old.device new.device → new.engine ≡ old.engine → new.watch ≡ old.watch → HoldsNode setup old x → HoldsNode setup new x
+same-nodes : (setup : Setup) (old new : TreeEngineParts) (x : ℕ) → AreUnwritten old.device new.device → new.engine ≡ old.engine → new.watch ≡ old.watch → HoldsNode setup old x → HoldsNode setup new x
 same-nodes setup old new x same engine watch it =
     subst (λ (o : Option (List Line)). IfSome o (λ lines. IsNodeHeldBy setup new.engine lines new.watch x)) (sym (same_redone old new same))
-    (subst (λ (e : TreeState). IfSome (lines_redone old) (λ lines. IsNodeHeldBy setup e lines new.watch x)) (sym engine)
-    (subst (λ (w : WatchState). IfSome (lines_redone old) (λ lines. IsNodeHeldBy setup old.engine lines w x)) (sym watch) it))
+    (subst (λ (e : TreeState). IfSome (tree_lines_redone old) (λ lines. IsNodeHeldBy setup e lines new.watch x)) (sym engine)
+    (subst (λ (w : WatchState). IfSome (tree_lines_redone old) (λ lines. IsNodeHeldBy setup old.engine lines w x)) (sym watch) it))
 
 -- ---- a refused node
 
-same-trusted : (setup : Setup) (old new : Parts) → AreUnwritten old.device new.device → new.engine ≡ old.engine → new.watch ≡ old.watch → AreTrusted setup old → AreTrusted setup new
+same-trusted : (setup : Setup) (old new : TreeEngineParts) → AreUnwritten old.device new.device → new.engine ≡ old.engine → new.watch ≡ old.watch → AreTreeTrusted setup old → AreTreeTrusted setup new
 same-trusted setup old new same engine watch trusted =
-    subst (λ (e : TreeState). IsTrusted setup e new.device.regs new.watch) (sym engine)
-    (subst (λ (r : Regs). IsTrusted setup old.engine r new.watch) (sym same.regs)
-    (subst (λ (w : WatchState). IsTrusted setup old.engine old.device.regs w) (sym watch) trusted))
+    subst (λ (e : TreeState). IsTreeTrusted setup e new.device.regs new.watch) (sym engine)
+    (subst (λ (r : Regs). IsTreeTrusted setup old.engine r new.watch) (sym same.regs)
+    (subst (λ (w : WatchState). IsTreeTrusted setup old.engine old.device.regs w) (sym watch) trusted))
 
-same-sound : (setup : Setup) (old new : Parts) → AreUnwritten old.device new.device → new.engine ≡ old.engine → new.watch ≡ old.watch → AreSound setup old → AreSound setup new
+same-sound : (setup : Setup) (old new : TreeEngineParts) → AreUnwritten old.device new.device → new.engine ≡ old.engine → new.watch ≡ old.watch → AreTreeSound setup old → AreTreeSound setup new
 same-sound setup old new same engine watch sound =
-    subst (λ (o : Option (List Line)). MatchOption o ⊥ (λ lines. IsSound setup new.engine lines new.device.regs new.watch)) (sym same.lines)
-    (subst (λ (e : TreeState). MatchOption old.device.lines ⊥ (λ lines. IsSound setup e lines new.device.regs new.watch)) (sym engine)
-    (subst (λ (r : Regs). MatchOption old.device.lines ⊥ (λ lines. IsSound setup old.engine lines r new.watch)) (sym same.regs)
-    (subst (λ (w : WatchState). MatchOption old.device.lines ⊥ (λ lines. IsSound setup old.engine lines old.device.regs w)) (sym watch) sound)))
+    subst (λ (o : Option (List Line)). MatchOption o ⊥ (λ lines. IsTreeSound setup new.engine lines new.device.regs new.watch)) (sym same.lines)
+    (subst (λ (e : TreeState). MatchOption old.device.lines ⊥ (λ lines. IsTreeSound setup e lines new.device.regs new.watch)) (sym engine)
+    (subst (λ (r : Regs). MatchOption old.device.lines ⊥ (λ lines. IsTreeSound setup old.engine lines r new.watch)) (sym same.regs)
+    (subst (λ (w : WatchState). MatchOption old.device.lines ⊥ (λ lines. IsTreeSound setup old.engine lines old.device.regs w)) (sym watch) sound)))
 
-pub refused-effect : (setup : Setup) (old new : Parts) → AreUnwritten old.device new.device → HasPower going old.device new.device → new.engine ≡ old.engine → new.watch ≡ old.watch → CallEffect setup going old new
+pub refused-effect : (setup : Setup) (old new : TreeEngineParts) → AreUnwritten old.device new.device → HasPower going old.device new.device → new.engine ≡ old.engine → new.watch ≡ old.watch → TreeCallEffect setup going old new
 refused-effect setup old new same power engine watch =
     record {
       shape = ap (λ (e : TreeState). e.shape) engine;
@@ -131,7 +131,7 @@ pub still-steady : (before between : Bool) → (before ≡ true → between ≡ 
 still-steady true between keeps is = absurd (true≢false (sym (keeps refl) ∙ is))
 still-steady false between keeps is = refl
 
-pub cut-effect : (setup : Setup) (old new : Parts) → AreUnwritten old.device new.device → HasPower cut_short old.device new.device → new.engine.shape ≡ old.engine.shape → new.watch ≡ old.watch → CallEffect setup cut_short old new
+pub cut-effect : (setup : Setup) (old new : TreeEngineParts) → AreUnwritten old.device new.device → HasPower cut_short old.device new.device → new.engine.shape ≡ old.engine.shape → new.watch ≡ old.watch → TreeCallEffect setup cut_short old new
 cut-effect setup old new same power shape watch =
     record {
       shape = shape;
@@ -139,13 +139,13 @@ cut-effect setup old new same power shape watch =
       power = power;
       trusted =
           λ trusted.
-          subst (λ (r : Regs). IsAnchored setup r new.watch) (sym same.regs)
-          (subst (λ (w : WatchState). IsAnchored setup old.device.regs w) (sym watch) trusted.anchored);
+          subst (λ (r : Regs). IsTreeAnchored setup r new.watch) (sym same.regs)
+          (subst (λ (w : WatchState). IsTreeAnchored setup old.device.regs w) (sym watch) trusted.anchored);
       sound =
           λ sound.
-          subst (λ (o : Option (List Line)). MatchOption o ⊥ (λ lines. IsDurable setup lines new.device.regs new.watch)) (sym same.lines)
-          (subst (λ (r : Regs). MatchOption old.device.lines ⊥ (λ lines. IsDurable setup lines r new.watch)) (sym same.regs)
-          (subst (λ (w : WatchState). MatchOption old.device.lines ⊥ (λ lines. IsDurable setup lines old.device.regs w)) (sym watch)
+          subst (λ (o : Option (List Line)). MatchOption o ⊥ (λ lines. IsTreeDurable setup lines new.device.regs new.watch)) (sym same.lines)
+          (subst (λ (r : Regs). MatchOption old.device.lines ⊥ (λ lines. IsTreeDurable setup lines r new.watch)) (sym same.regs)
+          (subst (λ (w : WatchState). MatchOption old.device.lines ⊥ (λ lines. IsTreeDurable setup lines old.device.regs w)) (sym watch)
           (durable_of old.device.lines sound)));
       places =
           λ trusted.
@@ -155,17 +155,17 @@ cut-effect setup old new same power shape watch =
             nodes =
                 λ x inside it.
                 subst (λ (o : Option (List Line)). IfSome o (λ lines. IsNodeHeld setup lines new.watch x)) (sym (same_redone old new same))
-                (subst (λ (w : WatchState). IfSome (lines_redone old) (λ lines. IsNodeHeld setup lines w x)) (sym watch)
-                (some_map (λ lines. IsNodeHeldBy setup old.engine lines old.watch x) (λ lines. IsNodeHeld setup lines old.watch x) (lines_redone old)
+                (subst (λ (w : WatchState). IfSome (tree_lines_redone old) (λ lines. IsNodeHeld setup lines w x)) (sym watch)
+                (some_map (λ lines. IsNodeHeldBy setup old.engine lines old.watch x) (λ lines. IsNodeHeld setup lines old.watch x) (tree_lines_redone old)
                 (λ lines held. powered_off-place setup old.engine lines old.device.regs old.watch x trusted held) it));
           };
     }
   where
-    durable_of : (told : Option (List Line)) → MatchOption told ⊥ (λ lines. IsSound setup old.engine lines old.device.regs old.watch) → MatchOption told ⊥ (λ lines. IsDurable setup lines old.device.regs old.watch)
+    durable_of : (told : Option (List Line)) → MatchOption told ⊥ (λ lines. IsTreeSound setup old.engine lines old.device.regs old.watch) → MatchOption told ⊥ (λ lines. IsTreeDurable setup lines old.device.regs old.watch)
     durable_of None it = absurd it
     durable_of (Some lines) it = it.durable
 
-pub cut-power : (g : Shape) (x : ℕ) (old new : Parts) → IsNodeCutOff g x old new → HasPower cut_short old.device new.device
+pub cut-power : (g : Shape) (x : ℕ) (old new : TreeEngineParts) → IsNodeCutOff g x old new → HasPower cut_short old.device new.device
 cut-power g x old new cut = (
   still-steady old.device.steady cut.between.steady cut.steady cut.cut.unsteady,
   cut.cut.off,
@@ -183,19 +183,19 @@ shown-some None it = refl
 shown-some (Some other) it = refl
 
 -- over a sound engine the node is read as the true one
-pub sound-read : (setup : Setup) (x version : ℕ) (line : Line) (now : Parts) → IsLevelReady setup x version now → (IsCached setup.shape now.engine.cache x → ⊥) → Tells now.device.lines (line_of_node setup.shape x) line → AreSound setup now
+pub sound-read : (setup : Setup) (x version : ℕ) (line : Line) (now : TreeEngineParts) → IsLevelReady setup x version now → (IsCached setup.shape now.engine.cache x → ⊥) → Tells now.device.lines (line_of_node setup.shape x) line → AreTreeSound setup now
     → node_read setup.formulas x line version ≡ Some (node_at now.watch.nodes x)
 sound-read setup x version line now ready uncached tells sound =
     read_of now.device.lines sound tells
   where
-    read_of : (told : Option (List Line)) → MatchOption told ⊥ (λ lines. IsSound setup now.engine lines now.device.regs now.watch) → Tells told (line_of_node setup.shape x) line → node_read setup.formulas x line version ≡ Some (node_at now.watch.nodes x)
+    read_of : (told : Option (List Line)) → MatchOption told ⊥ (λ lines. IsTreeSound setup now.engine lines now.device.regs now.watch) → Tells told (line_of_node setup.shape x) line → node_read setup.formulas x line version ≡ Some (node_at now.watch.nodes x)
     read_of None it is = absurd it
     read_of (Some lines) it is =
         ap (node_read setup.formulas x line) (ready.version_true it.trusted)
         ∙ (ap (λ l. node_read setup.formulas x l (entry_for now.watch.nodes x)) is
         ∙ (node_read-sound setup now.engine lines now.device.regs now.watch x ready.shape ready.in_range it (omega (arith, ready.not_top)) ready.on_tree uncached).0)
 
-pub shown-effect : (setup : Setup) (x version : ℕ) (now new : Parts) → IsLevelReady setup x version now → (IsCached setup.shape now.engine.cache x → ⊥) → new.engine ≡ now.engine → IsNodeForged setup x version now.device new.device now.watch new.watch → CallEffect setup shown now new
+pub shown-effect : (setup : Setup) (x version : ℕ) (now new : TreeEngineParts) → IsLevelReady setup x version now → (IsCached setup.shape now.engine.cache x → ⊥) → new.engine ≡ now.engine → IsNodeForged setup x version now.device new.device now.watch new.watch → TreeCallEffect setup shown now new
 shown-effect setup x version now new ready uncached engine forged =
     let same = read-unwritten now.device new.device (line_of_node setup.shape x) forged.line forged.read in
     record {
@@ -228,8 +228,8 @@ told_still group more None new lines are is none = none-some lines are
 told_still group more (Some ls) new lines are is none = none-some (redone more ls) (sym none ∙ is)
 
 -- it is read as the true one
-pub held-read : (setup : Setup) (a j x version : ℕ) (line : Line) (old now : Parts) → IsNextLevel setup a j x version old now → (IsCached setup.shape now.engine.cache x → ⊥) → Tells now.device.lines (line_of_node setup.shape x) line → AreTrusted setup old
-    → (lines : List Line) → lines_redone old ≡ Some lines → IsNodeHeldBy setup old.engine lines old.watch x → node_read setup.formulas x line version ≡ Some (node_at now.watch.nodes x)
+pub held-read : (setup : Setup) (a j x version : ℕ) (line : Line) (old now : TreeEngineParts) → IsNextLevel setup a j x version old now → (IsCached setup.shape now.engine.cache x → ⊥) → Tells now.device.lines (line_of_node setup.shape x) line → AreTreeTrusted setup old
+    → (lines : List Line) → tree_lines_redone old ≡ Some lines → IsNodeHeldBy setup old.engine lines old.watch x → node_read setup.formulas x line version ≡ Some (node_at now.watch.nodes x)
 held-read setup a j x version line old now next uncached tells trusted lines are held =
     let was : HoldsNode setup old x = subst (λ (o : Option (List Line)). IfSome o (λ ls. IsNodeHeldBy setup old.engine ls old.watch x)) (sym are) held in
     let still : HoldsNode setup now x = (next.before.effect.places trusted).nodes x (level-ready setup a j x version old now next).on_tree was in
@@ -237,7 +237,7 @@ held-read setup a j x version line old now next uncached tells trusted lines are
   where
     read_of : (told : Option (List Line)) → now.device.lines ≡ told → IfSome told (λ ls. IsNodeHeldBy setup now.engine ls now.watch x) → Tells told (line_of_node setup.shape x) line → node_read setup.formulas x line version ≡ Some (node_at now.watch.nodes x)
     read_of None is it tells =
-        absurd (told_still old.device.regs.group.items (spilled setup old.engine.cache a j) old.device.lines now.device.lines lines are next.before.done.lines is)
+        absurd (told_still old.device.regs.group.items (spilled_nodes setup old.engine.cache a j) old.device.lines now.device.lines lines are next.before.done.lines is)
     read_of (Some ls) is it tells =
         let ready = level-ready setup a j x version old now next in
         let here = next.before.effect.trusted trusted in
@@ -247,7 +247,7 @@ held-read setup a j x version line old now next uncached tells trusted lines are
 
 -- ---- a level that wasn't had ends the fetch
 
-pub stopped-steps : (setup : Setup) (a j x version : ℕ) (outcome : Outcome) (old now new : Parts) → IsNextLevel setup a j x version old now → AreUnwritten now.device new.device → TakesWriteBacks setup.shape.levels outcome old.device new.device
+pub stopped-steps : (setup : Setup) (a j x version : ℕ) (outcome : Outcome) (old now new : TreeEngineParts) → IsNextLevel setup a j x version old now → AreUnwritten now.device new.device → TakesWriteBacks setup.shape.levels outcome old.device new.device
 stopped-steps setup a j x version outcome old now new next same =
     record {
       count = next.before.steps.count;
@@ -268,5 +268,5 @@ kept-watch outcome old new other same =
       stopped = λ is. absurd (other is);
     }
 
-pub unwritten-levels : (setup : Setup) (a n : ℕ) (old mid new : Parts) → new.engine.cache ≡ mid.engine.cache → AreUnwritten mid.device new.device → HasFetchedLevels setup a n old mid → HasFetchedLevels setup a n old new
+pub unwritten-levels : (setup : Setup) (a n : ℕ) (old mid new : TreeEngineParts) → new.engine.cache ≡ mid.engine.cache → AreUnwritten mid.device new.device → HasFetchedNodes setup a n old mid → HasFetchedNodes setup a n old new
 unwritten-levels setup a n old mid new cache same = levels-kept setup a n old mid new cache same.lines same.writes same.latches same.regs

@@ -27,14 +27,14 @@ use Rattle.counter_tree.proofs.NodeLaws.{node_read-node_line, node_read-IsReadNo
 use Rattle.counter_tree.proofs.TreeLaws.{tree-IsNode, tree-version}
 use Rattle.asit_shadow.specs.State.{TreeState, cache_at, IsCached}
 use Rattle.asit_shadow.specs.declared.cache.CachedNode.{CachedNode}
-use Rattle.asit_shadow.specs.Invariants.{IsAnchored, IsTrueCached, IsTrusted, IsNodeStored, IsMendable, IsSound, IsTreeOver}
+use Rattle.asit_shadow.specs.Invariants.{IsTreeAnchored, IsTrueCached, IsTreeTrusted, IsNodeStored, IsTreeMendable, IsTreeSound, IsTreeOver}
 use Rattle.asit_shadow.specs.Steps.{IsFetched, GivesWay}
 use Rattle.asit_shadow.proofs.SlotPlaces.{slot_of-below, slot_of-inside}
 
 -- ---- any board
 
 -- what was accepted under the version, but isn't the true node, is an exhibit that holds
-pub forged_node-holds : (setup : Setup) (regs : Regs) (watch : WatchState) (x : ℕ) (line : Line) (node : Node) → IsAnchored setup regs watch → 1 ≤ x → x < meta_lines setup.shape → node_read setup.formulas x line (entry_for watch.nodes x) ≡ Some node → IsExhibit setup.formulas (forged_node watch x line)
+pub forged_node-holds : (setup : Setup) (regs : Regs) (watch : WatchState) (x : ℕ) (line : Line) (node : Node) → IsTreeAnchored setup regs watch → 1 ≤ x → x < meta_lines setup.shape → node_read setup.formulas x line (entry_for watch.nodes x) ≡ Some node → IsExhibit setup.formulas (forged_node watch x line)
 forged_node-holds setup regs watch x line node anchored low inside accepted =
     let read = node_read-IsReadNode setup.formulas x line (entry_for watch.nodes x) node accepted in
     let small : total (node_at watch.nodes x) < 2 ^ 64 = tree-version setup.shape watch.nodes x anchored.tree inside in
@@ -43,7 +43,7 @@ forged_node-holds setup regs watch x line node anchored low inside accepted =
     ap (λ v. setup.formulas.tag_of (node_place x) (version_counter v) (without_tag line)) version ∙ read.tagged
 
 -- the law: the engine stays trusted
-pub IsTrusted-fetched : (setup : Setup) (x : ℕ) (line : Line) (node : Node) (old new : TreeState) (regs : Regs) (watch : WatchState) → IsShape setup.shape → IsTrusted setup old regs watch → IsFetched setup x line node old new watch → IsTrusted setup new regs watch
+pub IsTrusted-fetched : (setup : Setup) (x : ℕ) (line : Line) (node : Node) (old new : TreeState) (regs : Regs) (watch : WatchState) → IsShape setup.shape → IsTreeTrusted setup old regs watch → IsFetched setup x line node old new watch → IsTreeTrusted setup new regs watch
 IsTrusted-fetched setup x line node old new regs watch shape trusted fetched =
     let held : CachedNode = record { x = x; node = node; dirty = false } in
     let slot = slot_of setup.shape x in
@@ -89,7 +89,7 @@ IsTrusted-fetched setup x line node old new regs watch shape trusted fetched =
 -- ---- an untampered board
 
 -- the law: over a sound engine a node that isn't cached is read as the true one
-pub node_read-sound : (setup : Setup) (engine : TreeState) (lines : List Line) (regs : Regs) (watch : WatchState) (x : ℕ) → IsShape setup.shape → AreInRange setup.formulas → IsSound setup engine lines regs watch → 1 ≤ x → x < meta_lines setup.shape → (IsCached setup.shape engine.cache x → ⊥)
+pub node_read-sound : (setup : Setup) (engine : TreeState) (lines : List Line) (regs : Regs) (watch : WatchState) (x : ℕ) → IsShape setup.shape → AreInRange setup.formulas → IsTreeSound setup engine lines regs watch → 1 ≤ x → x < meta_lines setup.shape → (IsCached setup.shape engine.cache x → ⊥)
     → (node_read setup.formulas x (line_at lines (line_of_node setup.shape x)) (entry_for watch.nodes x) ≡ Some (node_at watch.nodes x)) × (stored_node (line_at lines (line_of_node setup.shape x)) ≡ node_at watch.nodes x)
 node_read-sound setup engine lines regs watch x shape in_range sound low inside uncached =
     let tree = sound.trusted.anchored.tree in
@@ -106,8 +106,8 @@ node_read-sound setup engine lines regs watch x shape in_range sound low inside 
     ]
 
 -- the law: a true node is written back
-pub IsSound-written_back : (setup : Setup) (engine : TreeState) (lines : List Line) (regs : Regs) (watch : WatchState) (x : ℕ) → IsShape setup.shape → AreInRange setup.formulas → IsSound setup engine lines regs watch → x < meta_lines setup.shape
-    → IsSound setup engine (slice_set lines (line_of_node setup.shape x) (node_line setup.formulas x (node_at watch.nodes x))) regs watch
+pub IsSound-written_back : (setup : Setup) (engine : TreeState) (lines : List Line) (regs : Regs) (watch : WatchState) (x : ℕ) → IsShape setup.shape → AreInRange setup.formulas → IsTreeSound setup engine lines regs watch → x < meta_lines setup.shape
+    → IsTreeSound setup engine (slice_set lines (line_of_node setup.shape x) (node_line setup.formulas x (node_at watch.nodes x))) regs watch
 IsSound-written_back setup engine lines regs watch x shape in_range sound inside =
     let g = setup.shape in
     let place = line_of_node setup.shape x in
@@ -115,8 +115,8 @@ IsSound-written_back setup engine lines regs watch x shape in_range sound inside
     let new = slice_set lines (line_of_node setup.shape x) (node_line setup.formulas x (node_at watch.nodes x)) in
     let good = node_line-IsLine setup.formulas x (node_at watch.nodes x) in_range (tree-version setup.shape watch.nodes x sound.trusted.anchored.tree inside) in
     let room : line_of_node setup.shape x < length lines = omega (arith, inside, sound.durable.device_whole.count) in
-    let before : IsMendable setup lines regs watch =
-    subst (λ group. IsMendable setup (redone group lines) regs watch) sound.trusted.no_group sound.durable.mendable in
+    let before : IsTreeMendable setup lines regs watch =
+    subst (λ group. IsTreeMendable setup (redone group lines) regs watch) sound.trusted.no_group sound.durable.mendable in
     let else : (p : ℕ) → p ≢ line_of_node setup.shape x → line_at (slice_set lines (line_of_node setup.shape x) (node_line setup.formulas x (node_at watch.nodes x))) p ≡ line_at lines p =
     λ p apart. line_at-set_other lines (line_of_node setup.shape x) p (node_line setup.formulas x (node_at watch.nodes x)) apart in
     let stored : (y : ℕ) → IsNodeStored setup lines watch y → IsNodeStored setup (slice_set lines (line_of_node setup.shape x) (node_line setup.formulas x (node_at watch.nodes x))) watch y =
@@ -133,8 +133,8 @@ IsSound-written_back setup engine lines regs watch x shape in_range sound inside
           record {
             device_whole = AreLinesOf-set (tree_size setup.shape) lines (line_of_node setup.shape x) (node_line setup.formulas x (node_at watch.nodes x)) sound.durable.device_whole good;
             mendable =
-                subst (λ group. IsMendable setup (redone group (slice_set lines (line_of_node setup.shape x) (node_line setup.formulas x (node_at watch.nodes x)))) regs watch) (sym sound.trusted.no_group)
-                (let it : IsMendable setup (slice_set lines (line_of_node setup.shape x) (node_line setup.formulas x (node_at watch.nodes x))) regs watch =
+                subst (λ group. IsTreeMendable setup (redone group (slice_set lines (line_of_node setup.shape x) (node_line setup.formulas x (node_at watch.nodes x)))) regs watch) (sym sound.trusted.no_group)
+                (let it : IsTreeMendable setup (slice_set lines (line_of_node setup.shape x) (node_line setup.formulas x (node_at watch.nodes x))) regs watch =
                 record {
                   anchored = before.anchored;
                   seals_stored =
@@ -170,7 +170,7 @@ written_back-stored setup lines watch x inside size =
     line_at-set_same lines (line_of_node setup.shape x) (node_line setup.formulas x (node_at watch.nodes x)) (omega (arith, inside, size))
 
 -- the law: a fetched node takes the place of one that is clean or true on the device
-pub IsSound-fetched : (setup : Setup) (x : ℕ) (line : Line) (node : Node) (old new : TreeState) (lines : List Line) (regs : Regs) (watch : WatchState) → IsShape setup.shape → IsSound setup old lines regs watch → IsFetched setup x line node old new watch → GivesWay setup old lines watch (slot_of setup.shape x) → IsSound setup new lines regs watch
+pub IsSound-fetched : (setup : Setup) (x : ℕ) (line : Line) (node : Node) (old new : TreeState) (lines : List Line) (regs : Regs) (watch : WatchState) → IsShape setup.shape → IsTreeSound setup old lines regs watch → IsFetched setup x line node old new watch → GivesWay setup old lines watch (slot_of setup.shape x) → IsTreeSound setup new lines regs watch
 IsSound-fetched setup x line node old new lines regs watch shape sound fetched gives =
     record {
       trusted = IsTrusted-fetched setup x line node old new regs watch shape sound.trusted fetched;

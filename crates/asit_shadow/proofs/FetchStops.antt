@@ -19,9 +19,9 @@ use Rattle.counter_tree.specs.Accepted.{IsNodeUnaccepted, IsNodeForged}
 use Rattle.asit_shadow.specs.declared.fault.TreeFault.{TreeFault}
 use Rattle.asit_shadow.specs.declared.fault.TreeFault.TheVariants as Fail
 use Rattle.asit_shadow.specs.State.{TreeState, IsCached, cache_at}
-use Rattle.asit_shadow.specs.Parts.{Parts, AreTrusted}
+use Rattle.asit_shadow.specs.Parts.{TreeEngineParts, AreTreeTrusted}
 use Rattle.asit_shadow.specs.Calls.{IsNodeLineRead}
-use Rattle.asit_shadow.specs.Work.{holds_dirty, is_cached, absent_count, HasStoppedAt, IsShownAt, IsCutInFetch}
+use Rattle.asit_shadow.specs.Work.{holds_dirty, is_node_cached, absent_nodes, HasStoppedAt, IsNodeShownAt, IsCutInNodeFetch}
 use Rattle.asit_shadow.specs.Counts.{fetch_tags}
 use Rattle.asit_shadow.specs.Fetching.{AreTagsCutOff, IsNodeCutOff, HasNoNode, IsFetchStopped}
 use Rattle.asit_shadow.proofs.Chains.{effect-then, going-unshown, cut-unshown}
@@ -31,7 +31,7 @@ use Rattle.asit_shadow.proofs.TagLaws.{one-more}
 use Rattle.asit_shadow.proofs.FetchEnds.{read-unwritten, cut-unwritten, cut-power, cut-effect, refused-effect, first-none, shown-some, sound-read, shown-effect, held-read, stopped-steps, kept-watch, unwritten-levels}
 
 -- the line of the next node was read
-stopped-at : (setup : Setup) (a j x version : ℕ) (line : Line) (old now new : Parts) → IsNextLevel setup a j x version old now → (IsCached setup.shape now.engine.cache x → ⊥) → new.engine ≡ now.engine → HasRead now.device (line_of_node setup.shape x) line new.device → HasStoppedAt setup a x old new
+stopped-at : (setup : Setup) (a j x version : ℕ) (line : Line) (old now new : TreeEngineParts) → IsNextLevel setup a j x version old now → (IsCached setup.shape now.engine.cache x → ⊥) → new.engine ≡ now.engine → HasRead now.device (line_of_node setup.shape x) line new.device → HasStoppedAt setup a x old new
 stopped-at setup a j x version line old now new next uncached engine read =
     let same = read-unwritten now.device new.device (line_of_node setup.shape x) line read in
     let work = next-work setup a j x version old now next in
@@ -41,11 +41,11 @@ stopped-at setup a j x version line old now new next uncached engine read =
       next = next.place;
       absent = is_cached-false setup.shape old.engine.cache x (λ it. uncached (cached-after setup a j x version old now next it));
       fetched = unwritten-levels setup a j old now new (ap (λ (e : TreeState). e.cache) engine) same work.done;
-      reads = RisesBy-then (absent_count setup.shape old.engine.cache a j) 1 old.device.reads now.device.reads new.device.reads work.reads read.reads;
+      reads = RisesBy-then (absent_nodes setup.shape old.engine.cache a j) 1 old.device.reads now.device.reads new.device.reads work.reads read.reads;
     }
 
 -- how far a fetch came that was cut
-cut-work : (setup : Setup) (a j x version : ℕ) (old now new : Parts) → IsNextLevel setup a j x version old now → IsNodeCutOff setup.shape x now new → IsCutInFetch setup a old new
+cut-work : (setup : Setup) (a j x version : ℕ) (old now new : TreeEngineParts) → IsNextLevel setup a j x version old now → IsNodeCutOff setup.shape x now new → IsCutInNodeFetch setup a old new
 cut-work setup a j x version old now new next cut =
     let same = cut-unwritten setup.shape x now new cut in
     let work = next-work setup a j x version old now next in
@@ -58,18 +58,18 @@ cut-work setup a j x version old now new next cut =
           record {
             below = next.level;
             absent =
-                subst (λ y. is_cached setup.shape old.engine.cache y ≡ false) next.place
+                subst (λ y. is_node_cached setup.shape old.engine.cache y ≡ false) next.place
                 (is_cached-false setup.shape old.engine.cache x (λ it. cut.uncached (cached-after setup a j x version old now next it)));
             victim =
                 subst (λ y. holds_dirty (cache_at old.engine.cache (slot_of setup.shape y)) ≡ true) next.place
                 (ap holds_dirty (sym work.slot) ∙ cut.victim live);
             reads =
-                RisesBy-then (absent_count setup.shape old.engine.cache a j) 1 old.device.reads now.device.reads new.device.reads work.reads
+                RisesBy-then (absent_nodes setup.shape old.engine.cache a j) 1 old.device.reads now.device.reads new.device.reads work.reads
                 (cut.one_read live);
           };
     }
 
-cut_stop : (setup : Setup) (a j x version : ℕ) (old now new : Parts) (start count made : ℕ) → IsNextLevel setup a j x version old now → count ≡ risen_times (fetch_tags setup old.engine.cache a j) start → IsNodeCutOff setup.shape x now new
+cut_stop : (setup : Setup) (a j x version : ℕ) (old now new : TreeEngineParts) (start count made : ℕ) → IsNextLevel setup a j x version old now → count ≡ risen_times (fetch_tags setup old.engine.cache a j) start → IsNodeCutOff setup.shape x now new
     → AreTagsCutOff (cache_at now.engine.cache (slot_of setup.shape x)) now.device.live count made → IsFetchStopped setup a old new start made Fail.Cut
 unfolding cut-work
 cut_stop setup a j x version old now new start count made next before cut tags =
@@ -121,7 +121,7 @@ cut_stop setup a j x version old now new start count made next before cut tags =
     }
 
 -- the line read at the node that the fetch stopped at
-stopped-read : (setup : Setup) (a j x version : ℕ) (line : Line) (old now new : Parts) → IsNextLevel setup a j x version old now → (IsCached setup.shape now.engine.cache x → ⊥) → HasRead now.device (line_of_node setup.shape x) line new.device → IsNodeLineRead setup a x line old new
+stopped-read : (setup : Setup) (a j x version : ℕ) (line : Line) (old now new : TreeEngineParts) → IsNextLevel setup a j x version old now → (IsCached setup.shape now.engine.cache x → ⊥) → HasRead now.device (line_of_node setup.shape x) line new.device → IsNodeLineRead setup a x line old new
 stopped-read setup a j x version line old now new next uncached read =
     let ready = level-ready setup a j x version old now next in
     record {
@@ -132,7 +132,7 @@ stopped-read setup a j x version line old now new next uncached read =
     }
 
 -- the version is the true node's
-true_version : (setup : Setup) (a j x version : ℕ) (old now : Parts) → IsNextLevel setup a j x version old now → AreTrusted setup old → version ≡ total (node_at old.watch.nodes x)
+true_version : (setup : Setup) (a j x version : ℕ) (old now : TreeEngineParts) → IsNextLevel setup a j x version old now → AreTreeTrusted setup old → version ≡ total (node_at old.watch.nodes x)
 true_version setup a j x version old now next trusted =
     let ready = level-ready setup a j x version old now next in
     let here = next.before.effect.trusted trusted in
@@ -140,7 +140,7 @@ true_version setup a j x version old now next trusted =
     ∙ (sym (here.anchored.tree.versions x (omega (arith, ready.not_top)) ready.on_tree)
     ∙ ap (λ (w : WatchState). total (node_at w.nodes x)) next.before.watch)
 
-refused_stop : (setup : Setup) (a j x version : ℕ) (old now new : Parts) (start count made : ℕ) → IsNextLevel setup a j x version old now → count ≡ risen_times (fetch_tags setup old.engine.cache a j) start
+refused_stop : (setup : Setup) (a j x version : ℕ) (old now new : TreeEngineParts) (start count made : ℕ) → IsNextLevel setup a j x version old now → count ≡ risen_times (fetch_tags setup old.engine.cache a j) start
     → (IsCached setup.shape now.engine.cache x → ⊥) → new.engine ≡ now.engine → IsNodeUnaccepted setup x version now.device new.device now.watch new.watch count made
     → IsFetchStopped setup a old new start made (Fail.Node x)
 unfolding stopped-at
@@ -190,8 +190,8 @@ refused_stop setup a j x version old now new start count made next before uncach
           (sym it.refused ∙ sound-read setup x version it.line now ready uncached it.read.tells (next.before.effect.sound sound));
     }
 
-shown-work : (setup : Setup) (a j x version : ℕ) (old now new : Parts) → IsNextLevel setup a j x version old now → (IsCached setup.shape now.engine.cache x → ⊥) → new.engine ≡ now.engine
-    → IsNodeForged setup x version now.device new.device now.watch new.watch → IsShownAt setup a old new
+shown-work : (setup : Setup) (a j x version : ℕ) (old now new : TreeEngineParts) → IsNextLevel setup a j x version old now → (IsCached setup.shape now.engine.cache x → ⊥) → new.engine ≡ now.engine
+    → IsNodeForged setup x version now.device new.device now.watch new.watch → IsNodeShownAt setup a old new
 shown-work setup a j x version old now new next uncached engine it =
     record {
       x = x;
@@ -200,7 +200,7 @@ shown-work setup a j x version old now new next uncached engine it =
       shown = subst (λ (w : WatchState). HasShown w new.watch (forged_node w x it.line)) next.before.watch it.exhibit;
     }
 
-shown_stop : (setup : Setup) (a j x version : ℕ) (old now new : Parts) (start count made : ℕ) → IsNextLevel setup a j x version old now → count ≡ risen_times (fetch_tags setup old.engine.cache a j) start
+shown_stop : (setup : Setup) (a j x version : ℕ) (old now new : TreeEngineParts) (start count made : ℕ) → IsNextLevel setup a j x version old now → count ≡ risen_times (fetch_tags setup old.engine.cache a j) start
     → (IsCached setup.shape now.engine.cache x → ⊥) → new.engine ≡ now.engine → IsNodeForged setup x version now.device new.device now.watch new.watch → made ≡ risen count
     → IsFetchStopped setup a old new start made Fail.Shown
 unfolding stopped-at shown-work
@@ -252,7 +252,7 @@ shown_stop setup a j x version old now new start count made next before uncached
       unrefused = λ sound. effect.sound (next.before.effect.sound sound);
     }
 
-pub fetch-stopped : (setup : Setup) (a j x version : ℕ) (old now new : Parts) (start count made : ℕ) (fault : TreeFault) → IsNextLevel setup a j x version old now → count ≡ risen_times (fetch_tags setup old.engine.cache a j) start
+pub fetch-stopped : (setup : Setup) (a j x version : ℕ) (old now new : TreeEngineParts) (start count made : ℕ) (fault : TreeFault) → IsNextLevel setup a j x version old now → count ≡ risen_times (fetch_tags setup old.engine.cache a j) start
     → HasNoNode setup x version now new count made fault → IsFetchStopped setup a old new start made fault
 fetch-stopped setup a j x version old now new start count made Fail.Cut next before missed =
     cut_stop setup a j x version old now new start count made next before missed.0 missed.1

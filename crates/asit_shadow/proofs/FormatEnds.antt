@@ -28,10 +28,10 @@ use Rattle.counter_tree.specs.Shadow.{ChipTree, IsChipTree, IsShadowTree, root_o
 use Rattle.counter_tree.specs.Watch.{WatchState}
 use Rattle.asit_shadow.specs.declared.cache.CachedNode.{CachedNode}
 use Rattle.asit_shadow.specs.State.{TreeState, IsHeldNode, IsTreeEngine}
-use Rattle.asit_shadow.specs.Invariants.{IsSound}
-use Rattle.asit_shadow.specs.Parts.{parts_of, IsUsable}
+use Rattle.asit_shadow.specs.Invariants.{IsTreeSound}
+use Rattle.asit_shadow.specs.Parts.{tree_parts_of, IsTreeUsable}
 use Rattle.asit_shadow.specs.Recovering.{Rest}
-use Rattle.asit_shadow.specs.Formatting.{first_held, first_cache, first_slots, sealed_lines, node_lines_written, slot_lines_written, AreSealsTold, AreNodesTold, AreSlotsTold, IsChipFormatted, IsFirstEngine, AreLinesFormatted, HasDeviceFormatted, HasTreeFormatted}
+use Rattle.asit_shadow.specs.Formatting.{first_held, first_cache, first_slots, tree_sealed_lines, node_lines_written, slot_lines_written, AreSealsTold, AreNodesTold, AreSlotsTold, IsChipFormatted, IsFirstEngine, AreLinesFormatted, HasDeviceFormatted, HasTreeFormatted}
 use Rattle.asit_shadow.proofs.FormatLaws.{replicate-default, IsTrusted-formatted, IsSound-formatted}
 use Rattle.asit_shadow.proofs.EngineLemmas.{held-set}
 use Rattle.asit_shadow.proofs.FormatSteps.{lines_formatted, formatted-told, told-mapped, mapped-then, first_slots-count, told-all}
@@ -46,7 +46,7 @@ pub record IsFilled (setup : Setup) (old new : Rest) (sealed noded slotted : Dev
   pub was_whole : AreToldLines old.device.size old.device.lines
   pub whole : AreToldLines new.device.size new.device.lines
   pub seals_steady : StaysSteady (2 * tree_lines setup.shape) old.device sealed
-  pub seals_written : sealed.lines ≡ option_map (sealed_lines setup (tree_lines setup.shape)) old.device.lines
+  pub seals_written : sealed.lines ≡ option_map (tree_sealed_lines setup (tree_lines setup.shape)) old.device.lines
   pub seals_told : AreSealsTold setup.formulas (tree_lines setup.shape) old.watch sealing
   pub nodes_steady : StaysSteady (meta_lines setup.shape) sealed noded
   pub nodes_written : noded.lines ≡ option_map (node_lines_written setup (meta_lines setup.shape)) sealed.lines
@@ -57,12 +57,12 @@ pub record IsFilled (setup : Setup) (old new : Rest) (sealed noded slotted : Dev
   pub latched : HasLatched slotted (record empty_regs { root = root }) new.device
   pub its_root : root ≡ root_of setup.formulas (shadow_height setup.shape) (first_slots setup.shape)
 
-lines-written : (setup : Setup) (old sealed noded slotted : Option (List Line)) → sealed ≡ option_map (sealed_lines setup (tree_lines setup.shape)) old → noded ≡ option_map (node_lines_written setup (meta_lines setup.shape)) sealed
+lines-written : (setup : Setup) (old sealed noded slotted : Option (List Line)) → sealed ≡ option_map (tree_sealed_lines setup (tree_lines setup.shape)) old → noded ≡ option_map (node_lines_written setup (meta_lines setup.shape)) sealed
     → slotted ≡ option_map (slot_lines_written setup.shape (first_slots setup.shape) (tree_slots setup.shape)) noded → slotted ≡ option_map (lines_formatted setup) old
 unfolding lines_formatted
 lines-written setup old sealed noded slotted first second third =
-    mapped-then (λ lines. node_lines_written setup (meta_lines setup.shape) (sealed_lines setup (tree_lines setup.shape) lines)) (slot_lines_written setup.shape (first_slots setup.shape) (tree_slots setup.shape)) (lines_formatted setup) old noded slotted
-    (mapped-then (sealed_lines setup (tree_lines setup.shape)) (node_lines_written setup (meta_lines setup.shape)) (λ lines. node_lines_written setup (meta_lines setup.shape) (sealed_lines setup (tree_lines setup.shape) lines)) old sealed noded first second (λ lines. refl)) third (λ lines. refl)
+    mapped-then (λ lines. node_lines_written setup (meta_lines setup.shape) (tree_sealed_lines setup (tree_lines setup.shape) lines)) (slot_lines_written setup.shape (first_slots setup.shape) (tree_slots setup.shape)) (lines_formatted setup) old noded slotted
+    (mapped-then (tree_sealed_lines setup (tree_lines setup.shape)) (node_lines_written setup (meta_lines setup.shape)) (λ lines. node_lines_written setup (meta_lines setup.shape) (tree_sealed_lines setup (tree_lines setup.shape) lines)) old sealed noded first second (λ lines. refl)) third (λ lines. refl)
 
 pub device-formatted : (setup : Setup) (old new : Rest) (sealed noded slotted : Device) (sealing noding : WatchState) (root : List ℕ) (tree : ChipTree) → IsFilled setup old new sealed noded slotted sealing noding root → tree.height ≡ shadow_height setup.shape → IsShadowTree setup.formulas (shadow_height setup.shape) (first_slots setup.shape) tree.lines
     → HasDeviceFormatted setup old new tree
@@ -120,12 +120,12 @@ tree-formatted setup old new engine shape in_range seals whole first it =
           its_regs = it.regs;
         }
 
-    each : (lines : Option (List Line)) → IfSome lines (AreLinesFormatted setup) → IsChipFormatted setup engine new.device.regs new.watch → IfSome lines (λ l. IsSound setup engine l new.device.regs new.watch)
+    each : (lines : Option (List Line)) → IfSome lines (AreLinesFormatted setup) → IsChipFormatted setup engine new.device.regs new.watch → IfSome lines (λ l. IsTreeSound setup engine l new.device.regs new.watch)
     each None written made = tt
     each (Some lines) written made = IsSound-formatted setup engine lines new.device.regs new.watch shape in_range made written
 
 -- and its calls can begin
-pub formatted-usable : (setup : Setup) (old new : Rest) (engine : TreeState) → old.device.size ≡ tree_size setup.shape → length old.watch.seals ≡ tree_lines setup.shape → HasTreeFormatted setup old new engine → IsUsable setup.shape (parts_of engine new.device new.watch)
+pub formatted-usable : (setup : Setup) (old new : Rest) (engine : TreeState) → old.device.size ≡ tree_size setup.shape → length old.watch.seals ≡ tree_lines setup.shape → HasTreeFormatted setup old new engine → IsTreeUsable setup.shape (tree_parts_of engine new.device new.watch)
 formatted-usable setup old new engine size seals it =
     let none : new.device.regs.group.items ≡ [] = ap (λ (r : Regs). r.group.items) it.device.regs in
     record {

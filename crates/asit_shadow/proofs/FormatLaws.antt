@@ -27,8 +27,8 @@ use Rattle.counter_tree.specs.Slots.{slot_line}
 use Rattle.counter_tree.specs.Watch.{WatchState, IsLineSeal}
 use Rattle.asit_shadow.specs.State.{TreeState, cache_at}
 use Rattle.asit_shadow.specs.declared.cache.CachedNode.{CachedNode}
-use Rattle.asit_shadow.specs.Invariants.{IsTrueCached, IsTrusted, IsMendable, IsSound, IsTreeOver}
-use Rattle.asit_shadow.specs.Formatting.{first_seal, first_held, IsChipFormatted, AreLinesFormatted}
+use Rattle.asit_shadow.specs.Invariants.{IsTrueCached, IsTreeTrusted, IsTreeMendable, IsTreeSound, IsTreeOver}
+use Rattle.asit_shadow.specs.Formatting.{first_tree_seal, first_held, IsChipFormatted, AreLinesFormatted}
 use Rattle.asit_shadow.proofs.PutLaws.{tag_slot-tag_only}
 
 -- a list of one value has it everywhere
@@ -44,7 +44,7 @@ zero_counters (suc (suc zero)) = refl
 zero_counters (suc (suc (suc zero))) = refl
 zero_counters (suc (suc (suc (suc i)))) = refl
 
-pub formatted-seal : (f : Formulas) (a : ℕ) → AreInRange f → IsLineSeal (first_seal f a)
+pub formatted-seal : (f : Formulas) (a : ℕ) → AreInRange f → IsLineSeal (first_tree_seal f a)
 formatted-seal f a in_range =
     let low : 0 < 2 ^ 64 = lit< tt in
     let cipher = cipher_of-IsLine f a (version_counter 0) zero_line in_range (record { major = low; minor = omega arith }) IsLine-zero_line in
@@ -68,7 +68,7 @@ formatted-tree g nodes e =
 
 -- ---- the laws
 
-pub IsTrusted-formatted : (setup : Setup) (engine : TreeState) (regs : Regs) (watch : WatchState) → IsShape setup.shape → AreInRange setup.formulas → IsChipFormatted setup engine regs watch → IsTrusted setup engine regs watch
+pub IsTrusted-formatted : (setup : Setup) (engine : TreeState) (regs : Regs) (watch : WatchState) → IsShape setup.shape → AreInRange setup.formulas → IsChipFormatted setup engine regs watch → IsTreeTrusted setup engine regs watch
 IsTrusted-formatted setup engine regs watch shape in_range made =
     let each : (x : ℕ) → node_at watch.nodes x ≡ zero_node = λ x. ap (λ (ns : List Node). node_at ns x) made.nodes ∙ replicate-default (meta_lines setup.shape) x zero_node in
     let positive : 0 < meta_lines setup.shape = omega (arith, meta_lines-level setup.shape, level_start-suc setup.shape.levels) in
@@ -96,7 +96,7 @@ IsTrusted-formatted setup engine regs watch shape in_range made =
             seals =
                 λ a inside.
                 record {
-                  seal = first_seal setup.formulas a;
+                  seal = first_tree_seal setup.formulas a;
                   last = made.seals a inside;
                   counter =
                       sym (ap (λ (n : Node). counter n (child_slot (line_position setup.shape a))) (each (parent (line_position setup.shape a)))
@@ -144,24 +144,24 @@ IsTrusted-formatted setup engine regs watch shape in_range made =
       tree_true = subst (λ (slots : List Line). IsTreeOver setup slots engine.tree) (sym made.slots) made.tree;
     }
 
-pub IsSound-formatted : (setup : Setup) (engine : TreeState) (lines : List Line) (regs : Regs) (watch : WatchState) → IsShape setup.shape → AreInRange setup.formulas → IsChipFormatted setup engine regs watch → AreLinesFormatted setup lines → IsSound setup engine lines regs watch
+pub IsSound-formatted : (setup : Setup) (engine : TreeState) (lines : List Line) (regs : Regs) (watch : WatchState) → IsShape setup.shape → AreInRange setup.formulas → IsChipFormatted setup engine regs watch → AreLinesFormatted setup lines → IsTreeSound setup engine lines regs watch
 IsSound-formatted setup engine lines regs watch shape in_range made written =
     let each : (x : ℕ) → node_at watch.nodes x ≡ zero_node = λ x. ap (λ (ns : List Node). node_at ns x) made.nodes ∙ replicate-default (meta_lines setup.shape) x zero_node in
     let trusted = IsTrusted-formatted setup engine regs watch shape in_range made in
     let stored : (x : ℕ) → x < meta_lines setup.shape → line_at lines (line_of_node setup.shape x) ≡ node_line setup.formulas x (node_at watch.nodes x) =
     λ x inside. written.node_lines x inside ∙ ap (node_line setup.formulas x) (sym (each x)) in
-    let mendable : IsMendable setup lines regs watch =
+    let mendable : IsTreeMendable setup lines regs watch =
     record {
       anchored = trusted.anchored;
       seals_stored =
           λ a inside.
           record {
-            seal = first_seal setup.formulas a;
+            seal = first_tree_seal setup.formulas a;
             last = made.seals a inside;
             cipher = written.data_lines a inside;
             tag =
                 ap (λ line. tag_slot line 0) (written.tag_lines a inside)
-                ∙ tag_slot-tag_only (first_seal setup.formulas a).tag (formatted-seal setup.formulas a in_range).tag;
+                ∙ tag_slot-tag_only (first_tree_seal setup.formulas a).tag (formatted-seal setup.formulas a in_range).tag;
           };
       slots_stored = λ i inside. written.slot_lines i inside ∙ ap (λ (slots : List Line). line_at slots i) (sym made.slots);
       true_or_named = λ x inside. inl (stored x inside);
@@ -171,7 +171,7 @@ IsSound-formatted setup engine lines regs watch shape in_range made written =
       durable =
           record {
             device_whole = written.device_whole;
-            mendable = subst (λ group. IsMendable setup (redone group lines) regs watch) (sym trusted.no_group) mendable;
+            mendable = subst (λ group. IsTreeMendable setup (redone group lines) regs watch) (sym trusted.no_group) mendable;
           };
       true_or_dirty = λ x inside. inl (stored x inside);
     }

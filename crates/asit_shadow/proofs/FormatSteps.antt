@@ -20,7 +20,7 @@ use Rattle.counter_tree.specs.Slots.{slot_line}
 use Rattle.counter_tree.specs.Watch.{WatchState, HasSealNoted, HasNodeNoted, HasSlotNoted}
 use Rattle.asit_shadow.specs.Paths.{tag_only}
 use Rattle.asit_shadow.specs.Writing.{IsSealMade}
-use Rattle.asit_shadow.specs.Formatting.{first_seal, first_slots, set_first, sealed_lines, node_lines_written, slot_lines_written, AreSealsTold, AreNodesTold, AreSlotsTold, AreLinesFormatted, IsFormatTold}
+use Rattle.asit_shadow.specs.Formatting.{first_tree_seal, first_slots, set_first, tree_sealed_lines, node_lines_written, slot_lines_written, AreSealsTold, AreNodesTold, AreSlotsTold, AreLinesFormatted, IsFormatTold}
 
 -- ---- places set in order
 
@@ -58,41 +58,41 @@ set_first-all value list whole d same each =
 
 -- ---- the device's lines
 
-length-sealed_lines : (setup : Setup) (n : ℕ) (lines : List Line) → length (sealed_lines setup n lines) ≡ length lines
+length-sealed_lines : (setup : Setup) (n : ℕ) (lines : List Line) → length (tree_sealed_lines setup n lines) ≡ length lines
 length-sealed_lines setup zero lines = refl
 length-sealed_lines setup (suc n) lines =
-    length-set (slice_set (sealed_lines setup n lines) n (first_seal setup.formulas n).cipher) (line_of_tag setup.shape n) (tag_only (first_seal setup.formulas n).tag)
-    ∙ (length-set (sealed_lines setup n lines) n (first_seal setup.formulas n).cipher ∙ length-sealed_lines setup n lines)
+    length-set (slice_set (tree_sealed_lines setup n lines) n (first_tree_seal setup.formulas n).cipher) (line_of_tag setup.shape n) (tag_only (first_tree_seal setup.formulas n).tag)
+    ∙ (length-set (tree_sealed_lines setup n lines) n (first_tree_seal setup.formulas n).cipher ∙ length-sealed_lines setup n lines)
 
 -- the cipher of a line, and its tag line
 pub record IsFirstStored (setup : Setup) (a : ℕ) (lines : List Line) : Type 0 where
-  pub cipher : line_at lines a ≡ (first_seal setup.formulas a).cipher
-  pub tags : line_at lines (line_of_tag setup.shape a) ≡ tag_only (first_seal setup.formulas a).tag
+  pub cipher : line_at lines a ≡ (first_tree_seal setup.formulas a).cipher
+  pub tags : line_at lines (line_of_tag setup.shape a) ≡ tag_only (first_tree_seal setup.formulas a).tag
 
-sealed_lines-at : (setup : Setup) (n : ℕ) (lines : List Line) (a : ℕ) → a < n → n ≤ tree_lines setup.shape → tree_lines setup.shape + tree_lines setup.shape ≤ length lines → IsFirstStored setup a (sealed_lines setup n lines)
+sealed_lines-at : (setup : Setup) (n : ℕ) (lines : List Line) (a : ℕ) → a < n → n ≤ tree_lines setup.shape → tree_lines setup.shape + tree_lines setup.shape ≤ length lines → IsFirstStored setup a (tree_sealed_lines setup n lines)
 sealed_lines-at setup zero lines a low most room = absurd (omega (arith, low))
 sealed_lines-at setup (suc n) lines a low most room =
     let long = length-sealed_lines setup n lines in
-    let longer = length-set (sealed_lines setup n lines) n (first_seal setup.formulas n).cipher in
+    let longer = length-set (tree_sealed_lines setup n lines) n (first_tree_seal setup.formulas n).cipher in
     elim (cases_eq a n) [
       | inl same ↦
-          subst (λ m. IsFirstStored setup m (sealed_lines setup (suc n) lines)) (sym same)
+          subst (λ m. IsFirstStored setup m (tree_sealed_lines setup (suc n) lines)) (sym same)
           (record {
             cipher =
-                get_or-set_other (slice_set (sealed_lines setup n lines) n (first_seal setup.formulas n).cipher) (line_of_tag setup.shape n) n (tag_only (first_seal setup.formulas n).tag) zero_line (λ e. omega (arith, e, most))
-                ∙ get_or-set_same (sealed_lines setup n lines) n (first_seal setup.formulas n).cipher zero_line (omega (arith, most, room, long));
+                get_or-set_other (slice_set (tree_sealed_lines setup n lines) n (first_tree_seal setup.formulas n).cipher) (line_of_tag setup.shape n) n (tag_only (first_tree_seal setup.formulas n).tag) zero_line (λ e. omega (arith, e, most))
+                ∙ get_or-set_same (tree_sealed_lines setup n lines) n (first_tree_seal setup.formulas n).cipher zero_line (omega (arith, most, room, long));
             tags =
-                get_or-set_same (slice_set (sealed_lines setup n lines) n (first_seal setup.formulas n).cipher) (line_of_tag setup.shape n) (tag_only (first_seal setup.formulas n).tag) zero_line (omega (arith, most, room, long, longer));
+                get_or-set_same (slice_set (tree_sealed_lines setup n lines) n (first_tree_seal setup.formulas n).cipher) (line_of_tag setup.shape n) (tag_only (first_tree_seal setup.formulas n).tag) zero_line (omega (arith, most, room, long, longer));
           })
       | inr other ↦
           let was = sealed_lines-at setup n lines a (omega (arith, low, other)) (omega (arith, most)) room in
           record {
             cipher =
-                get_or-set_other (slice_set (sealed_lines setup n lines) n (first_seal setup.formulas n).cipher) (line_of_tag setup.shape n) a (tag_only (first_seal setup.formulas n).tag) zero_line (λ e. omega (arith, e, low, most))
-                ∙ (get_or-set_other (sealed_lines setup n lines) n a (first_seal setup.formulas n).cipher zero_line other ∙ was.cipher);
+                get_or-set_other (slice_set (tree_sealed_lines setup n lines) n (first_tree_seal setup.formulas n).cipher) (line_of_tag setup.shape n) a (tag_only (first_tree_seal setup.formulas n).tag) zero_line (λ e. omega (arith, e, low, most))
+                ∙ (get_or-set_other (tree_sealed_lines setup n lines) n a (first_tree_seal setup.formulas n).cipher zero_line other ∙ was.cipher);
             tags =
-                get_or-set_other (slice_set (sealed_lines setup n lines) n (first_seal setup.formulas n).cipher) (line_of_tag setup.shape n) (line_of_tag setup.shape a) (tag_only (first_seal setup.formulas n).tag) zero_line (λ e. other (omega (arith, e)))
-                ∙ (get_or-set_other (sealed_lines setup n lines) n (line_of_tag setup.shape a) (first_seal setup.formulas n).cipher zero_line (λ e. omega (arith, e, most)) ∙ was.tags);
+                get_or-set_other (slice_set (tree_sealed_lines setup n lines) n (first_tree_seal setup.formulas n).cipher) (line_of_tag setup.shape n) (line_of_tag setup.shape a) (tag_only (first_tree_seal setup.formulas n).tag) zero_line (λ e. other (omega (arith, e)))
+                ∙ (get_or-set_other (tree_sealed_lines setup n lines) n (line_of_tag setup.shape a) (first_tree_seal setup.formulas n).cipher zero_line (λ e. omega (arith, e, most)) ∙ was.tags);
           }
     ]
 
@@ -100,20 +100,20 @@ sealed_lines-at setup (suc n) lines a low most room =
 unfoldable pub lines_formatted : Setup → List Line → List Line
 lines_formatted setup lines =
     slot_lines_written setup.shape (first_slots setup.shape) (tree_slots setup.shape)
-    (node_lines_written setup (meta_lines setup.shape) (sealed_lines setup (tree_lines setup.shape) lines))
+    (node_lines_written setup (meta_lines setup.shape) (tree_sealed_lines setup (tree_lines setup.shape) lines))
 
 formatted-at : (setup : Setup) (lines : List Line) → length lines ≡ tree_size setup.shape → AreLinesOf (tree_size setup.shape) (lines_formatted setup lines) → AreLinesFormatted setup (lines_formatted setup lines)
 unfolding lines_formatted
 formatted-at setup lines count whole =
-    let first : length (sealed_lines setup (tree_lines setup.shape) lines) ≡ tree_size setup.shape = length-sealed_lines setup (tree_lines setup.shape) lines ∙ count in
-    let second : length (node_lines_written setup (meta_lines setup.shape) (sealed_lines setup (tree_lines setup.shape) lines)) ≡ tree_size setup.shape =
-    length-set_first (line_of_node setup.shape) (λ x. node_line setup.formulas x zero_node) (meta_lines setup.shape) (sealed_lines setup (tree_lines setup.shape) lines) ∙ first in
+    let first : length (tree_sealed_lines setup (tree_lines setup.shape) lines) ≡ tree_size setup.shape = length-sealed_lines setup (tree_lines setup.shape) lines ∙ count in
+    let second : length (node_lines_written setup (meta_lines setup.shape) (tree_sealed_lines setup (tree_lines setup.shape) lines)) ≡ tree_size setup.shape =
+    length-set_first (line_of_node setup.shape) (λ x. node_line setup.formulas x zero_node) (meta_lines setup.shape) (tree_sealed_lines setup (tree_lines setup.shape) lines) ∙ first in
     -- what stands below the nodes
-    let below : (d : ℕ) → d < 2 * tree_lines setup.shape → line_at (lines_formatted setup lines) d ≡ line_at (sealed_lines setup (tree_lines setup.shape) lines) d =
+    let below : (d : ℕ) → d < 2 * tree_lines setup.shape → line_at (lines_formatted setup lines) d ≡ line_at (tree_sealed_lines setup (tree_lines setup.shape) lines) d =
     λ d low.
-    set_first-other (line_of_slot setup.shape) (line_at (first_slots setup.shape)) (tree_slots setup.shape) (node_lines_written setup (meta_lines setup.shape) (sealed_lines setup (tree_lines setup.shape) lines)) d zero_line (λ k less e. omega (arith, e, low))
-    ∙ set_first-other (line_of_node setup.shape) (λ x. node_line setup.formulas x zero_node) (meta_lines setup.shape) (sealed_lines setup (tree_lines setup.shape) lines) d zero_line (λ k less e. omega (arith, e, low)) in
-    let stored : (a : ℕ) → a < tree_lines setup.shape → IsFirstStored setup a (sealed_lines setup (tree_lines setup.shape) lines) =
+    set_first-other (line_of_slot setup.shape) (line_at (first_slots setup.shape)) (tree_slots setup.shape) (node_lines_written setup (meta_lines setup.shape) (tree_sealed_lines setup (tree_lines setup.shape) lines)) d zero_line (λ k less e. omega (arith, e, low))
+    ∙ set_first-other (line_of_node setup.shape) (λ x. node_line setup.formulas x zero_node) (meta_lines setup.shape) (tree_sealed_lines setup (tree_lines setup.shape) lines) d zero_line (λ k less e. omega (arith, e, low)) in
+    let stored : (a : ℕ) → a < tree_lines setup.shape → IsFirstStored setup a (tree_sealed_lines setup (tree_lines setup.shape) lines) =
     λ a inside. sealed_lines-at setup (tree_lines setup.shape) lines a inside (omega arith) (omega (arith, count)) in
     record {
       device_whole = whole;
@@ -121,11 +121,11 @@ formatted-at setup lines count whole =
       tag_lines = λ a inside. below (line_of_tag setup.shape a) (omega (arith, inside)) ∙ (stored a inside).tags;
       node_lines =
           λ x inside.
-          set_first-other (line_of_slot setup.shape) (line_at (first_slots setup.shape)) (tree_slots setup.shape) (node_lines_written setup (meta_lines setup.shape) (sealed_lines setup (tree_lines setup.shape) lines)) (line_of_node setup.shape x) zero_line (λ k less e. omega (arith, e, inside))
-          ∙ set_first-at (line_of_node setup.shape) (λ y. node_line setup.formulas y zero_node) (meta_lines setup.shape) (sealed_lines setup (tree_lines setup.shape) lines) x zero_line inside (λ i less. omega (arith, less, first)) (λ i j e. omega (arith, e));
+          set_first-other (line_of_slot setup.shape) (line_at (first_slots setup.shape)) (tree_slots setup.shape) (node_lines_written setup (meta_lines setup.shape) (tree_sealed_lines setup (tree_lines setup.shape) lines)) (line_of_node setup.shape x) zero_line (λ k less e. omega (arith, e, inside))
+          ∙ set_first-at (line_of_node setup.shape) (λ y. node_line setup.formulas y zero_node) (meta_lines setup.shape) (tree_sealed_lines setup (tree_lines setup.shape) lines) x zero_line inside (λ i less. omega (arith, less, first)) (λ i j e. omega (arith, e));
       slot_lines =
           λ i inside.
-          set_first-at (line_of_slot setup.shape) (line_at (first_slots setup.shape)) (tree_slots setup.shape) (node_lines_written setup (meta_lines setup.shape) (sealed_lines setup (tree_lines setup.shape) lines)) i zero_line inside (λ k less. omega (arith, less, second)) (λ k j e. omega (arith, e));
+          set_first-at (line_of_slot setup.shape) (line_at (first_slots setup.shape)) (tree_slots setup.shape) (node_lines_written setup (meta_lines setup.shape) (tree_sealed_lines setup (tree_lines setup.shape) lines)) i zero_line inside (λ k less. omega (arith, less, second)) (λ k j e. omega (arith, e));
     }
 
 -- where the lines are told
@@ -160,30 +160,30 @@ written-more place value n old mid new first second =
     (mapped-then (set_first place value n) (λ lines. slice_set lines (place n) (value n)) (set_first place value (suc n)) old mid new first (second ∙ mapped-line mid (place n) (value n)) (λ lines. refl))
 
 -- a sealed line more
-pub sealed-more : (setup : Setup) (n : ℕ) (old mid new : Option (List Line)) → mid ≡ option_map (sealed_lines setup n) old → new ≡ with_line (with_line mid n (first_seal setup.formulas n).cipher) (line_of_tag setup.shape n) (tag_only (first_seal setup.formulas n).tag) → new ≡ option_map (sealed_lines setup (n + 1)) old
+pub sealed-more : (setup : Setup) (n : ℕ) (old mid new : Option (List Line)) → mid ≡ option_map (tree_sealed_lines setup n) old → new ≡ with_line (with_line mid n (first_tree_seal setup.formulas n).cipher) (line_of_tag setup.shape n) (tag_only (first_tree_seal setup.formulas n).tag) → new ≡ option_map (tree_sealed_lines setup (n + 1)) old
 sealed-more setup n old mid new first second =
-    subst (λ m. new ≡ option_map (sealed_lines setup m) old) (one-more n)
-    (second ∙ (ap (λ told. with_line (with_line told n (first_seal setup.formulas n).cipher) (line_of_tag setup.shape n) (tag_only (first_seal setup.formulas n).tag)) first ∙ sealed old))
+    subst (λ m. new ≡ option_map (tree_sealed_lines setup m) old) (one-more n)
+    (second ∙ (ap (λ told. with_line (with_line told n (first_tree_seal setup.formulas n).cipher) (line_of_tag setup.shape n) (tag_only (first_tree_seal setup.formulas n).tag)) first ∙ sealed old))
   where
-    sealed : (old : Option (List Line)) → with_line (with_line (option_map (sealed_lines setup n) old) n (first_seal setup.formulas n).cipher) (line_of_tag setup.shape n) (tag_only (first_seal setup.formulas n).tag) ≡ option_map (sealed_lines setup (suc n)) old
+    sealed : (old : Option (List Line)) → with_line (with_line (option_map (tree_sealed_lines setup n) old) n (first_tree_seal setup.formulas n).cipher) (line_of_tag setup.shape n) (tag_only (first_tree_seal setup.formulas n).tag) ≡ option_map (tree_sealed_lines setup (suc n)) old
     sealed None = refl
     sealed (Some lines) = refl
 
 -- ---- what the watch is told
 
 -- zeros sealed under counter 0
-pub first-made : (f : Formulas) (a : ℕ) (seal : LineSeal) → IsSealMade f a 0 zero_line seal → seal ≡ first_seal f a
+pub first-made : (f : Formulas) (a : ℕ) (seal : LineSeal) → IsSealMade f a 0 zero_line seal → seal ≡ first_tree_seal f a
 first-made f a seal it =
     ap (λ (n : ℕ). record { counter = n; cipher = seal.cipher; tag = seal.tag }) it.its_counter
     ∙ (ap (λ (t : List ℕ). record { counter = 0; cipher = seal.cipher; tag = t }) (sym it.tag)
     ∙ ap (λ (l : Line). record { counter = 0; cipher = l; tag = f.tag_of a (version_counter 0) l }) it.cipher)
 
-pub seals-more : (f : Formulas) (n : ℕ) (old mid new : WatchState) → AreSealsTold f n old mid → HasSealNoted mid new n (first_seal f n) → AreSealsTold f (n + 1) old new
+pub seals-more : (f : Formulas) (n : ℕ) (old mid new : WatchState) → AreSealsTold f n old mid → HasSealNoted mid new n (first_tree_seal f n) → AreSealsTold f (n + 1) old new
 seals-more f n old mid new before it =
     subst (λ m. AreSealsTold f m old new) (one-more n)
     (record {
       setup = it.setup ∙ before.setup;
-      seals = it.seals ∙ ap (λ (seals : List (Option LineSeal)). slice_set seals n (Some (first_seal f n))) before.seals;
+      seals = it.seals ∙ ap (λ (seals : List (Option LineSeal)). slice_set seals n (Some (first_tree_seal f n))) before.seals;
       nodes = it.nodes ∙ before.nodes;
       slots = it.slots ∙ before.slots;
       exhibit = it.exhibit ∙ before.exhibit;
@@ -222,16 +222,16 @@ first_slots-count g =
 pub told-all : (setup : Setup) (old one two new : WatchState) → length old.seals ≡ tree_lines setup.shape → length old.nodes ≡ meta_lines setup.shape → length old.slots ≡ tree_slots setup.shape → AreSealsTold setup.formulas (tree_lines setup.shape) old one → AreNodesTold (meta_lines setup.shape) one two
     → AreSlotsTold (first_slots setup.shape) (tree_slots setup.shape) two new → IsFormatTold setup old new
 told-all setup old one two new seal_count node_count slot_count seals nodes slots =
-    let seals_are : new.seals ≡ set_first (λ a. a) (λ a. Some (first_seal setup.formulas a)) (tree_lines setup.shape) old.seals = slots.seals ∙ (nodes.seals ∙ seals.seals) in
+    let seals_are : new.seals ≡ set_first (λ a. a) (λ a. Some (first_tree_seal setup.formulas a)) (tree_lines setup.shape) old.seals = slots.seals ∙ (nodes.seals ∙ seals.seals) in
     let node_size : length (replicate (meta_lines setup.shape) zero_node) ≡ meta_lines setup.shape = length-replicate {A = Node} (meta_lines setup.shape) zero_node in
     let slot_size = first_slots-count setup.shape in
     record {
       its_setup = slots.setup ∙ (nodes.setup ∙ seals.setup);
-      seal_count = ap length seals_are ∙ length-set_first (λ a. a) (λ a. Some (first_seal setup.formulas a)) (tree_lines setup.shape) old.seals;
+      seal_count = ap length seals_are ∙ length-set_first (λ a. a) (λ a. Some (first_tree_seal setup.formulas a)) (tree_lines setup.shape) old.seals;
       seals =
           λ a inside.
           ap (λ (s : List (Option LineSeal)). slice_index_or s a None) seals_are
-          ∙ set_first-at (λ b. b) (λ b. Some (first_seal setup.formulas b)) (tree_lines setup.shape) old.seals a None inside (λ i less. omega (arith, less, seal_count)) (λ i j e. e);
+          ∙ set_first-at (λ b. b) (λ b. Some (first_tree_seal setup.formulas b)) (tree_lines setup.shape) old.seals a None inside (λ i less. omega (arith, less, seal_count)) (λ i j e. e);
       nodes =
           slots.nodes
           ∙ (nodes.nodes

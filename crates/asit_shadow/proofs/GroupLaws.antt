@@ -11,29 +11,29 @@ use Rattle.commit_regs.specs.Groups.{redone, Writes}
 use Rattle.commit_regs.proofs.GroupLemmas.{redone-set, AreLinesOf-redone}
 use Rattle.counter_tree.specs.Layout.{tree_size}
 use Rattle.counter_tree.specs.Watch.{WatchState}
-use Rattle.asit_shadow.specs.Invariants.{IsMendable, IsDurable}
-use Rattle.asit_shadow.specs.Steps.{IsEmptied}
+use Rattle.asit_shadow.specs.Invariants.{IsTreeMendable, IsTreeDurable}
+use Rattle.asit_shadow.specs.Steps.{IsTreeEmptied}
 use Rattle.asit_shadow.proofs.ArmLaws.{IsAnchored-emptied}
 
 -- lines that the group makes the same of
-pub IsDurable-again : (setup : Setup) (old new : List Line) (regs : Regs) (watch : WatchState) → AreLinesOf (tree_size setup.shape) new → redone regs.group.items new ≡ redone regs.group.items old → IsDurable setup old regs watch → IsDurable setup new regs watch
+pub IsDurable-again : (setup : Setup) (old new : List Line) (regs : Regs) (watch : WatchState) → AreLinesOf (tree_size setup.shape) new → redone regs.group.items new ≡ redone regs.group.items old → IsTreeDurable setup old regs watch → IsTreeDurable setup new regs watch
 IsDurable-again setup old new regs watch whole again durable =
-    record { device_whole = whole; mendable = subst (λ lines. IsMendable setup lines regs watch) (sym again) durable.mendable }
+    record { device_whole = whole; mendable = subst (λ lines. IsTreeMendable setup lines regs watch) (sym again) durable.mendable }
 
 -- whatever is written at a place of the armed group
-pub IsDurable-group_line : (setup : Setup) (lines : List Line) (regs : Regs) (watch : WatchState) (at : ℕ) (line : Line) → Writes at regs.group.items → IsLine line → IsDurable setup lines regs watch → IsDurable setup (slice_set lines at line) regs watch
+pub IsDurable-group_line : (setup : Setup) (lines : List Line) (regs : Regs) (watch : WatchState) (at : ℕ) (line : Line) → Writes at regs.group.items → IsLine line → IsTreeDurable setup lines regs watch → IsTreeDurable setup (slice_set lines at line) regs watch
 IsDurable-group_line setup lines regs watch at line writes good durable =
     IsDurable-again setup lines (slice_set lines at line) regs watch (AreLinesOf-set (tree_size setup.shape) lines at line durable.device_whole good)
     (redone-set regs.group.items lines at line writes) durable
 
 -- the group written whole and emptied, as recovery's redo does
-pub IsDurable-finished : (setup : Setup) (lines : List Line) (old new : Regs) (watch : WatchState) → IsEmptied old new → IsDurable setup lines old watch → IsDurable setup (redone old.group.items lines) new watch
+pub IsDurable-finished : (setup : Setup) (lines : List Line) (old new : Regs) (watch : WatchState) → IsTreeEmptied old new → IsTreeDurable setup lines old watch → IsTreeDurable setup (redone old.group.items lines) new watch
 IsDurable-finished setup lines old new watch emptied durable =
     record {
       device_whole = AreLinesOf-redone (tree_size setup.shape) old.group.items lines durable.mendable.anchored.group.lines_range durable.device_whole;
       mendable =
-          subst (λ group. IsMendable setup (redone group (redone old.group.items lines)) new watch) (sym emptied.no_group)
-          (let it : IsMendable setup (redone old.group.items lines) new watch =
+          subst (λ group. IsTreeMendable setup (redone group (redone old.group.items lines)) new watch) (sym emptied.no_group)
+          (let it : IsTreeMendable setup (redone old.group.items lines) new watch =
           record {
             anchored = IsAnchored-emptied setup old new watch emptied durable.mendable.anchored;
             seals_stored = durable.mendable.seals_stored;

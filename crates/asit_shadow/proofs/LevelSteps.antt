@@ -25,11 +25,11 @@ use Rattle.counter_tree.specs.Slots.{slot_of}
 use Rattle.counter_tree.specs.Watch.{WatchState}
 use Rattle.asit_shadow.specs.declared.cache.CachedNode.{CachedNode}
 use Rattle.asit_shadow.specs.State.{TreeState, cache_at}
-use Rattle.asit_shadow.specs.Invariants.{IsTrusted, IsSound, IsNodeStored, IsSealStored, IsSlotStored}
+use Rattle.asit_shadow.specs.Invariants.{IsTreeTrusted, IsTreeSound, IsNodeStored, IsTreeSealStored, IsSlotStored}
 use Rattle.asit_shadow.specs.Places.{IsNodeHeldBy, ArePlacesKept}
-use Rattle.asit_shadow.specs.Parts.{Parts, AreTrusted, AreSound}
+use Rattle.asit_shadow.specs.Parts.{TreeEngineParts, AreTreeTrusted, AreTreeSound}
 use Rattle.asit_shadow.specs.Steps.{IsFetched, GivesWay}
-use Rattle.asit_shadow.specs.Calls.{KeepsPlaces, CallEffect}
+use Rattle.asit_shadow.specs.Calls.{KeepsTreePlaces, TreeCallEffect}
 use Rattle.asit_shadow.specs.Fetching.{WritesWhere, IsRoomMade, IsNodeFound, KeepsPathLines}
 use Rattle.asit_shadow.proofs.SlotPlaces.{path_slots-apart}
 use Rattle.asit_shadow.proofs.FetchLaws.{IsTrusted-fetched, IsSound-written_back, written_back-stored, IsSound-fetched}
@@ -125,7 +125,7 @@ after_read setup slot old between new at line read step =
           ];
     }
 
-pub found-step : (setup : Setup) (x version : ℕ) (node : Node) (old new : Parts) → IsNodeFound setup x version node old new → IsRoomStep setup (cache_at old.engine.cache (slot_of setup.shape x)) old.device new.device
+pub found-step : (setup : Setup) (x version : ℕ) (node : Node) (old new : TreeEngineParts) → IsNodeFound setup x version node old new → IsRoomStep setup (cache_at old.engine.cache (slot_of setup.shape x)) old.device new.device
 found-step setup x version node old new found =
     after_read setup (cache_at old.engine.cache (slot_of setup.shape x)) old.device found.between new.device (line_of_node setup.shape x) found.taken.line found.taken.read
     (room-step setup (cache_at old.engine.cache (slot_of setup.shape x)) found.between new.device found.room)
@@ -142,16 +142,16 @@ step-told setup slot old new step =
 -- ---- what the step keeps
 
 -- what is known before a level, of an engine that is trusted
-pub record IsLevelReady (setup : Setup) (x version : ℕ) (old : Parts) : Type 0 where
+pub record IsLevelReady (setup : Setup) (x version : ℕ) (old : TreeEngineParts) : Type 0 where
   pub shape : IsShape setup.shape
   pub in_range : AreInRange setup.formulas
   pub told : AreToldLines old.device.size old.device.lines
   pub its_size : old.device.size ≡ tree_size setup.shape
   pub on_tree : x < meta_lines setup.shape
   pub not_top : x ≢ 0
-  pub version_true : AreTrusted setup old → version ≡ entry_for old.watch.nodes x
+  pub version_true : AreTreeTrusted setup old → version ≡ entry_for old.watch.nodes x
 
-pub found-IsFetched : (setup : Setup) (x version : ℕ) (node : Node) (old new : Parts) → IsLevelReady setup x version old → AreTrusted setup old → (found : IsNodeFound setup x version node old new) → IsFetched setup x found.taken.line node old.engine new.engine old.watch
+pub found-IsFetched : (setup : Setup) (x version : ℕ) (node : Node) (old new : TreeEngineParts) → IsLevelReady setup x version old → AreTreeTrusted setup old → (found : IsNodeFound setup x version node old new) → IsFetched setup x found.taken.line node old.engine new.engine old.watch
 found-IsFetched setup x version node old new ready trusted found =
     record {
       on_tree = ready.on_tree;
@@ -166,7 +166,7 @@ found-IsFetched setup x version node old new ready trusted found =
 
 -- the lines that are told, before and after
 pub record IsLevelKept (setup : Setup) (old new : TreeState) (lines then : List Line) (regs : Regs) (watch : WatchState) : Type 0 where
-  pub sound : IsSound setup old lines regs watch → IsSound setup new then regs watch
+  pub sound : IsTreeSound setup old lines regs watch → IsTreeSound setup new then regs watch
   pub places : ArePlacesKept setup old new lines then watch
 
 places-both : (setup : Setup) (old mid new : TreeState) (a b c : List Line) (watch : WatchState) → ArePlacesKept setup old mid a b watch → ArePlacesKept setup mid new b c watch → ArePlacesKept setup old new a c watch
@@ -186,7 +186,7 @@ kept-free setup x line node old new lines regs watch shape fetched clean =
       places = fetched-places setup x line node old new lines watch fetched gives;
     }
 
-kept-back : (setup : Setup) (x : ℕ) (line : Line) (node : Node) (old new : TreeState) (lines : List Line) (regs : Regs) (watch : WatchState) (held : CachedNode) → IsShape setup.shape → AreInRange setup.formulas → length lines ≡ tree_size setup.shape → IsTrusted setup old regs watch
+kept-back : (setup : Setup) (x : ℕ) (line : Line) (node : Node) (old new : TreeState) (lines : List Line) (regs : Regs) (watch : WatchState) (held : CachedNode) → IsShape setup.shape → AreInRange setup.formulas → length lines ≡ tree_size setup.shape → IsTreeTrusted setup old regs watch
     → IsFetched setup x line node old new watch → cache_at old.cache (slot_of setup.shape x) ≡ Some held
     → IsLevelKept setup old new lines (slice_set lines (line_of_node setup.shape held.x) (node_line setup.formulas held.x held.node)) regs watch
 kept-back setup x line node old new lines regs watch held shape in_range size trusted fetched stands =
@@ -209,7 +209,7 @@ kept-back setup x line node old new lines regs watch held shape in_range size tr
           (fetched-places setup x line node old new (slice_set lines (line_of_node setup.shape held.x) (node_line setup.formulas held.x (node_at watch.nodes held.x))) watch fetched gives);
     })
 
-pub level-kept : (setup : Setup) (x version : ℕ) (node : Node) (old new : Parts) (lines then : List Line) → IsLevelReady setup x version old → AreTrusted setup old → IsNodeFound setup x version node old new → old.device.lines ≡ Some lines → new.device.lines ≡ Some then
+pub level-kept : (setup : Setup) (x version : ℕ) (node : Node) (old new : TreeEngineParts) (lines then : List Line) → IsLevelReady setup x version old → AreTreeTrusted setup old → IsNodeFound setup x version node old new → old.device.lines ≡ Some lines → new.device.lines ≡ Some then
     → IsLevelKept setup old.engine new.engine lines then old.device.regs old.watch
 level-kept setup x version node old new lines then ready trusted found told told_then =
     let fetched = found-IsFetched setup x version node old new ready trusted found in
@@ -229,23 +229,23 @@ level-kept setup x version node old new lines then ready trusted found told told
 
 -- ---- the effect of a level
 
-found-trusted : (setup : Setup) (x version : ℕ) (node : Node) (old new : Parts) → IsLevelReady setup x version old → IsNodeFound setup x version node old new → AreTrusted setup old → AreTrusted setup new
+found-trusted : (setup : Setup) (x version : ℕ) (node : Node) (old new : TreeEngineParts) → IsLevelReady setup x version old → IsNodeFound setup x version node old new → AreTreeTrusted setup old → AreTreeTrusted setup new
 found-trusted setup x version node old new ready found trusted =
-    subst₂ (λ regs watch. IsTrusted setup new.engine regs watch) (sym (found-step setup x version node old new found).regs) (sym found.taken.watch_kept)
+    subst₂ (λ regs watch. IsTreeTrusted setup new.engine regs watch) (sym (found-step setup x version node old new found).regs) (sym found.taken.watch_kept)
     (IsTrusted-fetched setup x found.taken.line node old.engine new.engine old.device.regs old.watch ready.shape trusted
     (found-IsFetched setup x version node old new ready trusted found))
 
-found-sound : (setup : Setup) (x version : ℕ) (node : Node) (old new : Parts) → IsLevelReady setup x version old → IsNodeFound setup x version node old new → AreSound setup old → AreSound setup new
+found-sound : (setup : Setup) (x version : ℕ) (node : Node) (old new : TreeEngineParts) → IsLevelReady setup x version old → IsNodeFound setup x version node old new → AreTreeSound setup old → AreTreeSound setup new
 found-sound setup x version node old new ready found sound =
     let step = found-step setup x version node old new found in
-    told_surely (λ lines. IsSound setup old.engine lines old.device.regs old.watch) (λ lines. IsSound setup new.engine lines new.device.regs new.watch)
+    told_surely (λ lines. IsTreeSound setup old.engine lines old.device.regs old.watch) (λ lines. IsTreeSound setup new.engine lines new.device.regs new.watch)
     old.device.lines new.device.lines (step-told setup (cache_at old.engine.cache (slot_of setup.shape x)) old.device new.device step)
     (λ lines then told told_then was.
-    subst₂ (λ regs watch. IsSound setup new.engine then regs watch) (sym step.regs) (sym found.taken.watch_kept)
+    subst₂ (λ regs watch. IsTreeSound setup new.engine then regs watch) (sym step.regs) (sym found.taken.watch_kept)
     ((level-kept setup x version node old new lines then ready was.trusted found told told_then).sound was))
     sound
 
-found-places : (setup : Setup) (x version : ℕ) (node : Node) (old new : Parts) → IsLevelReady setup x version old → IsNodeFound setup x version node old new → AreTrusted setup old → KeepsPlaces setup going old new
+found-places : (setup : Setup) (x version : ℕ) (node : Node) (old new : TreeEngineParts) → IsLevelReady setup x version old → IsNodeFound setup x version node old new → AreTreeTrusted setup old → KeepsTreePlaces setup going old new
 found-places setup x version node old new ready found trusted =
     let step = found-step setup x version node old new found in
     let same = step-told setup (cache_at old.engine.cache (slot_of setup.shape x)) old.device new.device step in
@@ -255,8 +255,8 @@ found-places setup x version node old new ready found trusted =
     record {
       seals =
           λ a inside.
-          held-told (λ lines. IsSealStored setup.shape lines old.watch a) (λ lines. IsSealStored setup.shape lines new.watch a) old new trusted.no_group none same
-          (λ lines then told told_then it. subst (λ watch. IsSealStored setup.shape then watch a) (sym found.taken.watch_kept) ((kept lines then told told_then).seals a inside it));
+          held-told (λ lines. IsTreeSealStored setup.shape lines old.watch a) (λ lines. IsTreeSealStored setup.shape lines new.watch a) old new trusted.no_group none same
+          (λ lines then told told_then it. subst (λ watch. IsTreeSealStored setup.shape then watch a) (sym found.taken.watch_kept) ((kept lines then told told_then).seals a inside it));
       slots =
           λ i inside.
           held-told (λ lines. IsSlotStored setup.shape lines old.watch i) (λ lines. IsSlotStored setup.shape lines new.watch i) old new trusted.no_group none same
@@ -267,7 +267,7 @@ found-places setup x version node old new ready found trusted =
           (λ lines then told told_then it. subst (λ watch. IsNodeHeldBy setup new.engine then watch y) (sym found.taken.watch_kept) ((kept lines then told told_then).nodes y inside it));
     }
 
-pub found-effect : (setup : Setup) (x version : ℕ) (node : Node) (old new : Parts) → IsLevelReady setup x version old → IsNodeFound setup x version node old new → CallEffect setup going old new
+pub found-effect : (setup : Setup) (x version : ℕ) (node : Node) (old new : TreeEngineParts) → IsLevelReady setup x version old → IsNodeFound setup x version node old new → TreeCallEffect setup going old new
 found-effect setup x version node old new ready found =
     let step = found-step setup x version node old new found in
     record {
@@ -289,7 +289,7 @@ other_line g a place line None new written apart = written
 other_line g a place line (Some lines) new written apart =
     subst (KeepsPathLines g a (Some lines)) (sym written) (λ x on. line_at-set_other lines place (line_of_node g x) line (apart x on))
 
-pub found-path_lines : (setup : Setup) (a x version : ℕ) (node : Node) (old new : Parts) → IsLevelReady setup x version old → a < tree_lines setup.shape → is_on_line_path setup.shape a x ≡ true → IsNodeFound setup x version node old new → AreTrusted setup old → KeepsPathLines setup.shape a old.device.lines new.device.lines
+pub found-path_lines : (setup : Setup) (a x version : ℕ) (node : Node) (old new : TreeEngineParts) → IsLevelReady setup x version old → a < tree_lines setup.shape → is_on_line_path setup.shape a x ≡ true → IsNodeFound setup x version node old new → AreTreeTrusted setup old → KeepsPathLines setup.shape a old.device.lines new.device.lines
 found-path_lines setup a x version node old new ready inside on found trusted =
     elim (found-step setup x version node old new found).lines [
       | inl free ↦ kept_lines setup.shape a old.device.lines new.device.lines free.same

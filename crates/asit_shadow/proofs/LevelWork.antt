@@ -23,10 +23,10 @@ use Rattle.counter_tree.specs.Slots.{slot_of}
 use Rattle.counter_tree.specs.Watch.{WatchState}
 use Rattle.asit_shadow.specs.declared.cache.CachedNode.{CachedNode}
 use Rattle.asit_shadow.specs.State.{cache_at, IsCached}
-use Rattle.asit_shadow.specs.Parts.{Parts}
-use Rattle.asit_shadow.specs.Paths.{path_node, IsPathCached}
+use Rattle.asit_shadow.specs.Parts.{TreeEngineParts}
+use Rattle.asit_shadow.specs.Paths.{path_node, IsNodePathCached}
 use Rattle.asit_shadow.specs.Fetching.{WritesWhere, IsRoomMade, IsNodeFound}
-use Rattle.asit_shadow.specs.Work.{holds_node, is_cached, write_back, level_write, level_reads, slot_fetched, spilled, absent_count, HasSlotsFetched, HasFetchedLevels}
+use Rattle.asit_shadow.specs.Work.{holds_node, is_node_cached, write_back, node_level_write, node_level_reads, slot_fetched, spilled_nodes, absent_nodes, HasSlotsFetched, HasFetchedNodes}
 use Rattle.asit_shadow.proofs.SlotPlaces.{page_of_line, path_slots-apart}
 
 -- ---- positions
@@ -51,11 +51,11 @@ up_to n j most = elim (cases_eq n (suc j)) [ inl same ↦ inr same | inr other �
 
 -- ---- whether a node is cached
 
-pub is_cached-true : (g : Shape) (cache : List (Option CachedNode)) (x : ℕ) → IsCached g cache x → is_cached g cache x ≡ true
+pub is_cached-true : (g : Shape) (cache : List (Option CachedNode)) (x : ℕ) → IsCached g cache x → is_node_cached g cache x ≡ true
 is_cached-true g cache x it =
     ap (λ (slot : Option CachedNode). holds_node slot x) it.stands ∙ eq-eqb it.held.x x it.position
 
-pub is_cached-false : (g : Shape) (cache : List (Option CachedNode)) (x : ℕ) → (IsCached g cache x → ⊥) → is_cached g cache x ≡ false
+pub is_cached-false : (g : Shape) (cache : List (Option CachedNode)) (x : ℕ) → (IsCached g cache x → ⊥) → is_node_cached g cache x ≡ false
 is_cached-false g cache x none = of (cache_at cache (slot_of g x)) refl
   where
     of : (slot : Option CachedNode) → cache_at cache (slot_of g x) ≡ slot → holds_node slot x ≡ false
@@ -106,20 +106,20 @@ room-written setup (Some held) old new made = room_where setup held held.dirty o
 
 -- ---- the levels so far
 
-pub record IsNextWork (setup : Setup) (a j x : ℕ) (old now : Parts) : Type 0 where
+pub record IsNextWork (setup : Setup) (a j x : ℕ) (old now : TreeEngineParts) : Type 0 where
   pub shape : IsShape setup.shape
   pub inside : a < tree_lines setup.shape
   pub level : j < setup.shape.levels
   pub place : x ≡ path_node setup.shape a (suc j)
   pub slot : cache_at now.engine.cache (slot_of setup.shape x) ≡ cache_at old.engine.cache (slot_of setup.shape x)
   pub watch : now.watch ≡ old.watch
-  pub done : HasFetchedLevels setup a j old now
-  pub reads : RisesBy (absent_count setup.shape old.engine.cache a j) old.device.reads now.device.reads
+  pub done : HasFetchedNodes setup a j old now
+  pub reads : RisesBy (absent_nodes setup.shape old.engine.cache a j) old.device.reads now.device.reads
 
-pub reads-start : (g : Shape) (cache : List (Option CachedNode)) (a n : ℕ) → RisesBy (absent_count g cache a 0) n n
+pub reads-start : (g : Shape) (cache : List (Option CachedNode)) (a n : ℕ) → RisesBy (absent_nodes g cache a 0) n n
 reads-start g cache a n = no_rise n
 
-pub levels-start : (setup : Setup) (a : ℕ) (old : Parts) → HasFetchedLevels setup a 0 old old
+pub levels-start : (setup : Setup) (a : ℕ) (old : TreeEngineParts) → HasFetchedNodes setup a 0 old old
 levels-start setup a old =
     record {
       on_path = omega arith;
@@ -136,35 +136,35 @@ levels-start setup a old =
     }
 
 -- nothing else was written since
-pub levels-kept : (setup : Setup) (a n : ℕ) (old mid new : Parts) → new.engine.cache ≡ mid.engine.cache → new.device.lines ≡ mid.device.lines → new.device.writes ≡ mid.device.writes → new.device.latches ≡ mid.device.latches → new.device.regs ≡ mid.device.regs
-    → HasFetchedLevels setup a n old mid → HasFetchedLevels setup a n old new
+pub levels-kept : (setup : Setup) (a n : ℕ) (old mid new : TreeEngineParts) → new.engine.cache ≡ mid.engine.cache → new.device.lines ≡ mid.device.lines → new.device.writes ≡ mid.device.writes → new.device.latches ≡ mid.device.latches → new.device.regs ≡ mid.device.regs
+    → HasFetchedNodes setup a n old mid → HasFetchedNodes setup a n old new
 levels-kept setup a n old mid new cache lines writes latches regs it =
     record {
       on_path = it.on_path;
       cache = subst (HasSlotsFetched setup.shape old.watch.nodes a n old.engine.cache) (sym cache) it.cache;
       lines = lines ∙ it.lines;
-      writes = subst (RisesBy (length (spilled setup old.engine.cache a n)) old.device.writes) (sym writes) it.writes;
+      writes = subst (RisesBy (length (spilled_nodes setup old.engine.cache a n)) old.device.writes) (sym writes) it.writes;
       latches = latches ∙ it.latches;
       regs = regs ∙ it.regs;
     }
 
 -- ---- the next level was cached
 
-spilled-cached : (setup : Setup) (cache : List (Option CachedNode)) (a j x : ℕ) → x ≡ path_node setup.shape a (suc j) → is_cached setup.shape cache x ≡ true → spilled setup cache a (suc j) ≡ spilled setup cache a j
+spilled-cached : (setup : Setup) (cache : List (Option CachedNode)) (a j x : ℕ) → x ≡ path_node setup.shape a (suc j) → is_node_cached setup.shape cache x ≡ true → spilled_nodes setup cache a (suc j) ≡ spilled_nodes setup cache a j
 spilled-cached setup cache a j x place is =
-    ap (λ z. spilled setup cache a j ++ level_write setup cache z) (sym place)
-    ∙ (ap (λ (rest : List (ℕ × Line)). spilled setup cache a j ++ rest) (cond-true (is_cached setup.shape cache x) [] (write_back setup (cache_at cache (slot_of setup.shape x))) is)
-    ∙ append-nil (spilled setup cache a j))
+    ap (λ z. spilled_nodes setup cache a j ++ node_level_write setup cache z) (sym place)
+    ∙ (ap (λ (rest : List (ℕ × Line)). spilled_nodes setup cache a j ++ rest) (cond-true (is_node_cached setup.shape cache x) [] (write_back setup (cache_at cache (slot_of setup.shape x))) is)
+    ∙ append-nil (spilled_nodes setup cache a j))
 
-absent-cached : (g : Shape) (cache : List (Option CachedNode)) (a j x : ℕ) → x ≡ path_node g a (suc j) → is_cached g cache x ≡ true → absent_count g cache a (suc j) ≡ absent_count g cache a j
+absent-cached : (g : Shape) (cache : List (Option CachedNode)) (a j x : ℕ) → x ≡ path_node g a (suc j) → is_node_cached g cache x ≡ true → absent_nodes g cache a (suc j) ≡ absent_nodes g cache a j
 absent-cached g cache a j x place is =
-    let none : level_reads g cache (path_node g a (suc j)) ≡ 0 =
-    ap (level_reads g cache) (sym place) ∙ cond-true (is_cached g cache x) 0 1 is in
+    let none : node_level_reads g cache (path_node g a (suc j)) ≡ 0 =
+    ap (node_level_reads g cache) (sym place) ∙ cond-true (is_node_cached g cache x) 0 1 is in
     omega (arith, none)
 
-pub levels-cached : (setup : Setup) (a j x : ℕ) (old now : Parts) → IsNextWork setup a j x old now → is_cached setup.shape old.engine.cache x ≡ true → HasFetchedLevels setup a (suc j) old now
+pub levels-cached : (setup : Setup) (a j x : ℕ) (old now : TreeEngineParts) → IsNextWork setup a j x old now → is_node_cached setup.shape old.engine.cache x ≡ true → HasFetchedNodes setup a (suc j) old now
 levels-cached setup a j x old now next is =
-    let same : spilled setup old.engine.cache a (suc j) ≡ spilled setup old.engine.cache a j = spilled-cached setup old.engine.cache a j x next.place is in
+    let same : spilled_nodes setup old.engine.cache a (suc j) ≡ spilled_nodes setup old.engine.cache a j = spilled-cached setup old.engine.cache a j x next.place is in
     let before = next.done in
     record {
       on_path = omega (arith, next.level);
@@ -179,7 +179,7 @@ levels-cached setup a j x old now next is =
                       subst (λ z. cache_at now.engine.cache (slot_of setup.shape z) ≡ slot_fetched setup.shape old.watch.nodes old.engine.cache z)
                       (sym (at_level setup.shape a j x y next.shape next.inside next.place on here))
                       (next.slot
-                      ∙ sym (cond-true (is_cached setup.shape old.engine.cache x) (cache_at old.engine.cache (slot_of setup.shape x)) (Some (record { x = x; node = node_at old.watch.nodes x; dirty = false })) is))
+                      ∙ sym (cond-true (is_node_cached setup.shape old.engine.cache x) (cache_at old.engine.cache (slot_of setup.shape x)) (Some (record { x = x; node = node_at old.watch.nodes x; dirty = false })) is))
                 ];
             elsewhere = λ i apart. before.cache.elsewhere i (λ y on low high. apart y on low (omega (arith, high)));
           };
@@ -189,26 +189,26 @@ levels-cached setup a j x old now next is =
       regs = before.regs;
     }
 
-pub reads-cached : (setup : Setup) (a j x : ℕ) (old now : Parts) → IsNextWork setup a j x old now → is_cached setup.shape old.engine.cache x ≡ true → RisesBy (absent_count setup.shape old.engine.cache a (suc j)) old.device.reads now.device.reads
+pub reads-cached : (setup : Setup) (a j x : ℕ) (old now : TreeEngineParts) → IsNextWork setup a j x old now → is_node_cached setup.shape old.engine.cache x ≡ true → RisesBy (absent_nodes setup.shape old.engine.cache a (suc j)) old.device.reads now.device.reads
 reads-cached setup a j x old now next is =
     subst (λ n. RisesBy n old.device.reads now.device.reads) (sym (absent-cached setup.shape old.engine.cache a j x next.place is)) next.reads
 
 -- ---- the next level was found
 
-spilled-found : (setup : Setup) (cache : List (Option CachedNode)) (a j x : ℕ) → x ≡ path_node setup.shape a (suc j) → is_cached setup.shape cache x ≡ false
-    → spilled setup cache a (suc j) ≡ spilled setup cache a j ++ write_back setup (cache_at cache (slot_of setup.shape x))
+spilled-found : (setup : Setup) (cache : List (Option CachedNode)) (a j x : ℕ) → x ≡ path_node setup.shape a (suc j) → is_node_cached setup.shape cache x ≡ false
+    → spilled_nodes setup cache a (suc j) ≡ spilled_nodes setup cache a j ++ write_back setup (cache_at cache (slot_of setup.shape x))
 spilled-found setup cache a j x place is =
-    ap (λ z. spilled setup cache a j ++ level_write setup cache z) (sym place)
-    ∙ ap (λ (rest : List (ℕ × Line)). spilled setup cache a j ++ rest) (cond-false (is_cached setup.shape cache x) [] (write_back setup (cache_at cache (slot_of setup.shape x))) is)
+    ap (λ z. spilled_nodes setup cache a j ++ node_level_write setup cache z) (sym place)
+    ∙ ap (λ (rest : List (ℕ × Line)). spilled_nodes setup cache a j ++ rest) (cond-false (is_node_cached setup.shape cache x) [] (write_back setup (cache_at cache (slot_of setup.shape x))) is)
 
-absent-found : (g : Shape) (cache : List (Option CachedNode)) (a j x : ℕ) → x ≡ path_node g a (suc j) → is_cached g cache x ≡ false → absent_count g cache a (suc j) ≡ absent_count g cache a j + 1
+absent-found : (g : Shape) (cache : List (Option CachedNode)) (a j x : ℕ) → x ≡ path_node g a (suc j) → is_node_cached g cache x ≡ false → absent_nodes g cache a (suc j) ≡ absent_nodes g cache a j + 1
 absent-found g cache a j x place is =
-    let one : level_reads g cache (path_node g a (suc j)) ≡ 1 =
-    ap (level_reads g cache) (sym place) ∙ cond-false (is_cached g cache x) 0 1 is in
+    let one : node_level_reads g cache (path_node g a (suc j)) ≡ 1 =
+    ap (node_level_reads g cache) (sym place) ∙ cond-false (is_node_cached g cache x) 0 1 is in
     omega (arith, one)
 
-pub levels-found : (setup : Setup) (a j x version : ℕ) (node : Node) (old now new : Parts) → IsNextWork setup a j x old now → is_cached setup.shape old.engine.cache x ≡ false → slot_of setup.shape x < length now.engine.cache → new.device.latches ≡ now.device.latches → new.device.regs ≡ now.device.regs
-    → IsNodeFound setup x version node now new → HasFetchedLevels setup a (suc j) old new
+pub levels-found : (setup : Setup) (a j x version : ℕ) (node : Node) (old now new : TreeEngineParts) → IsNextWork setup a j x old now → is_node_cached setup.shape old.engine.cache x ≡ false → slot_of setup.shape x < length now.engine.cache → new.device.latches ≡ now.device.latches → new.device.regs ≡ now.device.regs
+    → IsNodeFound setup x version node now new → HasFetchedNodes setup a (suc j) old new
 levels-found setup a j x version node old now new next is room latches regs found =
     let before = next.done in
     let on_x = next-on_path setup.shape a j x next.level next.place in
@@ -216,7 +216,7 @@ levels-found setup a j x version node old now new next is room latches regs foun
     let made = room-written setup (cache_at now.engine.cache (slot_of setup.shape x)) found.between new.device found.room in
     let whose : write_back setup (cache_at now.engine.cache (slot_of setup.shape x)) ≡ write_back setup (cache_at old.engine.cache (slot_of setup.shape x)) =
     ap (write_back setup) next.slot in
-    let all : spilled setup old.engine.cache a (suc j) ≡ spilled setup old.engine.cache a j ++ write_back setup (cache_at old.engine.cache (slot_of setup.shape x)) =
+    let all : spilled_nodes setup old.engine.cache a (suc j) ≡ spilled_nodes setup old.engine.cache a j ++ write_back setup (cache_at old.engine.cache (slot_of setup.shape x)) =
     spilled-found setup old.engine.cache a j x next.place is in
     let seen : node ≡ node_at old.watch.nodes x = found.taken.seen ∙ ap (λ (w : WatchState). node_at w.nodes x) next.watch in
     let other : (i : ℕ) → i ≢ slot_of setup.shape x → cache_at new.engine.cache i ≡ cache_at now.engine.cache i =
@@ -241,7 +241,7 @@ levels-found setup a j x version node old now new next is room latches regs foun
                       (ap (λ (c : List (Option CachedNode)). cache_at c (slot_of setup.shape x)) found.cache
                       ∙ (get_or-set_same now.engine.cache (slot_of setup.shape x) (Some (record { x = x; node = node; dirty = false })) None room
                       ∙ (ap (λ n. Some (record { x = x; node = n; dirty = false })) seen
-                      ∙ sym (cond-false (is_cached setup.shape old.engine.cache x) (cache_at old.engine.cache (slot_of setup.shape x)) (Some (record { x = x; node = node_at old.watch.nodes x; dirty = false })) is))))
+                      ∙ sym (cond-false (is_node_cached setup.shape old.engine.cache x) (cache_at old.engine.cache (slot_of setup.shape x)) (Some (record { x = x; node = node_at old.watch.nodes x; dirty = false })) is))))
                 ];
             elsewhere =
                 λ i apart.
@@ -252,24 +252,24 @@ levels-found setup a j x version node old now new next is room latches regs foun
           made.lines
           ∙ (ap (λ (group : List (ℕ × Line)). redone_told group found.between.lines) whose
           ∙ (ap (λ (told : Option (List Line)). redone_told (write_back setup (cache_at old.engine.cache (slot_of setup.shape x))) told) (found.taken.read.lines ∙ before.lines)
-          ∙ (sym (redone_told-append (spilled setup old.engine.cache a j) (write_back setup (cache_at old.engine.cache (slot_of setup.shape x))) old.device.lines)
+          ∙ (sym (redone_told-append (spilled_nodes setup old.engine.cache a j) (write_back setup (cache_at old.engine.cache (slot_of setup.shape x))) old.device.lines)
           ∙ ap (λ (group : List (ℕ × Line)). redone_told group old.device.lines) (sym all))));
       writes =
           subst (λ n. RisesBy n old.device.writes new.device.writes)
-          (sym (ap length all ∙ length-append (spilled setup old.engine.cache a j) (write_back setup (cache_at old.engine.cache (slot_of setup.shape x)))))
-          (RisesBy-then (length (spilled setup old.engine.cache a j)) (length (write_back setup (cache_at old.engine.cache (slot_of setup.shape x)))) old.device.writes now.device.writes new.device.writes before.writes
+          (sym (ap length all ∙ length-append (spilled_nodes setup old.engine.cache a j) (write_back setup (cache_at old.engine.cache (slot_of setup.shape x)))))
+          (RisesBy-then (length (spilled_nodes setup old.engine.cache a j)) (length (write_back setup (cache_at old.engine.cache (slot_of setup.shape x)))) old.device.writes now.device.writes new.device.writes before.writes
           (subst (λ (group : List (ℕ × Line)). RisesBy (length group) now.device.writes new.device.writes) whose
           (subst (λ n. RisesBy (length (write_back setup (cache_at now.engine.cache (slot_of setup.shape x)))) n new.device.writes) found.taken.read.writes made.writes)));
       latches = latches ∙ before.latches;
       regs = regs ∙ before.regs;
     }
 
-pub reads-found : (setup : Setup) (a j x version : ℕ) (node : Node) (old now new : Parts) → IsNextWork setup a j x old now → is_cached setup.shape old.engine.cache x ≡ false
-    → IsNodeFound setup x version node now new → RisesBy (absent_count setup.shape old.engine.cache a (suc j)) old.device.reads new.device.reads
+pub reads-found : (setup : Setup) (a j x version : ℕ) (node : Node) (old now new : TreeEngineParts) → IsNextWork setup a j x old now → is_node_cached setup.shape old.engine.cache x ≡ false
+    → IsNodeFound setup x version node now new → RisesBy (absent_nodes setup.shape old.engine.cache a (suc j)) old.device.reads new.device.reads
 reads-found setup a j x version node old now new next is found =
     let made = room-written setup (cache_at now.engine.cache (slot_of setup.shape x)) found.between new.device found.room in
     subst (λ n. RisesBy n old.device.reads new.device.reads) (sym (absent-found setup.shape old.engine.cache a j x next.place is))
-    (RisesBy-then (absent_count setup.shape old.engine.cache a j) 1 old.device.reads now.device.reads new.device.reads next.reads
+    (RisesBy-then (absent_nodes setup.shape old.engine.cache a j) 1 old.device.reads now.device.reads new.device.reads next.reads
     (subst (RisesBy 1 now.device.reads) (sym made.reads) found.taken.read.reads))
 
 -- ---- how much it is at most
@@ -288,48 +288,48 @@ write_back-few setup (Some held) =
           omega (arith, none)
     ]
 
-level-few : (setup : Setup) (cache : List (Option CachedNode)) (x : ℕ) → length (level_write setup cache x) ≤ level_reads setup.shape cache x
+level-few : (setup : Setup) (cache : List (Option CachedNode)) (x : ℕ) → length (node_level_write setup cache x) ≤ node_level_reads setup.shape cache x
 level-few setup cache x =
-    elim (cases_Bool (is_cached setup.shape cache x)) [
+    elim (cases_Bool (is_node_cached setup.shape cache x)) [
       | inl was ↦
-          let none : length (level_write setup cache x) ≡ 0 =
-          ap length (cond-true (is_cached setup.shape cache x) [] (write_back setup (cache_at cache (slot_of setup.shape x))) was) in
+          let none : length (node_level_write setup cache x) ≡ 0 =
+          ap length (cond-true (is_node_cached setup.shape cache x) [] (write_back setup (cache_at cache (slot_of setup.shape x))) was) in
           omega (arith, none)
       | inr absent ↦
-          let back : length (level_write setup cache x) ≡ length (write_back setup (cache_at cache (slot_of setup.shape x))) =
-          ap length (cond-false (is_cached setup.shape cache x) [] (write_back setup (cache_at cache (slot_of setup.shape x))) absent) in
-          let one : level_reads setup.shape cache x ≡ 1 = cond-false (is_cached setup.shape cache x) 0 1 absent in
+          let back : length (node_level_write setup cache x) ≡ length (write_back setup (cache_at cache (slot_of setup.shape x))) =
+          ap length (cond-false (is_node_cached setup.shape cache x) [] (write_back setup (cache_at cache (slot_of setup.shape x))) absent) in
+          let one : node_level_reads setup.shape cache x ≡ 1 = cond-false (is_node_cached setup.shape cache x) 0 1 absent in
           omega (arith, back, one, write_back-few setup (cache_at cache (slot_of setup.shape x)))
     ]
 
-pub spilled-few : (setup : Setup) (cache : List (Option CachedNode)) (a n : ℕ) → length (spilled setup cache a n) ≤ absent_count setup.shape cache a n
+pub spilled-few : (setup : Setup) (cache : List (Option CachedNode)) (a n : ℕ) → length (spilled_nodes setup cache a n) ≤ absent_nodes setup.shape cache a n
 spilled-few setup cache a zero = omega arith
 spilled-few setup cache a (suc n) =
     omega (
       arith,
-      length-append (spilled setup cache a n) (level_write setup cache (path_node setup.shape a (suc n))),
+      length-append (spilled_nodes setup cache a n) (node_level_write setup cache (path_node setup.shape a (suc n))),
       spilled-few setup cache a n,
       level-few setup cache (path_node setup.shape a (suc n)),
     )
 
-level_reads-few : (g : Shape) (cache : List (Option CachedNode)) (x : ℕ) → level_reads g cache x ≤ 1
+level_reads-few : (g : Shape) (cache : List (Option CachedNode)) (x : ℕ) → node_level_reads g cache x ≤ 1
 level_reads-few g cache x =
-    elim (cases_Bool (is_cached g cache x)) [
+    elim (cases_Bool (is_node_cached g cache x)) [
       | inl was ↦
-          let none : level_reads g cache x ≡ 0 = cond-true (is_cached g cache x) 0 1 was in
+          let none : node_level_reads g cache x ≡ 0 = cond-true (is_node_cached g cache x) 0 1 was in
           omega (arith, none)
       | inr absent ↦
-          let one : level_reads g cache x ≡ 1 = cond-false (is_cached g cache x) 0 1 absent in
+          let one : node_level_reads g cache x ≡ 1 = cond-false (is_node_cached g cache x) 0 1 absent in
           omega (arith, one)
     ]
 
-pub absent-few : (g : Shape) (cache : List (Option CachedNode)) (a n : ℕ) → absent_count g cache a n ≤ n
+pub absent-few : (g : Shape) (cache : List (Option CachedNode)) (a n : ℕ) → absent_nodes g cache a n ≤ n
 absent-few g cache a zero = omega arith
 absent-few g cache a (suc n) = omega (arith, absent-few g cache a n, level_reads-few g cache (path_node g a (suc n)))
 
-pub absent-none : (g : Shape) (cache : List (Option CachedNode)) (a n : ℕ) → n ≤ g.levels → IsPathCached g a cache → absent_count g cache a n ≡ 0
+pub absent-none : (g : Shape) (cache : List (Option CachedNode)) (a n : ℕ) → n ≤ g.levels → IsNodePathCached g a cache → absent_nodes g cache a n ≡ 0
 absent-none g cache a zero within cached = refl
 absent-none g cache a (suc n) within cached =
     let here = is_cached-true g cache (path_node g a (suc n)) (cached.each (path_node g a (suc n)) (path_of-on_path g (a / 4) (suc n) within)) in
-    let none : level_reads g cache (path_node g a (suc n)) ≡ 0 = cond-true (is_cached g cache (path_node g a (suc n))) 0 1 here in
+    let none : node_level_reads g cache (path_node g a (suc n)) ≡ 0 = cond-true (is_node_cached g cache (path_node g a (suc n))) 0 1 here in
     omega (arith, none, absent-none g cache a n (omega (arith, within)) cached)

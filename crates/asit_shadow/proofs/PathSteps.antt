@@ -19,9 +19,9 @@ use Rattle.counter_tree.specs.Slots.{slot_of}
 use Rattle.counter_tree.specs.Watch.{WatchState}
 use Rattle.asit_shadow.specs.declared.cache.CachedNode.{CachedNode}
 use Rattle.asit_shadow.specs.State.{cache_at, IsCached, IsCachedAs}
-use Rattle.asit_shadow.specs.Parts.{Parts, AreTrusted}
+use Rattle.asit_shadow.specs.Parts.{TreeEngineParts, AreTreeTrusted}
 use Rattle.asit_shadow.specs.Paths.{line_path}
-use Rattle.asit_shadow.specs.Calls.{CallEffect, IsNodeRead, TakesWriteBacks}
+use Rattle.asit_shadow.specs.Calls.{TreeCallEffect, IsNodeRead, TakesWriteBacks}
 use Rattle.asit_shadow.specs.Fetching.{IsNodeFound, HasFetchedNode, KeepsPathLines, IsPathFetchedTo}
 use Rattle.asit_shadow.proofs.SlotPlaces.{slot_of-inside, page_of_line, on_path-inside, path_slots-apart}
 use Rattle.asit_shadow.proofs.Chains.{write_backs-then, effect-then, going-uncut}
@@ -29,7 +29,7 @@ use Rattle.asit_shadow.proofs.LevelWork.{IsNextWork, next-on_path, next-level, a
 use Rattle.asit_shadow.proofs.LevelSteps.{IsRoomStep, IsLevelReady, found-step, found-effect, found-path_lines}
 
 -- what is known as a fetch begins
-pub record IsFetchReady (setup : Setup) (a : ℕ) (old : Parts) : Type 0 where
+pub record IsFetchReady (setup : Setup) (a : ℕ) (old : TreeEngineParts) : Type 0 where
   pub shape : IsShape setup.shape
   pub in_range : AreInRange setup.formulas
   pub its_line : a < tree_lines setup.shape
@@ -37,13 +37,13 @@ pub record IsFetchReady (setup : Setup) (a : ℕ) (old : Parts) : Type 0 where
   pub slots : length old.engine.cache ≡ tree_slots setup.shape
 
 -- the levels to j are fetched, and x is next
-pub record IsNextLevel (setup : Setup) (a j x version : ℕ) (old now : Parts) : Type 0 where
+pub record IsNextLevel (setup : Setup) (a j x version : ℕ) (old now : TreeEngineParts) : Type 0 where
   pub ready : IsFetchReady setup a old
   pub before : IsPathFetchedTo setup a j old now
   pub told : AreToldLines now.device.size now.device.lines
   pub level : j < setup.shape.levels
   pub place : x ≡ slice_index (line_path setup.shape a) (suc j)
-  pub version_true : AreTrusted setup now → version ≡ entry_for now.watch.nodes x
+  pub version_true : AreTreeTrusted setup now → version ≡ entry_for now.watch.nodes x
 
 -- ---- positions
 
@@ -53,7 +53,7 @@ next-low g a j x shape in_a inside place top =
     let zero_level : level_of 0 ≡ 0 = refl in
     omega (arith, level, ap level_of top, zero_level)
 
-pub level-ready : (setup : Setup) (a j x version : ℕ) (old now : Parts) → IsNextLevel setup a j x version old now → IsLevelReady setup x version now
+pub level-ready : (setup : Setup) (a j x version : ℕ) (old now : TreeEngineParts) → IsNextLevel setup a j x version old now → IsLevelReady setup x version now
 level-ready setup a j x version old now next =
     let on = next-on_path setup.shape a j x next.level next.place in
     record {
@@ -78,7 +78,7 @@ no_write_backs n device =
       latches = refl;
     }
 
-still_effect : (setup : Setup) (old : Parts) → CallEffect setup going old old
+still_effect : (setup : Setup) (old : TreeEngineParts) → TreeCallEffect setup going old old
 still_effect setup old =
     record {
       shape = refl;
@@ -93,7 +93,7 @@ pub same_lines : (g : Shape) (a : ℕ) (told : Option (List Line)) → KeepsPath
 same_lines g a None = refl
 same_lines g a (Some lines) = λ x on. refl
 
-top-cached : (setup : Setup) (a x : ℕ) (old : Parts) → IsFetchReady setup a old → AreTrusted setup old → is_on_line_path setup.shape a x ≡ true → level_of x ≤ 0 → IsCached setup.shape old.engine.cache x
+top-cached : (setup : Setup) (a x : ℕ) (old : TreeEngineParts) → IsFetchReady setup a old → AreTreeTrusted setup old → is_on_line_path setup.shape a x ≡ true → level_of x ≤ 0 → IsCached setup.shape old.engine.cache x
 top-cached setup a x old ready trusted on top =
     let page = page_of_line setup.shape a ready.its_line in
     let its = on_path-level setup.shape (a / 4) x ready.shape.at_most_six_levels page on in
@@ -102,7 +102,7 @@ top-cached setup a x old ready trusted on top =
     subst (IsCached setup.shape old.engine.cache) (sym zero)
     (record { held = trusted.top_cached.held; stands = trusted.top_cached.stands; position = trusted.top_cached.position })
 
-pub path-start : (setup : Setup) (a : ℕ) (old : Parts) → IsFetchReady setup a old → IsPathFetchedTo setup a 0 old old
+pub path-start : (setup : Setup) (a : ℕ) (old : TreeEngineParts) → IsFetchReady setup a old → IsPathFetchedTo setup a 0 old old
 path-start setup a old ready =
     record {
       effect = still_effect setup old;
@@ -121,7 +121,7 @@ path-start setup a old ready =
     }
 
 -- the top, where the engine is trusted
-pub top-in : (setup : Setup) (old : Parts) → AreTrusted setup old → IsCachedAs setup.shape old.engine.cache 0 (Rattle.asit_shadow.specs.State.top_node old.engine.cache)
+pub top-in : (setup : Setup) (old : TreeEngineParts) → AreTreeTrusted setup old → IsCachedAs setup.shape old.engine.cache 0 (Rattle.asit_shadow.specs.State.top_node old.engine.cache)
 top-in setup old trusted =
     let top = trusted.top_cached in
     record {
@@ -148,7 +148,7 @@ lines-then g a (Some old) None new first second = absurd first
 lines-then g a (Some old) (Some mid) None first second = absurd second
 lines-then g a (Some old) (Some mid) (Some new) first second = λ x on. second x on ∙ first x on
 
-pub read-kept : (setup : Setup) (a x : ℕ) (old mid new : Parts) → KeepsPathLines setup.shape a mid.device.lines new.device.lines → IsNodeRead setup a x old mid → IsNodeRead setup a x old new
+pub read-kept : (setup : Setup) (a x : ℕ) (old mid new : TreeEngineParts) → KeepsPathLines setup.shape a mid.device.lines new.device.lines → IsNodeRead setup a x old mid → IsNodeRead setup a x old new
 read-kept setup a x old mid new kept it =
     record {
       line = it.line;
@@ -165,7 +165,7 @@ read-kept setup a x old mid new kept it =
 -- ---- a level that was cached
 
 -- a slot of a level below is as it was before
-cached-before : (setup : Setup) (a j x version : ℕ) (old now : Parts) → IsNextLevel setup a j x version old now → IsCached setup.shape now.engine.cache x → IsCached setup.shape old.engine.cache x
+cached-before : (setup : Setup) (a j x version : ℕ) (old now : TreeEngineParts) → IsNextLevel setup a j x version old now → IsCached setup.shape now.engine.cache x → IsCached setup.shape old.engine.cache x
 cached-before setup a j x version old now next it =
     let on = next-on_path setup.shape a j x next.level next.place in
     let level = next-level setup.shape a j x next.ready.shape next.ready.its_line next.level next.place in
@@ -175,7 +175,7 @@ cached-before setup a j x version old now next it =
       position = it.position;
     }
 
-pub cached-after : (setup : Setup) (a j x version : ℕ) (old now : Parts) → IsNextLevel setup a j x version old now → IsCached setup.shape old.engine.cache x → IsCached setup.shape now.engine.cache x
+pub cached-after : (setup : Setup) (a j x version : ℕ) (old now : TreeEngineParts) → IsNextLevel setup a j x version old now → IsCached setup.shape old.engine.cache x → IsCached setup.shape now.engine.cache x
 cached-after setup a j x version old now next it =
     let on = next-on_path setup.shape a j x next.level next.place in
     let level = next-level setup.shape a j x next.ready.shape next.ready.its_line next.level next.place in
@@ -186,7 +186,7 @@ cached-after setup a j x version old now next it =
     }
 
 -- what the levels so far did, as the next one's work asks
-pub next-work : (setup : Setup) (a j x version : ℕ) (old now : Parts) → IsNextLevel setup a j x version old now → IsNextWork setup a j x old now
+pub next-work : (setup : Setup) (a j x version : ℕ) (old now : TreeEngineParts) → IsNextLevel setup a j x version old now → IsNextWork setup a j x old now
 next-work setup a j x version old now next =
     let on = next-on_path setup.shape a j x next.level next.place in
     let level = next-level setup.shape a j x next.ready.shape next.ready.its_line next.level next.place in
@@ -201,7 +201,7 @@ next-work setup a j x version old now next =
       reads = next.before.reads;
     }
 
-next-cached : (setup : Setup) (a j x version : ℕ) (node : Node) (old now : Parts) → IsNextLevel setup a j x version old now → IsCachedAs setup.shape now.engine.cache x node → IsPathFetchedTo setup a (suc j) old now
+next-cached : (setup : Setup) (a j x version : ℕ) (node : Node) (old now : TreeEngineParts) → IsNextLevel setup a j x version old now → IsCachedAs setup.shape now.engine.cache x node → IsPathFetchedTo setup a (suc j) old now
 next-cached setup a j x version node old now next in_slot =
     let before = next.before in
     let it : IsCached setup.shape now.engine.cache x = record { held = in_slot.held; stands = in_slot.stands; position = in_slot.position } in
@@ -258,7 +258,7 @@ step_write_backs setup slot old new step =
     }
 
 -- the slots of the other nodes of the path are as they were
-other_slot : (setup : Setup) (a j x version : ℕ) (node : Node) (old now new : Parts) (y : ℕ) → IsNextLevel setup a j x version old now → IsNodeFound setup x version node now new → is_on_line_path setup.shape a y ≡ true → level_of y ≢ suc j
+other_slot : (setup : Setup) (a j x version : ℕ) (node : Node) (old now new : TreeEngineParts) (y : ℕ) → IsNextLevel setup a j x version old now → IsNodeFound setup x version node now new → is_on_line_path setup.shape a y ≡ true → level_of y ≢ suc j
     → cache_at new.engine.cache (slot_of setup.shape y) ≡ cache_at now.engine.cache (slot_of setup.shape y)
 other_slot setup a j x version node old now new y next found on_y other =
     let on = next-on_path setup.shape a j x next.level next.place in
@@ -268,12 +268,12 @@ other_slot setup a j x version node old now new y next found on_y other =
     ap (λ (c : List (Option CachedNode)). cache_at c (slot_of setup.shape y)) found.cache
     ∙ get_or-set_other now.engine.cache (slot_of setup.shape x) (slot_of setup.shape y) (Some (record { x = x; node = node; dirty = false })) None apart
 
-next-room : (setup : Setup) (a j x version : ℕ) (old now : Parts) → IsNextLevel setup a j x version old now → slot_of setup.shape x < length now.engine.cache
+next-room : (setup : Setup) (a j x version : ℕ) (old now : TreeEngineParts) → IsNextLevel setup a j x version old now → slot_of setup.shape x < length now.engine.cache
 next-room setup a j x version old now next =
     let on = next-on_path setup.shape a j x next.level next.place in
     omega (arith, slot_of-inside setup.shape x next.ready.shape (on_path-inside setup.shape a x next.ready.its_line on), next.before.slot_count, next.ready.slots)
 
-found-in : (setup : Setup) (a j x version : ℕ) (node : Node) (old now new : Parts) → IsNextLevel setup a j x version old now → IsNodeFound setup x version node now new → IsCachedAs setup.shape new.engine.cache x node
+found-in : (setup : Setup) (a j x version : ℕ) (node : Node) (old now new : TreeEngineParts) → IsNextLevel setup a j x version old now → IsNodeFound setup x version node now new → IsCachedAs setup.shape new.engine.cache x node
 found-in setup a j x version node old now new next found =
     let room = next-room setup a j x version old now next in
     record {
@@ -285,7 +285,7 @@ found-in setup a j x version node old now new next found =
       its_node = refl;
     }
 
-found-read : (setup : Setup) (a j x version : ℕ) (node : Node) (old now new : Parts) → IsNextLevel setup a j x version old now → IsNodeFound setup x version node now new → AreTrusted setup now → IsNodeRead setup a x old new
+found-read : (setup : Setup) (a j x version : ℕ) (node : Node) (old now new : TreeEngineParts) → IsNextLevel setup a j x version old now → IsNodeFound setup x version node now new → AreTreeTrusted setup now → IsNodeRead setup a x old new
 found-read setup a j x version node old now new next found trusted =
     let on = next-on_path setup.shape a j x next.level next.place in
     let ready = level-ready setup a j x version old now next in
@@ -308,13 +308,13 @@ found-read setup a j x version node old now new next found trusted =
           (ap (node_read setup.formulas x found.taken.line) (sym is_version) ∙ (found.taken.accepted ∙ ap Some found.taken.seen));
     }
 
-next-found : (setup : Setup) (a j x version : ℕ) (node : Node) (old now new : Parts) → IsNextLevel setup a j x version old now → IsNodeFound setup x version node now new → IsPathFetchedTo setup a (suc j) old new
+next-found : (setup : Setup) (a j x version : ℕ) (node : Node) (old now new : TreeEngineParts) → IsNextLevel setup a j x version old now → IsNodeFound setup x version node now new → IsPathFetchedTo setup a (suc j) old new
 next-found setup a j x version node old now new next found =
     let before = next.before in
     let ready = level-ready setup a j x version old now next in
     let on = next-on_path setup.shape a j x next.level next.place in
     let step = found-step setup x version node now new found in
-    let kept = λ (trusted : AreTrusted setup now). found-path_lines setup a x version node now new ready next.ready.its_line on found trusted in
+    let kept = λ (trusted : AreTreeTrusted setup now). found-path_lines setup a x version node now new ready next.ready.its_line on found trusted in
     let one : j + 1 ≡ suc j = omega arith in
     let work = next-work setup a j x version old now next in
     let wasnt = is_cached-false setup.shape old.engine.cache x (λ it. found.uncached (cached-after setup a j x version old now next it)) in
@@ -373,7 +373,7 @@ next-found setup a j x version node old now new next found =
 
 -- ---- a level that was had
 
-pub path-next : (setup : Setup) (a j x version : ℕ) (node : Node) (old now new : Parts) → IsNextLevel setup a j x version old now → HasFetchedNode setup x version now new node → IsPathFetchedTo setup a (suc j) old new
+pub path-next : (setup : Setup) (a j x version : ℕ) (node : Node) (old now new : TreeEngineParts) → IsNextLevel setup a j x version old now → HasFetchedNode setup x version now new node → IsPathFetchedTo setup a (suc j) old new
 path-next setup a j x version node old now new next had =
     elim had [
       | inl (in_slot, same) ↦
@@ -381,20 +381,20 @@ path-next setup a j x version node old now new next had =
       | inr found ↦ next-found setup a j x version node old now new next found
     ]
 
-pub had-in : (setup : Setup) (a j x version : ℕ) (node : Node) (old now new : Parts) → IsNextLevel setup a j x version old now → HasFetchedNode setup x version now new node → IsCachedAs setup.shape new.engine.cache x node
+pub had-in : (setup : Setup) (a j x version : ℕ) (node : Node) (old now new : TreeEngineParts) → IsNextLevel setup a j x version old now → HasFetchedNode setup x version now new node → IsCachedAs setup.shape new.engine.cache x node
 had-in setup a j x version node old now new next had =
     elim had [
       | inl (in_slot, same) ↦
-          subst (λ (parts : Parts). IsCachedAs setup.shape parts.engine.cache x node) (sym same) in_slot
+          subst (λ (parts : TreeEngineParts). IsCachedAs setup.shape parts.engine.cache x node) (sym same) in_slot
       | inr found ↦ found-in setup a j x version node old now new next found
     ]
 
 -- a cached node is the true one, and has the counter under which its child is read
-pub in-true : (setup : Setup) (x : ℕ) (node : Node) (parts : Parts) → AreTrusted setup parts → IsCachedAs setup.shape parts.engine.cache x node → node ≡ node_at parts.watch.nodes x
+pub in-true : (setup : Setup) (x : ℕ) (node : Node) (parts : TreeEngineParts) → AreTreeTrusted setup parts → IsCachedAs setup.shape parts.engine.cache x node → node ≡ node_at parts.watch.nodes x
 in-true setup x node parts trusted it =
     it.its_node ∙ ((trusted.cached_true (slot_of setup.shape x) it.held it.stands).true_node ∙ ap (node_at parts.watch.nodes) it.position)
 
-pub in-entry : (setup : Setup) (y : ℕ) (node : Node) (parts : Parts) → AreTrusted setup parts → IsCachedAs setup.shape parts.engine.cache (parent y) node → counter node (child_slot y) ≡ entry_for parts.watch.nodes y
+pub in-entry : (setup : Setup) (y : ℕ) (node : Node) (parts : TreeEngineParts) → AreTreeTrusted setup parts → IsCachedAs setup.shape parts.engine.cache (parent y) node → counter node (child_slot y) ≡ entry_for parts.watch.nodes y
 in-entry setup y node parts trusted it =
     ap (λ (n : Node). counter n (child_slot y)) (in-true setup (parent y) node parts trusted it)
 
@@ -408,22 +408,22 @@ place-is g h a level from items seen of_items of_path same at =
     ∙ (ap (λ (k : Shape). slice_index (path_of k (a / 4)) (from + 1)) same ∙ ap (slice_index (line_path g a)) next)
 
 -- the version that the code takes from the node above
-pub version-is : (setup : Setup) (a j x version : ℕ) (node : Node) (now : Parts) → j < setup.shape.levels → x ≡ slice_index (line_path setup.shape a) (suc j) → version ≡ counter node (child_slot x)
-    → (AreTrusted setup now → IsCachedAs setup.shape now.engine.cache (slice_index (line_path setup.shape a) j) node) → AreTrusted setup now → version ≡ entry_for now.watch.nodes x
+pub version-is : (setup : Setup) (a j x version : ℕ) (node : Node) (now : TreeEngineParts) → j < setup.shape.levels → x ≡ slice_index (line_path setup.shape a) (suc j) → version ≡ counter node (child_slot x)
+    → (AreTreeTrusted setup now → IsCachedAs setup.shape now.engine.cache (slice_index (line_path setup.shape a) j) node) → AreTreeTrusted setup now → version ≡ entry_for now.watch.nodes x
 version-is setup a j x version node now inside place is last trusted =
     let above : slice_index (line_path setup.shape a) j ≡ parent x =
     sym (path_of-parent setup.shape (a / 4) j inside) ∙ ap parent (sym place) in
     is ∙ in-entry setup x node now trusted (subst (λ p. IsCachedAs setup.shape now.engine.cache p node) above (last trusted))
 
 -- the top as the fetch begins
-pub last-start : (setup : Setup) (a : ℕ) (node : Node) (old : Parts) → IsFetchReady setup a old → node ≡ Rattle.asit_shadow.specs.State.top_node old.engine.cache → AreTrusted setup old → IsCachedAs setup.shape old.engine.cache (slice_index (line_path setup.shape a) 0) node
+pub last-start : (setup : Setup) (a : ℕ) (node : Node) (old : TreeEngineParts) → IsFetchReady setup a old → node ≡ Rattle.asit_shadow.specs.State.top_node old.engine.cache → AreTreeTrusted setup old → IsCachedAs setup.shape old.engine.cache (slice_index (line_path setup.shape a) 0) node
 last-start setup a node old ready is trusted =
     let top : 0 ≡ slice_index (line_path setup.shape a) 0 = sym (path_of-top setup.shape (a / 4) (page_of_line setup.shape a ready.its_line)) in
     subst (λ p. IsCachedAs setup.shape old.engine.cache p node) top
     (subst (IsCachedAs setup.shape old.engine.cache 0) (sym is) (top-in setup old trusted))
 
 -- the last node as it ends
-pub last-end : (setup : Setup) (a : ℕ) (node : Node) (old now : Parts) → IsPathFetchedTo setup a setup.shape.levels old now → (AreTrusted setup now → IsCachedAs setup.shape now.engine.cache (slice_index (line_path setup.shape a) setup.shape.levels) node) → AreTrusted setup old
+pub last-end : (setup : Setup) (a : ℕ) (node : Node) (old now : TreeEngineParts) → IsPathFetchedTo setup a setup.shape.levels old now → (AreTreeTrusted setup now → IsCachedAs setup.shape now.engine.cache (slice_index (line_path setup.shape a) setup.shape.levels) node) → AreTreeTrusted setup old
     → node ≡ node_at old.watch.nodes (counter_position setup.shape (a / 4))
 last-end setup a node old now path last trusted =
     let here = path.effect.trusted trusted in

@@ -24,10 +24,10 @@ use Rattle.counter_tree.proofs.NodeLaws.{node_read-node_line, stored_node-node_l
 use Rattle.counter_tree.proofs.TreeLaws.{tree-IsNode, tree-version}
 use Rattle.asit_shadow.specs.State.{TreeState, cache_at, IsCached}
 use Rattle.asit_shadow.specs.declared.cache.CachedNode.{CachedNode}
-use Rattle.asit_shadow.specs.Invariants.{NamesTrueNode, IsAnchored, IsTrusted, IsSealStored, IsNodeStored, IsSlotStored}
-use Rattle.asit_shadow.specs.Paths.{is_path_slot, IsPathCached}
+use Rattle.asit_shadow.specs.Invariants.{NamesTrueNode, IsTreeAnchored, IsTreeTrusted, IsTreeSealStored, IsNodeStored, IsSlotStored}
+use Rattle.asit_shadow.specs.Paths.{is_path_slot, IsNodePathCached}
 use Rattle.asit_shadow.specs.Places.{IsNodeHeld, IsNodeHeldBy, ArePlacesArmed, ArePlacesKept}
-use Rattle.asit_shadow.specs.Steps.{IsArmed, HasPathStored, IsFetched, GivesWay, IsRecovered, slots_read}
+use Rattle.asit_shadow.specs.Steps.{IsTreeArmed, HasPathStored, IsFetched, GivesWay, IsTreeRecovered, slots_read}
 use Rattle.asit_shadow.proofs.SlotPlaces.{slot_of-inside, path_slot-from}
 use Rattle.asit_shadow.proofs.PutLaws.{IsGroupMade, tag_slot-tag_only}
 use Rattle.asit_shadow.proofs.ArmLaws.{armed-IsRaised, last_here, last_else, dirty-named, armed-made}
@@ -35,12 +35,12 @@ use Rattle.asit_shadow.proofs.RecoverLaws.{slot-named, lines-equal, length-slots
 
 -- ---- a write
 
-armed-places_from : (setup : Setup) (a : ℕ) (seal : LineSeal) (engine : TreeState) (lines made : List Line) (old_regs new_regs : Regs) (old new : WatchState) → IsShape setup.shape → IsTrusted setup engine old_regs old → IsPathCached setup.shape a engine.cache → IsArmed setup a seal old_regs new_regs old new → IsGroupMade setup.shape a seal new.nodes lines made → ArePlacesArmed setup a engine lines made old new
+armed-places_from : (setup : Setup) (a : ℕ) (seal : LineSeal) (engine : TreeState) (lines made : List Line) (old_regs new_regs : Regs) (old new : WatchState) → IsShape setup.shape → IsTreeTrusted setup engine old_regs old → IsNodePathCached setup.shape a engine.cache → IsTreeArmed setup a seal old_regs new_regs old new → IsGroupMade setup.shape a seal new.nodes lines made → ArePlacesArmed setup a engine lines made old new
 armed-places_from setup a seal engine lines made old_regs new_regs old new shape trusted cached armed group =
     let raised = armed-IsRaised setup a seal old_regs new_regs old new shape trusted.anchored armed in
     let named = armed.slots in
     let room : a < length old.seals = omega (arith, armed.its_line, trusted.anchored.of_setup.seal_count) in
-    let own : IsSealStored setup.shape made new a =
+    let own : IsTreeSealStored setup.shape made new a =
     record {
       seal = seal;
       last = last_here old new a seal armed.seals room;
@@ -52,7 +52,7 @@ armed-places_from setup a seal engine lines made old_regs new_regs old new shape
       seals =
           λ b in_b stored.
           elim (cases_eq b a) [
-            | inl same ↦ subst (IsSealStored setup.shape made new) (sym same) own
+            | inl same ↦ subst (IsTreeSealStored setup.shape made new) (sym same) own
             | inr other ↦
                 record {
                   seal = stored.seal;
@@ -83,13 +83,13 @@ armed-places_from setup a seal engine lines made old_regs new_regs old new shape
           ];
     }
 
-pub armed-places : (setup : Setup) (a : ℕ) (seal : LineSeal) (engine : TreeState) (lines : List Line) (old_regs new_regs : Regs) (old new : WatchState) → IsShape setup.shape → length lines ≡ tree_size setup.shape → IsTrusted setup engine old_regs old → IsPathCached setup.shape a engine.cache → IsArmed setup a seal old_regs new_regs old new → ArePlacesArmed setup a engine lines (redone new_regs.group.items lines) old new
+pub armed-places : (setup : Setup) (a : ℕ) (seal : LineSeal) (engine : TreeState) (lines : List Line) (old_regs new_regs : Regs) (old new : WatchState) → IsShape setup.shape → length lines ≡ tree_size setup.shape → IsTreeTrusted setup engine old_regs old → IsNodePathCached setup.shape a engine.cache → IsTreeArmed setup a seal old_regs new_regs old new → ArePlacesArmed setup a engine lines (redone new_regs.group.items lines) old new
 armed-places setup a seal engine lines old_regs new_regs old new shape size trusted cached armed =
     armed-places_from setup a seal engine lines (redone new_regs.group.items lines) old_regs new_regs old new shape trusted cached armed
     (armed-made setup a seal lines old_regs new_regs old new shape size armed)
 
 -- once the group is written, each node is held by the engine
-pub written-place : (setup : Setup) (a : ℕ) (seal : LineSeal) (engine after : TreeState) (lines : List Line) (old_regs armed_regs : Regs) (old new : WatchState) (x : ℕ) → IsShape setup.shape → length lines ≡ tree_size setup.shape → IsTrusted setup engine old_regs old → IsPathCached setup.shape a engine.cache → IsArmed setup a seal old_regs armed_regs old new → HasPathStored setup a engine after new → x < meta_lines setup.shape
+pub written-place : (setup : Setup) (a : ℕ) (seal : LineSeal) (engine after : TreeState) (lines : List Line) (old_regs armed_regs : Regs) (old new : WatchState) (x : ℕ) → IsShape setup.shape → length lines ≡ tree_size setup.shape → IsTreeTrusted setup engine old_regs old → IsNodePathCached setup.shape a engine.cache → IsTreeArmed setup a seal old_regs armed_regs old new → HasPathStored setup a engine after new → x < meta_lines setup.shape
     → IsNodeHeldBy setup engine lines old x → IsNodeHeldBy setup after (redone armed_regs.group.items lines) new x
 written-place setup a seal engine after lines old_regs armed_regs old new x shape size trusted cached armed stored in_x held =
     let raised = armed-IsRaised setup a seal old_regs armed_regs old new shape trusted.anchored armed in
@@ -175,7 +175,7 @@ fetched-places setup x line node old new lines watch fetched gives =
 
 -- ---- recovery
 
-pub recovered-place : (setup : Setup) (engine : TreeState) (lines : List Line) (regs : Regs) (watch : WatchState) (x : ℕ) → IsShape setup.shape → IsAnchored setup regs watch → IsRecovered setup watch.slots engine → x < meta_lines setup.shape → IsNodeHeld setup lines watch x → IsNodeHeldBy setup engine lines watch x
+pub recovered-place : (setup : Setup) (engine : TreeState) (lines : List Line) (regs : Regs) (watch : WatchState) (x : ℕ) → IsShape setup.shape → IsTreeAnchored setup regs watch → IsTreeRecovered setup watch.slots engine → x < meta_lines setup.shape → IsNodeHeld setup lines watch x → IsNodeHeldBy setup engine lines watch x
 recovered-place setup engine lines regs watch x shape anchored recovered in_x held =
     elim held [
       | inl stored ↦ inl stored
@@ -191,7 +191,7 @@ recovered-place setup engine lines regs watch x shape anchored recovered in_x he
     ]
 
 -- with power off, a node that the engine held is held
-pub powered_off-place : (setup : Setup) (engine : TreeState) (lines : List Line) (regs : Regs) (watch : WatchState) (x : ℕ) → IsTrusted setup engine regs watch → IsNodeHeldBy setup engine lines watch x → IsNodeHeld setup lines watch x
+pub powered_off-place : (setup : Setup) (engine : TreeState) (lines : List Line) (regs : Regs) (watch : WatchState) (x : ℕ) → IsTreeTrusted setup engine regs watch → IsNodeHeldBy setup engine lines watch x → IsNodeHeld setup lines watch x
 powered_off-place setup engine lines regs watch x trusted held =
     elim held [
       | inl stored ↦ inl stored
@@ -202,7 +202,7 @@ powered_off-place setup engine lines regs watch x trusted held =
 
 -- ---- what is read of a place that is held
 
-pub node_read-place : (setup : Setup) (engine : TreeState) (lines : List Line) (regs : Regs) (watch : WatchState) (x : ℕ) → IsShape setup.shape → AreInRange setup.formulas → IsTrusted setup engine regs watch → 1 ≤ x → x < meta_lines setup.shape → (IsCached setup.shape engine.cache x → ⊥) → IsNodeHeldBy setup engine lines watch x
+pub node_read-place : (setup : Setup) (engine : TreeState) (lines : List Line) (regs : Regs) (watch : WatchState) (x : ℕ) → IsShape setup.shape → AreInRange setup.formulas → IsTreeTrusted setup engine regs watch → 1 ≤ x → x < meta_lines setup.shape → (IsCached setup.shape engine.cache x → ⊥) → IsNodeHeldBy setup engine lines watch x
     → (node_read setup.formulas x (line_at lines (line_of_node setup.shape x)) (entry_for watch.nodes x) ≡ Some (node_at watch.nodes x)) × (stored_node (line_at lines (line_of_node setup.shape x)) ≡ node_at watch.nodes x)
 node_read-place setup engine lines regs watch x shape in_range trusted low inside uncached held =
     let tree = trusted.anchored.tree in
@@ -218,7 +218,7 @@ node_read-place setup engine lines regs watch x shape in_range trusted low insid
       )
     ]
 
-pub line-place : (setup : Setup) (lines : List Line) (regs : Regs) (watch : WatchState) (a : ℕ) → IsAnchored setup regs watch → a < tree_lines setup.shape → IsSealStored setup.shape lines watch a → (setup.formulas.tag_of a (version_counter (line_counter setup.shape watch.nodes a)) (line_at lines a) ≡ tag_slot (line_at lines (line_of_tag setup.shape a)) 0) × IfSome (last_seal_of watch a) (λ seal. line_at lines a ≡ seal.cipher)
+pub line-place : (setup : Setup) (lines : List Line) (regs : Regs) (watch : WatchState) (a : ℕ) → IsTreeAnchored setup regs watch → a < tree_lines setup.shape → IsTreeSealStored setup.shape lines watch a → (setup.formulas.tag_of a (version_counter (line_counter setup.shape watch.nodes a)) (line_at lines a) ≡ tag_slot (line_at lines (line_of_tag setup.shape a)) 0) × IfSome (last_seal_of watch a) (λ seal. line_at lines a ≡ seal.cipher)
 line-place setup lines regs watch a anchored inside stored =
     let it = anchored.seals a inside in
     let one : stored.seal ≡ it.seal = same_Some stored.seal it.seal (sym stored.last ∙ it.last) in
@@ -230,7 +230,7 @@ line-place setup lines regs watch a anchored inside stored =
       subst (λ s. IfSome s (λ seal. line_at lines a ≡ seal.cipher)) (sym it.last) wanted,
     )
 
-pub slots-place : (setup : Setup) (lines : List Line) (regs : Regs) (watch : WatchState) → IsAnchored setup regs watch → length lines ≡ tree_size setup.shape → ((i : ℕ) → i < tree_slots setup.shape → IsSlotStored setup.shape lines watch i) → slots_read setup.shape lines ≡ watch.slots
+pub slots-place : (setup : Setup) (lines : List Line) (regs : Regs) (watch : WatchState) → IsTreeAnchored setup regs watch → length lines ≡ tree_size setup.shape → ((i : ℕ) → i < tree_slots setup.shape → IsSlotStored setup.shape lines watch i) → slots_read setup.shape lines ≡ watch.slots
 slots-place setup lines regs watch anchored size stored =
     let count = length-slots_read setup.shape lines size in
     lines-equal (slots_read setup.shape lines) watch.slots (count ∙ sym anchored.of_setup.slot_count)

@@ -25,10 +25,10 @@ use Rattle.counter_tree.specs.Watch.{WatchState}
 use Rattle.counter_tree.specs.declared.watch.LineSeal.{LineSeal}
 use Rattle.counter_tree.proofs.NodeLaws.{its_counters}
 use Rattle.counter_tree.proofs.TreeLaws.{lines-are_children}
-use Rattle.asit_shadow.specs.Invariants.{IsAnchored}
+use Rattle.asit_shadow.specs.Invariants.{IsTreeAnchored}
 use Rattle.asit_shadow.specs.Paths.{line_path, is_path_slot}
-use Rattle.asit_shadow.specs.Plain.{PlainTree, writes_below, node_above_lines, true_node, true_count, slot_naming, names_with, named_at, after_write, IsPlainOf}
-use Rattle.asit_shadow.specs.Steps.{IsArmed, plain_line}
+use Rattle.asit_shadow.specs.Plain.{PlainTree, writes_below, node_above_lines, true_node, true_count, slot_naming, names_with, named_at, after_tree_write, IsPlainOf}
+use Rattle.asit_shadow.specs.Steps.{IsTreeArmed, tree_plain_line}
 use Rattle.asit_shadow.proofs.ArmLaws.{armed-IsRaised}
 use Rattle.asit_shadow.proofs.ReadLaws.{armed-plain}
 use Rattle.asit_shadow.proofs.SlotPlaces.{slot_of-inside, on_path-inside, path_slots-apart, any_from, path_slot-of, path_slot-from}
@@ -130,19 +130,19 @@ length-names_with g (x ∷ xs) named = length-names_with g xs (slice_set named (
 -- ---- a write
 
 -- the law: a write that is armed is one of the plain machine
-pub IsPlainOf-armed : (setup : Setup) (a : ℕ) (line : Line) (seal : LineSeal) (old_regs new_regs : Regs) (old new : WatchState) (plain : PlainTree) → IsShape setup.shape → AreInRange setup.formulas → IsAnchored setup old_regs old → IsArmed setup a seal old_regs new_regs old new → IsLine line → seal.cipher ≡ cipher_of setup.formulas a (version_counter seal.counter) line → IsPlainOf setup plain old → IsPlainOf setup (after_write setup.shape plain a line) new
+pub IsPlainOf-armed : (setup : Setup) (a : ℕ) (line : Line) (seal : LineSeal) (old_regs new_regs : Regs) (old new : WatchState) (plain : PlainTree) → IsShape setup.shape → AreInRange setup.formulas → IsTreeAnchored setup old_regs old → IsTreeArmed setup a seal old_regs new_regs old new → IsLine line → seal.cipher ≡ cipher_of setup.formulas a (version_counter seal.counter) line → IsPlainOf setup plain old → IsPlainOf setup (after_tree_write setup.shape plain a line) new
 IsPlainOf-armed setup a line seal old_regs new_regs old new plain shape in_range anchored armed good cipher its =
     let g = setup.shape in
-    let after = after_write setup.shape plain a line in
+    let after = after_tree_write setup.shape plain a line in
     let raised : IsRaised setup.shape a old.nodes new.nodes = armed-IsRaised setup a seal old_regs new_regs old new shape anchored armed in
     let memory = armed-plain setup a line seal old_regs new_regs old new in_range anchored armed good cipher in
     let inside = armed.its_line in
     let named = armed.slots in
-    let counts : (b : ℕ) → b < tree_lines setup.shape → true_count (after_write setup.shape plain a line) b ≡ line_counter setup.shape new.nodes b =
+    let counts : (b : ℕ) → b < tree_lines setup.shape → true_count (after_tree_write setup.shape plain a line) b ≡ line_counter setup.shape new.nodes b =
     λ b in_b.
     elim (cases_eq b a) [
       | inl same ↦
-          ap (true_count (after_write setup.shape plain a line)) same
+          ap (true_count (after_tree_write setup.shape plain a line)) same
           ∙ (get_or-set_same plain.counts a (true_count plain a + 1) 0 (omega (arith, inside, its.count_count))
           ∙ (ap (λ n. n + 1) (its.counts a inside) ∙ (sym raised.own ∙ ap (line_counter setup.shape new.nodes) (sym same))))
       | inr other ↦
@@ -153,8 +153,8 @@ IsPlainOf-armed setup a line seal old_regs new_regs old new plain shape in_range
     λ x on.
     names_one setup.shape (line_path setup.shape a) plain.named x on (omega (arith, its.named_count, slot_of-inside setup.shape x shape (on_path-inside setup.shape a x inside on)))
     (λ y on_y same. path_slots-apart setup.shape a y x shape inside on_y on same) in
-    let truth : (x : ℕ) → x < meta_lines setup.shape → true_node setup.shape (after_write setup.shape plain a line) x ≡ node_at new.nodes x =
-    λ x in_x. true_node-is setup (after_write setup.shape plain a line) new x shape raised.tree counts in_x in
+    let truth : (x : ℕ) → x < meta_lines setup.shape → true_node setup.shape (after_tree_write setup.shape plain a line) x ≡ node_at new.nodes x =
+    λ x in_x. true_node-is setup (after_tree_write setup.shape plain a line) new x shape raised.tree counts in_x in
     let before : (x : ℕ) → x < meta_lines setup.shape → true_node setup.shape plain x ≡ node_at old.nodes x =
     λ x in_x. true_node-is setup plain old x shape anchored.tree its.counts in_x in
     let placed : (i x : ℕ) → named_at (names_with setup.shape (line_path setup.shape a) plain.named) i ≡ Some x → (slot_of setup.shape x ≡ i) × (x < meta_lines setup.shape) =
@@ -176,7 +176,7 @@ IsPlainOf-armed setup a line seal old_regs new_regs old new plain shape in_range
             | inl same ↦
                 ap (line_at (slice_set plain.memory a line)) same
                 ∙ (get_or-set_same plain.memory a line zero_line (omega (arith, inside, its.memory_count))
-                ∙ (sym memory.0 ∙ ap (plain_line setup.formulas new) (sym same)))
+                ∙ (sym memory.0 ∙ ap (tree_plain_line setup.formulas new) (sym same)))
             | inr other ↦
                 get_or-set_other plain.memory a b line zero_line other
                 ∙ (its.memory b in_b ∙ sym (memory.1 b other))
@@ -188,24 +188,24 @@ IsPlainOf-armed setup a line seal old_regs new_regs old new plain shape in_range
           elim (cases_Bool (is_path_slot setup.shape a i)) [
             | inl on ↦
                 let found = path_slot-from setup.shape a i on in
-                ap (slot_naming setup.shape (after_write setup.shape plain a line)) (ap (named_at (names_with setup.shape (line_path setup.shape a) plain.named)) (sym found.2) ∙ own found.0 found.1)
+                ap (slot_naming setup.shape (after_tree_write setup.shape plain a line)) (ap (named_at (names_with setup.shape (line_path setup.shape a) plain.named)) (sym found.2) ∙ own found.0 found.1)
                 ∙ (ap (slot_line found.0) (truth found.0 (on_path-inside setup.shape a found.0 inside found.1))
                 ∙ (sym (named.on_path found.0 found.1) ∙ ap (line_at new.slots) found.2))
             | inr off ↦
                 let same = names_none setup.shape (line_path setup.shape a) plain.named i off in
-                ap (slot_naming setup.shape (after_write setup.shape plain a line)) same
+                ap (slot_naming setup.shape (after_tree_write setup.shape plain a line)) same
                 ∙ (elsewhere setup a line plain old new i shape off its.placed raised truth before ∙ (its.slots i in_i ∙ sym (named.others i off)))
           ];
     }
   where
     elsewhere : (setup : Setup) (a : ℕ) (line : Line) (plain : PlainTree) (old new : WatchState) (i : ℕ) → IsShape setup.shape → is_path_slot setup.shape a i ≡ false
         → ((i x : ℕ) → named_at plain.named i ≡ Some x → (slot_of setup.shape x ≡ i) × (x < meta_lines setup.shape)) → IsRaised setup.shape a old.nodes new.nodes
-        → ((x : ℕ) → x < meta_lines setup.shape → true_node setup.shape (after_write setup.shape plain a line) x ≡ node_at new.nodes x)
+        → ((x : ℕ) → x < meta_lines setup.shape → true_node setup.shape (after_tree_write setup.shape plain a line) x ≡ node_at new.nodes x)
         → ((x : ℕ) → x < meta_lines setup.shape → true_node setup.shape plain x ≡ node_at old.nodes x)
-        → slot_naming setup.shape (after_write setup.shape plain a line) (named_at plain.named i) ≡ slot_naming setup.shape plain (named_at plain.named i)
+        → slot_naming setup.shape (after_tree_write setup.shape plain a line) (named_at plain.named i) ≡ slot_naming setup.shape plain (named_at plain.named i)
     elsewhere setup a line plain old new i shape off placed raised truth before = go (named_at plain.named i) refl
       where
-        go : (o : Option ℕ) → named_at plain.named i ≡ o → slot_naming setup.shape (after_write setup.shape plain a line) o ≡ slot_naming setup.shape plain o
+        go : (o : Option ℕ) → named_at plain.named i ≡ o → slot_naming setup.shape (after_tree_write setup.shape plain a line) o ≡ slot_naming setup.shape plain o
         go None is = refl
         go (Some x) is =
             let at = placed i x is in

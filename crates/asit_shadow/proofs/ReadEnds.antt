@@ -30,10 +30,10 @@ use Rattle.counter_tree.specs.Watch.{WatchState, HasShown, last_seal_of}
 use Rattle.counter_tree.proofs.TreeLaws.{line_position-parent}
 use Rattle.asit_shadow.specs.declared.fault.TreeFault.TheVariants as Fail
 use Rattle.asit_shadow.specs.State.{TreeState}
-use Rattle.asit_shadow.specs.Invariants.{IsSound}
-use Rattle.asit_shadow.specs.Parts.{Parts, AreTrusted, AreSound}
+use Rattle.asit_shadow.specs.Invariants.{IsTreeSound}
+use Rattle.asit_shadow.specs.Parts.{TreeEngineParts, AreTreeTrusted, AreTreeSound}
 use Rattle.asit_shadow.specs.Calls.{IsPathAccepted, IsDataLineRead, TakesWriteBacks, IsLineRead}
-use Rattle.asit_shadow.specs.Work.{absent_count, HasFetchedPath, IsCutInFetch, IsLineShownAt}
+use Rattle.asit_shadow.specs.Work.{absent_nodes, HasFetchedPath, IsCutInNodeFetch, IsLineShownAt}
 use Rattle.asit_shadow.specs.Fetching.{KeepsPathLines, IsPathFetchedTo}
 use Rattle.asit_shadow.proofs.SlotPlaces.{page_of_line}
 use Rattle.asit_shadow.proofs.Chains.{power-then, places-then, effect-then, going-uncut, going-unshown, cut-unshown}
@@ -53,7 +53,7 @@ line_counter-is g a nodes node is =
 
 -- ---- a path accepted
 
-pub path-accepted : (setup : Setup) (a : ℕ) (old mid new : Parts) → IsShape setup.shape → a < tree_lines setup.shape → AreTrusted setup old → IsPathFetchedTo setup a setup.shape.levels old mid → KeepsPathLines setup.shape a mid.device.lines new.device.lines → IsPathAccepted setup a old new
+pub path-accepted : (setup : Setup) (a : ℕ) (old mid new : TreeEngineParts) → IsShape setup.shape → a < tree_lines setup.shape → AreTreeTrusted setup old → IsPathFetchedTo setup a setup.shape.levels old mid → KeepsPathLines setup.shape a mid.device.lines new.device.lines → IsPathAccepted setup a old new
 path-accepted setup a old mid new shape inside trusted path kept =
     record {
       each =
@@ -70,11 +70,11 @@ path-accepted setup a old mid new shape inside trusted path kept =
 -- ---- both lines of a data line are read
 
 -- what is known as they are read
-pub record IsPathHad (setup : Setup) (a count : ℕ) (old mid new : Parts) : Type 0 where
+pub record IsPathHad (setup : Setup) (a count : ℕ) (old mid new : TreeEngineParts) : Type 0 where
   pub shape : IsShape setup.shape
   pub its_line : a < tree_lines setup.shape
   pub path : IsPathFetchedTo setup a setup.shape.levels old mid
-  pub counted : AreTrusted setup old → count ≡ line_counter setup.shape old.watch.nodes a
+  pub counted : AreTreeTrusted setup old → count ≡ line_counter setup.shape old.watch.nodes a
   pub engine : new.engine ≡ mid.engine
 
 both-unwritten : (setup : Setup) (a : ℕ) (cipher tags : Line) (old new : Device) → HasLineRead setup a cipher tags old new → AreUnwritten old new
@@ -92,16 +92,16 @@ both-power setup a cipher tags old new it =
     (λ was. it.second.steady (it.first.steady was), λ was. it.second.live (it.first.live was), it.second.cuts ∙ it.first.cuts)
 
 -- the path was fetched, and both lines were read
-path-through : (setup : Setup) (a : ℕ) (cipher tags : Line) (old mid new : Parts) → IsPathFetchedTo setup a setup.shape.levels old mid → new.engine.cache ≡ mid.engine.cache → HasLineRead setup a cipher tags mid.device new.device → HasFetchedPath setup a 2 old new
+path-through : (setup : Setup) (a : ℕ) (cipher tags : Line) (old mid new : TreeEngineParts) → IsPathFetchedTo setup a setup.shape.levels old mid → new.engine.cache ≡ mid.engine.cache → HasLineRead setup a cipher tags mid.device new.device → HasFetchedPath setup a 2 old new
 path-through setup a cipher tags old mid new path cache read =
     record {
       fetched = unwritten-levels setup a setup.shape.levels old mid new cache (both-unwritten setup a cipher tags mid.device new.device read) path.done;
       reads =
-          RisesBy-then (absent_count setup.shape old.engine.cache a setup.shape.levels) 2 old.device.reads mid.device.reads new.device.reads path.reads
+          RisesBy-then (absent_nodes setup.shape old.engine.cache a setup.shape.levels) 2 old.device.reads mid.device.reads new.device.reads path.reads
           (RisesBy-then 1 1 mid.device.reads read.between.reads new.device.reads read.first.reads read.second.reads);
     }
 
-line-told : (setup : Setup) (a : ℕ) (cipher tags : Line) (mid new : Parts) → HasLineRead setup a cipher tags mid.device new.device → IsDataLineRead setup a cipher tags new
+line-told : (setup : Setup) (a : ℕ) (cipher tags : Line) (mid new : TreeEngineParts) → HasLineRead setup a cipher tags mid.device new.device → IsDataLineRead setup a cipher tags new
 line-told setup a cipher tags mid new read =
     record {
       cipher_read = subst (λ told. Tells told a cipher) (sym (read.second.lines ∙ read.first.lines)) read.first.tells;
@@ -119,7 +119,7 @@ steps-kept setup outcome old mid new same off power steps =
     }
 
 -- the plain line is read
-pub read-ok : (setup : Setup) (a count : ℕ) (old mid new : Parts) (plain : Line) → IsPathHad setup a count old mid new → IsLineAccepted setup a count mid.device new.device mid.watch new.watch plain → IsLineRead setup a old new (Ok plain)
+pub read-ok : (setup : Setup) (a count : ℕ) (old mid new : TreeEngineParts) (plain : Line) → IsPathHad setup a count old mid new → IsLineAccepted setup a count mid.device new.device mid.watch new.watch plain → IsLineRead setup a old new (Ok plain)
 read-ok setup a count old mid new plain had it =
     let same = both-unwritten setup a it.cipher it.tags mid.device new.device it.read in
     let seen : IfSome (last_seal_of old.watch a) (λ seal. it.cipher ≡ seal.cipher) =
@@ -151,7 +151,7 @@ read-ok setup a count old mid new plain had it =
       unrefused = λ sound. tt;
     }
 
-pub cut-reading : (setup : Setup) (mid new : Parts) → IsCutReading mid.device new.device → AreUnwritten mid.device new.device
+pub cut-reading : (setup : Setup) (mid new : TreeEngineParts) → IsCutReading mid.device new.device → AreUnwritten mid.device new.device
 cut-reading setup mid new cut =
     record {
       lines = cut.cut.lines ∙ cut.lines;
@@ -162,7 +162,7 @@ cut-reading setup mid new cut =
     }
 
 -- how far a read came that was cut after its path was fetched
-unfoldable pub line_cut-work : (setup : Setup) (a count : ℕ) (old mid new : Parts) → IsPathHad setup a count old mid new → IsCutReading mid.device new.device → mid.device.live ≡ false → IsCutInFetch setup a old new
+unfoldable pub line_cut-work : (setup : Setup) (a count : ℕ) (old mid new : TreeEngineParts) → IsPathHad setup a count old mid new → IsCutReading mid.device new.device → mid.device.live ≡ false → IsCutInNodeFetch setup a old new
 line_cut-work setup a count old mid new had cut off =
     record {
       levels = setup.shape.levels;
@@ -171,7 +171,7 @@ line_cut-work setup a count old mid new had cut off =
     }
 
 -- a cut: of a board that was live it comes before any read
-pub read-cut : (setup : Setup) (a count : ℕ) (old mid new : Parts) → IsPathHad setup a count old mid new → IsCutReading mid.device new.device → mid.device.live ≡ false → new.watch ≡ mid.watch → IsLineRead setup a old new (Err Fail.Cut)
+pub read-cut : (setup : Setup) (a count : ℕ) (old mid new : TreeEngineParts) → IsPathHad setup a count old mid new → IsCutReading mid.device new.device → mid.device.live ≡ false → new.watch ≡ mid.watch → IsLineRead setup a old new (Err Fail.Cut)
 read-cut setup a count old mid new had cut off watch =
     let same = cut-reading setup mid new cut in
     let power : HasPower cut_short mid.device new.device = (
@@ -194,7 +194,7 @@ read-cut setup a count old mid new had cut off watch =
     }
 
 -- over a sound engine the tag fits, and the cipher is the last seal's
-sound-line : (setup : Setup) (engine : TreeState) (told : Option (List Line)) (regs : Regs) (watch : WatchState) (a : ℕ) (cipher tags : Line) → a < tree_lines setup.shape → MatchOption told ⊥ (λ lines. IsSound setup engine lines regs watch) → Tells told a cipher → Tells told (line_of_tag setup.shape a) tags
+sound-line : (setup : Setup) (engine : TreeState) (told : Option (List Line)) (regs : Regs) (watch : WatchState) (a : ℕ) (cipher tags : Line) → a < tree_lines setup.shape → MatchOption told ⊥ (λ lines. IsTreeSound setup engine lines regs watch) → Tells told a cipher → Tells told (line_of_tag setup.shape a) tags
     → (setup.formulas.tag_of a (version_counter (line_counter setup.shape watch.nodes a)) cipher ≡ tag_slot tags 0) × IfSome (last_seal_of watch a) (λ seal. cipher ≡ seal.cipher)
 sound-line setup engine None regs watch a cipher tags inside sound here there = absurd sound
 sound-line setup engine (Some lines) regs watch a cipher tags inside sound here there =
@@ -203,22 +203,22 @@ sound-line setup engine (Some lines) regs watch a cipher tags inside sound here 
       subst (λ c. IfSome (last_seal_of watch a) (λ seal. c ≡ seal.cipher)) (sym here) it.1,
     )
 
-sound-read : (setup : Setup) (a : ℕ) (cipher tags : Line) (mid : Parts) (new : Device) → a < tree_lines setup.shape → AreSound setup mid → HasLineRead setup a cipher tags mid.device new
+sound-read : (setup : Setup) (a : ℕ) (cipher tags : Line) (mid : TreeEngineParts) (new : Device) → a < tree_lines setup.shape → AreTreeSound setup mid → HasLineRead setup a cipher tags mid.device new
     → (setup.formulas.tag_of a (version_counter (line_counter setup.shape mid.watch.nodes a)) cipher ≡ tag_slot tags 0) × IfSome (last_seal_of mid.watch a) (λ seal. cipher ≡ seal.cipher)
 sound-read setup a cipher tags mid new inside sound read =
     sound-line setup mid.engine mid.device.lines mid.device.regs mid.watch a cipher tags inside sound read.first.tells
     (subst (λ told. Tells told (line_of_tag setup.shape a) tags) read.first.lines read.second.tells)
 
 -- a sound engine is trusted
-pub sound-trusted : (setup : Setup) (parts : Parts) → AreSound setup parts → AreTrusted setup parts
+pub sound-trusted : (setup : Setup) (parts : TreeEngineParts) → AreTreeSound setup parts → AreTreeTrusted setup parts
 sound-trusted setup parts sound = of parts.device.lines sound
   where
-    of : (told : Option (List Line)) → MatchOption told ⊥ (λ lines. IsSound setup parts.engine lines parts.device.regs parts.watch) → AreTrusted setup parts
+    of : (told : Option (List Line)) → MatchOption told ⊥ (λ lines. IsTreeSound setup parts.engine lines parts.device.regs parts.watch) → AreTreeTrusted setup parts
     of None it = absurd it
     of (Some lines) it = it.trusted
 
 -- the tag doesn't fit
-pub read-refused : (setup : Setup) (a count : ℕ) (old mid new : Parts) → IsPathHad setup a count old mid new → IsLineUnaccepted setup a count mid.device new.device mid.watch new.watch → IsLineRead setup a old new (Err (Fail.Tag a))
+pub read-refused : (setup : Setup) (a count : ℕ) (old mid new : TreeEngineParts) → IsPathHad setup a count old mid new → IsLineUnaccepted setup a count mid.device new.device mid.watch new.watch → IsLineRead setup a old new (Err (Fail.Tag a))
 read-refused setup a count old mid new had it =
     let same = both-unwritten setup a it.cipher it.tags mid.device new.device it.read in
     record {
@@ -257,7 +257,7 @@ some-taken : {X : Type 0} (P : X → Type 0) (seal : Option X) → IsSome seal �
 some-taken P None there was = absurd cc
 some-taken P (Some one) there was = (one, refl, was)
 
-pub line_shown-work : (setup : Setup) (a count : ℕ) (old mid new : Parts) → IsPathHad setup a count old mid new → IsSome (last_seal_of mid.watch a) → IsLineForged setup a count mid.device new.device mid.watch new.watch → IsLineShownAt setup a old new
+pub line_shown-work : (setup : Setup) (a count : ℕ) (old mid new : TreeEngineParts) → IsPathHad setup a count old mid new → IsSome (last_seal_of mid.watch a) → IsLineForged setup a count mid.device new.device mid.watch new.watch → IsLineShownAt setup a old new
 line_shown-work setup a count old mid new had sealed it =
     let taken = some-taken (λ (seal : LineSeal). (it.cipher ≢ seal.cipher) × HasShown mid.watch new.watch (Forged a (version_counter seal.counter) it.cipher (tag_slot it.tags 0))) (last_seal_of mid.watch a) sealed it.exhibit in
     record {
@@ -271,18 +271,18 @@ line_shown-work setup a count old mid new had sealed it =
           taken.2.1;
     }
 
-pub read-shown : (setup : Setup) (a count : ℕ) (old mid new : Parts) → IsPathHad setup a count old mid new → IsSome (last_seal_of mid.watch a) → IsLineForged setup a count mid.device new.device mid.watch new.watch → IsLineRead setup a old new (Err Fail.Shown)
+pub read-shown : (setup : Setup) (a count : ℕ) (old mid new : TreeEngineParts) → IsPathHad setup a count old mid new → IsSome (last_seal_of mid.watch a) → IsLineForged setup a count mid.device new.device mid.watch new.watch → IsLineRead setup a old new (Err Fail.Shown)
 read-shown setup a count old mid new had sealed it =
     let same = both-unwritten setup a it.cipher it.tags mid.device new.device it.read in
-    let now : AreTrusted setup old → count ≡ line_counter setup.shape mid.watch.nodes a =
+    let now : AreTreeTrusted setup old → count ≡ line_counter setup.shape mid.watch.nodes a =
     λ trusted. had.counted trusted ∙ ap (λ (w : WatchState). line_counter setup.shape w.nodes a) (sym had.path.watch) in
     let taken = some-taken (λ (seal : LineSeal). (it.cipher ≢ seal.cipher) × HasShown mid.watch new.watch (Forged a (version_counter seal.counter) it.cipher (tag_slot it.tags 0))) (last_seal_of mid.watch a) sealed it.exhibit in
     let seal : LineSeal = taken.0 in
-    let never : AreSound setup mid → ⊥ =
+    let never : AreTreeSound setup mid → ⊥ =
     λ sound.
     taken.2.0 (subst (λ s. IfSome s (λ seal. it.cipher ≡ seal.cipher)) taken.1
     (sound-read setup a it.cipher it.tags mid new.device had.its_line sound it.read).1) in
-    let same_counter : AreTrusted setup mid → taken.0.counter ≡ line_counter setup.shape mid.watch.nodes a =
+    let same_counter : AreTreeTrusted setup mid → taken.0.counter ≡ line_counter setup.shape mid.watch.nodes a =
     λ trusted.
     let its_seal = trusted.anchored.seals a had.its_line in
     ap (λ (s : LineSeal). s.counter) (same_Some taken.0 its_seal.seal (sym taken.1 ∙ its_seal.last)) ∙ its_seal.counter in

@@ -25,22 +25,22 @@ use Rattle.counter_tree.specs.Watch.{WatchState, last_seal_of}
 use Rattle.counter_tree.specs.declared.watch.LineSeal.{LineSeal}
 use Rattle.counter_tree.proofs.TreeLaws.{raised_nodes-IsRaised}
 use Rattle.asit_shadow.specs.State.{TreeState}
-use Rattle.asit_shadow.specs.Invariants.{IsAnchored, IsMendable, IsSound}
-use Rattle.asit_shadow.specs.Steps.{IsArmed, plain_of, plain_line, MadeSeal, IsHistory}
+use Rattle.asit_shadow.specs.Invariants.{IsTreeAnchored, IsTreeMendable, IsTreeSound}
+use Rattle.asit_shadow.specs.Steps.{IsTreeArmed, tree_plain_of, tree_plain_line, MadeSeal, IsHistory}
 
 -- ---- any board
 
 -- a cipher that goes on gives memory's line
-pub read-plain : (setup : Setup) (regs : Regs) (watch : WatchState) (a : ℕ) (cipher : Line) → IsAnchored setup regs watch → a < tree_lines setup.shape → IfSome (last_seal_of watch a) (λ seal. cipher ≡ seal.cipher) → xor_lines cipher (setup.formulas.pad_of a (version_counter (line_counter setup.shape watch.nodes a))) ≡ plain_line setup.formulas watch a
+pub read-plain : (setup : Setup) (regs : Regs) (watch : WatchState) (a : ℕ) (cipher : Line) → IsTreeAnchored setup regs watch → a < tree_lines setup.shape → IfSome (last_seal_of watch a) (λ seal. cipher ≡ seal.cipher) → xor_lines cipher (setup.formulas.pad_of a (version_counter (line_counter setup.shape watch.nodes a))) ≡ tree_plain_line setup.formulas watch a
 read-plain setup regs watch a cipher anchored inside same =
     let it = anchored.seals a inside in
     let its : cipher ≡ it.seal.cipher = subst (λ s. IfSome s (λ seal. cipher ≡ seal.cipher)) it.last same in
     ap (λ c. xor_lines c (setup.formulas.pad_of a (version_counter (line_counter setup.shape watch.nodes a)))) its
     ∙ (ap (λ n. xor_lines it.seal.cipher (setup.formulas.pad_of a (version_counter n))) (sym it.counter)
-    ∙ ap (plain_of setup.formulas a) (sym it.last))
+    ∙ ap (tree_plain_of setup.formulas a) (sym it.last))
 
 -- a tag that fits under the line's counter is an exhibit under its last seal's counter
-pub forged_line-holds : (setup : Setup) (regs : Regs) (watch : WatchState) (a : ℕ) (cipher : Line) (tag : List ℕ) (seal : LineSeal) → IsAnchored setup regs watch → a < tree_lines setup.shape → last_seal_of watch a ≡ Some seal → setup.formulas.tag_of a (version_counter (line_counter setup.shape watch.nodes a)) cipher ≡ tag → IsExhibit setup.formulas (Forged a (version_counter seal.counter) cipher tag)
+pub forged_line-holds : (setup : Setup) (regs : Regs) (watch : WatchState) (a : ℕ) (cipher : Line) (tag : List ℕ) (seal : LineSeal) → IsTreeAnchored setup regs watch → a < tree_lines setup.shape → last_seal_of watch a ≡ Some seal → setup.formulas.tag_of a (version_counter (line_counter setup.shape watch.nodes a)) cipher ≡ tag → IsExhibit setup.formulas (Forged a (version_counter seal.counter) cipher tag)
 forged_line-holds setup regs watch a cipher tag seal anchored inside last fits =
     let it = anchored.seals a inside in
     let one : seal ≡ it.seal = same_Some seal it.seal (sym last ∙ it.last) in
@@ -48,9 +48,9 @@ forged_line-holds setup regs watch a cipher tag seal anchored inside last fits =
 
 -- ---- an untampered board: the tag fits, and the cipher is the last seal's
 
-pub line-sound : (setup : Setup) (engine : TreeState) (lines : List Line) (regs : Regs) (watch : WatchState) (a : ℕ) → IsSound setup engine lines regs watch → a < tree_lines setup.shape → (setup.formulas.tag_of a (version_counter (line_counter setup.shape watch.nodes a)) (line_at lines a) ≡ tag_slot (line_at lines (line_of_tag setup.shape a)) 0) × IfSome (last_seal_of watch a) (λ seal. line_at lines a ≡ seal.cipher)
+pub line-sound : (setup : Setup) (engine : TreeState) (lines : List Line) (regs : Regs) (watch : WatchState) (a : ℕ) → IsTreeSound setup engine lines regs watch → a < tree_lines setup.shape → (setup.formulas.tag_of a (version_counter (line_counter setup.shape watch.nodes a)) (line_at lines a) ≡ tag_slot (line_at lines (line_of_tag setup.shape a)) 0) × IfSome (last_seal_of watch a) (λ seal. line_at lines a ≡ seal.cipher)
 line-sound setup engine lines regs watch a sound inside =
-    let before : IsMendable setup lines regs watch = subst (λ group. IsMendable setup (redone group lines) regs watch) sound.trusted.no_group sound.durable.mendable in
+    let before : IsTreeMendable setup lines regs watch = subst (λ group. IsTreeMendable setup (redone group lines) regs watch) sound.trusted.no_group sound.durable.mendable in
     let it = before.anchored.seals a inside in
     let stored = before.seals_stored a inside in
     let one : stored.seal ≡ it.seal = same_Some stored.seal it.seal (sym stored.last ∙ it.last) in
@@ -64,19 +64,19 @@ line-sound setup engine lines regs watch a sound inside =
 
 -- ---- memory after a write
 
-pub armed-plain : (setup : Setup) (a : ℕ) (plain : Line) (seal : LineSeal) (old_regs new_regs : Regs) (old new : WatchState) → AreInRange setup.formulas → IsAnchored setup old_regs old → IsArmed setup a seal old_regs new_regs old new → IsLine plain → seal.cipher ≡ cipher_of setup.formulas a (version_counter seal.counter) plain
-    → (plain_line setup.formulas new a ≡ plain) × ((b : ℕ) → b ≢ a → plain_line setup.formulas new b ≡ plain_line setup.formulas old b)
+pub armed-plain : (setup : Setup) (a : ℕ) (plain : Line) (seal : LineSeal) (old_regs new_regs : Regs) (old new : WatchState) → AreInRange setup.formulas → IsTreeAnchored setup old_regs old → IsTreeArmed setup a seal old_regs new_regs old new → IsLine plain → seal.cipher ≡ cipher_of setup.formulas a (version_counter seal.counter) plain
+    → (tree_plain_line setup.formulas new a ≡ plain) × ((b : ℕ) → b ≢ a → tree_plain_line setup.formulas new b ≡ tree_plain_line setup.formulas old b)
 armed-plain setup a plain seal old_regs new_regs old new in_range anchored armed good cipher =
     let room : a < length old.seals = omega (arith, armed.its_line, anchored.of_setup.seal_count) in (
-      ap (plain_of setup.formulas a) (ap (λ (seals : List (Option LineSeal)). Rattle.std.specs.Prelude.slice_index_or seals a None) armed.seals ∙ get_or-set_same old.seals a (Some seal) None room)
+      ap (tree_plain_of setup.formulas a) (ap (λ (seals : List (Option LineSeal)). Rattle.std.specs.Prelude.slice_index_or seals a None) armed.seals ∙ get_or-set_same old.seals a (Some seal) None room)
           ∙ (ap (λ c. xor_lines c (setup.formulas.pad_of a (version_counter seal.counter))) cipher
           ∙ cipher_of-back setup.formulas a (version_counter seal.counter) plain in_range (record { major = armed.in_range.counter; minor = omega arith }) good),
-      λ b apart. ap (plain_of setup.formulas b) (ap (λ (seals : List (Option LineSeal)). Rattle.std.specs.Prelude.slice_index_or seals b None) armed.seals ∙ get_or-set_other old.seals a b (Some seal) None apart),
+      λ b apart. ap (tree_plain_of setup.formulas b) (ap (λ (seals : List (Option LineSeal)). Rattle.std.specs.Prelude.slice_index_or seals b None) armed.seals ∙ get_or-set_other old.seals a b (Some seal) None apart),
     )
 
 -- ---- no line is sealed twice under one counter
 
-pub IsHistory-armed : (setup : Setup) (a : ℕ) (seal : LineSeal) (old_regs new_regs : Regs) (old new : WatchState) (made : List MadeSeal) → IsShape setup.shape → IsAnchored setup old_regs old → IsArmed setup a seal old_regs new_regs old new → IsHistory setup.shape old made → IsHistory setup.shape new (made ++ (record { at = a; counter = seal.counter }) ∷ [])
+pub IsHistory-armed : (setup : Setup) (a : ℕ) (seal : LineSeal) (old_regs new_regs : Regs) (old new : WatchState) (made : List MadeSeal) → IsShape setup.shape → IsTreeAnchored setup old_regs old → IsTreeArmed setup a seal old_regs new_regs old new → IsHistory setup.shape old made → IsHistory setup.shape new (made ++ (record { at = a; counter = seal.counter }) ∷ [])
 IsHistory-armed setup a seal old_regs new_regs old new made shape anchored armed history =
     let g = setup.shape in
     let raised : IsRaised setup.shape a old.nodes new.nodes = subst (IsRaised setup.shape a old.nodes) (sym armed.nodes) (raised_nodes-IsRaised setup.shape a old.nodes shape.at_least_one_level armed.its_line armed.can_rise anchored.tree) in

@@ -31,10 +31,10 @@ use Rattle.counter_tree.proofs.TreeLaws.{tree-version, tree-IsNode}
 use Rattle.asit_shadow.specs.declared.recovery.TreeRec.TheVariants as Fail
 use Rattle.asit_shadow.specs.declared.cache.CachedNode.{CachedNode}
 use Rattle.asit_shadow.specs.State.{TreeState, IsTreeEngine}
-use Rattle.asit_shadow.specs.Invariants.{IsAnchored, IsDurable, IsSound, IsSealStored, IsSlotStored}
+use Rattle.asit_shadow.specs.Invariants.{IsTreeAnchored, IsTreeDurable, IsTreeSound, IsTreeSealStored, IsSlotStored}
 use Rattle.asit_shadow.specs.Places.{IsNodeHeld, IsNodeHeldBy}
-use Rattle.asit_shadow.specs.Steps.{IsEmptied, IsRecovered, slots_read}
-use Rattle.asit_shadow.specs.Recovering.{Rest, rest_redone, IsRestAnchored, IsRestDurable, HasOnlyRead, AreSlotsRead, IsTreeWork, IsReadFinished, IsRoomFilled, HasTreeRecovered, IsNameable}
+use Rattle.asit_shadow.specs.Steps.{IsTreeEmptied, IsTreeRecovered, slots_read}
+use Rattle.asit_shadow.specs.Recovering.{Rest, rest_redone, IsRestAnchored, IsRestDurable, HasOnlyReadLines, AreSlotsRead, IsTreeWork, IsReadFinished, IsRoomFilled, HasTreeRecovered, IsNameable}
 use Rattle.asit_shadow.proofs.ArmLaws.{IsAnchored-emptied}
 use Rattle.asit_shadow.proofs.GroupLaws.{IsDurable-finished}
 use Rattle.asit_shadow.proofs.PlaceLaws.{recovered-place}
@@ -44,7 +44,7 @@ use Rattle.asit_shadow.proofs.FetchEnds.{some_map, first-none}
 
 -- ---- what a true slot line names can be cached
 
-pub true-nameable : (setup : Setup) (regs : Regs) (watch : WatchState) (i : ℕ) → IsShape setup.shape → IsAnchored setup regs watch → i < tree_slots setup.shape → IsNameable setup.shape (slot_read (line_at watch.slots i))
+pub true-nameable : (setup : Setup) (regs : Regs) (watch : WatchState) (i : ℕ) → IsShape setup.shape → IsTreeAnchored setup regs watch → i < tree_slots setup.shape → IsNameable setup.shape (slot_read (line_at watch.slots i))
 true-nameable setup regs watch i shape anchored inside =
     elim (anchored.slots i inside) [
       | inl zeros ↦ subst (IsNameable setup.shape) (sym (ap slot_read zeros ∙ slot_read-zero)) tt
@@ -77,10 +77,10 @@ held-same setup lines old new x same held =
           ∙ (named ∙ ap (λ nodes. slot_line x (node_at nodes x)) (sym same.nodes)))
     ]
 
-rest-seals : (setup : Setup) (old new : Rest) (a : ℕ) → rest_redone new ≡ rest_redone old → KnowsSame old.watch new.watch → IfSome (rest_redone old) (λ lines. IsSealStored setup.shape lines old.watch a) → IfSome (rest_redone new) (λ lines. IsSealStored setup.shape lines new.watch a)
+rest-seals : (setup : Setup) (old new : Rest) (a : ℕ) → rest_redone new ≡ rest_redone old → KnowsSame old.watch new.watch → IfSome (rest_redone old) (λ lines. IsTreeSealStored setup.shape lines old.watch a) → IfSome (rest_redone new) (λ lines. IsTreeSealStored setup.shape lines new.watch a)
 rest-seals setup old new a lines same it =
-    subst (λ (o : Option (List Line)). IfSome o (λ ls. IsSealStored setup.shape ls new.watch a)) (sym lines)
-    (some_map (λ ls. IsSealStored setup.shape ls old.watch a) (λ ls. IsSealStored setup.shape ls new.watch a) (rest_redone old)
+    subst (λ (o : Option (List Line)). IfSome o (λ ls. IsTreeSealStored setup.shape ls new.watch a)) (sym lines)
+    (some_map (λ ls. IsTreeSealStored setup.shape ls old.watch a) (λ ls. IsTreeSealStored setup.shape ls new.watch a) (rest_redone old)
     (λ ls stored.
     record {
       seal = stored.seal;
@@ -104,7 +104,7 @@ rest-nodes setup old new x lines same it =
 
 -- ---- the group is finished, and lines are read
 
-pub read_finished : (g : Shape) (old mid new : Device) → HasFinished old mid → HasOnlyRead (tree_slots g) mid new → IsReadFinished g old new
+pub read_finished : (g : Shape) (old mid new : Device) → HasFinished old mid → HasOnlyReadLines (tree_slots g) mid new → IsReadFinished g old new
 read_finished g old mid new first second =
     record {
       reads = subst (λ n. RisesBy (tree_slots g) n new.reads) first.reads second.reads;
@@ -120,7 +120,7 @@ read_finished g old mid new first second =
       power = power-then going old mid new (first.steady, first.live, first.cuts) second.power;
     }
 
-finished-emptied : (old new : Regs) → new ≡ without_group old → IsEmptied old new
+finished-emptied : (old new : Regs) → new ≡ without_group old → IsTreeEmptied old new
 finished-emptied old new is =
     record { root = ap (λ (r : Regs). r.root) is; no_group = ap (λ (r : Regs). r.group.items) is }
 
@@ -128,24 +128,24 @@ finished-redone : (old new : Rest) → new.device.regs ≡ without_group old.dev
 finished-redone old new regs lines =
     unarmed new.device.regs.group.items new.device.lines (ap (λ (r : Regs). r.group.items) regs) ∙ lines
 
-finished-anchored : (setup : Setup) (old : Rest) (regs : Regs) (watch : WatchState) → regs ≡ without_group old.device.regs → watch ≡ old.watch → IsRestAnchored setup old → IsAnchored setup regs watch
+finished-anchored : (setup : Setup) (old : Rest) (regs : Regs) (watch : WatchState) → regs ≡ without_group old.device.regs → watch ≡ old.watch → IsRestAnchored setup old → IsTreeAnchored setup regs watch
 finished-anchored setup old regs watch emptied same anchored =
-    subst (IsAnchored setup regs) (sym same) (IsAnchored-emptied setup old.device.regs regs old.watch (finished-emptied old.device.regs regs emptied) anchored)
+    subst (IsTreeAnchored setup regs) (sym same) (IsAnchored-emptied setup old.device.regs regs old.watch (finished-emptied old.device.regs regs emptied) anchored)
 
-finished-durable : (setup : Setup) (old : Rest) (told : Option (List Line)) (regs : Regs) (watch : WatchState) → regs ≡ without_group old.device.regs → watch ≡ old.watch → told ≡ redone_told old.device.regs.group.items old.device.lines → IsRestDurable setup old → MatchOption told ⊥ (λ lines. IsDurable setup lines regs watch)
+finished-durable : (setup : Setup) (old : Rest) (told : Option (List Line)) (regs : Regs) (watch : WatchState) → regs ≡ without_group old.device.regs → watch ≡ old.watch → told ≡ redone_told old.device.regs.group.items old.device.lines → IsRestDurable setup old → MatchOption told ⊥ (λ lines. IsTreeDurable setup lines regs watch)
 finished-durable setup old told regs watch emptied same lines durable =
-    subst (λ (o : Option (List Line)). MatchOption o ⊥ (λ ls. IsDurable setup ls regs watch)) (sym lines)
-    (subst (λ (w : WatchState). MatchOption (redone_told old.device.regs.group.items old.device.lines) ⊥ (λ ls. IsDurable setup ls regs w)) (sym same)
+    subst (λ (o : Option (List Line)). MatchOption o ⊥ (λ ls. IsTreeDurable setup ls regs watch)) (sym lines)
+    (subst (λ (w : WatchState). MatchOption (redone_told old.device.regs.group.items old.device.lines) ⊥ (λ ls. IsTreeDurable setup ls regs w)) (sym same)
     (of old.device.lines durable))
   where
-    of : (o : Option (List Line)) → MatchOption o ⊥ (λ ls. IsDurable setup ls old.device.regs old.watch) → MatchOption (redone_told old.device.regs.group.items o) ⊥ (λ ls. IsDurable setup ls regs old.watch)
+    of : (o : Option (List Line)) → MatchOption o ⊥ (λ ls. IsTreeDurable setup ls old.device.regs old.watch) → MatchOption (redone_told old.device.regs.group.items o) ⊥ (λ ls. IsTreeDurable setup ls regs old.watch)
     of None it = absurd it
     of (Some ls) it = IsDurable-finished setup ls old.device.regs regs old.watch (finished-emptied old.device.regs regs emptied) it
 
 durable-anchored : (setup : Setup) (rest : Rest) → IsRestDurable setup rest → IsRestAnchored setup rest
 durable-anchored setup rest durable = of rest.device.lines durable
   where
-    of : (o : Option (List Line)) → MatchOption o ⊥ (λ ls. IsDurable setup ls rest.device.regs rest.watch) → IsRestAnchored setup rest
+    of : (o : Option (List Line)) → MatchOption o ⊥ (λ ls. IsTreeDurable setup ls rest.device.regs rest.watch) → IsRestAnchored setup rest
     of None it = absurd it
     of (Some ls) it = it.mendable.anchored
 
@@ -154,7 +154,7 @@ slots-true : (setup : Setup) (slots : List Line) (old new : Rest) → IsReadFini
 slots-true setup slots old new finished read durable =
     of new.device.lines (finished-durable setup old new.device.lines new.device.regs old.watch finished.regs refl finished.lines durable) read.told
   where
-    of : (o : Option (List Line)) → MatchOption o ⊥ (λ ls. IsDurable setup ls new.device.regs old.watch) → ((i : ℕ) → i < tree_slots setup.shape → Tells o (line_of_slot setup.shape i) (line_at slots i)) → slots ≡ old.watch.slots
+    of : (o : Option (List Line)) → MatchOption o ⊥ (λ ls. IsTreeDurable setup ls new.device.regs old.watch) → ((i : ℕ) → i < tree_slots setup.shape → Tells o (line_of_slot setup.shape i) (line_at slots i)) → slots ≡ old.watch.slots
     of None it told = absurd it
     of (Some ls) it told =
         let size = it.device_whole.count in
@@ -233,15 +233,15 @@ shown_end setup slots at old new before after shape in_range finished read is_ro
 -- ---- an engine is made
 
 pub recovered_end : (setup : Setup) (slots : List Line) (engine : TreeState) (work : Work) (old new : Rest) (before after : ℕ) → IsShape setup.shape → IsReadFinished setup.shape old.device new.device → AreSlotsRead setup.shape slots new.device
-    → shadow_root setup.shape setup.formulas slots ≡ new.device.regs.root → slots ≡ old.watch.slots → new.watch ≡ old.watch → IsTreeWork setup.shape work before after → (IsRestAnchored setup old → IsRecovered setup slots engine)
+    → shadow_root setup.shape setup.formulas slots ≡ new.device.regs.root → slots ≡ old.watch.slots → new.watch ≡ old.watch → IsTreeWork setup.shape work before after → (IsRestAnchored setup old → IsTreeRecovered setup slots engine)
     → HasTreeRecovered setup old new before after (Ok (engine, work))
 recovered_end setup slots engine work old new before after shape finished read is_root is_true watch worked made =
     let lines = finished-redone old new finished.regs finished.lines in
     let root : new.device.regs.root ≡ old.device.regs.root = ap (λ (r : Regs). r.root) finished.regs in
     let same = knows_same old.watch new.watch watch in
     let none : new.device.regs.group.items ≡ [] = ap (λ (r : Regs). r.group.items) finished.regs in
-    let is_made : IsRestAnchored setup old → IsRecovered setup new.watch.slots engine =
-    λ anchored. subst (λ (ls : List Line). IsRecovered setup ls engine) (is_true ∙ ap (λ (w : WatchState). w.slots) (sym watch)) (made anchored) in
+    let is_made : IsRestAnchored setup old → IsTreeRecovered setup new.watch.slots engine =
+    λ anchored. subst (λ (ls : List Line). IsTreeRecovered setup ls engine) (is_true ∙ ap (λ (w : WatchState). w.slots) (sym watch)) (made anchored) in
     record {
       size = finished.size;
       lines = lines;
@@ -249,7 +249,7 @@ recovered_end setup slots engine work old new before after shape finished read i
       group = finished.group;
       begun = λ is. absurd (going-uncut is);
       work = record { reads = finished.reads; digests = worked.counted ∙ ap (λ n. risen_times n before) worked.digests };
-      cached = λ anchored. subst (λ (ls : List Line). IsRecovered setup ls engine) is_true (made anchored);
+      cached = λ anchored. subst (λ (ls : List Line). IsTreeRecovered setup ls engine) is_true (made anchored);
       power = finished.power;
       answered = (
         (record { slots = slots; read = read; root = is_root ∙ root; true_slots = is_true; same = watch }),
@@ -279,17 +279,17 @@ recovered_end setup slots engine work old new before after shape finished read i
           };
     }
   where
-    sound_of : (o : Option (List Line)) → MatchOption o ⊥ (λ ls. IsDurable setup ls new.device.regs new.watch) → IsRecovered setup new.watch.slots engine → MatchOption o ⊥ (λ ls. IsSound setup engine ls new.device.regs new.watch)
+    sound_of : (o : Option (List Line)) → MatchOption o ⊥ (λ ls. IsTreeDurable setup ls new.device.regs new.watch) → IsTreeRecovered setup new.watch.slots engine → MatchOption o ⊥ (λ ls. IsTreeSound setup engine ls new.device.regs new.watch)
     sound_of None it is = absurd it
     sound_of (Some ls) it is =
         let empty : new.device.regs.group.items ≡ [] = ap (λ (r : Regs). r.group.items) finished.regs in
         IsSound-recovered setup engine ls new.device.regs new.watch shape it empty
-        (subst (λ (k : List Line). IsRecovered setup k engine) (sym (slots-sound setup ls new.device.regs new.watch it empty).0) is)
+        (subst (λ (k : List Line). IsTreeRecovered setup k engine) (sym (slots-sound setup ls new.device.regs new.watch it empty).0) is)
 
 -- ---- the code's parts
 
 -- the slot lines read are those of the device as it is left
-pub slots-read : (g : Shape) (slots : List Line) (mid new : Device) → length slots ≡ tree_slots g → All IsLine slots → ((i : ℕ) → i < tree_slots g → Tells mid.lines (line_of_slot g i) (line_at slots i)) → HasOnlyRead (tree_slots g) mid new → AreSlotsRead g slots new
+pub slots-read : (g : Shape) (slots : List Line) (mid new : Device) → length slots ≡ tree_slots g → All IsLine slots → ((i : ℕ) → i < tree_slots g → Tells mid.lines (line_of_slot g i) (line_at slots i)) → HasOnlyReadLines (tree_slots g) mid new → AreSlotsRead g slots new
 slots-read g slots mid new count whole told read =
     record {
       count = count;
@@ -306,7 +306,7 @@ pub filled-engine : (setup : Setup) (old new : Rest) (before after : ℕ) (cache
 filled-engine setup old new before after cache tree it =
     record { slot_count = it.count; each_held = it.each_held; tree_whole = it.tree_whole; tree_height = it.tree_height }
 
-pub filled-recovered : (setup : Setup) (old new : Rest) (before after : ℕ) (cache : List (Option CachedNode)) (tree : ChipTree) → IsShape setup.shape → IsRoomFilled setup old new before after cache tree → IsRestAnchored setup old → IsRecovered setup old.watch.slots (record { shape = setup.shape; cache = cache; tree = tree; down = false })
+pub filled-recovered : (setup : Setup) (old new : Rest) (before after : ℕ) (cache : List (Option CachedNode)) (tree : ChipTree) → IsShape setup.shape → IsRoomFilled setup old new before after cache tree → IsRestAnchored setup old → IsTreeRecovered setup old.watch.slots (record { shape = setup.shape; cache = cache; tree = tree; down = false })
 filled-recovered setup old new before after cache tree shape it anchored =
     record {
       shape = refl;
@@ -328,7 +328,7 @@ filled-end setup old new before after cache tree work shape it trials digests =
     (it.accepted.root ∙ sym root) it.accepted.true_slots it.accepted.same
     (record { trials = trials; digests = digests; counted = it.counted ∙ ap (λ n. risen_times n before) (sym digests) })
     (λ anchored.
-    subst (λ (ls : List Line). IsRecovered setup ls (record { shape = setup.shape; cache = cache; tree = tree; down = false })) (sym it.accepted.true_slots)
+    subst (λ (ls : List Line). IsTreeRecovered setup ls (record { shape = setup.shape; cache = cache; tree = tree; down = false })) (sym it.accepted.true_slots)
     (filled-recovered setup old new before after cache tree shape it anchored))
 
 -- a list that was written whole through a slice

@@ -18,7 +18,7 @@ use Rattle.commit_regs.specs.Groups.{redone}
 use Rattle.counter_tree.specs.Layout.{tree_slots, tree_size, line_of_slot}
 use Rattle.counter_tree.specs.Trees.{node_at}
 use Rattle.counter_tree.specs.Slots.{slot_of, slot_read}
-use Rattle.counter_tree.specs.Shadow.{shadow_root, shadow_height, shadow_line}
+use Rattle.counter_tree.specs.Shadow.{shadow_root, shadow_height, shadow_tree_line}
 use Rattle.counter_tree.specs.Watch.{WatchState, IsSlotClash}
 use Rattle.counter_tree.proofs.HeightLemmas.{shadow_height-room}
 use Rattle.counter_tree.proofs.ShadowLaws.{shadow_clash}
@@ -27,8 +27,8 @@ use Rattle.counter_tree.proofs.TreeLaws.{tree-IsNode}
 use Rattle.counter_tree.proofs.Positions.{meta_lines-most}
 use Rattle.asit_shadow.specs.State.{TreeState}
 use Rattle.asit_shadow.specs.declared.cache.CachedNode.{CachedNode}
-use Rattle.asit_shadow.specs.Invariants.{NamesTrueNode, IsAnchored, IsTrueCached, IsTrusted, IsMendable, IsDurable, IsSound}
-use Rattle.asit_shadow.specs.Steps.{held_of, IsRecovered, slots_read}
+use Rattle.asit_shadow.specs.Invariants.{NamesTrueNode, IsTreeAnchored, IsTrueCached, IsTreeTrusted, IsTreeMendable, IsTreeDurable, IsTreeSound}
+use Rattle.asit_shadow.specs.Steps.{held_of, IsTreeRecovered, slots_read}
 use Rattle.asit_shadow.proofs.SlotPlaces.{slot_of-inside}
 
 -- ---- lists of lines
@@ -56,25 +56,25 @@ line_at-slots_read g lines i inside =
 -- ---- any board
 
 -- the law: slot lines under the register's root that aren't the true ones show a clash that holds
-pub clash-holds : (setup : Setup) (regs : Regs) (watch : WatchState) (slots : List Line) (shown : Exhibit) → IsShape setup.shape → AreInRange setup.formulas → IsAnchored setup regs watch → length slots ≡ tree_slots setup.shape → All IsLine slots → shadow_root setup.shape setup.formulas slots ≡ regs.root → IsSlotClash watch slots shown → IsExhibit setup.formulas shown
+pub clash-holds : (setup : Setup) (regs : Regs) (watch : WatchState) (slots : List Line) (shown : Exhibit) → IsShape setup.shape → AreInRange setup.formulas → IsTreeAnchored setup regs watch → length slots ≡ tree_slots setup.shape → All IsLine slots → shadow_root setup.shape setup.formulas slots ≡ regs.root → IsSlotClash watch slots shown → IsExhibit setup.formulas shown
 unfolding shadow_root
 clash-holds setup regs watch slots shown shape in_range anchored size whole root clash =
     let h = shadow_height setup.shape in
     let same = anchored.of_setup.its_setup in
     let place = subst (λ (s : Setup). Rattle.counter_tree.specs.Shadow.IsShadowDifference s.formulas (shadow_height s.shape) slots watch.slots clash.slot clash.height clash.position) same clash.place in
-    let its = subst (λ (s : Setup). shown ≡ Rattle.pmem_base.specs.declared.answers.Exhibit.TheVariants.Clash clash.position (shadow_line s.formulas (shadow_height s.shape) slots clash.height clash.position) (shadow_line s.formulas (shadow_height s.shape) watch.slots clash.height clash.position)) same clash.its in
+    let its = subst (λ (s : Setup). shown ≡ Rattle.pmem_base.specs.declared.answers.Exhibit.TheVariants.Clash clash.position (shadow_tree_line s.formulas (shadow_height s.shape) slots clash.height clash.position) (shadow_tree_line s.formulas (shadow_height s.shape) watch.slots clash.height clash.position)) same clash.its in
     let digest = shadow_clash setup.formulas (shadow_height setup.shape) slots watch.slots clash.slot clash.height clash.position in_range whole anchored.of_setup.whole_slots
     (omega (arith, size, shadow_height-room setup.shape shape)) (root ∙ anchored.root) place in
     subst (IsExhibit setup.formulas) (sym its) (record { differ = place.differ; one_digest = digest })
 
 -- what a true slot line gives
-pub slot-named : (setup : Setup) (regs : Regs) (watch : WatchState) (i : ℕ) → IsShape setup.shape → IsAnchored setup regs watch → (names : NamesTrueNode setup.shape watch i) → held_of (slot_read (line_at watch.slots i)) ≡ Some (record { x = names.x; node = node_at watch.nodes names.x; dirty = true })
+pub slot-named : (setup : Setup) (regs : Regs) (watch : WatchState) (i : ℕ) → IsShape setup.shape → IsTreeAnchored setup regs watch → (names : NamesTrueNode setup.shape watch i) → held_of (slot_read (line_at watch.slots i)) ≡ Some (record { x = names.x; node = node_at watch.nodes names.x; dirty = true })
 slot-named setup regs watch i shape anchored names =
     let most = meta_lines-most setup.shape shape.at_most_six_levels in
     ap held_of (ap slot_read names.line ∙ slot_read-slot_line names.x (node_at watch.nodes names.x) (omega (arith, most, names.on_tree)) (tree-IsNode setup.shape watch.nodes names.x anchored.tree names.on_tree))
 
 -- the law: the true slot lines make a trusted engine
-pub IsTrusted-recovered : (setup : Setup) (engine : TreeState) (regs : Regs) (watch : WatchState) → IsShape setup.shape → IsAnchored setup regs watch → regs.group.items ≡ [] → IsRecovered setup watch.slots engine → IsTrusted setup engine regs watch
+pub IsTrusted-recovered : (setup : Setup) (engine : TreeState) (regs : Regs) (watch : WatchState) → IsShape setup.shape → IsTreeAnchored setup regs watch → regs.group.items ≡ [] → IsTreeRecovered setup watch.slots engine → IsTreeTrusted setup engine regs watch
 IsTrusted-recovered setup engine regs watch shape anchored no_group recovered =
     let count = recovered.count ∙ anchored.of_setup.slot_count in
     let top : NamesTrueNode setup.shape watch 0 = record { x = 0; on_tree = top_inside setup.shape shape; its_slot = refl; line = anchored.top_named } in
@@ -116,9 +116,9 @@ IsTrusted-recovered setup engine regs watch shape anchored no_group recovered =
 -- ---- an untampered board, the group being redone
 
 -- the law: the slot lines read are the true ones, so their root is the register's
-pub slots-sound : (setup : Setup) (lines : List Line) (regs : Regs) (watch : WatchState) → IsDurable setup lines regs watch → regs.group.items ≡ [] → (slots_read setup.shape lines ≡ watch.slots) × (shadow_root setup.shape setup.formulas (slots_read setup.shape lines) ≡ regs.root)
+pub slots-sound : (setup : Setup) (lines : List Line) (regs : Regs) (watch : WatchState) → IsTreeDurable setup lines regs watch → regs.group.items ≡ [] → (slots_read setup.shape lines ≡ watch.slots) × (shadow_root setup.shape setup.formulas (slots_read setup.shape lines) ≡ regs.root)
 slots-sound setup lines regs watch durable no_group =
-    let before : IsMendable setup lines regs watch = subst (λ group. IsMendable setup (redone group lines) regs watch) no_group durable.mendable in
+    let before : IsTreeMendable setup lines regs watch = subst (λ group. IsTreeMendable setup (redone group lines) regs watch) no_group durable.mendable in
     let count = length-slots_read setup.shape lines durable.device_whole.count in
     let anchored = before.anchored in
     let same : slots_read setup.shape lines ≡ watch.slots =
@@ -129,11 +129,11 @@ slots-sound setup lines regs watch durable no_group =
     (same, ap (shadow_root setup.shape setup.formulas) same ∙ sym anchored.root)
 
 -- the law: the recovered engine is sound
-pub IsSound-recovered : (setup : Setup) (engine : TreeState) (lines : List Line) (regs : Regs) (watch : WatchState) → IsShape setup.shape → IsDurable setup lines regs watch → regs.group.items ≡ [] → IsRecovered setup (slots_read setup.shape lines) engine → IsSound setup engine lines regs watch
+pub IsSound-recovered : (setup : Setup) (engine : TreeState) (lines : List Line) (regs : Regs) (watch : WatchState) → IsShape setup.shape → IsTreeDurable setup lines regs watch → regs.group.items ≡ [] → IsTreeRecovered setup (slots_read setup.shape lines) engine → IsTreeSound setup engine lines regs watch
 IsSound-recovered setup engine lines regs watch shape durable no_group recovered =
-    let before : IsMendable setup lines regs watch = subst (λ group. IsMendable setup (redone group lines) regs watch) no_group durable.mendable in
+    let before : IsTreeMendable setup lines regs watch = subst (λ group. IsTreeMendable setup (redone group lines) regs watch) no_group durable.mendable in
     let same = (slots-sound setup lines regs watch durable no_group).0 in
-    let moved : IsRecovered setup watch.slots engine = subst (λ slots. IsRecovered setup slots engine) same recovered in
+    let moved : IsTreeRecovered setup watch.slots engine = subst (λ slots. IsTreeRecovered setup slots engine) same recovered in
     let anchored = before.anchored in
     record {
       trusted = IsTrusted-recovered setup engine regs watch shape anchored no_group moved;

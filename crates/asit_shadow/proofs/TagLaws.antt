@@ -11,9 +11,9 @@ use Rattle.counter_tree.specs.Layout.{line_of_node}
 use Rattle.counter_tree.specs.Slots.{slot_of}
 use Rattle.asit_shadow.specs.declared.cache.CachedNode.{CachedNode}
 use Rattle.asit_shadow.specs.State.{cache_at, IsCached}
-use Rattle.asit_shadow.specs.Parts.{Parts}
+use Rattle.asit_shadow.specs.Parts.{TreeEngineParts}
 use Rattle.asit_shadow.specs.Paths.{path_node}
-use Rattle.asit_shadow.specs.Work.{holds_node, holds_dirty, write_back, level_write, spilled}
+use Rattle.asit_shadow.specs.Work.{holds_node, holds_dirty, write_back, node_level_write, spilled_nodes}
 use Rattle.asit_shadow.specs.Counts.{level_tags, fetch_tags}
 use Rattle.asit_shadow.proofs.LevelWork.{is_cached-false}
 use Rattle.asit_shadow.proofs.PathSteps.{IsNextLevel, next-work}
@@ -50,7 +50,7 @@ found-tags setup cache x start read made none one is =
 
 -- ---- one level more
 
-pub tags-next : (setup : Setup) (a j x version : ℕ) (old now : Parts) (start count made : ℕ) → IsNextLevel setup a j x version old now → count ≡ risen_times (fetch_tags setup old.engine.cache a j) start
+pub tags-next : (setup : Setup) (a j x version : ℕ) (old now : TreeEngineParts) (start count made : ℕ) → IsNextLevel setup a j x version old now → count ≡ risen_times (fetch_tags setup old.engine.cache a j) start
     → made ≡ risen_times (level_tags setup now.engine.cache x) count → made ≡ risen_times (fetch_tags setup old.engine.cache a (suc j)) start
 tags-next setup a j x version old now start count made next before is =
     let here : level_tags setup now.engine.cache x ≡ level_tags setup old.engine.cache (path_node setup.shape a (suc j)) =
@@ -59,7 +59,7 @@ tags-next setup a j x version old now start count made next before is =
     omega (
       arith,
       here,
-      length-append (spilled setup old.engine.cache a j) (level_write setup old.engine.cache (path_node setup.shape a (suc j))),
+      length-append (spilled_nodes setup old.engine.cache a j) (node_level_write setup old.engine.cache (path_node setup.shape a (suc j))),
     ) in
     is
     ∙ (ap (risen_times (level_tags setup now.engine.cache x)) before

@@ -16,10 +16,10 @@ use Rattle.counter_tree.specs.Trees.{node_at}
 use Rattle.asit_shadow.specs.declared.fault.TreeFault.{TreeFault}
 use Rattle.asit_shadow.specs.declared.fault.TreeFault.TheVariants as Fail
 use Rattle.asit_shadow.specs.State.{TreeState, top_node}
-use Rattle.asit_shadow.specs.Parts.{Parts, parts_of, AreTrusted}
+use Rattle.asit_shadow.specs.Parts.{TreeEngineParts, tree_parts_of, AreTreeTrusted}
 use Rattle.asit_shadow.specs.Paths.{line_path, HasPathCached}
 use Rattle.asit_shadow.specs.Work.{IsCutInGroup}
-use Rattle.asit_shadow.specs.Calls.{IsSpentAnswer, IsWriteLost, IsWriteKept, IsLineWritten}
+use Rattle.asit_shadow.specs.Calls.{IsTreeSpentAnswer, IsWriteLost, IsWriteKept, IsLineWritten}
 use Rattle.asit_shadow.specs.Fetching.{IsFetchFault}
 use Rattle.asit_shadow.specs.Writing.{armed_lines, set_pairs, HasWrittenUp}
 use Rattle.asit_shadow.proofs.PathSteps.{top-in, in-true}
@@ -30,10 +30,10 @@ use Rattle.asit_shadow.proofs.CallEnds.{HasEnded, ended-going, effect-cut, effec
 -- ---- when a write is spent
 
 -- the engine's top is the true node 0 where the engine is trusted
-pub top-used_up : (setup : Setup) (old : Parts) → AreTrusted setup old → total (top_node old.engine.cache) ≡ total (node_at old.watch.nodes 0)
+pub top-used_up : (setup : Setup) (old : TreeEngineParts) → AreTreeTrusted setup old → total (top_node old.engine.cache) ≡ total (node_at old.watch.nodes 0)
 top-used_up setup old trusted = ap total (in-true setup 0 (top_node old.engine.cache) old trusted (top-in setup old trusted))
 
-pub fetch-unspent : (fault : TreeFault) → IsFetchFault fault → IsSpentAnswer {T = ℕ} (Err fault) → ⊥
+pub fetch-unspent : (fault : TreeFault) → IsFetchFault fault → IsTreeSpentAnswer {T = ℕ} (Err fault) → ⊥
 fetch-unspent Fail.Cut kind spent = spent
 fetch-unspent Fail.Down kind spent = spent
 fetch-unspent (Fail.Node x) kind spent = spent
@@ -52,7 +52,7 @@ armed-IsGroup g a seal pairs shape inside good positions =
 
 -- ---- a write of an engine that wasn't down
 
-pub written-up : (setup : Setup) (a : ℕ) (plain : Line) (old new : Parts) (answer : Result ℕ TreeFault) → HasWrittenUp setup a plain old new answer → (IsSpentAnswer answer ↔ (total (top_node old.engine.cache) ≡ 2 ^ 64 - 1)) → IsLineWritten setup a plain old new answer
+pub written-up : (setup : Setup) (a : ℕ) (plain : Line) (old new : TreeEngineParts) (answer : Result ℕ TreeFault) → HasWrittenUp setup a plain old new answer → (IsTreeSpentAnswer answer ↔ (total (top_node old.engine.cache) ≡ 2 ^ 64 - 1)) → IsLineWritten setup a plain old new answer
 written-up setup a plain old new answer it spent =
     record {
       kind = it.kind;
@@ -68,10 +68,10 @@ written-up setup a plain old new answer it spent =
 
 -- ---- its end
 
-lost-ended : (old mid : Parts) (engine : TreeState) → IsWriteLost old mid → IsWriteLost old (parts_of engine mid.device mid.watch)
+lost-ended : (old mid : TreeEngineParts) (engine : TreeState) → IsWriteLost old mid → IsWriteLost old (tree_parts_of engine mid.device mid.watch)
 lost-ended old mid engine it = record { watch = it.watch; regs = it.regs; latches = it.latches }
 
-kept-ended : (setup : Setup) (a : ℕ) (plain : Line) (old mid : Parts) (engine : TreeState) → IsWriteKept setup a plain old mid → IsWriteKept setup a plain old (parts_of engine mid.device mid.watch)
+kept-ended : (setup : Setup) (a : ℕ) (plain : Line) (old mid : TreeEngineParts) (engine : TreeState) → IsWriteKept setup a plain old mid → IsWriteKept setup a plain old (tree_parts_of engine mid.device mid.watch)
 kept-ended setup a plain old mid engine it =
     record {
       seal = it.seal;
@@ -80,7 +80,7 @@ kept-ended setup a plain old mid engine it =
       latches = it.latches;
     }
 
-pub cut_group-ended : (setup : Setup) (a : ℕ) (old mid : Parts) (engine : TreeState) → engine.cache ≡ mid.engine.cache → IsCutInGroup setup a old mid → IsCutInGroup setup a old (parts_of engine mid.device mid.watch)
+pub cut_group-ended : (setup : Setup) (a : ℕ) (old mid : TreeEngineParts) (engine : TreeState) → engine.cache ≡ mid.engine.cache → IsCutInGroup setup a old mid → IsCutInGroup setup a old (tree_parts_of engine mid.device mid.watch)
 cut_group-ended setup a old mid engine cache it =
     record {
       seal = it.seal;
@@ -99,7 +99,7 @@ cut_group-ended setup a old mid engine cache it =
       since = it.since;
     }
 
-pub write-ended : (setup : Setup) (a : ℕ) (plain : Line) (old mid : Parts) (engine : TreeState) (fault : TreeFault) → HasEnded fault mid.engine engine → IsLineWritten setup a plain old mid (Err fault) → IsLineWritten setup a plain old (parts_of engine mid.device mid.watch) (Err fault)
+pub write-ended : (setup : Setup) (a : ℕ) (plain : Line) (old mid : TreeEngineParts) (engine : TreeState) (fault : TreeFault) → HasEnded fault mid.engine engine → IsLineWritten setup a plain old mid (Err fault) → IsLineWritten setup a plain old (tree_parts_of engine mid.device mid.watch) (Err fault)
 write-ended setup a plain old mid engine Fail.Cut ended it =
     record {
       kind = it.kind;
@@ -144,10 +144,10 @@ write-ended setup a plain old mid engine Fail.Shown ended it =
       watch = it.watch;
     }
 write-ended setup a plain old mid engine Fail.Down ended it =
-    subst (λ e. IsLineWritten setup a plain old (parts_of e mid.device mid.watch) (Err Fail.Down)) (sym (ended-going Fail.Down mid.engine engine refl ended)) it
+    subst (λ e. IsLineWritten setup a plain old (tree_parts_of e mid.device mid.watch) (Err Fail.Down)) (sym (ended-going Fail.Down mid.engine engine refl ended)) it
 write-ended setup a plain old mid engine (Fail.Node x) ended it =
-    subst (λ e. IsLineWritten setup a plain old (parts_of e mid.device mid.watch) (Err (Fail.Node x))) (sym (ended-going (Fail.Node x) mid.engine engine refl ended)) it
+    subst (λ e. IsLineWritten setup a plain old (tree_parts_of e mid.device mid.watch) (Err (Fail.Node x))) (sym (ended-going (Fail.Node x) mid.engine engine refl ended)) it
 write-ended setup a plain old mid engine (Fail.Tag at) ended it =
-    subst (λ e. IsLineWritten setup a plain old (parts_of e mid.device mid.watch) (Err (Fail.Tag at))) (sym (ended-going (Fail.Tag at) mid.engine engine refl ended)) it
+    subst (λ e. IsLineWritten setup a plain old (tree_parts_of e mid.device mid.watch) (Err (Fail.Tag at))) (sym (ended-going (Fail.Tag at) mid.engine engine refl ended)) it
 write-ended setup a plain old mid engine Fail.Spent ended it =
-    subst (λ e. IsLineWritten setup a plain old (parts_of e mid.device mid.watch) (Err Fail.Spent)) (sym (ended-going Fail.Spent mid.engine engine refl ended)) it
+    subst (λ e. IsLineWritten setup a plain old (tree_parts_of e mid.device mid.watch) (Err Fail.Spent)) (sym (ended-going Fail.Spent mid.engine engine refl ended)) it

@@ -28,13 +28,13 @@ use Rattle.counter_tree.specs.Trees.{node_at}
 use Rattle.counter_tree.specs.Watch.{WatchState}
 use Rattle.asit_shadow.specs.declared.fault.TreeFault.TheVariants as Fail
 use Rattle.asit_shadow.specs.State.{IsTreeEngine}
-use Rattle.asit_shadow.specs.Invariants.{IsAnchored, IsDurable, IsSound, IsSealStored, IsSlotStored}
+use Rattle.asit_shadow.specs.Invariants.{IsTreeAnchored, IsTreeDurable, IsTreeSound, IsTreeSealStored, IsSlotStored}
 use Rattle.asit_shadow.specs.Places.{IsNodeHeld, IsNodeHeldBy}
-use Rattle.asit_shadow.specs.Parts.{Parts, lines_redone, AreTrusted, AreSound, IsWatchReady, HoldsSeal, HoldsSlot}
-use Rattle.asit_shadow.specs.Steps.{IsArmed, IsEmptied}
+use Rattle.asit_shadow.specs.Parts.{TreeEngineParts, tree_lines_redone, AreTreeTrusted, AreTreeSound, IsWatchReady, HoldsTreeSeal, HoldsSlot}
+use Rattle.asit_shadow.specs.Steps.{IsTreeArmed, IsTreeEmptied}
 use Rattle.asit_shadow.specs.Calls.{IsPathAccepted, IsUsedUp}
-use Rattle.asit_shadow.specs.Work.{spilled, IsCutInGroup}
-use Rattle.asit_shadow.specs.Fetching.{IsPathFetched}
+use Rattle.asit_shadow.specs.Work.{spilled_nodes, IsCutInGroup}
+use Rattle.asit_shadow.specs.Fetching.{IsNodePathFetched}
 use Rattle.asit_shadow.specs.Writing.{HasWrittenUp, IsWriteMade, IsWriteTold, slot_entries}
 use Rattle.asit_shadow.proofs.ArmLaws.{armed-made, IsAnchored-armed, IsDurable-armed, IsTrusted-written, IsSound-written}
 use Rattle.asit_shadow.proofs.GroupLaws.{IsDurable-again}
@@ -61,11 +61,11 @@ any-told None = tt
 any-told (Some lines) = tt
 
 -- the lines that a group makes of those before
-pub redone-over : (P Q : List Line → Type 0) (n : ℕ) (group : List (ℕ × Line)) (mid new : Parts) → mid.device.regs.group.items ≡ [] → lines_redone new ≡ redone_told group mid.device.lines → AreToldLines n mid.device.lines → ((lines : List Line) → AreLinesOf n lines → P lines → Q (redone group lines)) → IfSome (lines_redone mid) P → IfSome (lines_redone new) Q
+pub redone-over : (P Q : List Line → Type 0) (n : ℕ) (group : List (ℕ × Line)) (mid new : TreeEngineParts) → mid.device.regs.group.items ≡ [] → tree_lines_redone new ≡ redone_told group mid.device.lines → AreToldLines n mid.device.lines → ((lines : List Line) → AreLinesOf n lines → P lines → Q (redone group lines)) → IfSome (tree_lines_redone mid) P → IfSome (tree_lines_redone new) Q
 redone-over P Q n group mid new none made whole each was =
     subst (λ told. IfSome told Q) (sym made) (redone-if P Q n group mid.device.lines whole each (told-of P mid none was))
 
-pub redone-own : (Q : List Line → Type 0) (n : ℕ) (group : List (ℕ × Line)) (mid new : Parts) → lines_redone new ≡ redone_told group mid.device.lines → AreToldLines n mid.device.lines → ((lines : List Line) → AreLinesOf n lines → Q (redone group lines)) → IfSome (lines_redone new) Q
+pub redone-own : (Q : List Line → Type 0) (n : ℕ) (group : List (ℕ × Line)) (mid new : TreeEngineParts) → tree_lines_redone new ≡ redone_told group mid.device.lines → AreToldLines n mid.device.lines → ((lines : List Line) → AreLinesOf n lines → Q (redone group lines)) → IfSome (tree_lines_redone new) Q
 redone-own Q n group mid new made whole each =
     subst (λ told. IfSome told Q) (sym made) (redone-if (λ lines. Unit {0}) Q n group mid.device.lines whole (λ lines are was. each lines are) (any-told mid.device.lines))
 
@@ -94,26 +94,26 @@ tells-redone n group told new place line whole same kept tells =
 -- ---- what an armed write makes
 
 -- a write over a fetched path, armed by one latch
-pub record IsArmedWrite (setup : Setup) (a : ℕ) (plain : Line) (seal : LineSeal) (pairs : List (ℕ × Node)) (regs : Regs) (old mid new : Parts) (armed : Device) : Type 0 where
+pub record IsArmedWrite (setup : Setup) (a : ℕ) (plain : Line) (seal : LineSeal) (pairs : List (ℕ × Node)) (regs : Regs) (old mid new : TreeEngineParts) (armed : Device) : Type 0 where
   pub shape : IsShape setup.shape
   pub inside : a < tree_lines setup.shape
   pub engine : IsTreeEngine mid.engine
   pub whole : AreToldLines (tree_size setup.shape) mid.device.lines
   pub node : Node
-  pub fetched : IsPathFetched setup a old mid node
+  pub fetched : IsNodePathFetched setup a old mid node
   pub ready : IsWatchReady setup.shape old.watch
   pub slots : length mid.engine.cache ≡ tree_slots setup.shape
-  pub unspent : AreTrusted setup old → IsUsedUp old → ⊥
+  pub unspent : AreTreeTrusted setup old → IsUsedUp old → ⊥
   pub made : IsWriteMade setup a plain seal pairs regs mid new
   pub latched : HasLatched mid.device regs armed
   pub group : IsGroup (tree_size setup.shape) regs.group.items
 
-armed-over : (setup : Setup) (a : ℕ) (plain : Line) (seal : LineSeal) (pairs : List (ℕ × Node)) (regs : Regs) (old mid new : Parts) (armed : Device) → IsArmedWrite setup a plain seal pairs regs old mid new armed → IsArmedOver setup a plain seal pairs regs old mid new
+armed-over : (setup : Setup) (a : ℕ) (plain : Line) (seal : LineSeal) (pairs : List (ℕ × Node)) (regs : Regs) (old mid new : TreeEngineParts) (armed : Device) → IsArmedWrite setup a plain seal pairs regs old mid new armed → IsArmedOver setup a plain seal pairs regs old mid new
 armed-over setup a plain seal pairs regs old mid new armed it =
     record { shape = it.shape; inside = it.inside; ready = it.ready; slots = it.slots; path = it.fetched.path; made = it.made }
 
 -- from a trusted chip on it is as the laws ask
-armed-of : (setup : Setup) (a : ℕ) (plain : Line) (seal : LineSeal) (pairs : List (ℕ × Node)) (regs : Regs) (old mid new : Parts) (armed : Device) → IsArmedWrite setup a plain seal pairs regs old mid new armed → AreTrusted setup old → IsArmedAndStored setup a seal regs mid new
+armed-of : (setup : Setup) (a : ℕ) (plain : Line) (seal : LineSeal) (pairs : List (ℕ × Node)) (regs : Regs) (old mid new : TreeEngineParts) (armed : Device) → IsArmedWrite setup a plain seal pairs regs old mid new armed → AreTreeTrusted setup old → IsArmedAndStored setup a seal regs mid new
 armed-of setup a plain seal pairs regs old mid new armed it trusted =
     let now = it.fetched.path.effect.trusted trusted in
     let top : total (node_at mid.watch.nodes 0) < 2 ^ 64 = now.anchored.tree.top in
@@ -121,16 +121,16 @@ armed-of setup a plain seal pairs regs old mid new armed it trusted =
     λ e. it.unspent trusted (ap (λ (w : WatchState). total (node_at w.nodes 0)) (sym it.fetched.path.watch) ∙ e) in
     armed-and_stored setup a plain seal pairs regs mid new it.shape it.inside it.engine now (path-cached setup a old mid it.shape it.inside trusted it.fetched.path) (omega (arith, top, apart)) it.made
 
-seals-over : (setup : Setup) (a : ℕ) (plain : Line) (seal : LineSeal) (pairs : List (ℕ × Node)) (regs : Regs) (old mid new : Parts) (armed : Device) → IsArmedWrite setup a plain seal pairs regs old mid new armed → AreTrusted setup old → lines_redone new ≡ redone_told regs.group.items mid.device.lines
-    → (b : ℕ) → b < tree_lines setup.shape → HoldsSeal setup.shape old b → HoldsSeal setup.shape new b
+seals-over : (setup : Setup) (a : ℕ) (plain : Line) (seal : LineSeal) (pairs : List (ℕ × Node)) (regs : Regs) (old mid new : TreeEngineParts) (armed : Device) → IsArmedWrite setup a plain seal pairs regs old mid new armed → AreTreeTrusted setup old → tree_lines_redone new ≡ redone_told regs.group.items mid.device.lines
+    → (b : ℕ) → b < tree_lines setup.shape → HoldsTreeSeal setup.shape old b → HoldsTreeSeal setup.shape new b
 seals-over setup a plain seal pairs regs old mid new armed it trusted made b inside was =
     let now = it.fetched.path.effect.trusted trusted in
     let its = armed-of setup a plain seal pairs regs old mid new armed it trusted in
-    redone-over (λ lines. IsSealStored setup.shape lines mid.watch b) (λ lines. IsSealStored setup.shape lines new.watch b) (tree_size setup.shape) regs.group.items mid new now.no_group made it.whole
+    redone-over (λ lines. IsTreeSealStored setup.shape lines mid.watch b) (λ lines. IsTreeSealStored setup.shape lines new.watch b) (tree_size setup.shape) regs.group.items mid new now.no_group made it.whole
     (λ lines are. (armed-places setup a seal mid.engine lines mid.device.regs regs mid.watch new.watch it.shape are.count now (path-cached setup a old mid it.shape it.inside trusted it.fetched.path) its.armed).seals b inside)
     ((it.fetched.path.effect.places trusted).seals b inside was)
 
-slots-over : (setup : Setup) (a : ℕ) (plain : Line) (seal : LineSeal) (pairs : List (ℕ × Node)) (regs : Regs) (old mid new : Parts) (armed : Device) → IsArmedWrite setup a plain seal pairs regs old mid new armed → AreTrusted setup old → lines_redone new ≡ redone_told regs.group.items mid.device.lines
+slots-over : (setup : Setup) (a : ℕ) (plain : Line) (seal : LineSeal) (pairs : List (ℕ × Node)) (regs : Regs) (old mid new : TreeEngineParts) (armed : Device) → IsArmedWrite setup a plain seal pairs regs old mid new armed → AreTreeTrusted setup old → tree_lines_redone new ≡ redone_told regs.group.items mid.device.lines
     → (i : ℕ) → i < tree_slots setup.shape → HoldsSlot setup.shape old i → HoldsSlot setup.shape new i
 slots-over setup a plain seal pairs regs old mid new armed it trusted made i inside was =
     let now = it.fetched.path.effect.trusted trusted in
@@ -139,11 +139,11 @@ slots-over setup a plain seal pairs regs old mid new armed it trusted made i ins
     (λ lines are. (armed-places setup a seal mid.engine lines mid.device.regs regs mid.watch new.watch it.shape are.count now (path-cached setup a old mid it.shape it.inside trusted it.fetched.path) its.armed).slots i)
     ((it.fetched.path.effect.places trusted).slots i inside was)
 
-own-seal : (setup : Setup) (a : ℕ) (plain : Line) (seal : LineSeal) (pairs : List (ℕ × Node)) (regs : Regs) (old mid new : Parts) (armed : Device) → IsArmedWrite setup a plain seal pairs regs old mid new armed → AreTrusted setup old → lines_redone new ≡ redone_told regs.group.items mid.device.lines → HoldsSeal setup.shape new a
+own-seal : (setup : Setup) (a : ℕ) (plain : Line) (seal : LineSeal) (pairs : List (ℕ × Node)) (regs : Regs) (old mid new : TreeEngineParts) (armed : Device) → IsArmedWrite setup a plain seal pairs regs old mid new armed → AreTreeTrusted setup old → tree_lines_redone new ≡ redone_told regs.group.items mid.device.lines → HoldsTreeSeal setup.shape new a
 own-seal setup a plain seal pairs regs old mid new armed it trusted made =
     let now = it.fetched.path.effect.trusted trusted in
     let its = armed-of setup a plain seal pairs regs old mid new armed it trusted in
-    redone-own (λ lines. IsSealStored setup.shape lines new.watch a) (tree_size setup.shape) regs.group.items mid new made it.whole
+    redone-own (λ lines. IsTreeSealStored setup.shape lines new.watch a) (tree_size setup.shape) regs.group.items mid new made it.whole
     (λ lines are. (armed-places setup a seal mid.engine lines mid.device.regs regs mid.watch new.watch it.shape are.count now (path-cached setup a old mid it.shape it.inside trusted it.fetched.path) its.armed).own_seal)
 
 -- the watch has its counts and a seal of each line
@@ -165,7 +165,7 @@ told-ready g a seal pairs old new inside told ready =
     }
 
 -- the group has three lines and one for each level
-group-count : (setup : Setup) (a : ℕ) (plain : Line) (seal : LineSeal) (pairs : List (ℕ × Node)) (regs : Regs) (mid new : Parts) → IsWriteMade setup a plain seal pairs regs mid new → length regs.group.items ≡ setup.shape.levels + 3
+group-count : (setup : Setup) (a : ℕ) (plain : Line) (seal : LineSeal) (pairs : List (ℕ × Node)) (regs : Regs) (mid new : TreeEngineParts) → IsWriteMade setup a plain seal pairs regs mid new → length regs.group.items ≡ setup.shape.levels + 3
 group-count setup a plain seal pairs regs mid new made =
     let count = pairs-count setup.shape a pairs made.raised.positions in
     let rest : length (slot_entries setup.shape (line_of_slot setup.shape) pairs) ≡ length pairs = length-map {B = ℕ × Line} pairs (λ (pair : ℕ × Node). (line_of_slot setup.shape (slot_of setup.shape pair.0), slot_line pair.0 pair.1)) in
@@ -178,24 +178,24 @@ one-latch (entry ∷ rest) some = refl
 -- ---- a cut amid the group: the write is kept
 
 -- what the device holds once the group is written
-kept-made : (setup : Setup) (a : ℕ) (plain : Line) (seal : LineSeal) (pairs : List (ℕ × Node)) (regs : Regs) (old mid new : Parts) (armed : Device) → IsArmedWrite setup a plain seal pairs regs old mid new armed → IsInterrupted armed.regs.group.items armed new.device
+kept-made : (setup : Setup) (a : ℕ) (plain : Line) (seal : LineSeal) (pairs : List (ℕ × Node)) (regs : Regs) (old mid new : TreeEngineParts) (armed : Device) → IsArmedWrite setup a plain seal pairs regs old mid new armed → IsInterrupted armed.regs.group.items armed new.device
     → redone_told regs.group.items new.device.lines ≡ redone_told regs.group.items mid.device.lines
 kept-made setup a plain seal pairs regs old mid new armed it cut =
     subst (λ (r : Regs). redone_told r.group.items new.device.lines ≡ redone_told r.group.items mid.device.lines) it.latched.regs
     (cut.again ∙ ap (redone_told armed.regs.group.items) it.latched.lines)
 
-kept-cuts : (setup : Setup) (a : ℕ) (plain : Line) (seal : LineSeal) (pairs : List (ℕ × Node)) (regs : Regs) (old mid new : Parts) (armed : Device) → IsArmedWrite setup a plain seal pairs regs old mid new armed → IsInterrupted armed.regs.group.items armed new.device
+kept-cuts : (setup : Setup) (a : ℕ) (plain : Line) (seal : LineSeal) (pairs : List (ℕ × Node)) (regs : Regs) (old mid new : TreeEngineParts) (armed : Device) → IsArmedWrite setup a plain seal pairs regs old mid new armed → IsInterrupted armed.regs.group.items armed new.device
     → RisesAtMost (length regs.group.items) armed.writes new.device.writes
 kept-cuts setup a plain seal pairs regs old mid new armed it cut =
     subst (λ (r : Regs). RisesAtMost (length r.group.items) armed.writes new.device.writes) it.latched.regs cut.writes
 
 -- how far it came
-pub kept-work : (setup : Setup) (a : ℕ) (plain : Line) (seal : LineSeal) (pairs : List (ℕ × Node)) (regs : Regs) (old mid new : Parts) (armed : Device) → IsArmedWrite setup a plain seal pairs regs old mid new armed → IsInterrupted armed.regs.group.items armed new.device
+pub kept-work : (setup : Setup) (a : ℕ) (plain : Line) (seal : LineSeal) (pairs : List (ℕ × Node)) (regs : Regs) (old mid new : TreeEngineParts) (armed : Device) → IsArmedWrite setup a plain seal pairs regs old mid new armed → IsInterrupted armed.regs.group.items armed new.device
     → IsCutInGroup setup a old new
 kept-work setup a plain seal pairs regs old mid new armed it cut =
     let path = it.fetched.path in
     let new_regs : new.device.regs ≡ regs = cut.regs ∙ it.latched.regs in
-    let made : lines_redone new ≡ redone_told regs.group.items mid.device.lines =
+    let made : tree_lines_redone new ≡ redone_told regs.group.items mid.device.lines =
     ap (λ (r : Regs). redone_told r.group.items new.device.lines) new_regs ∙ kept-made setup a plain seal pairs regs old mid new armed it cut in
     let count = group-count setup a plain seal pairs regs mid new it.made in
     let one_latched : RisesBy 1 old.device.latches new.device.latches =
@@ -213,12 +213,12 @@ kept-work setup a plain seal pairs regs old mid new armed it cut =
           (subst (λ n. RisesAtMost (length regs.group.items) n new.device.writes) it.latched.writes (kept-cuts setup a plain seal pairs regs old mid new armed it cut));
     }
 
-pub write-kept : (setup : Setup) (a : ℕ) (plain : Line) (seal : LineSeal) (pairs : List (ℕ × Node)) (regs : Regs) (old mid new : Parts) (armed : Device) → IsArmedWrite setup a plain seal pairs regs old mid new armed → AreToldLines (tree_size setup.shape) new.device.lines → IsInterrupted armed.regs.group.items armed new.device → HasWrittenUp setup a plain old new (Err Fail.Cut)
+pub write-kept : (setup : Setup) (a : ℕ) (plain : Line) (seal : LineSeal) (pairs : List (ℕ × Node)) (regs : Regs) (old mid new : TreeEngineParts) (armed : Device) → IsArmedWrite setup a plain seal pairs regs old mid new armed → AreToldLines (tree_size setup.shape) new.device.lines → IsInterrupted armed.regs.group.items armed new.device → HasWrittenUp setup a plain old new (Err Fail.Cut)
 write-kept setup a plain seal pairs regs old mid new armed it told_new cut =
     let path = it.fetched.path in
     let new_regs : new.device.regs ≡ regs = cut.regs ∙ it.latched.regs in
     let again = kept-made setup a plain seal pairs regs old mid new armed it cut in
-    let made : lines_redone new ≡ redone_told regs.group.items mid.device.lines =
+    let made : tree_lines_redone new ≡ redone_told regs.group.items mid.device.lines =
     ap (λ (r : Regs). redone_told r.group.items new.device.lines) new_regs ∙ again in
     let count = group-count setup a plain seal pairs regs mid new it.made in
     let cuts = kept-cuts setup a plain seal pairs regs old mid new armed it cut in
@@ -240,18 +240,18 @@ write-kept setup a plain seal pairs regs old mid new armed it told_new cut =
                 );
             trusted =
                 λ trusted.
-                subst (λ r. IsAnchored setup r new.watch) (sym new_regs)
+                subst (λ r. IsTreeAnchored setup r new.watch) (sym new_regs)
                 (IsAnchored-armed setup a seal mid.device.regs regs mid.watch new.watch it.shape (path.effect.trusted trusted).anchored
                 (armed-of setup a plain seal pairs regs old mid new armed it trusted).armed);
             sound =
                 λ sound.
                 let trusted = sound-trusted setup old sound in
                 let its = armed-of setup a plain seal pairs regs old mid new armed it trusted in
-                let mid_sound : AreSound setup mid = path.effect.sound sound in
-                told-match (λ lines. IsSound setup mid.engine lines mid.device.regs mid.watch) (λ lines. IsDurable setup lines new.device.regs new.watch) mid.device.lines new.device.lines
-                (told-as (λ x y. (AreLinesOf (tree_size setup.shape) y) × (redone regs.group.items y ≡ redone regs.group.items x)) (λ x y. IsSound setup mid.engine x mid.device.regs mid.watch → IsDurable setup y new.device.regs new.watch) mid.device.lines new.device.lines
+                let mid_sound : AreTreeSound setup mid = path.effect.sound sound in
+                told-match (λ lines. IsTreeSound setup mid.engine lines mid.device.regs mid.watch) (λ lines. IsTreeDurable setup lines new.device.regs new.watch) mid.device.lines new.device.lines
+                (told-as (λ x y. (AreLinesOf (tree_size setup.shape) y) × (redone regs.group.items y ≡ redone regs.group.items x)) (λ x y. IsTreeSound setup mid.engine x mid.device.regs mid.watch → IsTreeDurable setup y new.device.regs new.watch) mid.device.lines new.device.lines
                 (λ x y both was.
-                subst (λ r. IsDurable setup y r new.watch) (sym new_regs)
+                subst (λ r. IsTreeDurable setup y r new.watch) (sym new_regs)
                 (IsDurable-again setup x y regs new.watch both.0 both.1
                 (IsDurable-armed setup a seal mid.engine x mid.device.regs regs mid.watch new.watch it.shape was (path-cached setup a old mid it.shape it.inside trusted path) its.armed)))
                 (told-again (tree_size setup.shape) regs.group.items mid.device.lines new.device.lines told_new again))
@@ -313,23 +313,23 @@ write-kept setup a plain seal pairs regs old mid new armed it told_new cut =
       no_group = λ e. absurd (true≢false (sym e));
     }
   where
-    kept_armed : IsArmedAndStored setup a seal regs mid new → IsArmed setup a seal old.device.regs new.device.regs old.watch new.watch
+    kept_armed : IsArmedAndStored setup a seal regs mid new → IsTreeArmed setup a seal old.device.regs new.device.regs old.watch new.watch
     kept_armed its =
-        subst (λ r. IsArmed setup a seal old.device.regs r old.watch new.watch) (sym (cut.regs ∙ it.latched.regs))
-        (subst (λ w. IsArmed setup a seal old.device.regs regs w new.watch) it.fetched.path.watch
-        (subst (λ r. IsArmed setup a seal r regs mid.watch new.watch) it.fetched.path.regs its.armed))
+        subst (λ r. IsTreeArmed setup a seal old.device.regs r old.watch new.watch) (sym (cut.regs ∙ it.latched.regs))
+        (subst (λ w. IsTreeArmed setup a seal old.device.regs regs w new.watch) it.fetched.path.watch
+        (subst (λ r. IsTreeArmed setup a seal r regs mid.watch new.watch) it.fetched.path.regs its.armed))
 
 -- ---- the group written and emptied: the write is done
 
-pub write-done : (setup : Setup) (a : ℕ) (plain : Line) (seal : LineSeal) (pairs : List (ℕ × Node)) (regs : Regs) (old mid new : Parts) (armed : Device) → IsArmedWrite setup a plain seal pairs regs old mid new armed → HasFinished armed new.device → HasWrittenUp setup a plain old new (Ok seal.counter)
+pub write-done : (setup : Setup) (a : ℕ) (plain : Line) (seal : LineSeal) (pairs : List (ℕ × Node)) (regs : Regs) (old mid new : TreeEngineParts) (armed : Device) → IsArmedWrite setup a plain seal pairs regs old mid new armed → HasFinished armed new.device → HasWrittenUp setup a plain old new (Ok seal.counter)
 write-done setup a plain seal pairs regs old mid new armed it done =
     let path = it.fetched.path in
     let lines : new.device.lines ≡ redone_told regs.group.items mid.device.lines =
     done.lines ∙ (ap (λ (r : Regs). redone_told r.group.items armed.lines) it.latched.regs ∙ ap (redone_told regs.group.items) it.latched.lines) in
     let no_new : new.device.regs.group.items ≡ [] = ap (λ (r : Regs). r.group.items) done.regs in
-    let made : lines_redone new ≡ redone_told regs.group.items mid.device.lines =
+    let made : tree_lines_redone new ≡ redone_told regs.group.items mid.device.lines =
     ap (λ group. redone_told group new.device.lines) no_new ∙ (redone-nil new.device.lines ∙ lines) in
-    let emptied : IsEmptied regs new.device.regs =
+    let emptied : IsTreeEmptied regs new.device.regs =
     record { root = ap (λ (r : Regs). r.root) done.regs ∙ ap (λ (r : Regs). r.root) it.latched.regs; no_group = no_new } in
     let count = group-count setup a plain seal pairs regs mid new it.made in
     let writes : RisesBy (length regs.group.items) armed.writes new.device.writes =
@@ -362,11 +362,11 @@ write-done setup a plain seal pairs regs old mid new armed it done =
                 λ sound.
                 let trusted = sound-trusted setup old sound in
                 let its = armed-of setup a plain seal pairs regs old mid new armed it trusted in
-                let mid_sound : AreSound setup mid = path.effect.sound sound in
-                told-match (λ lines. IsSound setup mid.engine lines mid.device.regs mid.watch) (λ lines. IsSound setup new.engine lines new.device.regs new.watch) mid.device.lines new.device.lines
-                (told-as (λ x y. (AreLinesOf (tree_size setup.shape) x) × (y ≡ redone regs.group.items x)) (λ x y. IsSound setup mid.engine x mid.device.regs mid.watch → IsSound setup new.engine y new.device.regs new.watch) mid.device.lines new.device.lines
+                let mid_sound : AreTreeSound setup mid = path.effect.sound sound in
+                told-match (λ lines. IsTreeSound setup mid.engine lines mid.device.regs mid.watch) (λ lines. IsTreeSound setup new.engine lines new.device.regs new.watch) mid.device.lines new.device.lines
+                (told-as (λ x y. (AreLinesOf (tree_size setup.shape) x) × (y ≡ redone regs.group.items x)) (λ x y. IsTreeSound setup mid.engine x mid.device.regs mid.watch → IsTreeSound setup new.engine y new.device.regs new.watch) mid.device.lines new.device.lines
                 (λ x y both was.
-                subst (λ l. IsSound setup new.engine l new.device.regs new.watch) (sym both.1)
+                subst (λ l. IsTreeSound setup new.engine l new.device.regs new.watch) (sym both.1)
                 (IsSound-written setup a seal mid.engine new.engine x mid.device.regs regs new.device.regs mid.watch new.watch it.shape was (path-cached setup a old mid it.shape it.inside trusted path) its.armed its.stored emptied))
                 (told-redone (tree_size setup.shape) regs.group.items mid.device.lines new.device.lines it.whole lines))
                 mid_sound;
@@ -401,7 +401,7 @@ write-done setup a plain seal pairs regs old mid new armed it done =
                 (done.reads ∙ it.latched.reads);
             no_group = no_new;
             writes =
-                RisesBy-then (length (spilled setup old.engine.cache a setup.shape.levels)) (setup.shape.levels + 3) old.device.writes mid.device.writes new.device.writes path.done.writes group_writes;
+                RisesBy-then (length (spilled_nodes setup old.engine.cache a setup.shape.levels)) (setup.shape.levels + 3) old.device.writes mid.device.writes new.device.writes path.done.writes group_writes;
           };
       answered =
           λ trusted.
@@ -414,8 +414,8 @@ write-done setup a plain seal pairs regs old mid new armed it done =
               armed =
                   record {
                     armed =
-                        subst (λ w. IsArmed setup a seal old.device.regs regs w new.watch) path.watch
-                        (subst (λ r. IsArmed setup a seal r regs mid.watch new.watch) path.regs its.armed);
+                        subst (λ w. IsTreeArmed setup a seal old.device.regs regs w new.watch) path.watch
+                        (subst (λ r. IsTreeArmed setup a seal r regs mid.watch new.watch) path.regs its.armed);
                     sealed = it.made.made.cipher;
                   };
               its_counter = refl;
@@ -441,7 +441,7 @@ write-done setup a plain seal pairs regs old mid new armed it done =
       no_group = λ e none. no_new;
     }
   where
-    accepted : AreTrusted setup old → IsPathAccepted setup a old new
+    accepted : AreTreeTrusted setup old → IsPathAccepted setup a old new
     accepted trusted =
         let its = armed-of setup a plain seal pairs regs old mid new armed it trusted in
         let lines : new.device.lines ≡ redone_told regs.group.items mid.device.lines =

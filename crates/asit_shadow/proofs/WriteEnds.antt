@@ -16,11 +16,11 @@ use Rattle.counter_tree.specs.declared.nodes.Node.{Node}
 use Rattle.counter_tree.specs.Layout.{tree_lines}
 use Rattle.asit_shadow.specs.declared.fault.TreeFault.{TreeFault}
 use Rattle.asit_shadow.specs.declared.fault.TreeFault.TheVariants as Fail
-use Rattle.asit_shadow.specs.Parts.{Parts, AreTrusted}
-use Rattle.asit_shadow.specs.Paths.{IsPathCached}
+use Rattle.asit_shadow.specs.Parts.{TreeEngineParts, AreTreeTrusted}
+use Rattle.asit_shadow.specs.Paths.{IsNodePathCached}
 use Rattle.asit_shadow.specs.Calls.{IsUsedUp, KeepsWatch}
-use Rattle.asit_shadow.specs.Work.{absent_count, HasFetchedPath}
-use Rattle.asit_shadow.specs.Fetching.{IsFetchStopped, IsPathFetched, IsPathFetchedTo}
+use Rattle.asit_shadow.specs.Work.{absent_nodes, HasFetchedPath}
+use Rattle.asit_shadow.specs.Fetching.{IsFetchStopped, IsNodePathFetched, IsPathFetchedTo}
 use Rattle.asit_shadow.specs.Writing.{HasWrittenUp}
 use Rattle.asit_shadow.proofs.SlotPlaces.{page_of_line}
 use Rattle.asit_shadow.proofs.Chains.{going-uncut, going-unshown, cut-unshown, effect-then}
@@ -29,7 +29,7 @@ use Rattle.asit_shadow.proofs.CallEnds.{ready-kept, board-kept}
 
 -- ---- what comes before the arming latch
 
-pub path-cached : (setup : Setup) (a : ℕ) (old mid : Parts) → IsShape setup.shape → a < tree_lines setup.shape → AreTrusted setup old → IsPathFetchedTo setup a setup.shape.levels old mid → IsPathCached setup.shape a mid.engine.cache
+pub path-cached : (setup : Setup) (a : ℕ) (old mid : TreeEngineParts) → IsShape setup.shape → a < tree_lines setup.shape → AreTreeTrusted setup old → IsPathFetchedTo setup a setup.shape.levels old mid → IsNodePathCached setup.shape a mid.engine.cache
 path-cached setup a old mid shape inside trusted path =
     record {
       each =
@@ -44,7 +44,7 @@ none-at_most : (n before after : ℕ) → after ≡ before → RisesAtMost n bef
 none-at_most n before after same = record { never_falls = omega (arith, same); bound = λ below. omega (arith, same) }
 
 -- a fetch that stopped
-pub write-stopped : (setup : Setup) (a : ℕ) (plain : Line) (old new : Parts) (tags made : ℕ) (fault : TreeFault) → (AreTrusted setup old → IsUsedUp old → ⊥) → IsFetchStopped setup a old new tags made fault → HasWrittenUp setup a plain old new (Err fault)
+pub write-stopped : (setup : Setup) (a : ℕ) (plain : Line) (old new : TreeEngineParts) (tags made : ℕ) (fault : TreeFault) → (AreTreeTrusted setup old → IsUsedUp old → ⊥) → IsFetchStopped setup a old new tags made fault → HasWrittenUp setup a plain old new (Err fault)
 write-stopped setup a plain old new tags made Fail.Cut unspent it =
     record {
       kind = tt;
@@ -114,7 +114,7 @@ write-stopped setup a plain old new tags made Fail.Shown unspent it =
     }
 
 -- the top's version can't rise: nothing is done
-pub write-spent : (setup : Setup) (a : ℕ) (plain : Line) (old : Parts) → (AreTrusted setup old → IsUsedUp old) → HasWrittenUp setup a plain old old (Err Fail.Spent)
+pub write-spent : (setup : Setup) (a : ℕ) (plain : Line) (old : TreeEngineParts) → (AreTreeTrusted setup old → IsUsedUp old) → HasWrittenUp setup a plain old old (Err Fail.Spent)
 write-spent setup a plain old used =
     record {
       kind = tt;
@@ -140,19 +140,19 @@ write-spent setup a plain old used =
     }
 
 -- how far it came
-pub lost-work : (setup : Setup) (a : ℕ) (old mid new : Parts) → IsPathFetchedTo setup a setup.shape.levels old mid → new.engine.cache ≡ mid.engine.cache → WasCut mid.device new.device → HasFetchedPath setup a 0 old new
+pub lost-work : (setup : Setup) (a : ℕ) (old mid new : TreeEngineParts) → IsPathFetchedTo setup a setup.shape.levels old mid → new.engine.cache ≡ mid.engine.cache → WasCut mid.device new.device → HasFetchedPath setup a 0 old new
 lost-work setup a old mid new path cache cut =
     record {
       fetched =
           unwritten-levels setup a setup.shape.levels old mid new cache
           (record { lines = cut.lines; regs = cut.regs; size = cut.size; writes = cut.writes; latches = cut.latches }) path.done;
       reads =
-          subst (RisesBy (absent_count setup.shape old.engine.cache a setup.shape.levels + 0) old.device.reads) (sym cut.reads)
+          subst (RisesBy (absent_nodes setup.shape old.engine.cache a setup.shape.levels + 0) old.device.reads) (sym cut.reads)
           (subst (λ n. RisesBy n old.device.reads mid.device.reads) (omega arith) path.reads);
     }
 
 -- a cut at the arming latch: the write is lost
-pub write-lost : (setup : Setup) (a : ℕ) (plain : Line) (old mid new : Parts) (node : Node) → (AreTrusted setup old → IsUsedUp old → ⊥) → IsPathFetched setup a old mid node → new.engine.shape ≡ mid.engine.shape → new.engine.cache ≡ mid.engine.cache → new.engine.down ≡ mid.engine.down → WasCut mid.device new.device → new.watch ≡ mid.watch → HasWrittenUp setup a plain old new (Err Fail.Cut)
+pub write-lost : (setup : Setup) (a : ℕ) (plain : Line) (old mid new : TreeEngineParts) (node : Node) → (AreTreeTrusted setup old → IsUsedUp old → ⊥) → IsNodePathFetched setup a old mid node → new.engine.shape ≡ mid.engine.shape → new.engine.cache ≡ mid.engine.cache → new.engine.down ≡ mid.engine.down → WasCut mid.device new.device → new.watch ≡ mid.watch → HasWrittenUp setup a plain old new (Err Fail.Cut)
 write-lost setup a plain old mid new node unspent fetched shape cache down cut watch =
     let same : AreUnwritten mid.device new.device =
     record { lines = cut.lines; regs = cut.regs; size = cut.size; writes = cut.writes; latches = cut.latches } in

@@ -23,25 +23,25 @@ use Rattle.counter_tree.specs.Watch.{WatchState, last_seal_of, forged_node}
 use Rattle.asit_shadow.specs.declared.fault.TreeFault.{TreeFault}
 use Rattle.asit_shadow.specs.declared.fault.TreeFault.TheVariants as Fail
 use Rattle.asit_shadow.specs.State.{top_node, IsCached}
-use Rattle.asit_shadow.specs.Paths.{IsPathCached}
-use Rattle.asit_shadow.specs.Steps.{IsArmed, IsEmptied, plain_line}
-use Rattle.asit_shadow.specs.Parts.{Parts, AreAnchored, AreTrusted, AreDurable, AreSound, HoldsSeal, HoldsSlot, HoldsNode, IsNodeUnheld, KeepsNode}
+use Rattle.asit_shadow.specs.Paths.{IsNodePathCached}
+use Rattle.asit_shadow.specs.Steps.{IsTreeArmed, IsTreeEmptied, tree_plain_line}
+use Rattle.asit_shadow.specs.Parts.{TreeEngineParts, AreAnchored, AreTreeTrusted, AreTreeDurable, AreTreeSound, HoldsTreeSeal, HoldsSlot, HoldsNode, IsNodeUnheld, KeepsNode}
 use Rattle.asit_shadow.specs.Work.{WorksOfRead, WorksOfWrite}
 
 -- ---- ends of a call
 
-abbrev pub outcome_of_fault : TreeFault → Outcome
-outcome_of_fault Fail.Cut = cut_short
-outcome_of_fault Fail.Shown = shown
-outcome_of_fault fault = going
+abbrev pub outcome_of_tree_fault : TreeFault → Outcome
+outcome_of_tree_fault Fail.Cut = cut_short
+outcome_of_tree_fault Fail.Shown = shown
+outcome_of_tree_fault fault = going
 
-abbrev pub outcome_of : {T : Type 0} → Result T TreeFault → Outcome
-outcome_of (Ok value) = going
-outcome_of (Err fault) = outcome_of_fault fault
+abbrev pub tree_outcome_of : {T : Type 0} → Result T TreeFault → Outcome
+tree_outcome_of (Ok value) = going
+tree_outcome_of (Err fault) = outcome_of_tree_fault fault
 
-abbrev pub IsDownAnswer : {T : Type 0} → Result T TreeFault → Type 0
-IsDownAnswer (Err Fail.Down) = ⊤
-IsDownAnswer answer = ⊥
+abbrev pub IsTreeDownAnswer : {T : Type 0} → Result T TreeFault → Type 0
+IsTreeDownAnswer (Err Fail.Down) = ⊤
+IsTreeDownAnswer answer = ⊥
 
 -- no refusal of a node or a tag, and no exhibit
 abbrev pub IsUnrefusedFault : TreeFault → Type 0
@@ -49,51 +49,51 @@ IsUnrefusedFault Fail.Cut = ⊤
 IsUnrefusedFault Fail.Spent = ⊤
 IsUnrefusedFault fault = ⊥
 
-abbrev pub IsUnrefused : {T : Type 0} → Result T TreeFault → Type 0
-IsUnrefused (Ok value) = ⊤
-IsUnrefused (Err fault) = IsUnrefusedFault fault
+abbrev pub IsTreeUnrefused : {T : Type 0} → Result T TreeFault → Type 0
+IsTreeUnrefused (Ok value) = ⊤
+IsTreeUnrefused (Err fault) = IsUnrefusedFault fault
 
 -- neither done nor cut
-abbrev pub IsRefusal : {T : Type 0} → Result T TreeFault → Type 0
-IsRefusal (Ok value) = ⊥
-IsRefusal (Err Fail.Cut) = ⊥
-IsRefusal (Err fault) = ⊤
+abbrev pub IsTreeRefusal : {T : Type 0} → Result T TreeFault → Type 0
+IsTreeRefusal (Ok value) = ⊥
+IsTreeRefusal (Err Fail.Cut) = ⊥
+IsTreeRefusal (Err fault) = ⊤
 
 -- what a read answers at all: never Spent, and Tag of its own line alone
-abbrev pub IsReadAnswer : ℕ → Result Line TreeFault → Type 0
-IsReadAnswer a (Err Fail.Spent) = ⊥
-IsReadAnswer a (Err (Fail.Tag b)) = b ≡ a
-IsReadAnswer a answer = ⊤
+abbrev pub IsTreeReadAnswer : ℕ → Result Line TreeFault → Type 0
+IsTreeReadAnswer a (Err Fail.Spent) = ⊥
+IsTreeReadAnswer a (Err (Fail.Tag b)) = b ≡ a
+IsTreeReadAnswer a answer = ⊤
 
 -- what a write answers at all: never Tag
 abbrev pub IsWriteAnswer : Result ℕ TreeFault → Type 0
 IsWriteAnswer (Err (Fail.Tag b)) = ⊥
 IsWriteAnswer answer = ⊤
 
-abbrev pub IsSpentAnswer : {T : Type 0} → Result T TreeFault → Type 0
-IsSpentAnswer (Err Fail.Spent) = ⊤
-IsSpentAnswer answer = ⊥
+abbrev pub IsTreeSpentAnswer : {T : Type 0} → Result T TreeFault → Type 0
+IsTreeSpentAnswer (Err Fail.Spent) = ⊤
+IsTreeSpentAnswer answer = ⊥
 
 -- Down comes exactly of an engine that is down, and does nothing; a cut and an exhibit take it down
-pub record AnswersDown {T : Type 0} (old new : Parts) (answer : Result T TreeFault) : Type 0 where
-  pub exactly : IsDownAnswer answer ↔ (old.engine.down ≡ true)
-  pub still : IsDownAnswer answer → new ≡ old
-  pub after : new.engine.down ≡ (old.engine.down || not (is_going (outcome_of answer)))
+pub record AnswersTreeDown {T : Type 0} (old new : TreeEngineParts) (answer : Result T TreeFault) : Type 0 where
+  pub exactly : IsTreeDownAnswer answer ↔ (old.engine.down ≡ true)
+  pub still : IsTreeDownAnswer answer → new ≡ old
+  pub after : new.engine.down ≡ (old.engine.down || not (is_going (tree_outcome_of answer)))
 
 -- what is trusted afterwards; an exhibit ends it
-abbrev pub LeavesTrusted : Setup → Outcome → Parts → Type 0
-LeavesTrusted setup going new = AreTrusted setup new
-LeavesTrusted setup cut_short new = AreAnchored setup new
-LeavesTrusted setup shown new = IfSome new.watch.exhibit (IsExhibit setup.formulas)
+abbrev pub LeavesTreeTrusted : Setup → Outcome → TreeEngineParts → Type 0
+LeavesTreeTrusted setup going new = AreTreeTrusted setup new
+LeavesTreeTrusted setup cut_short new = AreAnchored setup new
+LeavesTreeTrusted setup shown new = IfSome new.watch.exhibit (IsExhibit setup.formulas)
 
 -- what is sound afterwards; no exhibit comes of what was sound
-abbrev pub LeavesSound : Setup → Outcome → Parts → Type 0
-LeavesSound setup going new = AreSound setup new
-LeavesSound setup cut_short new = AreDurable setup new
-LeavesSound setup shown new = ⊥
+abbrev pub LeavesTreeSound : Setup → Outcome → TreeEngineParts → Type 0
+LeavesTreeSound setup going new = AreTreeSound setup new
+LeavesTreeSound setup cut_short new = AreTreeDurable setup new
+LeavesTreeSound setup shown new = ⊥
 
 -- each node that was held is held, with power on or off
-abbrev pub KeepsNodes : Setup → Outcome → Parts → Parts → Type 0
+abbrev pub KeepsNodes : Setup → Outcome → TreeEngineParts → TreeEngineParts → Type 0
 KeepsNodes setup going old new =
     (x : ℕ) → x < meta_lines setup.shape → HoldsNode setup old x → HoldsNode setup new x
 KeepsNodes setup cut_short old new =
@@ -101,31 +101,31 @@ KeepsNodes setup cut_short old new =
 KeepsNodes setup shown old new = ⊤
 
 -- what is stored of each place by itself stays, and what was written is stored
-pub record KeepsPlaces (setup : Setup) (outcome : Outcome) (old new : Parts) : Type 0 where
-  pub seals : (a : ℕ) → a < tree_lines setup.shape → HoldsSeal setup.shape old a → HoldsSeal setup.shape new a
+pub record KeepsTreePlaces (setup : Setup) (outcome : Outcome) (old new : TreeEngineParts) : Type 0 where
+  pub seals : (a : ℕ) → a < tree_lines setup.shape → HoldsTreeSeal setup.shape old a → HoldsTreeSeal setup.shape new a
   pub slots : (i : ℕ) → i < tree_slots setup.shape → HoldsSlot setup.shape old i → HoldsSlot setup.shape new i
   pub nodes : KeepsNodes setup outcome old new
 
 -- what every end of a call leaves
-pub record CallEffect (setup : Setup) (outcome : Outcome) (old new : Parts) : Type 0 where
+pub record TreeCallEffect (setup : Setup) (outcome : Outcome) (old new : TreeEngineParts) : Type 0 where
   pub shape : new.engine.shape ≡ old.engine.shape
   pub size : new.device.size ≡ old.device.size
   pub power : HasPower outcome old.device new.device
-  pub trusted : AreTrusted setup old → LeavesTrusted setup outcome new
-  pub sound : AreSound setup old → LeavesSound setup outcome new
-  pub places : AreTrusted setup old → KeepsPlaces setup outcome old new
+  pub trusted : AreTreeTrusted setup old → LeavesTreeTrusted setup outcome new
+  pub sound : AreTreeSound setup old → LeavesTreeSound setup outcome new
+  pub places : AreTreeTrusted setup old → KeepsTreePlaces setup outcome old new
 
 -- ---- what is read on the path of data line a
 
 -- a line was read at node x of the path, which wasn't cached: the device has it now
-pub record IsNodeLineRead (setup : Setup) (a x : ℕ) (line : Line) (old new : Parts) : Type 0 where
+pub record IsNodeLineRead (setup : Setup) (a x : ℕ) (line : Line) (old new : TreeEngineParts) : Type 0 where
   pub on_path : is_on_line_path setup.shape a x ≡ true
   pub below_top : 1 ≤ x
   pub uncached : IsCached setup.shape old.engine.cache x → ⊥
   pub read : Tells new.device.lines (line_of_node setup.shape x) line
 
 -- a line read at a node of the path isn't one of the node's true version
-pub record IsNodeRefused (setup : Setup) (a x : ℕ) (old new : Parts) : Type 0 where
+pub record IsNodeRefused (setup : Setup) (a x : ℕ) (old new : TreeEngineParts) : Type 0 where
   pub line : Line
   pub its : IsNodeLineRead setup a x line old new
   pub refused : node_read setup.formulas x line (total (node_at old.watch.nodes x)) ≡ None
@@ -134,7 +134,7 @@ pub record IsNodeRefused (setup : Setup) (a x : ℕ) (old new : Parts) : Type 0 
 
 -- the exhibit is a line read at a node of the path that passes for one of the node's true version, and
 -- has other counters
-pub record IsNodeShown (setup : Setup) (a : ℕ) (old new : Parts) : Type 0 where
+pub record IsNodeShown (setup : Setup) (a : ℕ) (old new : TreeEngineParts) : Type 0 where
   pub x : ℕ
   pub line : Line
   pub node : Node
@@ -145,14 +145,14 @@ pub record IsNodeShown (setup : Setup) (a : ℕ) (old new : Parts) : Type 0 wher
   pub unheld : IsNodeUnheld setup old x
 
 -- a line read at a node of the path is the node's, under its true version
-pub record IsNodeRead (setup : Setup) (a x : ℕ) (old new : Parts) : Type 0 where
+pub record IsNodeRead (setup : Setup) (a x : ℕ) (old new : TreeEngineParts) : Type 0 where
   pub line : Line
   pub its : IsNodeLineRead setup a x line old new
   pub accepted :
       node_read setup.formulas x line (total (node_at old.watch.nodes x)) ≡ Some (node_at old.watch.nodes x)
 
 -- each node of the path was cached, or so read
-pub record IsPathAccepted (setup : Setup) (a : ℕ) (old new : Parts) : Type 0 where
+pub record IsPathAccepted (setup : Setup) (a : ℕ) (old new : TreeEngineParts) : Type 0 where
   pub each :
       (x : ℕ) → is_on_line_path setup.shape a x ≡ true
       → IsCached setup.shape old.engine.cache x ⊎ IsNodeRead setup a x old new
@@ -160,12 +160,12 @@ pub record IsPathAccepted (setup : Setup) (a : ℕ) (old new : Parts) : Type 0 w
 -- ---- what is read of data line a
 
 -- its cipher and its tag line were read: the device has them now
-pub record IsDataLineRead (setup : Setup) (a : ℕ) (cipher tags : Line) (new : Parts) : Type 0 where
+pub record IsDataLineRead (setup : Setup) (a : ℕ) (cipher tags : Line) (new : TreeEngineParts) : Type 0 where
   pub cipher_read : Tells new.device.lines a cipher
   pub tags_read : Tells new.device.lines (line_of_tag setup.shape a) tags
 
 -- the tag read isn't that of the cipher read under the line's true counter
-pub record IsTagRefused (setup : Setup) (a : ℕ) (old new : Parts) : Type 0 where
+pub record IsTreeTagRefused (setup : Setup) (a : ℕ) (old new : TreeEngineParts) : Type 0 where
   pub cipher : Line
   pub tags : Line
   pub its : IsDataLineRead setup a cipher tags new
@@ -174,7 +174,7 @@ pub record IsTagRefused (setup : Setup) (a : ℕ) (old new : Parts) : Type 0 whe
       ≢ tag_slot tags 0
 
 -- the tag is right, and the cipher is that of the last seal
-pub record IsLineAccepted (setup : Setup) (a : ℕ) (old new : Parts) : Type 0 where
+pub record IsTreeLineAccepted (setup : Setup) (a : ℕ) (old new : TreeEngineParts) : Type 0 where
   pub cipher : Line
   pub tags : Line
   pub its : IsDataLineRead setup a cipher tags new
@@ -184,7 +184,7 @@ pub record IsLineAccepted (setup : Setup) (a : ℕ) (old new : Parts) : Type 0 w
   pub last : IfSome (last_seal_of old.watch a) (λ seal. cipher ≡ seal.cipher)
 
 -- the exhibit is a cipher with its right tag that isn't that of the last seal
-pub record IsLineShown (setup : Setup) (a : ℕ) (old new : Parts) : Type 0 where
+pub record IsLineShown (setup : Setup) (a : ℕ) (old new : TreeEngineParts) : Type 0 where
   pub cipher : Line
   pub tags : Line
   pub its : IsDataLineRead setup a cipher tags new
@@ -209,16 +209,16 @@ pub record TakesWriteBacks (n : ℕ) (outcome : Outcome) (old new : Device) : Ty
 -- ---- reads
 
 -- what a read's answer says, from a trusted chip on
-abbrev pub AnswersRead : Setup → ℕ → Parts → Parts → Result Line TreeFault → Type 0
-AnswersRead setup a old new (Ok line) =
-    (line ≡ plain_line setup.formulas old.watch a) × IsPathAccepted setup a old new × IsLineAccepted setup a old new
-AnswersRead setup a old new (Err Fail.Cut) = ⊤
-AnswersRead setup a old new (Err Fail.Down) = ⊥
-AnswersRead setup a old new (Err (Fail.Node x)) = IsNodeRefused setup a x old new
-AnswersRead setup a old new (Err (Fail.Tag b)) =
-    (b ≡ a) × IsPathAccepted setup a old new × IsTagRefused setup a old new
-AnswersRead setup a old new (Err Fail.Spent) = ⊥
-AnswersRead setup a old new (Err Fail.Shown) =
+abbrev pub AnswersTreeRead : Setup → ℕ → TreeEngineParts → TreeEngineParts → Result Line TreeFault → Type 0
+AnswersTreeRead setup a old new (Ok line) =
+    (line ≡ tree_plain_line setup.formulas old.watch a) × IsPathAccepted setup a old new × IsTreeLineAccepted setup a old new
+AnswersTreeRead setup a old new (Err Fail.Cut) = ⊤
+AnswersTreeRead setup a old new (Err Fail.Down) = ⊥
+AnswersTreeRead setup a old new (Err (Fail.Node x)) = IsNodeRefused setup a x old new
+AnswersTreeRead setup a old new (Err (Fail.Tag b)) =
+    (b ≡ a) × IsPathAccepted setup a old new × IsTreeTagRefused setup a old new
+AnswersTreeRead setup a old new (Err Fail.Spent) = ⊥
+AnswersTreeRead setup a old new (Err Fail.Shown) =
     IsNodeShown setup a old new ⊎ (IsPathAccepted setup a old new × IsLineShown setup a old new)
 
 -- the watch knows what it knew; an exhibit comes exactly where it stopped the engine
@@ -231,68 +231,68 @@ pub record KeepsWatch (outcome : Outcome) (old new : WatchState) : Type 0 where
   pub stopped : outcome ≡ shown → IsSome new.exhibit
 
 -- a read of an engine that isn't down
-pub record IsLineRead (setup : Setup) (a : ℕ) (old new : Parts) (answer : Result Line TreeFault) : Type 0 where
-  pub kind : IsReadAnswer a answer
-  pub up : IsDownAnswer answer → ⊥
-  pub effect : CallEffect setup (outcome_of answer) old new
-  pub watch : KeepsWatch (outcome_of answer) old.watch new.watch
+pub record IsLineRead (setup : Setup) (a : ℕ) (old new : TreeEngineParts) (answer : Result Line TreeFault) : Type 0 where
+  pub kind : IsTreeReadAnswer a answer
+  pub up : IsTreeDownAnswer answer → ⊥
+  pub effect : TreeCallEffect setup (tree_outcome_of answer) old new
+  pub watch : KeepsWatch (tree_outcome_of answer) old.watch new.watch
   pub regs : new.device.regs ≡ old.device.regs
-  pub steps : TakesWriteBacks setup.shape.levels (outcome_of answer) old.device new.device
+  pub steps : TakesWriteBacks setup.shape.levels (tree_outcome_of answer) old.device new.device
   -- exactly what it did, whatever the board and the chip: a cut comes only where a step is due
   pub work : WorksOfRead setup a old new answer
-  pub answered : AreTrusted setup old → AnswersRead setup a old new answer
-  pub unrefused : AreSound setup old → IsUnrefused answer
+  pub answered : AreTreeTrusted setup old → AnswersTreeRead setup a old new answer
+  pub unrefused : AreTreeSound setup old → IsTreeUnrefused answer
 
-pub record HasReadLine (setup : Setup) (a : ℕ) (old new : Parts) (answer : Result Line TreeFault) : Type 0 where
-  pub down : AnswersDown old new answer
+pub record HasReadTreeLine (setup : Setup) (a : ℕ) (old new : TreeEngineParts) (answer : Result Line TreeFault) : Type 0 where
+  pub down : AnswersTreeDown old new answer
   pub done : old.engine.down ≡ false → IsLineRead setup a old new answer
 
 -- ---- writes
 
 -- the arming latch was done: this seal of the plain line is the line's last one, its path is raised, and
 -- the slots of the path are named anew
-pub record IsWriteArmed (setup : Setup) (a : ℕ) (plain : Line) (seal : LineSeal) (regs : Regs) (old new : Parts) : Type 0 where
-  pub armed : IsArmed setup a seal old.device.regs regs old.watch new.watch
+pub record IsWriteArmed (setup : Setup) (a : ℕ) (plain : Line) (seal : LineSeal) (regs : Regs) (old new : TreeEngineParts) : Type 0 where
+  pub armed : IsTreeArmed setup a seal old.device.regs regs old.watch new.watch
   pub sealed : seal.cipher ≡ cipher_of setup.formulas a (version_counter seal.counter) plain
 
 -- a write that was done: armed, written and emptied
-pub record IsWriteDone (setup : Setup) (a : ℕ) (plain : Line) (counter : ℕ) (old new : Parts) : Type 0 where
+pub record IsWriteDone (setup : Setup) (a : ℕ) (plain : Line) (counter : ℕ) (old new : TreeEngineParts) : Type 0 where
   pub seal : LineSeal
   pub armed_regs : Regs
   pub armed : IsWriteArmed setup a plain seal armed_regs old new
   pub its_counter : seal.counter ≡ counter
-  pub emptied : IsEmptied armed_regs new.device.regs
-  pub stored : HoldsSeal setup.shape new a
-  pub path : IsPathCached setup.shape a new.engine.cache
+  pub emptied : IsTreeEmptied armed_regs new.device.regs
+  pub stored : HoldsTreeSeal setup.shape new a
+  pub path : IsNodePathCached setup.shape a new.engine.cache
 
 -- a cut after the arming latch: the write is kept, and its group is armed
-pub record IsWriteKept (setup : Setup) (a : ℕ) (plain : Line) (old new : Parts) : Type 0 where
+pub record IsWriteKept (setup : Setup) (a : ℕ) (plain : Line) (old new : TreeEngineParts) : Type 0 where
   pub seal : LineSeal
   pub armed : IsWriteArmed setup a plain seal new.device.regs old new
-  pub stored : HoldsSeal setup.shape new a
+  pub stored : HoldsTreeSeal setup.shape new a
   pub latches : RisesBy 1 old.device.latches new.device.latches
 
 -- a cut before it: the write is lost
-pub record IsWriteLost (old new : Parts) : Type 0 where
+pub record IsWriteLost (old new : TreeEngineParts) : Type 0 where
   pub watch : new.watch ≡ old.watch
   pub regs : new.device.regs ≡ old.device.regs
   pub latches : new.device.latches ≡ old.device.latches
 
 -- node 0's version has no number above it
-abbrev pub IsUsedUp : Parts → Type 0
+abbrev pub IsUsedUp : TreeEngineParts → Type 0
 IsUsedUp parts = total (node_at parts.watch.nodes 0) ≡ 2 ^ 64 - 1
 
 -- what a write's answer says, from a trusted chip on
-abbrev pub AnswersWrite : Setup → ℕ → Line → Parts → Parts → Result ℕ TreeFault → Type 0
-AnswersWrite setup a plain old new (Ok counter) =
+abbrev pub AnswersTreeWrite : Setup → ℕ → Line → TreeEngineParts → TreeEngineParts → Result ℕ TreeFault → Type 0
+AnswersTreeWrite setup a plain old new (Ok counter) =
     (IsUsedUp old → ⊥) × IsPathAccepted setup a old new × IsWriteDone setup a plain counter old new
-AnswersWrite setup a plain old new (Err Fail.Cut) =
+AnswersTreeWrite setup a plain old new (Err Fail.Cut) =
     (IsUsedUp old → ⊥) × (IsWriteLost old new ⊎ IsWriteKept setup a plain old new)
-AnswersWrite setup a plain old new (Err Fail.Down) = ⊥
-AnswersWrite setup a plain old new (Err (Fail.Node x)) = (IsUsedUp old → ⊥) × IsNodeRefused setup a x old new
-AnswersWrite setup a plain old new (Err (Fail.Tag b)) = ⊥
-AnswersWrite setup a plain old new (Err Fail.Spent) = IsUsedUp old × (new ≡ old)
-AnswersWrite setup a plain old new (Err Fail.Shown) = (IsUsedUp old → ⊥) × IsNodeShown setup a old new
+AnswersTreeWrite setup a plain old new (Err Fail.Down) = ⊥
+AnswersTreeWrite setup a plain old new (Err (Fail.Node x)) = (IsUsedUp old → ⊥) × IsNodeRefused setup a x old new
+AnswersTreeWrite setup a plain old new (Err (Fail.Tag b)) = ⊥
+AnswersTreeWrite setup a plain old new (Err Fail.Spent) = IsUsedUp old × (new ≡ old)
+AnswersTreeWrite setup a plain old new (Err Fail.Shown) = (IsUsedUp old → ⊥) × IsNodeShown setup a old new
 
 -- the steps of a write: one for each node that gives way, a latch, the lines of its group, a latch
 pub record TakesWriteSteps (g : Shape) (old new : Device) : Type 0 where
@@ -313,19 +313,19 @@ StepsOfWrite g (Err Fail.Spent) old new = new ≡ old
 StepsOfWrite g (Err fault) old new = TakesWriteBacks g.levels going old new
 
 -- a write by an engine that isn't down
-pub record IsLineWritten (setup : Setup) (a : ℕ) (plain : Line) (old new : Parts) (answer : Result ℕ TreeFault) : Type 0 where
+pub record IsLineWritten (setup : Setup) (a : ℕ) (plain : Line) (old new : TreeEngineParts) (answer : Result ℕ TreeFault) : Type 0 where
   pub kind : IsWriteAnswer answer
-  pub up : IsDownAnswer answer → ⊥
+  pub up : IsTreeDownAnswer answer → ⊥
   -- Spent comes exactly where the version of the engine's top is the greatest number
-  pub spent : IsSpentAnswer answer ↔ (total (top_node old.engine.cache) ≡ 2 ^ 64 - 1)
-  pub effect : CallEffect setup (outcome_of answer) old new
+  pub spent : IsTreeSpentAnswer answer ↔ (total (top_node old.engine.cache) ≡ 2 ^ 64 - 1)
+  pub effect : TreeCallEffect setup (tree_outcome_of answer) old new
   pub steps : StepsOfWrite setup.shape answer old.device new.device
   pub work : WorksOfWrite setup a old new answer
-  pub answered : AreTrusted setup old → AnswersWrite setup a plain old new answer
-  pub unrefused : AreSound setup old → IsUnrefused answer
+  pub answered : AreTreeTrusted setup old → AnswersTreeWrite setup a plain old new answer
+  pub unrefused : AreTreeSound setup old → IsTreeUnrefused answer
   -- whatever the board was: a call that isn't done leaves what the watch knew
-  pub watch : IsRefusal answer → KeepsWatch (outcome_of answer) old.watch new.watch
+  pub watch : IsTreeRefusal answer → KeepsWatch (tree_outcome_of answer) old.watch new.watch
 
-pub record HasWrittenLine (setup : Setup) (a : ℕ) (plain : Line) (old new : Parts) (answer : Result ℕ TreeFault) : Type 0 where
-  pub down : AnswersDown old new answer
+pub record HasWrittenTreeLine (setup : Setup) (a : ℕ) (plain : Line) (old new : TreeEngineParts) (answer : Result ℕ TreeFault) : Type 0 where
+  pub down : AnswersTreeDown old new answer
   pub done : old.engine.down ≡ false → IsLineWritten setup a plain old new answer

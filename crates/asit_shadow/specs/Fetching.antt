@@ -21,10 +21,10 @@ use Rattle.asit_shadow.specs.declared.cache.CachedNode.{CachedNode}
 use Rattle.asit_shadow.specs.declared.fault.TreeFault.{TreeFault}
 use Rattle.asit_shadow.specs.declared.fault.TreeFault.TheVariants as Fail
 use Rattle.asit_shadow.specs.State.{cache_at, IsCached, IsCachedAs}
-use Rattle.asit_shadow.specs.Parts.{Parts, AreTrusted, AreSound}
-use Rattle.asit_shadow.specs.Work.{holds_dirty, absent_count, HasFetchedLevels, HasStoppedAt, IsShownAt, IsCutInFetch}
+use Rattle.asit_shadow.specs.Parts.{TreeEngineParts, AreTreeTrusted, AreTreeSound}
+use Rattle.asit_shadow.specs.Work.{holds_dirty, absent_nodes, HasFetchedNodes, HasStoppedAt, IsNodeShownAt, IsCutInNodeFetch}
 use Rattle.asit_shadow.specs.Counts.{HasStopTags}
-use Rattle.asit_shadow.specs.Calls.{CallEffect, IsNodeRead, IsNodeRefused, IsNodeShown, IsUnrefusedFault, KeepsWatch, TakesWriteBacks, outcome_of_fault}
+use Rattle.asit_shadow.specs.Calls.{TreeCallEffect, IsNodeRead, IsNodeRefused, IsNodeShown, IsUnrefusedFault, KeepsWatch, TakesWriteBacks, outcome_of_tree_fault}
 
 -- ---- one level
 
@@ -52,7 +52,7 @@ IsNodeTaken setup x version old new watch after tags made (Err Fail.Shown) =
 IsNodeTaken setup x version old new watch after tags made (Err fault) = ⊥
 
 -- node x, which isn't cached, was read under a version, and took its slot clean
-pub record IsNodeFound (setup : Setup) (x version : ℕ) (node : Node) (old new : Parts) : Type 0 where
+pub record IsNodeFound (setup : Setup) (x version : ℕ) (node : Node) (old new : TreeEngineParts) : Type 0 where
   pub uncached : IsCached setup.shape old.engine.cache x → ⊥
   pub between : Device
   pub taken : IsNodeAccepted setup x version old.device between old.watch new.watch node
@@ -65,7 +65,7 @@ pub record IsNodeFound (setup : Setup) (x version : ℕ) (node : Node) (old new 
   pub down : new.engine.down ≡ old.engine.down
 
 -- node x was cached, or found
-abbrev pub HasFetchedNode : Setup → ℕ → ℕ → Parts → Parts → Node → Type 0
+abbrev pub HasFetchedNode : Setup → ℕ → ℕ → TreeEngineParts → TreeEngineParts → Node → Type 0
 HasFetchedNode setup x version old new node =
     (IsCachedAs setup.shape old.engine.cache x node × (new ≡ old)) ⊎ IsNodeFound setup x version node old new
 
@@ -75,7 +75,7 @@ AreTagsCutOff slot live tags made =
     ((live ≡ false) × (made ≡ tags)) ⊎ ((holds_dirty slot ≡ true) × (made ≡ risen_times 2 tags))
 
 -- a cut before node x, which isn't cached, took its slot: no more than a line was read
-pub record IsNodeCutOff (g : Shape) (x : ℕ) (old new : Parts) : Type 0 where
+pub record IsNodeCutOff (g : Shape) (x : ℕ) (old new : TreeEngineParts) : Type 0 where
   pub uncached : IsCached g old.engine.cache x → ⊥
   -- where power was on, it is cut as a dirty node has to give way
   pub victim : old.device.live ≡ true → holds_dirty (cache_at old.engine.cache (slot_of g x)) ≡ true
@@ -93,7 +93,7 @@ pub record IsNodeCutOff (g : Shape) (x : ℕ) (old new : Parts) : Type 0 where
   pub watch : new.watch ≡ old.watch
 
 -- why node x wasn't fetched, with the suite's tags before and after
-abbrev pub HasNoNode : Setup → ℕ → ℕ → Parts → Parts → ℕ → ℕ → TreeFault → Type 0
+abbrev pub HasNoNode : Setup → ℕ → ℕ → TreeEngineParts → TreeEngineParts → ℕ → ℕ → TreeFault → Type 0
 HasNoNode setup x version old new tags made Fail.Cut =
     IsNodeCutOff setup.shape x old new
     × AreTagsCutOff (cache_at old.engine.cache (slot_of setup.shape x)) old.device.live tags made
@@ -116,8 +116,8 @@ KeepsPathLines g a (Some old) (Some new) =
 
 -- what stays as levels of the path of data line a are fetched, whatever the board: the engine's tree, the
 -- registers and the watch, and the slots of the levels below
-pub record IsPathFetchedTo (setup : Setup) (a levels : ℕ) (old new : Parts) : Type 0 where
-  pub effect : CallEffect setup going old new
+pub record IsPathFetchedTo (setup : Setup) (a levels : ℕ) (old new : TreeEngineParts) : Type 0 where
+  pub effect : TreeCallEffect setup going old new
   pub tree : new.engine.tree ≡ old.engine.tree
   pub down : new.engine.down ≡ old.engine.down
   pub slot_count : length new.engine.cache ≡ length old.engine.cache
@@ -126,34 +126,34 @@ pub record IsPathFetchedTo (setup : Setup) (a levels : ℕ) (old new : Parts) : 
       → cache_at new.engine.cache (slot_of setup.shape x) ≡ cache_at old.engine.cache (slot_of setup.shape x)
   pub regs : new.device.regs ≡ old.device.regs
   pub steps : TakesWriteBacks levels going old.device new.device
-  pub done : HasFetchedLevels setup a levels old new
-  pub reads : RisesBy (absent_count setup.shape old.engine.cache a levels) old.device.reads new.device.reads
+  pub done : HasFetchedNodes setup a levels old new
+  pub reads : RisesBy (absent_nodes setup.shape old.engine.cache a levels) old.device.reads new.device.reads
   pub watch : new.watch ≡ old.watch
-  pub path_lines : AreTrusted setup old → KeepsPathLines setup.shape a old.device.lines new.device.lines
+  pub path_lines : AreTreeTrusted setup old → KeepsPathLines setup.shape a old.device.lines new.device.lines
   pub cached :
-      AreTrusted setup old → (x : ℕ) → is_on_line_path setup.shape a x ≡ true → level_of x ≤ levels
+      AreTreeTrusted setup old → (x : ℕ) → is_on_line_path setup.shape a x ≡ true → level_of x ≤ levels
       → IsCached setup.shape new.engine.cache x
   pub read :
-      AreTrusted setup old → (x : ℕ) → is_on_line_path setup.shape a x ≡ true → level_of x ≤ levels
+      AreTreeTrusted setup old → (x : ℕ) → is_on_line_path setup.shape a x ≡ true → level_of x ≤ levels
       → IsCached setup.shape old.engine.cache x ⊎ IsNodeRead setup a x old new
 
 -- a fetched path, and its last node
-pub record IsPathFetched (setup : Setup) (a : ℕ) (old new : Parts) (node : Node) : Type 0 where
+pub record IsNodePathFetched (setup : Setup) (a : ℕ) (old new : TreeEngineParts) (node : Node) : Type 0 where
   pub path : IsPathFetchedTo setup a setup.shape.levels old new
-  pub last : AreTrusted setup old → node ≡ node_at old.watch.nodes (counter_position setup.shape (a / 4))
+  pub last : AreTreeTrusted setup old → node ≡ node_at old.watch.nodes (counter_position setup.shape (a / 4))
 
 -- how a fetch stops
-abbrev pub StopsFetch : Setup → ℕ → Parts → Parts → TreeFault → Type 0
+abbrev pub StopsFetch : Setup → ℕ → TreeEngineParts → TreeEngineParts → TreeFault → Type 0
 StopsFetch setup a old new Fail.Cut = ⊤
 StopsFetch setup a old new (Fail.Node x) = IsNodeRefused setup a x old new
 StopsFetch setup a old new Fail.Shown = IsNodeShown setup a old new
 StopsFetch setup a old new fault = ⊥
 
 -- how far it came
-abbrev pub StopsWork : Setup → ℕ → Parts → Parts → TreeFault → Type 0
-StopsWork setup a old new Fail.Cut = IsCutInFetch setup a old new
+abbrev pub StopsWork : Setup → ℕ → TreeEngineParts → TreeEngineParts → TreeFault → Type 0
+StopsWork setup a old new Fail.Cut = IsCutInNodeFetch setup a old new
 StopsWork setup a old new (Fail.Node x) = HasStoppedAt setup a x old new
-StopsWork setup a old new Fail.Shown = IsShownAt setup a old new
+StopsWork setup a old new Fail.Shown = IsNodeShownAt setup a old new
 StopsWork setup a old new fault = ⊥
 
 abbrev pub IsFetchFault : TreeFault → Type 0
@@ -168,15 +168,15 @@ LeavesWatch Fail.Shown old new = ⊤
 LeavesWatch fault old new = new ≡ old
 
 -- a path that couldn't be fetched, with the suite's tags before and after
-pub record IsFetchStopped (setup : Setup) (a : ℕ) (old new : Parts) (tags made : ℕ) (fault : TreeFault) : Type 0 where
+pub record IsFetchStopped (setup : Setup) (a : ℕ) (old new : TreeEngineParts) (tags made : ℕ) (fault : TreeFault) : Type 0 where
   pub kind : IsFetchFault fault
-  pub effect : CallEffect setup (outcome_of_fault fault) old new
+  pub effect : TreeCallEffect setup (outcome_of_tree_fault fault) old new
   pub down : new.engine.down ≡ old.engine.down
   pub regs : new.device.regs ≡ old.device.regs
-  pub steps : TakesWriteBacks setup.shape.levels (outcome_of_fault fault) old.device new.device
-  pub watch : KeepsWatch (outcome_of_fault fault) old.watch new.watch
+  pub steps : TakesWriteBacks setup.shape.levels (outcome_of_tree_fault fault) old.device new.device
+  pub watch : KeepsWatch (outcome_of_tree_fault fault) old.watch new.watch
   pub same_watch : LeavesWatch fault old.watch new.watch
   pub work : StopsWork setup a old new fault
   pub its_tags : HasStopTags setup a old new tags made fault
-  pub answered : AreTrusted setup old → StopsFetch setup a old new fault
-  pub unrefused : AreSound setup old → IsUnrefusedFault fault
+  pub answered : AreTreeTrusted setup old → StopsFetch setup a old new fault
+  pub unrefused : AreTreeSound setup old → IsUnrefusedFault fault

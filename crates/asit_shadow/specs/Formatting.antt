@@ -19,14 +19,14 @@ use Rattle.counter_tree.specs.Slots.{slot_line}
 use Rattle.counter_tree.specs.Watch.{WatchState, last_seal_of, IsWatchOf}
 use Rattle.asit_shadow.specs.declared.cache.CachedNode.{CachedNode}
 use Rattle.asit_shadow.specs.State.{TreeState}
-use Rattle.asit_shadow.specs.Invariants.{IsSound, IsTreeOver}
-use Rattle.asit_shadow.specs.Parts.{parts_of, AreTrusted}
+use Rattle.asit_shadow.specs.Invariants.{IsTreeSound, IsTreeOver}
+use Rattle.asit_shadow.specs.Parts.{tree_parts_of, AreTreeTrusted}
 use Rattle.asit_shadow.specs.Paths.{tag_only}
 use Rattle.asit_shadow.specs.Recovering.{Rest}
 
 -- the seal of a zero line under counter 0
-abbrev pub first_seal : Formulas → ℕ → LineSeal
-first_seal f a =
+abbrev pub first_tree_seal : Formulas → ℕ → LineSeal
+first_tree_seal f a =
     record {
       counter = 0;
       cipher = cipher_of f a (version_counter 0) zero_line;
@@ -54,10 +54,10 @@ first_tree_regs setup = record empty_regs { root = shadow_root setup.shape setup
 -- each line of the device
 pub record AreLinesFormatted (setup : Setup) (lines : List Line) : Type 0 where
   pub device_whole : AreLinesOf (tree_size setup.shape) lines
-  pub data_lines : (a : ℕ) → a < tree_lines setup.shape → line_at lines a ≡ (first_seal setup.formulas a).cipher
+  pub data_lines : (a : ℕ) → a < tree_lines setup.shape → line_at lines a ≡ (first_tree_seal setup.formulas a).cipher
   pub tag_lines :
       (a : ℕ) → a < tree_lines setup.shape
-      → line_at lines (line_of_tag setup.shape a) ≡ tag_only (first_seal setup.formulas a).tag
+      → line_at lines (line_of_tag setup.shape a) ≡ tag_only (first_tree_seal setup.formulas a).tag
   pub node_lines :
       (x : ℕ) → x < meta_lines setup.shape
       → line_at lines (line_of_node setup.shape x) ≡ node_line setup.formulas x zero_node
@@ -69,7 +69,7 @@ pub record AreLinesFormatted (setup : Setup) (lines : List Line) : Type 0 where
 pub record IsFormatTold (setup : Setup) (old new : WatchState) : Type 0 where
   pub its_setup : new.setup ≡ old.setup
   pub seal_count : length new.seals ≡ length old.seals
-  pub seals : (a : ℕ) → a < tree_lines setup.shape → last_seal_of new a ≡ Some (first_seal setup.formulas a)
+  pub seals : (a : ℕ) → a < tree_lines setup.shape → last_seal_of new a ≡ Some (first_tree_seal setup.formulas a)
   pub nodes : new.nodes ≡ replicate (meta_lines setup.shape) zero_node
   pub slots : new.slots ≡ first_slots setup.shape
   pub exhibit : new.exhibit ≡ old.exhibit
@@ -84,7 +84,7 @@ pub record IsFirstEngine (setup : Setup) (engine : TreeState) : Type 0 where
 pub record IsChipFormatted (setup : Setup) (engine : TreeState) (regs : Regs) (watch : WatchState) : Type 0 where
   pub of_setup : IsWatchOf setup watch
   pub no_exhibit : IsNone watch.exhibit
-  pub seals : (a : ℕ) → a < tree_lines setup.shape → last_seal_of watch a ≡ Some (first_seal setup.formulas a)
+  pub seals : (a : ℕ) → a < tree_lines setup.shape → last_seal_of watch a ≡ Some (first_tree_seal setup.formulas a)
   pub nodes : watch.nodes ≡ replicate (meta_lines setup.shape) zero_node
   pub slots : watch.slots ≡ first_slots setup.shape
   pub engine_new : IsFirstEngine setup engine
@@ -114,10 +114,10 @@ pub record HasTreeFormatted (setup : Setup) (old new : Rest) (engine : TreeState
   pub engine_new : IsFirstEngine setup engine
   pub device : HasDeviceFormatted setup old new engine.tree
   pub trusted :
-      old.watch.setup ≡ setup → IsNone old.watch.exhibit → AreTrusted setup (parts_of engine new.device new.watch)
+      old.watch.setup ≡ setup → IsNone old.watch.exhibit → AreTreeTrusted setup (tree_parts_of engine new.device new.watch)
   pub sound :
       old.watch.setup ≡ setup → IsNone old.watch.exhibit
-      → IfSome new.device.lines (λ lines. IsSound setup engine lines new.device.regs new.watch)
+      → IfSome new.device.lines (λ lines. IsTreeSound setup engine lines new.device.regs new.watch)
 
 -- ---- its steps, in order
 
@@ -127,11 +127,11 @@ set_first place value zero list = list
 set_first place value (suc n) list = slice_set (set_first place value n list) (place n) (value n)
 
 -- the first n data lines sealed, each with its tag line
-abbrev pub sealed_lines : Setup → ℕ → List Line → List Line
-sealed_lines setup zero lines = lines
-sealed_lines setup (suc n) lines =
-    slice_set (slice_set (sealed_lines setup n lines) n (first_seal setup.formulas n).cipher)
-    (line_of_tag setup.shape n) (tag_only (first_seal setup.formulas n).tag)
+abbrev pub tree_sealed_lines : Setup → ℕ → List Line → List Line
+tree_sealed_lines setup zero lines = lines
+tree_sealed_lines setup (suc n) lines =
+    slice_set (slice_set (tree_sealed_lines setup n lines) n (first_tree_seal setup.formulas n).cipher)
+    (line_of_tag setup.shape n) (tag_only (first_tree_seal setup.formulas n).tag)
 
 -- the first n nodes and the first n slot lines of these written
 abbrev pub node_lines_written : Setup → ℕ → List Line → List Line
@@ -144,7 +144,7 @@ slot_lines_written g slots n lines = set_first (line_of_slot g) (line_at slots) 
 -- the first n seals told
 pub record AreSealsTold (f : Formulas) (n : ℕ) (old new : WatchState) : Type 0 where
   pub setup : new.setup ≡ old.setup
-  pub seals : new.seals ≡ set_first (λ a. a) (λ a. Some (first_seal f a)) n old.seals
+  pub seals : new.seals ≡ set_first (λ a. a) (λ a. Some (first_tree_seal f a)) n old.seals
   pub nodes : new.nodes ≡ old.nodes
   pub slots : new.slots ≡ old.slots
   pub exhibit : new.exhibit ≡ old.exhibit

@@ -38,15 +38,15 @@ pub record NamesTrueNode (g : Shape) (watch : WatchState) (i : ℕ) : Type 0 whe
   pub line : line_at watch.slots i ≡ slot_line x (node_at watch.nodes x)
 
 -- the true line of slot i is zero, or names a node truly
-abbrev pub IsTrueSlot : Shape → WatchState → ℕ → Type 0
-IsTrueSlot g watch i = (line_at watch.slots i ≡ zero_line) ⊎ NamesTrueNode g watch i
+abbrev pub IsTrueTreeSlot : Shape → WatchState → ℕ → Type 0
+IsTrueTreeSlot g watch i = (line_at watch.slots i ≡ zero_line) ⊎ NamesTrueNode g watch i
 
 -- the registers belong to the watch
-pub record IsAnchored (setup : Setup) (regs : Regs) (watch : WatchState) : Type 0 where
+pub record IsTreeAnchored (setup : Setup) (regs : Regs) (watch : WatchState) : Type 0 where
   pub of_setup : IsWatchOf setup watch
   pub tree : IsCounterTree setup.shape watch.nodes
   pub seals : (a : ℕ) → a < tree_lines setup.shape → IsTrueSeal setup watch a
-  pub slots : (i : ℕ) → i < tree_slots setup.shape → IsTrueSlot setup.shape watch i
+  pub slots : (i : ℕ) → i < tree_slots setup.shape → IsTrueTreeSlot setup.shape watch i
   pub top_named : line_at watch.slots 0 ≡ slot_line 0 (node_at watch.nodes 0)
   pub root : regs.root ≡ shadow_root setup.shape setup.formulas watch.slots
   pub group : IsGroup (tree_size setup.shape) regs.group.items
@@ -72,9 +72,9 @@ pub record IsTopCached (engine : TreeState) : Type 0 where
   pub stands : cache_at engine.cache 0 ≡ Some held
   pub position : held.x ≡ 0
 
-pub record IsTrusted (setup : Setup) (engine : TreeState) (regs : Regs) (watch : WatchState) : Type 0 where
+pub record IsTreeTrusted (setup : Setup) (engine : TreeState) (regs : Regs) (watch : WatchState) : Type 0 where
   pub its_shape : engine.shape ≡ setup.shape
-  pub anchored : IsAnchored setup regs watch
+  pub anchored : IsTreeAnchored setup regs watch
   pub no_group : regs.group.items ≡ []
   pub not_down : engine.down ≡ false
   pub slot_count : length engine.cache ≡ tree_slots setup.shape
@@ -87,7 +87,7 @@ pub record IsTrusted (setup : Setup) (engine : TreeState) (regs : Regs) (watch :
 -- ---- durable
 
 -- data line a, and the tag in its tag line, are those of its last seal
-pub record IsSealStored (g : Shape) (lines : List Line) (watch : WatchState) (a : ℕ) : Type 0 where
+pub record IsTreeSealStored (g : Shape) (lines : List Line) (watch : WatchState) (a : ℕ) : Type 0 where
   pub seal : LineSeal
   pub last : last_seal_of watch a ≡ Some seal
   pub cipher : line_at lines a ≡ seal.cipher
@@ -107,24 +107,24 @@ abbrev pub IsSlotStored : Shape → List Line → WatchState → ℕ → Type 0
 IsSlotStored g lines watch i = line_at lines (line_of_slot g i) ≡ line_at watch.slots i
 
 -- what recovery can rest on, over a device's lines with no group left to redo
-pub record IsMendable (setup : Setup) (lines : List Line) (regs : Regs) (watch : WatchState) : Type 0 where
-  pub anchored : IsAnchored setup regs watch
-  pub seals_stored : (a : ℕ) → a < tree_lines setup.shape → IsSealStored setup.shape lines watch a
+pub record IsTreeMendable (setup : Setup) (lines : List Line) (regs : Regs) (watch : WatchState) : Type 0 where
+  pub anchored : IsTreeAnchored setup regs watch
+  pub seals_stored : (a : ℕ) → a < tree_lines setup.shape → IsTreeSealStored setup.shape lines watch a
   pub slots_stored : (i : ℕ) → i < tree_slots setup.shape → IsSlotStored setup.shape lines watch i
   pub true_or_named :
       (x : ℕ) → x < meta_lines setup.shape → IsNodeStored setup lines watch x ⊎ IsNamed setup.shape watch x
 
 -- the device is whole, and recovery can rest on it once the armed group is redone
-pub record IsDurable (setup : Setup) (lines : List Line) (regs : Regs) (watch : WatchState) : Type 0 where
+pub record IsTreeDurable (setup : Setup) (lines : List Line) (regs : Regs) (watch : WatchState) : Type 0 where
   pub device_whole : AreLinesOf (tree_size setup.shape) lines
-  pub mendable : IsMendable setup (redone regs.group.items lines) regs watch
+  pub mendable : IsTreeMendable setup (redone regs.group.items lines) regs watch
 
 -- ---- sound
 
 -- trusted and durable, and each node is true on the device or cached dirty
-pub record IsSound (setup : Setup) (engine : TreeState) (lines : List Line) (regs : Regs) (watch : WatchState) : Type 0 where
-  pub trusted : IsTrusted setup engine regs watch
-  pub durable : IsDurable setup lines regs watch
+pub record IsTreeSound (setup : Setup) (engine : TreeState) (lines : List Line) (regs : Regs) (watch : WatchState) : Type 0 where
+  pub trusted : IsTreeTrusted setup engine regs watch
+  pub durable : IsTreeDurable setup lines regs watch
   pub true_or_dirty :
       (x : ℕ) → x < meta_lines setup.shape
       → IsNodeStored setup lines watch x ⊎ IsCachedDirty setup.shape engine.cache x

@@ -20,11 +20,11 @@ use Rattle.counter_tree.specs.Watch.{IsLineSeal, WatchState, last_seal_of, IsSlo
 use Rattle.counter_tree.specs.declared.watch.LineSeal.{LineSeal}
 use Rattle.counter_tree.specs.Trees.{is_on_line_path, node_at, entry_for, line_counter}
 use Rattle.counter_tree.specs.Slots.{slot_of}
-use Rattle.asit_shadow.specs.Paths.{slots_with, write_group, cache_with, HasPathNamed, HasPathCached, IsPathCached}
+use Rattle.asit_shadow.specs.Paths.{slots_with, write_group, cache_with, HasPathNamed, HasPathCached, IsNodePathCached}
 use Rattle.asit_shadow.specs.State.{TreeState, IsCached}
 use Rattle.asit_shadow.specs.declared.cache.CachedNode.{CachedNode}
-use Rattle.asit_shadow.specs.Invariants.{IsAnchored, IsTrusted, IsDurable, IsSound}
-use Rattle.asit_shadow.specs.Steps.{IsArmed, HasPathStored, IsEmptied, IsFetched, GivesWay, IsRecovered, slots_read, plain_line, MadeSeal, IsHistory}
+use Rattle.asit_shadow.specs.Invariants.{IsTreeAnchored, IsTreeTrusted, IsTreeDurable, IsTreeSound}
+use Rattle.asit_shadow.specs.Steps.{IsTreeArmed, HasPathStored, IsTreeEmptied, IsFetched, GivesWay, IsTreeRecovered, slots_read, tree_plain_line, MadeSeal, IsHistory}
 use Rattle.asit_shadow.specs.Formatting.{IsChipFormatted, AreLinesFormatted}
 use Rattle.counter_tree.specs.Shadow.{shadow_root}
 
@@ -62,16 +62,16 @@ WritesMakeGroups =
 abbrev pub ArmingKeepsAnchored : Type 0
 ArmingKeepsAnchored =
     (setup : Setup) (a : ℕ) (seal : LineSeal) (old_regs new_regs : Regs) (old new : WatchState)
-    → IsShape setup.shape → IsAnchored setup old_regs old → IsArmed setup a seal old_regs new_regs old new
-    → IsAnchored setup new_regs new
+    → IsShape setup.shape → IsTreeAnchored setup old_regs old → IsTreeArmed setup a seal old_regs new_regs old new
+    → IsTreeAnchored setup new_regs new
 
 abbrev pub WritingKeepsTrusted : Type 0
 WritingKeepsTrusted =
     (setup : Setup) (a : ℕ) (seal : LineSeal) (engine after : TreeState) (old_regs armed_regs new_regs : Regs)
     (old new : WatchState)
-    → IsShape setup.shape → IsTrusted setup engine old_regs old
-    → IsArmed setup a seal old_regs armed_regs old new → HasPathStored setup a engine after new
-    → IsEmptied armed_regs new_regs → IsTrusted setup after new_regs new
+    → IsShape setup.shape → IsTreeTrusted setup engine old_regs old
+    → IsTreeArmed setup a seal old_regs armed_regs old new → HasPathStored setup a engine after new
+    → IsTreeEmptied armed_regs new_regs → IsTreeTrusted setup after new_regs new
 
 -- over a sound engine with the path cached: durable from the latch on, and sound once the group is
 -- written and emptied
@@ -79,25 +79,25 @@ abbrev pub ArmingKeepsDurable : Type 0
 ArmingKeepsDurable =
     (setup : Setup) (a : ℕ) (seal : LineSeal) (engine : TreeState) (lines : List Line)
     (old_regs new_regs : Regs) (old new : WatchState)
-    → IsShape setup.shape → IsSound setup engine lines old_regs old → IsPathCached setup.shape a engine.cache
-    → IsArmed setup a seal old_regs new_regs old new → IsDurable setup lines new_regs new
+    → IsShape setup.shape → IsTreeSound setup engine lines old_regs old → IsNodePathCached setup.shape a engine.cache
+    → IsTreeArmed setup a seal old_regs new_regs old new → IsTreeDurable setup lines new_regs new
 
 abbrev pub WritingKeepsSound : Type 0
 WritingKeepsSound =
     (setup : Setup) (a : ℕ) (seal : LineSeal) (engine after : TreeState) (lines : List Line)
     (old_regs armed_regs new_regs : Regs) (old new : WatchState)
-    → IsShape setup.shape → IsSound setup engine lines old_regs old → IsPathCached setup.shape a engine.cache
-    → IsArmed setup a seal old_regs armed_regs old new → HasPathStored setup a engine after new
-    → IsEmptied armed_regs new_regs
-    → IsSound setup after (redone armed_regs.group.items lines) new_regs new
+    → IsShape setup.shape → IsTreeSound setup engine lines old_regs old → IsNodePathCached setup.shape a engine.cache
+    → IsTreeArmed setup a seal old_regs armed_regs old new → HasPathStored setup a engine after new
+    → IsTreeEmptied armed_regs new_regs
+    → IsTreeSound setup after (redone armed_regs.group.items lines) new_regs new
 
 -- ---- the armed group is written, line by line, and emptied
 
 abbrev pub GroupLinesKeepDurable : Type 0
 GroupLinesKeepDurable =
     (setup : Setup) (lines : List Line) (regs : Regs) (watch : WatchState) (at : ℕ) (line : Line)
-    → Writes at regs.group.items → IsLine line → IsDurable setup lines regs watch
-    → IsDurable setup (slice_set lines at line) regs watch
+    → Writes at regs.group.items → IsLine line → IsTreeDurable setup lines regs watch
+    → IsTreeDurable setup (slice_set lines at line) regs watch
 
 -- a cut amid the group leaves lines that it makes the same of
 abbrev pub InterruptionsKeepDurable : Type 0
@@ -105,13 +105,13 @@ InterruptionsKeepDurable =
     (setup : Setup) (old new : List Line) (regs : Regs) (watch : WatchState)
     → AreLinesOf (tree_size setup.shape) new
     → redone regs.group.items new ≡ redone regs.group.items old
-    → IsDurable setup old regs watch → IsDurable setup new regs watch
+    → IsTreeDurable setup old regs watch → IsTreeDurable setup new regs watch
 
 abbrev pub FinishingKeepsDurable : Type 0
 FinishingKeepsDurable =
     (setup : Setup) (lines : List Line) (old new : Regs) (watch : WatchState)
-    → IsEmptied old new → IsDurable setup lines old watch
-    → IsDurable setup (redone old.group.items lines) new watch
+    → IsTreeEmptied old new → IsTreeDurable setup lines old watch
+    → IsTreeDurable setup (redone old.group.items lines) new watch
 
 -- ---- a node is fetched
 
@@ -120,22 +120,22 @@ FinishingKeepsDurable =
 abbrev pub ForgedNodesHold : Type 0
 ForgedNodesHold =
     (setup : Setup) (regs : Regs) (watch : WatchState) (x : ℕ) (line : Line) (node : Node)
-    → IsAnchored setup regs watch → 1 ≤ x → x < meta_lines setup.shape
+    → IsTreeAnchored setup regs watch → 1 ≤ x → x < meta_lines setup.shape
     → node_read setup.formulas x line (entry_for watch.nodes x) ≡ Some node
     → IsExhibit setup.formulas (forged_node watch x line)
 
 abbrev pub FetchingKeepsTrusted : Type 0
 FetchingKeepsTrusted =
     (setup : Setup) (x : ℕ) (line : Line) (node : Node) (old new : TreeState) (regs : Regs) (watch : WatchState)
-    → IsShape setup.shape → IsTrusted setup old regs watch → IsFetched setup x line node old new watch
-    → IsTrusted setup new regs watch
+    → IsShape setup.shape → IsTreeTrusted setup old regs watch → IsFetched setup x line node old new watch
+    → IsTreeTrusted setup new regs watch
 
 -- over a sound engine: a node that isn't cached is read as the true one, a true node can be written
 -- back, and a fetched one takes the place of one that is clean or true on the device
 abbrev pub SoundNodesAreRead : Type 0
 SoundNodesAreRead =
     (setup : Setup) (engine : TreeState) (lines : List Line) (regs : Regs) (watch : WatchState) (x : ℕ)
-    → IsShape setup.shape → AreInRange setup.formulas → IsSound setup engine lines regs watch → 1 ≤ x
+    → IsShape setup.shape → AreInRange setup.formulas → IsTreeSound setup engine lines regs watch → 1 ≤ x
     → x < meta_lines setup.shape → (IsCached setup.shape engine.cache x → ⊥)
     → (node_read setup.formulas x (line_at lines (line_of_node setup.shape x)) (entry_for watch.nodes x)
     ≡ Some (node_at watch.nodes x))
@@ -144,9 +144,9 @@ SoundNodesAreRead =
 abbrev pub WritingBackKeepsSound : Type 0
 WritingBackKeepsSound =
     (setup : Setup) (engine : TreeState) (lines : List Line) (regs : Regs) (watch : WatchState) (x : ℕ)
-    → IsShape setup.shape → AreInRange setup.formulas → IsSound setup engine lines regs watch
+    → IsShape setup.shape → AreInRange setup.formulas → IsTreeSound setup engine lines regs watch
     → x < meta_lines setup.shape
-    → IsSound setup engine
+    → IsTreeSound setup engine
     (slice_set lines (line_of_node setup.shape x) (node_line setup.formulas x (node_at watch.nodes x)))
     regs watch
 
@@ -154,8 +154,8 @@ abbrev pub FetchingKeepsSound : Type 0
 FetchingKeepsSound =
     (setup : Setup) (x : ℕ) (line : Line) (node : Node) (old new : TreeState) (lines : List Line) (regs : Regs)
     (watch : WatchState)
-    → IsShape setup.shape → IsSound setup old lines regs watch → IsFetched setup x line node old new watch
-    → GivesWay setup old lines watch (slot_of setup.shape x) → IsSound setup new lines regs watch
+    → IsShape setup.shape → IsTreeSound setup old lines regs watch → IsFetched setup x line node old new watch
+    → GivesWay setup old lines watch (slot_of setup.shape x) → IsTreeSound setup new lines regs watch
 
 -- ---- a data line is read
 
@@ -164,15 +164,15 @@ FetchingKeepsSound =
 abbrev pub ReadsArePlain : Type 0
 ReadsArePlain =
     (setup : Setup) (regs : Regs) (watch : WatchState) (a : ℕ) (cipher : Line)
-    → IsAnchored setup regs watch → a < tree_lines setup.shape
+    → IsTreeAnchored setup regs watch → a < tree_lines setup.shape
     → IfSome (last_seal_of watch a) (λ seal. cipher ≡ seal.cipher)
     → xor_lines cipher (setup.formulas.pad_of a (version_counter (line_counter setup.shape watch.nodes a)))
-    ≡ plain_line setup.formulas watch a
+    ≡ tree_plain_line setup.formulas watch a
 
 abbrev pub ForgedLinesHold : Type 0
 ForgedLinesHold =
     (setup : Setup) (regs : Regs) (watch : WatchState) (a : ℕ) (cipher : Line) (tag : List ℕ) (seal : LineSeal)
-    → IsAnchored setup regs watch → a < tree_lines setup.shape → last_seal_of watch a ≡ Some seal
+    → IsTreeAnchored setup regs watch → a < tree_lines setup.shape → last_seal_of watch a ≡ Some seal
     → setup.formulas.tag_of a (version_counter (line_counter setup.shape watch.nodes a)) cipher ≡ tag
     → IsExhibit setup.formulas (Forged a (version_counter seal.counter) cipher tag)
 
@@ -180,7 +180,7 @@ ForgedLinesHold =
 abbrev pub SoundLinesAreRead : Type 0
 SoundLinesAreRead =
     (setup : Setup) (engine : TreeState) (lines : List Line) (regs : Regs) (watch : WatchState) (a : ℕ)
-    → IsSound setup engine lines regs watch → a < tree_lines setup.shape
+    → IsTreeSound setup engine lines regs watch → a < tree_lines setup.shape
     → (setup.formulas.tag_of a (version_counter (line_counter setup.shape watch.nodes a)) (line_at lines a)
     ≡ tag_slot (line_at lines (line_of_tag setup.shape a)) 0)
     × IfSome (last_seal_of watch a) (λ seal. line_at lines a ≡ seal.cipher)
@@ -189,18 +189,18 @@ SoundLinesAreRead =
 abbrev pub WritesArePlain : Type 0
 WritesArePlain =
     (setup : Setup) (a : ℕ) (plain : Line) (seal : LineSeal) (old_regs new_regs : Regs) (old new : WatchState)
-    → AreInRange setup.formulas → IsAnchored setup old_regs old
-    → IsArmed setup a seal old_regs new_regs old new → IsLine plain
+    → AreInRange setup.formulas → IsTreeAnchored setup old_regs old
+    → IsTreeArmed setup a seal old_regs new_regs old new → IsLine plain
     → seal.cipher ≡ cipher_of setup.formulas a (version_counter seal.counter) plain
-    → (plain_line setup.formulas new a ≡ plain)
-    × ((b : ℕ) → b ≢ a → plain_line setup.formulas new b ≡ plain_line setup.formulas old b)
+    → (tree_plain_line setup.formulas new a ≡ plain)
+    × ((b : ℕ) → b ≢ a → tree_plain_line setup.formulas new b ≡ tree_plain_line setup.formulas old b)
 
 -- no line is sealed twice under one counter
 abbrev pub WritesAreFresh : Type 0
 WritesAreFresh =
     (setup : Setup) (a : ℕ) (seal : LineSeal) (old_regs new_regs : Regs) (old new : WatchState)
     (made : List MadeSeal)
-    → IsShape setup.shape → IsAnchored setup old_regs old → IsArmed setup a seal old_regs new_regs old new
+    → IsShape setup.shape → IsTreeAnchored setup old_regs old → IsTreeArmed setup a seal old_regs new_regs old new
     → IsHistory setup.shape old made
     → IsHistory setup.shape new (made ++ (record { at = a; counter = seal.counter }) ∷ [])
 
@@ -211,7 +211,7 @@ WritesAreFresh =
 abbrev pub ClashesHold : Type 0
 ClashesHold =
     (setup : Setup) (regs : Regs) (watch : WatchState) (slots : List Line) (shown : Exhibit)
-    → IsShape setup.shape → AreInRange setup.formulas → IsAnchored setup regs watch
+    → IsShape setup.shape → AreInRange setup.formulas → IsTreeAnchored setup regs watch
     → length slots ≡ tree_slots setup.shape → All IsLine slots
     → shadow_root setup.shape setup.formulas slots ≡ regs.root → IsSlotClash watch slots shown
     → IsExhibit setup.formulas shown
@@ -219,23 +219,23 @@ ClashesHold =
 abbrev pub RecoveryIsTrusted : Type 0
 RecoveryIsTrusted =
     (setup : Setup) (engine : TreeState) (regs : Regs) (watch : WatchState)
-    → IsShape setup.shape → IsAnchored setup regs watch → regs.group.items ≡ []
-    → IsRecovered setup watch.slots engine → IsTrusted setup engine regs watch
+    → IsShape setup.shape → IsTreeAnchored setup regs watch → regs.group.items ≡ []
+    → IsTreeRecovered setup watch.slots engine → IsTreeTrusted setup engine regs watch
 
 -- over a durable device: the slot lines read are the true ones under the register's root, and the
 -- engine that they make is sound
 abbrev pub DurableSlotsAreTrue : Type 0
 DurableSlotsAreTrue =
     (setup : Setup) (lines : List Line) (regs : Regs) (watch : WatchState)
-    → IsDurable setup lines regs watch → regs.group.items ≡ []
+    → IsTreeDurable setup lines regs watch → regs.group.items ≡ []
     → (slots_read setup.shape lines ≡ watch.slots)
     × (shadow_root setup.shape setup.formulas (slots_read setup.shape lines) ≡ regs.root)
 
 abbrev pub RecoveryIsSound : Type 0
 RecoveryIsSound =
     (setup : Setup) (engine : TreeState) (lines : List Line) (regs : Regs) (watch : WatchState)
-    → IsShape setup.shape → IsDurable setup lines regs watch → regs.group.items ≡ []
-    → IsRecovered setup (slots_read setup.shape lines) engine → IsSound setup engine lines regs watch
+    → IsShape setup.shape → IsTreeDurable setup lines regs watch → regs.group.items ≡ []
+    → IsTreeRecovered setup (slots_read setup.shape lines) engine → IsTreeSound setup engine lines regs watch
 
 -- ---- formatting
 
@@ -243,4 +243,4 @@ abbrev pub FormattingIsSound : Type 0
 FormattingIsSound =
     (setup : Setup) (engine : TreeState) (lines : List Line) (regs : Regs) (watch : WatchState)
     → IsShape setup.shape → AreInRange setup.formulas → IsChipFormatted setup engine regs watch
-    → AreLinesFormatted setup lines → IsSound setup engine lines regs watch
+    → AreLinesFormatted setup lines → IsTreeSound setup engine lines regs watch

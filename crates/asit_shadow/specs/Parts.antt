@@ -10,21 +10,21 @@ use Rattle.commit_regs.specs.Groups.{redone_told}
 use Rattle.counter_tree.specs.Layout.{tree_lines, tree_slots, tree_size}
 use Rattle.counter_tree.specs.Watch.{WatchState, last_seal_of}
 use Rattle.asit_shadow.specs.State.{TreeState}
-use Rattle.asit_shadow.specs.Invariants.{IsAnchored, IsTrusted, IsDurable, IsSound, IsSealStored, IsSlotStored}
+use Rattle.asit_shadow.specs.Invariants.{IsTreeAnchored, IsTreeTrusted, IsTreeDurable, IsTreeSound, IsTreeSealStored, IsSlotStored}
 use Rattle.asit_shadow.specs.Places.{IsNodeHeld, IsNodeHeldBy}
 
 -- what is on the chip, the device with its registers, and the watch that is told
-pub record Parts : Type 0 where
+pub record TreeEngineParts : Type 0 where
   pub engine : TreeState
   pub device : Device
   pub watch : WatchState
 
-abbrev pub parts_of : TreeState → Device → WatchState → Parts
-parts_of engine device watch = record { engine = engine; device = device; watch = watch }
+abbrev pub tree_parts_of : TreeState → Device → WatchState → TreeEngineParts
+tree_parts_of engine device watch = record { engine = engine; device = device; watch = watch }
 
 -- the device's lines with the armed group redone, where they are told
-abbrev pub lines_redone : Parts → Option (List Line)
-lines_redone parts = redone_told parts.device.regs.group.items parts.device.lines
+abbrev pub tree_lines_redone : TreeEngineParts → Option (List Line)
+tree_lines_redone parts = redone_told parts.device.regs.group.items parts.device.lines
 
 -- ---- what a call asks of its parts
 
@@ -41,49 +41,49 @@ pub record IsBoardReady (g : Shape) (device : Device) : Type 0 where
   pub group : IsGroup (tree_size g) device.regs.group.items
 
 -- both, and no group is armed, unless the engine is down
-pub record IsUsable (g : Shape) (parts : Parts) : Type 0 where
+pub record IsTreeUsable (g : Shape) (parts : TreeEngineParts) : Type 0 where
   pub watch : IsWatchReady g parts.watch
   pub board : IsBoardReady g parts.device
   pub no_group : parts.engine.down ≡ false → parts.device.regs.group.items ≡ []
 
 -- ---- the whole
 
-abbrev pub AreAnchored : Setup → Parts → Type 0
-AreAnchored setup parts = IsAnchored setup parts.device.regs parts.watch
+abbrev pub AreAnchored : Setup → TreeEngineParts → Type 0
+AreAnchored setup parts = IsTreeAnchored setup parts.device.regs parts.watch
 
-abbrev pub AreTrusted : Setup → Parts → Type 0
-AreTrusted setup parts = IsTrusted setup parts.engine parts.device.regs parts.watch
+abbrev pub AreTreeTrusted : Setup → TreeEngineParts → Type 0
+AreTreeTrusted setup parts = IsTreeTrusted setup parts.engine parts.device.regs parts.watch
 
 -- the lines are told, and durable
-abbrev pub AreDurable : Setup → Parts → Type 0
-AreDurable setup parts =
-    MatchOption parts.device.lines ⊥ (λ lines. IsDurable setup lines parts.device.regs parts.watch)
+abbrev pub AreTreeDurable : Setup → TreeEngineParts → Type 0
+AreTreeDurable setup parts =
+    MatchOption parts.device.lines ⊥ (λ lines. IsTreeDurable setup lines parts.device.regs parts.watch)
 
 -- the lines are told, and sound
-abbrev pub AreSound : Setup → Parts → Type 0
-AreSound setup parts =
-    MatchOption parts.device.lines ⊥ (λ lines. IsSound setup parts.engine lines parts.device.regs parts.watch)
+abbrev pub AreTreeSound : Setup → TreeEngineParts → Type 0
+AreTreeSound setup parts =
+    MatchOption parts.device.lines ⊥ (λ lines. IsTreeSound setup parts.engine lines parts.device.regs parts.watch)
 
 -- ---- place by place, where the lines are told: what the device holds once the armed group is redone
 
 -- the last seal of data line a
-abbrev pub HoldsSeal : Shape → Parts → ℕ → Type 0
-HoldsSeal g parts a = IfSome (lines_redone parts) (λ lines. IsSealStored g lines parts.watch a)
+abbrev pub HoldsTreeSeal : Shape → TreeEngineParts → ℕ → Type 0
+HoldsTreeSeal g parts a = IfSome (tree_lines_redone parts) (λ lines. IsTreeSealStored g lines parts.watch a)
 
 -- the true line of slot i
-abbrev pub HoldsSlot : Shape → Parts → ℕ → Type 0
-HoldsSlot g parts i = IfSome (lines_redone parts) (λ lines. IsSlotStored g lines parts.watch i)
+abbrev pub HoldsSlot : Shape → TreeEngineParts → ℕ → Type 0
+HoldsSlot g parts i = IfSome (tree_lines_redone parts) (λ lines. IsSlotStored g lines parts.watch i)
 
 -- node x, with power on: it is true on the device, or cached dirty
-abbrev pub HoldsNode : Setup → Parts → ℕ → Type 0
-HoldsNode setup parts x = IfSome (lines_redone parts) (λ lines. IsNodeHeldBy setup parts.engine lines parts.watch x)
+abbrev pub HoldsNode : Setup → TreeEngineParts → ℕ → Type 0
+HoldsNode setup parts x = IfSome (tree_lines_redone parts) (λ lines. IsNodeHeldBy setup parts.engine lines parts.watch x)
 
 -- where the lines are told, it is neither
-abbrev pub IsNodeUnheld : Setup → Parts → ℕ → Type 0
+abbrev pub IsNodeUnheld : Setup → TreeEngineParts → ℕ → Type 0
 IsNodeUnheld setup parts x =
-    (lines : List Line) → lines_redone parts ≡ Some lines
+    (lines : List Line) → tree_lines_redone parts ≡ Some lines
     → IsNodeHeldBy setup parts.engine lines parts.watch x → ⊥
 
 -- node x, with power off: it is true on the device, or named by its slot
-abbrev pub KeepsNode : Setup → Parts → ℕ → Type 0
-KeepsNode setup parts x = IfSome (lines_redone parts) (λ lines. IsNodeHeld setup lines parts.watch x)
+abbrev pub KeepsNode : Setup → TreeEngineParts → ℕ → Type 0
+KeepsNode setup parts x = IfSome (tree_lines_redone parts) (λ lines. IsNodeHeld setup lines parts.watch x)

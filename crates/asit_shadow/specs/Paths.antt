@@ -65,7 +65,7 @@ pub record HasPathNamed (g : Shape) (a : ℕ) (nodes : List Node) (old new : Lis
   pub others : (i : ℕ) → is_path_slot g a i ≡ false → line_at new i ≡ line_at old i
 
 -- each path node is cached
-pub record IsPathCached (g : Shape) (a : ℕ) (cache : List (Option CachedNode)) : Type 0 where
+pub record IsNodePathCached (g : Shape) (a : ℕ) (cache : List (Option CachedNode)) : Type 0 where
   pub each : (x : ℕ) → is_on_line_path g a x ≡ true → IsCached g cache x
 
 -- each path node is cached dirty with its new counters; the other slots are as they were

@@ -17,26 +17,26 @@ use Rattle.counter_tree.specs.Slots.{slot_of}
 use Rattle.counter_tree.specs.Watch.{WatchState, last_seal_of}
 use Rattle.counter_tree.specs.declared.watch.LineSeal.{LineSeal}
 use Rattle.asit_shadow.specs.State.{TreeState, IsCached}
-use Rattle.asit_shadow.specs.Invariants.{IsAnchored, IsTrusted, IsSealStored, IsSlotStored}
-use Rattle.asit_shadow.specs.Paths.{IsPathCached}
+use Rattle.asit_shadow.specs.Invariants.{IsTreeAnchored, IsTreeTrusted, IsTreeSealStored, IsSlotStored}
+use Rattle.asit_shadow.specs.Paths.{IsNodePathCached}
 use Rattle.asit_shadow.specs.Places.{IsNodeHeld, IsNodeHeldBy, ArePlacesArmed, ArePlacesKept}
-use Rattle.asit_shadow.specs.Plain.{PlainTree, true_version, writes_made, true_node, true_count, after_write, IsPlainOf}
-use Rattle.asit_shadow.specs.Steps.{IsArmed, HasPathStored, IsFetched, GivesWay, IsRecovered, slots_read}
+use Rattle.asit_shadow.specs.Plain.{PlainTree, true_version, writes_made, true_node, true_count, after_tree_write, IsPlainOf}
+use Rattle.asit_shadow.specs.Steps.{IsTreeArmed, HasPathStored, IsFetched, GivesWay, IsTreeRecovered, slots_read}
 
 abbrev pub ArmingKeepsPlaces : Type 0
 ArmingKeepsPlaces =
     (setup : Setup) (a : ℕ) (seal : LineSeal) (engine : TreeState) (lines : List Line)
     (old_regs new_regs : Regs) (old new : WatchState)
-    → IsShape setup.shape → length lines ≡ tree_size setup.shape → IsTrusted setup engine old_regs old
-    → IsPathCached setup.shape a engine.cache → IsArmed setup a seal old_regs new_regs old new
+    → IsShape setup.shape → length lines ≡ tree_size setup.shape → IsTreeTrusted setup engine old_regs old
+    → IsNodePathCached setup.shape a engine.cache → IsTreeArmed setup a seal old_regs new_regs old new
     → ArePlacesArmed setup a engine lines (redone new_regs.group.items lines) old new
 
 abbrev pub WritingKeepsNodes : Type 0
 WritingKeepsNodes =
     (setup : Setup) (a : ℕ) (seal : LineSeal) (engine after : TreeState) (lines : List Line)
     (old_regs armed_regs : Regs) (old new : WatchState) (x : ℕ)
-    → IsShape setup.shape → length lines ≡ tree_size setup.shape → IsTrusted setup engine old_regs old
-    → IsPathCached setup.shape a engine.cache → IsArmed setup a seal old_regs armed_regs old new
+    → IsShape setup.shape → length lines ≡ tree_size setup.shape → IsTreeTrusted setup engine old_regs old
+    → IsNodePathCached setup.shape a engine.cache → IsTreeArmed setup a seal old_regs armed_regs old new
     → HasPathStored setup a engine after new → x < meta_lines setup.shape
     → IsNodeHeldBy setup engine lines old x
     → IsNodeHeldBy setup after (redone armed_regs.group.items lines) new x
@@ -59,13 +59,13 @@ FetchingKeepsPlaces =
 abbrev pub PowerOffKeepsNodes : Type 0
 PowerOffKeepsNodes =
     (setup : Setup) (engine : TreeState) (lines : List Line) (regs : Regs) (watch : WatchState) (x : ℕ)
-    → IsTrusted setup engine regs watch → IsNodeHeldBy setup engine lines watch x
+    → IsTreeTrusted setup engine regs watch → IsNodeHeldBy setup engine lines watch x
     → IsNodeHeld setup lines watch x
 
 abbrev pub RecoveryKeepsNodes : Type 0
 RecoveryKeepsNodes =
     (setup : Setup) (engine : TreeState) (lines : List Line) (regs : Regs) (watch : WatchState) (x : ℕ)
-    → IsShape setup.shape → IsAnchored setup regs watch → IsRecovered setup watch.slots engine
+    → IsShape setup.shape → IsTreeAnchored setup regs watch → IsTreeRecovered setup watch.slots engine
     → x < meta_lines setup.shape → IsNodeHeld setup lines watch x → IsNodeHeldBy setup engine lines watch x
 
 -- a held node that isn't cached is read as the true one: so a refusal or an exhibit of node x comes
@@ -73,7 +73,7 @@ RecoveryKeepsNodes =
 abbrev pub HeldNodesAreRead : Type 0
 HeldNodesAreRead =
     (setup : Setup) (engine : TreeState) (lines : List Line) (regs : Regs) (watch : WatchState) (x : ℕ)
-    → IsShape setup.shape → AreInRange setup.formulas → IsTrusted setup engine regs watch → 1 ≤ x
+    → IsShape setup.shape → AreInRange setup.formulas → IsTreeTrusted setup engine regs watch → 1 ≤ x
     → x < meta_lines setup.shape → (IsCached setup.shape engine.cache x → ⊥)
     → IsNodeHeldBy setup engine lines watch x
     → (node_read setup.formulas x (line_at lines (line_of_node setup.shape x)) (entry_for watch.nodes x)
@@ -84,7 +84,7 @@ HeldNodesAreRead =
 abbrev pub StoredLinesAreRead : Type 0
 StoredLinesAreRead =
     (setup : Setup) (lines : List Line) (regs : Regs) (watch : WatchState) (a : ℕ)
-    → IsAnchored setup regs watch → a < tree_lines setup.shape → IsSealStored setup.shape lines watch a
+    → IsTreeAnchored setup regs watch → a < tree_lines setup.shape → IsTreeSealStored setup.shape lines watch a
     → (setup.formulas.tag_of a (version_counter (line_counter setup.shape watch.nodes a)) (line_at lines a)
     ≡ tag_slot (line_at lines (line_of_tag setup.shape a)) 0)
     × IfSome (last_seal_of watch a) (λ seal. line_at lines a ≡ seal.cipher)
@@ -92,7 +92,7 @@ StoredLinesAreRead =
 abbrev pub StoredSlotsAreRead : Type 0
 StoredSlotsAreRead =
     (setup : Setup) (lines : List Line) (regs : Regs) (watch : WatchState)
-    → IsAnchored setup regs watch → length lines ≡ tree_size setup.shape
+    → IsTreeAnchored setup regs watch → length lines ≡ tree_size setup.shape
     → ((i : ℕ) → i < tree_slots setup.shape → IsSlotStored setup.shape lines watch i)
     → slots_read setup.shape lines ≡ watch.slots
 
@@ -117,10 +117,10 @@ abbrev pub ArmingIsAWrite : Type 0
 ArmingIsAWrite =
     (setup : Setup) (a : ℕ) (line : Line) (seal : LineSeal) (old_regs new_regs : Regs) (old new : WatchState)
     (plain : PlainTree)
-    → IsShape setup.shape → AreInRange setup.formulas → IsAnchored setup old_regs old
-    → IsArmed setup a seal old_regs new_regs old new → IsLine line
+    → IsShape setup.shape → AreInRange setup.formulas → IsTreeAnchored setup old_regs old
+    → IsTreeArmed setup a seal old_regs new_regs old new → IsLine line
     → seal.cipher ≡ cipher_of setup.formulas a (version_counter seal.counter) line
-    → IsPlainOf setup plain old → IsPlainOf setup (after_write setup.shape plain a line) new
+    → IsPlainOf setup plain old → IsPlainOf setup (after_tree_write setup.shape plain a line) new
 
 -- the version of its top is the number of all writes made, by which a write is spent
 abbrev pub TopCountsWrites : Type 0

@@ -15,7 +15,7 @@ use Rattle.counter_tree.specs.Slots.{slot_of, slot_line}
 use Rattle.counter_tree.specs.Watch.{WatchState}
 use Rattle.counter_tree.specs.Trees.{line_counter}
 use Rattle.asit_shadow.specs.Paths.{line_path, set_each}
-use Rattle.asit_shadow.specs.Steps.{plain_line}
+use Rattle.asit_shadow.specs.Steps.{tree_plain_line}
 
 -- memory, the writes made of each line, the node that each slot's true line names, whether a tamper
 -- command ever changed a device line, and whether one changed a data line or its tag line since its
@@ -86,8 +86,8 @@ abbrev pub names_with : Shape → List ℕ → List (Option ℕ) → List (Optio
 names_with g xs named = set_each (slot_of g) (λ x. Some x) xs named
 
 -- a write of data line a is in memory
-abbrev pub after_write : Shape → PlainTree → ℕ → Line → PlainTree
-after_write g plain a line =
+abbrev pub after_tree_write : Shape → PlainTree → ℕ → Line → PlainTree
+after_tree_write g plain a line =
     record plain {
       memory = slice_set plain.memory a line;
       counts = slice_set plain.counts a (true_count plain a + 1);
@@ -128,7 +128,7 @@ pub record IsPlainOf (setup : Setup) (plain : PlainTree) (watch : WatchState) : 
   pub memory_count : length plain.memory ≡ tree_lines setup.shape
   pub count_count : length plain.counts ≡ tree_lines setup.shape
   pub named_count : length plain.named ≡ tree_slots setup.shape
-  pub memory : (a : ℕ) → a < tree_lines setup.shape → line_at plain.memory a ≡ plain_line setup.formulas watch a
+  pub memory : (a : ℕ) → a < tree_lines setup.shape → line_at plain.memory a ≡ tree_plain_line setup.formulas watch a
   pub counts : (a : ℕ) → a < tree_lines setup.shape → true_count plain a ≡ line_counter setup.shape watch.nodes a
   pub placed :
       (i x : ℕ) → named_at plain.named i ≡ Some x

@@ -23,10 +23,10 @@ use Rattle.asit_shadow.specs.declared.recovery.TreeRec.{TreeRec}
 use Rattle.asit_shadow.specs.declared.recovery.TreeRec.TheVariants as Fail
 use Rattle.asit_shadow.specs.declared.cache.CachedNode.{CachedNode}
 use Rattle.asit_shadow.specs.State.{TreeState, cache_at, IsHeldNode}
-use Rattle.asit_shadow.specs.Invariants.{IsAnchored, IsTrusted, IsDurable, IsSound, IsSealStored, IsSlotStored, IsTreeOver}
+use Rattle.asit_shadow.specs.Invariants.{IsTreeAnchored, IsTreeTrusted, IsTreeDurable, IsTreeSound, IsTreeSealStored, IsSlotStored, IsTreeOver}
 use Rattle.asit_shadow.specs.Places.{IsNodeHeld, IsNodeHeldBy}
 use Rattle.asit_shadow.specs.Parts.{IsWatchReady, IsBoardReady}
-use Rattle.asit_shadow.specs.Steps.{held_of, IsRecovered}
+use Rattle.asit_shadow.specs.Steps.{held_of, IsTreeRecovered}
 
 -- a device and its watch, with no engine
 pub record Rest : Type 0 where
@@ -46,17 +46,17 @@ abbrev pub rest_redone : Rest → Option (List Line)
 rest_redone rest = redone_told rest.device.regs.group.items rest.device.lines
 
 abbrev pub IsRestAnchored : Setup → Rest → Type 0
-IsRestAnchored setup rest = IsAnchored setup rest.device.regs rest.watch
+IsRestAnchored setup rest = IsTreeAnchored setup rest.device.regs rest.watch
 
 -- the lines are told, and durable
 abbrev pub IsRestDurable : Setup → Rest → Type 0
 IsRestDurable setup rest =
-    MatchOption rest.device.lines ⊥ (λ lines. IsDurable setup lines rest.device.regs rest.watch)
+    MatchOption rest.device.lines ⊥ (λ lines. IsTreeDurable setup lines rest.device.regs rest.watch)
 
 -- ---- reads
 
 -- nothing was changed but the count of reads, which rose by n
-pub record HasOnlyRead (n : ℕ) (old new : Device) : Type 0 where
+pub record HasOnlyReadLines (n : ℕ) (old new : Device) : Type 0 where
   pub reads : RisesBy n old.reads new.reads
   pub lines : new.lines ≡ old.lines
   pub regs : new.regs ≡ old.regs
@@ -82,7 +82,7 @@ pub record IsRootRefused (setup : Setup) (kept found : List ℕ) (old new : Rest
   pub differ : kept ≢ found
 
 -- the slot lines read have the register's root, and aren't the true ones
-pub record IsClashShown (setup : Setup) (old new : Rest) : Type 0 where
+pub record IsTreeClashShown (setup : Setup) (old new : Rest) : Type 0 where
   pub slots : List Line
   pub read : AreSlotsRead setup.shape slots new.device
   pub root : shadow_root setup.shape setup.formulas slots ≡ old.device.regs.root
@@ -110,7 +110,7 @@ AnswersRecovery setup old new before after (Err Fail.Memory) = new ≡ old
 AnswersRecovery setup old new before after (Err Fail.Cut) = new.watch ≡ old.watch
 AnswersRecovery setup old new before after (Err (Fail.Shadow kept found)) =
     IsRootRefused setup kept found old new × (new.watch ≡ old.watch)
-AnswersRecovery setup old new before after (Err Fail.Shown) = IsClashShown setup old new
+AnswersRecovery setup old new before after (Err Fail.Shown) = IsTreeClashShown setup old new
 
 -- ---- what each answer leaves
 
@@ -156,18 +156,18 @@ WorksOfRecovery g old new before after answer = HasSlotsRead g old new before af
 
 -- each node that a true slot line names is in its slot, dirty, and nothing else is cached
 abbrev pub CachesNamed : Setup → Rest → Result (TreeState × Work) TreeRec → Type 0
-CachesNamed setup old (Ok made) = IsRestAnchored setup old → IsRecovered setup old.watch.slots made.0
+CachesNamed setup old (Ok made) = IsRestAnchored setup old → IsTreeRecovered setup old.watch.slots made.0
 CachesNamed setup old answer = ⊤
 
 abbrev pub LeavesRestTrusted : Setup → Rest → Result (TreeState × Work) TreeRec → Type 0
-LeavesRestTrusted setup new (Ok made) = IsTrusted setup made.0 new.device.regs new.watch
+LeavesRestTrusted setup new (Ok made) = IsTreeTrusted setup made.0 new.device.regs new.watch
 LeavesRestTrusted setup new (Err Fail.Shown) = IfSome new.watch.exhibit (IsExhibit setup.formulas)
 LeavesRestTrusted setup new answer = IsRestAnchored setup new
 
 -- over a durable device there is neither a refused root nor a clash
 abbrev pub LeavesRestSound : Setup → Rest → Result (TreeState × Work) TreeRec → Type 0
 LeavesRestSound setup new (Ok made) =
-    MatchOption new.device.lines ⊥ (λ lines. IsSound setup made.0 lines new.device.regs new.watch)
+    MatchOption new.device.lines ⊥ (λ lines. IsTreeSound setup made.0 lines new.device.regs new.watch)
 LeavesRestSound setup new (Err Fail.Memory) = IsRestDurable setup new
 LeavesRestSound setup new (Err Fail.Cut) = IsRestDurable setup new
 LeavesRestSound setup new answer = ⊥
@@ -181,8 +181,8 @@ KeepsRestNode setup new answer x = IfSome (rest_redone new) (λ lines. IsNodeHel
 pub record KeepsRestPlaces (setup : Setup) (old new : Rest) (answer : Result (TreeState × Work) TreeRec) : Type 0 where
   pub seals :
       (a : ℕ) → a < tree_lines setup.shape
-      → IfSome (rest_redone old) (λ lines. IsSealStored setup.shape lines old.watch a)
-      → IfSome (rest_redone new) (λ lines. IsSealStored setup.shape lines new.watch a)
+      → IfSome (rest_redone old) (λ lines. IsTreeSealStored setup.shape lines old.watch a)
+      → IfSome (rest_redone new) (λ lines. IsTreeSealStored setup.shape lines new.watch a)
   pub slots :
       (i : ℕ) → i < tree_slots setup.shape
       → IfSome (rest_redone old) (λ lines. IsSlotStored setup.shape lines old.watch i)

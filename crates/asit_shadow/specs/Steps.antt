@@ -22,7 +22,7 @@ use Rattle.asit_shadow.specs.Invariants.{IsNodeStored, IsTreeOver}
 
 -- ---- a write of data line a is armed: one latch, and the watch is told
 
-pub record IsArmed (setup : Setup) (a : ℕ) (seal : LineSeal) (old_regs new_regs : Regs) (old new : WatchState) : Type 0 where
+pub record IsTreeArmed (setup : Setup) (a : ℕ) (seal : LineSeal) (old_regs new_regs : Regs) (old new : WatchState) : Type 0 where
   pub its_line : a < tree_lines setup.shape
   -- the top's version can rise
   pub can_rise : total (node_at old.nodes 0) < 2 ^ 64 - 1
@@ -48,7 +48,7 @@ pub record HasPathStored (setup : Setup) (a : ℕ) (old new : TreeState) (watch 
 
 -- ---- the group is emptied
 
-pub record IsEmptied (old new : Regs) : Type 0 where
+pub record IsTreeEmptied (old new : Regs) : Type 0 where
   pub root : new.root ≡ old.root
   pub no_group : new.group.items ≡ []
 
@@ -79,7 +79,7 @@ abbrev pub held_of : Option NamedNode → Option CachedNode
 held_of None = None
 held_of (Some named) = Some (record { x = named.x; node = named.node; dirty = true })
 
-pub record IsRecovered (setup : Setup) (slots : List Line) (engine : TreeState) : Type 0 where
+pub record IsTreeRecovered (setup : Setup) (slots : List Line) (engine : TreeState) : Type 0 where
   pub shape : engine.shape ≡ setup.shape
   pub down : engine.down ≡ false
   pub count : length engine.cache ≡ length slots
@@ -92,16 +92,16 @@ slots_read g lines = slice_range lines (line_of_slot g 0) (tree_size g)
 
 -- ---- memory: the plain lines of the last seals
 
-abbrev pub plain_of_seal : Formulas → ℕ → LineSeal → Line
-plain_of_seal f a seal = xor_lines seal.cipher (f.pad_of a (version_counter seal.counter))
+abbrev pub tree_plain_of_seal : Formulas → ℕ → LineSeal → Line
+tree_plain_of_seal f a seal = xor_lines seal.cipher (f.pad_of a (version_counter seal.counter))
 
-abbrev pub plain_of : Formulas → ℕ → Option LineSeal → Line
-plain_of f a None = zero_line
-plain_of f a (Some seal) = plain_of_seal f a seal
+abbrev pub tree_plain_of : Formulas → ℕ → Option LineSeal → Line
+tree_plain_of f a None = zero_line
+tree_plain_of f a (Some seal) = tree_plain_of_seal f a seal
 
 -- line a of memory
-abbrev pub plain_line : Formulas → WatchState → ℕ → Line
-plain_line f watch a = plain_of f a (last_seal_of watch a)
+abbrev pub tree_plain_line : Formulas → WatchState → ℕ → Line
+tree_plain_line f watch a = tree_plain_of f a (last_seal_of watch a)
 
 -- ---- freshness
 

@@ -20,8 +20,8 @@ use Rattle.asit_shadow.specs.declared.cache.CachedNode.{CachedNode}
 use Rattle.asit_shadow.specs.declared.fault.TreeFault.{TreeFault}
 use Rattle.asit_shadow.specs.declared.fault.TreeFault.TheVariants as Fail
 use Rattle.asit_shadow.specs.State.{cache_at}
-use Rattle.asit_shadow.specs.Parts.{Parts, lines_redone}
-use Rattle.asit_shadow.specs.Paths.{path_node, IsPathCached, HasPathCached, write_group}
+use Rattle.asit_shadow.specs.Parts.{TreeEngineParts, tree_lines_redone}
+use Rattle.asit_shadow.specs.Paths.{path_node, IsNodePathCached, HasPathCached, write_group}
 
 -- ---- one node
 
@@ -31,8 +31,8 @@ holds_node None x = false
 holds_node (Some held) x = held.x == x
 
 -- whether node x is in its slot
-abbrev pub is_cached : Shape → List (Option CachedNode) → ℕ → Bool
-is_cached g cache x = holds_node (cache_at cache (slot_of g x)) x
+abbrev pub is_node_cached : Shape → List (Option CachedNode) → ℕ → Bool
+is_node_cached g cache x = holds_node (cache_at cache (slot_of g x)) x
 
 -- whether a slot holds a dirty node
 abbrev pub holds_dirty : Option CachedNode → Bool
@@ -46,28 +46,28 @@ write_back setup (Some held) =
     if held.dirty then (line_of_node setup.shape held.x, node_line setup.formulas held.x held.node) ∷ [] else []
 
 -- the write-back, the line read, and the slot afterwards, as node x is fetched
-abbrev pub level_write : Setup → List (Option CachedNode) → ℕ → List (ℕ × Line)
-level_write setup cache x =
-    if is_cached setup.shape cache x then [] else write_back setup (cache_at cache (slot_of setup.shape x))
+abbrev pub node_level_write : Setup → List (Option CachedNode) → ℕ → List (ℕ × Line)
+node_level_write setup cache x =
+    if is_node_cached setup.shape cache x then [] else write_back setup (cache_at cache (slot_of setup.shape x))
 
-abbrev pub level_reads : Shape → List (Option CachedNode) → ℕ → ℕ
-level_reads g cache x = if is_cached g cache x then 0 else 1
+abbrev pub node_level_reads : Shape → List (Option CachedNode) → ℕ → ℕ
+node_level_reads g cache x = if is_node_cached g cache x then 0 else 1
 
 abbrev pub slot_fetched : Shape → List Node → List (Option CachedNode) → ℕ → Option CachedNode
 slot_fetched g nodes cache x =
-    if is_cached g cache x then cache_at cache (slot_of g x) else Some (record { x = x; node = node_at nodes x; dirty = false })
+    if is_node_cached g cache x then cache_at cache (slot_of g x) else Some (record { x = x; node = node_at nodes x; dirty = false })
 
 -- ---- the first n levels below the top of the path of data line a
 
 -- the write-backs, in order
-abbrev pub spilled : Setup → List (Option CachedNode) → ℕ → ℕ → List (ℕ × Line)
-spilled setup cache a zero = []
-spilled setup cache a (suc n) = spilled setup cache a n ++ level_write setup cache (path_node setup.shape a (suc n))
+abbrev pub spilled_nodes : Setup → List (Option CachedNode) → ℕ → ℕ → List (ℕ × Line)
+spilled_nodes setup cache a zero = []
+spilled_nodes setup cache a (suc n) = spilled_nodes setup cache a n ++ node_level_write setup cache (path_node setup.shape a (suc n))
 
 -- how many of their nodes aren't cached
-abbrev pub absent_count : Shape → List (Option CachedNode) → ℕ → ℕ → ℕ
-absent_count g cache a zero = 0
-absent_count g cache a (suc n) = absent_count g cache a n + level_reads g cache (path_node g a (suc n))
+abbrev pub absent_nodes : Shape → List (Option CachedNode) → ℕ → ℕ → ℕ
+absent_nodes g cache a zero = 0
+absent_nodes g cache a (suc n) = absent_nodes g cache a n + node_level_reads g cache (path_node g a (suc n))
 
 -- their slots hold their nodes: one that wasn't there is clean; each other slot is as it was
 pub record HasSlotsFetched (g : Shape) (nodes : List Node) (a n : ℕ) (old new : List (Option CachedNode)) : Type 0 where
@@ -81,56 +81,56 @@ pub record HasSlotsFetched (g : Shape) (nodes : List Node) (a n : ℕ) (old new 
       → cache_at new i ≡ cache_at old i
 
 -- they were fetched, and nothing else was written
-pub record HasFetchedLevels (setup : Setup) (a n : ℕ) (old new : Parts) : Type 0 where
+pub record HasFetchedNodes (setup : Setup) (a n : ℕ) (old new : TreeEngineParts) : Type 0 where
   pub on_path : n ≤ setup.shape.levels
   pub cache : HasSlotsFetched setup.shape old.watch.nodes a n old.engine.cache new.engine.cache
-  pub lines : new.device.lines ≡ redone_told (spilled setup old.engine.cache a n) old.device.lines
-  pub writes : RisesBy (length (spilled setup old.engine.cache a n)) old.device.writes new.device.writes
+  pub lines : new.device.lines ≡ redone_told (spilled_nodes setup old.engine.cache a n) old.device.lines
+  pub writes : RisesBy (length (spilled_nodes setup old.engine.cache a n)) old.device.writes new.device.writes
   pub latches : new.device.latches ≡ old.device.latches
   pub regs : new.device.regs ≡ old.device.regs
 
 -- ---- how far a fetch came
 
 -- the whole path was fetched, and so many lines were read after it
-pub record HasFetchedPath (setup : Setup) (a more : ℕ) (old new : Parts) : Type 0 where
-  pub fetched : HasFetchedLevels setup a setup.shape.levels old new
+pub record HasFetchedPath (setup : Setup) (a more : ℕ) (old new : TreeEngineParts) : Type 0 where
+  pub fetched : HasFetchedNodes setup a setup.shape.levels old new
   pub reads :
-      RisesBy (absent_count setup.shape old.engine.cache a setup.shape.levels + more) old.device.reads
+      RisesBy (absent_nodes setup.shape old.engine.cache a setup.shape.levels + more) old.device.reads
       new.device.reads
 
 -- node x, the next one of the path, wasn't cached, and its line was read
-pub record HasStoppedAt (setup : Setup) (a x : ℕ) (old new : Parts) : Type 0 where
+pub record HasStoppedAt (setup : Setup) (a x : ℕ) (old new : TreeEngineParts) : Type 0 where
   pub levels : ℕ
   pub below : levels < setup.shape.levels
   pub next : x ≡ path_node setup.shape a (suc levels)
-  pub absent : is_cached setup.shape old.engine.cache x ≡ false
-  pub fetched : HasFetchedLevels setup a levels old new
-  pub reads : RisesBy (absent_count setup.shape old.engine.cache a levels + 1) old.device.reads new.device.reads
+  pub absent : is_node_cached setup.shape old.engine.cache x ≡ false
+  pub fetched : HasFetchedNodes setup a levels old new
+  pub reads : RisesBy (absent_nodes setup.shape old.engine.cache a levels + 1) old.device.reads new.device.reads
 
 -- that line is shown as a forged one
-pub record IsShownAt (setup : Setup) (a : ℕ) (old new : Parts) : Type 0 where
+pub record IsNodeShownAt (setup : Setup) (a : ℕ) (old new : TreeEngineParts) : Type 0 where
   pub x : ℕ
   pub line : Line
   pub stopped : HasStoppedAt setup a x old new
   pub shown : HasShown old.watch new.watch (forged_node old.watch x line)
 
 -- the next node isn't cached, its line was read, and a dirty node has to give way to it
-pub record IsWriteBackDue (g : Shape) (a levels : ℕ) (old new : Parts) : Type 0 where
+pub record IsNodeWriteBackDue (g : Shape) (a levels : ℕ) (old new : TreeEngineParts) : Type 0 where
   pub below : levels < g.levels
-  pub absent : is_cached g old.engine.cache (path_node g a (suc levels)) ≡ false
+  pub absent : is_node_cached g old.engine.cache (path_node g a (suc levels)) ≡ false
   pub victim : holds_dirty (cache_at old.engine.cache (slot_of g (path_node g a (suc levels)))) ≡ true
-  pub reads : RisesBy (absent_count g old.engine.cache a levels + 1) old.device.reads new.device.reads
+  pub reads : RisesBy (absent_nodes g old.engine.cache a levels + 1) old.device.reads new.device.reads
 
 -- power was cut: where it was on, before such a write-back alone
-pub record IsCutInFetch (setup : Setup) (a : ℕ) (old new : Parts) : Type 0 where
+pub record IsCutInNodeFetch (setup : Setup) (a : ℕ) (old new : TreeEngineParts) : Type 0 where
   pub levels : ℕ
-  pub fetched : HasFetchedLevels setup a levels old new
-  pub due : old.device.live ≡ true → IsWriteBackDue setup.shape a levels old new
+  pub fetched : HasFetchedNodes setup a levels old new
+  pub due : old.device.live ≡ true → IsNodeWriteBackDue setup.shape a levels old new
 
 -- ---- reads
 
 -- the path was fetched, two lines were read, and they are shown as forged ones
-pub record IsLineShownAt (setup : Setup) (a : ℕ) (old new : Parts) : Type 0 where
+pub record IsLineShownAt (setup : Setup) (a : ℕ) (old new : TreeEngineParts) : Type 0 where
   pub cipher : Line
   pub tags : Line
   pub seal : LineSeal
@@ -139,42 +139,42 @@ pub record IsLineShownAt (setup : Setup) (a : ℕ) (old new : Parts) : Type 0 wh
   pub shown : HasShown old.watch new.watch (Forged a (version_counter seal.counter) cipher (tag_slot tags 0))
 
 -- what a read did, by its answer: its path is fetched, then two lines are read
-abbrev pub WorksOfRead : Setup → ℕ → Parts → Parts → Result Line TreeFault → Type 0
+abbrev pub WorksOfRead : Setup → ℕ → TreeEngineParts → TreeEngineParts → Result Line TreeFault → Type 0
 WorksOfRead setup a old new (Ok line) = HasFetchedPath setup a 2 old new
-WorksOfRead setup a old new (Err Fail.Cut) = IsCutInFetch setup a old new
+WorksOfRead setup a old new (Err Fail.Cut) = IsCutInNodeFetch setup a old new
 WorksOfRead setup a old new (Err Fail.Down) = ⊥
 WorksOfRead setup a old new (Err (Fail.Node x)) = HasStoppedAt setup a x old new
 WorksOfRead setup a old new (Err (Fail.Tag b)) = HasFetchedPath setup a 2 old new
 WorksOfRead setup a old new (Err Fail.Spent) = ⊥
-WorksOfRead setup a old new (Err Fail.Shown) = IsShownAt setup a old new ⊎ IsLineShownAt setup a old new
+WorksOfRead setup a old new (Err Fail.Shown) = IsNodeShownAt setup a old new ⊎ IsLineShownAt setup a old new
 
 -- ---- writes
 
 -- the path is fetched, and so many latches were done after it: each node of the path is dirty in its slot,
 -- with its new counters, and the line has a new last seal
-pub record HasArmedPath (setup : Setup) (a latches : ℕ) (seal : LineSeal) (old new : Parts) : Type 0 where
+pub record HasArmedPath (setup : Setup) (a latches : ℕ) (seal : LineSeal) (old new : TreeEngineParts) : Type 0 where
   pub last : last_seal_of new.watch a ≡ Some seal
   pub cache : HasPathCached setup.shape a new.watch.nodes old.engine.cache new.engine.cache
   -- what the device holds once the group is written
   pub lines :
-      lines_redone new
+      tree_lines_redone new
       ≡ redone_told (write_group setup.shape a seal new.watch.nodes)
-      (redone_told (spilled setup old.engine.cache a setup.shape.levels) old.device.lines)
+      (redone_told (spilled_nodes setup old.engine.cache a setup.shape.levels) old.device.lines)
   pub latched : RisesBy latches old.device.latches new.device.latches
   pub reads :
-      RisesBy (absent_count setup.shape old.engine.cache a setup.shape.levels) old.device.reads new.device.reads
+      RisesBy (absent_nodes setup.shape old.engine.cache a setup.shape.levels) old.device.reads new.device.reads
 
 -- a write that was done: its group is written and emptied
-pub record HasWrittenThrough (setup : Setup) (a : ℕ) (old new : Parts) : Type 0 where
+pub record HasWrittenThrough (setup : Setup) (a : ℕ) (old new : TreeEngineParts) : Type 0 where
   pub seal : LineSeal
   pub armed : HasArmedPath setup a 2 seal old new
   pub no_group : new.device.regs.group.items ≡ []
   pub writes :
-      RisesBy (length (spilled setup old.engine.cache a setup.shape.levels) + (setup.shape.levels + 3))
+      RisesBy (length (spilled_nodes setup old.engine.cache a setup.shape.levels) + (setup.shape.levels + 3))
       old.device.writes new.device.writes
 
 -- a write that was cut in its group, at one of the group's lines or at the latch that empties it
-pub record IsCutInGroup (setup : Setup) (a : ℕ) (old new : Parts) : Type 0 where
+pub record IsCutInGroup (setup : Setup) (a : ℕ) (old new : TreeEngineParts) : Type 0 where
   pub seal : LineSeal
   pub armed : HasArmedPath setup a 1 seal old new
   pub group : new.device.regs.group.items ≡ write_group setup.shape a seal new.watch.nodes
@@ -182,22 +182,22 @@ pub record IsCutInGroup (setup : Setup) (a : ℕ) (old new : Parts) : Type 0 whe
   -- the writes so far as the group was armed
   pub armed_writes : ℕ
   pub before :
-      RisesBy (length (spilled setup old.engine.cache a setup.shape.levels)) old.device.writes armed_writes
+      RisesBy (length (spilled_nodes setup old.engine.cache a setup.shape.levels)) old.device.writes armed_writes
   pub since : RisesAtMost (setup.shape.levels + 3) armed_writes new.device.writes
 
 -- a write that was cut before its arming latch, or at it: the watch wasn't told of it
-pub record IsCutBeforeArming (setup : Setup) (a : ℕ) (old new : Parts) : Type 0 where
-  pub at : IsCutInFetch setup a old new ⊎ HasFetchedPath setup a 0 old new
+pub record IsCutBeforeArming (setup : Setup) (a : ℕ) (old new : TreeEngineParts) : Type 0 where
+  pub at : IsCutInNodeFetch setup a old new ⊎ HasFetchedPath setup a 0 old new
   pub untold : new.watch ≡ old.watch
 
-abbrev pub WorksOfWrite : Setup → ℕ → Parts → Parts → Result ℕ TreeFault → Type 0
+abbrev pub WorksOfWrite : Setup → ℕ → TreeEngineParts → TreeEngineParts → Result ℕ TreeFault → Type 0
 WorksOfWrite setup a old new (Ok counter) = HasWrittenThrough setup a old new
 WorksOfWrite setup a old new (Err Fail.Cut) = IsCutBeforeArming setup a old new ⊎ IsCutInGroup setup a old new
 WorksOfWrite setup a old new (Err Fail.Down) = ⊥
 WorksOfWrite setup a old new (Err (Fail.Node x)) = HasStoppedAt setup a x old new
 WorksOfWrite setup a old new (Err (Fail.Tag b)) = ⊥
 WorksOfWrite setup a old new (Err Fail.Spent) = new ≡ old
-WorksOfWrite setup a old new (Err Fail.Shown) = IsShownAt setup a old new
+WorksOfWrite setup a old new (Err Fail.Shown) = IsNodeShownAt setup a old new
 
 -- ---- laws
 
@@ -205,13 +205,13 @@ WorksOfWrite setup a old new (Err Fail.Shown) = IsShownAt setup a old new
 abbrev pub SpillsAreFew : Type 0
 SpillsAreFew =
     (setup : Setup) (cache : List (Option CachedNode)) (a n : ℕ)
-    → length (spilled setup cache a n) ≤ absent_count setup.shape cache a n
+    → length (spilled_nodes setup cache a n) ≤ absent_nodes setup.shape cache a n
 
 abbrev pub AbsentAreFew : Type 0
-AbsentAreFew = (g : Shape) (cache : List (Option CachedNode)) (a n : ℕ) → absent_count g cache a n ≤ n
+AbsentAreFew = (g : Shape) (cache : List (Option CachedNode)) (a n : ℕ) → absent_nodes g cache a n ≤ n
 
 -- of a path that is cached, none
 abbrev pub CachedPathsAreFree : Type 0
 CachedPathsAreFree =
-    (g : Shape) (cache : List (Option CachedNode)) (a n : ℕ) → n ≤ g.levels → IsPathCached g a cache
-    → absent_count g cache a n ≡ 0
+    (g : Shape) (cache : List (Option CachedNode)) (a n : ℕ) → n ≤ g.levels → IsNodePathCached g a cache
+    → absent_nodes g cache a n ≡ 0

@@ -20,8 +20,8 @@ use Rattle.asit_shadow.specs.declared.cache.CachedNode.{CachedNode}
 use Rattle.asit_shadow.specs.State.{IsCachedAs, IsHeldNode}
 use Rattle.asit_shadow.specs.Paths.{line_path, path_node, tag_only}
 use Rattle.asit_shadow.specs.declared.fault.TreeFault.{TreeFault}
-use Rattle.asit_shadow.specs.Parts.{Parts, AreTrusted, AreSound, IsBoardReady, IsWatchReady}
-use Rattle.asit_shadow.specs.Calls.{AnswersWrite, CallEffect, IsDownAnswer, IsRefusal, IsUnrefused, IsWriteAnswer, KeepsWatch, StepsOfWrite, outcome_of}
+use Rattle.asit_shadow.specs.Parts.{TreeEngineParts, AreTreeTrusted, AreTreeSound, IsBoardReady, IsWatchReady}
+use Rattle.asit_shadow.specs.Calls.{AnswersTreeWrite, TreeCallEffect, IsTreeDownAnswer, IsTreeRefusal, IsTreeUnrefused, IsWriteAnswer, KeepsWatch, StepsOfWrite, tree_outcome_of}
 use Rattle.asit_shadow.specs.Work.{WorksOfWrite}
 
 -- a list with each value set at its place, in order
@@ -90,7 +90,7 @@ pub record IsSealMade (f : Formulas) (a counter : ℕ) (plain : Line) (seal : Li
   pub in_range : IsLineSeal seal
 
 -- a write over a fetched path, made and armed by these registers, told and stored
-pub record IsWriteMade (setup : Setup) (a : ℕ) (plain : Line) (seal : LineSeal) (pairs : List (ℕ × Node)) (regs : Regs) (old new : Parts) : Type 0 where
+pub record IsWriteMade (setup : Setup) (a : ℕ) (plain : Line) (seal : LineSeal) (pairs : List (ℕ × Node)) (regs : Regs) (old new : TreeEngineParts) : Type 0 where
   pub raised : IsPathRaised setup.shape old.engine.cache a pairs
   pub made : IsSealMade setup.formulas a seal.counter plain seal
   pub counted : seal.counter ≡ counter (pair_at pairs setup.shape.levels).1 (a % 4)
@@ -106,16 +106,16 @@ pub record IsWriteMade (setup : Setup) (a : ℕ) (plain : Line) (seal : LineSeal
   pub down : new.engine.down ≡ old.engine.down
 
 -- a write of an engine that isn't down, before a cut or an exhibit takes it down
-pub record HasWrittenUp (setup : Setup) (a : ℕ) (plain : Line) (old new : Parts) (answer : Result ℕ TreeFault) : Type 0 where
+pub record HasWrittenUp (setup : Setup) (a : ℕ) (plain : Line) (old new : TreeEngineParts) (answer : Result ℕ TreeFault) : Type 0 where
   pub kind : IsWriteAnswer answer
-  pub up : IsDownAnswer answer → ⊥
+  pub up : IsTreeDownAnswer answer → ⊥
   pub down : new.engine.down ≡ old.engine.down
-  pub effect : CallEffect setup (outcome_of answer) old new
+  pub effect : TreeCallEffect setup (tree_outcome_of answer) old new
   pub steps : StepsOfWrite setup.shape answer old.device new.device
   pub work : WorksOfWrite setup a old new answer
-  pub answered : AreTrusted setup old → AnswersWrite setup a plain old new answer
-  pub unrefused : AreSound setup old → IsUnrefused answer
-  pub watch : IsRefusal answer → KeepsWatch (outcome_of answer) old.watch new.watch
+  pub answered : AreTreeTrusted setup old → AnswersTreeWrite setup a plain old new answer
+  pub unrefused : AreTreeSound setup old → IsTreeUnrefused answer
+  pub watch : IsTreeRefusal answer → KeepsWatch (tree_outcome_of answer) old.watch new.watch
   pub ready : IsWatchReady setup.shape old.watch → IsWatchReady setup.shape new.watch
   pub board : IsBoardReady setup.shape old.device → IsBoardReady setup.shape new.device
-  pub no_group : is_going (outcome_of answer) ≡ true → old.device.regs.group.items ≡ [] → new.device.regs.group.items ≡ []
+  pub no_group : is_going (tree_outcome_of answer) ≡ true → old.device.regs.group.items ≡ [] → new.device.regs.group.items ≡ []

@@ -3,9 +3,9 @@ ghost use Rattle.std.specs.Prelude.{◌≡◌, ◌<◌, ◌||◌, not};
 ghost use Rattle.pmem_engine.specs.Outcomes.{is_going};
 ghost use Rattle.counter_tree.specs.Layout.{tree_lines};
 ghost use Rattle.pmem_recovery.specs.Parts.{suite_state};
-ghost use Rattle.asit_shadow.specs.Parts.{parts_of, IsUsable};
+ghost use Rattle.asit_shadow.specs.Parts.{tree_parts_of, IsTreeUsable};
 ghost use Rattle.asit_shadow.specs.Counts.{CountsOfRead, CountsOfWrite};
-ghost use Rattle.asit_shadow.specs.Calls.{outcome_of_fault, IsLineRead, HasReadLine, HasWrittenLine};
+ghost use Rattle.asit_shadow.specs.Calls.{outcome_of_tree_fault, IsLineRead, HasReadTreeLine, HasWrittenTreeLine};
 
 use crate::engine::TreeEngine;
 use crate::fault::TreeFault;
@@ -25,16 +25,16 @@ impl TreeEngine {
         at: u32,
     ) -> Result<Line, TreeFault>
         requires line { at < tree_lines self.old.shape }
-        requires usable { IsUsable self.old.shape (parts_of self.old (B.device board.old) (W.watched watch.old)) }
-        ensures read { HasReadLine (record { shape = self.old.shape; formulas = S.formulas_of (S.keys suite.old) }) at
-            (parts_of self.old (B.device board.old) (W.watched watch.old))
-            (parts_of self.new (B.device board.new) (W.watched watch.new)) result }
+        requires usable { IsTreeUsable self.old.shape (tree_parts_of self.old (B.device board.old) (W.watched watch.old)) }
+        ensures read { HasReadTreeLine (record { shape = self.old.shape; formulas = S.formulas_of (S.keys suite.old) }) at
+            (tree_parts_of self.old (B.device board.old) (W.watched watch.old))
+            (tree_parts_of self.new (B.device board.new) (W.watched watch.new)) result }
         ensures counts { CountsOfRead (record { shape = self.old.shape; formulas = S.formulas_of (S.keys suite.old) }) at
-            (parts_of self.old (B.device board.old) (W.watched watch.old))
-            (parts_of self.new (B.device board.new) (W.watched watch.new))
+            (tree_parts_of self.old (B.device board.old) (W.watched watch.old))
+            (tree_parts_of self.new (B.device board.new) (W.watched watch.new))
             (suite_state (S.keys suite.old) (S.pads suite.old) (S.tags suite.old) (S.digests suite.old))
             (suite_state (S.keys suite.new) (S.pads suite.new) (S.tags suite.new) (S.digests suite.new)) result }
-        ensures usable { IsUsable self.old.shape (parts_of self.new (B.device board.new) (W.watched watch.new)) }
+        ensures usable { IsTreeUsable self.old.shape (tree_parts_of self.new (B.device board.new) (W.watched watch.new)) }
         ensures keys { S.keys suite.new ≡ S.keys suite.old }
         ensures digests { S.digests suite.new ≡ S.digests suite.old }
         ensures shape { self.new.shape ≡ self.old.shape }
@@ -62,16 +62,16 @@ impl TreeEngine {
         line: &Line,
     ) -> Result<u64, TreeFault>
         requires line { at < tree_lines self.old.shape }
-        requires usable { IsUsable self.old.shape (parts_of self.old (B.device board.old) (W.watched watch.old)) }
-        ensures written { HasWrittenLine (record { shape = self.old.shape; formulas = S.formulas_of (S.keys suite.old) }) at line.now
-            (parts_of self.old (B.device board.old) (W.watched watch.old))
-            (parts_of self.new (B.device board.new) (W.watched watch.new)) result }
+        requires usable { IsTreeUsable self.old.shape (tree_parts_of self.old (B.device board.old) (W.watched watch.old)) }
+        ensures written { HasWrittenTreeLine (record { shape = self.old.shape; formulas = S.formulas_of (S.keys suite.old) }) at line.now
+            (tree_parts_of self.old (B.device board.old) (W.watched watch.old))
+            (tree_parts_of self.new (B.device board.new) (W.watched watch.new)) result }
         ensures counts { CountsOfWrite (record { shape = self.old.shape; formulas = S.formulas_of (S.keys suite.old) }) at
-            (parts_of self.old (B.device board.old) (W.watched watch.old))
-            (parts_of self.new (B.device board.new) (W.watched watch.new))
+            (tree_parts_of self.old (B.device board.old) (W.watched watch.old))
+            (tree_parts_of self.new (B.device board.new) (W.watched watch.new))
             (suite_state (S.keys suite.old) (S.pads suite.old) (S.tags suite.old) (S.digests suite.old))
             (suite_state (S.keys suite.new) (S.pads suite.new) (S.tags suite.new) (S.digests suite.new)) result }
-        ensures usable { IsUsable self.old.shape (parts_of self.new (B.device board.new) (W.watched watch.new)) }
+        ensures usable { IsTreeUsable self.old.shape (tree_parts_of self.new (B.device board.new) (W.watched watch.new)) }
         ensures keys { S.keys suite.new ≡ S.keys suite.old }
         ensures shape { self.new.shape ≡ self.old.shape }
     {
@@ -96,13 +96,13 @@ impl TreeEngine {
         at: u32,
     ) -> Result<Line, TreeFault>
         requires line { at < tree_lines self.old.shape }
-        requires usable { IsUsable self.old.shape (parts_of self.old (B.device board.old) (W.watched watch.old)) }
+        requires usable { IsTreeUsable self.old.shape (tree_parts_of self.old (B.device board.old) (W.watched watch.old)) }
         ensures read { IsLineRead (record { shape = self.old.shape; formulas = S.formulas_of (S.keys suite.old) }) at
-            (parts_of self.old (B.device board.old) (W.watched watch.old))
-            (parts_of self.new (B.device board.new) (W.watched watch.new)) result }
+            (tree_parts_of self.old (B.device board.old) (W.watched watch.old))
+            (tree_parts_of self.new (B.device board.new) (W.watched watch.new)) result }
         ensures counts { CountsOfRead (record { shape = self.old.shape; formulas = S.formulas_of (S.keys suite.old) }) at
-            (parts_of self.old (B.device board.old) (W.watched watch.old))
-            (parts_of self.new (B.device board.new) (W.watched watch.new))
+            (tree_parts_of self.old (B.device board.old) (W.watched watch.old))
+            (tree_parts_of self.new (B.device board.new) (W.watched watch.new))
             (suite_state (S.keys suite.old) (S.pads suite.old) (S.tags suite.old) (S.digests suite.old))
             (suite_state (S.keys suite.new) (S.pads suite.new) (S.tags suite.new) (S.digests suite.new)) result }
         ensures down { self.new.down ≡ self.old.down }
@@ -125,7 +125,7 @@ impl TreeEngine {
 
     /// The end of a call: a cut and an exhibit take the engine down.
     fn end(&mut self, fault: TreeFault)
-        ensures down { self.new.down ≡ (self.old.down || not (is_going (outcome_of_fault fault))) }
+        ensures down { self.new.down ≡ (self.old.down || not (is_going (outcome_of_tree_fault fault))) }
         ensures shape { self.new.shape ≡ self.old.shape }
         ensures cache { self.new.cache ≡ self.old.cache }
         ensures tree { self.new.tree ≡ self.old.tree }

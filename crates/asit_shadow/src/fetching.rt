@@ -7,10 +7,10 @@ ghost use Rattle.pmem_base.specs.Layout.{meta_lines};
 ghost use Rattle.board.specs.Steps.{WasCut};
 ghost use Rattle.counter_tree.specs.Layout.{tree_lines, tree_slots, tree_size};
 ghost use Rattle.asit_shadow.specs.State.{cache_at, IsCached, IsCachedAs};
-ghost use Rattle.asit_shadow.specs.Parts.{parts_of, IsUsable};
+ghost use Rattle.asit_shadow.specs.Parts.{tree_parts_of, IsTreeUsable};
 ghost use Rattle.asit_shadow.specs.Work.{holds_dirty};
 ghost use Rattle.asit_shadow.specs.Counts.{level_tags, fetch_tags};
-ghost use Rattle.asit_shadow.specs.Fetching.{IsRoomMade, IsNodeTaken, HasFetchedNode, HasNoNode, IsPathFetched, IsFetchStopped};
+ghost use Rattle.asit_shadow.specs.Fetching.{IsRoomMade, IsNodeTaken, HasFetchedNode, HasNoNode, IsNodePathFetched, IsFetchStopped};
 
 use crate::cache::CachedNode;
 use crate::engine::TreeEngine;
@@ -32,13 +32,13 @@ impl TreeEngine {
         at: u32,
     ) -> Result<Node, TreeFault>
         requires line { at < tree_lines self.old.shape }
-        requires usable { IsUsable self.old.shape (parts_of self.old (B.device board.old) (W.watched watch.old)) }
-        ensures fetched { IfOk result (IsPathFetched (record { shape = self.old.shape; formulas = S.formulas_of (S.keys suite.old) }) at
-            (parts_of self.old (B.device board.old) (W.watched watch.old))
-            (parts_of self.new (B.device board.new) (W.watched watch.new))) }
+        requires usable { IsTreeUsable self.old.shape (tree_parts_of self.old (B.device board.old) (W.watched watch.old)) }
+        ensures fetched { IfOk result (IsNodePathFetched (record { shape = self.old.shape; formulas = S.formulas_of (S.keys suite.old) }) at
+            (tree_parts_of self.old (B.device board.old) (W.watched watch.old))
+            (tree_parts_of self.new (B.device board.new) (W.watched watch.new))) }
         ensures stopped { IfErr result (IsFetchStopped (record { shape = self.old.shape; formulas = S.formulas_of (S.keys suite.old) }) at
-            (parts_of self.old (B.device board.old) (W.watched watch.old))
-            (parts_of self.new (B.device board.new) (W.watched watch.new)) (S.tags suite.old) (S.tags suite.new)) }
+            (tree_parts_of self.old (B.device board.old) (W.watched watch.old))
+            (tree_parts_of self.new (B.device board.new) (W.watched watch.new)) (S.tags suite.old) (S.tags suite.new)) }
         ensures tags { OnOk result (S.tags suite.new ≡ risen_times (fetch_tags (record { shape = self.old.shape; formulas = S.formulas_of (S.keys suite.old) })
             self.old.cache at self.old.shape.levels) (S.tags suite.old)) }
         ensures keys { S.keys suite.new ≡ S.keys suite.old }
@@ -74,11 +74,11 @@ impl TreeEngine {
         requires size { (B.device board.old).size ≡ tree_size self.old.shape }
         requires nodes { length (W.watched watch.old).nodes ≡ meta_lines self.old.shape }
         ensures had { IfOk result (HasFetchedNode (record { shape = self.old.shape; formulas = S.formulas_of (S.keys suite.old) }) x version
-            (parts_of self.old (B.device board.old) (W.watched watch.old))
-            (parts_of self.new (B.device board.new) (W.watched watch.new))) }
+            (tree_parts_of self.old (B.device board.old) (W.watched watch.old))
+            (tree_parts_of self.new (B.device board.new) (W.watched watch.new))) }
         ensures missed { IfErr result (HasNoNode (record { shape = self.old.shape; formulas = S.formulas_of (S.keys suite.old) }) x version
-            (parts_of self.old (B.device board.old) (W.watched watch.old))
-            (parts_of self.new (B.device board.new) (W.watched watch.new)) (S.tags suite.old) (S.tags suite.new)) }
+            (tree_parts_of self.old (B.device board.old) (W.watched watch.old))
+            (tree_parts_of self.new (B.device board.new) (W.watched watch.new)) (S.tags suite.old) (S.tags suite.new)) }
         ensures tags { OnOk result (S.tags suite.new ≡ risen_times (level_tags (record { shape = self.old.shape; formulas = S.formulas_of (S.keys suite.old) })
             self.old.cache x) (S.tags suite.old)) }
         ensures keys { S.keys suite.new ≡ S.keys suite.old }

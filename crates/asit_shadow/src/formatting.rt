@@ -11,10 +11,10 @@ ghost use Rattle.counter_tree.specs.Shadow.{shadow_digests, shadow_height};
 ghost use Rattle.counter_tree.specs.Watch.{HasSealNoted};
 ghost use Rattle.pmem_recovery.specs.Formatting.{StaysSteady};
 ghost use Rattle.pmem_recovery.specs.Parts.{suite_state, SuiteRise};
-ghost use Rattle.asit_shadow.specs.Parts.{parts_of, IsUsable};
+ghost use Rattle.asit_shadow.specs.Parts.{tree_parts_of, IsTreeUsable};
 ghost use Rattle.asit_shadow.specs.Paths.{tag_only};
 ghost use Rattle.asit_shadow.specs.Recovering.{rest_of};
-ghost use Rattle.asit_shadow.specs.Formatting.{first_seal, first_slots, sealed_lines, node_lines_written, slot_lines_written, AreSealsTold, AreNodesTold, AreSlotsTold, HasTreeFormatted, HasDeviceFormatted};
+ghost use Rattle.asit_shadow.specs.Formatting.{first_tree_seal, first_slots, tree_sealed_lines, node_lines_written, slot_lines_written, AreSealsTold, AreNodesTold, AreSlotsTold, HasTreeFormatted, HasDeviceFormatted};
 
 use crate::cache::CachedNode;
 use crate::engine::TreeEngine;
@@ -46,7 +46,7 @@ pub fn tree_format<B: Board, S: Suite, W: Watch>(
     requires slots { length (W.watched watch.old).slots ≡ tree_slots (shape_of geo.now) }
     ensures formatted { IfOk result (HasTreeFormatted (record { shape = shape_of geo.now; formulas = S.formulas_of (S.keys suite.old) })
         (rest_of (B.device board.old) (W.watched watch.old)) (rest_of (B.device board.new) (W.watched watch.new))) }
-    ensures usable { IfOk result (λ engine. IsUsable (shape_of geo.now) (parts_of engine (B.device board.new) (W.watched watch.new))) }
+    ensures usable { IfOk result (λ engine. IsTreeUsable (shape_of geo.now) (tree_parts_of engine (B.device board.new) (W.watched watch.new))) }
     ensures counts { OnOk result (SuiteRise (tree_lines (shape_of geo.now)) (tree_lines (shape_of geo.now) + meta_lines (shape_of geo.now)) (shadow_digests (shape_of geo.now))
         (suite_state (S.keys suite.old) (S.pads suite.old) (S.tags suite.old) (S.digests suite.old))
         (suite_state (S.keys suite.new) (S.pads suite.new) (S.tags suite.new) (S.digests suite.new))) }
@@ -107,7 +107,7 @@ fn seal_lines<B: Board, S: Suite, W: Watch>(geo: &Geo, board: &mut B, suite: &mu
     requires steady { (B.device board.old).steady ≡ true }
     requires seals { length (W.watched watch.old).seals ≡ tree_lines (shape_of geo.now) }
     ensures steady { StaysSteady (2 * tree_lines (shape_of geo.now)) (B.device board.old) (B.device board.new) }
-    ensures lines { (B.device board.new).lines ≡ option_map (sealed_lines (record { shape = shape_of geo.now; formulas = S.formulas_of (S.keys suite.old) }) (tree_lines (shape_of geo.now))) (B.device board.old).lines }
+    ensures lines { (B.device board.new).lines ≡ option_map (tree_sealed_lines (record { shape = shape_of geo.now; formulas = S.formulas_of (S.keys suite.old) }) (tree_lines (shape_of geo.now))) (B.device board.old).lines }
     ensures told { AreSealsTold (S.formulas_of (S.keys suite.old)) (tree_lines (shape_of geo.now)) (W.watched watch.old) (W.watched watch.new) }
     ensures counts { SuiteRise (tree_lines (shape_of geo.now)) (tree_lines (shape_of geo.now)) 0
         (suite_state (S.keys suite.old) (S.pads suite.old) (S.tags suite.old) (S.digests suite.old))
@@ -133,9 +133,9 @@ fn seal_one<B: Board, S: Suite, W: Watch>(
     requires seals { length (W.watched watch.old).seals ≡ tree_lines (shape_of geo.now) }
     ensures steady { StaysSteady 2 (B.device board.old) (B.device board.new) }
     ensures lines { (B.device board.new).lines
-        ≡ with_line (with_line (B.device board.old).lines at (first_seal (S.formulas_of (S.keys suite.old)) at).cipher)
-        (line_of_tag (shape_of geo.now) at) (tag_only (first_seal (S.formulas_of (S.keys suite.old)) at).tag) }
-    ensures noted { HasSealNoted (W.watched watch.old) (W.watched watch.new) at (first_seal (S.formulas_of (S.keys suite.old)) at) }
+        ≡ with_line (with_line (B.device board.old).lines at (first_tree_seal (S.formulas_of (S.keys suite.old)) at).cipher)
+        (line_of_tag (shape_of geo.now) at) (tag_only (first_tree_seal (S.formulas_of (S.keys suite.old)) at).tag) }
+    ensures noted { HasSealNoted (W.watched watch.old) (W.watched watch.new) at (first_tree_seal (S.formulas_of (S.keys suite.old)) at) }
     ensures counts { SuiteRise 1 1 0 (suite_state (S.keys suite.old) (S.pads suite.old) (S.tags suite.old) (S.digests suite.old))
         (suite_state (S.keys suite.new) (S.pads suite.new) (S.tags suite.new) (S.digests suite.new)) }
     ensures keys { S.keys suite.new ≡ S.keys suite.old }

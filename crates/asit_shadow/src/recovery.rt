@@ -13,7 +13,7 @@ ghost use Rattle.pmem_base.specs.Layout.{meta_lines};
 ghost use Rattle.asit_shadow.specs.declared.cache.CachedNode.{CachedNode};
 ghost use Rattle.asit_shadow.specs.State.{cache_at, IsHeldNode};
 ghost use Rattle.asit_shadow.specs.Steps.{held_of};
-ghost use Rattle.asit_shadow.specs.Recovering.{rest_of, IsRestUsable, IsNameable, HasTreeRecovered, HasOnlyRead, FillsRoom};
+ghost use Rattle.asit_shadow.specs.Recovering.{rest_of, IsRestUsable, IsNameable, HasTreeRecovered, HasOnlyReadLines, FillsRoom};
 
 use crate::cache::CachedNode;
 use crate::engine::TreeEngine;
@@ -163,7 +163,7 @@ fn read_slots<B: Board>(geo: &Geo, board: &mut B, slots: &mut [Line]) -> Result<
     requires size { (B.device board.old).size ≡ tree_size (shape_of geo.now) }
     requires slots { length slots.old ≡ tree_slots (shape_of geo.now) }
     requires whole { All IsLine slots.old }
-    ensures ok { OnOk result (HasOnlyRead (tree_slots (shape_of geo.now)) (B.device board.old) (B.device board.new)) }
+    ensures ok { OnOk result (HasOnlyReadLines (tree_slots (shape_of geo.now)) (B.device board.old) (B.device board.new)) }
     ensures whole { OnOk result (All IsLine slots.new) }
     ensures told { OnOk result ((i : ℕ) → i < tree_slots (shape_of geo.now)
         → Tells (B.device board.old).lines (line_of_slot (shape_of geo.now) i) (line_at slots.new i)) }

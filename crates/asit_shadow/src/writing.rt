@@ -11,10 +11,10 @@ ghost use Rattle.counter_tree.specs.Nodes.{IsNode, counter, total};
 ghost use Rattle.counter_tree.specs.Shadow.{IsShadowTree};
 ghost use Rattle.counter_tree.specs.Trees.{raised};
 ghost use Rattle.asit_shadow.specs.State.{IsCached, IsCachedAs, IsHeldNode, top_node};
-ghost use Rattle.asit_shadow.specs.Calls.{IsSpentAnswer};
+ghost use Rattle.asit_shadow.specs.Calls.{IsTreeSpentAnswer};
 ghost use Rattle.asit_shadow.specs.Counts.{CountsOfWrite};
 ghost use Rattle.asit_shadow.specs.Paths.{line_path};
-ghost use Rattle.asit_shadow.specs.Parts.{parts_of, IsWatchReady, IsUsable};
+ghost use Rattle.asit_shadow.specs.Parts.{tree_parts_of, IsWatchReady, IsTreeUsable};
 ghost use Rattle.asit_shadow.specs.Writing.{set_pairs, position_below, IsPathRaised, dirty_entries, armed_lines, IsTreeNamed, IsWriteTold, HasWrittenUp, pair_at};
 
 use crate::cache::CachedNode;
@@ -40,15 +40,15 @@ impl TreeEngine {
         line: &Line,
     ) -> Result<u64, TreeFault>
         requires line { at < tree_lines self.old.shape }
-        requires usable { IsUsable self.old.shape (parts_of self.old (B.device board.old) (W.watched watch.old)) }
+        requires usable { IsTreeUsable self.old.shape (tree_parts_of self.old (B.device board.old) (W.watched watch.old)) }
         requires up { self.old.down ≡ false }
         ensures written { HasWrittenUp (record { shape = self.old.shape; formulas = S.formulas_of (S.keys suite.old) }) at line.now
-            (parts_of self.old (B.device board.old) (W.watched watch.old))
-            (parts_of self.new (B.device board.new) (W.watched watch.new)) result }
-        ensures spent { IsSpentAnswer result ↔ (total (top_node self.old.cache) ≡ 2 ^ 64 - 1) }
+            (tree_parts_of self.old (B.device board.old) (W.watched watch.old))
+            (tree_parts_of self.new (B.device board.new) (W.watched watch.new)) result }
+        ensures spent { IsTreeSpentAnswer result ↔ (total (top_node self.old.cache) ≡ 2 ^ 64 - 1) }
         ensures counts { CountsOfWrite (record { shape = self.old.shape; formulas = S.formulas_of (S.keys suite.old) }) at
-            (parts_of self.old (B.device board.old) (W.watched watch.old))
-            (parts_of self.new (B.device board.new) (W.watched watch.new))
+            (tree_parts_of self.old (B.device board.old) (W.watched watch.old))
+            (tree_parts_of self.new (B.device board.new) (W.watched watch.new))
             (suite_state (S.keys suite.old) (S.pads suite.old) (S.tags suite.old) (S.digests suite.old))
             (suite_state (S.keys suite.new) (S.pads suite.new) (S.tags suite.new) (S.digests suite.new)) result }
         ensures keys { S.keys suite.new ≡ S.keys suite.old }

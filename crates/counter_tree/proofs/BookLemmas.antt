@@ -14,7 +14,7 @@ use Rattle.counter_tree.specs.declared.nodes.Node.{Node}
 use Rattle.counter_tree.specs.declared.watch.LineSeal.{LineSeal}
 use Rattle.counter_tree.specs.Layout.{tree_lines, tree_slots}
 use Rattle.counter_tree.specs.Book.{IsBookOf}
-use Rattle.counter_tree.specs.Shadow.{shadow_line, shadow_height, IsShadowTree, FirstDiffers, IsShadowDifference, IsTopDifference}
+use Rattle.counter_tree.specs.Shadow.{shadow_tree_line, shadow_height, IsShadowTree, FirstDiffers, IsShadowDifference, IsTopDifference}
 use Rattle.counter_tree.specs.Watch.{WatchState, IsSlotClash}
 use Rattle.counter_tree.proofs.Positions.{meta_lines-most}
 use Rattle.counter_tree.proofs.HeightLemmas.{shadow_height-room}
@@ -53,9 +53,9 @@ clash-is watch lines a b h i x shown height one two inside slot top its =
       place = subst (λ k. IsShadowDifference watch.setup.formulas k lines watch.slots i found.0 x) height found.1;
       its =
           its
-          ∙ (ap (λ line. Clash x line (line_at b x)) (found.2 ∙ ap (λ k. shadow_line watch.setup.formulas k lines found.0 x) height)
-          ∙ ap (λ line. Clash x (shadow_line watch.setup.formulas (shadow_height watch.setup.shape) lines found.0 x) line)
-          (found.3 ∙ ap (λ k. shadow_line watch.setup.formulas k watch.slots found.0 x) height));
+          ∙ (ap (λ line. Clash x line (line_at b x)) (found.2 ∙ ap (λ k. shadow_tree_line watch.setup.formulas k lines found.0 x) height)
+          ∙ ap (λ line. Clash x (shadow_tree_line watch.setup.formulas (shadow_height watch.setup.shape) lines found.0 x) line)
+          (found.3 ∙ ap (λ k. shadow_tree_line watch.setup.formulas k watch.slots found.0 x) height));
     }
 
 -- the height of the trees has room for the slots

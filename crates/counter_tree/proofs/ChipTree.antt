@@ -13,10 +13,10 @@ use Rattle.bonsai_tree.specs.Paths.{lines_with}
 use Rattle.bonsai_tree.proofs.Levels.{IsAtLevel, child-IsAtLevel, IsAtLevel-inner, level_start-next}
 use Rattle.bonsai_tree.proofs.NodeLaws.{node_over-same}
 use Rattle.bonsai_tree.proofs.Trees.{lines_with-IsTreeWith}
-use Rattle.counter_tree.specs.Shadow.{shadow_line, root_of, shape_of_height, IsShadowTree, tree_with, tree_root_with}
+use Rattle.counter_tree.specs.Shadow.{shadow_tree_line, root_of, shape_of_height, IsShadowTree, tree_with, tree_root_with}
 
 -- each line is that of the tree over the slot lines
-pub chip-line : (f : Formulas) (h : ℕ) (slots tree : List Line) (j d x : ℕ) → IsShadowTree f h slots tree → d + j ≡ h → IsAtLevel d x → line_at tree x ≡ shadow_line f h slots j x
+pub chip-line : (f : Formulas) (h : ℕ) (slots tree : List Line) (j d x : ℕ) → IsShadowTree f h slots tree → d + j ≡ h → IsAtLevel d x → line_at tree x ≡ shadow_tree_line f h slots j x
 chip-line f h slots tree zero d x it sum at =
     let last : d ≡ h = omega (arith, sum) in
     let from : level_start h ≤ x = omega (arith, at.from, ap level_start last) in
@@ -25,7 +25,7 @@ chip-line f h slots tree zero d x it sum at =
     ap (line_at tree) (sym place) ∙ it.leaves (x - level_start h) (omega (arith, below, from, level_start-next h))
 chip-line f h slots tree (suc j) d x it sum at =
     it.tree_lines.inner x (IsAtLevel-inner h d x (omega (arith, sum)) at)
-    ∙ node_over-same f x (line_at tree) (shadow_line f h slots j)
+    ∙ node_over-same f x (line_at tree) (shadow_tree_line f h slots j)
     (λ i small. chip-line f h slots tree j (suc d) (child_position x i) it (omega (arith, sum)) (child-IsAtLevel d x i at small))
 
 -- the law: its top's digest is the root over the slot lines

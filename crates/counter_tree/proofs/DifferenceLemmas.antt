@@ -6,7 +6,7 @@ use Rattle.pmem_base.specs.Layout.{level_start}
 use Rattle.pmem_base.specs.Lines.{line_at}
 use Rattle.suite.specs.Formulas.{Formulas}
 use Rattle.bonsai_tree.proofs.Levels.{IsAtLevel, level_start-next, level_start-suc}
-use Rattle.counter_tree.specs.Shadow.{up, shadow_line, ChipTree, IsChipTree, IsAtLevelOf, IsShadowTree, FirstDiffers, IsShadowDifference, IsTopDifference}
+use Rattle.counter_tree.specs.Shadow.{up, shadow_tree_line, ChipTree, IsChipTree, IsAtLevelOf, IsShadowTree, FirstDiffers, IsShadowDifference, IsTopDifference}
 use Rattle.counter_tree.proofs.ShadowLaws.{cases_line, up-IsAtLevel}
 use Rattle.counter_tree.proofs.ChipTree.{chip-line}
 use Rattle.counter_tree.proofs.ChipLemmas.{level-within, leaf-level}
@@ -102,7 +102,7 @@ highest-more a b leaf level x found result place same other so_far =
 -- ---- two shadow trees on the chip show where their slot lines' trees first differ from the top
 
 -- a line on a leaf's path
-path_line : (f : Formulas) (h : ℕ) (slots lines : List Line) (i m : ℕ) → IsShadowTree f h slots lines → i < 4 ^ h → m ≤ h → line_at lines (up m (level_start h + i)) ≡ shadow_line f h slots m (up m (level_start h + i))
+path_line : (f : Formulas) (h : ℕ) (slots lines : List Line) (i m : ℕ) → IsShadowTree f h slots lines → i < 4 ^ h → m ≤ h → line_at lines (up m (level_start h + i)) ≡ shadow_tree_line f h slots m (up m (level_start h + i))
 path_line f h slots lines i m it inside few =
     let sum : h ≡ m + (h - m) = omega (arith, few) in
     chip-line f h slots lines m (h - m) (up m (level_start h + i)) it (omega (arith, few))
@@ -112,14 +112,14 @@ path_line f h slots lines i m it inside few =
 pub shadow_top : (f : Formulas) (h : ℕ) (first second a b : List Line) (i x : ℕ)
     → IsShadowTree f h first a → IsShadowTree f h second b → i < 4 ^ h → FirstDiffers first second i
     → IsTopDifference h a b (level_start h + i) x
-    → (m : ℕ) × IsShadowDifference f h first second i m x × (line_at a x ≡ shadow_line f h first m x) × (line_at b x ≡ shadow_line f h second m x)
+    → (m : ℕ) × IsShadowDifference f h first second i m x × (line_at a x ≡ shadow_tree_line f h first m x) × (line_at b x ≡ shadow_tree_line f h second m x)
 shadow_top f h first second a b i x one two inside slot top =
     let m = top.height in
     let leaf = level_start h + i in
-    let is_one : line_at a x ≡ shadow_line f h first m x =
-    subst (λ z. line_at a z ≡ shadow_line f h first m z) (sym top.its_place) (path_line f h first a i m one inside top.within) in
-    let is_two : line_at b x ≡ shadow_line f h second m x =
-    subst (λ z. line_at b z ≡ shadow_line f h second m z) (sym top.its_place) (path_line f h second b i m two inside top.within) in (
+    let is_one : line_at a x ≡ shadow_tree_line f h first m x =
+    subst (λ z. line_at a z ≡ shadow_tree_line f h first m z) (sym top.its_place) (path_line f h first a i m one inside top.within) in
+    let is_two : line_at b x ≡ shadow_tree_line f h second m x =
+    subst (λ z. line_at b z ≡ shadow_tree_line f h second m z) (sym top.its_place) (path_line f h second b i m two inside top.within) in (
       m,
       record {
         slot = slot;

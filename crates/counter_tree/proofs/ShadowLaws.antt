@@ -14,7 +14,7 @@ use Rattle.bonsai_tree.specs.Nodes.{child_digest}
 use Rattle.bonsai_tree.proofs.Levels.{IsAtLevel, parent-IsAtLevel, child-of_parent, level_start-suc, IsAtLevel-place}
 use Rattle.bonsai_tree.proofs.NodeLaws.{AreSixteen, child_digest-node_over}
 use Rattle.counter_tree.proofs.Positions.{node_over-IsLine}
-use Rattle.counter_tree.specs.Shadow.{shadow_line, root_of, up, FirstDiffers, IsShadowDifference}
+use Rattle.counter_tree.specs.Shadow.{shadow_tree_line, root_of, up, FirstDiffers, IsShadowDifference}
 
 -- ---- lines are equal or differ
 
@@ -53,19 +53,19 @@ first_differs (x ∷ a) (y ∷ b) same apart =
 
 -- ---- lines of a shadow tree are lines
 
-pub shadow_line-IsLine : (f : Formulas) (h : ℕ) (slots : List Line) (j x : ℕ) → AreInRange f → All IsLine slots → IsLine (shadow_line f h slots j x)
+pub shadow_line-IsLine : (f : Formulas) (h : ℕ) (slots : List Line) (j x : ℕ) → AreInRange f → All IsLine slots → IsLine (shadow_tree_line f h slots j x)
 shadow_line-IsLine f h slots zero x in_range whole = IsLine-line_at slots (x - level_start h) whole
 shadow_line-IsLine f h slots (suc j) x in_range whole =
-    node_over-IsLine f x (shadow_line f h slots j) in_range (λ i small. shadow_line-IsLine f h slots j (child_position x i) in_range whole)
+    node_over-IsLine f x (shadow_tree_line f h slots j) in_range (λ i small. shadow_line-IsLine f h slots j (child_position x i) in_range whole)
 
-sixteen : (f : Formulas) (h : ℕ) (slots : List Line) (j x : ℕ) → AreInRange f → All IsLine slots → AreSixteen f x (shadow_line f h slots j)
-sixteen f h slots j x in_range whole = λ i small. (in_range.digests (child_position x i) (shadow_line f h slots j (child_position x i)) (shadow_line-IsLine f h slots j (child_position x i) in_range whole)).long
+sixteen : (f : Formulas) (h : ℕ) (slots : List Line) (j x : ℕ) → AreInRange f → All IsLine slots → AreSixteen f x (shadow_tree_line f h slots j)
+sixteen f h slots j x in_range whole = λ i small. (in_range.digests (child_position x i) (shadow_tree_line f h slots j (child_position x i)) (shadow_line-IsLine f h slots j (child_position x i) in_range whole)).long
 
 -- a node's entry is its child's digest
-child_entry : (f : Formulas) (h : ℕ) (slots : List Line) (j y : ℕ) → AreInRange f → All IsLine slots → 1 ≤ y → child_digest (shadow_line f h slots (suc j) (parent y)) (child_slot y) ≡ f.digest_of y (shadow_line f h slots j y)
+child_entry : (f : Formulas) (h : ℕ) (slots : List Line) (j y : ℕ) → AreInRange f → All IsLine slots → 1 ≤ y → child_digest (shadow_tree_line f h slots (suc j) (parent y)) (child_slot y) ≡ f.digest_of y (shadow_tree_line f h slots j y)
 child_entry f h slots j y in_range whole below =
-    child_digest-node_over f (parent y) (child_slot y) (shadow_line f h slots j) (sixteen f h slots j (parent y) in_range whole) (omega arith)
-    ∙ ap (λ z. f.digest_of z (shadow_line f h slots j z)) (child-of_parent y below)
+    child_digest-node_over f (parent y) (child_slot y) (shadow_tree_line f h slots j) (sixteen f h slots j (parent y) in_range whole) (omega arith)
+    ∙ ap (λ z. f.digest_of z (shadow_tree_line f h slots j z)) (child-of_parent y below)
 
 -- ---- the path of a leaf
 
@@ -94,7 +94,7 @@ up-top h y at =
 
 -- with equal lines above, the first difference is here or below
 descend : (f : Formulas) (h : ℕ) (a b : List Line) (i m : ℕ) → FirstDiffers a b i → m ≤ h
-    → ((n : ℕ) → m < n → n ≤ h → shadow_line f h a n (up n (level_start h + i)) ≡ shadow_line f h b n (up n (level_start h + i)))
+    → ((n : ℕ) → m < n → n ≤ h → shadow_tree_line f h a n (up n (level_start h + i)) ≡ shadow_tree_line f h b n (up n (level_start h + i)))
     → (n : ℕ) × (x : ℕ) × IsShadowDifference f h a b i n x
 descend f h a b i zero first small above =
     let place : level_start h + i - level_start h ≡ i = omega arith in (
@@ -109,7 +109,7 @@ descend f h a b i zero first small above =
       },
     )
 descend f h a b i (suc m) first small above =
-    elim (cases_line (shadow_line f h a (suc m) (up (suc m) (level_start h + i))) (shadow_line f h b (suc m) (up (suc m) (level_start h + i)))) [
+    elim (cases_line (shadow_tree_line f h a (suc m) (up (suc m) (level_start h + i))) (shadow_tree_line f h b (suc m) (up (suc m) (level_start h + i)))) [
       | inr other ↦ (
         suc m,
         up (suc m) (level_start h + i),
@@ -125,15 +125,15 @@ descend f h a b i (suc m) first small above =
     ]
   where
     more : (f : Formulas) (h : ℕ) (a b : List Line) (i m : ℕ)
-        → shadow_line f h a (suc m) (up (suc m) (level_start h + i)) ≡ shadow_line f h b (suc m) (up (suc m) (level_start h + i))
-        → ((n : ℕ) → suc m < n → n ≤ h → shadow_line f h a n (up n (level_start h + i)) ≡ shadow_line f h b n (up n (level_start h + i)))
-        → (n : ℕ) → m < n → n ≤ h → shadow_line f h a n (up n (level_start h + i)) ≡ shadow_line f h b n (up n (level_start h + i))
+        → shadow_tree_line f h a (suc m) (up (suc m) (level_start h + i)) ≡ shadow_tree_line f h b (suc m) (up (suc m) (level_start h + i))
+        → ((n : ℕ) → suc m < n → n ≤ h → shadow_tree_line f h a n (up n (level_start h + i)) ≡ shadow_tree_line f h b n (up n (level_start h + i)))
+        → (n : ℕ) → m < n → n ≤ h → shadow_tree_line f h a n (up n (level_start h + i)) ≡ shadow_tree_line f h b n (up n (level_start h + i))
     more f h a b i m same above n low high =
         elim (cases_lt (suc m) n) [
           | inl less ↦ above n less high
           | inr le ↦
               let here : suc m ≡ n = omega (arith, low, le) in
-              subst (λ z. shadow_line f h a z (up z (level_start h + i)) ≡ shadow_line f h b z (up z (level_start h + i))) here same
+              subst (λ z. shadow_tree_line f h a z (up z (level_start h + i)) ≡ shadow_tree_line f h b z (up z (level_start h + i))) here same
         ]
 
 -- two different lists of as many slot lines have such a position
@@ -144,19 +144,19 @@ shadow_differs f h a b same apart =
     (first.0, found.0, found.1, found.2)
 
 -- the law: under one root its two lines have one digest
-pub shadow_clash : (f : Formulas) (h : ℕ) (a b : List Line) (i m x : ℕ) → AreInRange f → All IsLine a → All IsLine b → length a ≤ 4 ^ h → root_of f h a ≡ root_of f h b → IsShadowDifference f h a b i m x → f.digest_of x (shadow_line f h a m x) ≡ f.digest_of x (shadow_line f h b m x)
+pub shadow_clash : (f : Formulas) (h : ℕ) (a b : List Line) (i m x : ℕ) → AreInRange f → All IsLine a → All IsLine b → length a ≤ 4 ^ h → root_of f h a ≡ root_of f h b → IsShadowDifference f h a b i m x → f.digest_of x (shadow_tree_line f h a m x) ≡ f.digest_of x (shadow_tree_line f h b m x)
 shadow_clash f h a b i m x in_range wa wb room root it =
     let at : IsAtLevel h (level_start h + i) = IsAtLevel-place h i (omega (arith, it.slot.within, room)) in
     elim (cases_lt m h) [
       | inr top ↦
           let here : h ≡ m = omega (arith, top, it.height) in
           let zero_is : 0 ≡ x = sym (up-top h (level_start h + i) at) ∙ (ap (λ n. up n (level_start h + i)) here ∙ sym it.its_place) in
-          subst (λ z. f.digest_of x (shadow_line f h a z x) ≡ f.digest_of x (shadow_line f h b z x)) here
-          (subst (λ z. f.digest_of z (shadow_line f h a h z) ≡ f.digest_of z (shadow_line f h b h z)) zero_is root)
+          subst (λ z. f.digest_of x (shadow_tree_line f h a z x) ≡ f.digest_of x (shadow_tree_line f h b z x)) here
+          (subst (λ z. f.digest_of z (shadow_tree_line f h a h z) ≡ f.digest_of z (shadow_tree_line f h b h z)) zero_is root)
       | inl deep ↦
           let low = up-low h m (level_start h + i) at (omega (arith, deep)) in
           let same = it.above (suc m) (omega arith) (omega (arith, deep)) in
-          subst (λ z. f.digest_of z (shadow_line f h a m z) ≡ f.digest_of z (shadow_line f h b m z)) (sym it.its_place)
+          subst (λ z. f.digest_of z (shadow_tree_line f h a m z) ≡ f.digest_of z (shadow_tree_line f h b m z)) (sym it.its_place)
           (sym (child_entry f h a m (up m (level_start h + i)) in_range wa low)
           ∙ (ap (λ node. child_digest node (child_slot (up m (level_start h + i)))) same
           ∙ child_entry f h b m (up m (level_start h + i)) in_range wb low))
@@ -178,9 +178,9 @@ IsShadowDifference-once f h a b i m x j n y one two =
     let slot = FirstDiffers-once a b i j one.slot two.slot in
     let moved : IsShadowDifference f h a b i n y = subst (λ z. IsShadowDifference f h a b z n y) (sym slot) two in
     elim (cases_lt m n) [
-      | inl less ↦ absurd (moved.differ (subst (λ z. shadow_line f h a n z ≡ shadow_line f h b n z) (sym moved.its_place) (one.above n less moved.height)))
+      | inl less ↦ absurd (moved.differ (subst (λ z. shadow_tree_line f h a n z ≡ shadow_tree_line f h b n z) (sym moved.its_place) (one.above n less moved.height)))
       | inr le ↦ elim (cases_lt n m) [
-        | inl less ↦ absurd (one.differ (subst (λ z. shadow_line f h a m z ≡ shadow_line f h b m z) (sym one.its_place) (moved.above m less one.height)))
+        | inl less ↦ absurd (one.differ (subst (λ z. shadow_tree_line f h a m z ≡ shadow_tree_line f h b m z) (sym one.its_place) (moved.above m less one.height)))
         | inr ge ↦
             let same : m ≡ n = omega (arith, le, ge) in
             one.its_place ∙ (ap (λ z. up z (level_start h + i)) same ∙ sym moved.its_place)

@@ -21,13 +21,13 @@ shadow_height g = first_height (1 ∷ 2 ∷ 3 ∷ 4 ∷ []) (tree_slots g)
 
 -- the line of a tree of height h over these slot lines, at position x that is j levels above the
 -- leaves; leaves past the slots are zero
-abbrev pub shadow_line : Formulas → ℕ → List Line → ℕ → ℕ → Line
-shadow_line f h slots zero x = line_at slots (x - level_start h)
-shadow_line f h slots (suc j) x = node_over f x (shadow_line f h slots j)
+abbrev pub shadow_tree_line : Formulas → ℕ → List Line → ℕ → ℕ → Line
+shadow_tree_line f h slots zero x = line_at slots (x - level_start h)
+shadow_tree_line f h slots (suc j) x = node_over f x (shadow_tree_line f h slots j)
 
 -- the digest of its top
 abbrev pub root_of : Formulas → ℕ → List Line → List ℕ
-root_of f h slots = f.digest_of 0 (shadow_line f h slots h 0)
+root_of f h slots = f.digest_of 0 (shadow_tree_line f h slots h 0)
 
 -- the root over the slots of a tree
 unfoldable pub shadow_root : Shape → Formulas → List Line → List ℕ
@@ -56,8 +56,8 @@ pub record IsShadowDifference (f : Formulas) (h : ℕ) (first second : List Line
   pub its_place : x ≡ up m (level_start h + i)
   pub above :
       (n : ℕ) → m < n → n ≤ h
-      → shadow_line f h first n (up n (level_start h + i)) ≡ shadow_line f h second n (up n (level_start h + i))
-  pub differ : shadow_line f h first m x ≢ shadow_line f h second m x
+      → shadow_tree_line f h first n (up n (level_start h + i)) ≡ shadow_tree_line f h second n (up n (level_start h + i))
+  pub differ : shadow_tree_line f h first m x ≢ shadow_tree_line f h second m x
 
 -- ---- the tree's lines, kept on the chip
 

@@ -14,7 +14,7 @@ use Rattle.counter_tree.specs.declared.watch.LineSeal.{LineSeal}
 use Rattle.counter_tree.specs.Nodes.{wrapped_version, node_place, version_counter, without_tag, stored_node}
 use Rattle.counter_tree.specs.Layout.{tree_lines, tree_slots}
 use Rattle.counter_tree.specs.Trees.{node_at}
-use Rattle.counter_tree.specs.Shadow.{shadow_line, shadow_height, IsShadowDifference}
+use Rattle.counter_tree.specs.Shadow.{shadow_tree_line, shadow_height, IsShadowDifference}
 
 -- the geometry and the formulas, the last seal of each data line, the true nodes, the true slot
 -- lines, and the first exhibit
@@ -117,8 +117,8 @@ pub record IsSlotClash (watch : WatchState) (lines : List Line) (shown : Exhibit
   pub its :
       shown
       ≡ Clash position
-      (shadow_line watch.setup.formulas (shadow_height watch.setup.shape) lines height position)
-      (shadow_line watch.setup.formulas (shadow_height watch.setup.shape) watch.slots height position)
+      (shadow_tree_line watch.setup.formulas (shadow_height watch.setup.shape) lines height position)
+      (shadow_tree_line watch.setup.formulas (shadow_height watch.setup.shape) watch.slots height position)
 
 -- slot lines go on where they are the true ones, and else their clash is shown
 abbrev pub AreSlotsSeen : WatchState → WatchState → List Line → Go → Type 0

@@ -20,10 +20,10 @@ use Rattle.line_txn.specs.declared.store.Done.TheVariants as Do
 use Rattle.line_txn.specs.declared.store.CommitFault.{CommitFault}
 use Rattle.line_txn.specs.declared.edits.Edit.{Edit}
 use Rattle.line_txn.specs.declared.edits.Edit.TheVariants as Make
-use Rattle.line_txn.specs.Header.{AreBelow, AreTargets, header_of}
-use Rattle.line_txn.specs.Logged.{Stage, logged, decided, cleared, lines_decided, lines_at, with_header, targets_of, bodies_of}
+use Rattle.line_txn.specs.Header.{AreDistinctBelow, AreTargets, header_of}
+use Rattle.line_txn.specs.Logged.{CommitStage, logged, decided, cleared, lines_decided, commit_lines_at, with_header, targets_of, bodies_of}
 use Rattle.line_txn.specs.Edits.{AreEdited, IsEditOf, IsWholeTxn, all_edited, body_edits, target_edits, deciding_edits, applying_edits}
-use Rattle.line_txn.specs.Store.{HasCommitted, HasDecided, HasGoneOn, IsServedAs, IsServedBy, IsEnd, IsLeftLogged, IsSoundAnswer, IsSpentUndecided, answer_by, outcome_by}
+use Rattle.line_txn.specs.Store.{HasStoreCommitted, HasDecided, HasCommitGoneOn, IsServedAs, IsServedBy, IsCommitEnd, IsLeftLogged, IsSoundCommitAnswer, IsSpentUndecided, commit_answer_by, commit_outcome_by}
 use Rattle.line_txn.proofs.LoggedLaws.{whole_at_each_stage, zero_header}
 use Rattle.line_txn.proofs.EditLaws.{AfterEdits, LeftTrusted, LeftSound, trusted_after_edits, sound_after_edits, edits_leave, LeavesAll}
 use Rattle.line_txn.proofs.EditStages.{after_bodies, after_all_bodies, after_targets, after_all_targets, after_last, length-bodies, length-targets, StopsBy, stops_by, deciding_fit, applying_fit}
@@ -34,7 +34,7 @@ use Rattle.line_txn.proofs.EditStages.{after_bodies, after_all_bodies, after_tar
 pub record IsTxnOf (setup : Setup) (n : ℕ) (txn : List (ℕ × Line)) : Type 0 where
   pub size : n + 16 ≡ data_lines setup.shape
   pub low : n ≤ 2 ^ 30
-  pub below : AreBelow n (targets_of txn)
+  pub below : AreDistinctBelow n (targets_of txn)
   pub lines : IsWholeTxn txn
 
 module _ (setup : Setup) (n : ℕ) (txn : List (ℕ × Line)) (lines : List Line) (its : IsTxnOf setup n txn) where
@@ -47,8 +47,8 @@ module _ (setup : Setup) (n : ℕ) (txn : List (ℕ × Line)) (lines : List Line
   abbrev Left : Parts → Result Done CommitFault → Type 0
   Left to answer = IsLeftLogged setup txn n lines to answer
 
-  left_at : (stage : Stage) (to : Parts) (answer : Result Done CommitFault) → IsEnd answer txn stage
-      → HasLines setup (lines_at stage n txn lines) to → Left to answer
+  left_at : (stage : CommitStage) (to : Parts) (answer : Result Done CommitFault) → IsCommitEnd answer txn stage
+      → HasLines setup (commit_lines_at stage n txn lines) to → Left to answer
   left_at stage to answer end holds =
       record {
         stage = stage;
@@ -64,7 +64,7 @@ module _ (setup : Setup) (n : ℕ) (txn : List (ℕ × Line)) (lines : List Line
       ∙ ap (with_header n (targets_of txn)) (after_all_bodies (n + 1) (bodies_of txn) lines)
 
   -- and once the zero header is
-  cleared_lines : all_edited (applying_edits n txn) (lines_decided n txn lines) ≡ lines_at cleared n txn lines
+  cleared_lines : all_edited (applying_edits n txn) (lines_decided n txn lines) ≡ commit_lines_at cleared n txn lines
   cleared_lines =
       after_last (target_edits txn) (Make.Put n zero_line) (lines_decided n txn lines)
       ∙ ap (λ l. slice_set l n zero_line) (after_all_targets txn (lines_decided n txn lines))
@@ -87,14 +87,14 @@ module _ (setup : Setup) (n : ℕ) (txn : List (ℕ × Line)) (lines : List Line
 
   -- the targets are written, or so many of them, and then the zero header
   applied_left : (to : Parts) (applied : Result (Unit {0}) Fault)
-      → LeavesAll setup small applied (applying_edits n txn) (lines_decided n txn lines) to → Left to (answer_by applied)
+      → LeavesAll setup small applied (applying_edits n txn) (lines_decided n txn lines) to → Left to (commit_answer_by applied)
   applied_left to (Ok done) holds =
       left_at cleared to (Ok Do.Applied) tt (subst (λ l. HasLines setup l to) cleared_lines holds)
   applied_left to (Err fault) stops =
       go (stops_by setup small (target_edits txn) (Make.Put n zero_line) (lines_decided n txn lines) to fault stops)
     where
       -- which stage is an end, by the fault
-      at_decided : (fault : Fault) (k : ℕ) → k ≤ length txn → IsEnd (answer_by (Err fault)) txn (decided k)
+      at_decided : (fault : Fault) (k : ℕ) → k ≤ length txn → IsCommitEnd (commit_answer_by (Err fault)) txn (decided k)
       at_decided (Fail.Spent page) k few = few
       at_decided Fail.Cut k few = (inl refl, few)
       at_decided Fail.Down k few = (inl refl, few)
@@ -102,7 +102,7 @@ module _ (setup : Setup) (n : ℕ) (txn : List (ℕ × Line)) (lines : List Line
       at_decided (Fail.Tag at) k few = (inl refl, few)
       at_decided Fail.Shown k few = (inl refl, few)
 
-      at_cleared : (fault : Fault) → IsUnspent fault → IsEnd (answer_by (Err fault)) txn cleared
+      at_cleared : (fault : Fault) → IsUnspent fault → IsCommitEnd (commit_answer_by (Err fault)) txn cleared
       at_cleared (Fail.Spent page) unspent = absurd unspent
       at_cleared Fail.Cut unspent = refl
       at_cleared Fail.Down unspent = refl
@@ -110,15 +110,15 @@ module _ (setup : Setup) (n : ℕ) (txn : List (ℕ × Line)) (lines : List Line
       at_cleared (Fail.Tag at) unspent = refl
       at_cleared Fail.Shown unspent = refl
 
-      go : StopsBy setup (target_edits txn) (Make.Put n zero_line) (lines_decided n txn lines) to fault → Left to (answer_by (Err fault))
+      go : StopsBy setup (target_edits txn) (Make.Put n zero_line) (lines_decided n txn lines) to fault → Left to (commit_answer_by (Err fault))
       go by =
           elim by.left [
             | inl same ↦
-                left_at (decided by.k) to (answer_by (Err fault))
+                left_at (decided by.k) to (commit_answer_by (Err fault))
                 (at_decided fault by.k (subst (λ c. by.k ≤ c) (length-targets txn) by.within))
                 (subst (λ l. HasLines setup l to) (after_targets by.k txn (lines_decided n txn lines)) same)
             | inr put ↦
-                left_at cleared to (answer_by (Err fault)) (at_cleared fault put.1)
+                left_at cleared to (commit_answer_by (Err fault)) (at_cleared fault put.1)
                 (subst (λ l. HasLines setup l to)
                 (ap (λ l. slice_set l n zero_line) (after_all_targets txn (lines_decided n txn lines))
                 ∙ ap (slice_set (put_lines txn (lines_decided n txn lines)) n) (sym zero_header)) put.2)
@@ -133,7 +133,7 @@ module _ (setup : Setup) (n : ℕ) (txn : List (ℕ × Line)) (lines : List Line
       fit = deciding_fit n (data_lines setup.shape) its.size txn its.lines.few its.lines.whole its.lines.header
 
       go : (made : Result (Unit {0}) Fault) → AreEdited setup (deciding_edits n txn) from it.between made
-          → HasGoneOn made setup txn old new it.between to answer → Left to answer
+          → HasCommitGoneOn made setup txn old new it.between to answer → Left to answer
       go (Ok done) was then =
           let there : HasLines setup (lines_decided n txn lines) it.between =
           subst (λ l. HasLines setup l it.between) decided_lines
@@ -162,7 +162,7 @@ no_txn =
 
 pub left_logged : (setup : Setup) (txn : List (ℕ × Line)) (lines : List Line) (old new : Store) (from to : Parts)
     (answer : Result Done CommitFault) → IsTxnOf setup old.lines txn → HasLines setup lines from → AreTrusted setup from
-    → HasCommitted setup txn old new from to answer → IsLeftLogged setup txn old.lines lines to answer
+    → HasStoreCommitted setup txn old new from to answer → IsLeftLogged setup txn old.lines lines to answer
 left_logged setup [] lines old new from to answer its had trusted it =
     subst (IsLeftLogged setup [] old.lines lines to) (sym it.its_answer)
     (left_at setup old.lines [] lines its (logged 0) to (Ok Do.Applied) refl (subst (HasLines setup lines) (sym it.nothing_done) had))
@@ -181,12 +181,12 @@ AfterCommit P E (Err fault) to = E fault.fault to
 pub commit_ends : (setup : Setup) (P : Parts → Type 0) (E : Fault → Parts → Type 0)
     → ((edits : List Edit) (old new : Parts) (answer : Result (Unit {0}) Fault) → P old → AreEdited setup edits old new answer → AfterEdits P E answer new)
     → (txn : List (ℕ × Line)) (old new : Store) (from to : Parts) (answer : Result Done CommitFault) → P from
-    → HasCommitted setup txn old new from to answer → AfterCommit P E answer to
+    → HasStoreCommitted setup txn old new from to answer → AfterCommit P E answer to
 commit_ends setup P E by_edits [] old new from to answer had it =
     subst (λ r. AfterCommit P E r to) (sym it.its_answer) (subst P (sym it.nothing_done) had)
 commit_ends setup P E by_edits (entry ∷ txn) old new from to answer had it = go it.made it.was_made it.then
   where
-    applied_ends : (applied : Result (Unit {0}) Fault) → AfterEdits P E applied to → AfterCommit P E (answer_by applied) to
+    applied_ends : (applied : Result (Unit {0}) Fault) → AfterEdits P E applied to → AfterCommit P E (commit_answer_by applied) to
     applied_ends (Ok done) is = is
     applied_ends (Err (Fail.Spent page)) is = is
     applied_ends (Err Fail.Cut) is = is
@@ -196,7 +196,7 @@ commit_ends setup P E by_edits (entry ∷ txn) old new from to answer had it = g
     applied_ends (Err Fail.Shown) is = is
 
     go : (made : Result (Unit {0}) Fault) → AreEdited setup (deciding_edits old.lines (entry ∷ txn)) from it.between made
-        → HasGoneOn made setup (entry ∷ txn) old new it.between to answer → AfterCommit P E answer to
+        → HasCommitGoneOn made setup (entry ∷ txn) old new it.between to answer → AfterCommit P E answer to
     go (Ok done) was then =
         subst (λ r. AfterCommit P E r to) (sym then.its_answer)
         (applied_ends then.applied
@@ -207,20 +207,20 @@ commit_ends setup P E by_edits (entry ∷ txn) old new from to answer had it = g
         (subst (E fault) (sym then.nothing_else) (by_edits (deciding_edits old.lines (entry ∷ txn)) from it.between (Err fault) had was))
 
 pub commit_trusted : (setup : Setup) (txn : List (ℕ × Line)) (old new : Store) (from to : Parts) (answer : Result Done CommitFault)
-    → HasCommitted setup txn old new from to answer → AreTrusted setup from → LeavesTrusted setup (outcome_by answer) to
+    → HasStoreCommitted setup txn old new from to answer → AreTrusted setup from → LeavesTrusted setup (commit_outcome_by answer) to
 commit_trusted setup txn old new from to answer it trusted =
     go answer
     (commit_ends setup (AreTrusted setup) (LeftTrusted setup)
     (λ edits here there done had was. trusted_after_edits setup edits here there done was had)
     txn old new from to answer trusted it)
   where
-    go : (answer : Result Done CommitFault) → AfterCommit (AreTrusted setup) (LeftTrusted setup) answer to → LeavesTrusted setup (outcome_by answer) to
+    go : (answer : Result Done CommitFault) → AfterCommit (AreTrusted setup) (LeftTrusted setup) answer to → LeavesTrusted setup (commit_outcome_by answer) to
     go (Ok Do.Applied) is = is
     go (Ok (Do.Stuck page)) is = is
     go (Err fault) is = is
 
 pub commit_sound : (setup : Setup) (txn : List (ℕ × Line)) (old new : Store) (from to : Parts) (answer : Result Done CommitFault)
-    → HasCommitted setup txn old new from to answer → AreSound setup from → LeavesSound setup (outcome_by answer) to × IsSoundAnswer answer
+    → HasStoreCommitted setup txn old new from to answer → AreSound setup from → LeavesSound setup (commit_outcome_by answer) to × IsSoundCommitAnswer answer
 commit_sound setup txn old new from to answer it sound =
     go answer
     (commit_ends setup (AreSound setup) (LeftSound setup)
@@ -228,14 +228,14 @@ commit_sound setup txn old new from to answer it sound =
     txn old new from to answer sound it)
   where
     go : (answer : Result Done CommitFault) → AfterCommit (AreSound setup) (LeftSound setup) answer to
-        → LeavesSound setup (outcome_by answer) to × IsSoundAnswer answer
+        → LeavesSound setup (commit_outcome_by answer) to × IsSoundCommitAnswer answer
     go (Ok Do.Applied) is = (is, tt)
     go (Ok (Do.Stuck page)) is = (is.0, tt)
     go (Err fault) is = is
 
 -- ---- spent comes only before the header is written
 
-spent_answer : (applied : Result (Unit {0}) Fault) → IsSpentUndecided (answer_by applied)
+spent_answer : (applied : Result (Unit {0}) Fault) → IsSpentUndecided (commit_answer_by applied)
 spent_answer (Ok done) = tt
 spent_answer (Err (Fail.Spent page)) = tt
 spent_answer (Err Fail.Cut) = λ e. tt
@@ -245,11 +245,11 @@ spent_answer (Err (Fail.Tag at)) = λ e. tt
 spent_answer (Err Fail.Shown) = λ e. tt
 
 pub spent_undecided : (setup : Setup) (txn : List (ℕ × Line)) (old new : Store) (from to : Parts) (answer : Result Done CommitFault)
-    → HasCommitted setup txn old new from to answer → IsSpentUndecided answer
+    → HasStoreCommitted setup txn old new from to answer → IsSpentUndecided answer
 spent_undecided setup [] old new from to answer it = subst IsSpentUndecided (sym it.its_answer) tt
 spent_undecided setup (entry ∷ txn) old new from to answer it = go it.made it.then
   where
-    go : (made : Result (Unit {0}) Fault) → HasGoneOn made setup (entry ∷ txn) old new it.between to answer → IsSpentUndecided answer
+    go : (made : Result (Unit {0}) Fault) → HasCommitGoneOn made setup (entry ∷ txn) old new it.between to answer → IsSpentUndecided answer
     go (Ok done) then = subst IsSpentUndecided (sym then.its_answer) (spent_answer then.applied)
     go (Err fault) then = subst IsSpentUndecided (sym then.its_answer) (λ e. absurd (true≢false (sym e)))
 
@@ -263,13 +263,13 @@ pub some_list : {X : Type 0} (xs : List X) → eqb (length xs) 0 ≡ false → x
 some_list xs other none = eqb-false (length xs) 0 other (ap length none)
 
 pub decided_by : (setup : Setup) (txn : List (ℕ × Line)) (old new : Store) (from to : Parts) (answer : Result Done CommitFault)
-    → (txn ≡ [] → ⊥) → HasDecided setup txn old new from to answer → HasCommitted setup txn old new from to answer
+    → (txn ≡ [] → ⊥) → HasDecided setup txn old new from to answer → HasStoreCommitted setup txn old new from to answer
 decided_by setup [] old new from to answer some it = absurd (some refl)
 decided_by setup (entry ∷ txn) old new from to answer some it = it
 
 pub refused_by : (setup : Setup) (txn : List (ℕ × Line)) (old new : Store) (from to : Parts) (fault : Fault) → (txn ≡ [] → ⊥)
     → AreEdited setup (deciding_edits old.lines txn) from to (Err fault) → IsServedAs old.logged.items old.stuck old new
-    → HasCommitted setup txn old new from to (Err (record { fault = fault; committed = false }))
+    → HasStoreCommitted setup txn old new from to (Err (record { fault = fault; committed = false }))
 refused_by setup txn old new from to fault some made served =
     decided_by setup txn old new from to (Err (record { fault = fault; committed = false })) some
     (record {
@@ -281,8 +281,8 @@ refused_by setup txn old new from to fault some made served =
 
 pub applied_by : (setup : Setup) (txn : List (ℕ × Line)) (old new : Store) (from between to : Parts) (applied : Result (Unit {0}) Fault)
     (answer : Result Done CommitFault) → (txn ≡ [] → ⊥) → AreEdited setup (deciding_edits old.lines txn) from between (Ok tt)
-    → AreEdited setup (applying_edits old.lines txn) between to applied → answer ≡ answer_by applied → IsServedBy applied txn old new
-    → HasCommitted setup txn old new from to answer
+    → AreEdited setup (applying_edits old.lines txn) between to applied → answer ≡ commit_answer_by applied → IsServedBy applied txn old new
+    → HasStoreCommitted setup txn old new from to answer
 applied_by setup txn old new from between to applied answer some made was its_answer served =
     decided_by setup txn old new from to answer some
     (record {
@@ -294,7 +294,7 @@ applied_by setup txn old new from between to applied answer some made was its_an
 
 -- a fault that isn't that a line is spent
 pub fault_answer : (fault : Fault) → ((page : ℕ) → fault ≡ Fail.Spent page → ⊥)
-    → answer_by (Err fault) ≡ Err (record { fault = fault; committed = true })
+    → commit_answer_by (Err fault) ≡ Err (record { fault = fault; committed = true })
 fault_answer (Fail.Spent page) unspent = absurd (unspent page refl)
 fault_answer fault unspent = refl
 

@@ -22,7 +22,7 @@ use Rattle.start_gap.proofs.LevelledCalls.{setup_under}
 use Rattle.start_gap.proofs.EngineLines.{trusted_after_write, sound_after_write, trusted_after_read, sound_after_read, either_lines, written_lines, spent_lines, lines_after_read, line_read}
 use Rattle.line_txn.specs.declared.edits.Edit.{Edit}
 use Rattle.line_txn.specs.declared.edits.Edit.TheVariants as Make
-use Rattle.line_txn.specs.Edits.{HasPut, HasPutRead, HasEdited, GoesOn, AreEdited, IsEditOf, edited, all_edited}
+use Rattle.line_txn.specs.Edits.{HasLinePut, HasPutRead, HasEdited, CommitGoesOn, AreEdited, IsEditOf, edited, all_edited}
 
 -- ---- one change after others
 
@@ -43,8 +43,8 @@ edits_append setup (edit ∷ edits) more old between new answer done then =
   where
     go : (first : Result (Unit {0}) Fault)
         → (AreEdited setup edits done.0 between (Ok tt) → AreEdited setup (edits ++ more) done.0 new answer)
-        → GoesOn first (AreEdited setup edits done.0 between (Ok tt)) done.0 between (Ok tt)
-        → GoesOn first (AreEdited setup (edits ++ more) done.0 new answer) done.0 new answer
+        → CommitGoesOn first (AreEdited setup edits done.0 between (Ok tt)) done.0 between (Ok tt)
+        → CommitGoesOn first (AreEdited setup (edits ++ more) done.0 new answer) done.0 new answer
     go (Ok it) next rest = next rest
     go (Err fault) next rest = absurd (done_not_fault fault rest.0)
 
@@ -70,8 +70,8 @@ edits_stop setup (edit ∷ edits) (suc i) d old between new fault inside done it
   where
     go : (first : Result (Unit {0}) Fault)
         → (AreEdited setup (take i edits) done.0 between (Ok tt) → AreEdited setup edits done.0 new (Err fault))
-        → GoesOn first (AreEdited setup (take i edits) done.0 between (Ok tt)) done.0 between (Ok tt)
-        → GoesOn first (AreEdited setup edits done.0 new (Err fault)) done.0 new (Err fault)
+        → CommitGoesOn first (AreEdited setup (take i edits) done.0 between (Ok tt)) done.0 between (Ok tt)
+        → CommitGoesOn first (AreEdited setup edits done.0 new (Err fault)) done.0 new (Err fault)
     go (Ok made) next rest = next rest
     go (Err other) next rest = absurd (done_not_fault other rest.0)
 
@@ -108,7 +108,7 @@ module _ (setup : Setup) (P : Parts → Type 0) (E : Fault → Parts → Type 0)
     (no_read : (at : ℕ) (old new : Parts) (fault : Fault) → HasReadLine setup at old new (Err fault) → P old → E fault new)
     (by_write : (write : Posted) (old new : Parts) (ctr : Ctr) → HasWrittenLine setup write old new (Ok ctr) → P old → P new)
     (no_write : (write : Posted) (old new : Parts) (fault : Fault) → HasWrittenLine setup write old new (Err fault) → P old → E fault new) where
-  put_ends : (at : ℕ) (line : Line) (old new : Parts) (answer : Result (Unit {0}) Fault) → P old → HasPut setup at line old new answer
+  put_ends : (at : ℕ) (line : Line) (old new : Parts) (answer : Result (Unit {0}) Fault) → P old → HasLinePut setup at line old new answer
       → AfterEdits P E answer new
   put_ends at line old new answer had it =
       subst (λ r. AfterEdits P E r new) (sym it.its_answer) (go it.made it.was_written)
@@ -137,7 +137,7 @@ module _ (setup : Setup) (P : Parts → Type 0) (E : Fault → Parts → Type 0)
     where
       go : (first : Result (Unit {0}) Fault) → (P it.0 → AreEdited setup edits it.0 new answer → AfterEdits P E answer new)
           → HasEdited setup edit old it.0 first
-          → GoesOn first (AreEdited setup edits it.0 new answer) it.0 new answer → AfterEdits P E answer new
+          → CommitGoesOn first (AreEdited setup edits it.0 new answer) it.0 new answer → AfterEdits P E answer new
       go (Ok done) next made then = next (edit_ends edit old it.0 (Ok done) had made) then
       go (Err fault) next made then =
           subst (λ r. AfterEdits P E r new) (sym then.0)
@@ -204,7 +204,7 @@ same_lines setup fault before after new holds = inl holds
 module _ (setup : Setup) (few : data_lines setup.shape ≤ 2 ^ 32) where
   put_leaves : (at : ℕ) (line : Line) (lines : List Line) (old new : Parts) (answer : Result (Unit {0}) Fault)
       → at < data_lines setup.shape → IsLine line → HasLines setup lines old → AreTrusted setup old
-      → HasPut setup at line old new answer → LeavesLines setup answer lines (slice_set lines at line) new
+      → HasLinePut setup at line old new answer → LeavesLines setup answer lines (slice_set lines at line) new
   put_leaves at line lines old new answer inside whole had trusted it =
       subst (λ r. LeavesLines setup r lines (slice_set lines at line) new) (sym it.its_answer) (go it.made it.was_written)
     where
@@ -272,7 +272,7 @@ module _ (setup : Setup) (few : data_lines setup.shape ≤ 2 ^ 32) where
           → (HasLines setup (edited edit lines) it.0 → AreTrusted setup it.0 → AreEdited setup edits it.0 new answer
           → LeavesAll answer edits (edited edit lines) new)
           → HasEdited setup edit old it.0 first
-          → GoesOn first (AreEdited setup edits it.0 new answer) it.0 new answer → LeavesAll answer (edit ∷ edits) lines new
+          → CommitGoesOn first (AreEdited setup edits it.0 new answer) it.0 new answer → LeavesAll answer (edit ∷ edits) lines new
       go (Ok done) next made then =
           later answer
           (next (edit_leaves edit lines old it.0 (Ok done) fit had trusted made)

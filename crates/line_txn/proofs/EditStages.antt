@@ -17,7 +17,7 @@ use Rattle.pmem_engine.specs.Parts.{Parts}
 use Rattle.start_gap.specs.Gapped.{HasLines, IsUnspent}
 use Rattle.line_txn.specs.declared.edits.Edit.{Edit}
 use Rattle.line_txn.specs.declared.edits.Edit.TheVariants as Make
-use Rattle.line_txn.specs.Header.{AreBelow, header_of}
+use Rattle.line_txn.specs.Header.{AreDistinctBelow, header_of}
 use Rattle.line_txn.specs.Logged.{redone_to, with_bodies, targets_of, bodies_of}
 use Rattle.line_txn.specs.Edits.{IsEditOf, edited, all_edited, body_edits, target_edits, copy_edits, deciding_edits, applying_edits, redoing_edits}
 use Rattle.line_txn.proofs.EditLaws.{LeavesLines, StopsAt}
@@ -60,7 +60,7 @@ copies_from (suc k) p (t ∷ targets) lines now low long same =
     ∙ ap (λ l. put_lines (take k (zip targets (drop (p + 1) lines))) (slice_set now t l)) here
     ∙ ap (λ rest. put_lines (take (suc k) (zip (t ∷ targets) rest)) now) (sym first)
 
-pub after_copies : (n k : ℕ) (targets : List ℕ) (lines : List Line) → AreBelow n targets → n + 1 + length targets ≤ length lines
+pub after_copies : (n k : ℕ) (targets : List ℕ) (lines : List Line) → AreDistinctBelow n targets → n + 1 + length targets ≤ length lines
     → all_edited (take k (copy_edits (n + 1) targets)) lines ≡ redone_to k n targets lines
 after_copies n k targets lines below long =
     copies_from k (n + 1) targets lines lines (λ i d l. omega (arith, below.each i d l)) long (λ j far. refl)
@@ -185,11 +185,11 @@ module _ (n count : ℕ) (size : n + 16 ≡ count) where
       last_fits (body_edits (n + 1) (bodies_of txn)) (header_of (targets_of txn)) header
       (bodies_fit (n + 1) (bodies_of txn) (omega (arith, few, bodies, size)) whole)
 
-  pub applying_fit : (txn : List (ℕ × Line)) → AreBelow n (targets_of txn) → All IsLine (bodies_of txn) → All (IsEditOf count) (applying_edits n txn)
+  pub applying_fit : (txn : List (ℕ × Line)) → AreDistinctBelow n (targets_of txn) → All IsLine (bodies_of txn) → All (IsEditOf count) (applying_edits n txn)
   applying_fit txn below whole =
       last_fits (target_edits txn) zero_line IsLine-zero_line (targets_fit txn below.each whole)
 
-  pub redoing_fit : (targets : List ℕ) → length targets ≤ 15 → AreBelow n targets → All (IsEditOf count) (redoing_edits n targets)
+  pub redoing_fit : (targets : List ℕ) → length targets ≤ 15 → AreDistinctBelow n targets → All (IsEditOf count) (redoing_edits n targets)
   redoing_fit [] few below = All-nil (IsEditOf count)
   redoing_fit (t ∷ targets) few below =
       last_fits (copy_edits (n + 1) (t ∷ targets)) zero_line IsLine-zero_line

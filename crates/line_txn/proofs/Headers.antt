@@ -14,7 +14,7 @@ use Rattle.std.proofs.Math.Seq.{take-append_seam, drop-append_seam}
 use Rattle.pmem_base.specs.declared.lines.Line.{Line}
 use Rattle.pmem_base.specs.Lines.{IsLine, line_of, big_endian, from_big_endian}
 use Rattle.pmem_base.proofs.Digits.{from_big_endian-big_endian, number_of_four}
-use Rattle.line_txn.specs.Header.{AreBelow, IsHeader, header_of, numbers_in, targets_in}
+use Rattle.line_txn.specs.Header.{AreDistinctBelow, IsHeader, header_of, numbers_in, targets_in}
 
 -- ---- the header that is made
 
@@ -106,28 +106,28 @@ targets_back targets small = numbers_back targets (replicate (60 - 4 * length ta
 
 -- ---- distinct lines below n
 
-pub below_none : (n : ℕ) → AreBelow n []
+pub below_none : (n : ℕ) → AreDistinctBelow n []
 below_none n = record { each = All-nil (λ t. t < n); distinct = λ i j d less within. absurd (omega arith) }
 
 pub below_more : (n : ℕ) (targets : List ℕ) (i : ℕ) → i < length targets → get_or targets i 0 < n
     → list_any (λ y. y == get_or targets i 0) (take i targets) ≡ false
-    → AreBelow n (take i targets) → AreBelow n (take (i + 1) targets)
+    → AreDistinctBelow n (take i targets) → AreDistinctBelow n (take (i + 1) targets)
 below_more n targets i inside low new old =
     let t = get_or targets i 0 in
     let apart : (k d : ℕ) → k < length (take i targets) → get_or (take i targets) k d ≢ t =
     λ k d l e. false≢true (sym new ∙ list_any_at (λ y. y == t) (take i targets) k d l (eq-eqb (get_or (take i targets) k d) t e)) in
     let whole : take (i + 1) targets ≡ take i targets ++ t ∷ [] = take_more targets i 0 inside in
-    subst (AreBelow n) (sym whole)
+    subst (AreDistinctBelow n) (sym whole)
     (record {
       each = All-append (λ t. t < n) (take i targets) (t ∷ []) old.each (All-cons (λ t. t < n) t [] low (All-nil (λ t. t < n)));
       distinct = all_pairs_push (λ t u. t ≢ u) (take i targets) t old.distinct apart;
     })
 
-pub below_not_low : (n : ℕ) (targets : List ℕ) (i : ℕ) → i < length targets → n ≤ get_or targets i 0 → AreBelow n targets → ⊥
+pub below_not_low : (n : ℕ) (targets : List ℕ) (i : ℕ) → i < length targets → n ≤ get_or targets i 0 → AreDistinctBelow n targets → ⊥
 below_not_low n targets i inside high all = omega (arith, high, all.each i 0 inside)
 
 pub below_not_new : (n : ℕ) (targets : List ℕ) (i : ℕ) → i < length targets
-    → list_any (λ y. y == get_or targets i 0) (take i targets) ≡ true → AreBelow n targets → ⊥
+    → list_any (λ y. y == get_or targets i 0) (take i targets) ≡ true → AreDistinctBelow n targets → ⊥
 below_not_new n targets i inside twice all =
     let t = get_or targets i 0 in
     let long : length (take i targets) ≡ i = length-take-le i targets (omega (arith, inside)) in
@@ -144,7 +144,7 @@ first_byte : (targets : List ℕ) → get_or (header_of targets).0 0 0 ≡ lengt
 unfolding header_of
 first_byte targets = refl
 
-small_targets : (n : ℕ) (targets : List ℕ) → n < 2 ^ 32 → AreBelow n targets → All (λ t. t < 2 ^ 32) targets
+small_targets : (n : ℕ) (targets : List ℕ) → n < 2 ^ 32 → AreDistinctBelow n targets → All (λ t. t < 2 ^ 32) targets
 small_targets n targets small its = λ k d l. omega (arith, its.each k d l)
 
 -- a header's count and targets are those read from its line
@@ -186,7 +186,7 @@ too_many n line targets many its = omega (arith, many, count_of_header n line ta
 
 -- the numbers read from a header are below n and distinct, and their header is the line
 pub read_of_header : (n : ℕ) (line : Line) (read targets : List ℕ) → n < 2 ^ 32 → read ≡ targets_in line (get_or line.0 0 0)
-    → IsHeader n line targets → AreBelow n read × (header_of read ≡ line)
+    → IsHeader n line targets → AreDistinctBelow n read × (header_of read ≡ line)
 read_of_header n line read targets small its header =
     let same : targets ≡ read = sym (its ∙ targets_of_header n line targets small header) in
-    (subst (AreBelow n) same header.its_targets.below, ap header_of (sym same) ∙ sym header.its_line)
+    (subst (AreDistinctBelow n) same header.its_targets.below, ap header_of (sym same) ∙ sym header.its_line)

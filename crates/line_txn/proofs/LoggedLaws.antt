@@ -11,7 +11,7 @@ use Rattle.pmem_base.specs.declared.lines.Line.{Line}
 use Rattle.pmem_base.specs.Lines.{line_at, put_lines, zero_line}
 use Rattle.pmem_base.proofs.ListLaws.{AllPairs-head, AllPairs-tail}
 use Rattle.pmem_base.proofs.LineSets.{length-put_lines, line_at-set_same, line_at-set_other}
-use Rattle.line_txn.specs.Header.{AreBelow, AreTargets, IsHeader, header_of}
+use Rattle.line_txn.specs.Header.{AreDistinctBelow, AreTargets, IsHeader, header_of}
 use Rattle.line_txn.specs.Logged.{entries_in, memory_in, IsLogged, with_bodies, with_header, targets_of, bodies_of, logged, decided, cleared, lines_decided, IsWholeAtEachStage, redone_to, IsKeptByRedo, IsKeptByTarget, Opening, partly, through, lines_opened, targets_opened, IsKeptByOpening, IsReadFrom}
 use Rattle.line_txn.proofs.Headers.{below_none, one_header}
 
@@ -110,7 +110,7 @@ zip-all targets bodies long = omega (arith, length-zip targets bodies, long)
 -- ---- a redo
 
 -- the memory that lines hold under a header, once some of its entries are put
-memory-put : (n : ℕ) (targets : List ℕ) (lines : List Line) (k : ℕ) → AreBelow n targets
+memory-put : (n : ℕ) (targets : List ℕ) (lines : List Line) (k : ℕ) → AreDistinctBelow n targets
     → memory_in n targets (redone_to k n targets lines) ≡ memory_in n targets lines
 memory-put n targets lines k below =
     let entries = entries_in n targets lines in

@@ -23,7 +23,7 @@ use Rattle.line_txn.specs.declared.edits.Edit.TheVariants as Make
 use Rattle.line_txn.specs.Header.{AreTargets, IsHeader}
 use Rattle.line_txn.specs.Logged.{IsLogged, Opening, partly, through, lines_opened, targets_opened, with_header}
 use Rattle.line_txn.specs.Edits.{AreEdited, IsEditOf, edited, all_edited, copy_edits, redoing_edits}
-use Rattle.line_txn.specs.Store.{logged_lines, HasOpened, HasStarted, HasRedone, HasFailedRedo, HasFoundNone, IsOpenedBy, IsOpenedTo, HasOpenedLogged, LeavesOpenedTrusted, LeavesOpenedSound}
+use Rattle.line_txn.specs.Store.{logged_lines, HasStoreOpened, HasStoreStarted, HasTargetsRedone, HasFailedRedo, HasFoundNone, IsOpenedBy, IsOpenedTo, HasOpenedLogged, LeavesOpenedTrusted, LeavesOpenedSound}
 use Rattle.line_txn.proofs.LoggedLaws.{kept_by_opening, zero_header}
 use Rattle.line_txn.proofs.EditLaws.{AfterEdits, LeftTrusted, LeftSound, trusted_after_edits, sound_after_edits, edits_leave, LeavesAll, unrefused_fault}
 use Rattle.line_txn.proofs.EditStages.{after_copies, after_last, length-copy_edits, stops_by, redoing_fit}
@@ -107,7 +107,7 @@ module _ (setup : Setup) (lines : List Line) (size : logged_lines setup.shape + 
     ends : EndsRedo redone targets new
 
   redone_to_end : (targets : List ℕ) (old new : Parts) (redone : Result (Unit {0}) Fault) → HasLines setup lines old → AreTrusted setup old
-      → HasRedone setup targets old new redone → RedoneTo targets new redone
+      → HasTargetsRedone setup targets old new redone → RedoneTo targets new redone
   redone_to_end targets old new redone had trusted it =
       let inside : n < data_lines setup.shape = omega (arith, size) in
       let same : it.line ≡ line_at lines n = line_read setup n old it.between it.line lines inside had trusted it.was_read in
@@ -121,7 +121,7 @@ module _ (setup : Setup) (lines : List Line) (size : logged_lines setup.shape + 
       }
 
   started : (old new : Parts) (store : Store) (opened : Opened) → HasLines setup lines old → AreTrusted setup old
-      → HasStarted setup old new store opened
+      → HasStoreStarted setup old new store opened
       → (opening : Opening) × (found : List ℕ) × IsOpenedTo setup lines new store.logged.items opening found × (opened.redone ≡ length found)
   started old new store opened had trusted it =
       let to = redone_to_end it.targets old new it.redone had trusted it.was_redone in
@@ -147,7 +147,7 @@ module _ (setup : Setup) (lines : List Line) (size : logged_lines setup.shape + 
       (to.ends.0, it.targets, opened_at to.ends.0 it.targets (targets_opened to.ends.0 it.targets) new to.its_header refl to.ends.1)
 
   pub opened_logged : (old : Parts) (now : EngineState → Parts) (answer : Result (Store × Opened) TxnFault) → HasLines setup lines old
-      → AreTrusted setup old → HasOpened setup old now answer → HasOpenedLogged setup lines now answer
+      → AreTrusted setup old → HasStoreOpened setup old now answer → HasOpenedLogged setup lines now answer
   opened_logged old now (Ok both) had trusted it = started old (now both.0.engine) both.0 both.1 had trusted it
   opened_logged old now (Err (Txn.Engine fault)) had trusted it = (
     it.0,
@@ -167,19 +167,19 @@ module _ (setup : Setup) (lines : List Line) (size : logged_lines setup.shape + 
 -- ---- trusted and sound
 
 redone_trusted : (setup : Setup) (targets : List ℕ) (old new : Parts) (redone : Result (Unit {0}) Fault) → AreTrusted setup old
-    → HasRedone setup targets old new redone → AfterEdits (AreTrusted setup) (LeftTrusted setup) redone new
+    → HasTargetsRedone setup targets old new redone → AfterEdits (AreTrusted setup) (LeftTrusted setup) redone new
 redone_trusted setup targets old new redone trusted it =
     trusted_after_edits setup (redoing_edits (logged_lines setup.shape) targets) it.between new redone it.was_redone
     (trusted_after_read setup (logged_lines setup.shape) old it.between (Ok it.line) it.was_read trusted)
 
 redone_sound : (setup : Setup) (targets : List ℕ) (old new : Parts) (redone : Result (Unit {0}) Fault) → AreSound setup old
-    → HasRedone setup targets old new redone → AfterEdits (AreSound setup) (LeftSound setup) redone new
+    → HasTargetsRedone setup targets old new redone → AfterEdits (AreSound setup) (LeftSound setup) redone new
 redone_sound setup targets old new redone sound it =
     sound_after_edits setup (redoing_edits (logged_lines setup.shape) targets) it.between new redone it.was_redone
     (sound_after_read setup (logged_lines setup.shape) old it.between (Ok it.line) it.was_read sound).0
 
 pub opened_trusted : (setup : Setup) (old : Parts) (now : EngineState → Parts) (answer : Result (Store × Opened) TxnFault)
-    → HasOpened setup old now answer → AreTrusted setup old → LeavesOpenedTrusted setup now answer
+    → HasStoreOpened setup old now answer → AreTrusted setup old → LeavesOpenedTrusted setup now answer
 opened_trusted setup old now (Ok both) it trusted =
     go it.redone it.its_end (redone_trusted setup it.targets old (now both.0.engine) it.redone trusted it.was_redone)
   where
@@ -210,7 +210,7 @@ read_unspent setup at old new (Fail.Spent page) it = absurd it.possible
 read_unspent setup at old new fault it = tt
 
 pub opened_sound : (setup : Setup) (old : Parts) (now : EngineState → Parts) (answer : Result (Store × Opened) TxnFault)
-    → HasOpened setup old now answer → AreSound setup old → LeavesOpenedSound setup now answer
+    → HasStoreOpened setup old now answer → AreSound setup old → LeavesOpenedSound setup now answer
 opened_sound setup old now (Ok both) it sound =
     go it.redone it.its_end (redone_sound setup it.targets old (now both.0.engine) it.redone sound it.was_redone)
   where
@@ -251,7 +251,7 @@ none_by setup n old new line same read none =
 
 pub redone_by : (setup : Setup) (n : ℕ) (old between new : Parts) (line : Line) (targets : List ℕ) (redone : Result (Unit {0}) Fault)
     → n ≡ logged_lines setup.shape → HasReadLine setup n old between (Ok line) → IsHeader n line targets
-    → AreEdited setup (redoing_edits n targets) between new redone → HasRedone setup targets old new redone
+    → AreEdited setup (redoing_edits n targets) between new redone → HasTargetsRedone setup targets old new redone
 redone_by setup n old between new line targets redone same read header edits =
     record {
       line = line;
@@ -262,8 +262,8 @@ redone_by setup n old between new line targets redone same read header edits =
     }
 
 pub started_by : (setup : Setup) (old new : Parts) (store : Store) (opened : Opened) (targets : List ℕ) (redone : Result (Unit {0}) Fault)
-    → HasRedone setup targets old new redone → store.lines ≡ logged_lines setup.shape → opened.redone ≡ length targets
-    → IsOpenedBy redone store.lines targets store opened → HasStarted setup old new store opened
+    → HasTargetsRedone setup targets old new redone → store.lines ≡ logged_lines setup.shape → opened.redone ≡ length targets
+    → IsOpenedBy redone store.lines targets store opened → HasStoreStarted setup old new store opened
 started_by setup old new store opened targets redone was lines count end =
     record { targets = targets; redone = redone; was_redone = was; its_lines = lines; its_count = count; its_end = end }
 

@@ -17,7 +17,7 @@ use Rattle.line_txn.specs.Logged.{targets_of, bodies_of}
 -- ---- the calls
 
 -- a line is written
-pub record HasPut (setup : Setup) (at : ℕ) (line : Line) (old new : Parts) (answer : Result (Unit {0}) Fault) :
+pub record HasLinePut (setup : Setup) (at : ℕ) (line : Line) (old new : Parts) (answer : Result (Unit {0}) Fault) :
     Type 0 where
   pub made : Result Ctr Fault
   pub was_written : HasWrittenLine setup (whole_write at line) old new made
@@ -25,31 +25,31 @@ pub record HasPut (setup : Setup) (at : ℕ) (line : Line) (old new : Parts) (an
 
 -- what follows the reading of a line
 abbrev pub HasPutRead : Result Line Fault → Setup → ℕ → Parts → Parts → Result (Unit {0}) Fault → Type 0
-HasPutRead (Ok line) setup at old new answer = HasPut setup at line old new answer
+HasPutRead (Ok line) setup at old new answer = HasLinePut setup at line old new answer
 HasPutRead (Err fault) setup at old new answer = (answer ≡ Err fault) × (new ≡ old)
 
 -- a line is read, and then written to another place
-pub record HasCopied (setup : Setup) (from at : ℕ) (old new : Parts) (answer : Result (Unit {0}) Fault) : Type 0 where
+pub record HasBodyCopied (setup : Setup) (from at : ℕ) (old new : Parts) (answer : Result (Unit {0}) Fault) : Type 0 where
   pub read : Result Line Fault
   pub between : Parts
   pub was_read : HasReadLine setup from old between read
   pub then : HasPutRead read setup at between new answer
 
 abbrev pub HasEdited : Setup → Edit → Parts → Parts → Result (Unit {0}) Fault → Type 0
-HasEdited setup (Make.Put at line) old new answer = HasPut setup at line old new answer
-HasEdited setup (Make.Copy from at) old new answer = HasCopied setup from at old new answer
+HasEdited setup (Make.Put at line) old new answer = HasLinePut setup at line old new answer
+HasEdited setup (Make.Copy from at) old new answer = HasBodyCopied setup from at old new answer
 
 -- after a change that was made the rest follows; else nothing
-abbrev pub GoesOn : Result (Unit {0}) Fault → Type 0 → Parts → Parts → Result (Unit {0}) Fault → Type 0
-GoesOn (Ok done) rest old new answer = rest
-GoesOn (Err fault) rest old new answer = (answer ≡ Err fault) × (new ≡ old)
+abbrev pub CommitGoesOn : Result (Unit {0}) Fault → Type 0 → Parts → Parts → Result (Unit {0}) Fault → Type 0
+CommitGoesOn (Ok done) rest old new answer = rest
+CommitGoesOn (Err fault) rest old new answer = (answer ≡ Err fault) × (new ≡ old)
 
 -- the changes are made in order, up to one that isn't
 abbrev pub AreEdited : Setup → List Edit → Parts → Parts → Result (Unit {0}) Fault → Type 0
 AreEdited setup [] old new answer = (answer ≡ Ok tt) × (new ≡ old)
 AreEdited setup (edit ∷ edits) old new answer =
     (between : Parts) × (first : Result (Unit {0}) Fault) × HasEdited setup edit old between first
-    × GoesOn first (AreEdited setup edits between new answer) between new answer
+    × CommitGoesOn first (AreEdited setup edits between new answer) between new answer
 
 -- ---- the lines
 

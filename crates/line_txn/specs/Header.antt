@@ -6,14 +6,14 @@ use Rattle.pmem_base.specs.declared.lines.Line.{Line}
 use Rattle.pmem_base.specs.Lines.{line_of, big_endian, from_big_endian}
 
 -- the lines are below n, and distinct
-pub record AreBelow (n : ℕ) (targets : List ℕ) : Type 0 where
+pub record AreDistinctBelow (n : ℕ) (targets : List ℕ) : Type 0 where
   pub each : All (λ t. t < n) targets
   pub distinct : AllPairs (λ t u. t ≢ u) targets
 
 -- at most 15 of them
 pub record AreTargets (n : ℕ) (targets : List ℕ) : Type 0 where
   pub few : length targets ≤ 15
-  pub below : AreBelow n targets
+  pub below : AreDistinctBelow n targets
 
 unfoldable pub header_of : List ℕ → Line
 header_of targets =

@@ -39,35 +39,35 @@ bodies_of txn = map (λ entry. entry.1) txn
 
 -- how far a commit has come: so many bodies were written; or the header was, and so many targets; or all, and
 -- the zero header
-pub data Stage : Type 0 where
-  logged : ℕ → Stage
-  decided : ℕ → Stage
-  cleared : Stage
+pub data CommitStage : Type 0 where
+  logged : ℕ → CommitStage
+  decided : ℕ → CommitStage
+  cleared : CommitStage
 
 abbrev pub lines_decided : ℕ → List (ℕ × Line) → List Line → List Line
 lines_decided n txn lines = with_header n (targets_of txn) (with_bodies (n + 1) (bodies_of txn) lines)
 
-abbrev pub lines_at : Stage → ℕ → List (ℕ × Line) → List Line → List Line
-lines_at (logged k) n txn lines = with_bodies (n + 1) (take k (bodies_of txn)) lines
-lines_at (decided k) n txn lines = put_lines (take k txn) (lines_decided n txn lines)
-lines_at cleared n txn lines = with_header n [] (put_lines txn (lines_decided n txn lines))
+abbrev pub commit_lines_at : CommitStage → ℕ → List (ℕ × Line) → List Line → List Line
+commit_lines_at (logged k) n txn lines = with_bodies (n + 1) (take k (bodies_of txn)) lines
+commit_lines_at (decided k) n txn lines = put_lines (take k txn) (lines_decided n txn lines)
+commit_lines_at cleared n txn lines = with_header n [] (put_lines txn (lines_decided n txn lines))
 
 -- the header in force, and the memory
-abbrev pub targets_at : Stage → List (ℕ × Line) → List ℕ
+abbrev pub targets_at : CommitStage → List (ℕ × Line) → List ℕ
 targets_at (decided k) txn = targets_of txn
 targets_at stage txn = []
 
-abbrev pub memory_at : Stage → List (ℕ × Line) → List Line → List Line
-memory_at (logged k) txn memory = memory
-memory_at stage txn memory = put_lines txn memory
+abbrev pub commit_memory_at : CommitStage → List (ℕ × Line) → List Line → List Line
+commit_memory_at (logged k) txn memory = memory
+commit_memory_at stage txn memory = put_lines txn memory
 
 -- at whatever stage a commit is cut off, the lines hold the memory without the transaction, until the header
 -- is written, and with the whole of it from then on
 abbrev pub IsWholeAtEachStage : ℕ → Type 0
 IsWholeAtEachStage n =
-    (lines memory : List Line) (txn : List (ℕ × Line)) (stage : Stage)
+    (lines memory : List Line) (txn : List (ℕ × Line)) (stage : CommitStage)
     → AreTargets n (targets_of txn) → IsLogged n lines [] memory
-    → IsLogged n (lines_at stage n txn lines) (targets_at stage txn) (memory_at stage txn memory)
+    → IsLogged n (commit_lines_at stage n txn lines) (targets_at stage txn) (commit_memory_at stage txn memory)
 
 -- ---- the redo
 

@@ -21,7 +21,7 @@ use Rattle.line_txn.specs.declared.store.CommitFault.{CommitFault}
 use Rattle.line_txn.specs.declared.store.TxnFault.{TxnFault}
 use Rattle.line_txn.specs.declared.store.TxnFault.TheVariants as Txn
 use Rattle.line_txn.specs.Header.{IsHeader}
-use Rattle.line_txn.specs.Logged.{IsLogged, Stage, logged, decided, cleared, lines_at, targets_at, memory_at, targets_of, Opening, lines_opened, targets_opened}
+use Rattle.line_txn.specs.Logged.{IsLogged, CommitStage, logged, decided, cleared, commit_lines_at, targets_at, commit_memory_at, targets_of, Opening, lines_opened, targets_opened}
 use Rattle.line_txn.specs.Edits.{AreEdited, deciding_edits, applying_edits, redoing_edits}
 
 -- the data lines of a memory: its last 16 lines are the log
@@ -45,7 +45,7 @@ IsOpenedBy (Err (Fail.Spent page)) n targets store opened =
 IsOpenedBy (Err fault) n targets store opened = ⊥
 
 -- the header is read, and its transaction redone
-pub record HasRedone (setup : Setup) (targets : List ℕ) (old new : Parts) (redone : Result (Unit {0}) Fault) :
+pub record HasTargetsRedone (setup : Setup) (targets : List ℕ) (old new : Parts) (redone : Result (Unit {0}) Fault) :
     Type 0 where
   pub line : Line
   pub between : Parts
@@ -53,10 +53,10 @@ pub record HasRedone (setup : Setup) (targets : List ℕ) (old new : Parts) (red
   pub header : IsHeader (logged_lines setup.shape) line targets
   pub was_redone : AreEdited setup (redoing_edits (logged_lines setup.shape) targets) between new redone
 
-pub record HasStarted (setup : Setup) (old new : Parts) (store : Store) (opened : Opened) : Type 0 where
+pub record HasStoreStarted (setup : Setup) (old new : Parts) (store : Store) (opened : Opened) : Type 0 where
   pub targets : List ℕ
   pub redone : Result (Unit {0}) Fault
-  pub was_redone : HasRedone setup targets old new redone
+  pub was_redone : HasTargetsRedone setup targets old new redone
   pub its_lines : store.lines ≡ logged_lines setup.shape
   pub its_count : opened.redone ≡ length targets
   pub its_end : IsOpenedBy redone store.lines targets store opened
@@ -64,7 +64,7 @@ pub record HasStarted (setup : Setup) (old new : Parts) (store : Store) (opened 
 -- the redo ended at a fault that isn't that a line is spent
 pub record HasFailedRedo (setup : Setup) (old new : Parts) (fault : Fault) : Type 0 where
   pub targets : List ℕ
-  pub was_redone : HasRedone setup targets old new (Err fault)
+  pub was_redone : HasTargetsRedone setup targets old new (Err fault)
   pub unspent : IsUnspent fault
 
 -- the line that was read is no header
@@ -73,13 +73,13 @@ pub record HasFoundNone (setup : Setup) (old new : Parts) (line : Line) : Type 0
   pub none : (targets : List ℕ) → IsHeader (logged_lines setup.shape) line targets → ⊥
 
 -- What the parts are then is said of an engine: of the one that is kept, or of the one that is dropped.
-abbrev pub HasOpened : Setup → Parts → (EngineState → Parts) → Result (Store × Opened) TxnFault → Type 0
-HasOpened setup old now (Ok both) = HasStarted setup old (now both.0.engine) both.0 both.1
-HasOpened setup old now (Err (Txn.Engine fault)) =
+abbrev pub HasStoreOpened : Setup → Parts → (EngineState → Parts) → Result (Store × Opened) TxnFault → Type 0
+HasStoreOpened setup old now (Ok both) = HasStoreStarted setup old (now both.0.engine) both.0 both.1
+HasStoreOpened setup old now (Err (Txn.Engine fault)) =
     (dropped : EngineState)
     × (HasReadLine setup (logged_lines setup.shape) old (now dropped) (Err fault)
     ⊎ HasFailedRedo setup old (now dropped) fault)
-HasOpened setup old now (Err (Txn.Header line)) =
+HasStoreOpened setup old now (Err (Txn.Header line)) =
     (dropped : EngineState) × HasFoundNone setup old (now dropped) line
 
 -- Where the lines hold a memory, they hold it still, under this header. They are at a stage of the opening.
@@ -127,10 +127,10 @@ LeavesOpenedSound setup now (Err (Txn.Header line)) = (dropped : EngineState) ×
 -- ---- the calls of a commit
 
 -- the answer of a commit that was decided, by that of what follows
-abbrev pub answer_by : Result (Unit {0}) Fault → Result Done CommitFault
-answer_by (Ok done) = Ok Do.Applied
-answer_by (Err (Fail.Spent page)) = Ok (Do.Stuck page)
-answer_by (Err fault) = Err (record { fault = fault; committed = true })
+abbrev pub commit_answer_by : Result (Unit {0}) Fault → Result Done CommitFault
+commit_answer_by (Ok done) = Ok Do.Applied
+commit_answer_by (Err (Fail.Spent page)) = Ok (Do.Stuck page)
+commit_answer_by (Err fault) = Err (record { fault = fault; committed = true })
 
 -- what the store serves then: where it is stuck, the targets from the log
 abbrev pub IsServedBy : Result (Unit {0}) Fault → List (ℕ × Line) → Store → Store → Type 0
@@ -142,29 +142,29 @@ pub record HasApplied (setup : Setup) (txn : List (ℕ × Line)) (old new : Stor
     (answer : Result Done CommitFault) : Type 0 where
   pub applied : Result (Unit {0}) Fault
   pub was_applied : AreEdited setup (applying_edits old.lines txn) from to applied
-  pub its_answer : answer ≡ answer_by applied
+  pub its_answer : answer ≡ commit_answer_by applied
   pub served : IsServedBy applied txn old new
 
 -- the header wasn't written, and nothing else was done
-pub record HasRefused (fault : Fault) (old new : Store) (from to : Parts) (answer : Result Done CommitFault) :
+pub record HasCommitRefused (fault : Fault) (old new : Store) (from to : Parts) (answer : Result Done CommitFault) :
     Type 0 where
   pub its_answer : answer ≡ Err (record { fault = fault; committed = false })
   pub served : IsServedAs old.logged.items old.stuck old new
   pub nothing_else : to ≡ from
 
 -- what follows the bodies and the header
-abbrev pub HasGoneOn :
+abbrev pub HasCommitGoneOn :
     Result (Unit {0}) Fault → Setup → List (ℕ × Line) → Store → Store → Parts → Parts → Result Done CommitFault
     → Type 0
-HasGoneOn (Ok done) setup txn old new from to answer = HasApplied setup txn old new from to answer
-HasGoneOn (Err fault) setup txn old new from to answer = HasRefused fault old new from to answer
+HasCommitGoneOn (Ok done) setup txn old new from to answer = HasApplied setup txn old new from to answer
+HasCommitGoneOn (Err fault) setup txn old new from to answer = HasCommitRefused fault old new from to answer
 
 pub record HasDecided (setup : Setup) (txn : List (ℕ × Line)) (old new : Store) (from to : Parts)
     (answer : Result Done CommitFault) : Type 0 where
   pub made : Result (Unit {0}) Fault
   pub between : Parts
   pub was_made : AreEdited setup (deciding_edits old.lines txn) from between made
-  pub then : HasGoneOn made setup txn old new between to answer
+  pub then : HasCommitGoneOn made setup txn old new between to answer
 
 -- without lines nothing is done
 pub record HasNothingToDo (old new : Store) (from to : Parts) (answer : Result Done CommitFault) : Type 0 where
@@ -172,45 +172,45 @@ pub record HasNothingToDo (old new : Store) (from to : Parts) (answer : Result D
   pub served : IsServedAs old.logged.items old.stuck old new
   pub nothing_done : to ≡ from
 
-abbrev pub HasCommitted :
+abbrev pub HasStoreCommitted :
     Setup → List (ℕ × Line) → Store → Store → Parts → Parts → Result Done CommitFault → Type 0
-HasCommitted setup [] old new from to answer = HasNothingToDo old new from to answer
-HasCommitted setup (entry ∷ txn) old new from to answer =
+HasStoreCommitted setup [] old new from to answer = HasNothingToDo old new from to answer
+HasStoreCommitted setup (entry ∷ txn) old new from to answer =
     HasDecided setup (entry ∷ txn) old new from to answer
 
 -- ---- what becomes of memory in a commit
 
 -- the stages at which a commit may end, by its answer; a spent line isn't written
-abbrev pub IsEnd : Result Done CommitFault → List (ℕ × Line) → Stage → Type 0
-IsEnd (Ok Do.Applied) txn (logged k) = txn ≡ []
-IsEnd (Ok Do.Applied) txn cleared = ⊤
-IsEnd (Ok (Do.Stuck page)) txn (decided k) = k ≤ length txn
-IsEnd (Err fault) txn (logged k) = (fault.committed ≡ false) × (k ≤ length txn)
-IsEnd (Err fault) txn (decided k) =
+abbrev pub IsCommitEnd : Result Done CommitFault → List (ℕ × Line) → CommitStage → Type 0
+IsCommitEnd (Ok Do.Applied) txn (logged k) = txn ≡ []
+IsCommitEnd (Ok Do.Applied) txn cleared = ⊤
+IsCommitEnd (Ok (Do.Stuck page)) txn (decided k) = k ≤ length txn
+IsCommitEnd (Err fault) txn (logged k) = (fault.committed ≡ false) × (k ≤ length txn)
+IsCommitEnd (Err fault) txn (decided k) =
     ((fault.committed ≡ true) ⊎ ((k ≡ 0) × IsUnspent fault.fault)) × (k ≤ length txn)
-IsEnd (Err fault) txn cleared = fault.committed ≡ true
-IsEnd answer txn stage = ⊥
+IsCommitEnd (Err fault) txn cleared = fault.committed ≡ true
+IsCommitEnd answer txn stage = ⊥
 
 -- Where the lines were these, they are at a stage of the commit now. And where they held a memory with no
 -- transaction in force, they hold it without this one or with the whole of it.
 pub record IsLeftLogged (setup : Setup) (txn : List (ℕ × Line)) (n : ℕ) (lines : List Line) (to : Parts)
     (answer : Result Done CommitFault) : Type 0 where
-  pub stage : Stage
-  pub ended : IsEnd answer txn stage
-  pub its_lines : HasLines setup (lines_at stage n txn lines) to
+  pub stage : CommitStage
+  pub ended : IsCommitEnd answer txn stage
+  pub its_lines : HasLines setup (commit_lines_at stage n txn lines) to
   pub logged :
       (memory : List Line) → IsLogged n lines [] memory
-      → IsLogged n (lines_at stage n txn lines) (targets_at stage txn) (memory_at stage txn memory)
+      → IsLogged n (commit_lines_at stage n txn lines) (targets_at stage txn) (commit_memory_at stage txn memory)
 
 -- how the engine stands after a commit
-abbrev pub outcome_by : Result Done CommitFault → Outcome
-outcome_by (Ok what) = going
-outcome_by (Err fault) = outcome_of_fault fault.fault
+abbrev pub commit_outcome_by : Result Done CommitFault → Outcome
+commit_outcome_by (Ok what) = going
+commit_outcome_by (Err fault) = outcome_of_fault fault.fault
 
 -- over a sound device a commit is done, or cut, or a line is spent before its header is written
-abbrev pub IsSoundAnswer : Result Done CommitFault → Type 0
-IsSoundAnswer (Ok what) = ⊤
-IsSoundAnswer (Err fault) = IsCutOrSpent fault.fault
+abbrev pub IsSoundCommitAnswer : Result Done CommitFault → Type 0
+IsSoundCommitAnswer (Ok what) = ⊤
+IsSoundCommitAnswer (Err fault) = IsCutOrSpent fault.fault
 
 -- once its header is written, a commit isn't spent: the store is stuck
 abbrev pub IsSpentUndecided : Result Done CommitFault → Type 0

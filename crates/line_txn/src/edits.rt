@@ -4,7 +4,7 @@ ghost use Rattle.pmem_base.specs.Layout.{data_lines};
 ghost use Rattle.pmem_engine.specs.Parts.{parts_of};
 ghost use Rattle.pmem_engine.specs.Calls.{IsUsable};
 ghost use Rattle.line_txn.specs.Logged.{targets_of};
-ghost use Rattle.line_txn.specs.Edits.{HasPut, HasEdited, AreEdited, IsEditOf, IsWholeTxn, deciding_edits, applying_edits, redoing_edits};
+ghost use Rattle.line_txn.specs.Edits.{HasLinePut, HasEdited, AreEdited, IsEditOf, IsWholeTxn, deciding_edits, applying_edits, redoing_edits};
 
 use crate::header::header_line;
 use arrayvec::ArrayVec;
@@ -168,7 +168,7 @@ fn put_line<B: Board, S: Suite, A: Audit>(
     requires line { at < data_lines engine.old.shape }
     requires room { 66 ≤ (A.ledger audit.old).spare }
     requires usable { IsUsable engine.old.shape engine.old (B.device board.old) (A.ledger audit.old) }
-    ensures put { HasPut (record { shape = engine.old.shape; formulas = S.formulas_of (S.keys suite.old) }) at line.now
+    ensures put { HasLinePut (record { shape = engine.old.shape; formulas = S.formulas_of (S.keys suite.old) }) at line.now
         (parts_of engine.old (B.device board.old) (A.ledger audit.old) (S.tags suite.old) (S.digests suite.old))
         (parts_of engine.new (B.device board.new) (A.ledger audit.new) (S.tags suite.new) (S.digests suite.new)) result }
     ensures room { IfOk result (λ done. (A.ledger audit.old).spare ≤ (A.ledger audit.new).spare + 66) }

@@ -8,7 +8,7 @@ ghost use Rattle.pmem_engine.specs.Parts.{parts_of, AreTrusted, AreSound};
 ghost use Rattle.pmem_engine.specs.Outcomes.{LeavesTrusted, LeavesSound};
 ghost use Rattle.pmem_engine.specs.Calls.{IsUsable, HasReadLine};
 ghost use Rattle.start_gap.specs.Gapped.{HasLines};
-ghost use Rattle.line_txn.specs.Header.{AreTargets, AreBelow};
+ghost use Rattle.line_txn.specs.Header.{AreTargets, AreDistinctBelow};
 ghost use Rattle.line_txn.specs.Logged.{IsLogged, targets_of};
 
 use crate::edits::{applying, deciding, edit_all, redoing, targets_in};
@@ -70,7 +70,7 @@ pub struct Store {
 impl Store {
     ghost use Rattle.line_txn.specs.Edits.{IsWholeTxn};
     ghost use Rattle.line_txn.specs.Serving.{served_from};
-    ghost use Rattle.line_txn.specs.Store.{HasOpened, HasOpenedLogged, LeavesOpenedTrusted, LeavesOpenedSound, HasCommitted, IsLeftLogged, IsSoundAnswer, IsSpentUndecided, IsServedAs, outcome_by, logged_lines};
+    ghost use Rattle.line_txn.specs.Store.{HasStoreOpened, HasOpenedLogged, LeavesOpenedTrusted, LeavesOpenedSound, HasStoreCommitted, IsLeftLogged, IsSoundCommitAnswer, IsSpentUndecided, IsServedAs, commit_outcome_by, logged_lines};
 
     /// Reads the header, and redoes the transaction in force. `Header` comes exactly where the line is no header.
     pub fn open<B: Board, S: Suite, A: Audit>(
@@ -81,7 +81,7 @@ impl Store {
     ) -> Result<(Store, Opened), TxnFault>
         requires room { 1056 ≤ (A.ledger audit.old).spare }
         requires usable { IsUsable engine.shape engine (B.device board.old) (A.ledger audit.old) }
-        ensures opened { HasOpened (record { shape = engine.shape; formulas = S.formulas_of (S.keys suite.old) })
+        ensures opened { HasStoreOpened (record { shape = engine.shape; formulas = S.formulas_of (S.keys suite.old) })
             (parts_of engine (B.device board.old) (A.ledger audit.old) (S.tags suite.old) (S.digests suite.old))
             (λ now. parts_of now (B.device board.new) (A.ledger audit.new) (S.tags suite.new) (S.digests suite.new)) result }
         ensures logged { AreTrusted (record { shape = engine.shape; formulas = S.formulas_of (S.keys suite.old) })
@@ -116,7 +116,7 @@ impl Store {
     ) -> Result<(Store, Opened), TxnFault>
         requires room { 1056 ≤ (A.ledger audit.old).spare }
         requires usable { IsUsable engine.shape engine (B.device board.old) (A.ledger audit.old) }
-        ensures opened { HasOpened (record { shape = engine.shape; formulas = S.formulas_of (S.keys suite.old) })
+        ensures opened { HasStoreOpened (record { shape = engine.shape; formulas = S.formulas_of (S.keys suite.old) })
             (parts_of engine (B.device board.old) (A.ledger audit.old) (S.tags suite.old) (S.digests suite.old))
             (λ now. parts_of now (B.device board.new) (A.ledger audit.new) (S.tags suite.new) (S.digests suite.new)) result }
         ensures few { logged_lines engine.shape ≤ 2 ^ 30 }
@@ -237,11 +237,11 @@ impl Store {
         audit: &mut A,
         txn: &ArrayVec<(u32, Line), 15>,
     ) -> Result<Done, CommitFault>
-        requires targets { AreBelow self.old.lines (targets_of txn.now.items) }
+        requires targets { AreDistinctBelow self.old.lines (targets_of txn.now.items) }
         requires free { self.old.stuck ≡ None }
         requires room { 2112 ≤ (A.ledger audit.old).spare }
         requires usable { IsUsable self.old.engine.shape self.old.engine (B.device board.old) (A.ledger audit.old) }
-        ensures committed { HasCommitted (record { shape = self.old.engine.shape; formulas = S.formulas_of (S.keys suite.old) })
+        ensures committed { HasStoreCommitted (record { shape = self.old.engine.shape; formulas = S.formulas_of (S.keys suite.old) })
             txn.now.items self.old self.new
             (parts_of self.old.engine (B.device board.old) (A.ledger audit.old) (S.tags suite.old) (S.digests suite.old))
             (parts_of self.new.engine (B.device board.new) (A.ledger audit.new) (S.tags suite.new) (S.digests suite.new)) result }
@@ -255,13 +255,13 @@ impl Store {
             (parts_of self.new.engine (B.device board.new) (A.ledger audit.new) (S.tags suite.new) (S.digests suite.new)) result }
         ensures trusted { AreTrusted (record { shape = self.old.engine.shape; formulas = S.formulas_of (S.keys suite.old) })
             (parts_of self.old.engine (B.device board.old) (A.ledger audit.old) (S.tags suite.old) (S.digests suite.old))
-            → LeavesTrusted (record { shape = self.old.engine.shape; formulas = S.formulas_of (S.keys suite.old) }) (outcome_by result)
+            → LeavesTrusted (record { shape = self.old.engine.shape; formulas = S.formulas_of (S.keys suite.old) }) (commit_outcome_by result)
             (parts_of self.new.engine (B.device board.new) (A.ledger audit.new) (S.tags suite.new) (S.digests suite.new)) }
         ensures sound { AreSound (record { shape = self.old.engine.shape; formulas = S.formulas_of (S.keys suite.old) })
             (parts_of self.old.engine (B.device board.old) (A.ledger audit.old) (S.tags suite.old) (S.digests suite.old))
-            → LeavesSound (record { shape = self.old.engine.shape; formulas = S.formulas_of (S.keys suite.old) }) (outcome_by result)
+            → LeavesSound (record { shape = self.old.engine.shape; formulas = S.formulas_of (S.keys suite.old) }) (commit_outcome_by result)
             (parts_of self.new.engine (B.device board.new) (A.ledger audit.new) (S.tags suite.new) (S.digests suite.new))
-            × IsSoundAnswer result }
+            × IsSoundCommitAnswer result }
         ensures spent { IsSpentUndecided result }
         ensures whole { IsWholeTxn txn.now.items }
         ensures keys { S.keys suite.new ≡ S.keys suite.old }
@@ -279,10 +279,10 @@ impl Store {
         audit: &mut A,
         txn: &ArrayVec<(u32, Line), 15>,
     ) -> Result<Done, CommitFault>
-        requires targets { AreBelow self.old.lines (targets_of txn.now.items) }
+        requires targets { AreDistinctBelow self.old.lines (targets_of txn.now.items) }
         requires room { 2112 ≤ (A.ledger audit.old).spare }
         requires usable { IsUsable self.old.engine.shape self.old.engine (B.device board.old) (A.ledger audit.old) }
-        ensures committed { HasCommitted (record { shape = self.old.engine.shape; formulas = S.formulas_of (S.keys suite.old) })
+        ensures committed { HasStoreCommitted (record { shape = self.old.engine.shape; formulas = S.formulas_of (S.keys suite.old) })
             txn.now.items self.old self.new
             (parts_of self.old.engine (B.device board.old) (A.ledger audit.old) (S.tags suite.old) (S.digests suite.old))
             (parts_of self.new.engine (B.device board.new) (A.ledger audit.new) (S.tags suite.new) (S.digests suite.new)) result }

@@ -112,12 +112,13 @@ poke_values words = do
 
 -- ---- the commands of these words
 
-abbrev pub alone : Command → List Word → Result Command Kind
+-- a command of no further word
+abbrev pub alone : {C : Type 0} → C → List Word → Result C Kind
 alone command words = do
   none ← no_word words
   Ok command
 
-abbrev pub with_number : (ℕ → Command) → List Word → Result Command Kind
+abbrev pub with_number : {C : Type 0} → (ℕ → C) → List Word → Result C Kind
 with_number command words = do
   n ← one_number words
   Ok (command n)

@@ -117,15 +117,15 @@ IsCaused setup state view command (Say.WrongRoot kept found steps) =
 IsCaused setup state view command (Say.LossSet steps) = IsLossSteps setup state command steps
 IsCaused setup state view command answer = ⊤
 
-abbrev pub port_of : Command → ℕ
-port_of (Do.Drain port) = port
-port_of (Do.Fence port) = port
-port_of command = 0
+abbrev pub port_drained : Command → ℕ
+port_drained (Do.Drain port) = port
+port_drained (Do.Fence port) = port
+port_drained command = 0
 
 -- an answer that the engine decides, exhibits aside
 pub record IsEngineLegal (setup : Setup) (state : PlainState) (view : DeviceView)
     (command : Command) (answer : Answer) : Type 0 where
   pub listed : IsTrue (is_engine_answer command answer)
   pub within_fuse : IsWithinFuse state.fuse answer
-  pub writes_whole : IsTrue (can_put_first state (port_of command) (put_count answer))
+  pub writes_whole : IsTrue (can_put_first state (port_drained command) (put_count answer))
   pub caused : IsCaused setup state view command answer

@@ -19,7 +19,7 @@ use Rattle.pmem_cli.specs.declared.options.Task.{Task}
 use Rattle.pmem_cli.specs.declared.ending.Ending.{Ending}
 use Rattle.pmem_cli.specs.declared.ending.Ending.TheVariants.{Stopped}
 use Rattle.pmem_cli.specs.Endings.{ending_text, ending_status}
-use Rattle.pmem_cli.specs.HasRun.{HasRun, HasPut, HasSampled, HasTold, TaskOutcome, TextOutcome, HasReplayed, HasRunSample, CheckEnds, HasEnded}
+use Rattle.pmem_cli.specs.HasRun.{HasRun, HasTextPut, HasSampled, HasTold, TaskOutcome, TextOutcome, HasReplayed, HasRunSample, CheckEnds, HasEnded}
 use Rattle.trace_text.specs.Conversations.{Protocol, texts_of}
 use Rattle.pmem_cli.specs.Sessions.{Session, session_protocol, HasConversed, HasSession}
 use Rattle.pmem_cli.specs.Sums.{AreStepSums}
@@ -126,7 +126,7 @@ sample_done setup commands stop status before after between run finished = recor
 }
 
 put_done : (text : List ℕ) (stop : Stop) (status : ℕ) (before after : Option (List ℕ)) (between : Output)
-    → TextOutcome stop (with_waiting before []) between text → IsFinished (Stopped stop) status between after → HasPut text status before after
+    → TextOutcome stop (with_waiting before []) between text → IsFinished (Stopped stop) status between after → HasTextPut text status before after
 unfolding stop_text
 put_done text v1 status before after between made finished = grind (arith, common_steps)
 

@@ -16,7 +16,7 @@ use Rattle.plain_model.specs.Grammar.{Reading, reading_of}
 use Rattle.plain_model.specs.Lines.{lines_of}
 use Rattle.plain_model.specs.Run.{Machine, Step, start, machine_after, AreAnswered, commands_asked, commands_of, IsRunFrom, IsShownFrom, IsMemoryWanted, Ends, line_limit}
 use Rattle.pmem_replay.specs.World.{WorldState}
-use Rattle.pmem_replay.specs.Stepped.{most_steps}
+use Rattle.pmem_replay.specs.Stepped.{most_command_steps}
 use Rattle.pmem_cli.specs.Standing.{AreStepped, IsReplayed}
 use Rattle.pmem_cli.specs.Sums.{IsStepSum, AreStepSums}
 use Rattle.pmem_cli.proofs.RunLemmas.{shown_answered}
@@ -51,7 +51,7 @@ sum_here state answer small counted = tt
 -- each of these commands adds few steps to those before it, and none but the last ends the run
 sums_from : (setup : Setup) (machine : Machine) (world last : WorldState) (steps tail : List Step) (n : ℕ) → machine.state ≡ world.state
     → AreStepped setup world (steps ++ tail) last → AreAnswered setup machine (steps ++ tail) → All (λ step. is_shown step.reply.answer ≡ false) steps → length tail ≤ 1
-    → machine.state.steps ≤ n * most_steps → n + length steps ≤ 2 ^ 40 → AreStepSums setup machine (steps ++ tail)
+    → machine.state.steps ≤ n * most_command_steps → n + length steps ≤ 2 ^ 40 → AreStepSums setup machine (steps ++ tail)
 unfolding machine_after
 sums_from setup machine world last [] [] n same chain answered none one few count = tt
 sums_from setup machine world last [] (step ∷ []) n same chain answered none one few count =
@@ -65,7 +65,7 @@ sums_from setup machine world last (step ∷ steps) tail n same (next, taken, ch
     let before = ap (λ (s : PlainState). s.steps) same in
     let now = ap (λ (s : PlainState). s.steps) after in
     let here : machine.state.steps < 2 ^ 64 - 1 = omega (arith, few, count) in
-    let later : (machine_after setup machine step).state.steps ≤ (n + 1) * most_steps = omega (arith, few, added, before, now) in (
+    let later : (machine_after setup machine step).state.steps ≤ (n + 1) * most_command_steps = omega (arith, few, added, before, now) in (
       sum_here machine.state step.reply.answer here answered.0.fits.steps_counted,
       sums_from setup (machine_after setup machine step) next last steps tail (n + 1) after chain answered.1
           (All-tail (λ step. is_shown step.reply.answer ≡ false) step steps none) one later (omega (arith, count)),

@@ -10,10 +10,10 @@ use Rattle.plain_model.specs.Texts.{as_line}
 use Rattle.trace_text.specs.Conversations.{Protocol, talk_protocol, AreGiven}
 use Rattle.tree_session.specs.declared.commands.TreeCommand.{TreeCommand}
 use Rattle.tree_session.specs.declared.answers.TreeAnswer.{TreeAnswer}
-use Rattle.tree_session.specs.Answered.{IsAnswered, IsEngineShown, IsShownBy, IsTalkedOf, IsShownOf, IsStarvedOf}
+use Rattle.tree_session.specs.Answered.{IsTreeAnswered, IsEngineShown, IsTreeShownBy, IsTreeTalkedOf, IsTreeShownOf, IsTreeStarvedOf}
 use Rattle.tree_session.specs.Commands.{sort_of_tree}
-use Rattle.tree_session.specs.Guarantees.{TreeReply, AreAnswered, IsSession, first_history, history_after, IsTreeKept, IsTreeShown, IsTreeUntouched}
-use Rattle.tree_session.specs.State.{SessionState, IsNewTree, setup_in}
+use Rattle.tree_session.specs.Guarantees.{TreeReply, AreTreeAnswered, IsTreeSession, first_history, history_after, IsTreeKept, IsTreeShown, IsTreeUntouched}
+use Rattle.tree_session.specs.State.{SessionState, IsNewTree, tree_setup_in}
 use Rattle.pmem_cli.specs.Sessions.{Said, reply, exhibit, session_protocol, replies_among, exhibits_among}
 use Rattle.pmem_cli.specs.Tree.{IsShownAfter, counter_tree_session}
 use Rattle.pmem_cli.proofs.Following.{Follows}
@@ -23,11 +23,11 @@ use Rattle.pmem_cli.proofs.SessionLemmas.{Keeps}
 
 -- of this setup, before an exhibit
 pub record IsOpen (f : List ℕ → Formulas) (setup : Setup) (state : SessionState) : Type 0 where
-  pub its_setup : setup_in f state ≡ setup
+  pub its_setup : tree_setup_in f state ≡ setup
   pub not_shown : state.shown ≡ None
 
 stays_open : (f : List ℕ → Formulas) (setup : Setup) (old : SessionState) (command : TreeCommand) (answer : TreeAnswer) (new : SessionState)
-    → IsOpen f setup old → IsAnswered setup old command answer new → IsOpen f setup new
+    → IsOpen f setup old → IsTreeAnswered setup old command answer new → IsOpen f setup new
 stays_open f setup old command answer new before answered =
     record {
       its_setup = rw (answered.kept.shape, answered.kept.keys) before.its_setup;
@@ -36,7 +36,7 @@ stays_open f setup old command answer new before answered =
 
 -- the exhibit is the engine's
 first_shown : (setup : Setup) (old : SessionState) (command : TreeCommand) (its : Exhibit) (new : SessionState) → old.shown ≡ None
-    → IsShownBy setup old command its new → IsEngineShown setup old command its new
+    → IsTreeShownBy setup old command its new → IsEngineShown setup old command its new
 first_shown setup old command its new none (inl shown) = shown
 first_shown setup old command its new none (inr again) = absurd (cc (none, again.0))
 
@@ -45,8 +45,8 @@ first_shown setup old command its new none (inr again) = absurd (cc (none, again
 -- a memory over a counter tree as it talks
 abbrev pub tree_protocol : (List ℕ → Formulas) → Protocol SessionState (List ℕ)
 tree_protocol f =
-    talk_protocol sort_of_tree (λ old line text new. IsTalkedOf (setup_in f old) old line text new)
-    (λ old line its. IsShownOf (setup_in f old) old line its) IsStarvedOf
+    talk_protocol sort_of_tree (λ old line text new. IsTreeTalkedOf (tree_setup_in f old) old line text new)
+    (λ old line its. IsTreeShownOf (tree_setup_in f old) old line its) IsTreeStarvedOf
 
 -- what a session of this setup says is said by its commands and answers
 pub follows_tree : (f : List ℕ → Formulas) (setup : Setup)
@@ -56,14 +56,14 @@ follows_tree f setup =
       sorts = λ line. refl;
       wants = λ old line is wants. wants;
       answered = λ old new line text before talked.
-          let answered = subst (λ (u : Setup). IsAnswered u old talked.command talked.answer new) before.its_setup talked.answered in (
+          let answered = subst (λ (u : Setup). IsTreeAnswered u old talked.command talked.answer new) before.its_setup talked.answered in (
             reply (record { command = talked.command; answer = talked.answer }),
             (talked.its_reading, answered),
             ap as_line (sym talked.its_text),
             stays_open f setup old talked.command talked.answer new before answered,
           );
       shown = λ old line text before shown.
-          let its = subst (λ (u : Setup). IsShownOf u old line shown.0) before.its_setup shown.2 in (
+          let its = subst (λ (u : Setup). IsTreeShownOf u old line shown.0) before.its_setup shown.2 in (
             exhibit shown.0,
             record {
               command = its.command;
@@ -89,7 +89,7 @@ IsShownBefore setup last its = (command : TreeCommand) × ((new : SessionState) 
 -- the replies are a chain, and an exhibit comes after them
 record IsChain (setup : Setup) (first : SessionState) (said : List (Said TreeReply)) : Type 0 where
   last : SessionState
-  answered : AreAnswered setup first (replies_among said) last
+  answered : AreTreeAnswered setup first (replies_among said) last
   shown : All (IsShownBefore setup last) (exhibits_among said)
 
 chain_of_given : (setup : Setup) (first : SessionState) (said : List (Said TreeReply))
@@ -113,7 +113,7 @@ pub keeps_tree : (setup : Setup) → IsTreeKept setup → IsTreeShown setup → 
 keeps_tree setup kept shown untouched first said begins given =
     let chain = chain_of_given setup first said given in
     let replies = replies_among said in
-    let session : IsSession setup replies chain.last = record { first = first; is_new = begins; answered = chain.answered } in
+    let session : IsTreeSession setup replies chain.last = record { first = first; is_new = begins; answered = chain.answered } in
     record {
       allowed = kept replies chain.last session;
       shown =

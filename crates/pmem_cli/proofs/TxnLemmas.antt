@@ -10,10 +10,10 @@ use Rattle.txn_session.specs.declared.commands.TxnCommand.{TxnCommand}
 use Rattle.txn_session.specs.declared.commands.TxnCommand.TheVariants as Do
 use Rattle.txn_session.specs.declared.answers.TxnAnswer.{TxnAnswer}
 use Rattle.txn_session.specs.declared.answers.TxnAnswer.TheVariants as Say
-use Rattle.txn_session.specs.Answered.{IsAnswered, IsAnsweredAs, IsServed, IsTalkedOf, IsShownOf, IsStarvedOf, HasRead, EndsCommit, EndsRedo, after_commit, after_redo, after_decided, decided, most_of_commit}
+use Rattle.txn_session.specs.Answered.{IsTxnAnswered, IsTxnAnsweredAs, IsTxnServed, IsTxnTalkedOf, IsTxnShownOf, IsTxnStarvedOf, HasTxnRead, EndsCommit, EndsRedo, after_commit, after_redo, txn_after_decided, txn_decided, most_of_commit}
 use Rattle.txn_session.specs.Commands.{sort_of_txn}
-use Rattle.txn_session.specs.Guarantees.{TxnReply, AreAnswered, AreTxnsKept, AreTxnsSpent}
-use Rattle.txn_session.specs.State.{TxnState, Entries, IsNewTxn, setup_in}
+use Rattle.txn_session.specs.Guarantees.{TxnReply, AreTxnAnswered, AreTxnsKept, AreTxnsSpent}
+use Rattle.txn_session.specs.State.{TxnState, Entries, IsNewTxn, txn_setup_in}
 use Rattle.plain_model.specs.State.{Memory}
 use Rattle.plain_model.specs.Texts.{as_line}
 use Rattle.trace_text.specs.Conversations.{Protocol, talk_protocol, AreGiven}
@@ -31,7 +31,7 @@ record AreSame (old new : TxnState) : Type 0 where
 same_self : (state : TxnState) → AreSame state state
 same_self state = record { shape = refl; keys = refl }
 
-same_decided : (old : TxnState) (command : TxnCommand) (answer : TxnAnswer) → AreSame old (after_decided old command answer)
+same_decided : (old : TxnState) (command : TxnCommand) (answer : TxnAnswer) → AreSame old (txn_after_decided old command answer)
 same_decided old Do.Begin Say.Ok = record { shape = refl; keys = refl }
 same_decided old (Do.Put a line) Say.Ok = record { shape = refl; keys = refl }
 same_decided old Do.Commit (Say.Applied steps) = record { shape = refl; keys = refl }
@@ -58,7 +58,7 @@ same_committed expected most (Say.CutKept steps) old new same ends = record { sh
 same_committed expected most (Say.CutLost steps) old new same ends = record { shape = ends.becomes.shape ∙ same.shape; keys = ends.becomes.keys ∙ same.keys }
 same_committed expected most answer old new same ends = absurd ends
 
-same_read : (old : TxnState) (a : ℕ) (answer : TxnAnswer) (new : TxnState) → HasRead old a answer new → AreSame old new
+same_read : (old : TxnState) (a : ℕ) (answer : TxnAnswer) (new : TxnState) → HasTxnRead old a answer new → AreSame old new
 same_read old a (Say.Got line steps) new (its, goes) = record { shape = goes.becomes.shape; keys = goes.becomes.keys }
 same_read old a (Say.Cut steps) new cut = record { shape = cut.becomes.shape; keys = cut.becomes.keys }
 same_read old a answer new none = absurd none
@@ -70,7 +70,7 @@ same_opened old writing (Say.Stuck page steps) new goes = record { shape = goes.
 same_opened old writing (Say.Cut steps) new cut = record { shape = cut.becomes.shape; keys = cut.becomes.keys }
 same_opened old writing answer new none = absurd none
 
-same_served : (setup : Setup) (old : TxnState) (command : TxnCommand) (answer : TxnAnswer) (new : TxnState) → IsServed setup old command answer new → AreSame old new
+same_served : (setup : Setup) (old : TxnState) (command : TxnCommand) (answer : TxnAnswer) (new : TxnState) → IsTxnServed setup old command answer new → AreSame old new
 same_served setup old Do.Commit answer new committed =
     same_committed (after_commit old (unwrap_or old.txn []) committed.writing) (most_of_commit old.shape (length (unwrap_or old.txn []))) answer old new
     (same_commit old (unwrap_or old.txn []) committed.writing) committed.ends
@@ -79,53 +79,53 @@ same_served setup old Do.On answer new opened = same_opened old opened.writing a
 same_served setup old command answer new none = absurd none
 
 same_as : (fixed : Option TxnAnswer) (setup : Setup) (old : TxnState) (command : TxnCommand) (answer : TxnAnswer) (new : TxnState)
-    → IsAnsweredAs fixed setup old command answer new → AreSame old new
+    → IsTxnAnsweredAs fixed setup old command answer new → AreSame old new
 same_as (Some fixed) setup old command answer new (its, same) = subst (λ state. AreSame old state) (sym same) (same_decided old command fixed)
 same_as None setup old command answer new served = same_served setup old command answer new served
 
 -- the setup of a state stays
 setup_stays : (f : List ℕ → Formulas) (setup : Setup) (old : TxnState) (command : TxnCommand) (answer : TxnAnswer) (new : TxnState)
-    → setup_in f old ≡ setup → IsAnswered setup old command answer new → setup_in f new ≡ setup
+    → txn_setup_in f old ≡ setup → IsTxnAnswered setup old command answer new → txn_setup_in f new ≡ setup
 setup_stays f setup old command answer new is answered =
-    let same = same_as (decided old command) setup old command answer new answered in rw (same.shape, same.keys) is
+    let same = same_as (txn_decided old command) setup old command answer new answered in rw (same.shape, same.keys) is
 
 -- ---- lines and texts
 
 -- a memory that is written by transactions as it talks
 abbrev pub txn_protocol : (List ℕ → Formulas) → Protocol TxnState (List ℕ)
 txn_protocol f =
-    talk_protocol sort_of_txn (λ old line text new. IsTalkedOf (setup_in f old) old line text new)
-    (λ old line its. IsShownOf (setup_in f old) old line its) IsStarvedOf
+    talk_protocol sort_of_txn (λ old line text new. IsTxnTalkedOf (txn_setup_in f old) old line text new)
+    (λ old line its. IsTxnShownOf (txn_setup_in f old) old line its) IsTxnStarvedOf
 
 -- what a session of this setup says is said by its commands and answers
 pub follows_txn : (f : List ℕ → Formulas) (setup : Setup)
-    → Follows (txn_protocol f) (session_protocol (transactions_session setup)) (λ state. setup_in f state ≡ setup)
+    → Follows (txn_protocol f) (session_protocol (transactions_session setup)) (λ state. txn_setup_in f state ≡ setup)
 follows_txn f setup =
     record {
       sorts = λ line. refl;
       wants = λ old line is wants. wants;
       answered = λ old new line text is talked.
-          let answered = subst (λ (u : Setup). IsAnswered u old talked.command talked.answer new) is talked.answered in (
+          let answered = subst (λ (u : Setup). IsTxnAnswered u old talked.command talked.answer new) is talked.answered in (
             reply (record { command = talked.command; answer = talked.answer }),
             (talked.its_reading, answered),
             ap as_line (sym talked.its_text),
             setup_stays f setup old talked.command talked.answer new is answered,
           );
       shown = λ old line text is shown.
-          (exhibit shown.0, subst (λ (u : Setup). IsShownOf u old line shown.0) is shown.2, ap as_line (sym shown.1));
+          (exhibit shown.0, subst (λ (u : Setup). IsTxnShownOf u old line shown.0) is shown.2, ap as_line (sym shown.1));
     }
 
 -- ---- what its replies promise
 
 answered_of_given : (setup : Setup) (first : TxnState) (said : List (Said TxnReply))
-    → AreGiven (session_protocol (transactions_session setup)) first said → (last : TxnState) × AreAnswered setup first (replies_among said) last
+    → AreGiven (session_protocol (transactions_session setup)) first said → (last : TxnState) × AreTxnAnswered setup first (replies_among said) last
 answered_of_given setup first [] given = (first, refl)
 answered_of_given setup first (reply its ∷ said) (line, its_sort, inl (next, answered, more)) =
     let rest = answered_of_given setup next said more in (rest.0, (next, answered.1, rest.1))
 answered_of_given setup first (reply its ∷ said) (line, its_sort, inr (shown, none)) = absurd shown
 answered_of_given setup first (exhibit its ∷ said) (line, its_sort, inl (next, answered, more)) = absurd answered
 answered_of_given setup first (exhibit its ∷ said) (line, its_sort, inr (shown, none)) =
-    (first, subst (λ (zs : List (Said TxnReply)). AreAnswered setup first (replies_among zs) first) (sym none) refl)
+    (first, subst (λ (zs : List (Said TxnReply)). AreTxnAnswered setup first (replies_among zs) first) (sym none) refl)
 
 pub keeps_txn : (setup : Setup) → AreTxnsKept setup → AreTxnsSpent setup → Keeps (transactions_session setup)
 keeps_txn setup kept spent first said begins given =
@@ -137,5 +137,5 @@ keeps_txn setup kept spent first said begins given =
 -- the setup of a new one
 pub setup_begins : (f : List ℕ → Formulas) (shape : Shape) (keys : List ℕ) (state : TxnState)
     → IsNewTxn (record { shape = shape; formulas = f keys }) state → state.keys ≡ keys
-    → ◌≡◌ {A = Setup} (setup_in f state) (record { shape = shape; formulas = f keys })
+    → ◌≡◌ {A = Setup} (txn_setup_in f state) (record { shape = shape; formulas = f keys })
 setup_begins f shape keys state is same = rw (is.shape, same) refl

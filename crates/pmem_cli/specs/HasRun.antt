@@ -47,7 +47,7 @@ pub record HasRun (setup : Setup) (status : ℕ) (pull_failed : Type 0) (trace l
   pub front : AppendsFront put_before put_after (output_of steps stop)
 
 -- A text was put: the whole of it, with status 0, or a front of it, with status 4.
-pub record HasPut (text : List ℕ) (status : ℕ) (put_before put_after : Option (List ℕ)) : Type 0 where
+pub record HasTextPut (text : List ℕ) (status : ℕ) (put_before put_after : Option (List ℕ)) : Type 0 where
   pub its_status : status ≢ 4 → status ≡ 0
   pub whole : status ≢ 4 → Appends put_before put_after text
   pub front : AppendsFront put_before put_after text
@@ -79,7 +79,7 @@ pub record HasTold (choices : Choices) (status : ℕ) (pull_failed : Type 0) (tr
 -- what the status says, by what was asked for
 abbrev pub TaskOutcome : Task → ℕ → Type 0 → Option (List ℕ) → Option (List ℕ) → Option (List ℕ) → Option (List ℕ) → Type 0
 TaskOutcome (Task.Run c) status pull_failed trace left before after = HasRun (setup_chosen c) status pull_failed trace left before after
-TaskOutcome (Task.Make seed count) status pull_failed trace left before after = HasPut (commands_text (sample_trace seed count)) status before after
+TaskOutcome (Task.Make seed count) status pull_failed trace left before after = HasTextPut (commands_text (sample_trace seed count)) status before after
 TaskOutcome (Task.Sample seed count) status pull_failed trace left before after =
     HasSampled default_setup (sample_trace seed count) status before after
 TaskOutcome (Task.Check c) status pull_failed trace left before after = HasTold c status pull_failed trace left before after

@@ -46,7 +46,7 @@ IsTalkComplete protocol status trace fault = IfSome trace (λ bytes. IsInLanguag
 -- ---- replies before a pull
 
 -- The whole lines of these bytes were answered, and all replies to them were put.
-pub record AreTold {S X : Type 0} (protocol : Protocol S X) (first : S) (given : List ℕ) (from : Output) (put : Option (List ℕ)) : Type 0 where
+pub record AreRepliesTold {S X : Type 0} (protocol : Protocol S X) (first : S) (given : List ℕ) (from : Output) (put : Option (List ℕ)) : Type 0 where
   pub lines : List (List ℕ)
   pub part : List ℕ
   pub cut : given ≡ flat_map ended lines ++ part
@@ -60,4 +60,4 @@ pub record AreTold {S X : Type 0} (protocol : Protocol S X) (first : S) (given :
 -- So it is of the bytes that the source had given before its last pull.
 abbrev pub HasToldFirst : {S X : Type 0} → Protocol S X → S → Option (List ℕ) → Option (List ℕ) → Output → Option (List ℕ) → Type 0
 HasToldFirst protocol first trace left_before from put =
-    IfSome trace (λ bytes. IfSome left_before (λ behind. (given : List ℕ) × (bytes ≡ given ++ behind) × AreTold protocol first given from put))
+    IfSome trace (λ bytes. IfSome left_before (λ behind. (given : List ℕ) × (bytes ≡ given ++ behind) × AreRepliesTold protocol first given from put))

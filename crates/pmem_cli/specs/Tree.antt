@@ -4,10 +4,10 @@ use Rattle.pmem_base.specs.declared.answers.Exhibit.{Exhibit}
 use Rattle.suite.specs.Setup.{Setup}
 use Rattle.collision_witness.specs.Exhibits.{IsExhibit}
 use Rattle.tree_session.specs.declared.commands.TreeCommand.{TreeCommand}
-use Rattle.tree_session.specs.Answered.{IsAnswered, IsEngineShown, IsStarvedOf}
+use Rattle.tree_session.specs.Answered.{IsTreeAnswered, IsEngineShown, IsTreeStarvedOf}
 use Rattle.tree_session.specs.Answers.{tree_text}
 use Rattle.tree_session.specs.Commands.{reading_of_tree, sort_of_tree}
-use Rattle.tree_session.specs.Guarantees.{TreeReply, AreAllowed, History, first_history, history_after, MayShow, IsNoTampering, IsUnrefused}
+use Rattle.tree_session.specs.Guarantees.{TreeReply, AreAllowed, History, first_history, history_after, MayShow, IsNoTampering, IsTreeAnswerUnrefused}
 use Rattle.tree_session.specs.State.{SessionState, IsNewTree}
 use Rattle.pmem_cli.specs.declared.options.Choices.{Choices}
 use Rattle.pmem_cli.specs.Keys.{setup_chosen}
@@ -28,7 +28,7 @@ IsShownAfter setup history exhibit =
 -- nothing was refused, and nothing shown
 abbrev pub IsAllServed : List (Said TreeReply) → Type 0
 IsAllServed said =
-    All (λ (reply : TreeReply). IsUnrefused reply.answer) (replies_among said) × (exhibits_among said ≡ [])
+    All (λ (reply : TreeReply). IsTreeAnswerUnrefused reply.answer) (replies_among said) × (exhibits_among said ≡ [])
 
 -- What a session says promises: each answer is one that the commands and answers before it allow, and so is an exhibit, which
 -- holds. Where nobody tampered with the device, nothing is refused or shown.
@@ -48,9 +48,9 @@ counter_tree_session setup =
       sort_of = sort_of_tree;
       answers =
           λ old line reply new. (reading_of_tree line ≡ Ok (Some reply.command))
-          × IsAnswered setup old reply.command reply.answer new;
+          × IsTreeAnswered setup old reply.command reply.answer new;
       shows = IsExhibitOf setup;
-      wants_memory = IsStarvedOf;
+      wants_memory = IsTreeStarvedOf;
       text_of = λ reply. tree_text reply.answer;
       promises = λ first said. IsAsPromised setup said;
     }

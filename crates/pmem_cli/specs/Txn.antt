@@ -2,10 +2,10 @@
 use Rattle.std.specs.Prelude.{◌≡◌, Some, Ok}
 use Rattle.suite.specs.Setup.{Setup}
 use Rattle.line_txn.specs.Store.{logged_lines}
-use Rattle.txn_session.specs.Answered.{IsAnswered, IsShownOf, IsStarvedOf}
+use Rattle.txn_session.specs.Answered.{IsTxnAnswered, IsTxnShownOf, IsTxnStarvedOf}
 use Rattle.txn_session.specs.Answers.{txn_text}
 use Rattle.txn_session.specs.Commands.{reading_of_txn, sort_of_txn}
-use Rattle.txn_session.specs.Guarantees.{TxnReply, AreTxnReplies, AreSpentAsUsedUp}
+use Rattle.txn_session.specs.Guarantees.{TxnReply, AreTxnReplies, AreTxnSpentAsUsedUp}
 use Rattle.txn_session.specs.State.{TxnState, IsNewTxn}
 use Rattle.pmem_cli.specs.declared.options.Choices.{Choices}
 use Rattle.pmem_cli.specs.Keys.{setup_chosen}
@@ -19,13 +19,13 @@ transactions_session setup =
       sort_of = sort_of_txn;
       answers =
           λ old line reply new. (reading_of_txn line ≡ Ok (Some reply.command))
-          × IsAnswered setup old reply.command reply.answer new;
-      shows = IsShownOf setup;
-      wants_memory = IsStarvedOf;
+          × IsTxnAnswered setup old reply.command reply.answer new;
+      shows = IsTxnShownOf setup;
+      wants_memory = IsTxnStarvedOf;
       text_of = λ reply. txn_text reply.answer;
       promises =
           λ first said. AreTxnReplies (logged_lines setup.shape) (replies_among said)
-          × AreSpentAsUsedUp setup first (replies_among said);
+          × AreTxnSpentAsUsedUp setup first (replies_among said);
     }
 
 -- as it is chosen

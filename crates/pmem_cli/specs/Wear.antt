@@ -2,10 +2,10 @@
 use Rattle.std.specs.Prelude.{◌≡◌, ℕ, Some, Ok}
 use Rattle.suite.specs.Setup.{Setup}
 use Rattle.start_gap.specs.Gapped.{logical_lines}
-use Rattle.wear_session.specs.Answered.{IsAnswered, IsShownOf, IsStarvedOf}
+use Rattle.wear_session.specs.Answered.{IsWearAnswered, IsWearShownOf, IsWearStarvedOf}
 use Rattle.wear_session.specs.Answers.{wear_text}
 use Rattle.wear_session.specs.Commands.{reading_of_wear, sort_of_wear}
-use Rattle.wear_session.specs.Guarantees.{WearReply, AreWearReplies, AreSpentAsUsedUp}
+use Rattle.wear_session.specs.Guarantees.{WearReply, AreWearReplies, AreWearSpentAsUsedUp}
 use Rattle.wear_session.specs.State.{WearState, IsNewWear}
 use Rattle.pmem_cli.specs.declared.options.Choices.{Choices}
 use Rattle.pmem_cli.specs.Keys.{setup_chosen, every_chosen}
@@ -19,13 +19,13 @@ levelled_session setup every =
       sort_of = sort_of_wear;
       answers =
           λ old line reply new. (reading_of_wear line ≡ Ok (Some reply.command))
-          × IsAnswered setup old reply.command reply.answer new;
-      shows = IsShownOf setup;
-      wants_memory = IsStarvedOf;
+          × IsWearAnswered setup old reply.command reply.answer new;
+      shows = IsWearShownOf setup;
+      wants_memory = IsWearStarvedOf;
       text_of = λ reply. wear_text reply.answer;
       promises =
           λ first said. AreWearReplies (logical_lines setup.shape) every (replies_among said)
-          × AreSpentAsUsedUp setup first (replies_among said);
+          × AreWearSpentAsUsedUp setup first (replies_among said);
     }
 
 -- as it is chosen

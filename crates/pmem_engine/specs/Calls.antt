@@ -684,8 +684,8 @@ pub record IsCutInFetch (g : Shape) (page : ℕ) (made : List Mark) (old new : P
   pub some : HasFetchedSome {T = Ctr} g page old new (Err Fail.Cut)
   pub shadow : KeepsShadow g old new
 
--- Or it was cut later: the path was fetched, and no block came in or gave way since. The counter isn't
--- used up, so the steps of the write's own seal were due.
+-- Or it was cut later: the path was fetched, and no block came in or gave way since. From a trusted chip
+-- on, the counter isn't used up then.
 pub record IsCutPastFetch (setup : Setup) (write : Posted) (old new : Parts) : Type 0 where
   pub fetched : Banks
   pub path_fetched : IsPathFetchedInto setup.shape (page_of write.at) old fetched

@@ -10,8 +10,8 @@ use Rattle.meta_cache.specs.Banks.{Banks, set_of, slot_number}
 use Rattle.std.specs.List.{Contains}
 
 -- the shadow line that the slot's entry stands in
-abbrev pub slot_line : Shape → ℕ → ℕ → Slot → ℕ
-slot_line g bank set slot = entry_line g bank (slot_number g set slot)
+abbrev pub named_slot_line : Shape → ℕ → ℕ → Slot → ℕ
+named_slot_line g bank set slot = entry_line g bank (slot_number g set slot)
 
 -- the slot's entry in these shadow lines names the slot's position
 abbrev pub IsSlotInShadow : Shape → List Line → ℕ → ℕ → Slot → Type 0

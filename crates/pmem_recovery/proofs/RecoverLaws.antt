@@ -25,7 +25,7 @@ use Rattle.pmem_recovery.specs.Written.{IsRecovered, differing}
 use Rattle.pmem_recovery.specs.Parts.{Told, KeepsDevice, IsUncut, StopsBy, SuiteState, SuiteWork, SuiteWorkAtMost, HasRoot, IsFaultShown, IsRefusal, IsStageStopped, StoppedWork, IsAllWork}
 use Rattle.pmem_recovery.specs.Writing.{BothTold}
 use Rattle.pmem_recovery.specs.Mending.{IsPartlyMended, most_reads, most_writes, HasMadeWrites, IsStoppedShort}
-use Rattle.pmem_recovery.specs.Recovered.{RegsAfter, PowerAfter, HasOnlyRedone, IsUnchanged, most_steps, StepsAfter, CountsAtMost, IsTwinValid, IsNoCounterUnmendable, IsMendedAs, HasRecovered, IsUncounted}
+use Rattle.pmem_recovery.specs.Recovered.{RegsAfter, PowerAfter, HasOnlyRedone, IsUnchanged, most_recovery_steps, StepsAfter, CountsAtMost, IsTwinValid, IsNoCounterUnmendable, IsMendedAs, HasRecovered, IsUncounted}
 use Rattle.pmem_recovery.specs.Fronts.{IsFrontWritten}
 use Rattle.pmem_recovery.proofs.PartLaws.{IsUncut-then, IsCutOff-after}
 use Rattle.pmem_recovery.proofs.FrontLaws.{front_partly, front_without, fixed_recovered, fixed_without}
@@ -95,7 +95,7 @@ module _ (setup : Setup) (ledger : LedgerState) (old mid new : Device) (run : Is
   pub its_latches : RisesAtMost (finishing_latches old.regs.group.items) old.latches new.latches
   its_latches = search rules
 
-  its_steps_in_all : TakesAtMost (most_steps setup old.regs) old new
+  its_steps_in_all : TakesAtMost (most_recovery_steps setup old.regs) old new
   its_steps_in_all = search rules
 
   pub its_anchored : IsAnchored setup old.regs ledger → IsAnchored setup new.regs ledger
@@ -192,7 +192,7 @@ module _ (setup : Setup) (ledger : LedgerState) (old mid new : Device) (run : Is
   unchanged_after Cut shown short = tt
   unchanged_after fault shown short = only_redone short
 
-  steps_after : (fault : RecFault) → IsStoppedShort setup.shape fault mid new → StepsAfter (Err fault) (most_steps setup old.regs) old new
+  steps_after : (fault : RecFault) → IsStoppedShort setup.shape fault mid new → StepsAfter (Err fault) (most_recovery_steps setup old.regs) old new
   steps_after Cut short =
       record {
         writes = its_writes.never_falls;

@@ -64,8 +64,8 @@ IsUnchanged (Err fault) old new = HasOnlyRedone old new
 
 -- the most persist steps of a recovery: the armed group's lines and the latch after them, and the writes
 -- of what it makes
-abbrev pub most_steps : Setup → Regs → ℕ
-most_steps setup regs =
+abbrev pub most_recovery_steps : Setup → Regs → ℕ
+most_recovery_steps setup regs =
     length regs.group.items + finishing_latches regs.group.items + most_writes setup.shape
 
 -- at most so many; a cut comes at a step that isn't taken, so before all of them were
@@ -195,7 +195,7 @@ pub record HasRecovered (setup : Setup) (ledger : LedgerState) (old new : Device
   pub writes :
       RisesAtMost (length old.regs.group.items + most_writes setup.shape) old.writes new.writes
   pub latches : RisesAtMost (finishing_latches old.regs.group.items) old.latches new.latches
-  pub steps : StepsAfter answer (most_steps setup old.regs) old new
+  pub steps : StepsAfter answer (most_recovery_steps setup old.regs) old new
   pub keys : suite_new.keys ≡ suite_old.keys
   pub pads : suite_new.pads ≡ suite_old.pads
   pub trials : TrialsCounted answer suite_old.tags suite_new.tags

@@ -335,12 +335,12 @@ pub record HasStepped (setup : Setup) (old : WorldState) (command : Command) (re
 -- ---- few steps
 
 -- no command takes more steps than so many, of sixteen calls
-abbrev pub most_steps : ℕ
-most_steps = 1048576
+abbrev pub most_command_steps : ℕ
+most_command_steps = 1048576
 
 -- a step adds at most so many to the steps, unless it ends with an exhibit
 abbrev pub AddsFewSteps : WorldState → WorldState → Type 0
-AddsFewSteps old new = new.shown ≡ false → new.state.steps ≤ old.state.steps + most_steps
+AddsFewSteps old new = new.shown ≡ false → new.state.steps ≤ old.state.steps + most_command_steps
 
 -- ---- want of memory
 

@@ -8,7 +8,7 @@ use Rattle.pmem_base.specs.Lines.{line_at, zero_line, line_of, big_endian}
 use Rattle.start_gap.specs.declared.wear.Wear.{Wear}
 use Rattle.start_gap.specs.Wear.{IsWear, place_of, next_wear, source_of, first_wear}
 use Rattle.start_gap.specs.Record.{recorded, wear_record}
-use Rattle.start_gap.specs.Logical.{IsLevelled, with_line, with_copy, with_record, begun, written, copied, moved, IsSafeAtEachStage, IsSameUnderNext}
+use Rattle.start_gap.specs.Logical.{IsLevelled, with_levelled_line, with_copy, with_record, begun, written, copied, moved, IsSafeAtEachStage, IsSameUnderNext}
 use Rattle.start_gap.proofs.Places.{places, next_place, next-IsWear}
 use Rattle.start_gap.proofs.Records.{recorded_record}
 
@@ -28,7 +28,7 @@ same_record n lines wear k line low its =
 
 -- a logical line is written
 pub write_levels : (n : ℕ) (lines memory : List Line) (wear : Wear) (a : ℕ) (plain : Line) → a < n
-    → IsLevelled n lines wear memory → IsLevelled n (with_line n wear a plain lines) wear (slice_set memory a plain)
+    → IsLevelled n lines wear memory → IsLevelled n (with_levelled_line n wear a plain lines) wear (slice_set memory a plain)
 write_levels n lines memory wear a plain ha old =
     let its = places n wear old.its_wear in
     let within = its.within a ha in
@@ -42,7 +42,7 @@ write_levels n lines memory wear a plain ha old =
             each =
                 λ b hb. elim (cases_eq b a) [
                   | inl e ↦
-                      ap (λ k. line_at (with_line n wear a plain lines) (place_of n wear k)) e
+                      ap (λ k. line_at (with_levelled_line n wear a plain lines) (place_of n wear k)) e
                       ∙ same_line lines (place_of n wear a) plain (omega (arith, within, old.size))
                       ∙ sym (ap (line_at (slice_set memory a plain)) e ∙ same_line memory a plain (omega (arith, ha, old.holds.count)))
                   | inr e ↦
@@ -122,13 +122,13 @@ pub safe_at_each_stage : (n : ℕ) → n < 2 ^ 32 → IsSafeAtEachStage n
 safe_at_each_stage n small lines memory wear a plain begun ha old = old
 safe_at_each_stage n small lines memory wear a plain written ha old = write_levels n lines memory wear a plain ha old
 safe_at_each_stage n small lines memory wear a plain copied ha old =
-    copy_levels n (with_line n wear a plain lines) (slice_set memory a plain) wear
+    copy_levels n (with_levelled_line n wear a plain lines) (slice_set memory a plain) wear
     (write_levels n lines memory wear a plain ha old)
 safe_at_each_stage n small lines memory wear a plain moved ha old =
     let then = write_levels n lines memory wear a plain ha old in
-    record_levels n (with_copy n wear (with_line n wear a plain lines)) (slice_set memory a plain) wear small
-    (copy_same n (with_line n wear a plain lines) wear then.its_wear then.size)
-    (copy_levels n (with_line n wear a plain lines) (slice_set memory a plain) wear then)
+    record_levels n (with_copy n wear (with_levelled_line n wear a plain lines)) (slice_set memory a plain) wear small
+    (copy_same n (with_levelled_line n wear a plain lines) wear then.its_wear then.size)
+    (copy_levels n (with_levelled_line n wear a plain lines) (slice_set memory a plain) wear then)
 
 -- ---- the first memory
 

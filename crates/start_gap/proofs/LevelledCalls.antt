@@ -24,7 +24,7 @@ use Rattle.start_gap.specs.declared.gapped.Moved.TheVariants as Move
 use Rattle.start_gap.specs.declared.gapped.WriteFault.{WriteFault}
 use Rattle.start_gap.specs.Wear.{place_of, next_wear, source_of}
 use Rattle.start_gap.specs.Record.{wear_record}
-use Rattle.start_gap.specs.Gapped.{HasMovedGap, HasCopied, HasRecorded, HasLevelledWrite, HasCounted, HasTriedMove, HasWear, wear_by, answer_by, done_as}
+use Rattle.start_gap.specs.Gapped.{HasMovedGap, HasCopied, HasRecorded, HasLevelledWrite, HasCounted, HasTriedMove, HasWear, wear_by, write_answer_by, done_as}
 
 -- a later call is of the same geometry and keys
 pub usable_as : (g g' : Shape) (engine : EngineState) (device : Device) (ledger : LedgerState) → g' ≡ g
@@ -106,7 +106,7 @@ wear_over wear count old between new it lines every =
 
 -- a move's fault that isn't that a line is spent is the write's
 pub fault_of_move : (fault : Fault) → ((page : ℕ) → fault ≡ Fail.Spent page → ⊥)
-    → answer_by (Err fault) ≡ Err (record { fault = fault; written = true })
+    → write_answer_by (Err fault) ≡ Err (record { fault = fault; written = true })
 fault_of_move (Fail.Spent page) unspent = absurd (unspent page refl)
 fault_of_move fault unspent = refl
 
@@ -131,7 +131,7 @@ module _ (setup : Setup) (a : ℕ) (plain : Line) (old new : Gapped) where
       → ((fault : Fault) → made ≡ Err fault → ⊥) → old.every ≤ old.count + 1
       → HasWrittenLine setup (whole_write (place_of old.lines old.wear a) plain) from between made
       → HasMovedGap setup old.lines old.wear between to tried
-      → HasWear (wear_by tried old.lines old.wear) 0 old new → answer ≡ answer_by tried
+      → HasWear (wear_by tried old.lines old.wear) 0 old new → answer ≡ write_answer_by tried
       → HasLevelledWrite setup a plain old new from to answer
   tried_as from between to (Ok ctr) tried answer done due it move wear e =
       record {

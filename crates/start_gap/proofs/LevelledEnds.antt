@@ -18,7 +18,7 @@ use Rattle.start_gap.specs.declared.gapped.Moved.TheVariants as Move
 use Rattle.start_gap.specs.declared.gapped.WriteFault.{WriteFault}
 use Rattle.start_gap.specs.Wear.{place_of, next_wear, source_of}
 use Rattle.start_gap.specs.Record.{wear_record}
-use Rattle.start_gap.specs.Gapped.{HasRecorded, HasRecordedAfter, HasCopied, HasCopiedAfter, HasMovedGap, HasGoneOn, HasLevelledWrite, HasCounted, HasTriedMove, answer_by, outcome_by, done_as, IsSoundAnswer, IsCutOrSpent, IsSpentUnwritten}
+use Rattle.start_gap.specs.Gapped.{HasRecorded, HasRecordedAfter, HasCopied, HasCopiedAfter, HasMovedGap, HasWriteGoneOn, HasLevelledWrite, HasCounted, HasTriedMove, write_answer_by, write_outcome_by, done_as, IsSoundWriteAnswer, IsCutOrSpent, IsSpentUnwritten}
 use Rattle.start_gap.proofs.EngineLines.{trusted_after_write, sound_after_write, trusted_after_read, sound_after_read}
 use Rattle.start_gap.proofs.LevelledWrites.{due_cases}
 
@@ -74,7 +74,7 @@ module _ (setup : Setup) (P : Parts → Type 0) (E : Fault → Parts → Type 0)
           failed it.between to fault answer then.0 then.1 (no_read (source_of n wear) from it.between fault done had)
 
   -- a move's answer is the write's
-  tried_ends : (tried : Result (Unit {0}) Fault) (to : Parts) → AfterMove P E tried to → AfterWrite P E (answer_by tried) to
+  tried_ends : (tried : Result (Unit {0}) Fault) (to : Parts) → AfterMove P E tried to → AfterWrite P E (write_answer_by tried) to
   tried_ends (Ok done) to it = it
   tried_ends (Err (Fail.Spent page)) to it = it
   tried_ends (Err fault) to it = it
@@ -85,7 +85,7 @@ module _ (setup : Setup) (P : Parts → Type 0) (E : Fault → Parts → Type 0)
     where
       go : (made : Result Ctr Fault)
           → HasWrittenLine setup (whole_write (place_of old.lines old.wear a) plain) from it.between made
-          → HasGoneOn made setup old new it.between to answer → AfterWrite P E answer to
+          → HasWriteGoneOn made setup old new it.between to answer → AfterWrite P E answer to
       go (Ok ctr) done then =
           let kept = by_write (whole_write (place_of old.lines old.wear a) plain) from it.between ctr done had in
           due_cases (nat_lt (old.count + 1) old.every) _ _ then
@@ -108,7 +108,7 @@ abbrev LeftSound : Setup → Fault → Parts → Type 0
 LeftSound setup fault parts = LeavesSound setup (outcome_of_fault fault) parts × IsCutOrSpent fault
 
 pub trusted_after : (setup : Setup) (a : ℕ) (plain : Line) (old new : Gapped) (from to : Parts) (answer : Result Moved WriteFault)
-    → HasLevelledWrite setup a plain old new from to answer → AreTrusted setup from → LeavesTrusted setup (outcome_by answer) to
+    → HasLevelledWrite setup a plain old new from to answer → AreTrusted setup from → LeavesTrusted setup (write_outcome_by answer) to
 trusted_after setup a plain old new from to answer it trusted =
     go answer
     (write_ends setup (AreTrusted setup) (LeftTrusted setup)
@@ -118,7 +118,7 @@ trusted_after setup a plain old new from to answer it trusted =
     (λ write here there fault done. trusted_after_write setup write here there (Err fault) done)
     a plain old new from to answer trusted it)
   where
-    go : (answer : Result Moved WriteFault) → AfterWrite (AreTrusted setup) (LeftTrusted setup) answer to → LeavesTrusted setup (outcome_by answer) to
+    go : (answer : Result Moved WriteFault) → AfterWrite (AreTrusted setup) (LeftTrusted setup) answer to → LeavesTrusted setup (write_outcome_by answer) to
     go (Ok Move.Not) is = is
     go (Ok Move.Made) is = is
     go (Ok (Move.Held page)) is = is
@@ -131,7 +131,7 @@ unrefused_fault T fault is = absurd is
 
 pub sound_after : (setup : Setup) (a : ℕ) (plain : Line) (old new : Gapped) (from to : Parts) (answer : Result Moved WriteFault)
     → HasLevelledWrite setup a plain old new from to answer → AreSound setup from
-    → LeavesSound setup (outcome_by answer) to × IsSoundAnswer answer
+    → LeavesSound setup (write_outcome_by answer) to × IsSoundWriteAnswer answer
 sound_after setup a plain old new from to answer it sound =
     go answer
     (write_ends setup (AreSound setup) (LeftSound setup)
@@ -144,7 +144,7 @@ sound_after setup a plain old new from to answer it sound =
     a plain old new from to answer sound it)
   where
     go : (answer : Result Moved WriteFault) → AfterWrite (AreSound setup) (LeftSound setup) answer to
-        → LeavesSound setup (outcome_by answer) to × IsSoundAnswer answer
+        → LeavesSound setup (write_outcome_by answer) to × IsSoundWriteAnswer answer
     go (Ok Move.Not) is = (is, tt)
     go (Ok Move.Made) is = (is, tt)
     go (Ok (Move.Held page)) is = (is.0, tt)
@@ -152,7 +152,7 @@ sound_after setup a plain old new from to answer it sound =
 
 -- ---- spent is the line's own write alone
 
-answer_unspent : (tried : Result (Unit {0}) Fault) → IsSpentUnwritten (answer_by tried)
+answer_unspent : (tried : Result (Unit {0}) Fault) → IsSpentUnwritten (write_answer_by tried)
 answer_unspent (Ok done) = tt
 answer_unspent (Err (Fail.Spent page)) = tt
 answer_unspent (Err fault) = λ e. tt
@@ -161,7 +161,7 @@ pub spent_unwritten : (setup : Setup) (a : ℕ) (plain : Line) (old new : Gapped
     → HasLevelledWrite setup a plain old new from to answer → IsSpentUnwritten answer
 spent_unwritten setup a plain old new from to answer it = go it.made it.then
   where
-    go : (made : Result Ctr Fault) → HasGoneOn made setup old new it.between to answer → IsSpentUnwritten answer
+    go : (made : Result Ctr Fault) → HasWriteGoneOn made setup old new it.between to answer → IsSpentUnwritten answer
     go (Ok ctr) then =
         due_cases (nat_lt (old.count + 1) old.every) _ _ then
         (λ (counted : HasCounted old new it.between to answer). subst IsSpentUnwritten (sym counted.its_answer) tt)

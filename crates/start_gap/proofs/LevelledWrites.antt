@@ -20,8 +20,8 @@ use Rattle.start_gap.specs.declared.gapped.Moved.TheVariants as Move
 use Rattle.start_gap.specs.declared.gapped.WriteFault.{WriteFault}
 use Rattle.start_gap.specs.Wear.{IsWear, place_of, next_wear, source_of}
 use Rattle.start_gap.specs.Record.{wear_record}
-use Rattle.start_gap.specs.Logical.{Stage, begun, written, copied, moved, with_line, with_copy, with_record, lines_at}
-use Rattle.start_gap.specs.Gapped.{HasLines, HasRecorded, HasRecordedAfter, HasCopied, HasCopiedAfter, HasMovedGap, HasGoneOn, HasLevelledWrite, HasCounted, HasTriedMove, HasRefused, IsUnspent, IsEnd, IsLeftLevelled, answer_by, done_as}
+use Rattle.start_gap.specs.Logical.{MoveStage, begun, written, copied, moved, with_levelled_line, with_copy, with_record, write_lines_at}
+use Rattle.start_gap.specs.Gapped.{HasLines, HasRecorded, HasRecordedAfter, HasCopied, HasCopiedAfter, HasMovedGap, HasWriteGoneOn, HasLevelledWrite, HasCounted, HasTriedMove, HasWriteRefused, IsUnspent, IsWriteEnd, IsLeftLevelled, write_answer_by, done_as}
 use Rattle.start_gap.proofs.Places.{places, source-within}
 use Rattle.start_gap.proofs.Records.{wear_record-IsLine}
 use Rattle.start_gap.proofs.Levelled.{safe_at_each_stage}
@@ -30,7 +30,7 @@ use Rattle.start_gap.proofs.EngineLines.{trusted_after_write, either_lines, writ
 -- ---- a move
 
 -- the stages at which a move may end, once the line is written
-abbrev IsMoveEnd : Result (Unit {0}) Fault → Stage → Type 0
+abbrev IsMoveEnd : Result (Unit {0}) Fault → MoveStage → Type 0
 IsMoveEnd (Ok done) moved = ⊤
 IsMoveEnd (Err fault) written = ⊤
 IsMoveEnd (Err fault) copied = ⊤
@@ -39,9 +39,9 @@ IsMoveEnd answer stage = ⊥
 
 record IsMovedTo (setup : Setup) (n : ℕ) (wear : Wear) (a : ℕ) (plain : Line) (lines : List Line) (to : Parts)
     (answer : Result (Unit {0}) Fault) : Type 0 where
-  stage : Stage
+  stage : MoveStage
   ended : IsMoveEnd answer stage
-  holds : HasLines setup (lines_at stage n wear a plain lines) to
+  holds : HasLines setup (write_lines_at stage n wear a plain lines) to
 
 -- the wear of a memory of n logical lines
 record IsWearOf (setup : Setup) (n : ℕ) (wear : Wear) : Type 0 where
@@ -66,7 +66,7 @@ module _ (setup : Setup) (n : ℕ) (wear : Wear) (a : ℕ) (plain : Line) (lines
   source_inside = let size = its.size in let low = source-within n wear its.its_wear in omega (arith, size, low)
 
   abbrev line_there : List Line
-  line_there = with_line n wear a plain lines
+  line_there = with_levelled_line n wear a plain lines
 
   abbrev copy_there : List Line
   copy_there = with_copy n wear line_there
@@ -170,8 +170,8 @@ module _ (setup : Setup) (a : ℕ) (plain : Line) (old new : Gapped) (lines : Li
   place_inside : place_of old.lines old.wear a < data_lines setup.shape
   place_inside = let most = place_most in omega (arith, most, size)
 
-  left_at : (stage : Stage) (to : Parts) (answer : Result Moved WriteFault) → IsEnd answer stage
-      → HasLines setup (lines_at stage old.lines old.wear a plain lines) to → Left to answer
+  left_at : (stage : MoveStage) (to : Parts) (answer : Result Moved WriteFault) → IsWriteEnd answer stage
+      → HasLines setup (write_lines_at stage old.lines old.wear a plain lines) to → Left to answer
   left_at stage to answer ended holds =
       record {
         stage = stage;
@@ -194,11 +194,11 @@ module _ (setup : Setup) (a : ℕ) (plain : Line) (old new : Gapped) (lines : Li
       ]
 
   tried_left : (to : Parts) (tried : Result (Unit {0}) Fault) → IsMovedTo setup old.lines old.wear a plain lines to tried
-      → Left to (answer_by tried)
+      → Left to (write_answer_by tried)
   tried_left to tried it = go tried it.stage it.ended it.holds
     where
-      go : (tried : Result (Unit {0}) Fault) (stage : Stage) → IsMoveEnd tried stage
-          → HasLines setup (lines_at stage old.lines old.wear a plain lines) to → Left to (answer_by tried)
+      go : (tried : Result (Unit {0}) Fault) (stage : MoveStage) → IsMoveEnd tried stage
+          → HasLines setup (write_lines_at stage old.lines old.wear a plain lines) to → Left to (write_answer_by tried)
       go (Ok done) moved end holds = left_at moved to (Ok Move.Made) tt holds
       go (Err (Fail.Spent page)) written end holds = left_at written to (Ok (Move.Held page)) tt holds
       go (Err (Fail.Spent page)) copied end holds = left_at copied to (Ok (Move.Held page)) tt holds
@@ -211,19 +211,19 @@ module _ (setup : Setup) (a : ℕ) (plain : Line) (old new : Gapped) (lines : Li
   gone_on : (from between to : Parts) (answer : Result Moved WriteFault) (made : Result Ctr Fault)
       → HasLines setup lines from → AreTrusted setup from
       → HasWrittenLine setup (whole_write (place_of old.lines old.wear a) plain) from between made
-      → HasGoneOn made setup old new between to answer → Left to answer
+      → HasWriteGoneOn made setup old new between to answer → Left to answer
   gone_on from between to answer (Ok ctr) had trusted it then =
       due_cases (nat_lt (old.count + 1) old.every) _ _ then
       (λ (counted : HasCounted old new between to answer).
       subst (λ r. Left to r) (sym counted.its_answer)
-      (left_at written to (Ok Move.Not) tt (subst (HasLines setup (with_line old.lines old.wear a plain lines)) (sym counted.nothing_else) there)))
+      (left_at written to (Ok Move.Not) tt (subst (HasLines setup (with_levelled_line old.lines old.wear a plain lines)) (sym counted.nothing_else) there)))
       (λ (tried : HasTriedMove setup old new between to answer).
       subst (λ r. Left to r) (sym tried.its_answer)
       (tried_left to tried.tried
       (moved_to setup old.lines old.wear a plain lines its between to tried.tried there
       (trusted_after_write setup (whole_write (place_of old.lines old.wear a) plain) from between (Ok ctr) it trusted) tried.was_tried)))
     where
-      there : HasLines setup (with_line old.lines old.wear a plain lines) between
+      there : HasLines setup (with_levelled_line old.lines old.wear a plain lines) between
       there = written_lines setup (place_of old.lines old.wear a) plain from between ctr lines place_low place_inside whole had trusted it
   gone_on from between to answer (Err fault) had trusted it then =
       subst (λ r. Left to r) (sym then.its_answer)

@@ -22,7 +22,7 @@ use Rattle.start_gap.specs.declared.gapped.Moved.TheVariants as Move
 use Rattle.start_gap.specs.declared.gapped.WriteFault.{WriteFault}
 use Rattle.start_gap.specs.Record.{recorded, wear_record}
 use Rattle.start_gap.specs.Wear.{place_of, next_wear, source_of}
-use Rattle.start_gap.specs.Logical.{IsLevelled, Stage, begun, written, copied, moved, lines_at, memory_at, wear_at}
+use Rattle.start_gap.specs.Logical.{IsLevelled, MoveStage, begun, written, copied, moved, write_lines_at, write_memory_at, wear_at}
 
 -- the logical lines of a memory: two of its data lines are the gap's and the record's
 abbrev pub logical_lines : Shape → ℕ
@@ -45,12 +45,12 @@ pub record HasReadRecord (setup : Setup) (every : ℕ) (line : Line) (old new : 
 
 -- The line of the record is read, and nothing else is done. What the parts are then is said of an engine: of
 -- the one that is kept, or of the one that is dropped.
-abbrev pub HasOpened : Setup → ℕ → Parts → (EngineState → Parts) → Result Gapped GapFault → Type 0
-HasOpened setup every old now (Ok gapped) =
+abbrev pub HasGappedOpened : Setup → ℕ → Parts → (EngineState → Parts) → Result Gapped GapFault → Type 0
+HasGappedOpened setup every old now (Ok gapped) =
     (line : Line) × HasReadRecord setup every line old (now gapped.engine) gapped
-HasOpened setup every old now (Err (Engine fault)) =
+HasGappedOpened setup every old now (Err (Engine fault)) =
     (dropped : EngineState) × HasReadLine setup (logical_lines setup.shape + 1) old (now dropped) (Err fault)
-HasOpened setup every old now (Err (BadWear line)) =
+HasGappedOpened setup every old now (Err (BadWear line)) =
     (dropped : EngineState) × HasReadLine setup (logical_lines setup.shape + 1) old (now dropped) (Ok line)
     × (recorded (logical_lines setup.shape) line ≡ None)
 
@@ -110,10 +110,10 @@ wear_by (Ok done) n wear = next_wear n wear
 wear_by (Err fault) n wear = wear
 
 -- the answer of a write whose own line was written, by that of its move
-abbrev pub answer_by : Result (Unit {0}) Fault → Result Moved WriteFault
-answer_by (Ok done) = Ok Move.Made
-answer_by (Err (Fail.Spent page)) = Ok (Move.Held page)
-answer_by (Err fault) = Err (record { fault = fault; written = true })
+abbrev pub write_answer_by : Result (Unit {0}) Fault → Result Moved WriteFault
+write_answer_by (Ok done) = Ok Move.Made
+write_answer_by (Err (Fail.Spent page)) = Ok (Move.Held page)
+write_answer_by (Err fault) = Err (record { fault = fault; written = true })
 
 -- this wear and this count, and else as it was
 pub record HasWear (wear : Wear) (count : ℕ) (old new : Gapped) : Type 0 where
@@ -127,7 +127,7 @@ pub record HasTriedMove (setup : Setup) (old new : Gapped) (from to : Parts) (an
     Type 0 where
   pub tried : Result (Unit {0}) Fault
   pub was_tried : HasMovedGap setup old.lines old.wear from to tried
-  pub its_answer : answer ≡ answer_by tried
+  pub its_answer : answer ≡ write_answer_by tried
   pub its_wear : HasWear (wear_by tried old.lines old.wear) 0 old new
 
 -- no move is due yet
@@ -137,18 +137,18 @@ pub record HasCounted (old new : Gapped) (from to : Parts) (answer : Result Move
   pub nothing_else : to ≡ from
 
 -- the line wasn't written, and nothing else was done
-pub record HasRefused (fault : Fault) (old new : Gapped) (from to : Parts) (answer : Result Moved WriteFault) : Type 0 where
+pub record HasWriteRefused (fault : Fault) (old new : Gapped) (from to : Parts) (answer : Result Moved WriteFault) : Type 0 where
   pub its_answer : answer ≡ Err (record { fault = fault; written = false })
   pub its_wear : HasWear old.wear old.count old new
   pub nothing_else : to ≡ from
 
 -- what follows the line's own write: at each `every`th write a move
-abbrev pub HasGoneOn :
+abbrev pub HasWriteGoneOn :
     Result Ctr Fault → Setup → Gapped → Gapped → Parts → Parts → Result Moved WriteFault → Type 0
-HasGoneOn (Ok ctr) setup old new from to answer =
+HasWriteGoneOn (Ok ctr) setup old new from to answer =
     MatchBool (nat_lt (old.count + 1) old.every) (HasCounted old new from to answer)
     (HasTriedMove setup old new from to answer)
-HasGoneOn (Err fault) setup old new from to answer = HasRefused fault old new from to answer
+HasWriteGoneOn (Err fault) setup old new from to answer = HasWriteRefused fault old new from to answer
 
 -- the line is written to its place, and then what is due is done
 pub record HasLevelledWrite (setup : Setup) (a : ℕ) (plain : Line) (old new : Gapped) (from to : Parts)
@@ -156,7 +156,7 @@ pub record HasLevelledWrite (setup : Setup) (a : ℕ) (plain : Line) (old new : 
   pub made : Result Ctr Fault
   pub between : Parts
   pub was_written : HasWrittenLine setup (whole_write (place_of old.lines old.wear a) plain) from between made
-  pub then : HasGoneOn made setup old new between to answer
+  pub then : HasWriteGoneOn made setup old new between to answer
 
 -- ---- what becomes of the logical lines
 
@@ -165,33 +165,33 @@ IsUnspent (Fail.Spent page) = ⊥
 IsUnspent fault = ⊤
 
 -- the stages at which a write may end, by its answer; nothing is written where its line is spent
-abbrev pub IsEnd : Result Moved WriteFault → Stage → Type 0
-IsEnd (Ok Move.Not) written = ⊤
-IsEnd (Ok Move.Made) moved = ⊤
-IsEnd (Ok (Move.Held page)) written = ⊤
-IsEnd (Ok (Move.Held page)) copied = ⊤
-IsEnd (Err fault) begun = fault.written ≡ false
-IsEnd (Err fault) written = IsUnspent fault.fault
-IsEnd (Err fault) copied = (fault.written ≡ true) × IsUnspent fault.fault
-IsEnd (Err fault) moved = (fault.written ≡ true) × IsUnspent fault.fault
-IsEnd answer stage = ⊥
+abbrev pub IsWriteEnd : Result Moved WriteFault → MoveStage → Type 0
+IsWriteEnd (Ok Move.Not) written = ⊤
+IsWriteEnd (Ok Move.Made) moved = ⊤
+IsWriteEnd (Ok (Move.Held page)) written = ⊤
+IsWriteEnd (Ok (Move.Held page)) copied = ⊤
+IsWriteEnd (Err fault) begun = fault.written ≡ false
+IsWriteEnd (Err fault) written = IsUnspent fault.fault
+IsWriteEnd (Err fault) copied = (fault.written ≡ true) × IsUnspent fault.fault
+IsWriteEnd (Err fault) moved = (fault.written ≡ true) × IsUnspent fault.fault
+IsWriteEnd answer stage = ⊥
 
 -- Where the lines were these, they are at a stage of the write now: its own line is there whole or as it was. And
 -- where they held a logical memory, they hold it without the line or with it, under the wear that they record.
 pub record IsLeftLevelled (setup : Setup) (a : ℕ) (plain : Line) (old : Gapped) (lines : List Line) (to : Parts)
     (answer : Result Moved WriteFault) : Type 0 where
-  pub stage : Stage
-  pub ended : IsEnd answer stage
-  pub its_lines : HasLines setup (lines_at stage old.lines old.wear a plain lines) to
+  pub stage : MoveStage
+  pub ended : IsWriteEnd answer stage
+  pub its_lines : HasLines setup (write_lines_at stage old.lines old.wear a plain lines) to
   pub levelled :
       (memory : List Line) → IsLevelled old.lines lines old.wear memory
-      → IsLevelled old.lines (lines_at stage old.lines old.wear a plain lines)
-      (wear_at stage old.lines old.wear) (memory_at stage a plain memory)
+      → IsLevelled old.lines (write_lines_at stage old.lines old.wear a plain lines)
+      (wear_at stage old.lines old.wear) (write_memory_at stage a plain memory)
 
 -- how the engine stands after a write
-abbrev pub outcome_by : Result Moved WriteFault → Outcome
-outcome_by (Ok what) = going
-outcome_by (Err fault) = outcome_of_fault fault.fault
+abbrev pub write_outcome_by : Result Moved WriteFault → Outcome
+write_outcome_by (Ok what) = going
+write_outcome_by (Err fault) = outcome_of_fault fault.fault
 
 -- a write whose own line was written isn't spent: its move is held
 abbrev pub IsSpentUnwritten : Result Moved WriteFault → Type 0
@@ -204,6 +204,6 @@ IsCutOrSpent Fail.Cut = ⊤
 IsCutOrSpent (Fail.Spent page) = ⊤
 IsCutOrSpent fault = ⊥
 
-abbrev pub IsSoundAnswer : Result Moved WriteFault → Type 0
-IsSoundAnswer (Ok what) = ⊤
-IsSoundAnswer (Err fault) = IsCutOrSpent fault.fault
+abbrev pub IsSoundWriteAnswer : Result Moved WriteFault → Type 0
+IsSoundWriteAnswer (Ok what) = ⊤
+IsSoundWriteAnswer (Err fault) = IsCutOrSpent fault.fault

@@ -62,7 +62,7 @@ pub struct Gapped {
 }
 
 impl Gapped {
-    ghost use Rattle.start_gap.specs.Gapped.{HasLines, HasOpened, HasWearOf, HasMovedGap, HasLevelledWrite, IsLeftLevelled, IsSoundAnswer, IsSpentUnwritten, HasWear, logical_lines, answer_by, outcome_by, wear_by};
+    ghost use Rattle.start_gap.specs.Gapped.{HasLines, HasGappedOpened, HasWearOf, HasMovedGap, HasLevelledWrite, IsLeftLevelled, IsSoundWriteAnswer, IsSpentUnwritten, HasWear, logical_lines, write_answer_by, write_outcome_by, wear_by};
 
     /// Reads the record of the wear. `BadWear` comes exactly where its line is no record.
     pub fn open<B: Board, S: Suite, A: Audit>(
@@ -74,7 +74,7 @@ impl Gapped {
     ) -> Result<Gapped, GapFault>
         requires every { 1 ≤ every }
         requires usable { IsUsable engine.shape engine (B.device board.old) (A.ledger audit.old) }
-        ensures opened { HasOpened (record { shape = engine.shape; formulas = S.formulas_of (S.keys suite.old) }) every
+        ensures opened { HasGappedOpened (record { shape = engine.shape; formulas = S.formulas_of (S.keys suite.old) }) every
             (parts_of engine (B.device board.old) (A.ledger audit.old) (S.tags suite.old) (S.digests suite.old))
             (λ now. parts_of now (B.device board.new) (A.ledger audit.new) (S.tags suite.new) (S.digests suite.new)) result }
         ensures levelled { AreTrusted (record { shape = engine.shape; formulas = S.formulas_of (S.keys suite.old) })
@@ -178,13 +178,13 @@ impl Gapped {
             (parts_of self.new.engine (B.device board.new) (A.ledger audit.new) (S.tags suite.new) (S.digests suite.new)) result }
         ensures trusted { AreTrusted (record { shape = self.old.engine.shape; formulas = S.formulas_of (S.keys suite.old) })
             (parts_of self.old.engine (B.device board.old) (A.ledger audit.old) (S.tags suite.old) (S.digests suite.old))
-            → LeavesTrusted (record { shape = self.old.engine.shape; formulas = S.formulas_of (S.keys suite.old) }) (outcome_by result)
+            → LeavesTrusted (record { shape = self.old.engine.shape; formulas = S.formulas_of (S.keys suite.old) }) (write_outcome_by result)
             (parts_of self.new.engine (B.device board.new) (A.ledger audit.new) (S.tags suite.new) (S.digests suite.new)) }
         ensures sound { AreSound (record { shape = self.old.engine.shape; formulas = S.formulas_of (S.keys suite.old) })
             (parts_of self.old.engine (B.device board.old) (A.ledger audit.old) (S.tags suite.old) (S.digests suite.old))
-            → LeavesSound (record { shape = self.old.engine.shape; formulas = S.formulas_of (S.keys suite.old) }) (outcome_by result)
+            → LeavesSound (record { shape = self.old.engine.shape; formulas = S.formulas_of (S.keys suite.old) }) (write_outcome_by result)
             (parts_of self.new.engine (B.device board.new) (A.ledger audit.new) (S.tags suite.new) (S.digests suite.new))
-            × IsSoundAnswer result }
+            × IsSoundWriteAnswer result }
         ensures spent { IsSpentUnwritten result }
         ensures keys { S.keys suite.new ≡ S.keys suite.old }
         ensures usable { IsUsable self.old.engine.shape self.new.engine (B.device board.new) (A.ledger audit.new) }
@@ -263,7 +263,7 @@ impl Gapped {
 
     // The answer of a write whose own line was written, by that of its move.
     fn answer_of_move(tried: Result<(), Fault>) -> Result<Moved, WriteFault>
-        ensures { result ≡ answer_by tried }
+        ensures { result ≡ write_answer_by tried }
     {
         match tried {
             Ok(()) => Ok(Moved::Made),

@@ -3,8 +3,8 @@ use Rattle.std.specs.Prelude.{ℕ, nat_lt, List, [], ◌∷◌, length, find, Op
 use Rattle.std.specs.Str.{bytes_eq}
 use Rattle.pmem_base.specs.declared.commands.Kind.{Kind}
 use Rattle.pmem_base.specs.declared.lines.Line.{Line}
-use Rattle.collision_witness.specs.Words.{Word, words_of, without_return, no_word, ◌>>=◌}
-use Rattle.plain_model.specs.Grammar.{is_comment, one_number, poke_values}
+use Rattle.collision_witness.specs.Words.{Word, words_of, without_return, ◌>>=◌}
+use Rattle.plain_model.specs.Grammar.{is_comment, poke_values}
 use Rattle.trace_text.specs.Talks.{Sort, skipped, asked, faulty}
 
 abbrev pub Entry : Type 0
@@ -15,18 +15,18 @@ abbrev pub entry_of_words : List Word → Option Entry
 entry_of_words [] = None
 entry_of_words (name ∷ words) = if is_comment name then None else Some (name, words)
 
-unfoldable pub entry_of : List ℕ → Result (Option Entry) Kind
-entry_of line =
+unfoldable pub entry_of_line : List ℕ → Result (Option Entry) Kind
+entry_of_line line =
     if nat_lt 1024 (length line) then Err Kind.Long
     else Ok (entry_of_words (words_of (without_return line)))
 
-abbrev pub command_of_entry : {C : Type 0} → (Word → List Word → Result C Kind) → Option Entry → Result (Option C) Kind
-command_of_entry command_of None = Ok None
-command_of_entry command_of (Some entry) = command_of entry.0 entry.1 >>= λ command. Ok (Some command)
+abbrev pub command_of_line : {C : Type 0} → (Word → List Word → Result C Kind) → Option Entry → Result (Option C) Kind
+command_of_line command_of None = Ok None
+command_of_line command_of (Some entry) = command_of entry.0 entry.1 >>= λ command. Ok (Some command)
 
 -- what a line asks for, where a first word and those after it ask for a command
 abbrev pub reading_by : {C : Type 0} → (Word → List Word → Result C Kind) → List ℕ → Result (Option C) Kind
-reading_by command_of line = entry_of line >>= command_of_entry command_of
+reading_by command_of line = entry_of_line line >>= command_of_line command_of
 
 -- what a line is to a grammar, by what it asks for
 abbrev pub sort_of_reading : {C : Type 0} → Result (Option C) Kind → Sort
@@ -35,17 +35,6 @@ sort_of_reading (Ok (Some command)) = asked
 sort_of_reading (Err kind) = faulty kind
 
 -- ---- the words after the first one: how many first, then each from the left
-
--- a command of no further word
-abbrev pub alone : {C : Type 0} → C → List Word → Result C Kind
-alone command words = do
-  none ← no_word words
-  Ok command
-
-abbrev pub with_number : {C : Type 0} → (ℕ → C) → List Word → Result C Kind
-with_number command words = do
-  n ← one_number words
-  Ok (command n)
 
 abbrev pub with_number_and_line : {C : Type 0} → (ℕ → Line → C) → List Word → Result C Kind
 with_number_and_line command words = do

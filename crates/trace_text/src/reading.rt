@@ -5,7 +5,7 @@ ghost use Rattle.pmem_base.specs.declared.commands.Command.TheVariants as Do;
 ghost use Rattle.pmem_base.specs.Ranges.{IsCommand};
 ghost use Rattle.collision_witness.specs.Words.{words_of, no_word};
 ghost use Rattle.collision_witness.specs.Views.{map_ok};
-ghost use Rattle.trace_text.specs.Entries.{entry_of};
+ghost use Rattle.trace_text.specs.Entries.{entry_of_line};
 ghost use Rattle.plain_model.specs.Grammar.{verbs, command_among, reading_of, with_port, post_with, part_with, read_with, poke_values};
 ghost use Rattle.trace_text.specs.Lines.{later_verbs};
 ghost use Rattle.trace_text.specs.Commands.{HasPortWithin, HasPartAtFront, IsWritable};
@@ -224,9 +224,9 @@ pub(crate) fn is_in_range(command: Command)
 
 /// The first word of a line, and the text behind it. The line is its bytes before its LF or the end of the trace,
 /// with its CR. A blank line and a comment have none.
-#[tactic(auto, unfolding(crate::specs::Entries::entry_of))]
+#[tactic(auto, unfolding(crate::specs::Entries::entry_of_line))]
 pub fn first_word(line: &[u8]) -> Result<Option<(&[u8], &[u8])>, Kind>
-    ensures { map_ok (option_map (λ found. (found.0.now, words_of found.1.now))) result ≡ entry_of line.now }
+    ensures { map_ok (option_map (λ found. (found.0.now, words_of found.1.now))) result ≡ entry_of_line line.now }
 {
     if line.len() > 1024 {
         return Err(Kind::Long);
@@ -243,7 +243,7 @@ pub fn first_word(line: &[u8]) -> Result<Option<(&[u8], &[u8])>, Kind>
 /// The command of a line, which is its bytes before its LF or the end of the trace, with its CR. A
 /// blank line and a comment have none. An error tells the first rule that the line breaks. What
 /// `write_command` writes is read back.
-#[tactic(auto, unfolding(plain_model::specs::Grammar::reading_among, plain_model::specs::Grammar::reading_of_words, crate::specs::Entries::entry_of))]
+#[tactic(auto, unfolding(plain_model::specs::Grammar::reading_among, plain_model::specs::Grammar::reading_of_words, crate::specs::Entries::entry_of_line))]
 pub fn read_command(line: &[u8]) -> Result<Option<Command>, Kind>
     ensures reading { result ≡ reading_of line.now }
     ensures range { IfOk result (λ found. IfSome found IsCommand) }

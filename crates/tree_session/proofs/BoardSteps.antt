@@ -9,7 +9,7 @@ use Rattle.board.specs.Device.{Device}
 use Rattle.board.specs.Memory.{BoardMemory}
 use Rattle.watched_board.specs.declared.taken.Taken.{Taken}
 use Rattle.watched_board.specs.Watching.{counted, cuts_after, steps_in, step_limit, device_during, none_taken, IsWatched}
-use Rattle.tree_session.specs.Answered.{TakesSteps, IsCutAt}
+use Rattle.tree_session.specs.Answered.{TakesTreeSteps, IsTreeCutAt}
 
 -- ---- counts
 
@@ -60,7 +60,7 @@ module _ (old new : BoardMemory) (taken : Taken) (watched : IsWatched old new ta
       watched.in_count.writes watched.in_count.latches in
       record { never_falls = both.0; exact = both.1 }
 
-  pub goes_on : new.powered ≡ true → TakesSteps (steps_in taken) true old new
+  pub goes_on : new.powered ≡ true → TakesTreeSteps (steps_in taken) true old new
   goes_on powered =
       record {
         rise = rise;
@@ -69,7 +69,7 @@ module _ (old new : BoardMemory) (taken : Taken) (watched : IsWatched old new ta
         snapshot = watched.follows.snapshot;
       }
 
-  pub cut_off : new.powered ≡ false → steps_in taken < step_limit → IsCutAt (steps_in taken) old new
+  pub cut_off : new.powered ≡ false → steps_in taken < step_limit → IsTreeCutAt (steps_in taken) old new
   cut_off off below =
       record {
         rise = rise;
@@ -116,15 +116,15 @@ taken-exact n count rise few = let is : count ≡ 0 + n = rise.exact (omega (ari
 -- ---- before power came on, and once the board rests
 
 -- the call began as power came on
-pub from_dark : (s : ℕ) (power : Bool) (old new : BoardMemory) → TakesSteps s power (record old { powered = true }) new → TakesSteps s power old new
+pub from_dark : (s : ℕ) (power : Bool) (old new : BoardMemory) → TakesTreeSteps s power (record old { powered = true }) new → TakesTreeSteps s power old new
 from_dark s power old new it =
     record { rise = it.rise; fuse = it.fuse; power = it.power; snapshot = it.snapshot }
 
-pub cut_from_dark : (s : ℕ) (old new : BoardMemory) → IsCutAt s (record old { powered = true }) new → IsCutAt s old new
+pub cut_from_dark : (s : ℕ) (old new : BoardMemory) → IsTreeCutAt s (record old { powered = true }) new → IsTreeCutAt s old new
 cut_from_dark s old new it =
     record { rise = it.rise; fuse = it.fuse; power = it.power; snapshot = it.snapshot }
 
 -- and power goes off after it
-pub then_rests : (s : ℕ) (old new : BoardMemory) → TakesSteps s true old new → TakesSteps s false old (record new { powered = false })
+pub then_rests : (s : ℕ) (old new : BoardMemory) → TakesTreeSteps s true old new → TakesTreeSteps s false old (record new { powered = false })
 then_rests s old new it =
     record { rise = it.rise; fuse = it.fuse; power = refl; snapshot = it.snapshot }

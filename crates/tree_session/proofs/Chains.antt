@@ -20,8 +20,8 @@ use Rattle.tree_session.specs.declared.commands.TreeCommand.TheVariants as Do
 use Rattle.tree_session.specs.declared.answers.TreeAnswer.{TreeAnswer}
 use Rattle.tree_session.specs.declared.answers.TreeAnswer.TheVariants as Say
 use Rattle.tree_session.specs.State.{SessionState, IsNewTree}
-use Rattle.tree_session.specs.Answered.{decided, device_node, device_tag, IsPathTampered, IsSlotTampered, IsAnswered, IsPlainKept, IsNodeExhibit, IsDataExhibit, IsShadowExhibit, ShowsEngine}
-use Rattle.tree_session.specs.Guarantees.{TreeReply, AreAnswered, IsSession, History, first_history, history_with, history_after, IsAllowed, AreAllowed, MayShow, version_by, ShowsNode, ShowsLine, ShowsClash, IsTreeKept, IsTreeShown, IsTreeUntouched, IsNoTampering, IsUnrefused}
+use Rattle.tree_session.specs.Answered.{tree_decided, device_node, device_tag, IsPathTampered, IsSlotTampered, IsTreeAnswered, IsPlainKept, IsNodeExhibit, IsDataExhibit, IsShadowExhibit, ShowsEngine}
+use Rattle.tree_session.specs.Guarantees.{TreeReply, AreTreeAnswered, IsTreeSession, History, first_history, history_with, history_after, IsAllowed, AreAllowed, MayShow, version_by, ShowsNode, ShowsLine, ShowsClash, IsTreeKept, IsTreeShown, IsTreeUntouched, IsNoTampering, IsTreeAnswerUnrefused}
 use Rattle.tree_session.proofs.Histories.{history_of, history-equal, Follows, follows, path-kept, slot-kept, hurt-kept}
 
 -- ---- the beginning
@@ -36,11 +36,11 @@ counts-first setup first new = ap length new.counts ∙ length-replicate (tree_l
 
 -- ---- chains
 
-next : (setup : Setup) (first : SessionState) (reply : TreeReply) (second : SessionState) → length first.plain.counts ≡ tree_lines setup.shape → IsAnswered setup first reply.command reply.answer second
+next : (setup : Setup) (first : SessionState) (reply : TreeReply) (second : SessionState) → length first.plain.counts ≡ tree_lines setup.shape → IsTreeAnswered setup first reply.command reply.answer second
     → Follows setup.shape first.plain second.plain reply.command reply.answer
 next setup first reply second count it = follows setup first.plain second.plain reply.command reply.answer count it.answered
 
-allowed-chain : (setup : Setup) (first last : SessionState) (replies : List TreeReply) → length first.plain.counts ≡ tree_lines setup.shape → AreAnswered setup first replies last
+allowed-chain : (setup : Setup) (first last : SessionState) (replies : List TreeReply) → length first.plain.counts ≡ tree_lines setup.shape → AreTreeAnswered setup first replies last
     → AreAllowed setup.shape (history_of first.plain) replies
 allowed-chain setup first last [] count it = tt
 allowed-chain setup first last (reply ∷ replies) count it =
@@ -49,14 +49,14 @@ allowed-chain setup first last (reply ∷ replies) count it =
       subst (λ h. AreAllowed setup.shape h replies) step.history (allowed-chain setup it.0 last replies (step.count ∙ count) it.2),
     )
 
-history-chain : (setup : Setup) (first last : SessionState) (replies : List TreeReply) → length first.plain.counts ≡ tree_lines setup.shape → AreAnswered setup first replies last
+history-chain : (setup : Setup) (first last : SessionState) (replies : List TreeReply) → length first.plain.counts ≡ tree_lines setup.shape → AreTreeAnswered setup first replies last
     → history_of last.plain ≡ history_after setup.shape (history_of first.plain) replies
 history-chain setup first last [] count it = ap (λ (s : SessionState). history_of s.plain) it
 history-chain setup first last (reply ∷ replies) count it =
     let step = next setup first reply it.0 count it.1 in
     history-chain setup it.0 last replies (step.count ∙ count) it.2 ∙ ap (λ h. history_after setup.shape h replies) step.history
 
-unshown-chain : (setup : Setup) (first last : SessionState) (replies : List TreeReply) → first.shown ≡ None → AreAnswered setup first replies last → last.shown ≡ None
+unshown-chain : (setup : Setup) (first last : SessionState) (replies : List TreeReply) → first.shown ≡ None → AreTreeAnswered setup first replies last → last.shown ≡ None
 unshown-chain setup first last [] none it = ap (λ (s : SessionState). s.shown) it ∙ none
 unshown-chain setup first last (reply ∷ replies) none it = unshown-chain setup it.0 last replies (it.1.kept.shown ∙ none) it.2
 
@@ -66,7 +66,7 @@ kept setup replies last session =
     subst (λ h. AreAllowed setup.shape h replies) (history-first setup session.first session.is_new)
     (allowed-chain setup session.first last replies (counts-first setup session.first session.is_new) session.answered)
 
-history-last : (setup : Setup) (replies : List TreeReply) (last : SessionState) → IsSession setup replies last
+history-last : (setup : Setup) (replies : List TreeReply) (last : SessionState) → IsTreeSession setup replies last
     → history_of last.plain ≡ history_after setup.shape (first_history setup.shape) replies
 history-last setup replies last session =
     history-chain setup session.first last replies (counts-first setup session.first session.is_new) session.answered
@@ -123,7 +123,7 @@ shows-clash : (setup : Setup) (before after : PlainTree) (exhibit : Exhibit) →
 shows-clash setup before after exhibit plain it =
     record { position = it.position; first = _; second = _; place = slot-kept setup.shape before after plain it.place; its = it.its }
 
-may-show : (setup : Setup) (before after : PlainTree) (command : TreeCommand) (exhibit : Exhibit) → decided setup.shape before command ≡ None → IsPlainKept before after
+may-show : (setup : Setup) (before after : PlainTree) (command : TreeCommand) (exhibit : Exhibit) → tree_decided setup.shape before command ≡ None → IsPlainKept before after
     → ShowsEngine setup before command after exhibit → MayShow setup.shape (history_of before) command exhibit
 may-show setup before after (Do.Write a line) exhibit undecided plain it =
     let served = served-from before.board.powered a (tree_lines setup.shape) Say.Off Say.Range undecided in
@@ -274,7 +274,7 @@ no_shadow g history (Do.Poke d line) first found s clear it = it
 no_shadow g history Do.Snap first found s clear it = cc
 no_shadow g history (Do.Back d) first found s clear it = it
 
-unrefused : (g : Shape) (history : History) (command : TreeCommand) (answer : TreeAnswer) → IsClear history → IsAllowed g history command answer → IsUnrefused answer
+unrefused : (g : Shape) (history : History) (command : TreeCommand) (answer : TreeAnswer) → IsClear history → IsAllowed g history command answer → IsTreeAnswerUnrefused answer
 unrefused g history command (Say.RefusedNode x s) clear it = no_node g history command x s clear it
 unrefused g history command (Say.RefusedData b s) clear it = no_data g history command b s clear it
 unrefused g history command (Say.RefusedShadow first found s) clear it = no_shadow g history command first found s clear it
@@ -292,10 +292,10 @@ unrefused g history command (Say.CutLost s) clear it = tt
 unrefused g history command (Say.Cut s) clear it = tt
 
 unrefused-chain : (g : Shape) (history : History) (replies : List TreeReply) → IsClear history → All (λ (reply : TreeReply). IsNoTampering reply.command reply.answer) replies → AreAllowed g history replies
-    → All (λ (reply : TreeReply). IsUnrefused reply.answer) replies
-unrefused-chain g history [] clear none it = All-nil (λ (reply : TreeReply). IsUnrefused reply.answer)
+    → All (λ (reply : TreeReply). IsTreeAnswerUnrefused reply.answer) replies
+unrefused-chain g history [] clear none it = All-nil (λ (reply : TreeReply). IsTreeAnswerUnrefused reply.answer)
 unrefused-chain g history (reply ∷ replies) clear none it =
-    All-cons (λ (reply : TreeReply). IsUnrefused reply.answer) reply replies (unrefused g history reply.command reply.answer clear it.0)
+    All-cons (λ (reply : TreeReply). IsTreeAnswerUnrefused reply.answer) reply replies (unrefused g history reply.command reply.answer clear it.0)
     (unrefused-chain g (history_with g history reply.command reply.answer) replies (clear-next g history reply.command reply.answer (All-head (λ (reply : TreeReply). IsNoTampering reply.command reply.answer) reply replies none) clear) (All-tail (λ (reply : TreeReply). IsNoTampering reply.command reply.answer) reply replies none) it.1)
 
 clear-chain : (g : Shape) (history : History) (replies : List TreeReply) → IsClear history → All (λ (reply : TreeReply). IsNoTampering reply.command reply.answer) replies → IsClear (history_after g history replies)

@@ -16,9 +16,9 @@ use Rattle.counter_tree.specs.Watch.{WatchState, last_seal_of, IsWatchOf}
 use Rattle.watched_board.specs.declared.taken.Taken.{Taken}
 use Rattle.watched_board.specs.Watching.{device_during, none_taken, IsWatched}
 use Rattle.asit_shadow.specs.State.{TreeState}
-use Rattle.asit_shadow.specs.Invariants.{IsAnchored}
-use Rattle.asit_shadow.specs.Parts.{Parts, parts_of, AreTrusted, HoldsSeal, HoldsSlot, IsUsable, IsWatchReady}
-use Rattle.asit_shadow.specs.Calls.{CallEffect, KeepsWatch}
+use Rattle.asit_shadow.specs.Invariants.{IsTreeAnchored}
+use Rattle.asit_shadow.specs.Parts.{TreeEngineParts, tree_parts_of, AreTreeTrusted, HoldsTreeSeal, HoldsSlot, IsTreeUsable, IsWatchReady}
+use Rattle.asit_shadow.specs.Calls.{TreeCallEffect, KeepsWatch}
 use Rattle.asit_shadow.specs.Recovering.{rest_of, IsRestUsable}
 use Rattle.tree_session.specs.Answered.{IsRooted}
 use Rattle.tree_session.specs.World.{TreeParts, plain_of_parts, IsTreeOn, IsTreeOff, IsTreeBy, IsTreeOpen, IsTreeEnded, IsTreeWorld}
@@ -87,7 +87,7 @@ unpowered_by setup p world none there = (off_in setup p (open_in setup p world n
 
 -- ---- what calls ask
 
-pub watch_ready : (setup : Setup) (regs : Regs) (watch : WatchState) → IsAnchored setup regs watch → IsWatchReady setup.shape watch
+pub watch_ready : (setup : Setup) (regs : Regs) (watch : WatchState) → IsTreeAnchored setup regs watch → IsWatchReady setup.shape watch
 watch_ready setup regs watch anchored =
     record {
       seal_count = anchored.of_setup.seal_count;
@@ -97,7 +97,7 @@ watch_ready setup regs watch anchored =
     }
 
 pub usable_on : (setup : Setup) (engine : TreeState) (device : Device) (watch : WatchState) → device.size ≡ tree_size setup.shape
-    → AreTrusted setup (parts_of engine device watch) → IsUsable setup.shape (parts_of engine device watch)
+    → AreTreeTrusted setup (tree_parts_of engine device watch) → IsTreeUsable setup.shape (tree_parts_of engine device watch)
 usable_on setup engine device watch size trusted =
     record {
       watch = watch_ready setup device.regs watch trusted.anchored;
@@ -105,7 +105,7 @@ usable_on setup engine device watch size trusted =
       no_group = λ _. trusted.no_group;
     }
 
-pub usable_off : (setup : Setup) (device : Device) (watch : WatchState) → device.size ≡ tree_size setup.shape → IsAnchored setup device.regs watch
+pub usable_off : (setup : Setup) (device : Device) (watch : WatchState) → device.size ≡ tree_size setup.shape → IsTreeAnchored setup device.regs watch
     → IsRestUsable setup.shape (rest_of device watch)
 usable_off setup device watch size anchored =
     record {
@@ -115,14 +115,14 @@ usable_off setup device watch size anchored =
 
 -- ---- rooted
 
-pub rooted_on : (setup : Setup) (p : TreeParts) → IsShape setup.shape → IsAnchored setup p.board.regs p.watch → p.board.regs.group.items ≡ [] → IsRooted setup (plain_of_parts setup p)
+pub rooted_on : (setup : Setup) (p : TreeParts) → IsShape setup.shape → IsTreeAnchored setup p.board.regs p.watch → p.board.regs.group.items ≡ [] → IsRooted setup (plain_of_parts setup p)
 rooted_on setup p shape anchored none =
     record {
       root = root-is setup p.watch p.board.regs shape anchored (plain_of_parts setup p) (plain_is setup p p.board.regs shape anchored);
       no_group = λ _. none;
     }
 
-pub rooted_off : (setup : Setup) (p : TreeParts) → IsShape setup.shape → IsAnchored setup p.board.regs p.watch → p.board.powered ≡ false → IsRooted setup (plain_of_parts setup p)
+pub rooted_off : (setup : Setup) (p : TreeParts) → IsShape setup.shape → IsTreeAnchored setup p.board.regs p.watch → p.board.powered ≡ false → IsRooted setup (plain_of_parts setup p)
 rooted_off setup p shape anchored off =
     record {
       root = root-is setup p.watch p.board.regs shape anchored (plain_of_parts setup p) (plain_is setup p p.board.regs shape anchored);
@@ -158,11 +158,11 @@ pub record EngineCall : Type 0 where
   pub watched : IsWatched parts.board board taken
 
 module _ (c : EngineCall) where
-  abbrev pub from : Parts
-  from = parts_of c.engine (device_during c.parts.board none_taken) c.parts.watch
+  abbrev pub from : TreeEngineParts
+  from = tree_parts_of c.engine (device_during c.parts.board none_taken) c.parts.watch
 
-  abbrev pub to : Parts
-  to = parts_of c.after (device_during c.board c.taken) c.watch
+  abbrev pub to : TreeEngineParts
+  to = tree_parts_of c.after (device_during c.board c.taken) c.watch
 
   abbrev pub left : Option TreeState → List Bool → TreeParts
   left found hurt = record { keys = c.parts.keys; board = c.board; watch = c.watch; engine = found; tampered = c.parts.tampered; hurt = hurt }
@@ -176,27 +176,27 @@ module _ (c : EngineCall) where
   pub on : IsTreeOn c.setup c.parts c.engine
   on = on_in c.setup c.parts c.engine (open_in c.setup c.parts c.world c.none) c.there
 
-  pub trusted_from : AreTrusted c.setup from
+  pub trusted_from : AreTreeTrusted c.setup from
   trusted_from = (on_in c.setup c.parts c.engine (open_in c.setup c.parts c.world c.none) c.there).trusted
 
   pub powered_from : c.parts.board.powered ≡ true
   powered_from = (on_in c.setup c.parts c.engine (open_in c.setup c.parts c.world c.none) c.there).powered
 
-  module _ (outcome : Outcome) (effect : CallEffect c.setup outcome from to) where
+  module _ (outcome : Outcome) (effect : TreeCallEffect c.setup outcome from to) where
     lines_whole : AreLinesOf (tree_size c.setup.shape) c.board.lines
     lines_whole = record { count = effect.size ∙ c.world.whole_lines.count; each = c.watched.each_line }
 
     -- seals that aren't hurt and were stored are stored
-    pub seals_kept : (a : ℕ) → a < tree_lines c.setup.shape → slice_index_or c.parts.hurt a false ≡ false → HoldsSeal c.setup.shape to a
+    pub seals_kept : (a : ℕ) → a < tree_lines c.setup.shape → slice_index_or c.parts.hurt a false ≡ false → HoldsTreeSeal c.setup.shape to a
     seals_kept a inside unhurt = (effect.places trusted_from).seals a inside (opened_in.places.seals a inside unhurt)
 
     slots_kept : (i : ℕ) → i < tree_slots c.setup.shape → slice_index_or c.parts.tampered (line_of_slot c.setup.shape i) false ≡ false → HoldsSlot c.setup.shape to i
     slots_kept i inside unchanged = (effect.places trusted_from).slots i inside (opened_in.places.slots i inside unchanged)
 
   -- a call that goes on
-  module _ (effect : CallEffect c.setup going from to) (hurt : List Bool) (count : length hurt ≡ tree_lines c.setup.shape)
-      (seals : (a : ℕ) → a < tree_lines c.setup.shape → slice_index_or hurt a false ≡ false → HoldsSeal c.setup.shape to a) where
-    trusted_to : AreTrusted c.setup to
+  module _ (effect : TreeCallEffect c.setup going from to) (hurt : List Bool) (count : length hurt ≡ tree_lines c.setup.shape)
+      (seals : (a : ℕ) → a < tree_lines c.setup.shape → slice_index_or hurt a false ≡ false → HoldsTreeSeal c.setup.shape to a) where
+    trusted_to : AreTreeTrusted c.setup to
     trusted_to = effect.trusted trusted_from
 
     pub on_after : IsTreeWorld c.setup (left (Some c.after) hurt)
@@ -227,10 +227,10 @@ module _ (c : EngineCall) where
     rooted_after = rooted_on c.setup (left (Some c.after) hurt) c.world.whole_shape trusted_to.anchored trusted_to.no_group
 
   -- a call that is cut
-  module _ (effect : CallEffect c.setup cut_short from to) (small : length c.board.regs.group.items ≤ c.setup.shape.levels + 3) (hurt : List Bool)
+  module _ (effect : TreeCallEffect c.setup cut_short from to) (small : length c.board.regs.group.items ≤ c.setup.shape.levels + 3) (hurt : List Bool)
       (count : length hurt ≡ tree_lines c.setup.shape)
-      (seals : (a : ℕ) → a < tree_lines c.setup.shape → slice_index_or hurt a false ≡ false → HoldsSeal c.setup.shape to a) where
-    anchored_to : IsAnchored c.setup c.board.regs c.watch
+      (seals : (a : ℕ) → a < tree_lines c.setup.shape → slice_index_or hurt a false ≡ false → HoldsTreeSeal c.setup.shape to a) where
+    anchored_to : IsTreeAnchored c.setup c.board.regs c.watch
     anchored_to = effect.trusted trusted_from
 
     pub off_after : IsTreeWorld c.setup (left None hurt)
@@ -261,7 +261,7 @@ module _ (c : EngineCall) where
     rooted_cut = rooted_off c.setup (left None hurt) c.world.whole_shape anchored_to effect.power.1
 
   -- a call that ends with an exhibit, after which the board rests
-  pub ended_after : CallEffect c.setup shown from to → KeepsWatch shown c.parts.watch c.watch → (exhibit : Exhibit) → c.watch.exhibit ≡ Some exhibit → AreSmallMinors exhibit
+  pub ended_after : TreeCallEffect c.setup shown from to → KeepsWatch shown c.parts.watch c.watch → (exhibit : Exhibit) → c.watch.exhibit ≡ Some exhibit → AreSmallMinors exhibit
       → IsTreeWorld c.setup left_resting
   ended_after effect keeps exhibit its minors =
       ended c.setup left_resting exhibit

@@ -13,7 +13,7 @@ use Rattle.tree_session.specs.declared.commands.TreeCommand.{TreeCommand}
 use Rattle.tree_session.specs.declared.commands.TreeCommand.TheVariants as Do
 use Rattle.tree_session.specs.declared.answers.TreeAnswer.{TreeAnswer}
 use Rattle.tree_session.specs.declared.answers.TreeAnswer.TheVariants as Say
-use Rattle.tree_session.specs.Answered.{decided, after_decided, TakesSteps, IsCutAt, IsPlainKept, IsPlainWritten, SaysOfWrite, SaysOfRead, SaysOfOn, AnswersWith, IsPathTampered, IsSlotTampered, IsHurt}
+use Rattle.tree_session.specs.Answered.{tree_decided, tree_after_decided, TakesTreeSteps, IsTreeCutAt, IsPlainKept, IsPlainWritten, SaysOfWrite, SaysOfRead, SaysOfOn, AnswersWith, IsPathTampered, IsSlotTampered, IsHurt}
 use Rattle.tree_session.specs.Guarantees.{History, history_with, IsAllowed}
 
 -- what a plain state has of it
@@ -42,14 +42,14 @@ history-equal p q memory counts tampered hurt power fuse snapped =
 -- ---- steps
 
 -- only the board changed, by steps
-stepped : (s : ℕ) (power now : Bool) (before after : PlainTree) → power ≡ now → TakesSteps s power before.board after.board → IsPlainKept before after
+stepped : (s : ℕ) (power now : Bool) (before after : PlainTree) → power ≡ now → TakesTreeSteps s power before.board after.board → IsPlainKept before after
     → history_of after ≡ record (history_of before) { power = now; fuse = burnt before.board.fuse s }
 stepped s power now before after is steps kept =
     history-equal (history_of after) (record (history_of before) { power = now; fuse = burnt before.board.fuse s }) (ap (λ (p : PlainTree). p.memory) kept) (ap (λ (p : PlainTree). p.counts) kept)
     (ap (λ (p : PlainTree). p.tampered) kept) (ap (λ (p : PlainTree). p.hurt) kept) (steps.power ∙ is) steps.fuse.rest (ap is_some steps.snapshot)
 
 -- or by a cut
-darkened : (s : ℕ) (before after : PlainTree) → IsCutAt s before.board after.board → IsPlainKept before after → history_of after ≡ record (history_of before) { power = false; fuse = None }
+darkened : (s : ℕ) (before after : PlainTree) → IsTreeCutAt s before.board after.board → IsPlainKept before after → history_of after ≡ record (history_of before) { power = false; fuse = None }
 darkened s before after cut kept =
     history-equal (history_of after) (record (history_of before) { power = false; fuse = None }) (ap (λ (p : PlainTree). p.memory) kept) (ap (λ (p : PlainTree). p.counts) kept)
     (ap (λ (p : PlainTree). p.tampered) kept) (ap (λ (p : PlainTree). p.hurt) kept) cut.power cut.fuse.cleared (ap is_some cut.snapshot)
@@ -65,13 +65,13 @@ with_write before a line power fuse =
       fuse = fuse;
     }
 
-stepped-write : (g : Shape) (s a : ℕ) (line : Line) (now : Bool) (before after : PlainTree) → true ≡ now → TakesSteps s true before.board after.board
+stepped-write : (g : Shape) (s a : ℕ) (line : Line) (now : Bool) (before after : PlainTree) → true ≡ now → TakesTreeSteps s true before.board after.board
     → IsPlainWritten g a line before after → history_of after ≡ with_write before a line now (burnt before.board.fuse s)
 stepped-write g s a line now before after is steps made =
     history-equal (history_of after) (with_write before a line now (burnt before.board.fuse s)) (ap (λ (p : PlainTree). p.memory) made)
     (ap (λ (p : PlainTree). p.counts) made) (ap (λ (p : PlainTree). p.tampered) made) (ap (λ (p : PlainTree). p.hurt) made) (steps.power ∙ is) steps.fuse.rest (ap is_some steps.snapshot)
 
-darkened-write : (g : Shape) (s a : ℕ) (line : Line) (before after : PlainTree) → IsCutAt s before.board after.board → IsPlainWritten g a line before after
+darkened-write : (g : Shape) (s a : ℕ) (line : Line) (before after : PlainTree) → IsTreeCutAt s before.board after.board → IsPlainWritten g a line before after
     → history_of after ≡ with_write before a line false None
 darkened-write g s a line before after cut made =
     history-equal (history_of after) (with_write before a line false None) (ap (λ (p : PlainTree). p.memory) made)
@@ -91,11 +91,11 @@ counts-kept before after kept = ap (λ (p : PlainTree). length p.counts) kept
 counts-made : (g : Shape) (a : ℕ) (line : Line) (before after : PlainTree) → IsPlainWritten g a line before after → length after.counts ≡ length before.counts
 counts-made g a line before after made = ap (λ (p : PlainTree). length p.counts) made ∙ length-set before.counts a (true_count before a + 1)
 
--- the state decided it
+-- the state tree_decided it
 knows : (setup : Setup) (before after : PlainTree) (command : TreeCommand) (answer known : TreeAnswer) → AnswersWith setup before command after answer (Some known)
     → IsAllowed setup.shape (history_of before) command known
-    → history_of (after_decided setup.shape before command known) ≡ history_with setup.shape (history_of before) command known
-    → length (after_decided setup.shape before command known).counts ≡ length before.counts
+    → history_of (tree_after_decided setup.shape before command known) ≡ history_with setup.shape (history_of before) command known
+    → length (tree_after_decided setup.shape before command known).counts ≡ length before.counts
     → Follows setup.shape before after command answer
 knows setup before after command answer known it allowed history count =
     subst (λ (a : TreeAnswer). Follows setup.shape before after command a) (sym it.0)
@@ -266,7 +266,7 @@ no-snapshot None is = refl
 no-snapshot (Some kept) is = absurd (Rattle.std.proofs.lemmas.Bool.false≢true is)
 
 pub follows : (setup : Setup) (before after : PlainTree) (command : TreeCommand) (answer : TreeAnswer) → length before.counts ≡ tree_lines setup.shape
-    → AnswersWith setup before command after answer (decided setup.shape before command) → Follows setup.shape before after command answer
+    → AnswersWith setup before command after answer (tree_decided setup.shape before command) → Follows setup.shape before after command answer
 follows setup before after (Do.Write a line) answer count it =
     on_line setup before after (Do.Write a line) answer a it
     (λ dark known. knows setup before after (Do.Write a line) answer Say.Off known dark refl refl)

@@ -25,10 +25,10 @@ use Rattle.pmem_base.proofs.LineLemmas.{IsLine-zero_line}
 use Rattle.counter_tree.specs.Watch.{WatchState}
 use Rattle.asit_shadow.specs.State.{TreeState}
 use Rattle.asit_shadow.specs.Formatting.{HasTreeFormatted}
-use Rattle.asit_shadow.specs.Invariants.{IsSound}
-use Rattle.asit_shadow.specs.Parts.{AreTrusted, parts_of}
+use Rattle.asit_shadow.specs.Invariants.{IsTreeSound}
+use Rattle.asit_shadow.specs.Parts.{AreTreeTrusted, tree_parts_of}
 use Rattle.asit_shadow.specs.Places.{IsNodeHeldBy}
-use Rattle.asit_shadow.specs.Steps.{plain_of, plain_line}
+use Rattle.asit_shadow.specs.Steps.{tree_plain_of, tree_plain_line}
 use Rattle.asit_shadow.specs.Recovering.{rest_of}
 use Rattle.asit_shadow.proofs.FormatLaws.{replicate-default}
 use Rattle.asit_shadow.proofs.RecoverLaws.{lines-equal}
@@ -55,10 +55,10 @@ module _ (setup : Setup) (keys : List ℕ) (engine : TreeState) (board : BoardMe
         hurt = replicate (tree_lines setup.shape) false;
       }
 
-  trusted : AreTrusted setup (parts_of engine (device_of board) watch)
+  trusted : AreTreeTrusted setup (tree_parts_of engine (device_of board) watch)
   trusted = it.trusted refl refl
 
-  sound : IsSound setup engine board.lines board.regs watch
+  sound : IsTreeSound setup engine board.lines board.regs watch
   sound = it.sound refl refl
 
   lit : (board.powered ≡ true) × (is_none board.fuse ≡ true)
@@ -102,15 +102,15 @@ module _ (setup : Setup) (keys : List ℕ) (engine : TreeState) (board : BoardMe
       })
 
   -- memory is zeros, no write was made, and the top alone is named
-  memory_is : map (plain_line setup.formulas watch) (range_with_len 0 (tree_lines setup.shape)) ≡ replicate (tree_lines setup.shape) zero_line
+  memory_is : map (tree_plain_line setup.formulas watch) (range_with_len 0 (tree_lines setup.shape)) ≡ replicate (tree_lines setup.shape) zero_line
   memory_is =
-      let count = length-map-range_with_len (plain_line setup.formulas watch) 0 (tree_lines setup.shape) in
-      lines-equal (map (plain_line setup.formulas watch) (range_with_len 0 (tree_lines setup.shape))) (replicate (tree_lines setup.shape) zero_line)
+      let count = length-map-range_with_len (tree_plain_line setup.formulas watch) 0 (tree_lines setup.shape) in
+      lines-equal (map (tree_plain_line setup.formulas watch) (range_with_len 0 (tree_lines setup.shape))) (replicate (tree_lines setup.shape) zero_line)
       (count ∙ sym (length-replicate (tree_lines setup.shape) zero_line))
       (λ a low.
       let inside : a < tree_lines setup.shape = omega (arith, low, count) in
-      get_or-map-range_with_len (plain_line setup.formulas watch) 0 (tree_lines setup.shape) a a zero_line inside (zero-add a)
-      ∙ (ap (plain_of setup.formulas a) (it.device.told.seals a inside)
+      get_or-map-range_with_len (tree_plain_line setup.formulas watch) 0 (tree_lines setup.shape) a a zero_line inside (zero-add a)
+      ∙ (ap (tree_plain_of setup.formulas a) (it.device.told.seals a inside)
       ∙ (cipher_of-back setup.formulas a (version_counter 0) zero_line in_range (record { major = lit< tt; minor = omega arith }) IsLine-zero_line
       ∙ sym (replicate-default (tree_lines setup.shape) a zero_line))))
 

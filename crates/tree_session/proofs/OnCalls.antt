@@ -19,9 +19,9 @@ use Rattle.trace_text.specs.declared.talk.Halt.TheVariants as Stop
 use Rattle.tree_session.specs.declared.commands.TreeCommand.TheVariants as Do
 use Rattle.tree_session.specs.declared.answers.TreeAnswer.{TreeAnswer}
 use Rattle.tree_session.specs.declared.answers.TreeAnswer.TheVariants as Say
-use Rattle.tree_session.specs.State.{SessionState, setup_in}
+use Rattle.tree_session.specs.State.{SessionState, tree_setup_in}
 use Rattle.tree_session.specs.World.{TreeParts, state_of, IsTreeWorld}
-use Rattle.tree_session.specs.Answered.{IsAnswered, CanWantMemory, IsHalt}
+use Rattle.tree_session.specs.Answered.{IsTreeAnswered, IsTreeMemoryWanted, IsTreeHalt}
 use Rattle.tree_session.proofs.Recoveries.{RecoveryCall, rest_from, rest_to, left_with, resting, recovered_held, recovered_done, cut_held, cut_done, refused_held, refused_done, memory_held, memory_wanted, clash_held, clash_done, clash_minors}
 use Rattle.tree_session.proofs.Seen.{setup_under, seen_from, held_under, halts}
 
@@ -84,18 +84,18 @@ module _ (o : OnCall) where
   held q it = held_under o.formulas_of o.geometry o.parts q o.keys o.same_keys it
 
   seen : (q : TreeParts) (answer : ℕ → TreeAnswer) → q.keys ≡ o.parts.keys
-      → IsAnswered (setup_under o.formulas_of o.geometry o.parts.keys) (state_of (setup_under o.formulas_of o.geometry o.parts.keys) o.parts) Do.On (answer (steps_in o.taken))
+      → IsTreeAnswered (setup_under o.formulas_of o.geometry o.parts.keys) (state_of (setup_under o.formulas_of o.geometry o.parts.keys) o.parts) Do.On (answer (steps_in o.taken))
       (state_of (setup_under o.formulas_of o.geometry o.parts.keys) q)
-      → IsAnswered (setup_in o.formulas_of o.now) o.now Do.On (answer o.said) (state_of setup_then (under q))
+      → IsTreeAnswered (tree_setup_in o.formulas_of o.now) o.now Do.On (answer o.said) (state_of setup_then (under q))
   seen q answer its it =
-      subst (λ (n : ℕ). IsAnswered (setup_in o.formulas_of o.now) o.now Do.On (answer n) (state_of setup_then (under q))) (sym o.counted)
-      (seen_from o.formulas_of o.geometry o.parts q o.now o.keys (λ setup old new. IsAnswered setup old Do.On (answer (steps_in o.taken)) new) o.is o.same_keys its it)
+      subst (λ (n : ℕ). IsTreeAnswered (tree_setup_in o.formulas_of o.now) o.now Do.On (answer n) (state_of setup_then (under q))) (sym o.counted)
+      (seen_from o.formulas_of o.geometry o.parts q o.now o.keys (λ setup old new. IsTreeAnswered setup old Do.On (answer (steps_in o.taken)) new) o.is o.same_keys its it)
 
   pub on_held : (made : TreeState × Work) → o.answer ≡ Ok made → IsTreeWorld setup_then (under (left_with call o.board (Some made.0)))
   on_held made is = held (left_with call o.board (Some made.0)) (recovered_held call made.0 made.1 (was (Ok made) is))
 
   pub on_seen : (made : TreeState × Work) → o.answer ≡ Ok made
-      → IsAnswered (setup_in o.formulas_of o.now) o.now Do.On (Say.Recovered made.1.digests o.said) (state_of setup_then (under (left_with call o.board (Some made.0))))
+      → IsTreeAnswered (tree_setup_in o.formulas_of o.now) o.now Do.On (Say.Recovered made.1.digests o.said) (state_of setup_then (under (left_with call o.board (Some made.0))))
   on_seen made is = seen (left_with call o.board (Some made.0)) (Say.Recovered made.1.digests) refl (recovered_done call made.0 made.1 (was (Ok made) is))
 
   -- there is no engine, as before
@@ -108,9 +108,9 @@ module _ (o : OnCall) where
   pub cut_kept : o.answer ≡ Err Fail.Cut → IsTreeWorld setup_then cut_as
   cut_kept is = cut_so (IsTreeWorld setup_then) (held (left_with call o.board None) (cut_held call (was (Err Fail.Cut) is)))
 
-  pub cut_seen : o.answer ≡ Err Fail.Cut → IsAnswered (setup_in o.formulas_of o.now) o.now Do.On (Say.Cut o.said) (state_of setup_then cut_as)
+  pub cut_seen : o.answer ≡ Err Fail.Cut → IsTreeAnswered (tree_setup_in o.formulas_of o.now) o.now Do.On (Say.Cut o.said) (state_of setup_then cut_as)
   cut_seen is =
-      cut_so (λ q. IsAnswered (setup_in o.formulas_of o.now) o.now Do.On (Say.Cut o.said) (state_of setup_then q))
+      cut_so (λ q. IsTreeAnswered (tree_setup_in o.formulas_of o.now) o.now Do.On (Say.Cut o.said) (state_of setup_then q))
       (seen (left_with call o.board None) Say.Cut refl (cut_done call (was (Err Fail.Cut) is)))
 
   exhibit_of : o.answer ≡ Err Fail.Shown → (exhibit : Exhibit) × (o.watch.exhibit ≡ Some exhibit)
@@ -133,18 +133,18 @@ module _ (o : OnCall) where
         rests_so (IsTreeWorld setup_then) (held (left_with call (resting call) None) (refused_held call kept found (was (Err (Fail.Shadow kept found)) is)))
 
     pub shadow_seen : (kept found : List ℕ) → o.answer ≡ Err (Fail.Shadow kept found)
-        → IsAnswered (setup_in o.formulas_of o.now) o.now Do.On (Say.RefusedShadow kept found o.said) (state_of setup_then rests_as)
+        → IsTreeAnswered (tree_setup_in o.formulas_of o.now) o.now Do.On (Say.RefusedShadow kept found o.said) (state_of setup_then rests_as)
     shadow_seen kept found is =
-        rests_so (λ q. IsAnswered (setup_in o.formulas_of o.now) o.now Do.On (Say.RefusedShadow kept found o.said) (state_of setup_then q))
+        rests_so (λ q. IsTreeAnswered (tree_setup_in o.formulas_of o.now) o.now Do.On (Say.RefusedShadow kept found o.said) (state_of setup_then q))
         (seen (left_with call (resting call) None) (Say.RefusedShadow kept found) refl (refused_done call kept found (was (Err (Fail.Shadow kept found)) is)))
 
     pub memory_kept : o.answer ≡ Err Fail.Memory → IsTreeWorld setup_then rests_as
     memory_kept is = rests_so (IsTreeWorld setup_then) (held (left_with call (resting call) None) (memory_held call (was (Err Fail.Memory) is)))
 
-    pub memory_seen : o.answer ≡ Err Fail.Memory → IsHalt (setup_in o.formulas_of o.now) o.now Do.On Stop.Memory (state_of setup_then rests_as)
+    pub memory_seen : o.answer ≡ Err Fail.Memory → IsTreeHalt (tree_setup_in o.formulas_of o.now) o.now Do.On Stop.Memory (state_of setup_then rests_as)
     memory_seen is =
-        rests_so (λ q. CanWantMemory o.now Do.On × (state_of setup_then q ≡ o.now))
-        (seen_from o.formulas_of o.geometry o.parts (left_with call (resting call) None) o.now o.keys (λ setup old new. CanWantMemory old Do.On × (new ≡ old)) o.is o.same_keys refl
+        rests_so (λ q. IsTreeMemoryWanted o.now Do.On × (state_of setup_then q ≡ o.now))
+        (seen_from o.formulas_of o.geometry o.parts (left_with call (resting call) None) o.now o.keys (λ setup old new. IsTreeMemoryWanted old Do.On × (new ≡ old)) o.is o.same_keys refl
         (memory_wanted call (was (Err Fail.Memory) is)))
 
     pub shown_kept : o.answer ≡ Err Fail.Shown → IsTreeWorld setup_then rests_as
@@ -153,9 +153,9 @@ module _ (o : OnCall) where
         rests_so (IsTreeWorld setup_then) (held (left_with call (resting call) None) (clash_held call found.0 found.1 (was (Err Fail.Shown) is)))
 
     pub shown_seen : o.answer ≡ Err Fail.Shown → (halt : Halt) → Some halt ≡ option_map Stop.Shown o.watch.exhibit
-        → IsHalt (setup_in o.formulas_of o.now) o.now Do.On halt (state_of setup_then rests_as)
+        → IsTreeHalt (tree_setup_in o.formulas_of o.now) o.now Do.On halt (state_of setup_then rests_as)
     shown_seen is halt told =
         let found = exhibit_of is in
-        rests_so (λ q. IsHalt (setup_in o.formulas_of o.now) o.now Do.On halt (state_of setup_then q))
+        rests_so (λ q. IsTreeHalt (tree_setup_in o.formulas_of o.now) o.now Do.On halt (state_of setup_then q))
         (halts o.formulas_of o.geometry o.parts (left_with call (resting call) None) o.now o.keys Do.On halt found.0 o.watch.exhibit o.is o.same_keys refl told found.1
         (clash_minors call found.0 found.1 (was (Err Fail.Shown) is)) (clash_done call found.0 found.1 (was (Err Fail.Shown) is)))

@@ -25,9 +25,9 @@ use Rattle.counter_tree.specs.Watch.{WatchState}
 use Rattle.counter_tree.proofs.SlotLaws.{slot_read-slot_line, slot_read-zero}
 use Rattle.counter_tree.proofs.TreeLaws.{tree-IsNode}
 use Rattle.counter_tree.proofs.Positions.{meta_lines-most}
-use Rattle.asit_shadow.specs.Invariants.{IsAnchored, NamesTrueNode}
-use Rattle.asit_shadow.specs.Steps.{IsArmed, plain_of, plain_line}
-use Rattle.asit_shadow.specs.Plain.{PlainTree, IsPlainOf, true_node, true_count, true_slots, writes_made, named_at, slot_naming, after_write, with_board}
+use Rattle.asit_shadow.specs.Invariants.{IsTreeAnchored, NamesTrueNode}
+use Rattle.asit_shadow.specs.Steps.{IsTreeArmed, tree_plain_of, tree_plain_line}
+use Rattle.asit_shadow.specs.Plain.{PlainTree, IsPlainOf, true_node, true_count, true_slots, writes_made, named_at, slot_naming, after_tree_write, with_board}
 use Rattle.asit_shadow.proofs.PlainLaws.{true_node-is, IsPlainOf-armed}
 use Rattle.asit_shadow.proofs.SpentLaws.{true_version-top}
 use Rattle.asit_shadow.proofs.RecoverLaws.{lines-equal}
@@ -44,7 +44,7 @@ named-line g x node shape inside whole =
 
 -- ---- the state of the parts is the watch's
 
-module _ (setup : Setup) (parts : TreeParts) (regs : Regs) (shape : IsShape setup.shape) (anchored : IsAnchored setup regs parts.watch) where
+module _ (setup : Setup) (parts : TreeParts) (regs : Regs) (shape : IsShape setup.shape) (anchored : IsTreeAnchored setup regs parts.watch) where
   named_here : (i : ℕ) → i < tree_slots setup.shape → named_at (plain_of_parts setup parts).named i ≡ named_by (line_at parts.watch.slots i)
   named_here i inside = get_or-map named_by parts.watch.slots i zero_line None (omega (arith, inside, anchored.of_setup.slot_count))
 
@@ -85,10 +85,10 @@ module _ (setup : Setup) (parts : TreeParts) (regs : Regs) (shape : IsShape setu
   pub plain_is : IsPlainOf setup (plain_of_parts setup parts) parts.watch
   plain_is =
       record {
-        memory_count = length-map-range_with_len (plain_line setup.formulas parts.watch) 0 (tree_lines setup.shape);
+        memory_count = length-map-range_with_len (tree_plain_line setup.formulas parts.watch) 0 (tree_lines setup.shape);
         count_count = length-map-range_with_len (line_counter setup.shape parts.watch.nodes) 0 (tree_lines setup.shape);
         named_count = length-map parts.watch.slots named_by ∙ anchored.of_setup.slot_count;
-        memory = λ a inside. get_or-map-range_with_len (plain_line setup.formulas parts.watch) 0 (tree_lines setup.shape) a a zero_line inside (zero-add a);
+        memory = λ a inside. get_or-map-range_with_len (tree_plain_line setup.formulas parts.watch) 0 (tree_lines setup.shape) a a zero_line inside (zero-add a);
         counts = counts_are;
         placed = placed;
         slots = slots_are;
@@ -96,7 +96,7 @@ module _ (setup : Setup) (parts : TreeParts) (regs : Regs) (shape : IsShape setu
 
 -- ---- there is one plain state of a watch
 
-module _ (setup : Setup) (watch : WatchState) (regs : Regs) (shape : IsShape setup.shape) (anchored : IsAnchored setup regs watch) where
+module _ (setup : Setup) (watch : WatchState) (regs : Regs) (shape : IsShape setup.shape) (anchored : IsTreeAnchored setup regs watch) where
   pub true_slots-is : (p : PlainTree) → IsPlainOf setup p watch → true_slots setup.shape p ≡ watch.slots
   true_slots-is p its =
       let count = length-map p.named (slot_naming setup.shape p) in
@@ -160,21 +160,21 @@ pub plain-kept : (setup : Setup) (p : TreeParts) (q : TreeParts) → q.watch.sea
     → q.tampered ≡ p.tampered → q.hurt ≡ p.hurt → plain_of_parts setup q ≡ with_board (plain_of_parts setup p) q.board
 plain-kept setup p q seals nodes slots tampered hurt =
     plain-equal (plain_of_parts setup q) (with_board (plain_of_parts setup p) q.board)
-    (ap (λ (s : List (Option LineSeal)). map (λ a. plain_of setup.formulas a (Rattle.std.specs.Prelude.slice_index_or s a None)) (range_with_len 0 (tree_lines setup.shape))) seals)
+    (ap (λ (s : List (Option LineSeal)). map (λ a. tree_plain_of setup.formulas a (Rattle.std.specs.Prelude.slice_index_or s a None)) (range_with_len 0 (tree_lines setup.shape))) seals)
     (ap (λ (ns : List Node). map (line_counter setup.shape ns) (range_with_len 0 (tree_lines setup.shape))) nodes)
     (ap (map named_by) slots) tampered hurt refl
 
 -- an armed write of a line puts it into memory
 pub plain-written : (setup : Setup) (p q : TreeParts) (a : ℕ) (line : Line) (seal : LineSeal) (old_regs armed_regs new_regs : Regs) → IsShape setup.shape → AreInRange setup.formulas
-    → IsAnchored setup old_regs p.watch → IsAnchored setup new_regs q.watch → IsArmed setup a seal old_regs armed_regs p.watch q.watch → IsLine line
+    → IsTreeAnchored setup old_regs p.watch → IsTreeAnchored setup new_regs q.watch → IsTreeArmed setup a seal old_regs armed_regs p.watch q.watch → IsLine line
     → seal.cipher ≡ cipher_of setup.formulas a (version_counter seal.counter) line → q.tampered ≡ p.tampered → q.hurt ≡ slice_set p.hurt a false
-    → plain_of_parts setup q ≡ with_board (after_write setup.shape (plain_of_parts setup p) a line) q.board
+    → plain_of_parts setup q ≡ with_board (after_tree_write setup.shape (plain_of_parts setup p) a line) q.board
 plain-written setup p q a line seal old_regs armed_regs new_regs shape in_range before after armed whole cipher tampered hurt =
     let it = plain_is setup q new_regs shape after in
     let made = IsPlainOf-armed setup a line seal old_regs armed_regs p.watch q.watch (plain_of_parts setup p) shape in_range before armed whole cipher
     (plain_is setup p old_regs shape before) in
-    plain-equal (plain_of_parts setup q) (with_board (after_write setup.shape (plain_of_parts setup p) a line) q.board)
-    (memory-one setup q.watch new_regs shape after (plain_of_parts setup q) (after_write setup.shape (plain_of_parts setup p) a line) it made)
-    (counts-one setup q.watch new_regs shape after (plain_of_parts setup q) (after_write setup.shape (plain_of_parts setup p) a line) it made)
-    (named-one setup q.watch new_regs shape after (plain_of_parts setup q) (after_write setup.shape (plain_of_parts setup p) a line) it made)
+    plain-equal (plain_of_parts setup q) (with_board (after_tree_write setup.shape (plain_of_parts setup p) a line) q.board)
+    (memory-one setup q.watch new_regs shape after (plain_of_parts setup q) (after_tree_write setup.shape (plain_of_parts setup p) a line) it made)
+    (counts-one setup q.watch new_regs shape after (plain_of_parts setup q) (after_tree_write setup.shape (plain_of_parts setup p) a line) it made)
+    (named-one setup q.watch new_regs shape after (plain_of_parts setup q) (after_tree_write setup.shape (plain_of_parts setup p) a line) it made)
     tampered hurt refl

@@ -7,14 +7,14 @@ use Rattle.board.specs.Memory.{BoardMemory}
 use Rattle.counter_tree.specs.Layout.{tree_lines}
 use Rattle.asit_shadow.specs.declared.fault.TreeFault.{TreeFault}
 use Rattle.asit_shadow.specs.declared.fault.TreeFault.TheVariants as Fail
-use Rattle.asit_shadow.specs.Calls.{HasReadLine}
+use Rattle.asit_shadow.specs.Calls.{HasReadTreeLine}
 use Rattle.trace_text.specs.declared.talk.Halt.{Halt}
 use Rattle.trace_text.specs.declared.talk.Halt.TheVariants as Stop
 use Rattle.tree_session.specs.declared.commands.TreeCommand.TheVariants as Do
 use Rattle.tree_session.specs.declared.answers.TreeAnswer.TheVariants as Say
-use Rattle.tree_session.specs.State.{setup_in}
+use Rattle.tree_session.specs.State.{tree_setup_in}
 use Rattle.tree_session.specs.World.{TreeParts, state_of, IsTreeWorld}
-use Rattle.tree_session.specs.Answered.{IsAnswered, IsHalt}
+use Rattle.tree_session.specs.Answered.{IsTreeAnswered, IsTreeHalt}
 use Rattle.tree_session.proofs.Held.{left, left_resting, from, to, trusted_from}
 use Rattle.tree_session.proofs.ReadLaws.{read_held, read_done, cut_held, cut_done, node_held, node_done, tag_held, tag_done, shown_held, shown_done, shown_minors}
 use Rattle.tree_session.proofs.Seen.{WorldCall, call, setup_of, setup_under, as_read, seen, held, halts, some_of}
@@ -25,7 +25,7 @@ pub record ReadCall : Type 0 where
   pub within : at < tree_lines world.geometry
   pub answer : Result Line TreeFault
   pub was_read :
-      HasReadLine (setup_under world.formulas_of world.engine.shape world.parts.keys) at (from (call world)) (to (call world)) answer
+      HasReadTreeLine (setup_under world.formulas_of world.engine.shape world.parts.keys) at (from (call world)) (to (call world)) answer
 
 module _ (r : ReadCall) where
   abbrev kept : Option Rattle.asit_shadow.specs.State.TreeState → TreeParts
@@ -37,14 +37,14 @@ module _ (r : ReadCall) where
   abbrev pub setup_then : Rattle.suite.specs.Setup.Setup
   setup_then = setup_under r.world.formulas_of r.world.geometry r.world.keys
 
-  was : (known : Result Line TreeFault) → r.answer ≡ known → HasReadLine (setup_of r.world) r.at (from (call r.world)) (to (call r.world)) known
+  was : (known : Result Line TreeFault) → r.answer ≡ known → HasReadTreeLine (setup_of r.world) r.at (from (call r.world)) (to (call r.world)) known
   was known is = as_read r.world r.at r.answer known is r.was_read
 
   pub got_held : (line : Line) → r.answer ≡ Ok line → IsTreeWorld setup_then (under (kept (Some r.world.after)))
   got_held line is = held r.world (kept (Some r.world.after)) (read_held (call r.world) r.at r.within line (was (Ok line) is))
 
   pub got_seen : (line : Line) → r.answer ≡ Ok line
-      → IsAnswered (setup_in r.world.formulas_of r.world.now) r.world.now (Do.Read r.at) (Say.Got line r.world.said) (state_of setup_then (under (kept (Some r.world.after))))
+      → IsTreeAnswered (tree_setup_in r.world.formulas_of r.world.now) r.world.now (Do.Read r.at) (Say.Got line r.world.said) (state_of setup_then (under (kept (Some r.world.after))))
   got_seen line is =
       seen r.world (kept (Some r.world.after)) (Do.Read r.at) (Say.Got line) refl (read_done (call r.world) r.at r.within line (was (Ok line) is))
 
@@ -52,7 +52,7 @@ module _ (r : ReadCall) where
   node_kept x is = held r.world (kept (Some r.world.after)) (node_held (call r.world) r.at r.within x (was (Err (Fail.Node x)) is))
 
   pub node_seen : (x : ℕ) → r.answer ≡ Err (Fail.Node x)
-      → IsAnswered (setup_in r.world.formulas_of r.world.now) r.world.now (Do.Read r.at) (Say.RefusedNode x r.world.said) (state_of setup_then (under (kept (Some r.world.after))))
+      → IsTreeAnswered (tree_setup_in r.world.formulas_of r.world.now) r.world.now (Do.Read r.at) (Say.RefusedNode x r.world.said) (state_of setup_then (under (kept (Some r.world.after))))
   node_seen x is =
       seen r.world (kept (Some r.world.after)) (Do.Read r.at) (Say.RefusedNode x) refl (node_done (call r.world) r.at r.within x (was (Err (Fail.Node x)) is))
 
@@ -60,7 +60,7 @@ module _ (r : ReadCall) where
   tag_kept t is = held r.world (kept (Some r.world.after)) (tag_held (call r.world) r.at r.within t (was (Err (Fail.Tag t)) is))
 
   pub tag_seen : (t : ℕ) → r.answer ≡ Err (Fail.Tag t)
-      → IsAnswered (setup_in r.world.formulas_of r.world.now) r.world.now (Do.Read r.at) (Say.RefusedData t r.world.said) (state_of setup_then (under (kept (Some r.world.after))))
+      → IsTreeAnswered (tree_setup_in r.world.formulas_of r.world.now) r.world.now (Do.Read r.at) (Say.RefusedData t r.world.said) (state_of setup_then (under (kept (Some r.world.after))))
   tag_seen t is =
       seen r.world (kept (Some r.world.after)) (Do.Read r.at) (Say.RefusedData t) refl (tag_done (call r.world) r.at r.within t (was (Err (Fail.Tag t)) is))
 
@@ -68,7 +68,7 @@ module _ (r : ReadCall) where
   cut_kept is = held r.world (kept None) (cut_held (call r.world) r.at r.within (was (Err Fail.Cut) is))
 
   pub cut_seen : r.answer ≡ Err Fail.Cut
-      → IsAnswered (setup_in r.world.formulas_of r.world.now) r.world.now (Do.Read r.at) (Say.Cut r.world.said) (state_of setup_then (under (kept None)))
+      → IsTreeAnswered (tree_setup_in r.world.formulas_of r.world.now) r.world.now (Do.Read r.at) (Say.Cut r.world.said) (state_of setup_then (under (kept None)))
   cut_seen is = seen r.world (kept None) (Do.Read r.at) Say.Cut refl (cut_done (call r.world) r.at r.within (was (Err Fail.Cut) is))
 
   -- where the watch stopped the engine, it has an exhibit
@@ -85,10 +85,10 @@ module _ (r : ReadCall) where
         (held r.world (left_resting (call r.world)) (shown_held (call r.world) r.at r.within found.0 found.1 (was (Err Fail.Shown) is)))
 
     pub shown_seen : (halt : Halt) → Some halt ≡ option_map Stop.Shown r.world.watch.exhibit
-        → IsHalt (setup_in r.world.formulas_of r.world.now) r.world.now (Do.Read r.at) halt (state_of setup_then (record (under (left_resting (call r.world))) { board = rested }))
+        → IsTreeHalt (tree_setup_in r.world.formulas_of r.world.now) r.world.now (Do.Read r.at) halt (state_of setup_then (record (under (left_resting (call r.world))) { board = rested }))
     shown_seen halt told =
         let found = exhibit_of is in
-        subst (λ (b : BoardMemory). IsHalt (setup_in r.world.formulas_of r.world.now) r.world.now (Do.Read r.at) halt (state_of setup_then (record (under (left_resting (call r.world))) { board = b }))) (sym rests)
+        subst (λ (b : BoardMemory). IsTreeHalt (tree_setup_in r.world.formulas_of r.world.now) r.world.now (Do.Read r.at) halt (state_of setup_then (record (under (left_resting (call r.world))) { board = b }))) (sym rests)
         (halts r.world.formulas_of r.world.geometry r.world.parts (left_resting (call r.world)) r.world.now r.world.keys (Do.Read r.at) halt found.0
         r.world.watch.exhibit r.world.is r.world.same_keys refl told found.1 (shown_minors (call r.world) r.at r.within found.0 found.1 (was (Err Fail.Shown) is))
         (shown_done (call r.world) r.at r.within found.0 found.1 (was (Err Fail.Shown) is)))

@@ -16,17 +16,17 @@ use Rattle.counter_tree.specs.Trees.{line_counter}
 use Rattle.counter_tree.specs.Watch.{last_seal_of}
 use Rattle.watched_board.specs.Watching.{steps_in}
 use Rattle.asit_shadow.specs.declared.fault.TreeFault.TheVariants as Fail
-use Rattle.asit_shadow.specs.Invariants.{IsSealStored}
-use Rattle.asit_shadow.specs.Parts.{HoldsSeal}
+use Rattle.asit_shadow.specs.Invariants.{IsTreeSealStored}
+use Rattle.asit_shadow.specs.Parts.{HoldsTreeSeal}
 use Rattle.asit_shadow.specs.Calls as told
-use Rattle.asit_shadow.specs.Calls.{HasReadLine, IsLineRead}
+use Rattle.asit_shadow.specs.Calls.{HasReadTreeLine, IsLineRead}
 use Rattle.asit_shadow.proofs.PlaceLaws.{line-place}
 use Rattle.asit_shadow.proofs.Chains.{going-unshown, cut-unshown}
 use Rattle.tree_session.specs.declared.commands.TreeCommand.TheVariants as Do
 use Rattle.tree_session.specs.declared.answers.TreeAnswer.{TreeAnswer}
 use Rattle.tree_session.specs.declared.answers.TreeAnswer.TheVariants as Say
 use Rattle.tree_session.specs.World.{TreeParts, plain_of_parts, state_of, IsTreeWorld}
-use Rattle.tree_session.specs.Answered.{IsAnswered, IsRooted, IsEngineShown, IsBoardSpilled, SaysOfRead, AnswersWith, decided, IsDataRefusal, IsDataExhibit, IsNodeExhibit, IsNodeRefusal}
+use Rattle.tree_session.specs.Answered.{IsTreeAnswered, IsRooted, IsEngineShown, IsBoardSpilled, SaysOfRead, AnswersWith, tree_decided, IsDataRefusal, IsDataExhibit, IsNodeExhibit, IsNodeRefusal}
 use Rattle.tree_session.proofs.BoardSteps.{goes_on, cut_off, then_rests}
 use Rattle.tree_session.proofs.PlainStates.{plain_is}
 use Rattle.tree_session.proofs.Held.{EngineCall, from, to, left, left_resting, trusted_from, powered_from, seals_kept, on_after, rooted_after, off_after, rooted_cut, ended_after}
@@ -37,14 +37,14 @@ use Rattle.tree_session.proofs.Refusals.{data-refused, data-shown}
 module _ (c : EngineCall) (a : ℕ) (within : a < tree_lines c.setup.shape) where
   -- the answer of the engine, where the state doesn't decide
   by_engine : (answer : TreeAnswer) (q : TreeParts) → SaysOfRead c.setup (plain_of_parts c.setup c.parts) a (plain_of_parts c.setup q) answer
-      → AnswersWith c.setup (plain_of_parts c.setup c.parts) (Do.Read a) (plain_of_parts c.setup q) answer (decided c.setup.shape (plain_of_parts c.setup c.parts) (Do.Read a))
+      → AnswersWith c.setup (plain_of_parts c.setup c.parts) (Do.Read a) (plain_of_parts c.setup q) answer (tree_decided c.setup.shape (plain_of_parts c.setup c.parts) (Do.Read a))
   by_engine answer q it =
       subst (λ d. AnswersWith c.setup (plain_of_parts c.setup c.parts) (Do.Read a) (plain_of_parts c.setup q) answer d)
       (sym (undecided_line c.parts.board.powered a (tree_lines c.setup.shape) Say.Off Say.Range (powered_from c) within)) it
 
   answered : (answer : TreeAnswer) (q : TreeParts) → q.keys ≡ c.parts.keys → q.watch.exhibit ≡ None → IsRooted c.setup (plain_of_parts c.setup q)
       → SaysOfRead c.setup (plain_of_parts c.setup c.parts) a (plain_of_parts c.setup q) answer
-      → IsAnswered c.setup (state_of c.setup c.parts) (Do.Read a) answer (state_of c.setup q)
+      → IsTreeAnswered c.setup (state_of c.setup c.parts) (Do.Read a) answer (state_of c.setup q)
   answered answer q keys none rooted it =
       record {
         not_shown = c.none;
@@ -55,14 +55,14 @@ module _ (c : EngineCall) (a : ℕ) (within : a < tree_lines c.setup.shape) wher
 
   -- ---- the line is read
 
-  module _ (line : Line) (it : HasReadLine c.setup a (from c) (to c) (Ok line)) where
+  module _ (line : Line) (it : HasReadTreeLine c.setup a (from c) (to c) (Ok line)) where
     abbrev done : IsLineRead c.setup a (from c) (to c) (Ok line)
     done = it.done (trusted_from c).not_down
 
     pub read_held : IsTreeWorld c.setup (left c (Some c.after) c.parts.hurt)
     read_held = on_after c done.effect c.parts.hurt c.world.hurt_count (seals_kept c going done.effect)
 
-    pub read_done : IsAnswered c.setup (state_of c.setup c.parts) (Do.Read a) (Say.Got line (steps_in c.taken)) (state_of c.setup (left c (Some c.after) c.parts.hurt))
+    pub read_done : IsTreeAnswered c.setup (state_of c.setup c.parts) (Do.Read a) (Say.Got line (steps_in c.taken)) (state_of c.setup (left c (Some c.after) c.parts.hurt))
     read_done =
         answered (Say.Got line (steps_in c.taken)) (left c (Some c.after) c.parts.hurt) refl (done.watch.exhibit going-unshown ∙ c.none)
         (rooted_after c done.effect c.parts.hurt c.world.hurt_count (seals_kept c going done.effect)) (
@@ -75,7 +75,7 @@ module _ (c : EngineCall) (a : ℕ) (within : a < tree_lines c.setup.shape) wher
 
   -- ---- power is cut
 
-  module _ (it : HasReadLine c.setup a (from c) (to c) (Err Fail.Cut)) where
+  module _ (it : HasReadTreeLine c.setup a (from c) (to c) (Err Fail.Cut)) where
     abbrev cut : IsLineRead c.setup a (from c) (to c) (Err Fail.Cut)
     cut = it.done (trusted_from c).not_down
 
@@ -85,7 +85,7 @@ module _ (c : EngineCall) (a : ℕ) (within : a < tree_lines c.setup.shape) wher
     pub cut_held : IsTreeWorld c.setup (left c None c.parts.hurt)
     cut_held = off_after c cut.effect small c.parts.hurt c.world.hurt_count (seals_kept c cut_short cut.effect)
 
-    pub cut_done : IsAnswered c.setup (state_of c.setup c.parts) (Do.Read a) (Say.Cut (steps_in c.taken)) (state_of c.setup (left c None c.parts.hurt))
+    pub cut_done : IsTreeAnswered c.setup (state_of c.setup c.parts) (Do.Read a) (Say.Cut (steps_in c.taken)) (state_of c.setup (left c None c.parts.hurt))
     cut_done =
         let below = backs-cut c.taken c.setup.shape.levels c.parts.board c.board c.watched (powered_from c) cut.steps in
         let levels = c.world.whole_shape.at_most_six_levels in
@@ -99,14 +99,14 @@ module _ (c : EngineCall) (a : ℕ) (within : a < tree_lines c.setup.shape) wher
 
   -- ---- a node is refused
 
-  module _ (x : ℕ) (it : HasReadLine c.setup a (from c) (to c) (Err (Fail.Node x))) where
+  module _ (x : ℕ) (it : HasReadTreeLine c.setup a (from c) (to c) (Err (Fail.Node x))) where
     abbrev node : IsLineRead c.setup a (from c) (to c) (Err (Fail.Node x))
     node = it.done (trusted_from c).not_down
 
     pub node_held : IsTreeWorld c.setup (left c (Some c.after) c.parts.hurt)
     node_held = on_after c node.effect c.parts.hurt c.world.hurt_count (seals_kept c going node.effect)
 
-    pub node_done : IsAnswered c.setup (state_of c.setup c.parts) (Do.Read a) (Say.RefusedNode x (steps_in c.taken)) (state_of c.setup (left c (Some c.after) c.parts.hurt))
+    pub node_done : IsTreeAnswered c.setup (state_of c.setup c.parts) (Do.Read a) (Say.RefusedNode x (steps_in c.taken)) (state_of c.setup (left c (Some c.after) c.parts.hurt))
     node_done =
         let plain = kept_plain c going (left c (Some c.after) c.parts.hurt) node.watch refl refl refl in
         answered (Say.RefusedNode x (steps_in c.taken)) (left c (Some c.after) c.parts.hurt) refl (node.watch.exhibit going-unshown ∙ c.none)
@@ -121,10 +121,10 @@ module _ (c : EngineCall) (a : ℕ) (within : a < tree_lines c.setup.shape) wher
   -- ---- the line's tag is refused
 
   -- a stored line is read: the armed group is empty
-  stored_here : c.board.regs ≡ c.parts.board.regs → HoldsSeal c.setup.shape (to c) a → c.watch.seals ≡ c.parts.watch.seals → IsSealStored c.setup.shape c.board.lines c.parts.watch a
+  stored_here : c.board.regs ≡ c.parts.board.regs → HoldsTreeSeal c.setup.shape (to c) a → c.watch.seals ≡ c.parts.watch.seals → IsTreeSealStored c.setup.shape c.board.lines c.parts.watch a
   stored_here regs holds seals =
       let none = ap (λ (r : Regs). r.group.items) regs ∙ (trusted_from c).no_group in
-      let it : IsSealStored c.setup.shape c.board.lines c.watch a = subst (λ g. IsSealStored c.setup.shape (redone g c.board.lines) c.watch a) none holds in
+      let it : IsTreeSealStored c.setup.shape c.board.lines c.watch a = subst (λ g. IsTreeSealStored c.setup.shape (redone g c.board.lines) c.watch a) none holds in
       record {
         seal = it.seal;
         last = ap (λ (s : List (Option LineSeal)). slice_index_or s a None) (sym seals) ∙ it.last;
@@ -132,12 +132,12 @@ module _ (c : EngineCall) (a : ℕ) (within : a < tree_lines c.setup.shape) wher
         tag = it.tag;
       }
 
-  fits_here : IsSealStored c.setup.shape c.board.lines c.parts.watch a
+  fits_here : IsTreeSealStored c.setup.shape c.board.lines c.parts.watch a
       → (c.setup.formulas.tag_of a (version_counter (line_counter c.setup.shape c.parts.watch.nodes a)) (line_at c.board.lines a) ≡ tag_slot (line_at c.board.lines (line_of_tag c.setup.shape a)) 0)
       × IfSome (last_seal_of c.parts.watch a) (λ seal. line_at c.board.lines a ≡ seal.cipher)
   fits_here stored = line-place c.setup c.board.lines c.parts.board.regs c.parts.watch a (trusted_from c).anchored within stored
 
-  module _ (t : ℕ) (it : HasReadLine c.setup a (from c) (to c) (Err (Fail.Tag t))) where
+  module _ (t : ℕ) (it : HasReadTreeLine c.setup a (from c) (to c) (Err (Fail.Tag t))) where
     abbrev tag : IsLineRead c.setup a (from c) (to c) (Err (Fail.Tag t))
     tag = it.done (trusted_from c).not_down
 
@@ -154,7 +154,7 @@ module _ (c : EngineCall) (a : ℕ) (within : a < tree_lines c.setup.shape) wher
         (ap (c.setup.formulas.tag_of a (version_counter (line_counter c.setup.shape c.parts.watch.nodes a))) why.its.cipher_read
         ∙ (fits ∙ ap (λ l. tag_slot l 0) (sym why.its.tags_read)))
 
-    pub tag_done : IsAnswered c.setup (state_of c.setup c.parts) (Do.Read a) (Say.RefusedData t (steps_in c.taken)) (state_of c.setup (left c (Some c.after) c.parts.hurt))
+    pub tag_done : IsTreeAnswered c.setup (state_of c.setup c.parts) (Do.Read a) (Say.RefusedData t (steps_in c.taken)) (state_of c.setup (left c (Some c.after) c.parts.hurt))
     tag_done =
         let plain = kept_plain c going (left c (Some c.after) c.parts.hurt) tag.watch refl refl refl in
         answered (Say.RefusedData t (steps_in c.taken)) (left c (Some c.after) c.parts.hurt) refl (tag.watch.exhibit going-unshown ∙ c.none)
@@ -171,7 +171,7 @@ module _ (c : EngineCall) (a : ℕ) (within : a < tree_lines c.setup.shape) wher
 
   -- ---- an exhibit
 
-  module _ (exhibit : Exhibit) (is : c.watch.exhibit ≡ Some exhibit) (it : HasReadLine c.setup a (from c) (to c) (Err Fail.Shown)) where
+  module _ (exhibit : Exhibit) (is : c.watch.exhibit ≡ Some exhibit) (it : HasReadTreeLine c.setup a (from c) (to c) (Err Fail.Shown)) where
     abbrev show : IsLineRead c.setup a (from c) (to c) (Err Fail.Shown)
     show = it.done (trusted_from c).not_down
 

@@ -15,14 +15,14 @@ use Rattle.collision_witness.specs.Exhibits.{IsExhibit, AreSmallMinors}
 use Rattle.commit_regs.specs.Groups.{redone, finishing_latches}
 use Rattle.pmem_recovery.specs.declared.faults.Work.{Work}
 use Rattle.counter_tree.specs.Layout.{tree_slots, tree_size, line_of_slot}
-use Rattle.counter_tree.specs.Shadow.{shadow_root, shadow_line, shadow_height, IsShadowDifference}
+use Rattle.counter_tree.specs.Shadow.{shadow_root, shadow_tree_line, shadow_height, IsShadowDifference}
 use Rattle.counter_tree.specs.Watch.{WatchState, IsSlotClash, HasShown, first_shown}
 use Rattle.watched_board.specs.declared.taken.Taken.{Taken}
 use Rattle.watched_board.specs.Watching.{steps_in, device_during, none_taken, IsWatched}
 use Rattle.asit_shadow.specs.declared.recovery.TreeRec.{TreeRec}
 use Rattle.asit_shadow.specs.declared.recovery.TreeRec.TheVariants as Fail
 use Rattle.asit_shadow.specs.State.{TreeState}
-use Rattle.asit_shadow.specs.Invariants.{IsAnchored, IsTrusted, IsSlotStored}
+use Rattle.asit_shadow.specs.Invariants.{IsTreeAnchored, IsTreeTrusted, IsSlotStored}
 use Rattle.asit_shadow.specs.Steps.{slots_read}
 use Rattle.asit_shadow.specs.Recovering.{Rest, rest_of, rest_redone, HasTreeRecovered, IsGroupFinished, IsGroupBegun, AreSlotsRead, KeepsRestPlaces, KeepsRestNode}
 use Rattle.asit_shadow.specs.Places.{IsNodeHeld}
@@ -34,7 +34,7 @@ use Rattle.tree_session.specs.declared.commands.TreeCommand.TheVariants as Do
 use Rattle.tree_session.specs.declared.answers.TreeAnswer.{TreeAnswer}
 use Rattle.tree_session.specs.declared.answers.TreeAnswer.TheVariants as Say
 use Rattle.tree_session.specs.World.{TreeParts, plain_of_parts, state_of, IsTreeWorld, IsTreeOff, IsTreeOpen}
-use Rattle.tree_session.specs.Answered.{IsAnswered, IsRooted, IsEngineShown, CanWantMemory, SaysOfOn, AnswersWith, IsSlotTampered, IsShadowRefusal, IsShadowExhibit, IsGroupDone, group_steps, board_redone, recovery_bound}
+use Rattle.tree_session.specs.Answered.{IsTreeAnswered, IsRooted, IsEngineShown, IsTreeMemoryWanted, SaysOfOn, AnswersWith, IsSlotTampered, IsShadowRefusal, IsShadowExhibit, IsGroupDone, group_steps, board_redone, tree_recovery_bound}
 use Rattle.tree_session.proofs.BoardSteps.{goes_on, cut_off, from_dark, cut_from_dark, then_rests, taken-exact, untouched}
 use Rattle.tree_session.proofs.PlainStates.{plain_is, plain-kept, true_slots-is}
 use Rattle.tree_session.proofs.Held.{IsFrame, opened, ended, open_in, off_in, usable_on, usable_off, rooted_on, rooted_off, rooted_open}
@@ -100,12 +100,12 @@ module _ (c : RecoveryCall) where
   dark : c.parts.board.powered ≡ false
   dark = (off_in c.setup c.parts (open_in c.setup c.parts c.world c.none) c.there).unpowered
 
-  anchored_from : IsAnchored c.setup c.parts.board.regs c.parts.watch
+  anchored_from : IsTreeAnchored c.setup c.parts.board.regs c.parts.watch
   anchored_from = (off_in c.setup c.parts (open_in c.setup c.parts c.world c.none) c.there).anchored
 
   answered : (answer : TreeAnswer) (q : TreeParts) → q.keys ≡ c.parts.keys → q.watch.exhibit ≡ None → IsRooted c.setup (plain_of_parts c.setup q)
       → SaysOfOn c.setup (plain_of_parts c.setup c.parts) (plain_of_parts c.setup q) answer
-      → IsAnswered c.setup (state_of c.setup c.parts) Do.On answer (state_of c.setup q)
+      → IsTreeAnswered c.setup (state_of c.setup c.parts) Do.On answer (state_of c.setup q)
   answered answer q keys none rooted it =
       record {
         not_shown = c.none;
@@ -157,10 +157,10 @@ module _ (c : RecoveryCall) where
       let latches = taken-exact (finishing_latches c.parts.board.regs.group.items) c.taken.latches it.latches (omega (arith, few)) in
       omega (arith, writes, latches)
 
-  group_few : group_steps c.parts.board ≤ recovery_bound c.setup.shape
+  group_few : group_steps c.parts.board ≤ tree_recovery_bound c.setup.shape
   group_few = omega (arith, few_latches c.parts.board.regs.group.items, off.small_group)
 
-  few_steps : steps_in c.taken ≡ group_steps c.parts.board → steps_in c.taken ≤ recovery_bound c.setup.shape
+  few_steps : steps_in c.taken ≡ group_steps c.parts.board → steps_in c.taken ≤ tree_recovery_bound c.setup.shape
   few_steps is = let few = group_few in omega (arith, is, few)
 
   -- ---- where the group is finished, the lines are those that it makes
@@ -203,7 +203,7 @@ module _ (c : RecoveryCall) where
   -- ---- recovered
 
   module _ (engine : TreeState) (work : Work) (it : HasTreeRecovered c.setup rest_from rest_to c.before c.later (Ok (engine, work))) where
-    trusted_made : IsTrusted c.setup engine c.board.regs c.watch
+    trusted_made : IsTreeTrusted c.setup engine c.board.regs c.watch
     trusted_made = it.trusted anchored_from
 
     same_made : c.watch ≡ c.parts.watch
@@ -235,7 +235,7 @@ module _ (c : RecoveryCall) where
               };
         })
 
-    pub recovered_done : IsAnswered c.setup (state_of c.setup c.parts) Do.On (Say.Recovered work.digests (steps_in c.taken)) (state_of c.setup (left_with c.board (Some engine)))
+    pub recovered_done : IsTreeAnswered c.setup (state_of c.setup c.parts) Do.On (Say.Recovered work.digests (steps_in c.taken)) (state_of c.setup (left_with c.board (Some engine)))
     recovered_done =
         answered (Say.Recovered work.digests (steps_in c.taken)) (left_with c.board (Some engine)) refl (ap (λ (w : WatchState). w.exhibit) same_made ∙ c.none)
         (rooted_on c.setup (left_with c.board (Some engine)) c.world.whole_shape trusted_made.anchored trusted_made.no_group) (
@@ -250,7 +250,7 @@ module _ (c : RecoveryCall) where
   -- ---- power is off afterwards, and the watch knows what it knew
 
   dark_held : (power : Bool) → power ≡ false → (answer : Result (TreeState × Work) TreeRec) → length c.board.lines ≡ length c.parts.board.lines → c.watch ≡ c.parts.watch
-      → IsAnchored c.setup c.board.regs c.watch → length c.board.regs.group.items ≤ c.setup.shape.levels + 3 → KeepsRestPlaces c.setup rest_from rest_to answer
+      → IsTreeAnchored c.setup c.board.regs c.watch → length c.board.regs.group.items ≤ c.setup.shape.levels + 3 → KeepsRestPlaces c.setup rest_from rest_to answer
       → ((x : ℕ) → KeepsRestNode c.setup rest_to answer x → IfSome (rest_redone rest_to) (λ lines. IsNodeHeld c.setup lines c.watch x))
       → IsTreeWorld c.setup (left_with (record c.board { powered = power }) None)
   dark_held power unpowered answer size same anchored small places held =
@@ -283,7 +283,7 @@ module _ (c : RecoveryCall) where
         let begun = begun_of in
         omega (arith, ap (λ (r : Regs). length r.group.items) begun.regs, off.small_group)
 
-    cut_steps : steps_in c.taken < recovery_bound c.setup.shape
+    cut_steps : steps_in c.taken < tree_recovery_bound c.setup.shape
     cut_steps =
         let begun = begun_of in
         let few = c.watched.follows.few in
@@ -302,7 +302,7 @@ module _ (c : RecoveryCall) where
     cut_held =
         dark_held c.board.powered it.power.1 (Err Fail.Cut) it.size it.answered (it.trusted anchored_from) cut_group (it.places anchored_from) (λ x held. held)
 
-    pub cut_done : IsAnswered c.setup (state_of c.setup c.parts) Do.On (Say.Cut (steps_in c.taken)) (state_of c.setup (left_with c.board None))
+    pub cut_done : IsTreeAnswered c.setup (state_of c.setup c.parts) Do.On (Say.Cut (steps_in c.taken)) (state_of c.setup (left_with c.board None))
     cut_done =
         answered (Say.Cut (steps_in c.taken)) (left_with c.board None) refl (ap (λ (w : WatchState). w.exhibit) it.answered ∙ c.none)
         (rooted_off c.setup (left_with c.board None) c.world.whole_shape (it.trusted anchored_from) it.power.1) (
@@ -327,7 +327,7 @@ module _ (c : RecoveryCall) where
     empty_refused : c.board.regs.group.items ≡ []
     empty_refused = ap (λ (r : Regs). r.group.items) it.group.regs
 
-    anchored_refused : IsAnchored c.setup c.board.regs c.watch
+    anchored_refused : IsTreeAnchored c.setup c.board.regs c.watch
     anchored_refused = it.trusted anchored_from
 
     found_is : found ≡ shadow_root c.setup.shape c.setup.formulas (slots_read c.setup.shape c.board.lines)
@@ -343,7 +343,7 @@ module _ (c : RecoveryCall) where
     refused_held =
         dark_held false refl (Err (Fail.Shadow kept found)) it.size same_refused anchored_refused (omega (arith, ap length empty_refused)) (it.places anchored_from) (λ x held. held)
 
-    pub refused_done : IsAnswered c.setup (state_of c.setup c.parts) Do.On (Say.RefusedShadow kept found (steps_in c.taken)) (state_of c.setup (left_with resting None))
+    pub refused_done : IsTreeAnswered c.setup (state_of c.setup c.parts) Do.On (Say.RefusedShadow kept found (steps_in c.taken)) (state_of c.setup (left_with resting None))
     refused_done =
         let plain = plain_same (left_with resting None) refl same_refused refl refl in
         answered (Say.RefusedShadow kept found (steps_in c.taken)) (left_with resting None) refl (ap (λ (w : WatchState). w.exhibit) same_refused ∙ c.none)
@@ -387,7 +387,7 @@ module _ (c : RecoveryCall) where
             ∙ (ap (λ v. let r : TreeParts = record { keys = q.keys; board = q.board; watch = q.watch; engine = q.engine; tampered = q.tampered; hurt = v } in r) hurt)))))
 
     -- it wasn't on already
-    pub memory_wanted : CanWantMemory (state_of c.setup c.parts) Do.On × (state_of c.setup (left_with resting None) ≡ state_of c.setup c.parts)
+    pub memory_wanted : IsTreeMemoryWanted (state_of c.setup c.parts) Do.On × (state_of c.setup (left_with resting None) ≡ state_of c.setup c.parts)
     memory_wanted = (record { takes = refl; not_shown = c.none; needs = dark }, ap (state_of c.setup) as_it_was)
 
     pub memory_held : IsTreeWorld c.setup (left_with resting None)
@@ -465,8 +465,8 @@ module _ (c : RecoveryCall) where
             let truth : true_slots c.setup.shape (with_board (plain_of_parts c.setup c.parts) resting) ≡ c.parts.watch.slots =
             slots-free c.setup.shape (plain_of_parts c.setup c.parts) resting (plain_of_parts c.setup c.parts).named ∙ true_are in
             let place = subst (λ (s : Setup). IsShadowDifference s.formulas (shadow_height s.shape) clash.slots c.parts.watch.slots its_clash.slot its_clash.height its_clash.position) same_setup its_clash.place in
-            let its = subst (λ (s : Setup). exhibit ≡ Clash its_clash.position (shadow_line s.formulas (shadow_height s.shape) clash.slots its_clash.height its_clash.position)
-            (shadow_line s.formulas (shadow_height s.shape) c.parts.watch.slots its_clash.height its_clash.position)) same_setup its_clash.its in
+            let its = subst (λ (s : Setup). exhibit ≡ Clash its_clash.position (shadow_tree_line s.formulas (shadow_height s.shape) clash.slots its_clash.height its_clash.position)
+            (shadow_tree_line s.formulas (shadow_height s.shape) c.parts.watch.slots its_clash.height its_clash.position)) same_setup its_clash.its in
             record {
               slot = its_clash.slot;
               height = its_clash.height;
@@ -480,8 +480,8 @@ module _ (c : RecoveryCall) where
                   (subst (λ (ls : List Line). IsShadowDifference c.setup.formulas (shadow_height c.setup.shape) ls c.parts.watch.slots its_clash.slot its_clash.height its_clash.position) slots_are place);
               its =
                   its
-                  ∙ (ap (λ (ls : List Line). Clash its_clash.position (shadow_line c.setup.formulas (shadow_height c.setup.shape) ls its_clash.height its_clash.position)
-                  (shadow_line c.setup.formulas (shadow_height c.setup.shape) c.parts.watch.slots its_clash.height its_clash.position)) slots_are
-                  ∙ ap (λ (ls : List Line). Clash its_clash.position (shadow_line c.setup.formulas (shadow_height c.setup.shape) (slots_read c.setup.shape c.board.lines) its_clash.height its_clash.position)
-                  (shadow_line c.setup.formulas (shadow_height c.setup.shape) ls its_clash.height its_clash.position)) (sym truth));
+                  ∙ (ap (λ (ls : List Line). Clash its_clash.position (shadow_tree_line c.setup.formulas (shadow_height c.setup.shape) ls its_clash.height its_clash.position)
+                  (shadow_tree_line c.setup.formulas (shadow_height c.setup.shape) c.parts.watch.slots its_clash.height its_clash.position)) slots_are
+                  ∙ ap (λ (ls : List Line). Clash its_clash.position (shadow_tree_line c.setup.formulas (shadow_height c.setup.shape) (slots_read c.setup.shape c.board.lines) its_clash.height its_clash.position)
+                  (shadow_tree_line c.setup.formulas (shadow_height c.setup.shape) ls its_clash.height its_clash.position)) (sym truth));
             }

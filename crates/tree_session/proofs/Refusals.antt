@@ -21,8 +21,8 @@ use Rattle.counter_tree.specs.Slots.{slot_line}
 use Rattle.counter_tree.specs.Trees.{node_at, line_counter, is_on_line_path}
 use Rattle.counter_tree.specs.Watch.{last_seal_of, forged_node}
 use Rattle.counter_tree.proofs.TreeLaws.{tree-version}
-use Rattle.asit_shadow.specs.Invariants.{IsAnchored}
-use Rattle.asit_shadow.specs.Steps.{plain_of}
+use Rattle.asit_shadow.specs.Invariants.{IsTreeAnchored}
+use Rattle.asit_shadow.specs.Steps.{tree_plain_of}
 use Rattle.asit_shadow.specs.Plain.{PlainTree, true_node, true_version, true_count, true_cipher, slot_naming, with_board}
 use Rattle.asit_shadow.proofs.SlotPlaces.{on_path-inside}
 use Rattle.tree_session.specs.World.{TreeParts, plain_of_parts}
@@ -51,7 +51,7 @@ rooted_with setup plain b it root off =
       no_group = λ on. absurd (false≢true (sym off ∙ on));
     }
 
-module _ (setup : Setup) (p : TreeParts) (regs : Regs) (b : BoardMemory) (shape : IsShape setup.shape) (in_range : AreInRange setup.formulas) (anchored : IsAnchored setup regs p.watch) where
+module _ (setup : Setup) (p : TreeParts) (regs : Regs) (b : BoardMemory) (shape : IsShape setup.shape) (in_range : AreInRange setup.formulas) (anchored : IsTreeAnchored setup regs p.watch) where
   -- ---- nodes
 
   node-here : (x : ℕ) → x < meta_lines setup.shape → true_node setup.shape (with_board (plain_of_parts setup p) b) x ≡ node_at p.watch.nodes x
@@ -142,7 +142,7 @@ module _ (setup : Setup) (p : TreeParts) (regs : Regs) (b : BoardMemory) (shape 
       let it = anchored.seals a within in
       ap (λ n. cipher_of setup.formulas a (version_counter n) (line_at (plain_of_parts setup p).memory a)) (count-here a within ∙ sym it.counter)
       ∙ (ap (cipher_of setup.formulas a (version_counter it.seal.counter))
-      ((plain_is setup p regs shape anchored).memory a within ∙ ap (plain_of setup.formulas a) it.last)
+      ((plain_is setup p regs shape anchored).memory a within ∙ ap (tree_plain_of setup.formulas a) it.last)
       ∙ cipher_of-back setup.formulas a (version_counter it.seal.counter) it.seal.cipher in_range (record { major = it.in_range.counter; minor = omega arith })
       it.in_range.cipher)
 

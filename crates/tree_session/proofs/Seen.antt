@@ -13,15 +13,15 @@ use Rattle.watched_board.specs.declared.taken.Taken.{Taken}
 use Rattle.watched_board.specs.Watching.{steps_in, IsWatched}
 use Rattle.asit_shadow.specs.declared.fault.TreeFault.{TreeFault}
 use Rattle.asit_shadow.specs.State.{TreeState}
-use Rattle.asit_shadow.specs.Calls.{HasReadLine, HasWrittenLine}
+use Rattle.asit_shadow.specs.Calls.{HasReadTreeLine, HasWrittenTreeLine}
 use Rattle.collision_witness.specs.Exhibits.{AreSmallMinors}
 use Rattle.trace_text.specs.declared.talk.Halt.{Halt}
 use Rattle.trace_text.specs.declared.talk.Halt.TheVariants as Stop
 use Rattle.tree_session.specs.declared.commands.TreeCommand.{TreeCommand}
 use Rattle.tree_session.specs.declared.answers.TreeAnswer.{TreeAnswer}
-use Rattle.tree_session.specs.State.{SessionState, setup_in}
+use Rattle.tree_session.specs.State.{SessionState, tree_setup_in}
 use Rattle.tree_session.specs.World.{TreeParts, state_of, IsTreeWorld}
-use Rattle.tree_session.specs.Answered.{IsAnswered, IsHalt, IsEngineShown}
+use Rattle.tree_session.specs.Answered.{IsTreeAnswered, IsTreeHalt, IsEngineShown}
 use Rattle.tree_session.proofs.Held.{EngineCall, on, from, to}
 
 -- the geometry, and the formulas under keys
@@ -32,9 +32,9 @@ setup_under formulas_of g keys = record { shape = g; formulas = formulas_of keys
 pub seen_from : (formulas_of : List ℕ → Formulas) (g : Shape) (p q : TreeParts) (now : SessionState) (keys : List ℕ)
     (Q : Setup → SessionState → SessionState → Type 0) → state_of (setup_under formulas_of g p.keys) p ≡ now → keys ≡ p.keys → q.keys ≡ p.keys
     → Q (setup_under formulas_of g p.keys) (state_of (setup_under formulas_of g p.keys) p) (state_of (setup_under formulas_of g p.keys) q)
-    → Q (setup_in formulas_of now) now (state_of (setup_under formulas_of g keys) (record q { keys = keys }))
+    → Q (tree_setup_in formulas_of now) now (state_of (setup_under formulas_of g keys) (record q { keys = keys }))
 seen_from formulas_of g p q now keys Q is same its it =
-    subst (λ (w : SessionState). Q (setup_in formulas_of w) w (state_of (setup_under formulas_of g keys) (record q { keys = keys }))) is
+    subst (λ (w : SessionState). Q (tree_setup_in formulas_of w) w (state_of (setup_under formulas_of g keys) (record q { keys = keys }))) is
     (subst (λ (k : List ℕ). Q (setup_under formulas_of g p.keys) (state_of (setup_under formulas_of g p.keys) p) (state_of (setup_under formulas_of g k) (record q { keys = k })))
     (sym same)
     (subst (λ (k : List ℕ). Q (setup_under formulas_of g p.keys) (state_of (setup_under formulas_of g p.keys) p) (state_of (setup_under formulas_of g p.keys) (record q { keys = k })))
@@ -94,24 +94,24 @@ module _ (w : WorldCall) where
   shape_is = (on call).its_shape
 
   pub as_read : (a : ℕ) (answer known : Result Line TreeFault) → answer ≡ known
-      → HasReadLine (setup_under w.formulas_of w.engine.shape w.parts.keys) a (from call) (to call) answer → HasReadLine setup_of a (from call) (to call) known
+      → HasReadTreeLine (setup_under w.formulas_of w.engine.shape w.parts.keys) a (from call) (to call) answer → HasReadTreeLine setup_of a (from call) (to call) known
   as_read a answer known is it =
-      subst (λ r. HasReadLine setup_of a (from call) (to call) r) is
-      (subst (λ (s : Shape). HasReadLine (setup_under w.formulas_of s w.parts.keys) a (from call) (to call) answer) shape_is it)
+      subst (λ r. HasReadTreeLine setup_of a (from call) (to call) r) is
+      (subst (λ (s : Shape). HasReadTreeLine (setup_under w.formulas_of s w.parts.keys) a (from call) (to call) answer) shape_is it)
 
   pub as_written : (a : ℕ) (line : Line) (answer known : Result ℕ TreeFault) → answer ≡ known
-      → HasWrittenLine (setup_under w.formulas_of w.engine.shape w.parts.keys) a line (from call) (to call) answer → HasWrittenLine setup_of a line (from call) (to call) known
+      → HasWrittenTreeLine (setup_under w.formulas_of w.engine.shape w.parts.keys) a line (from call) (to call) answer → HasWrittenTreeLine setup_of a line (from call) (to call) known
   as_written a line answer known is it =
-      subst (λ r. HasWrittenLine setup_of a line (from call) (to call) r) is
-      (subst (λ (s : Shape). HasWrittenLine (setup_under w.formulas_of s w.parts.keys) a line (from call) (to call) answer) shape_is it)
+      subst (λ r. HasWrittenTreeLine setup_of a line (from call) (to call) r) is
+      (subst (λ (s : Shape). HasWrittenTreeLine (setup_under w.formulas_of s w.parts.keys) a line (from call) (to call) answer) shape_is it)
 
   -- an answer with its steps
   pub seen : (q : TreeParts) (command : TreeCommand) (answer : ℕ → TreeAnswer) → q.keys ≡ w.parts.keys
-      → IsAnswered setup_of (state_of setup_of w.parts) command (answer (steps_in w.taken)) (state_of setup_of q)
-      → IsAnswered (setup_in w.formulas_of w.now) w.now command (answer w.said) (state_of (setup_under w.formulas_of w.geometry w.keys) (record q { keys = w.keys }))
+      → IsTreeAnswered setup_of (state_of setup_of w.parts) command (answer (steps_in w.taken)) (state_of setup_of q)
+      → IsTreeAnswered (tree_setup_in w.formulas_of w.now) w.now command (answer w.said) (state_of (setup_under w.formulas_of w.geometry w.keys) (record q { keys = w.keys }))
   seen q command answer its it =
-      subst (λ (n : ℕ). IsAnswered (setup_in w.formulas_of w.now) w.now command (answer n) (state_of (setup_under w.formulas_of w.geometry w.keys) (record q { keys = w.keys }))) (sym w.counted)
-      (seen_from w.formulas_of w.geometry w.parts q w.now w.keys (λ setup old new. IsAnswered setup old command (answer (steps_in w.taken)) new) w.is w.same_keys its it)
+      subst (λ (n : ℕ). IsTreeAnswered (tree_setup_in w.formulas_of w.now) w.now command (answer n) (state_of (setup_under w.formulas_of w.geometry w.keys) (record q { keys = w.keys }))) (sym w.counted)
+      (seen_from w.formulas_of w.geometry w.parts q w.now w.keys (λ setup old new. IsTreeAnswered setup old command (answer (steps_in w.taken)) new) w.is w.same_keys its it)
 
   pub held : (q : TreeParts) → IsTreeWorld setup_of (record q { keys = w.parts.keys }) → IsTreeWorld (setup_under w.formulas_of w.geometry w.keys) (record q { keys = w.keys })
   held q it = held_under w.formulas_of w.geometry w.parts q w.keys w.same_keys it
@@ -129,7 +129,7 @@ halt-is halt exhibit found told is = same_Some (Stop.Shown exhibit) halt (sym (t
 pub halts : (formulas_of : List ℕ → Formulas) (g : Shape) (p q : TreeParts) (now : SessionState) (keys : List ℕ) (command : TreeCommand) (halt : Halt) (exhibit : Exhibit)
     (found : Option Exhibit) → state_of (setup_under formulas_of g p.keys) p ≡ now → keys ≡ p.keys → q.keys ≡ p.keys → Some halt ≡ option_map Stop.Shown found → found ≡ Some exhibit → AreSmallMinors exhibit
     → IsEngineShown (setup_under formulas_of g p.keys) (state_of (setup_under formulas_of g p.keys) p) command exhibit (state_of (setup_under formulas_of g p.keys) q)
-    → IsHalt (setup_in formulas_of now) now command halt (state_of (setup_under formulas_of g keys) (record q { keys = keys }))
+    → IsTreeHalt (tree_setup_in formulas_of now) now command halt (state_of (setup_under formulas_of g keys) (record q { keys = keys }))
 halts formulas_of g p q now keys command halt exhibit found is same its told there minors it =
-    subst (λ h. IsHalt (setup_in formulas_of now) now command h (state_of (setup_under formulas_of g keys) (record q { keys = keys }))) (halt-is halt exhibit found told there)
+    subst (λ h. IsTreeHalt (tree_setup_in formulas_of now) now command h (state_of (setup_under formulas_of g keys) (record q { keys = keys }))) (halt-is halt exhibit found told there)
     (inl (seen_from formulas_of g p q now keys (λ setup old new. IsEngineShown setup old command exhibit new) is same its it), minors)

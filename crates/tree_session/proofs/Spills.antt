@@ -20,9 +20,9 @@ use Rattle.counter_tree.specs.Slots.{slot_of, slot_line}
 use Rattle.counter_tree.specs.Watch.{WatchState, last_seal_of}
 use Rattle.asit_shadow.specs.declared.cache.CachedNode.{CachedNode}
 use Rattle.asit_shadow.specs.State.{TreeState, cache_at}
-use Rattle.asit_shadow.specs.Invariants.{IsAnchored, IsTrusted}
+use Rattle.asit_shadow.specs.Invariants.{IsTreeAnchored, IsTreeTrusted}
 use Rattle.asit_shadow.specs.Paths.{line_path, path_node, tag_only, write_group}
-use Rattle.asit_shadow.specs.Work.{spilled, level_write, write_back, is_cached, HasFetchedLevels, HasArmedPath}
+use Rattle.asit_shadow.specs.Work.{spilled_nodes, node_level_write, write_back, is_node_cached, HasFetchedNodes, HasArmedPath}
 use Rattle.asit_shadow.specs.Plain.{PlainTree, true_node, true_count, true_cipher}
 use Rattle.asit_shadow.proofs.SlotPlaces.{on_path-inside}
 use Rattle.asit_shadow.proofs.LevelWork.{spilled-few, absent-few}
@@ -68,7 +68,7 @@ put-either W (entry ∷ rest) lines each d =
 abbrev IsNodeAt : Setup → List Node → ℕ → Line → Type 0
 IsNodeAt setup nodes d line = (x : ℕ) × (x < meta_lines setup.shape) × (d ≡ line_of_node setup.shape x) × (line ≡ node_line setup.formulas x (node_at nodes x))
 
-module _ (setup : Setup) (engine : TreeState) (regs : Rattle.pmem_base.specs.declared.registers.Regs.Regs) (watch : WatchState) (trusted : IsTrusted setup engine regs watch) where
+module _ (setup : Setup) (engine : TreeState) (regs : Rattle.pmem_base.specs.declared.registers.Regs.Regs) (watch : WatchState) (trusted : IsTreeTrusted setup engine regs watch) where
   back-each : (i : ℕ) (found : Option CachedNode) → cache_at engine.cache i ≡ found → Each (IsNodeAt setup watch.nodes) (write_back setup found)
   back-each i None is = tt
   back-each i (Some held) is = go held.dirty
@@ -80,26 +80,26 @@ module _ (setup : Setup) (engine : TreeState) (regs : Rattle.pmem_base.specs.dec
           ((held.x, it.on_tree, refl, ap (node_line setup.formulas held.x) it.true_node), tt)
       go false = tt
 
-  level-each : (x : ℕ) → Each (IsNodeAt setup watch.nodes) (level_write setup engine.cache x)
-  level-each x = go (is_cached setup.shape engine.cache x)
+  level-each : (x : ℕ) → Each (IsNodeAt setup watch.nodes) (node_level_write setup engine.cache x)
+  level-each x = go (is_node_cached setup.shape engine.cache x)
     where
       go : (there : Bool) → Each (IsNodeAt setup watch.nodes) (if there then [] else write_back setup (cache_at engine.cache (slot_of setup.shape x)))
       go true = tt
       go false = back-each (slot_of setup.shape x) (cache_at engine.cache (slot_of setup.shape x)) refl
 
-  spilled-each : (a n : ℕ) → Each (IsNodeAt setup watch.nodes) (spilled setup engine.cache a n)
+  spilled-each : (a n : ℕ) → Each (IsNodeAt setup watch.nodes) (spilled_nodes setup engine.cache a n)
   spilled-each a zero = tt
   spilled-each a (suc n) =
-      each-append (IsNodeAt setup watch.nodes) (spilled setup engine.cache a n) (level_write setup engine.cache (path_node setup.shape a (suc n)))
+      each-append (IsNodeAt setup watch.nodes) (spilled_nodes setup engine.cache a n) (node_level_write setup engine.cache (path_node setup.shape a (suc n)))
       (spilled-each a n) (level-each (path_node setup.shape a (suc n)))
 
 -- ---- a call
 
 module _ (c : EngineCall) (a : ℕ) where
-  made-by : (n : ℕ) → AreLinesSpilled c.setup (plain_of_parts c.setup c.parts) (redone (spilled c.setup c.engine.cache a n) c.parts.board.lines)
+  made-by : (n : ℕ) → AreLinesSpilled c.setup (plain_of_parts c.setup c.parts) (redone (spilled_nodes c.setup c.engine.cache a n) c.parts.board.lines)
   made-by n d =
       let trusted = trusted_from c in
-      elim (put-either (IsNodeAt c.setup c.parts.watch.nodes) (spilled c.setup c.engine.cache a n) c.parts.board.lines
+      elim (put-either (IsNodeAt c.setup c.parts.watch.nodes) (spilled_nodes c.setup c.engine.cache a n) c.parts.board.lines
       (spilled-each c.setup c.engine c.parts.board.regs c.parts.watch trusted a n) d) [
         | inl same ↦ inl same
         | inr node ↦
@@ -115,12 +115,12 @@ module _ (c : EngineCall) (a : ℕ) where
             })
       ]
 
-  pub spilled_lines : (n : ℕ) → HasFetchedLevels c.setup a n (from c) (to c) → AreLinesSpilled c.setup (plain_of_parts c.setup c.parts) c.board.lines
+  pub spilled_lines : (n : ℕ) → HasFetchedNodes c.setup a n (from c) (to c) → AreLinesSpilled c.setup (plain_of_parts c.setup c.parts) c.board.lines
   spilled_lines n it =
-      let lines : c.board.lines ≡ redone (spilled c.setup c.engine.cache a n) c.parts.board.lines = same_Some _ _ it.lines in
+      let lines : c.board.lines ≡ redone (spilled_nodes c.setup c.engine.cache a n) c.parts.board.lines = same_Some _ _ it.lines in
       subst (AreLinesSpilled c.setup (plain_of_parts c.setup c.parts)) (sym lines) (made-by n)
 
-  pub board_spilled : (n : ℕ) (q : TreeParts) → q.board.lines ≡ c.board.lines → q.board.regs ≡ c.board.regs → HasFetchedLevels c.setup a n (from c) (to c)
+  pub board_spilled : (n : ℕ) (q : TreeParts) → q.board.lines ≡ c.board.lines → q.board.regs ≡ c.board.regs → HasFetchedNodes c.setup a n (from c) (to c)
       → IsBoardSpilled c.setup (plain_of_parts c.setup c.parts) (plain_of_parts c.setup q)
   board_spilled n q lines regs it =
       record {
@@ -129,10 +129,10 @@ module _ (c : EngineCall) (a : ℕ) where
       }
 
   -- as many line writes at most as levels were fetched
-  pub few_spilled : (n : ℕ) → HasFetchedLevels c.setup a n (from c) (to c) → steps_in c.taken ≤ n
+  pub few_spilled : (n : ℕ) → HasFetchedNodes c.setup a n (from c) (to c) → steps_in c.taken ≤ n
   few_spilled n it =
       let few = c.watched.follows.few in
-      let writes = taken-exact (length (spilled c.setup c.engine.cache a n)) c.taken.writes it.writes (omega (arith, few)) in
+      let writes = taken-exact (length (spilled_nodes c.setup c.engine.cache a n)) c.taken.writes it.writes (omega (arith, few)) in
       let back = spilled-few c.setup c.engine.cache a n in
       let absent = absent-few c.setup.shape c.engine.cache a n in
       omega (arith, writes, it.latches, back, absent)
@@ -146,13 +146,13 @@ module _ (c : EngineCall) (a : ℕ) where
       let rest = same-on f g xs (λ y on. each y (or_right (x == y) (list_any (λ z. z == y) xs) on)) in
       cc
 
-  module _ (within : a < tree_lines c.setup.shape) (q : TreeParts) (watch_is : q.watch ≡ c.watch) (anchored : IsAnchored c.setup c.board.regs c.watch) (seal : LineSeal)
+  module _ (within : a < tree_lines c.setup.shape) (q : TreeParts) (watch_is : q.watch ≡ c.watch) (anchored : IsTreeAnchored c.setup c.board.regs c.watch) (seal : LineSeal)
       (last : last_seal_of c.watch a ≡ Some seal) where
     abbrev after : PlainTree
     after = plain_of_parts c.setup q
 
-    anchored_q : IsAnchored c.setup c.board.regs q.watch
-    anchored_q = subst (IsAnchored c.setup c.board.regs) (sym watch_is) anchored
+    anchored_q : IsTreeAnchored c.setup c.board.regs q.watch
+    anchored_q = subst (IsTreeAnchored c.setup c.board.regs) (sym watch_is) anchored
 
     sealed : (anchored_q.seals a within).seal ≡ seal
     sealed =
@@ -192,13 +192,13 @@ module _ (c : EngineCall) (a : ℕ) where
         → IsBoardWritten c.setup a (plain_of_parts c.setup c.parts) (plain_of_parts c.setup q)
     board_written n latches its it =
         let put : redone c.board.regs.group.items c.board.lines
-        ≡ redone (write_group c.setup.shape a seal c.watch.nodes) (redone (spilled c.setup c.engine.cache a c.setup.shape.levels) c.parts.board.lines) = same_Some _ _ it.lines in
+        ≡ redone (write_group c.setup.shape a seal c.watch.nodes) (redone (spilled_nodes c.setup c.engine.cache a c.setup.shape.levels) c.parts.board.lines) = same_Some _ _ it.lines in
         record {
-          spilled = redone (spilled c.setup c.engine.cache a c.setup.shape.levels) c.parts.board.lines;
+          spilled = redone (spilled_nodes c.setup c.engine.cache a c.setup.shape.levels) c.parts.board.lines;
           lines = made-by c.setup.shape.levels;
           put =
               ap board_redone its
-              ∙ (put ∙ ap (λ g. redone g (redone (spilled c.setup c.engine.cache a c.setup.shape.levels) c.parts.board.lines)) (sym group_is));
+              ∙ (put ∙ ap (λ g. redone g (redone (spilled_nodes c.setup c.engine.cache a c.setup.shape.levels) c.parts.board.lines)) (sym group_is));
         }
 
     pub group_kept : c.board.regs.group.items ≡ write_group c.setup.shape a seal c.watch.nodes → c.board.regs.group.items ≡ put_by_write c.setup (plain_of_parts c.setup q) a

@@ -11,10 +11,10 @@ use Rattle.board.specs.Memory.{BoardMemory, device_of, with_line_at}
 use Rattle.commit_regs.specs.Groups.{redone}
 use Rattle.counter_tree.specs.Layout.{tree_lines, tree_size, line_of_tag, line_of_node, line_of_slot}
 use Rattle.asit_shadow.specs.State.{TreeState}
-use Rattle.asit_shadow.specs.Invariants.{IsSealStored}
+use Rattle.asit_shadow.specs.Invariants.{IsTreeSealStored}
 use Rattle.asit_shadow.specs.Plain.{hurt_with}
 use Rattle.asit_shadow.proofs.PlaceLaws.{poked-elsewhere}
-use Rattle.tree_session.specs.World.{TreeParts, plain_of_parts, rest_in, ArePlacesKept, IsTreeBy, IsTreeWorld}
+use Rattle.tree_session.specs.World.{TreeParts, plain_of_parts, rest_in, AreTreePlacesKept, IsTreeBy, IsTreeWorld}
 use Rattle.tree_session.proofs.Held.{opened, open_in, on_in, off_in, usable_on, usable_off}
 
 -- ---- flags
@@ -91,14 +91,14 @@ module _ (setup : Setup) (p : TreeParts) (board : BoardMemory) (world : IsTreeWo
   flag : (q : ℕ) → slice_index_or (slice_set p.tampered d true) q false ≡ false → (q ≢ d) × (slice_index_or p.tampered q false ≡ false)
   flag q unchanged = unflagged p.tampered d q (omega (arith, inside, world.tampered_count)) unchanged
 
-  places_changed : ArePlacesKept setup (plain_of_parts setup changed) (rest_in changed)
+  places_changed : AreTreePlacesKept setup (plain_of_parts setup changed) (rest_in changed)
   places_changed =
       let opened_in = open_in setup p world none in
       record {
         seals =
             λ a in_a clear.
             let it = unhurt setup.shape p.hurt d a world.hurt_count in_a clear in
-            let before : IsSealStored setup.shape (redone p.board.regs.group.items p.board.lines) p.watch a = opened_in.places.seals a in_a it.2 in
+            let before : IsTreeSealStored setup.shape (redone p.board.regs.group.items p.board.lines) p.watch a = opened_in.places.seals a in_a it.2 in
             record {
               seal = before.seal;
               last = before.last;

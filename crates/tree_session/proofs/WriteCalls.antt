@@ -10,14 +10,14 @@ use Rattle.counter_tree.specs.Layout.{tree_lines}
 use Rattle.asit_shadow.specs.declared.fault.TreeFault.{TreeFault}
 use Rattle.asit_shadow.specs.declared.fault.TreeFault.TheVariants as Fail
 use Rattle.asit_shadow.specs.State.{TreeState}
-use Rattle.asit_shadow.specs.Calls.{HasWrittenLine}
+use Rattle.asit_shadow.specs.Calls.{HasWrittenTreeLine}
 use Rattle.trace_text.specs.declared.talk.Halt.{Halt}
 use Rattle.trace_text.specs.declared.talk.Halt.TheVariants as Stop
 use Rattle.tree_session.specs.declared.commands.TreeCommand.TheVariants as Do
 use Rattle.tree_session.specs.declared.answers.TreeAnswer.TheVariants as Say
-use Rattle.tree_session.specs.State.{setup_in}
+use Rattle.tree_session.specs.State.{tree_setup_in}
 use Rattle.tree_session.specs.World.{TreeParts, state_of, IsTreeWorld}
-use Rattle.tree_session.specs.Answered.{IsAnswered, IsHalt}
+use Rattle.tree_session.specs.Answered.{IsTreeAnswered, IsTreeHalt}
 use Rattle.tree_session.proofs.Held.{left, left_resting, from, to, trusted_from}
 use Rattle.tree_session.proofs.WriteLaws.{written_held, written_done, lost_held, lost_done, kept_held, kept_done, unwritten_held, unwritten_done, spent_held, spent_done, unwritten_shown_held, unwritten_shown_done, unwritten_shown_minors}
 use Rattle.tree_session.proofs.Seen.{WorldCall, call, setup_of, setup_under, as_written, seen, held, halts, some_of}
@@ -30,7 +30,7 @@ pub record WriteCall : Type 0 where
   pub whole : IsLine line
   pub answer : Result ℕ TreeFault
   pub was_written :
-      HasWrittenLine (setup_under world.formulas_of world.engine.shape world.parts.keys) at line (from (call world)) (to (call world)) answer
+      HasWrittenTreeLine (setup_under world.formulas_of world.engine.shape world.parts.keys) at line (from (call world)) (to (call world)) answer
 
 module _ (r : WriteCall) where
   abbrev kept : Option TreeState → TreeParts
@@ -45,14 +45,14 @@ module _ (r : WriteCall) where
   abbrev pub setup_then : Setup
   setup_then = setup_under r.world.formulas_of r.world.geometry r.world.keys
 
-  was : (known : Result ℕ TreeFault) → r.answer ≡ known → HasWrittenLine (setup_of r.world) r.at r.line (from (call r.world)) (to (call r.world)) known
+  was : (known : Result ℕ TreeFault) → r.answer ≡ known → HasWrittenTreeLine (setup_of r.world) r.at r.line (from (call r.world)) (to (call r.world)) known
   was known is = as_written r.world r.at r.line r.answer known is r.was_written
 
   pub made_held : (counter : ℕ) → r.answer ≡ Ok counter → IsTreeWorld setup_then (under (made (Some r.world.after)))
   made_held counter is = held r.world (made (Some r.world.after)) (written_held (call r.world) r.at r.within r.line r.whole counter (was (Ok counter) is))
 
   pub made_seen : (counter : ℕ) → r.answer ≡ Ok counter
-      → IsAnswered (setup_in r.world.formulas_of r.world.now) r.world.now (Do.Write r.at r.line) (Say.Written r.world.said) (state_of setup_then (under (made (Some r.world.after))))
+      → IsTreeAnswered (tree_setup_in r.world.formulas_of r.world.now) r.world.now (Do.Write r.at r.line) (Say.Written r.world.said) (state_of setup_then (under (made (Some r.world.after))))
   made_seen counter is =
       seen r.world (made (Some r.world.after)) (Do.Write r.at r.line) Say.Written refl (written_done (call r.world) r.at r.within r.line r.whole counter (was (Ok counter) is))
 
@@ -60,7 +60,7 @@ module _ (r : WriteCall) where
   node_kept x is = held r.world (kept (Some r.world.after)) (unwritten_held (call r.world) r.at r.within r.line r.whole x (was (Err (Fail.Node x)) is))
 
   pub node_seen : (x : ℕ) → r.answer ≡ Err (Fail.Node x)
-      → IsAnswered (setup_in r.world.formulas_of r.world.now) r.world.now (Do.Write r.at r.line) (Say.RefusedNode x r.world.said) (state_of setup_then (under (kept (Some r.world.after))))
+      → IsTreeAnswered (tree_setup_in r.world.formulas_of r.world.now) r.world.now (Do.Write r.at r.line) (Say.RefusedNode x r.world.said) (state_of setup_then (under (kept (Some r.world.after))))
   node_seen x is =
       seen r.world (kept (Some r.world.after)) (Do.Write r.at r.line) (Say.RefusedNode x) refl
       (unwritten_done (call r.world) r.at r.within r.line r.whole x (was (Err (Fail.Node x)) is))
@@ -69,7 +69,7 @@ module _ (r : WriteCall) where
   spent_kept is = held r.world (kept (Some r.world.after)) (spent_held (call r.world) r.at r.within r.line r.whole (was (Err Fail.Spent) is))
 
   pub spent_seen : r.answer ≡ Err Fail.Spent
-      → IsAnswered (setup_in r.world.formulas_of r.world.now) r.world.now (Do.Write r.at r.line) (Say.Spent r.world.said) (state_of setup_then (under (kept (Some r.world.after))))
+      → IsTreeAnswered (tree_setup_in r.world.formulas_of r.world.now) r.world.now (Do.Write r.at r.line) (Say.Spent r.world.said) (state_of setup_then (under (kept (Some r.world.after))))
   spent_seen is =
       seen r.world (kept (Some r.world.after)) (Do.Write r.at r.line) Say.Spent refl (spent_done (call r.world) r.at r.within r.line r.whole (was (Err Fail.Spent) is))
 
@@ -77,7 +77,7 @@ module _ (r : WriteCall) where
   lost_kept is none = held r.world (kept None) (lost_held (call r.world) r.at r.within r.line r.whole (was (Err Fail.Cut) is) none)
 
   pub lost_seen : r.answer ≡ Err Fail.Cut → r.world.taken.latches ≤ 0
-      → IsAnswered (setup_in r.world.formulas_of r.world.now) r.world.now (Do.Write r.at r.line) (Say.CutLost r.world.said) (state_of setup_then (under (kept None)))
+      → IsTreeAnswered (tree_setup_in r.world.formulas_of r.world.now) r.world.now (Do.Write r.at r.line) (Say.CutLost r.world.said) (state_of setup_then (under (kept None)))
   lost_seen is none =
       seen r.world (kept None) (Do.Write r.at r.line) Say.CutLost refl (lost_done (call r.world) r.at r.within r.line r.whole (was (Err Fail.Cut) is) none)
 
@@ -85,7 +85,7 @@ module _ (r : WriteCall) where
   cut_kept is some = held r.world (made None) (kept_held (call r.world) r.at r.within r.line r.whole (was (Err Fail.Cut) is) some)
 
   pub cut_seen : r.answer ≡ Err Fail.Cut → 0 < r.world.taken.latches
-      → IsAnswered (setup_in r.world.formulas_of r.world.now) r.world.now (Do.Write r.at r.line) (Say.CutKept r.world.said) (state_of setup_then (under (made None)))
+      → IsTreeAnswered (tree_setup_in r.world.formulas_of r.world.now) r.world.now (Do.Write r.at r.line) (Say.CutKept r.world.said) (state_of setup_then (under (made None)))
   cut_seen is some =
       seen r.world (made None) (Do.Write r.at r.line) Say.CutKept refl (kept_done (call r.world) r.at r.within r.line r.whole (was (Err Fail.Cut) is) some)
 
@@ -103,10 +103,10 @@ module _ (r : WriteCall) where
         (held r.world (left_resting (call r.world)) (unwritten_shown_held (call r.world) r.at r.within r.line r.whole found.0 found.1 (was (Err Fail.Shown) is)))
 
     pub shown_seen : (halt : Halt) → Some halt ≡ option_map Stop.Shown r.world.watch.exhibit
-        → IsHalt (setup_in r.world.formulas_of r.world.now) r.world.now (Do.Write r.at r.line) halt (state_of setup_then (record (under (left_resting (call r.world))) { board = rested }))
+        → IsTreeHalt (tree_setup_in r.world.formulas_of r.world.now) r.world.now (Do.Write r.at r.line) halt (state_of setup_then (record (under (left_resting (call r.world))) { board = rested }))
     shown_seen halt told =
         let found = exhibit_of is in
-        subst (λ (b : BoardMemory). IsHalt (setup_in r.world.formulas_of r.world.now) r.world.now (Do.Write r.at r.line) halt (state_of setup_then (record (under (left_resting (call r.world))) { board = b }))) (sym rests)
+        subst (λ (b : BoardMemory). IsTreeHalt (tree_setup_in r.world.formulas_of r.world.now) r.world.now (Do.Write r.at r.line) halt (state_of setup_then (record (under (left_resting (call r.world))) { board = b }))) (sym rests)
         (halts r.world.formulas_of r.world.geometry r.world.parts (left_resting (call r.world)) r.world.now r.world.keys (Do.Write r.at r.line) halt found.0
         r.world.watch.exhibit r.world.is r.world.same_keys refl told found.1 (unwritten_shown_minors (call r.world) r.at r.within r.line r.whole found.0 found.1 (was (Err Fail.Shown) is))
         (unwritten_shown_done (call r.world) r.at r.within r.line r.whole found.0 found.1 (was (Err Fail.Shown) is)))

@@ -20,19 +20,19 @@ use Rattle.counter_tree.specs.Trees.{node_at}
 use Rattle.counter_tree.specs.Watch.{WatchState}
 use Rattle.watched_board.specs.Watching.{steps_in, step_limit, device_during, none_taken}
 use Rattle.asit_shadow.specs.declared.fault.TreeFault.TheVariants as Fail
-use Rattle.asit_shadow.specs.Invariants.{IsAnchored}
+use Rattle.asit_shadow.specs.Invariants.{IsTreeAnchored}
 use Rattle.asit_shadow.specs.Paths.{line_path, write_group}
-use Rattle.asit_shadow.specs.Parts.{HoldsSeal}
+use Rattle.asit_shadow.specs.Parts.{HoldsTreeSeal}
 use Rattle.asit_shadow.specs.Calls as told
-use Rattle.asit_shadow.specs.Calls.{CallEffect, HasWrittenLine, IsLineWritten, TakesWriteSteps, TakesFewerSteps}
-use Rattle.asit_shadow.specs.Work.{IsCutInFetch, IsCutInGroup, HasFetchedPath}
+use Rattle.asit_shadow.specs.Calls.{TreeCallEffect, HasWrittenTreeLine, IsLineWritten, TakesWriteSteps, TakesFewerSteps}
+use Rattle.asit_shadow.specs.Work.{IsCutInNodeFetch, IsCutInGroup, HasFetchedPath}
 use Rattle.asit_shadow.specs.Plain.{writes_made, with_board}
 use Rattle.asit_shadow.proofs.Chains.{going-unshown}
 use Rattle.tree_session.specs.declared.commands.TreeCommand.TheVariants as Do
 use Rattle.tree_session.specs.declared.answers.TreeAnswer.{TreeAnswer}
 use Rattle.tree_session.specs.declared.answers.TreeAnswer.TheVariants as Say
 use Rattle.tree_session.specs.World.{TreeParts, plain_of_parts, state_of, IsTreeWorld}
-use Rattle.tree_session.specs.Answered.{IsAnswered, IsRooted, IsEngineShown, SaysOfWrite, AnswersWith, IsNodeExhibit, IsNodeRefusal, AllAreMade, write_bound, IsBoardSpilled}
+use Rattle.tree_session.specs.Answered.{IsTreeAnswered, IsRooted, IsEngineShown, SaysOfWrite, AnswersWith, IsNodeExhibit, IsNodeRefusal, AllAreMade, tree_write_bound, IsBoardSpilled}
 use Rattle.tree_session.proofs.BoardSteps.{goes_on, cut_off, latched, unlatched, untouched, then_rests, taken-exact}
 use Rattle.tree_session.proofs.PlainStates.{plain_is, plain-kept, plain-written, writes-are}
 use Rattle.tree_session.proofs.Held.{EngineCall, from, to, left, left_resting, trusted_from, powered_from, seals_kept, on_after, rooted_after, off_after, rooted_cut, ended_after, none_is}
@@ -50,7 +50,7 @@ group-length g a seal nodes =
 module _ (c : EngineCall) (a : ℕ) (within : a < tree_lines c.setup.shape) (line : Line) (whole : IsLine line) where
   answered : (answer : TreeAnswer) (q : TreeParts) → q.keys ≡ c.parts.keys → q.watch.exhibit ≡ None → IsRooted c.setup (plain_of_parts c.setup q)
       → SaysOfWrite c.setup (plain_of_parts c.setup c.parts) a line (plain_of_parts c.setup q) answer
-      → IsAnswered c.setup (state_of c.setup c.parts) (Do.Write a line) answer (state_of c.setup q)
+      → IsTreeAnswered c.setup (state_of c.setup c.parts) (Do.Write a line) answer (state_of c.setup q)
   answered answer q keys none rooted it =
       record {
         not_shown = c.none;
@@ -77,17 +77,17 @@ module _ (c : EngineCall) (a : ℕ) (within : a < tree_lines c.setup.shape) (lin
   mended-count : length (slice_set c.parts.hurt a false) ≡ tree_lines c.setup.shape
   mended-count = length-set c.parts.hurt a false ∙ c.world.hurt_count
 
-  mended-seals : (outcome : Outcome) → CallEffect c.setup outcome (from c) (to c) → HoldsSeal c.setup.shape (to c) a
-      → (b : ℕ) → b < tree_lines c.setup.shape → slice_index_or (slice_set c.parts.hurt a false) b false ≡ false → HoldsSeal c.setup.shape (to c) b
+  mended-seals : (outcome : Outcome) → TreeCallEffect c.setup outcome (from c) (to c) → HoldsTreeSeal c.setup.shape (to c) a
+      → (b : ℕ) → b < tree_lines c.setup.shape → slice_index_or (slice_set c.parts.hurt a false) b false ≡ false → HoldsTreeSeal c.setup.shape (to c) b
   mended-seals outcome effect stored b inside unhurt =
       elim (cases_eq b a) [
-        | inl same ↦ subst (HoldsSeal c.setup.shape (to c)) (sym same) stored
+        | inl same ↦ subst (HoldsTreeSeal c.setup.shape (to c)) (sym same) stored
         | inr other ↦ seals_kept c outcome effect b inside (sym (get_or-set_other c.parts.hurt a b false false other) ∙ unhurt)
       ]
 
   -- ---- the line is written
 
-  module _ (counter : ℕ) (it : HasWrittenLine c.setup a line (from c) (to c) (Ok counter)) where
+  module _ (counter : ℕ) (it : HasWrittenTreeLine c.setup a line (from c) (to c) (Ok counter)) where
     abbrev done : IsLineWritten c.setup a line (from c) (to c) (Ok counter)
     done = it.done (trusted_from c).not_down
 
@@ -97,7 +97,7 @@ module _ (c : EngineCall) (a : ℕ) (within : a < tree_lines c.setup.shape) (lin
     pub written_held : IsTreeWorld c.setup (left c (Some c.after) (slice_set c.parts.hurt a false))
     written_held = on_after c done.effect (slice_set c.parts.hurt a false) mended-count (mended-seals going done.effect made.stored)
 
-    pub written_done : IsAnswered c.setup (state_of c.setup c.parts) (Do.Write a line) (Say.Written (steps_in c.taken)) (state_of c.setup (left c (Some c.after) (slice_set c.parts.hurt a false)))
+    pub written_done : IsTreeAnswered c.setup (state_of c.setup c.parts) (Do.Write a line) (Say.Written (steps_in c.taken)) (state_of c.setup (left c (Some c.after) (slice_set c.parts.hurt a false)))
     written_done =
         let steps : TakesWriteSteps c.setup.shape (device_during c.parts.board none_taken) (device_during c.board c.taken) = done.steps in
         let few = c.watched.follows.few in
@@ -118,14 +118,14 @@ module _ (c : EngineCall) (a : ℕ) (within : a < tree_lines c.setup.shape) (lin
 
   -- ---- power is cut
 
-  module _ (it : HasWrittenLine c.setup a line (from c) (to c) (Err Fail.Cut)) where
+  module _ (it : HasWrittenTreeLine c.setup a line (from c) (to c) (Err Fail.Cut)) where
     abbrev cut : IsLineWritten c.setup a line (from c) (to c) (Err Fail.Cut)
     cut = it.done (trusted_from c).not_down
 
     abbrev said : (told.IsUsedUp (from c) → ⊥) × (told.IsWriteLost (from c) (to c) ⊎ told.IsWriteKept c.setup a line (from c) (to c))
     said = (it.done (trusted_from c).not_down).answered (trusted_from c)
 
-    below : steps_in c.taken < write_bound c.setup.shape
+    below : steps_in c.taken < tree_write_bound c.setup.shape
     below =
         let steps : TakesFewerSteps c.setup.shape (device_during c.parts.board none_taken) (device_during c.board c.taken) = cut.steps in
         let few = c.watched.follows.few in
@@ -187,7 +187,7 @@ module _ (c : EngineCall) (a : ℕ) (within : a < tree_lines c.setup.shape) (lin
       pub lost_held : IsTreeWorld c.setup (left c None c.parts.hurt)
       lost_held = off_after c cut.effect lost_small c.parts.hurt c.world.hurt_count (seals_kept c cut_short cut.effect)
 
-      pub lost_done : IsAnswered c.setup (state_of c.setup c.parts) (Do.Write a line) (Say.CutLost (steps_in c.taken)) (state_of c.setup (left c None c.parts.hurt))
+      pub lost_done : IsTreeAnswered c.setup (state_of c.setup c.parts) (Do.Write a line) (Say.CutLost (steps_in c.taken)) (state_of c.setup (left c None c.parts.hurt))
       lost_done =
           let same = (is_lost none).watch in
           answered (Say.CutLost (steps_in c.taken)) (left c None c.parts.hurt) refl (ap (λ (w : WatchState). w.exhibit) same ∙ c.none)
@@ -210,7 +210,7 @@ module _ (c : EngineCall) (a : ℕ) (within : a < tree_lines c.setup.shape) (lin
             | inr group ↦ group
           ]
         where
-          lost_latches : IsCutInFetch c.setup a (from c) (to c) ⊎ HasFetchedPath c.setup a 0 (from c) (to c) → c.taken.latches ≡ 0
+          lost_latches : IsCutInNodeFetch c.setup a (from c) (to c) ⊎ HasFetchedPath c.setup a 0 (from c) (to c) → c.taken.latches ≡ 0
           lost_latches (inl fetch) = fetch.fetched.latches
           lost_latches (inr path) = path.fetched.latches
 
@@ -222,10 +222,10 @@ module _ (c : EngineCall) (a : ℕ) (within : a < tree_lines c.setup.shape) (lin
       pub kept_held : IsTreeWorld c.setup (left c None (slice_set c.parts.hurt a false))
       kept_held = off_after c cut.effect kept_small (slice_set c.parts.hurt a false) mended-count (mended-seals cut_short cut.effect (is_kept some).stored)
 
-      pub kept_done : IsAnswered c.setup (state_of c.setup c.parts) (Do.Write a line) (Say.CutKept (steps_in c.taken)) (state_of c.setup (left c None (slice_set c.parts.hurt a false)))
+      pub kept_done : IsTreeAnswered c.setup (state_of c.setup c.parts) (Do.Write a line) (Say.CutKept (steps_in c.taken)) (state_of c.setup (left c None (slice_set c.parts.hurt a false)))
       kept_done =
           let kept = is_kept some in
-          let anchored : IsAnchored c.setup c.board.regs c.watch = cut.effect.trusted (trusted_from c) in
+          let anchored : IsTreeAnchored c.setup c.board.regs c.watch = cut.effect.trusted (trusted_from c) in
           let few = c.watched.follows.few in
           answered (Say.CutKept (steps_in c.taken)) (left c None (slice_set c.parts.hurt a false)) refl (none_is c.watch.exhibit anchored.no_exhibit)
           (rooted_cut c cut.effect kept_small (slice_set c.parts.hurt a false) mended-count (mended-seals cut_short cut.effect (is_kept some).stored)) (
@@ -242,14 +242,14 @@ module _ (c : EngineCall) (a : ℕ) (within : a < tree_lines c.setup.shape) (lin
 
   -- ---- a node is refused
 
-  module _ (x : ℕ) (it : HasWrittenLine c.setup a line (from c) (to c) (Err (Fail.Node x))) where
+  module _ (x : ℕ) (it : HasWrittenTreeLine c.setup a line (from c) (to c) (Err (Fail.Node x))) where
     abbrev node : IsLineWritten c.setup a line (from c) (to c) (Err (Fail.Node x))
     node = it.done (trusted_from c).not_down
 
     pub unwritten_held : IsTreeWorld c.setup (left c (Some c.after) c.parts.hurt)
     unwritten_held = on_after c node.effect c.parts.hurt c.world.hurt_count (seals_kept c going node.effect)
 
-    pub unwritten_done : IsAnswered c.setup (state_of c.setup c.parts) (Do.Write a line) (Say.RefusedNode x (steps_in c.taken)) (state_of c.setup (left c (Some c.after) c.parts.hurt))
+    pub unwritten_done : IsTreeAnswered c.setup (state_of c.setup c.parts) (Do.Write a line) (Say.RefusedNode x (steps_in c.taken)) (state_of c.setup (left c (Some c.after) c.parts.hurt))
     unwritten_done =
         let keeps = node.watch tt in
         let plain = kept_plain c going (left c (Some c.after) c.parts.hurt) keeps refl refl refl in
@@ -265,14 +265,14 @@ module _ (c : EngineCall) (a : ℕ) (within : a < tree_lines c.setup.shape) (lin
 
   -- ---- no write can be counted any more
 
-  module _ (it : HasWrittenLine c.setup a line (from c) (to c) (Err Fail.Spent)) where
+  module _ (it : HasWrittenTreeLine c.setup a line (from c) (to c) (Err Fail.Spent)) where
     abbrev spent : IsLineWritten c.setup a line (from c) (to c) (Err Fail.Spent)
     spent = it.done (trusted_from c).not_down
 
     pub spent_held : IsTreeWorld c.setup (left c (Some c.after) c.parts.hurt)
     spent_held = on_after c spent.effect c.parts.hurt c.world.hurt_count (seals_kept c going spent.effect)
 
-    pub spent_done : IsAnswered c.setup (state_of c.setup c.parts) (Do.Write a line) (Say.Spent (steps_in c.taken)) (state_of c.setup (left c (Some c.after) c.parts.hurt))
+    pub spent_done : IsTreeAnswered c.setup (state_of c.setup c.parts) (Do.Write a line) (Say.Spent (steps_in c.taken)) (state_of c.setup (left c (Some c.after) c.parts.hurt))
     spent_done =
         let keeps = spent.watch tt in
         let same : device_during c.board c.taken ≡ device_during c.parts.board none_taken = spent.steps in
@@ -288,7 +288,7 @@ module _ (c : EngineCall) (a : ℕ) (within : a < tree_lines c.setup.shape) (lin
 
   -- ---- an exhibit
 
-  module _ (exhibit : Exhibit) (is : c.watch.exhibit ≡ Some exhibit) (it : HasWrittenLine c.setup a line (from c) (to c) (Err Fail.Shown)) where
+  module _ (exhibit : Exhibit) (is : c.watch.exhibit ≡ Some exhibit) (it : HasWrittenTreeLine c.setup a line (from c) (to c) (Err Fail.Shown)) where
     abbrev show : IsLineWritten c.setup a line (from c) (to c) (Err Fail.Shown)
     show = it.done (trusted_from c).not_down
 

@@ -16,7 +16,7 @@ use Rattle.counter_tree.specs.Nodes.{node_place, version_counter, without_tag, n
 use Rattle.counter_tree.specs.Layout.{tree_lines, tree_slots, tree_size, line_of_tag, line_of_node, line_of_slot}
 use Rattle.counter_tree.specs.Trees.{is_on_line_path}
 use Rattle.counter_tree.specs.Slots.{slot_of, slot_line}
-use Rattle.counter_tree.specs.Shadow.{shadow_root, shadow_line, shadow_height, shadow_digests, IsShadowDifference}
+use Rattle.counter_tree.specs.Shadow.{shadow_root, shadow_tree_line, shadow_height, shadow_digests, IsShadowDifference}
 use Rattle.collision_witness.specs.Exhibits.{IsExhibit, AreSmallMinors}
 use Rattle.commit_regs.specs.Groups.{redone, finishing_latches}
 use Rattle.trace_text.specs.Sessions.{HasBurnt, HasRunOut}
@@ -24,56 +24,56 @@ use Rattle.trace_text.specs.declared.talk.Halt.{Halt}
 use Rattle.trace_text.specs.declared.talk.Halt.TheVariants as Stop
 use Rattle.asit_shadow.specs.Paths.{line_path, tag_only}
 use Rattle.asit_shadow.specs.Steps.{slots_read}
-use Rattle.asit_shadow.specs.Plain.{PlainTree, true_node, true_version, true_count, true_cipher, true_slots, after_write, after_change, with_board}
+use Rattle.asit_shadow.specs.Plain.{PlainTree, true_node, true_version, true_count, true_cipher, true_slots, after_tree_write, after_change, with_board}
 use Rattle.tree_session.specs.declared.commands.TreeCommand.{TreeCommand}
 use Rattle.tree_session.specs.declared.commands.TreeCommand.TheVariants as Do
 use Rattle.tree_session.specs.declared.answers.TreeAnswer.{TreeAnswer}
 use Rattle.tree_session.specs.declared.answers.TreeAnswer.TheVariants as Say
 use Rattle.tree_session.specs.Answers.{tree_text}
-use Rattle.tree_session.specs.Commands.{reading_of_tree, takes_memory}
+use Rattle.tree_session.specs.Commands.{reading_of_tree, tree_takes_memory}
 use Rattle.tree_session.specs.State.{SessionState}
 
 -- ---- the answers that the state decides
 
-abbrev pub decided : Shape → PlainTree → TreeCommand → Option TreeAnswer
-decided g before (Do.Write a line) =
+abbrev pub tree_decided : Shape → PlainTree → TreeCommand → Option TreeAnswer
+tree_decided g before (Do.Write a line) =
     if not before.board.powered then Some Say.Off else if nat_lt a (tree_lines g) then None else Some Say.Range
-decided g before (Do.Read a) =
+tree_decided g before (Do.Read a) =
     if not before.board.powered then Some Say.Off else if nat_lt a (tree_lines g) then None else Some Say.Range
-decided g before Do.On = if before.board.powered then Some Say.Already else None
-decided g before Do.Off = if before.board.powered then Some Say.Ok else Some Say.Off
-decided g before (Do.Cut n) = Some Say.Ok
-decided g before (Do.Poke d line) = if nat_lt d (tree_size g) then Some Say.Ok else Some Say.Range
-decided g before Do.Snap = Some Say.Ok
-decided g before (Do.Back d) =
+tree_decided g before Do.On = if before.board.powered then Some Say.Already else None
+tree_decided g before Do.Off = if before.board.powered then Some Say.Ok else Some Say.Off
+tree_decided g before (Do.Cut n) = Some Say.Ok
+tree_decided g before (Do.Poke d line) = if nat_lt d (tree_size g) then Some Say.Ok else Some Say.Range
+tree_decided g before Do.Snap = Some Say.Ok
+tree_decided g before (Do.Back d) =
     if not (nat_lt d (tree_size g)) then Some Say.Range
     else if is_none before.board.snapshot then Some Say.NoSnap else Some Say.Ok
 
 -- the state after such an answer
-abbrev pub after_decided : Shape → PlainTree → TreeCommand → TreeAnswer → PlainTree
-after_decided g before Do.Off Say.Ok =
+abbrev pub tree_after_decided : Shape → PlainTree → TreeCommand → TreeAnswer → PlainTree
+tree_after_decided g before Do.Off Say.Ok =
     with_board before (record before.board { powered = false; fuse = None })
-after_decided g before (Do.Cut n) Say.Ok = with_board before (record before.board { fuse = Some n })
-after_decided g before (Do.Poke d line) Say.Ok =
+tree_after_decided g before (Do.Cut n) Say.Ok = with_board before (record before.board { fuse = Some n })
+tree_after_decided g before (Do.Poke d line) Say.Ok =
     with_board (after_change g before d) (with_line_at before.board d line)
-after_decided g before Do.Snap Say.Ok =
+tree_after_decided g before Do.Snap Say.Ok =
     with_board before (record before.board { snapshot = Some before.board.lines })
-after_decided g before (Do.Back d) Say.Ok =
+tree_after_decided g before (Do.Back d) Say.Ok =
     with_board (after_change g before d)
     (with_lines before.board (restored_lines before.board.lines before.board.snapshot d))
-after_decided g before command answer = before
+tree_after_decided g before command answer = before
 
 -- ---- steps
 
 -- s steps, within the fuse, and no cut
-pub record TakesSteps (s : ℕ) (powered : Bool) (old new : BoardMemory) : Type 0 where
+pub record TakesTreeSteps (s : ℕ) (powered : Bool) (old new : BoardMemory) : Type 0 where
   pub rise : RisesBy s (old.writes + old.latches) (new.writes + new.latches)
   pub fuse : HasBurnt s old.fuse new.fuse old.cuts new.cuts
   pub power : new.powered ≡ powered
   pub snapshot : new.snapshot ≡ old.snapshot
 
 -- a cut at the fuse's end
-pub record IsCutAt (s : ℕ) (old new : BoardMemory) : Type 0 where
+pub record IsTreeCutAt (s : ℕ) (old new : BoardMemory) : Type 0 where
   pub rise : RisesBy s (old.writes + old.latches) (new.writes + new.latches)
   pub fuse : HasRunOut s old.fuse new.fuse old.cuts new.cuts
   pub power : new.powered ≡ false
@@ -133,7 +133,7 @@ IsPlainKept before after = after ≡ with_board before after.board
 
 -- a write's line is in memory
 abbrev pub IsPlainWritten : Shape → ℕ → Line → PlainTree → PlainTree → Type 0
-IsPlainWritten g a line before after = after ≡ with_board (after_write g before a line) after.board
+IsPlainWritten g a line before after = after ≡ with_board (after_tree_write g before a line) after.board
 
 -- ---- refusals and exhibits, over the device as it is afterwards
 
@@ -221,9 +221,9 @@ pub record IsShadowExhibit (setup : Setup) (after : PlainTree) (exhibit : Exhibi
   pub its :
       exhibit
       ≡ Clash position
-      (shadow_line setup.formulas (shadow_height setup.shape) (slots_read setup.shape after.board.lines)
+      (shadow_tree_line setup.formulas (shadow_height setup.shape) (slots_read setup.shape after.board.lines)
       height position)
-      (shadow_line setup.formulas (shadow_height setup.shape) (true_slots setup.shape after) height position)
+      (shadow_tree_line setup.formulas (shadow_height setup.shape) (true_slots setup.shape after) height position)
 
 -- ---- the engine's answers
 
@@ -231,15 +231,15 @@ pub record IsShadowExhibit (setup : Setup) (after : PlainTree) (exhibit : Exhibi
 abbrev pub read_bound : Shape → ℕ
 read_bound g = g.levels
 
-abbrev pub write_bound : Shape → ℕ
-write_bound g = 2 * g.levels + 5
+abbrev pub tree_write_bound : Shape → ℕ
+tree_write_bound g = 2 * g.levels + 5
 
 -- the fewest of a write: those of its group, with no write-back
 abbrev pub write_least : Shape → ℕ
 write_least g = g.levels + 5
 
-abbrev pub recovery_bound : Shape → ℕ
-recovery_bound g = g.levels + 4
+abbrev pub tree_recovery_bound : Shape → ℕ
+tree_recovery_bound g = g.levels + 4
 
 -- all writes were made that can be, of so many of each line
 abbrev pub AllAreMade : List ℕ → Type 0
@@ -248,24 +248,24 @@ AllAreMade counts = sum counts ≡ 2 ^ 64 - 1
 abbrev pub SaysOfWrite : Setup → PlainTree → ℕ → Line → PlainTree → TreeAnswer → Type 0
 SaysOfWrite setup before a line after (Say.Written s) =
     (AllAreMade before.counts → ⊥)
-    × TakesSteps s true before.board after.board
+    × TakesTreeSteps s true before.board after.board
     × RisesBy 2 before.board.latches after.board.latches
     × (write_least setup.shape ≤ s)
-    × (s ≤ write_bound setup.shape)
+    × (s ≤ tree_write_bound setup.shape)
     × IsPlainWritten setup.shape a line before after
     × IsBoardWritten setup a before after
 SaysOfWrite setup before a line after (Say.CutKept s) =
     (AllAreMade before.counts → ⊥)
-    × IsCutAt s before.board after.board
+    × IsTreeCutAt s before.board after.board
     × RisesBy 1 before.board.latches after.board.latches
     × (1 ≤ s)
-    × (s < write_bound setup.shape)
+    × (s < tree_write_bound setup.shape)
     × IsPlainWritten setup.shape a line before after
     × IsBoardWritten setup a before after
     × (after.board.regs.group.items ≡ put_by_write setup after a)
 SaysOfWrite setup before a line after (Say.CutLost s) =
     (AllAreMade before.counts → ⊥)
-    × IsCutAt s before.board after.board
+    × IsTreeCutAt s before.board after.board
     × (after.board.latches ≡ before.board.latches)
     × (s ≤ read_bound setup.shape)
     × IsPlainKept before after
@@ -274,7 +274,7 @@ SaysOfWrite setup before a line after (Say.Spent s) = AllAreMade before.counts �
 SaysOfWrite setup before a line after (Say.RefusedNode x s) =
     (AllAreMade before.counts → ⊥)
     × IsNodeRefusal setup after a x
-    × TakesSteps s true before.board after.board
+    × TakesTreeSteps s true before.board after.board
     × (s ≤ read_bound setup.shape)
     × IsPlainKept before after
     × IsBoardSpilled setup before after
@@ -283,25 +283,25 @@ SaysOfWrite setup before a line after answer = ⊥
 abbrev pub SaysOfRead : Setup → PlainTree → ℕ → PlainTree → TreeAnswer → Type 0
 SaysOfRead setup before a after (Say.Got line s) =
     (line ≡ line_at before.memory a)
-    × TakesSteps s true before.board after.board
+    × TakesTreeSteps s true before.board after.board
     × (s ≤ read_bound setup.shape)
     × IsPlainKept before after
     × IsBoardSpilled setup before after
 SaysOfRead setup before a after (Say.Cut s) =
-    IsCutAt s before.board after.board
+    IsTreeCutAt s before.board after.board
     × (s < read_bound setup.shape)
     × IsPlainKept before after
     × IsBoardSpilled setup before after
 SaysOfRead setup before a after (Say.RefusedData b s) =
     (b ≡ a)
     × IsDataRefusal setup after a
-    × TakesSteps s true before.board after.board
+    × TakesTreeSteps s true before.board after.board
     × (s ≤ read_bound setup.shape)
     × IsPlainKept before after
     × IsBoardSpilled setup before after
 SaysOfRead setup before a after (Say.RefusedNode x s) =
     IsNodeRefusal setup after a x
-    × TakesSteps s true before.board after.board
+    × TakesTreeSteps s true before.board after.board
     × (s ≤ read_bound setup.shape)
     × IsPlainKept before after
     × IsBoardSpilled setup before after
@@ -310,24 +310,24 @@ SaysOfRead setup before a after answer = ⊥
 abbrev pub SaysOfOn : Setup → PlainTree → PlainTree → TreeAnswer → Type 0
 SaysOfOn setup before after (Say.Recovered digests s) =
     (digests ≡ shadow_digests setup.shape)
-    × TakesSteps s true before.board after.board
+    × TakesTreeSteps s true before.board after.board
     × IsGroupDone before.board after.board
     × (s ≡ group_steps before.board)
-    × (s ≤ recovery_bound setup.shape)
+    × (s ≤ tree_recovery_bound setup.shape)
     × IsPlainKept before after
 SaysOfOn setup before after (Say.Cut s) =
-    IsCutAt s before.board after.board
+    IsTreeCutAt s before.board after.board
     × (board_redone after.board ≡ board_redone before.board)
     × (after.board.regs ≡ before.board.regs)
     × (s < group_steps before.board)
-    × (s < recovery_bound setup.shape)
+    × (s < tree_recovery_bound setup.shape)
     × IsPlainKept before after
 SaysOfOn setup before after (Say.RefusedShadow kept found s) =
     IsShadowRefusal setup after kept found
-    × TakesSteps s false before.board after.board
+    × TakesTreeSteps s false before.board after.board
     × IsGroupDone before.board after.board
     × (s ≡ group_steps before.board)
-    × (s ≤ recovery_bound setup.shape)
+    × (s ≤ tree_recovery_bound setup.shape)
     × IsPlainKept before after
 SaysOfOn setup before after answer = ⊥
 
@@ -352,11 +352,11 @@ ShowsEngine setup before command after exhibit = ⊥
 -- what the state decides, or else what the engine answers
 abbrev pub AnswersWith : Setup → PlainTree → TreeCommand → PlainTree → TreeAnswer → Option TreeAnswer → Type 0
 AnswersWith setup before command after answer (Some known) =
-    (answer ≡ known) × (after ≡ after_decided setup.shape before command known)
+    (answer ≡ known) × (after ≡ tree_after_decided setup.shape before command known)
 AnswersWith setup before command after answer None = SaysOfEngine setup before command after answer
 
 -- the geometry, the keys and the exhibit are those of before
-pub record IsKept (old new : SessionState) : Type 0 where
+pub record IsTreeStateKept (old new : SessionState) : Type 0 where
   pub shape : new.shape ≡ old.shape
   pub keys : new.keys ≡ old.keys
   pub shown : new.shown ≡ old.shown
@@ -367,12 +367,12 @@ pub record IsRooted (setup : Setup) (plain : PlainTree) : Type 0 where
   pub no_group : plain.board.powered ≡ true → plain.board.regs.group.items ≡ []
 
 -- before an exhibit: the answer that the state decides, or else one that the engine may give
-pub record IsAnswered (setup : Setup) (old : SessionState) (command : TreeCommand) (answer : TreeAnswer) (new : SessionState) :
+pub record IsTreeAnswered (setup : Setup) (old : SessionState) (command : TreeCommand) (answer : TreeAnswer) (new : SessionState) :
     Type 0 where
   pub not_shown : old.shown ≡ None
-  pub kept : IsKept old new
+  pub kept : IsTreeStateKept old new
   pub answered :
-      AnswersWith setup old.plain command new.plain answer (decided setup.shape old.plain command)
+      AnswersWith setup old.plain command new.plain answer (tree_decided setup.shape old.plain command)
   pub rooted : IsRooted setup new.plain
 
 -- What the engine did to the board before it showed something, in so many steps: it finished the armed group, or wrote
@@ -385,12 +385,12 @@ IsBoardLeft setup before command s after = IsBoardSpilled setup before after × 
 pub record IsEngineShown (setup : Setup) (old : SessionState) (command : TreeCommand) (exhibit : Exhibit) (new : SessionState) :
     Type 0 where
   pub not_shown : old.shown ≡ None
-  pub undecided : decided setup.shape old.plain command ≡ None
+  pub undecided : tree_decided setup.shape old.plain command ≡ None
   pub holds : IsExhibit setup.formulas exhibit
   pub shows : ShowsEngine setup old.plain command new.plain exhibit
   pub plain : IsPlainKept old.plain new.plain
   pub steps : ℕ
-  pub taken : TakesSteps steps false old.plain.board new.plain.board
+  pub taken : TakesTreeSteps steps false old.plain.board new.plain.board
   pub board : IsBoardLeft setup old.plain command steps new.plain
   pub rooted : IsRooted setup new.plain
   pub shape : new.shape ≡ old.shape
@@ -398,8 +398,8 @@ pub record IsEngineShown (setup : Setup) (old : SessionState) (command : TreeCom
   pub shown : new.shown ≡ Some exhibit
 
 -- after an exhibit each command is answered by it again
-abbrev pub IsShownBy : Setup → SessionState → TreeCommand → Exhibit → SessionState → Type 0
-IsShownBy setup old command exhibit new =
+abbrev pub IsTreeShownBy : Setup → SessionState → TreeCommand → Exhibit → SessionState → Type 0
+IsTreeShownBy setup old command exhibit new =
     IsEngineShown setup old command exhibit new ⊎ ((old.shown ≡ Some exhibit) × (new ≡ old))
 
 -- what a command takes memory for: a recovery, or a first snapshot
@@ -409,36 +409,36 @@ TakesMemory before Do.Snap = before.board.snapshot ≡ None
 TakesMemory before command = ⊥
 
 -- a command may want memory
-pub record CanWantMemory (old : SessionState) (command : TreeCommand) : Type 0 where
-  pub takes : IsTrue (takes_memory command)
+pub record IsTreeMemoryWanted (old : SessionState) (command : TreeCommand) : Type 0 where
+  pub takes : IsTrue (tree_takes_memory command)
   pub not_shown : old.shown ≡ None
   pub needs : TakesMemory old.plain command
 
 -- why a command has no answer: memory is wanted, and nothing was done; or it is an exhibit
-abbrev pub IsHalt : Setup → SessionState → TreeCommand → Halt → SessionState → Type 0
-IsHalt setup old command Stop.Memory new = CanWantMemory old command × (new ≡ old)
-IsHalt setup old command (Stop.Shown exhibit) new = IsShownBy setup old command exhibit new × AreSmallMinors exhibit
-IsHalt setup old command (Stop.Line kind) new = ⊥
+abbrev pub IsTreeHalt : Setup → SessionState → TreeCommand → Halt → SessionState → Type 0
+IsTreeHalt setup old command Stop.Memory new = IsTreeMemoryWanted old command × (new ≡ old)
+IsTreeHalt setup old command (Stop.Shown exhibit) new = IsTreeShownBy setup old command exhibit new × AreSmallMinors exhibit
+IsTreeHalt setup old command (Stop.Line kind) new = ⊥
 
 -- ---- a line and its answer
 
 -- the line asks for a command, and the text is that of one of its answers
-pub record IsTalkedOf (setup : Setup) (old : SessionState) (line text : List ℕ) (new : SessionState) : Type 0 where
+pub record IsTreeTalkedOf (setup : Setup) (old : SessionState) (line text : List ℕ) (new : SessionState) : Type 0 where
   pub command : TreeCommand
   pub its_reading : reading_of_tree line ≡ Ok (Some command)
   pub answer : TreeAnswer
   pub its_text : text ≡ tree_text answer
-  pub answered : IsAnswered setup old command answer new
+  pub answered : IsTreeAnswered setup old command answer new
 
 -- the line asks for a command whose answer is the exhibit
-pub record IsShownOf (setup : Setup) (old : SessionState) (line : List ℕ) (exhibit : Exhibit) : Type 0 where
+pub record IsTreeShownOf (setup : Setup) (old : SessionState) (line : List ℕ) (exhibit : Exhibit) : Type 0 where
   pub command : TreeCommand
   pub its_reading : reading_of_tree line ≡ Ok (Some command)
   pub new : SessionState
-  pub shown : IsShownBy setup old command exhibit new
+  pub shown : IsTreeShownBy setup old command exhibit new
 
 -- the line asks for a command that may want memory
-pub record IsStarvedOf (old : SessionState) (line : List ℕ) : Type 0 where
+pub record IsTreeStarvedOf (old : SessionState) (line : List ℕ) : Type 0 where
   pub command : TreeCommand
   pub its_reading : reading_of_tree line ≡ Ok (Some command)
-  pub wanted : CanWantMemory old command
+  pub wanted : IsTreeMemoryWanted old command

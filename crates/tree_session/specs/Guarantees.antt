@@ -20,7 +20,7 @@ use Rattle.tree_session.specs.declared.commands.TreeCommand.TheVariants as Do
 use Rattle.tree_session.specs.declared.answers.TreeAnswer.{TreeAnswer}
 use Rattle.tree_session.specs.declared.answers.TreeAnswer.TheVariants as Say
 use Rattle.tree_session.specs.State.{SessionState, IsNewTree}
-use Rattle.tree_session.specs.Answered.{read_bound, write_bound, write_least, recovery_bound, IsPathTampered, IsSlotTampered, IsHurt, AllAreMade, IsAnswered, IsShownBy}
+use Rattle.tree_session.specs.Answered.{read_bound, tree_write_bound, write_least, tree_recovery_bound, IsPathTampered, IsSlotTampered, IsHurt, AllAreMade, IsTreeAnswered, IsTreeShownBy}
 
 -- ---- chains of answers
 
@@ -30,17 +30,17 @@ pub record TreeReply : Type 0 where
   pub answer : TreeAnswer
 
 -- each was answered in the state that those before it left
-abbrev pub AreAnswered : Setup → SessionState → List TreeReply → SessionState → Type 0
-AreAnswered setup first [] last = last ≡ first
-AreAnswered setup first (reply ∷ replies) last =
-    (next : SessionState) × IsAnswered setup first reply.command reply.answer next
-    × AreAnswered setup next replies last
+abbrev pub AreTreeAnswered : Setup → SessionState → List TreeReply → SessionState → Type 0
+AreTreeAnswered setup first [] last = last ≡ first
+AreTreeAnswered setup first (reply ∷ replies) last =
+    (next : SessionState) × IsTreeAnswered setup first reply.command reply.answer next
+    × AreTreeAnswered setup next replies last
 
 -- a chain from a new session on
-pub record IsSession (setup : Setup) (replies : List TreeReply) (last : SessionState) : Type 0 where
+pub record IsTreeSession (setup : Setup) (replies : List TreeReply) (last : SessionState) : Type 0 where
   pub first : SessionState
   pub is_new : IsNewTree setup first
-  pub answered : AreAnswered setup first replies last
+  pub answered : AreTreeAnswered setup first replies last
 
 -- ---- what commands and answers say by themselves
 
@@ -70,10 +70,10 @@ first_history g =
     }
 
 -- memory changes by a write that was answered ok or cut kept
-abbrev pub memory_with : List Line → TreeCommand → TreeAnswer → List Line
-memory_with memory (Do.Write a line) (Say.Written s) = slice_set memory a line
-memory_with memory (Do.Write a line) (Say.CutKept s) = slice_set memory a line
-memory_with memory command answer = memory
+abbrev pub tree_memory_with : List Line → TreeCommand → TreeAnswer → List Line
+tree_memory_with memory (Do.Write a line) (Say.Written s) = slice_set memory a line
+tree_memory_with memory (Do.Write a line) (Say.CutKept s) = slice_set memory a line
+tree_memory_with memory command answer = memory
 
 abbrev pub counts_with : List ℕ → TreeCommand → TreeAnswer → List ℕ
 counts_with counts (Do.Write a line) (Say.Written s) = slice_set counts a (slice_index counts a + 1)
@@ -125,7 +125,7 @@ snapped_with snapped command answer = snapped
 abbrev pub history_with : Shape → History → TreeCommand → TreeAnswer → History
 history_with g history command answer =
     record {
-      memory = memory_with history.memory command answer;
+      memory = tree_memory_with history.memory command answer;
       counts = counts_with history.counts command answer;
       tampered = tampered_with history.tampered command answer;
       hurt = hurt_by g history.hurt command answer;
@@ -141,7 +141,7 @@ history_after g history (reply ∷ replies) = history_after g (history_with g hi
 -- ---- which answers they allow
 
 -- power is on, and there is such a line
-pub record IsServed (g : Shape) (history : History) (a : ℕ) : Type 0 where
+pub record IsTreeServed (g : Shape) (history : History) (a : ℕ) : Type 0 where
   pub power : history.power ≡ true
   pub inside : a < tree_lines g
 
@@ -157,35 +157,35 @@ abbrev pub MayWrite : Shape → History → ℕ → TreeAnswer → Type 0
 MayWrite g history a Say.Off = history.power ≡ false
 MayWrite g history a Say.Range = (history.power ≡ true) × (tree_lines g ≤ a)
 MayWrite g history a (Say.Written s) =
-    IsServed g history a × (AllAreMade history.counts → ⊥) × (write_least g ≤ s) × TakesFew s (write_bound g) history
+    IsTreeServed g history a × (AllAreMade history.counts → ⊥) × (write_least g ≤ s) × TakesFew s (tree_write_bound g) history
 MayWrite g history a (Say.CutKept s) =
-    IsServed g history a × (AllAreMade history.counts → ⊥) × (1 ≤ s) × EndsAt s (write_bound g) history
+    IsTreeServed g history a × (AllAreMade history.counts → ⊥) × (1 ≤ s) × EndsAt s (tree_write_bound g) history
 MayWrite g history a (Say.CutLost s) =
-    IsServed g history a × (AllAreMade history.counts → ⊥) × (history.fuse ≡ Some s) × (s ≤ read_bound g)
+    IsTreeServed g history a × (AllAreMade history.counts → ⊥) × (history.fuse ≡ Some s) × (s ≤ read_bound g)
 MayWrite g history a (Say.RefusedNode x s) =
-    IsServed g history a × (AllAreMade history.counts → ⊥) × IsPathTampered g history.tampered a x × TakesFew s (read_bound g) history
-MayWrite g history a (Say.Spent s) = IsServed g history a × AllAreMade history.counts × (s ≡ 0)
+    IsTreeServed g history a × (AllAreMade history.counts → ⊥) × IsPathTampered g history.tampered a x × TakesFew s (read_bound g) history
+MayWrite g history a (Say.Spent s) = IsTreeServed g history a × AllAreMade history.counts × (s ≡ 0)
 MayWrite g history a answer = ⊥
 
 abbrev pub MayRead : Shape → History → ℕ → TreeAnswer → Type 0
 MayRead g history a Say.Off = history.power ≡ false
 MayRead g history a Say.Range = (history.power ≡ true) × (tree_lines g ≤ a)
 MayRead g history a (Say.Got line s) =
-    IsServed g history a × (line ≡ line_at history.memory a) × TakesFew s (read_bound g) history
-MayRead g history a (Say.Cut s) = IsServed g history a × EndsAt s (read_bound g) history
+    IsTreeServed g history a × (line ≡ line_at history.memory a) × TakesFew s (read_bound g) history
+MayRead g history a (Say.Cut s) = IsTreeServed g history a × EndsAt s (read_bound g) history
 MayRead g history a (Say.RefusedData b s) =
-    IsServed g history a × (b ≡ a) × IsHurt history.hurt a × TakesFew s (read_bound g) history
+    IsTreeServed g history a × (b ≡ a) × IsHurt history.hurt a × TakesFew s (read_bound g) history
 MayRead g history a (Say.RefusedNode x s) =
-    IsServed g history a × IsPathTampered g history.tampered a x × TakesFew s (read_bound g) history
+    IsTreeServed g history a × IsPathTampered g history.tampered a x × TakesFew s (read_bound g) history
 MayRead g history a answer = ⊥
 
 abbrev pub MayTurnOn : Shape → History → TreeAnswer → Type 0
 MayTurnOn g history Say.Already = history.power ≡ true
 MayTurnOn g history (Say.Recovered digests s) =
-    (history.power ≡ false) × (digests ≡ shadow_digests g) × TakesFew s (recovery_bound g) history
-MayTurnOn g history (Say.Cut s) = (history.power ≡ false) × EndsAt s (recovery_bound g) history
+    (history.power ≡ false) × (digests ≡ shadow_digests g) × TakesFew s (tree_recovery_bound g) history
+MayTurnOn g history (Say.Cut s) = (history.power ≡ false) × EndsAt s (tree_recovery_bound g) history
 MayTurnOn g history (Say.RefusedShadow kept found s) =
-    (history.power ≡ false) × IsSlotTampered g history.tampered × (kept ≢ found) × TakesFew s (recovery_bound g) history
+    (history.power ≡ false) × IsSlotTampered g history.tampered × (kept ≢ found) × TakesFew s (tree_recovery_bound g) history
 MayTurnOn g history answer = ⊥
 
 abbrev pub MayTurnOff : History → TreeAnswer → Type 0
@@ -252,9 +252,9 @@ pub record ShowsClash (g : Shape) (history : History) (exhibit : Exhibit) : Type
 
 abbrev pub MayShow : Shape → History → TreeCommand → Exhibit → Type 0
 MayShow g history (Do.Write a line) exhibit =
-    IsServed g history a × (AllAreMade history.counts → ⊥) × ShowsNode g history a exhibit
+    IsTreeServed g history a × (AllAreMade history.counts → ⊥) × ShowsNode g history a exhibit
 MayShow g history (Do.Read a) exhibit =
-    IsServed g history a × (ShowsNode g history a exhibit ⊎ ShowsLine history a exhibit)
+    IsTreeServed g history a × (ShowsNode g history a exhibit ⊎ ShowsLine history a exhibit)
 MayShow g history Do.On exhibit = (history.power ≡ false) × ShowsClash g history exhibit
 MayShow g history command exhibit = ⊥
 
@@ -266,32 +266,32 @@ IsNoTampering (Do.Poke d line) Say.Ok = ⊥
 IsNoTampering (Do.Back d) Say.Ok = ⊥
 IsNoTampering command answer = ⊤
 
-abbrev pub IsUnrefused : TreeAnswer → Type 0
-IsUnrefused (Say.RefusedNode x s) = ⊥
-IsUnrefused (Say.RefusedData a s) = ⊥
-IsUnrefused (Say.RefusedShadow kept found s) = ⊥
-IsUnrefused answer = ⊤
+abbrev pub IsTreeAnswerUnrefused : TreeAnswer → Type 0
+IsTreeAnswerUnrefused (Say.RefusedNode x s) = ⊥
+IsTreeAnswerUnrefused (Say.RefusedData a s) = ⊥
+IsTreeAnswerUnrefused (Say.RefusedShadow kept found s) = ⊥
+IsTreeAnswerUnrefused answer = ⊤
 
 -- ---- the whole
 
 -- each session's answers are allowed by those before them
 abbrev pub IsTreeKept : Setup → Type 0
 IsTreeKept setup =
-    (replies : List TreeReply) (last : SessionState) → IsSession setup replies last
+    (replies : List TreeReply) (last : SessionState) → IsTreeSession setup replies last
     → AreAllowed setup.shape (first_history setup.shape) replies
 
 -- an exhibit that comes after them holds, and is allowed too
 abbrev pub IsTreeShown : Setup → Type 0
 IsTreeShown setup =
     (replies : List TreeReply) (last new : SessionState) (command : TreeCommand) (exhibit : Exhibit)
-    → IsSession setup replies last → IsShownBy setup last command exhibit new
+    → IsTreeSession setup replies last → IsTreeShownBy setup last command exhibit new
     → IsExhibit setup.formulas exhibit
     × MayShow setup.shape (history_after setup.shape (first_history setup.shape) replies) command exhibit
 
 -- where nobody tampered with the device, nothing is refused, and there is no exhibit
 abbrev pub IsTreeUntouched : Setup → Type 0
 IsTreeUntouched setup =
-    (replies : List TreeReply) (last : SessionState) → IsSession setup replies last
+    (replies : List TreeReply) (last : SessionState) → IsTreeSession setup replies last
     → All (λ (reply : TreeReply). IsNoTampering reply.command reply.answer) replies
-    → All (λ (reply : TreeReply). IsUnrefused reply.answer) replies
-    × ((command : TreeCommand) (exhibit : Exhibit) (new : SessionState) → IsShownBy setup last command exhibit new → ⊥)
+    → All (λ (reply : TreeReply). IsTreeAnswerUnrefused reply.answer) replies
+    × ((command : TreeCommand) (exhibit : Exhibit) (new : SessionState) → IsTreeShownBy setup last command exhibit new → ⊥)

@@ -20,8 +20,8 @@ pub record SessionState : Type 0 where
   pub shown : Option Exhibit
 
 -- the geometry, and a suite's formulas under the session's keys
-abbrev pub setup_in : (List ℕ → Formulas) → SessionState → Setup
-setup_in formulas_of state = record { shape = state.shape; formulas = formulas_of state.keys }
+abbrev pub tree_setup_in : (List ℕ → Formulas) → SessionState → Setup
+tree_setup_in formulas_of state = record { shape = state.shape; formulas = formulas_of state.keys }
 
 -- A formatted device with power on: all lines are zeros, the top alone is named, nothing was tampered with, and
 -- nothing waits to be cut.

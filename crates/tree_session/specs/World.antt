@@ -16,11 +16,11 @@ use Rattle.counter_tree.specs.Slots.{slot_read}
 use Rattle.counter_tree.specs.Trees.{line_counter}
 use Rattle.counter_tree.specs.Watch.{WatchState, IsWatchOf}
 use Rattle.asit_shadow.specs.State.{TreeState}
-use Rattle.asit_shadow.specs.Steps.{plain_line}
-use Rattle.asit_shadow.specs.Parts.{parts_of, IsUsable, AreTrusted, HoldsNode}
+use Rattle.asit_shadow.specs.Steps.{tree_plain_line}
+use Rattle.asit_shadow.specs.Parts.{tree_parts_of, IsTreeUsable, AreTreeTrusted, HoldsNode}
 use Rattle.asit_shadow.specs.Recovering.{Rest, rest_of, rest_redone, IsRestAnchored, IsRestUsable}
 use Rattle.asit_shadow.specs.Places.{IsNodeHeld}
-use Rattle.asit_shadow.specs.Invariants.{IsSealStored, IsSlotStored}
+use Rattle.asit_shadow.specs.Invariants.{IsTreeSealStored, IsSlotStored}
 use Rattle.asit_shadow.specs.Plain.{PlainTree, is_tampered, is_hurt}
 use Rattle.tree_session.specs.State.{SessionState}
 
@@ -42,7 +42,7 @@ named_by line = option_map (λ named. named.x) (slot_read line)
 abbrev pub plain_of_parts : Setup → TreeParts → PlainTree
 plain_of_parts setup parts =
     record {
-      memory = map (plain_line setup.formulas parts.watch) (range_with_len 0 (tree_lines setup.shape));
+      memory = map (tree_plain_line setup.formulas parts.watch) (range_with_len 0 (tree_lines setup.shape));
       counts = map (line_counter setup.shape parts.watch.nodes) (range_with_len 0 (tree_lines setup.shape));
       named = map named_by parts.watch.slots;
       tampered = parts.tampered;
@@ -63,17 +63,17 @@ state_of setup parts =
 
 -- what no tampering changed is on the device, once the armed group is redone: the last seal of each line that isn't
 -- hurt, and the true line of each slot that was never changed
-pub record ArePlacesKept (setup : Setup) (plain : PlainTree) (rest : Rest) : Type 0 where
+pub record AreTreePlacesKept (setup : Setup) (plain : PlainTree) (rest : Rest) : Type 0 where
   pub seals :
       (a : ℕ) → a < tree_lines setup.shape → is_hurt plain a ≡ false
-      → IfSome (rest_redone rest) (λ lines. IsSealStored setup.shape lines rest.watch a)
+      → IfSome (rest_redone rest) (λ lines. IsTreeSealStored setup.shape lines rest.watch a)
   pub slots :
       (i : ℕ) → i < tree_slots setup.shape → is_tampered plain (line_of_slot setup.shape i) ≡ false
       → IfSome (rest_redone rest) (λ lines. IsSlotStored setup.shape lines rest.watch i)
 
 -- a node whose device line was never changed
-abbrev pub IsUnchanged : Setup → PlainTree → ℕ → Type 0
-IsUnchanged setup plain x =
+abbrev pub IsTreeUnchanged : Setup → PlainTree → ℕ → Type 0
+IsTreeUnchanged setup plain x =
     (x < meta_lines setup.shape) × (is_tampered plain (line_of_node setup.shape x) ≡ false)
 
 abbrev pub rest_in : TreeParts → Rest
@@ -83,11 +83,11 @@ rest_in parts = rest_of (device_of parts.board) parts.watch
 pub record IsTreeOn (setup : Setup) (parts : TreeParts) (engine : TreeState) : Type 0 where
   pub powered : parts.board.powered ≡ true
   pub its_shape : engine.shape ≡ setup.shape
-  pub usable : IsUsable setup.shape (parts_of engine (device_of parts.board) parts.watch)
-  pub trusted : AreTrusted setup (parts_of engine (device_of parts.board) parts.watch)
+  pub usable : IsTreeUsable setup.shape (tree_parts_of engine (device_of parts.board) parts.watch)
+  pub trusted : AreTreeTrusted setup (tree_parts_of engine (device_of parts.board) parts.watch)
   pub nodes :
-      (x : ℕ) → IsUnchanged setup (plain_of_parts setup parts) x
-      → HoldsNode setup (parts_of engine (device_of parts.board) parts.watch) x
+      (x : ℕ) → IsTreeUnchanged setup (plain_of_parts setup parts) x
+      → HoldsNode setup (tree_parts_of engine (device_of parts.board) parts.watch) x
 
 -- with power off the registers belong to the watch, and each unchanged node is true on the device or named
 pub record IsTreeOff (setup : Setup) (parts : TreeParts) : Type 0 where
@@ -97,7 +97,7 @@ pub record IsTreeOff (setup : Setup) (parts : TreeParts) : Type 0 where
   pub small_group : length parts.board.regs.group.items ≤ setup.shape.levels + 3
   pub anchored : IsRestAnchored setup (rest_in parts)
   pub nodes :
-      (x : ℕ) → IsUnchanged setup (plain_of_parts setup parts) x
+      (x : ℕ) → IsTreeUnchanged setup (plain_of_parts setup parts) x
       → IfSome (rest_redone (rest_in parts)) (λ lines. IsNodeHeld setup lines parts.watch x)
 
 -- the engine is there exactly while power is on
@@ -108,7 +108,7 @@ IsTreeBy setup parts (Some engine) = IsTreeOn setup parts engine
 -- before an exhibit, whatever was done to the device
 pub record IsTreeOpen (setup : Setup) (parts : TreeParts) : Type 0 where
   pub chip : IsTreeBy setup parts parts.engine
-  pub places : ArePlacesKept setup (plain_of_parts setup parts) (rest_in parts)
+  pub places : AreTreePlacesKept setup (plain_of_parts setup parts) (rest_in parts)
 
 -- after one
 pub record IsTreeEnded (setup : Setup) (parts : TreeParts) (exhibit : Exhibit) : Type 0 where

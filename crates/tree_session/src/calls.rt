@@ -8,8 +8,8 @@ ghost use Rattle.board.specs.Memory.{device_of};
 ghost use Rattle.board.specs.MemBoard.{memory_of};
 ghost use Rattle.watched_board.specs.Watching.{IsWatched, device_during, none_taken};
 ghost use Rattle.counter_tree.specs.Layout.{tree_lines, tree_slots, tree_size};
-ghost use Rattle.asit_shadow.specs.Parts.{parts_of, IsUsable};
-ghost use Rattle.asit_shadow.specs.Calls.{HasReadLine, HasWrittenLine};
+ghost use Rattle.asit_shadow.specs.Parts.{tree_parts_of, IsTreeUsable};
+ghost use Rattle.asit_shadow.specs.Calls.{HasReadTreeLine, HasWrittenTreeLine};
 ghost use Rattle.asit_shadow.specs.Recovering.{rest_of, IsRestUsable, HasTreeRecovered};
 ghost use Rattle.asit_shadow.specs.Formatting.{HasTreeFormatted};
 
@@ -40,12 +40,12 @@ pub(crate) fn read<S: Suite, W: Watch>(
 ) -> Done<Result<Line, TreeFault>>
     requires line { at < tree_lines engine.old.shape }
     requires on { (memory_of board.old).powered ≡ true }
-    requires usable { IsUsable engine.old.shape (parts_of engine.old (device_during (memory_of board.old) none_taken) (W.watched watch.old)) }
-    ensures read { HasReadLine (record { shape = engine.old.shape; formulas = S.formulas_of (S.keys suite.old) }) at
-        (parts_of engine.old (device_during (memory_of board.old) none_taken) (W.watched watch.old))
-        (parts_of engine.new (device_during (memory_of board.new) result.taken) (W.watched watch.new)) result.answer }
+    requires usable { IsTreeUsable engine.old.shape (tree_parts_of engine.old (device_during (memory_of board.old) none_taken) (W.watched watch.old)) }
+    ensures read { HasReadTreeLine (record { shape = engine.old.shape; formulas = S.formulas_of (S.keys suite.old) }) at
+        (tree_parts_of engine.old (device_during (memory_of board.old) none_taken) (W.watched watch.old))
+        (tree_parts_of engine.new (device_during (memory_of board.new) result.taken) (W.watched watch.new)) result.answer }
     ensures watched { IsWatched (memory_of board.old) (memory_of board.new) result.taken }
-    ensures usable { IsUsable engine.old.shape (parts_of engine.new (device_during (memory_of board.new) result.taken) (W.watched watch.new)) }
+    ensures usable { IsTreeUsable engine.old.shape (tree_parts_of engine.new (device_during (memory_of board.new) result.taken) (W.watched watch.new)) }
     ensures keys { S.keys suite.new ≡ S.keys suite.old }
     ensures shape { engine.new.shape ≡ engine.old.shape }
 {
@@ -69,13 +69,13 @@ fn read_watched<'a, K: Start, S: Suite, W: Watch>(
     requires start { memory_of board.old ≡ K.start }
     requires name { board.ghost_name ≡ K.name }
     requires on { (memory_of board.old).powered ≡ true }
-    requires usable { IsUsable engine.old.shape (parts_of engine.old (device_during (memory_of board.old) none_taken) (W.watched watch.old)) }
+    requires usable { IsTreeUsable engine.old.shape (tree_parts_of engine.old (device_during (memory_of board.old) none_taken) (W.watched watch.old)) }
     ensures name { result.board.ghost_name ≡ K.name }
-    ensures read { HasReadLine (record { shape = engine.old.shape; formulas = S.formulas_of (S.keys suite.old) }) at
-        (parts_of engine.old (device_during (memory_of board.old) none_taken) (W.watched watch.old))
-        (parts_of engine.new (device_during (memory_of result.board.now) result.taken) (W.watched watch.new)) result.answer }
+    ensures read { HasReadTreeLine (record { shape = engine.old.shape; formulas = S.formulas_of (S.keys suite.old) }) at
+        (tree_parts_of engine.old (device_during (memory_of board.old) none_taken) (W.watched watch.old))
+        (tree_parts_of engine.new (device_during (memory_of result.board.now) result.taken) (W.watched watch.new)) result.answer }
     ensures watched { IsWatched K.start (memory_of result.board.now) result.taken }
-    ensures usable { IsUsable engine.old.shape (parts_of engine.new (device_during (memory_of result.board.now) result.taken) (W.watched watch.new)) }
+    ensures usable { IsTreeUsable engine.old.shape (tree_parts_of engine.new (device_during (memory_of result.board.now) result.taken) (W.watched watch.new)) }
     ensures keys { S.keys suite.new ≡ S.keys suite.old }
     ensures shape { engine.new.shape ≡ engine.old.shape }
 {
@@ -95,12 +95,12 @@ pub(crate) fn write<S: Suite, W: Watch>(
 ) -> Done<Result<u64, TreeFault>>
     requires line { at < tree_lines engine.old.shape }
     requires on { (memory_of board.old).powered ≡ true }
-    requires usable { IsUsable engine.old.shape (parts_of engine.old (device_during (memory_of board.old) none_taken) (W.watched watch.old)) }
-    ensures written { HasWrittenLine (record { shape = engine.old.shape; formulas = S.formulas_of (S.keys suite.old) }) at line.now
-        (parts_of engine.old (device_during (memory_of board.old) none_taken) (W.watched watch.old))
-        (parts_of engine.new (device_during (memory_of board.new) result.taken) (W.watched watch.new)) result.answer }
+    requires usable { IsTreeUsable engine.old.shape (tree_parts_of engine.old (device_during (memory_of board.old) none_taken) (W.watched watch.old)) }
+    ensures written { HasWrittenTreeLine (record { shape = engine.old.shape; formulas = S.formulas_of (S.keys suite.old) }) at line.now
+        (tree_parts_of engine.old (device_during (memory_of board.old) none_taken) (W.watched watch.old))
+        (tree_parts_of engine.new (device_during (memory_of board.new) result.taken) (W.watched watch.new)) result.answer }
     ensures watched { IsWatched (memory_of board.old) (memory_of board.new) result.taken }
-    ensures usable { IsUsable engine.old.shape (parts_of engine.new (device_during (memory_of board.new) result.taken) (W.watched watch.new)) }
+    ensures usable { IsTreeUsable engine.old.shape (tree_parts_of engine.new (device_during (memory_of board.new) result.taken) (W.watched watch.new)) }
     ensures keys { S.keys suite.new ≡ S.keys suite.old }
     ensures shape { engine.new.shape ≡ engine.old.shape }
 {
@@ -125,13 +125,13 @@ fn write_watched<'a, K: Start, S: Suite, W: Watch>(
     requires start { memory_of board.old ≡ K.start }
     requires name { board.ghost_name ≡ K.name }
     requires on { (memory_of board.old).powered ≡ true }
-    requires usable { IsUsable engine.old.shape (parts_of engine.old (device_during (memory_of board.old) none_taken) (W.watched watch.old)) }
+    requires usable { IsTreeUsable engine.old.shape (tree_parts_of engine.old (device_during (memory_of board.old) none_taken) (W.watched watch.old)) }
     ensures name { result.board.ghost_name ≡ K.name }
-    ensures written { HasWrittenLine (record { shape = engine.old.shape; formulas = S.formulas_of (S.keys suite.old) }) at line.now
-        (parts_of engine.old (device_during (memory_of board.old) none_taken) (W.watched watch.old))
-        (parts_of engine.new (device_during (memory_of result.board.now) result.taken) (W.watched watch.new)) result.answer }
+    ensures written { HasWrittenTreeLine (record { shape = engine.old.shape; formulas = S.formulas_of (S.keys suite.old) }) at line.now
+        (tree_parts_of engine.old (device_during (memory_of board.old) none_taken) (W.watched watch.old))
+        (tree_parts_of engine.new (device_during (memory_of result.board.now) result.taken) (W.watched watch.new)) result.answer }
     ensures watched { IsWatched K.start (memory_of result.board.now) result.taken }
-    ensures usable { IsUsable engine.old.shape (parts_of engine.new (device_during (memory_of result.board.now) result.taken) (W.watched watch.new)) }
+    ensures usable { IsTreeUsable engine.old.shape (tree_parts_of engine.new (device_during (memory_of result.board.now) result.taken) (W.watched watch.new)) }
     ensures keys { S.keys suite.new ≡ S.keys suite.old }
     ensures shape { engine.new.shape ≡ engine.old.shape }
 {

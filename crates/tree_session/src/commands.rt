@@ -1,7 +1,7 @@
 //! What a line asks of a memory over a counter tree.
 ghost use Rattle.std.specs.Prelude.{◌≡◌};
 ghost use Rattle.collision_witness.specs.Words.{words_of};
-ghost use Rattle.tree_session.specs.Commands.{command_of, reading_of_tree};
+ghost use Rattle.tree_session.specs.Commands.{tree_command_of, reading_of_tree};
 
 use pmem_base::{Kind, Line};
 use trace_text::{first_word, has_no_word, read_one_number, read_poke};
@@ -28,9 +28,9 @@ pub enum TreeCommand {
 }
 
 /// The command that begins with a first word.
-#[tactic(auto, unfolding(crate::specs::Commands::command_of))]
+#[tactic(auto, unfolding(crate::specs::Commands::tree_command_of))]
 fn read_verb(verb: &[u8], text: &[u8]) -> Result<TreeCommand, Kind>
-    ensures { result ≡ command_of verb.now (words_of text.now) }
+    ensures { result ≡ tree_command_of verb.now (words_of text.now) }
 {
     if verb == b"write".as_slice() {
         let (at, line) = read_poke(text)?;

@@ -1,8 +1,8 @@
 //! Power, and recovery.
 ghost use Rattle.std.specs.Prelude.{◌≡◌, IfOk, IfErr, None};
 ghost use Rattle.tree_session.specs.declared.commands.TreeCommand.TheVariants as Do;
-ghost use Rattle.tree_session.specs.State.{setup_in};
-ghost use Rattle.tree_session.specs.Answered.{IsAnswered, IsHalt};
+ghost use Rattle.tree_session.specs.State.{tree_setup_in};
+ghost use Rattle.tree_session.specs.Answered.{IsTreeAnswered, IsTreeHalt};
 
 use crate::answers::TreeAnswer;
 use crate::calls::{self, Done};
@@ -16,7 +16,7 @@ impl<S: Suite + Drop> TreeWorld<S> {
     /// Power is to be cut after `n` more persist steps.
     pub(crate) fn cut(&mut self, n: u64) -> TreeAnswer
         requires { self.old.shown ≡ None }
-        ensures { IsAnswered (setup_in S.formulas_of self.old) self.old (Do.Cut n) result self.new }
+        ensures { IsTreeAnswered (tree_setup_in S.formulas_of self.old) self.old (Do.Cut n) result self.new }
     {
         self.board.arm(n);
         TreeAnswer::Ok
@@ -25,7 +25,7 @@ impl<S: Suite + Drop> TreeWorld<S> {
     /// Power goes off.
     pub(crate) fn off(&mut self) -> TreeAnswer
         requires { self.old.shown ≡ None }
-        ensures { IsAnswered (setup_in S.formulas_of self.old) self.old Do.Off result self.new }
+        ensures { IsTreeAnswered (tree_setup_in S.formulas_of self.old) self.old Do.Off result self.new }
     {
         if self.engine.is_none() {
             return TreeAnswer::Off;
@@ -38,8 +38,8 @@ impl<S: Suite + Drop> TreeWorld<S> {
     /// Power comes on, with recovery. It stops for want of memory, or at a clash.
     pub(crate) fn on(&mut self, alloc: Global) -> Result<TreeAnswer, Halt>
         requires { self.old.shown ≡ None }
-        ensures answered { IfOk result (λ answer. IsAnswered (setup_in S.formulas_of self.old) self.old Do.On answer self.new) }
-        ensures halted { IfErr result (λ halt. IsHalt (setup_in S.formulas_of self.old) self.old Do.On halt self.new) }
+        ensures answered { IfOk result (λ answer. IsTreeAnswered (tree_setup_in S.formulas_of self.old) self.old Do.On answer self.new) }
+        ensures halted { IfErr result (λ halt. IsTreeHalt (tree_setup_in S.formulas_of self.old) self.old Do.On halt self.new) }
     {
         if self.engine.is_some() {
             return Ok(TreeAnswer::Already);

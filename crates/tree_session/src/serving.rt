@@ -3,8 +3,8 @@ ghost use Rattle.std.specs.Prelude.{◌≡◌, IfOk, IfErr, IsSome, Some, None};
 ghost use Rattle.std.specs.Option.{option_map};
 ghost use Rattle.tree_session.specs.declared.commands.TreeCommand.TheVariants as Do;
 ghost use Rattle.trace_text.specs.declared.talk.Halt.TheVariants as Stop;
-ghost use Rattle.tree_session.specs.State.{setup_in};
-ghost use Rattle.tree_session.specs.Answered.{IsAnswered, IsHalt};
+ghost use Rattle.tree_session.specs.State.{tree_setup_in};
+ghost use Rattle.tree_session.specs.Answered.{IsTreeAnswered, IsTreeHalt};
 
 use crate::answers::TreeAnswer;
 use crate::calls;
@@ -19,8 +19,8 @@ impl<S: Suite + Drop> TreeWorld<S> {
     /// A data line is written. It stops at a forged node.
     pub(crate) fn write(&mut self, at: u64, line: &Line) -> Result<TreeAnswer, Halt>
         requires { self.old.shown ≡ None }
-        ensures answered { IfOk result (λ answer. IsAnswered (setup_in S.formulas_of self.old) self.old (Do.Write at line.now) answer self.new) }
-        ensures halted { IfErr result (λ halt. IsHalt (setup_in S.formulas_of self.old) self.old (Do.Write at line.now) halt self.new) }
+        ensures answered { IfOk result (λ answer. IsTreeAnswered (tree_setup_in S.formulas_of self.old) self.old (Do.Write at line.now) answer self.new) }
+        ensures halted { IfErr result (λ halt. IsTreeHalt (tree_setup_in S.formulas_of self.old) self.old (Do.Write at line.now) halt self.new) }
     {
         let Some(engine) = &mut self.engine else {
             return Ok(TreeAnswer::Off);
@@ -68,8 +68,8 @@ impl<S: Suite + Drop> TreeWorld<S> {
     /// A data line is read. It stops at a forged node or line.
     pub(crate) fn read(&mut self, at: u64) -> Result<TreeAnswer, Halt>
         requires { self.old.shown ≡ None }
-        ensures answered { IfOk result (λ answer. IsAnswered (setup_in S.formulas_of self.old) self.old (Do.Read at) answer self.new) }
-        ensures halted { IfErr result (λ halt. IsHalt (setup_in S.formulas_of self.old) self.old (Do.Read at) halt self.new) }
+        ensures answered { IfOk result (λ answer. IsTreeAnswered (tree_setup_in S.formulas_of self.old) self.old (Do.Read at) answer self.new) }
+        ensures halted { IfErr result (λ halt. IsTreeHalt (tree_setup_in S.formulas_of self.old) self.old (Do.Read at) halt self.new) }
     {
         let Some(engine) = &mut self.engine else {
             return Ok(TreeAnswer::Off);

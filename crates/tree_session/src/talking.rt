@@ -1,7 +1,7 @@
 //! The session, line by line.
 ghost use Rattle.std.specs.Prelude.{◌≡◌, IfOk, IfErr};
-ghost use Rattle.tree_session.specs.State.{setup_in};
-ghost use Rattle.tree_session.specs.Answered.{IsAnswered, IsHalt};
+ghost use Rattle.tree_session.specs.State.{tree_setup_in};
+ghost use Rattle.tree_session.specs.Answered.{IsTreeAnswered, IsTreeHalt};
 
 use crate::answers::{TreeAnswer, write_tree_answer};
 use crate::commands::{TreeCommand, read_tree_command};
@@ -14,8 +14,8 @@ use trace_text::{Halt, TEXT_BYTES, Talk};
 impl<S: Suite + Drop> TreeWorld<S> {
     /// What a command answers. After an exhibit it is that exhibit.
     fn answer(&mut self, alloc: Global, command: &TreeCommand) -> Result<TreeAnswer, Halt>
-        ensures answered { IfOk result (λ answer. IsAnswered (setup_in S.formulas_of self.old) self.old command.now answer self.new) }
-        ensures halted { IfErr result (λ halt. IsHalt (setup_in S.formulas_of self.old) self.old command.now halt self.new) }
+        ensures answered { IfOk result (λ answer. IsTreeAnswered (tree_setup_in S.formulas_of self.old) self.old command.now answer self.new) }
+        ensures halted { IfErr result (λ halt. IsTreeHalt (tree_setup_in S.formulas_of self.old) self.old command.now halt self.new) }
     {
         if let Some(exhibit) = self.watch.exhibit() {
             return Err(Halt::Shown(*exhibit));
@@ -35,16 +35,16 @@ impl<S: Suite + Drop> TreeWorld<S> {
 
 impl<S: Suite + Drop> Talk for TreeWorld<S> {
     ghost use Rattle.tree_session.specs.Commands.{sort_of_tree};
-    ghost use Rattle.tree_session.specs.State.{setup_in};
-    ghost use Rattle.tree_session.specs.Answered.{IsTalkedOf, IsShownOf, IsStarvedOf};
+    ghost use Rattle.tree_session.specs.State.{tree_setup_in};
+    ghost use Rattle.tree_session.specs.Answered.{IsTreeTalkedOf, IsTreeShownOf, IsTreeStarvedOf};
 
     ghost sort_of = { sort_of_tree };
 
-    ghost answers = { λ old line text new. IsTalkedOf (setup_in S.formulas_of old) old line text new };
+    ghost answers = { λ old line text new. IsTreeTalkedOf (tree_setup_in S.formulas_of old) old line text new };
 
-    ghost shows = { λ old line exhibit. IsShownOf (setup_in S.formulas_of old) old line exhibit };
+    ghost shows = { λ old line exhibit. IsTreeShownOf (tree_setup_in S.formulas_of old) old line exhibit };
 
-    ghost wants_memory = { λ old line. IsStarvedOf old line };
+    ghost wants_memory = { λ old line. IsTreeStarvedOf old line };
 
     fn talk(
         &mut self,

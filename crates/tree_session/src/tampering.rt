@@ -4,8 +4,8 @@ ghost use Rattle.pmem_base.specs.Geo.{shape_of};
 ghost use Rattle.counter_tree.specs.Layout.{tree_lines, tree_size};
 ghost use Rattle.asit_shadow.specs.Plain.{hurt_with};
 ghost use Rattle.tree_session.specs.declared.commands.TreeCommand.TheVariants as Do;
-ghost use Rattle.tree_session.specs.State.{setup_in};
-ghost use Rattle.tree_session.specs.Answered.{IsAnswered, IsHalt};
+ghost use Rattle.tree_session.specs.State.{tree_setup_in};
+ghost use Rattle.tree_session.specs.Answered.{IsTreeAnswered, IsTreeHalt};
 
 use crate::answers::TreeAnswer;
 use crate::world::TreeWorld;
@@ -18,7 +18,7 @@ impl<S: Suite + Drop> TreeWorld<S> {
     /// A device line is changed past the controller.
     pub(crate) fn poke(&mut self, at: u64, line: &Line) -> TreeAnswer
         requires { self.old.shown ≡ None }
-        ensures { IsAnswered (setup_in S.formulas_of self.old) self.old (Do.Poke at line.now) result self.new }
+        ensures { IsTreeAnswered (tree_setup_in S.formulas_of self.old) self.old (Do.Poke at line.now) result self.new }
     {
         if at >= u64::from(tree_size(&self.geo)) {
             return TreeAnswer::Range;
@@ -31,8 +31,8 @@ impl<S: Suite + Drop> TreeWorld<S> {
     /// A snapshot of the device is taken. It stops for want of memory.
     pub(crate) fn snap(&mut self) -> Result<TreeAnswer, Halt>
         requires { self.old.shown ≡ None }
-        ensures answered { IfOk result (λ answer. IsAnswered (setup_in S.formulas_of self.old) self.old Do.Snap answer self.new) }
-        ensures halted { IfErr result (λ halt. IsHalt (setup_in S.formulas_of self.old) self.old Do.Snap halt self.new) }
+        ensures answered { IfOk result (λ answer. IsTreeAnswered (tree_setup_in S.formulas_of self.old) self.old Do.Snap answer self.new) }
+        ensures halted { IfErr result (λ halt. IsTreeHalt (tree_setup_in S.formulas_of self.old) self.old Do.Snap halt self.new) }
     {
         if self.board.snap().is_err() {
             return Err(Halt::Memory);
@@ -43,7 +43,7 @@ impl<S: Suite + Drop> TreeWorld<S> {
     /// A device line is put back as the snapshot has it.
     pub(crate) fn back(&mut self, at: u64) -> TreeAnswer
         requires { self.old.shown ≡ None }
-        ensures { IsAnswered (setup_in S.formulas_of self.old) self.old (Do.Back at) result self.new }
+        ensures { IsTreeAnswered (tree_setup_in S.formulas_of self.old) self.old (Do.Back at) result self.new }
     {
         if at >= u64::from(tree_size(&self.geo)) {
             return TreeAnswer::Range;

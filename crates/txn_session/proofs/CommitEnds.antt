@@ -27,10 +27,10 @@ use Rattle.line_txn.specs.declared.store.Store.{Store}
 use Rattle.line_txn.specs.declared.store.Done.{Done}
 use Rattle.line_txn.specs.declared.store.Done.TheVariants as Do
 use Rattle.line_txn.specs.declared.store.CommitFault.{CommitFault}
-use Rattle.line_txn.specs.Header.{AreBelow, header_of}
+use Rattle.line_txn.specs.Header.{AreDistinctBelow, header_of}
 use Rattle.line_txn.specs.Logged.{targets_of, bodies_of}
 use Rattle.line_txn.specs.Edits.{AreEdited, IsEditOf, IsWholeTxn, body_edits, target_edits, deciding_edits, applying_edits}
-use Rattle.line_txn.specs.Store.{HasCommitted, HasDecided, HasGoneOn, IsServedAs, IsServedBy, answer_by}
+use Rattle.line_txn.specs.Store.{HasStoreCommitted, HasDecided, HasCommitGoneOn, IsServedAs, IsServedBy, commit_answer_by}
 use Rattle.line_txn.proofs.EditStages.{deciding_fit, applying_fit, length-deciding, length-applying}
 use Rattle.wear_session.specs.Answered.{Writing, is_own_seal, IsCutAmong, write_steps}
 use Rattle.wear_session.proofs.EngineWrites.{memory_now, moment_now, none_done}
@@ -43,7 +43,7 @@ use Rattle.txn_session.proofs.WriteLists.{deciding_writes, applying_writes, post
 -- ---- with lines
 
 decided_calls : (setup : Setup) (txn : Entries) (old new : Store) (from to : Parts) (answer : Result Done CommitFault) → (txn ≡ [] → ⊥)
-    → HasCommitted setup txn old new from to answer → HasDecided setup txn old new from to answer
+    → HasStoreCommitted setup txn old new from to answer → HasDecided setup txn old new from to answer
 decided_calls setup [] old new from to answer some it = absurd (some refl)
 decided_calls setup (entry ∷ txn) old new from to answer some it = it
 
@@ -95,13 +95,13 @@ CommitServes txn old new (Ok (Do.Stuck page)) = IsServedAs (targets_of txn) (Som
 CommitServes txn old new (Err fault) = IsServedAs old.logged.items old.stuck old new
 
 pub commit_serves : (setup : Setup) (txn : Entries) (old new : Store) (from to : Parts) (answer : Result Done CommitFault) → (txn ≡ [] → ⊥)
-    → HasCommitted setup txn old new from to answer → CommitServes txn old new answer
+    → HasStoreCommitted setup txn old new from to answer → CommitServes txn old new answer
 commit_serves setup txn old new from to answer some it = go its.made its.then
   where
     its : HasDecided setup txn old new from to answer
     its = decided_calls setup txn old new from to answer some it
 
-    applied_as : (applied : Result (Unit {0}) Fault) → IsServedBy applied txn old new → CommitServes txn old new (answer_by applied)
+    applied_as : (applied : Result (Unit {0}) Fault) → IsServedBy applied txn old new → CommitServes txn old new (commit_answer_by applied)
     applied_as (Ok done) served = served
     applied_as (Err (Fail.Spent page)) served = served
     applied_as (Err Fail.Cut) served = served
@@ -110,12 +110,12 @@ commit_serves setup txn old new from to answer some it = go its.made its.then
     applied_as (Err (Fail.Tag at)) served = served
     applied_as (Err Fail.Shown) served = served
 
-    go : (made : Result (Unit {0}) Fault) → HasGoneOn made setup txn old new its.between to answer → CommitServes txn old new answer
+    go : (made : Result (Unit {0}) Fault) → HasCommitGoneOn made setup txn old new its.between to answer → CommitServes txn old new answer
     go (Ok done) then = subst (CommitServes txn old new) (sym then.its_answer) (applied_as then.applied then.served)
     go (Err fault) then = subst (CommitServes txn old new) (sym then.its_answer) then.served
 
 module _ (setup : Setup) (n : ℕ) (txn : Entries) (some : txn ≡ [] → ⊥) (from : Parts) (sound : AreSound setup from)
-    (live : from.device.live ≡ true) (size : n + 16 ≡ data_lines setup.shape) (below : AreBelow n (targets_of txn)) (whole : IsWholeTxn txn) where
+    (live : from.device.live ≡ true) (size : n + 16 ≡ data_lines setup.shape) (below : AreDistinctBelow n (targets_of txn)) (whole : IsWholeTxn txn) where
   abbrev count : ℕ
   count = length txn
 
@@ -179,7 +179,7 @@ module _ (setup : Setup) (n : ℕ) (txn : Entries) (some : txn ≡ [] → ⊥) (
   applied_as : (applied : Result (Unit {0}) Fault) (to : Parts)
       → EndsAt setup from queue (0 + length deciding) (0 + length deciding + length applying)
       (0 + cost setup.shape deciding + cost setup.shape applying) applied to
-      → CommitEndsAt setup from queue count most (answer_by applied) to
+      → CommitEndsAt setup from queue count most (commit_answer_by applied) to
   applied_as (Ok done) to gone =
       subst (λ k. AreGone setup from queue k most to)
       (let long = length-deciding n txn in let more = length-applying n txn in omega (arith, long, more))
@@ -194,20 +194,20 @@ module _ (setup : Setup) (n : ℕ) (txn : Entries) (some : txn ≡ [] → ⊥) (
       (let steps = cost_deciding setup.shape n txn in let more = cost_applying setup.shape n txn in omega (arith, steps, more)) ends)
     where
       go : (fault : Fault) → EndsAt setup from queue (count + 1) (2 * count + 2) most (Err fault) to
-          → CommitEndsAt setup from queue count most (answer_by (Err fault)) to
+          → CommitEndsAt setup from queue count most (commit_answer_by (Err fault)) to
       go (Fail.Spent page) it = it
       go Fail.Cut it = it
       go fault it = absurd it
 
   pub commit_ends_at : (old new : Store) (to : Parts) (answer : Result Done CommitFault) → old.lines ≡ n
-      → HasCommitted setup txn old new from to answer → CommitEndsAt setup from queue count most answer to
+      → HasStoreCommitted setup txn old new from to answer → CommitEndsAt setup from queue count most answer to
   commit_ends_at old new to answer same it = go its.made its.was_made its.then
     where
       its : HasDecided setup txn old new from to answer
       its = decided_calls setup txn old new from to answer some it
 
       go : (made : Result (Unit {0}) Fault) → AreEdited setup (deciding_edits old.lines txn) from its.between made
-          → HasGoneOn made setup txn old new its.between to answer → CommitEndsAt setup from queue count most answer to
+          → HasCommitGoneOn made setup txn old new its.between to answer → CommitEndsAt setup from queue count most answer to
       go (Ok done) was then =
           let gone : AreGone setup from queue (0 + length deciding) (0 + cost setup.shape deciding) its.between =
           decided_end its.between (Ok done) (subst (λ m. AreEdited setup (deciding_edits m txn) from its.between (Ok done)) same was) in

@@ -19,9 +19,9 @@ use Rattle.line_txn.specs.declared.store.Store.{Store}
 use Rattle.line_txn.specs.declared.store.Done.{Done}
 use Rattle.line_txn.specs.declared.store.CommitFault.{CommitFault}
 use Rattle.line_txn.specs.Header.{AreTargets}
-use Rattle.line_txn.specs.Logged.{IsLogged, lines_at, targets_at, memory_at, targets_of}
+use Rattle.line_txn.specs.Logged.{IsLogged, commit_lines_at, targets_at, commit_memory_at, targets_of}
 use Rattle.line_txn.specs.Edits.{IsEditOf, IsWholeTxn, deciding_edits, applying_edits}
-use Rattle.line_txn.specs.Store.{HasCommitted as HasCommittedBy, logged_lines}
+use Rattle.line_txn.specs.Store.{HasStoreCommitted as HasCommittedBy, logged_lines}
 use Rattle.line_txn.proofs.LoggedLaws.{whole_at_each_stage}
 use Rattle.line_txn.proofs.EditStages.{deciding_fit, applying_fit}
 use Rattle.std.proofs.lemmas.List.Elements.{All-append}
@@ -33,8 +33,8 @@ use Rattle.wear_session.proofs.Seen.{setup_under}
 use Rattle.wear_session.proofs.WriteLaws.{whole_places}
 use Rattle.wear_session.proofs.EngineWrites.{moment_now, AreDone, AreCut}
 use Rattle.txn_session.specs.State.{TxnState, Entries, commit_writes, with_commit}
-use Rattle.txn_session.specs.World.{TxnParts, IsTxnWorld, IsStoreOn, targets_in_force, logical_memory, txn_of}
-use Rattle.txn_session.specs.Answered.{IsButForSteps, GoesTo, IsCutOff, after_commit, most_of_commit}
+use Rattle.txn_session.specs.World.{TxnParts, IsTxnWorld, IsStoreOn, targets_in_force, redone_memory, txn_of}
+use Rattle.txn_session.specs.Answered.{IsTxnButForSteps, GoesToTxnState, IsTxnCutOff, after_commit, most_of_commit}
 use Rattle.txn_session.proofs.Worlds.{few_data, targets_held, memory_held, logged_is, goes_to, cut_off, IsOpenTxn, on_in, lines_are, on_after, off_after}
 use Rattle.txn_session.proofs.Rooms.{reserved_world}
 use Rattle.txn_session.proofs.WriteLists.{posted_commit, edits_memory, length-commit_writes}
@@ -171,10 +171,10 @@ module _ (c : CommitCall) where
   none_in_force : targets_in_force setup places ≡ []
   none_in_force = sym on.its_log ∙ no_log
 
-  had : IsLogged n places [] (logical_memory setup places)
+  had : IsLogged n places [] (redone_memory setup places)
   had =
-      subst (λ m. IsLogged m places [] (logical_memory setup places)) (sym n_is)
-      (subst (λ ts. IsLogged (logged_lines c.geometry) places ts (logical_memory setup places)) none_in_force world.logged)
+      subst (λ m. IsLogged m places [] (redone_memory setup places)) (sym n_is)
+      (subst (λ ts. IsLogged (logged_lines c.geometry) places ts (redone_memory setup places)) none_in_force world.logged)
 
   -- ---- how it ended
 
@@ -197,7 +197,7 @@ module _ (c : CommitCall) where
   -- ---- once so many of its engine writes are done
 
   lines_there : (k : ℕ) → places_now ≡ (moment_after_writes setup.formulas (moment_now setup from) (take k queue)).memory
-      → (stage : IsAtStage n c.entries places k) → places_now ≡ lines_at stage.stage n c.entries places
+      → (stage : IsAtStage n c.entries places k) → places_now ≡ commit_lines_at stage.stage n c.entries places
   lines_there k is stage =
       is
       ∙ ap (λ q. (moment_after_writes setup.formulas (moment_now setup from) (take k q)).memory)
@@ -215,24 +215,24 @@ module _ (c : CommitCall) where
     stage : IsAtStage n c.entries places k
     stage = at_stage n c.entries places k few
 
-    held_lines : IsLogged (logged_lines c.geometry) places_now (targets_at stage.stage c.entries) (memory_at stage.stage c.entries (logical_memory setup places))
+    held_lines : IsLogged (logged_lines c.geometry) places_now (targets_at stage.stage c.entries) (commit_memory_at stage.stage c.entries (redone_memory setup places))
     held_lines =
-        subst (λ m. IsLogged m places_now (targets_at stage.stage c.entries) (memory_at stage.stage c.entries (logical_memory setup places))) n_is
-        (subst (λ l. IsLogged n l (targets_at stage.stage c.entries) (memory_at stage.stage c.entries (logical_memory setup places)))
+        subst (λ m. IsLogged m places_now (targets_at stage.stage c.entries) (commit_memory_at stage.stage c.entries (redone_memory setup places))) n_is
+        (subst (λ l. IsLogged n l (targets_at stage.stage c.entries) (commit_memory_at stage.stage c.entries (redone_memory setup places)))
         (sym (lines_there k is stage))
-        (whole_at_each_stage n places (logical_memory setup places) c.entries stage.stage targets had))
+        (whole_at_each_stage n places (redone_memory setup places) c.entries stage.stage targets had))
 
-    logged : IsLogged (logged_lines c.geometry) places_now (targets_in_force setup places_now) (logical_memory setup places_now)
-    logged = logged_is setup world.whole_shape places_now (memory_at stage.stage c.entries (logical_memory setup places)) (targets_at stage.stage c.entries) held_lines
+    logged : IsLogged (logged_lines c.geometry) places_now (targets_in_force setup places_now) (redone_memory setup places_now)
+    logged = logged_is setup world.whole_shape places_now (commit_memory_at stage.stage c.entries (redone_memory setup places)) (targets_at stage.stage c.entries) held_lines
 
     targets_now : targets_in_force setup places_now ≡ cond (nat_lt count k) (cond (k == 2 * count + 2) [] (targets_of c.entries)) []
     targets_now =
-        targets_held setup world.whole_shape places_now (memory_at stage.stage c.entries (logical_memory setup places)) (targets_at stage.stage c.entries) held_lines
+        targets_held setup world.whole_shape places_now (commit_memory_at stage.stage c.entries (redone_memory setup places)) (targets_at stage.stage c.entries) held_lines
         ∙ stage.targets
 
-    memory_now_is : logical_memory setup places_now ≡ cond (nat_lt count k) (put_lines c.entries old.memory) old.memory
+    memory_now_is : redone_memory setup places_now ≡ cond (nat_lt count k) (put_lines c.entries old.memory) old.memory
     memory_now_is =
-        memory_held setup world.whole_shape places_now (memory_at stage.stage c.entries (logical_memory setup places)) (targets_at stage.stage c.entries) held_lines
+        memory_held setup world.whole_shape places_now (commit_memory_at stage.stage c.entries (redone_memory setup places)) (targets_at stage.stage c.entries) held_lines
         ∙ stage.its_memory old.memory
 
     in_force_now : targets_in_force setup places_now ≡ cond (nat_lt count k) (cond (k == 2 * count + 2) [] (targets_of c.entries)) old.in_force
@@ -247,11 +247,11 @@ module _ (c : CommitCall) where
       pub going_world : IsTxnWorld setup (left (Some c.after))
       going_world = on_after setup p c.board c.ledger world logged c.after None done.live done.sound (its_log ∙ sym targets_now) tt
 
-      becomes : IsButForSteps
+      becomes : IsTxnButForSteps
           (record (with_commit old c.entries k) { stuck = page; marks = old.marks ++ made })
           (txn_of setup (left (Some c.after)))
       becomes =
-          subst (λ e. IsButForSteps (record e { stuck = page; marks = old.marks ++ made })
+          subst (λ e. IsTxnButForSteps (record e { stuck = page; marks = old.marks ++ made })
           (txn_of setup (left (Some c.after)))) (sym (with_commit_is old c.entries k))
           (record {
             shape = refl;
@@ -265,18 +265,18 @@ module _ (c : CommitCall) where
             marks = done.marks;
           })
 
-      pub goes_stuck : GoesTo (record (after_commit old c.entries writing) { stuck = page }) (steps_in c.taken) limit old (txn_of setup (left (Some c.after)))
+      pub goes_stuck : GoesToTxnState (record (after_commit old c.entries writing) { stuck = page }) (steps_in c.taken) limit old (txn_of setup (left (Some c.after)))
       goes_stuck =
           goes_to setup p (left (Some c.after)) c.taken c.watched (record (after_commit old c.entries writing) { stuck = page }) limit done.live
           (at_most c.before.board c.board c.taken limit c.watched.follows.few done.takes) becomes
 
     -- where it isn't stuck
     pub goes : (limit : ℕ) (writes : List Posted) (done : AreDone setup from writes made limit to) → c.after.stuck ≡ old.stuck
-        → GoesTo (after_commit old c.entries writing) (steps_in c.taken) limit old (txn_of setup (left (Some c.after)))
+        → GoesToTxnState (after_commit old c.entries writing) (steps_in c.taken) limit old (txn_of setup (left (Some c.after)))
     goes limit writes done its_page =
         goes_to setup p (left (Some c.after)) c.taken c.watched (after_commit old c.entries writing) limit done.live
         (at_most c.before.board c.board c.taken limit c.watched.follows.few done.takes)
-        (subst (λ e. IsButForSteps (record e { marks = old.marks ++ made })
+        (subst (λ e. IsTxnButForSteps (record e { marks = old.marks ++ made })
         (txn_of setup (left (Some c.after)))) (sym (with_commit_is old c.entries k))
         (record {
           shape = refl;
@@ -295,11 +295,11 @@ module _ (c : CommitCall) where
       pub cut_world : IsTxnWorld setup (left None)
       cut_world = off_after setup p c.board c.ledger world logged cut.dark cut.durable cut.small_group
 
-      pub cuts : limit ≤ step_limit → IsCutOff (after_commit old c.entries writing) (steps_in c.taken) limit old (txn_of setup (left None))
+      pub cuts : limit ≤ step_limit → IsTxnCutOff (after_commit old c.entries writing) (steps_in c.taken) limit old (txn_of setup (left None))
       cuts small =
           cut_off setup p (left None) c.taken c.watched (after_commit old c.entries writing) limit cut.dark
           (fewer c.before.board c.board c.taken limit c.watched.follows.few cut.takes) small
-          (subst (λ e. IsButForSteps (record e { marks = old.marks ++ made; stuck = None; txn = None; power = false; fuse = None })
+          (subst (λ e. IsTxnButForSteps (record e { marks = old.marks ++ made; stuck = None; txn = None; power = false; fuse = None })
           (txn_of setup (left None))) (sym (with_commit_is old c.entries k))
           (record {
             shape = refl;

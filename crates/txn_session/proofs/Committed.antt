@@ -22,9 +22,9 @@ use Rattle.wear_session.proofs.EngineWrites.{moment_now, memory_done}
 use Rattle.txn_session.specs.declared.commands.TxnCommand.TheVariants as Do
 use Rattle.txn_session.specs.declared.answers.TxnAnswer.{TxnAnswer}
 use Rattle.txn_session.specs.declared.answers.TxnAnswer.TheVariants as Say
-use Rattle.txn_session.specs.State.{TxnState, setup_in, moment_in, commit_writes}
+use Rattle.txn_session.specs.State.{TxnState, txn_setup_in, txn_moment_in, commit_writes}
 use Rattle.txn_session.specs.World.{TxnParts, IsTxnWorld, stuck_in, txn_of}
-use Rattle.txn_session.specs.Answered.{IsAnswered, IsCommitting, IsKept, EndsCommit, HasCommitted, after_commit}
+use Rattle.txn_session.specs.Answered.{IsTxnAnswered, IsCommitting, IsTxnCommitKept, EndsCommit, HasTxnCommitted, after_commit}
 use Rattle.txn_session.proofs.Rooms.{reserved_state}
 use Rattle.txn_session.proofs.Seen.{commit_undecided, served, seen_from, held_under}
 use Rattle.txn_session.proofs.EngineEdits.{IsCutAt}
@@ -77,21 +77,21 @@ module _ (c : CommitCall) where
   -- what an answer says, by its engine writes and its end
   seen_as : (store : Option Store) (writing : Writing) (say : ℕ → TxnAnswer)
       → IsCommitting count setup.formulas (moment_now setup from) queue writing (say (steps_in c.taken))
-      → IsKept n writing.made (say (steps_in c.taken))
+      → IsTxnCommitKept n writing.made (say (steps_in c.taken))
       → EndsCommit (after_commit old c.entries writing) most (say (steps_in c.taken)) old (txn_of setup (left store))
-      → IsAnswered (setup_in c.formulas_of c.now) c.now Do.Commit (say c.said) (txn_of (setup_under c.formulas_of c.geometry c.keys) (left_under store))
+      → IsTxnAnswered (txn_setup_in c.formulas_of c.now) c.now Do.Commit (say c.said) (txn_of (setup_under c.formulas_of c.geometry c.keys) (left_under store))
   seen_as store writing say came kept ended =
-      subst (λ (k : ℕ). IsAnswered (setup_in c.formulas_of c.now) c.now Do.Commit (say k)
+      subst (λ (k : ℕ). IsTxnAnswered (txn_setup_in c.formulas_of c.now) c.now Do.Commit (say k)
       (txn_of (setup_under c.formulas_of c.geometry c.keys) (left_under store))) (sym c.counted)
       (seen_from c.formulas_of c.geometry p (left store) c.now c.keys Do.Commit (say (steps_in c.taken)) now_is c.same_keys refl
       (served setup old (txn_of setup (left store)) Do.Commit (say (steps_in c.taken)) (commit_undecided old c.entries (state.on c).powered c.opened c.some)
-      (subst (λ es. HasCommitted setup old es (say (steps_in c.taken)) (txn_of setup (left store))) (sym (ap (λ txn. unwrap_or txn []) c.opened))
-      (let it : HasCommitted setup old c.entries (say (steps_in c.taken)) (txn_of setup (left store)) =
+      (subst (λ es. HasTxnCommitted setup old es (say (steps_in c.taken)) (txn_of setup (left store))) (sym (ap (λ txn. unwrap_or txn []) c.opened))
+      (let it : HasTxnCommitted setup old c.entries (say (steps_in c.taken)) (txn_of setup (left store)) =
       record {
         writing = writing;
         came =
-            subst (λ m. IsCommitting count setup.formulas (moment_in setup old) (commit_writes m c.entries) writing (say (steps_in c.taken))) (state.n_is c) came;
-        kept = subst (λ a. IsKept a writing.made (say (steps_in c.taken))) (state.n_is c) kept;
+            subst (λ m. IsCommitting count setup.formulas (txn_moment_in setup old) (commit_writes m c.entries) writing (say (steps_in c.taken))) (state.n_is c) came;
+        kept = subst (λ a. IsTxnCommitKept a writing.made (say (steps_in c.taken))) (state.n_is c) kept;
         ends = ended;
       } in it))))
 
@@ -100,7 +100,7 @@ module _ (c : CommitCall) where
   abbrev Exit : Option Store → (ℕ → TxnAnswer) → Type 0
   Exit store say =
       IsTxnWorld (setup_under c.formulas_of c.geometry c.keys) (left_under store)
-      × IsAnswered (setup_in c.formulas_of c.now) c.now Do.Commit (say c.said) (txn_of (setup_under c.formulas_of c.geometry c.keys) (left_under store))
+      × IsTxnAnswered (txn_setup_in c.formulas_of c.now) c.now Do.Commit (say c.said) (txn_of (setup_under c.formulas_of c.geometry c.keys) (left_under store))
 
   -- the store serves as before
   stuck_still : c.after.stuck ≡ c.store.stuck → c.after.stuck ≡ old.stuck
@@ -230,7 +230,7 @@ module _ (c : CommitCall) where
 
   pub kept_seen : (committed : Bool) → c.answer ≡ Err (record { fault = Fail.Cut; committed = committed })
       → (committed ≡ true) ⊎ (list_any (is_own_seal n) (drop (length c.ledger_before.marks) c.ledger.marks) ≡ true)
-      → IsAnswered (setup_in c.formulas_of c.now) c.now Do.Commit (Say.CutKept c.said)
+      → IsTxnAnswered (txn_setup_in c.formulas_of c.now) c.now Do.Commit (Say.CutKept c.said)
       (txn_of (setup_under c.formulas_of c.geometry c.keys) (left_under None))
   kept_seen committed is why =
       let it = by_end committed is in
@@ -249,7 +249,7 @@ module _ (c : CommitCall) where
 
   pub lost_seen : (committed : Bool) → c.answer ≡ Err (record { fault = Fail.Cut; committed = committed })
       → list_any (is_own_seal n) (drop (length c.ledger_before.marks) c.ledger.marks) ≡ false
-      → IsAnswered (setup_in c.formulas_of c.now) c.now Do.Commit (Say.CutLost c.said)
+      → IsTxnAnswered (txn_setup_in c.formulas_of c.now) c.now Do.Commit (Say.CutLost c.said)
       (txn_of (setup_under c.formulas_of c.geometry c.keys) (left_under None))
   lost_seen committed is none =
       let it = by_end committed is in

@@ -22,7 +22,7 @@ use Rattle.pmem_engine.proofs.CallEnds.StillParts.{sound_trusted}
 use Rattle.start_gap.specs.Gapped.{done_as}
 use Rattle.line_txn.specs.declared.edits.Edit.{Edit}
 use Rattle.line_txn.specs.declared.edits.Edit.TheVariants as Make
-use Rattle.line_txn.specs.Edits.{HasPut, HasPutRead, HasEdited, GoesOn, AreEdited, IsEditOf}
+use Rattle.line_txn.specs.Edits.{HasLinePut, HasPutRead, HasEdited, CommitGoesOn, AreEdited, IsEditOf}
 use Rattle.wear_session.specs.Answered.{Writing, IsCutAmong, write_steps, read_steps}
 use Rattle.wear_session.proofs.AskedWrites.{stopped}
 use Rattle.wear_session.proofs.EngineWrites.{memory_now, moment_now, most_within, fewer_within, AreDone, AreCut, IsCutAfter, IsCutBefore, memory_done, read_line, read_done, read_cut, write_done, spent_next, spent_done, write_cut}
@@ -239,7 +239,7 @@ module _ (setup : Setup) (from : Parts) (queue : List Posted) where
               }
         ]
 
-    pub put_goes : (answer : Result (Unit {0}) Fault) → HasPut setup at line parts to answer → EndsAt setup from queue k (suc k) (most + w) answer to
+    pub put_goes : (answer : Result (Unit {0}) Fault) → HasLinePut setup at line parts to answer → EndsAt setup from queue k (suc k) (most + w) answer to
     put_goes answer put = subst (λ a. EndsAt setup from queue k (suc k) (most + w) a to) (sym put.its_answer) (go put.made put.was_written)
       where
         go : (made_by : Result Ctr Fault) → HasWrittenLine setup write parts to made_by
@@ -271,7 +271,7 @@ module _ (setup : Setup) (from : Parts) (queue : List Posted) where
           sum answer
           (put_goes at (line_at (memory_now setup parts) source) k (most + r) made it.between to rest fit.1
           (read_done setup from parts (take k queue) made most done source it.between line was) there answer
-          (subst (λ l. HasPut setup at l it.between to answer) same put))
+          (subst (λ l. HasLinePut setup at l it.between to answer) same put))
       go (Err (Fail.Spent page)) was put = absurd was.possible
       go (Err Fail.Cut) was put =
           subst (λ a. EndsAt setup from queue k (suc k) (most + (r + w)) a to) (sym put.0)
@@ -353,7 +353,7 @@ module _ (setup : Setup) (from : Parts) (queue : List Posted) where
           → drop (suc k) queue ≡ all_posted (memory_now setup it.0) edits ++ tail → AreEdited setup edits it.0 to answer
           → EndsAt setup from queue (suc k) (suc k + length edits) (n + cost setup.shape edits) answer to)
           → HasEdited setup edit parts it.0 first
-          → GoesOn first (AreEdited setup edits it.0 to answer) it.0 to answer
+          → CommitGoesOn first (AreEdited setup edits it.0 to answer) it.0 to answer
           → EndsAt setup from queue k (k + length (edit ∷ edits)) (most + cost setup.shape (edit ∷ edits)) answer to
       go (Ok done_now) next edited then =
           let gone : AreGone setup from queue (suc k) most_of it.0 = one (Ok done_now) edited in

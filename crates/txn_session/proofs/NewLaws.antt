@@ -43,7 +43,7 @@ use Rattle.line_txn.specs.declared.store.TxnFault.TheVariants as Txn
 use Rattle.line_txn.specs.Header.{IsHeader}
 use Rattle.line_txn.specs.Logged.{IsLogged}
 use Rattle.line_txn.specs.Edits.{AreEdited, redoing_edits}
-use Rattle.line_txn.specs.Store.{HasOpened, HasStarted, HasRedone, IsOpenedBy, logged_lines}
+use Rattle.line_txn.specs.Store.{HasStoreOpened, HasStoreStarted, HasTargetsRedone, IsOpenedBy, logged_lines}
 use Rattle.line_txn.proofs.Headers.{one_header}
 use Rattle.line_txn.proofs.LoggedLaws.{zero_logged}
 use Rattle.line_txn.proofs.Openings.{logged_size}
@@ -90,7 +90,7 @@ pub record NewCall : Type 0 where
   pub digests_new : ℕ
   pub answer : Result (Store × Opened) TxnFault
   pub opened :
-      HasOpened setup (parts_of engine (device_of middle) ledger_before tags digests)
+      HasStoreOpened setup (parts_of engine (device_of middle) ledger_before tags digests)
       (λ now. parts_of now (device_of board) ledger tags_new digests_new) answer
 
 module _ (c : NewCall) where
@@ -159,7 +159,7 @@ module _ (c : NewCall) where
     none : found ≡ []
     done : redone ≡ Ok tt
 
-  read_alone : (found : List ℕ) (new : Parts) (redone : Result (Unit {0}) Fault) → HasRedone c.setup found from new redone
+  read_alone : (found : List ℕ) (new : Parts) (redone : Result (Unit {0}) Fault) → HasTargetsRedone c.setup found from new redone
       → IsReadAlone found new redone
   read_alone found new redone it =
       let none = no_targets it.between it.line found it.was_read it.header in
@@ -247,7 +247,7 @@ module _ (c : NewCall) where
   IsStored (Ok both) = IsTxnWorld c.setup (held both.0) × IsNewTxn c.setup (txn_of c.setup (held both.0))
   IsStored (Err fault) = ⊥
 
-  stored : (store : Store) (opened : Opened) → HasStarted c.setup from (to store.engine) store opened → IsStored (Ok (store, opened))
+  stored : (store : Store) (opened : Opened) → HasStoreStarted c.setup from (to store.engine) store opened → IsStored (Ok (store, opened))
   stored store opened it =
       let read = read_alone it.targets (to store.engine) it.redone it.was_redone in
       let by : IsOpenedBy (Ok tt) store.lines it.targets store opened =
@@ -271,7 +271,7 @@ module _ (c : NewCall) where
       unread (Fail.Spent page) new it = it.possible
       unread fault new it = it.unrefused sound.trusted.not_down sound
 
-      go : (answer : Result (Store × Opened) TxnFault) → HasOpened c.setup from to answer → IsStored answer
+      go : (answer : Result (Store × Opened) TxnFault) → HasStoreOpened c.setup from to answer → IsStored answer
       go (Ok both) it = stored both.0 both.1 it
       go (Err (Txn.Engine fault)) it =
           elim it.1 [

@@ -26,14 +26,14 @@ use Rattle.pmem_recovery.specs.declared.faults.Work.{Work}
 use Rattle.pmem_recovery.specs.declared.faults.RecFault.{RecFault}
 use Rattle.pmem_recovery.specs.declared.faults.RecFault.TheVariants as Rec
 use Rattle.pmem_recovery.specs.Parts.{SuiteState}
-use Rattle.pmem_recovery.specs.Recovered.{HasRecovered, HasMended, most_steps}
+use Rattle.pmem_recovery.specs.Recovered.{HasRecovered, HasMended, most_recovery_steps}
 use Rattle.line_txn.specs.declared.store.Store.{Store}
 use Rattle.line_txn.specs.declared.store.Opened.{Opened}
 use Rattle.line_txn.specs.declared.store.TxnFault.{TxnFault}
 use Rattle.line_txn.specs.declared.store.TxnFault.TheVariants as Txn
 use Rattle.line_txn.specs.Header.{IsHeader}
 use Rattle.line_txn.specs.Edits.{redoing_edits}
-use Rattle.line_txn.specs.Store.{HasOpened, HasStarted as HasOpenedBy, HasFailedRedo, IsOpenedBy}
+use Rattle.line_txn.specs.Store.{HasStoreOpened, HasStoreStarted as HasOpenedBy, HasFailedRedo, IsOpenedBy}
 use Rattle.watched_board.specs.Watching.{steps_in}
 use Rattle.wear_session.specs.Answered.{Writing, read_steps}
 use Rattle.wear_session.proofs.Seen.{setup_under}
@@ -44,10 +44,10 @@ use Rattle.txn_session.specs.declared.calls.StartFault.TheVariants as Start
 use Rattle.txn_session.specs.declared.commands.TxnCommand.TheVariants as Do
 use Rattle.txn_session.specs.declared.answers.TxnAnswer.{TxnAnswer}
 use Rattle.txn_session.specs.declared.answers.TxnAnswer.TheVariants as Say
-use Rattle.txn_session.specs.During.{HasOpenedAfter, started_as}
-use Rattle.txn_session.specs.State.{TxnState, setup_in}
+use Rattle.txn_session.specs.During.{HasTxnOpenedAfter, txn_started_as}
+use Rattle.txn_session.specs.State.{TxnState, txn_setup_in}
 use Rattle.txn_session.specs.World.{TxnParts, IsTxnWorld, stuck_in, txn_of}
-use Rattle.txn_session.specs.Answered.{IsAnswered, IsShownBy, CanWantMemory, GoesTo, HasOpened as HasOpenedAs, after_redo}
+use Rattle.txn_session.specs.Answered.{IsTxnAnswered, IsTxnShownBy, IsTxnMemoryWanted, GoesToTxnState, HasTxnOpened as HasOpenedAs, after_redo}
 use Rattle.txn_session.proofs.Rooms.{reserved_state}
 use Rattle.txn_session.proofs.Seen.{on_undecided, served, seen_from, held_under}
 use Rattle.txn_session.proofs.EngineEdits.{IsCutAt, EndsAt}
@@ -100,7 +100,7 @@ module _ (c : OnCall) where
   abbrev Exit : BoardMemory → Option Store → TxnAnswer → Type 0
   Exit board store answer =
       IsTxnWorld (setup_under c.formulas_of c.geometry c.keys) (left_under board store)
-      × IsAnswered (setup_in c.formulas_of c.now) c.now Do.On answer (txn_of (setup_under c.formulas_of c.geometry c.keys) (left_under board store))
+      × IsTxnAnswered (txn_setup_in c.formulas_of c.now) c.now Do.On answer (txn_of (setup_under c.formulas_of c.geometry c.keys) (left_under board store))
 
   now_is : old ≡ c.now
   now_is = reserved_state setup c.before c.ledger_before 1056 c.room ∙ c.is
@@ -114,7 +114,7 @@ module _ (c : OnCall) where
   exit_of board store answer held it = (
     held_under c.formulas_of c.geometry p (record (left board store) { txn = p.txn }) c.keys c.same_keys (txn_as (IsTxnWorld setup) board store held),
     seen_from c.formulas_of c.geometry p (record (left board store) { txn = p.txn }) c.now c.keys Do.On answer now_is c.same_keys refl
-        (txn_as (λ q. IsAnswered setup old Do.On answer (txn_of setup q)) board store
+        (txn_as (λ q. IsTxnAnswered setup old Do.On answer (txn_of setup q)) board store
         (served setup old (txn_of setup (left board store)) Do.On answer (on_undecided old (state.off c).unpowered) it)),
   )
 
@@ -136,7 +136,7 @@ module _ (c : OnCall) where
   Outcome (Err (Start.Opening (Txn.Engine Fail.Cut))) = Exit c.board None (Say.Cut (steps_in c.taken))
   Outcome (Err (Start.Recovery Rec.Memory)) = IsTxnWorld setup (left rested None) × (txn_of setup (left rested None) ≡ old)
   Outcome (Err (Start.Recovery (Rec.Twin at major low high cipher tag))) =
-      IsTxnWorld setup (left rested None) × IsShownBy setup old Do.On (Twin at major low high cipher tag)
+      IsTxnWorld setup (left rested None) × IsTxnShownBy setup old Do.On (Twin at major low high cipher tag)
   Outcome answer = ⊥
 
   -- ---- the header was read, and its transaction redone, or power was cut
@@ -179,7 +179,7 @@ module _ (c : OnCall) where
               came = (sym (state.count_is c), (omega (arith, (state.count_is c)), gone.done.asked));
               ends = (
                 its.its_count ∙ ap length same,
-                subst (λ s. GoesTo (record (after_redo old writing) { stuck = s }) (steps_in c.taken) most old (txn_of setup (left c.board (Some store)))) stuck
+                subst (λ s. GoesToTxnState (record (after_redo old writing) { stuck = s }) (steps_in c.taken) most old (txn_of setup (left c.board (Some store)))) stuck
                     (state.goes c writing come store gone.done.live gone.done.loss gone.done.takes),
               );
             } in said))
@@ -199,7 +199,7 @@ module _ (c : OnCall) where
               writing = writing;
               came = spent.next;
               ends =
-                  subst (λ s. GoesTo (record (after_redo old writing) { stuck = s }) (steps_in c.taken) most old (txn_of setup (left c.board (Some store)))) by.1
+                  subst (λ s. GoesToTxnState (record (after_redo old writing) { stuck = s }) (steps_in c.taken) most old (txn_of setup (left c.board (Some store)))) by.1
                   (state.goes c writing come store spent.done.live spent.done.loss spent.done.takes);
             } in said))
         go (Err fault) by ends = absurd by
@@ -223,7 +223,7 @@ module _ (c : OnCall) where
         (state.cut_seen c writing come (inl (omega arith, refl)) cut.dark cut.loss
         (fewer_within from to (bound + read_steps c.geometry) most (omega arith) cut.takes))
 
-    by_opened : (opened : Result (Store × Opened) TxnFault) → HasOpened setup middle parts_to opened → Outcome (started_as opened)
+    by_opened : (opened : Result (Store × Opened) TxnFault) → HasOpened setup middle parts_to opened → Outcome (txn_started_as opened)
     by_opened (Ok both) opened = opened_exit both.0 both.1 opened
     by_opened (Err (Txn.Engine Fail.Cut)) opened =
         elim opened.1 [ inl read ↦ read_cut_exit opened.0 read | inr redo ↦ redo_cut_exit opened.0 redo ]
@@ -276,7 +276,7 @@ module _ (c : OnCall) where
       let dark : c.board.powered ≡ false = it.power.off in
       exit_of c.board None (Say.Cut (steps_in c.taken)) (state.dark_world c nothing_done come c.board dark durable few)
       (state.cut_seen c nothing_done come (inl (omega arith, refl)) dark loss
-      (fewer_within from to (most_steps setup lit.regs) most (let few = state.few_recovery c in omega (arith, few)) it.steps))
+      (fewer_within from to (most_recovery_steps setup lit.regs) most (let few = state.few_recovery c in omega (arith, few)) it.steps))
 
   -- nothing was done, for want of memory
   no_fuse_burnt : (fuse : Option ℕ) → option_map (λ n. n - 0) fuse ≡ fuse
@@ -337,7 +337,7 @@ module _ (c : OnCall) where
 
       go : (recovery : Result (EngineState × Work) RecFault)
           → HasRecovered setup p.ledger from (state.started c).between c.suite_old (state.started c).suite_between recovery
-          → HasOpenedAfter recovery setup (state.started c).between to p.ledger c.ledger (state.started c).suite_between c.suite_new c.answer
+          → HasTxnOpenedAfter recovery setup (state.started c).between to p.ledger c.ledger (state.started c).suite_between c.suite_new c.answer
           → Outcome c.answer
       go (Ok done) it later =
           subst Outcome (sym later.2) (by_opened (state.started c).between (state.started c).suite_between done.0 done.1 it later.0 later.1)
@@ -383,8 +383,8 @@ module _ (c : OnCall) where
       (λ page. Exit c.board (Some store) (Say.Stuck page (steps_in c.taken)))) there (outcome_as (Ok (store, opened)) is))
 
   -- the answer wasn't decided, so memory may be wanted for it
-  pub wanted_on : CanWantMemory c.now Do.On
-  wanted_on = subst (λ (w : TxnState). CanWantMemory w Do.On) now_is (refl, on_undecided old (state.off c).unpowered)
+  pub wanted_on : IsTxnMemoryWanted c.now Do.On
+  wanted_on = subst (λ (w : TxnState). IsTxnMemoryWanted w Do.On) now_is (refl, on_undecided old (state.off c).unpowered)
 
   -- no store is there, as before
   dark_exit : (board : BoardMemory) (answer : TxnAnswer) → Exit board None answer → Exit board p.store answer
@@ -418,11 +418,11 @@ module _ (c : OnCall) where
 
     pub twin_exit : (at major low high : ℕ) (cipher : Line) (tag : List ℕ) → c.answer ≡ Err (Start.Recovery (Rec.Twin at major low high cipher tag))
         → IsTxnWorld (setup_under c.formulas_of c.geometry c.keys) (left_under board p.store)
-        × IsShownBy (setup_in c.formulas_of c.now) c.now Do.On (Twin at major low high cipher tag)
+        × IsTxnShownBy (txn_setup_in c.formulas_of c.now) c.now Do.On (Twin at major low high cipher tag)
     twin_exit at major low high cipher tag is =
         let it = outcome_as (Err (Start.Recovery (Rec.Twin at major low high cipher tag))) is in (
           held_rested it.0,
-          subst (λ (w : TxnState). IsShownBy (setup_in c.formulas_of w) w Do.On (Twin at major low high cipher tag)) now_is it.1,
+          subst (λ (w : TxnState). IsTxnShownBy (txn_setup_in c.formulas_of w) w Do.On (Twin at major low high cipher tag)) now_is it.1,
         )
 
   -- no other answer comes

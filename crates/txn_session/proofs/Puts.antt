@@ -10,45 +10,45 @@ use Rattle.std.proofs.lemmas.List.Elements.{All-nil, All-cons, All-push}
 use Rattle.std.proofs.lemmas.List.Quantifiers.{all_pairs_push}
 use Rattle.std.proofs.lemmas.List.Recursion.{is_position_or_len}
 use Rattle.pmem_base.specs.declared.lines.Line.{Line}
-use Rattle.line_txn.specs.Header.{AreBelow, AreTargets}
+use Rattle.line_txn.specs.Header.{AreDistinctBelow, AreTargets}
 use Rattle.line_txn.specs.Logged.{targets_of}
 use Rattle.suite.specs.Setup.{Setup}
 use Rattle.line_txn.specs.Store.{logged_lines}
-use Rattle.txn_session.specs.State.{Entries, line_in, with_line}
-use Rattle.txn_session.specs.Answered.{is_full}
+use Rattle.txn_session.specs.State.{Entries, entry_in, with_put_line}
+use Rattle.txn_session.specs.Answered.{is_txn_full}
 use Rattle.txn_session.proofs.Worlds.{IsOpenTxn}
 
 -- ---- its targets
 
-with_held : (entries : Entries) (a : ℕ) (line held : Line) → line_in entries a ≡ Some held
-    → targets_of (with_line entries a line) ≡ targets_of entries
+with_held : (entries : Entries) (a : ℕ) (line held : Line) → entry_in entries a ≡ Some held
+    → targets_of (with_put_line entries a line) ≡ targets_of entries
 with_held [] a line held is = absurd (none-some held is)
 with_held (entry ∷ entries) a line held is = go (entry.0 == a) (eqb-true entry.0 a) (with_held entries a line held) is
   where
     go : (b : Bool) → (b ≡ true → entry.0 ≡ a)
-        → (line_in entries a ≡ Some held → targets_of (with_line entries a line) ≡ targets_of entries)
-        → cond b (Some entry.1) (line_in entries a) ≡ Some held
-        → targets_of (cond b ((a, line) ∷ entries) (entry ∷ with_line entries a line)) ≡ entry.0 ∷ targets_of entries
+        → (entry_in entries a ≡ Some held → targets_of (with_put_line entries a line) ≡ targets_of entries)
+        → cond b (Some entry.1) (entry_in entries a) ≡ Some held
+        → targets_of (cond b ((a, line) ∷ entries) (entry ∷ with_put_line entries a line)) ≡ entry.0 ∷ targets_of entries
     go true same rest is = ap (λ t. t ∷ targets_of entries) (sym (same refl))
     go false same rest is = ap (λ ts. entry.0 ∷ ts) (rest is)
 
 -- a line that it hasn't goes to the end
-pub with_new : (entries : Entries) (a : ℕ) (line : Line) → line_in entries a ≡ None → with_line entries a line ≡ entries ++ (a, line) ∷ []
+pub with_new : (entries : Entries) (a : ℕ) (line : Line) → entry_in entries a ≡ None → with_put_line entries a line ≡ entries ++ (a, line) ∷ []
 with_new [] a line none = refl
 with_new (entry ∷ entries) a line none = go (entry.0 == a) (with_new entries a line) none
   where
-    go : (b : Bool) → (line_in entries a ≡ None → with_line entries a line ≡ entries ++ (a, line) ∷ [])
-        → cond b (Some entry.1) (line_in entries a) ≡ None
-        → cond b ((a, line) ∷ entries) (entry ∷ with_line entries a line) ≡ entry ∷ (entries ++ (a, line) ∷ [])
+    go : (b : Bool) → (entry_in entries a ≡ None → with_put_line entries a line ≡ entries ++ (a, line) ∷ [])
+        → cond b (Some entry.1) (entry_in entries a) ≡ None
+        → cond b ((a, line) ∷ entries) (entry ∷ with_put_line entries a line) ≡ entry ∷ (entries ++ (a, line) ∷ [])
     go true rest is = absurd (none-some entry.1 (sym is))
     go false rest is = ap (λ es. entry ∷ es) (rest is)
 
-new_apart : (entries : Entries) (a : ℕ) → line_in entries a ≡ None → All (λ t. t ≡ a → ⊥) (targets_of entries)
+new_apart : (entries : Entries) (a : ℕ) → entry_in entries a ≡ None → All (λ t. t ≡ a → ⊥) (targets_of entries)
 new_apart [] a none = All-nil (λ t. t ≡ a → ⊥)
 new_apart (entry ∷ entries) a none = go (entry.0 == a) (eqb-false entry.0 a) (new_apart entries a) none
   where
-    go : (b : Bool) → (b ≡ false → entry.0 ≡ a → ⊥) → (line_in entries a ≡ None → All (λ t. t ≡ a → ⊥) (targets_of entries))
-        → cond b (Some entry.1) (line_in entries a) ≡ None → All (λ t. t ≡ a → ⊥) (entry.0 ∷ targets_of entries)
+    go : (b : Bool) → (b ≡ false → entry.0 ≡ a → ⊥) → (entry_in entries a ≡ None → All (λ t. t ≡ a → ⊥) (targets_of entries))
+        → cond b (Some entry.1) (entry_in entries a) ≡ None → All (λ t. t ≡ a → ⊥) (entry.0 ∷ targets_of entries)
     go true other rest is = absurd (none-some entry.1 (sym is))
     go false other rest is = All-cons (λ t. t ≡ a → ⊥) entry.0 (targets_of entries) (other refl) (rest is)
 
@@ -56,12 +56,12 @@ targets_push : (entries : Entries) (a : ℕ) (line : Line) → targets_of (entri
 targets_push [] a line = refl
 targets_push (entry ∷ entries) a line = ap (λ ts. entry.0 ∷ ts) (targets_push entries a line)
 
-pub put_targets : (n a : ℕ) (line : Line) (entries : Entries) → a < n → is_full entries a ≡ false → AreTargets n (targets_of entries)
-    → AreTargets n (targets_of (with_line entries a line))
-put_targets n a line entries low room its = go (line_in entries a) refl room
+pub put_targets : (n a : ℕ) (line : Line) (entries : Entries) → a < n → is_txn_full entries a ≡ false → AreTargets n (targets_of entries)
+    → AreTargets n (targets_of (with_put_line entries a line))
+put_targets n a line entries low room its = go (entry_in entries a) refl room
   where
-    go : (found : Option Line) → line_in entries a ≡ found → cond (is_some found) false (length entries == 15) ≡ false
-        → AreTargets n (targets_of (with_line entries a line))
+    go : (found : Option Line) → entry_in entries a ≡ found → cond (is_some found) false (length entries == 15) ≡ false
+        → AreTargets n (targets_of (with_put_line entries a line))
     go (Some held) is room = subst (AreTargets n) (sym (with_held entries a line held is)) its
     go None is room =
         let apart = new_apart entries a is in
@@ -95,28 +95,28 @@ place_is a entries = is_position_or_len (line_place a) (λ (entry : ℕ × Line)
 
 -- a line that is there is put in its place
 replaced : (entries : Entries) (a : ℕ) (line : Line) → line_place a entries < length entries
-    → (with_line entries a line ≡ slice_set entries (line_place a entries) (a, line)) × (is_some (line_in entries a) ≡ true)
+    → (with_put_line entries a line ≡ slice_set entries (line_place a entries) (a, line)) × (is_some (entry_in entries a) ≡ true)
 replaced [] a line inside = absurd (omega (arith, inside))
 replaced (entry ∷ entries) a line inside = go (entry.0 == a) (replaced entries a line) inside
   where
     go : (b : Bool)
         → (line_place a entries < length entries
-        → (with_line entries a line ≡ slice_set entries (line_place a entries) (a, line)) × (is_some (line_in entries a) ≡ true))
+        → (with_put_line entries a line ≡ slice_set entries (line_place a entries) (a, line)) × (is_some (entry_in entries a) ≡ true))
         → cond b 0 (1 + line_place a entries) < length (entry ∷ entries)
-        → (cond b ((a, line) ∷ entries) (entry ∷ with_line entries a line) ≡ slice_set (entry ∷ entries) (cond b 0 (1 + line_place a entries)) (a, line))
-        × (is_some (cond b (Some entry.1) (line_in entries a)) ≡ true)
+        → (cond b ((a, line) ∷ entries) (entry ∷ with_put_line entries a line) ≡ slice_set (entry ∷ entries) (cond b 0 (1 + line_place a entries)) (a, line))
+        × (is_some (cond b (Some entry.1) (entry_in entries a)) ≡ true)
     go true rest inside = (refl, refl)
     go false rest inside =
         let it = rest (omega (arith, inside)) in
         let next : suc (line_place a entries) ≡ 1 + line_place a entries = omega arith in
         (ap (λ es. entry ∷ es) it.0 ∙ ap (λ i. slice_set (entry ∷ entries) i (a, line)) next, it.1)
 
-absent : (entries : Entries) (a : ℕ) → length entries ≤ line_place a entries → line_in entries a ≡ None
+absent : (entries : Entries) (a : ℕ) → length entries ≤ line_place a entries → entry_in entries a ≡ None
 absent [] a all = refl
 absent (entry ∷ entries) a all = go (entry.0 == a) (absent entries a) all
   where
-    go : (b : Bool) → (length entries ≤ line_place a entries → line_in entries a ≡ None)
-        → length (entry ∷ entries) ≤ cond b 0 (1 + line_place a entries) → cond b (Some entry.1) (line_in entries a) ≡ None
+    go : (b : Bool) → (length entries ≤ line_place a entries → entry_in entries a ≡ None)
+        → length (entry ∷ entries) ≤ cond b 0 (1 + line_place a entries) → cond b (Some entry.1) (entry_in entries a) ≡ None
     go true rest all = absurd (omega (arith, all))
     go false rest all = rest (omega (arith, all))
 
@@ -136,7 +136,7 @@ seen_as seen entries a found other same is there =
     ap (λ (es : Entries). position_from (λ (entry : ℕ × Line). entry.0 == a) 0 es) (sym same) ∙ sym is ∙ there
 
 pub found_at : (entries : Entries) (a i : ℕ) (line : Line) → position_from (λ (entry : ℕ × Line). entry.0 == a) 0 entries ≡ Some i
-    → (with_line entries a line ≡ slice_set entries i (a, line)) × (is_some (line_in entries a) ≡ true) × (i < length entries)
+    → (with_put_line entries a line ≡ slice_set entries i (a, line)) × (is_some (entry_in entries a) ≡ true) × (i < length entries)
 found_at entries a i line is =
     elim (cases_lt (line_place a entries) (length entries)) [
       | inl inside ↦
@@ -151,7 +151,7 @@ found_at entries a i line is =
           (sym (found_is a entries ∙ ap (λ b. cond b (Some (line_place a entries)) None) (le-ltb (line_place a entries) (length entries) all)) ∙ is))
     ]
 
-pub found_none : (entries : Entries) (a : ℕ) → position_from (λ (entry : ℕ × Line). entry.0 == a) 0 entries ≡ None → line_in entries a ≡ None
+pub found_none : (entries : Entries) (a : ℕ) → position_from (λ (entry : ℕ × Line). entry.0 == a) 0 entries ≡ None → entry_in entries a ≡ None
 found_none entries a is =
     elim (cases_lt (line_place a entries) (length entries)) [
       | inl inside ↦
@@ -162,17 +162,17 @@ found_none entries a is =
     ]
 
 -- whether it is full, where the line is there, and where it isn't
-pub full_is : (entries : Entries) (a : ℕ) (b : Bool) → is_some (line_in entries a) ≡ b → is_full entries a ≡ cond b false (length entries == 15)
+pub full_is : (entries : Entries) (a : ℕ) (b : Bool) → is_some (entry_in entries a) ≡ b → is_txn_full entries a ≡ cond b false (length entries == 15)
 full_is entries a b is = ap (λ t. cond t false (length entries == 15)) is
 
 -- a transaction with a line put, or as it was
 pub put_txn : (setup : Setup) (stuck : Option ℕ) (entries after : Entries) (a : ℕ) (line : Line) (done : Bool) → a < logged_lines setup.shape
-    → (done ≡ true → after ≡ with_line entries a line) → done ≡ not (is_full entries a) → (done ≡ false → after ≡ entries)
+    → (done ≡ true → after ≡ with_put_line entries a line) → done ≡ not (is_txn_full entries a) → (done ≡ false → after ≡ entries)
     → IsOpenTxn setup stuck (Some entries) → IsOpenTxn setup stuck (Some after)
 put_txn setup stuck entries after a line true low put full left its = (
   its.0,
   subst (λ es. AreTargets (logged_lines setup.shape) (targets_of es)) (sym (put refl))
-      (put_targets (logged_lines setup.shape) a line entries low (not_true (is_full entries a) (sym full)) its.1),
+      (put_targets (logged_lines setup.shape) a line entries low (not_true (is_txn_full entries a) (sym full)) its.1),
 )
   where
     not_true : (b : Bool) → not b ≡ true → b ≡ false

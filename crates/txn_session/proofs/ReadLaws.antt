@@ -31,9 +31,9 @@ use Rattle.wear_session.proofs.WriteLaws.{whole_places}
 use Rattle.wear_session.proofs.Seen.{setup_under}
 use Rattle.txn_session.specs.declared.commands.TxnCommand.TheVariants as Do
 use Rattle.txn_session.specs.declared.answers.TxnAnswer.TheVariants as Say
-use Rattle.txn_session.specs.State.{TxnState, Entries, setup_in, line_in}
-use Rattle.txn_session.specs.World.{TxnParts, IsTxnWorld, IsStoreOn, stuck_in, targets_in_force, logical_memory, txn_of}
-use Rattle.txn_session.specs.Answered.{IsAnswered}
+use Rattle.txn_session.specs.State.{TxnState, Entries, txn_setup_in, entry_in}
+use Rattle.txn_session.specs.World.{TxnParts, IsTxnWorld, IsStoreOn, stuck_in, targets_in_force, redone_memory, txn_of}
+use Rattle.txn_session.specs.Answered.{IsTxnAnswered}
 use Rattle.txn_session.proofs.Worlds.{IsOpenTxn, goes_to, cut_off, on_in, lines_are, on_after, off_after}
 use Rattle.txn_session.proofs.Seen.{read_undecided, served, seen_from, held_under}
 
@@ -50,7 +50,7 @@ pub record ReadCall : Type 0 where
   pub at : ℕ
   pub within : at < store.lines
   -- the open transaction hasn't this line
-  pub unheld : line_in (unwrap_or parts.txn []) at ≡ None
+  pub unheld : entry_in (unwrap_or parts.txn []) at ≡ None
   pub after : Store
   pub served_as : IsServedAs store.logged.items store.stuck store after
   pub keys : List ℕ
@@ -143,13 +143,13 @@ module _ (c : ReadCall) where
 
   module _ (marks : c.ledger.marks ≡ p.ledger.marks) where
     logged : IsLogged (logged_lines c.geometry) (plain_memory setup c.ledger.marks) (targets_in_force setup (plain_memory setup c.ledger.marks))
-        (logical_memory setup (plain_memory setup c.ledger.marks))
+        (redone_memory setup (plain_memory setup c.ledger.marks))
     logged =
         subst (λ (m : List Mark). IsLogged (logged_lines c.geometry) (plain_memory setup m) (targets_in_force setup (plain_memory setup m))
-        (logical_memory setup (plain_memory setup m))) (sym marks) c.world.logged
+        (redone_memory setup (plain_memory setup m))) (sym marks) c.world.logged
 
-    same_memory : logical_memory setup (plain_memory setup c.ledger.marks) ≡ old.memory
-    same_memory = ap (λ (m : List Mark). logical_memory setup (plain_memory setup m)) marks
+    same_memory : redone_memory setup (plain_memory setup c.ledger.marks) ≡ old.memory
+    same_memory = ap (λ (m : List Mark). redone_memory setup (plain_memory setup m)) marks
 
     same_targets : targets_in_force setup (plain_memory setup c.ledger.marks) ≡ old.in_force
     same_targets = ap (λ (m : List Mark). targets_in_force setup (plain_memory setup m)) marks
@@ -181,10 +181,10 @@ module _ (c : ReadCall) where
     pub got_held : IsTxnWorld (setup_under c.formulas_of c.geometry c.keys) (left_under (Some c.after) p.txn)
     got_held = held_under c.formulas_of c.geometry p (left (Some c.after) p.txn) c.keys c.same_keys on_world
 
-    pub got_seen : IsAnswered (setup_in c.formulas_of c.now) c.now (Do.Read c.at) (Say.Got line c.said)
+    pub got_seen : IsTxnAnswered (txn_setup_in c.formulas_of c.now) c.now (Do.Read c.at) (Say.Got line c.said)
         (txn_of (setup_under c.formulas_of c.geometry c.keys) (left_under (Some c.after) p.txn))
     got_seen =
-        subst (λ (k : ℕ). IsAnswered (setup_in c.formulas_of c.now) c.now (Do.Read c.at) (Say.Got line k)
+        subst (λ (k : ℕ). IsTxnAnswered (txn_setup_in c.formulas_of c.now) c.now (Do.Read c.at) (Say.Got line k)
         (txn_of (setup_under c.formulas_of c.geometry c.keys) (left_under (Some c.after) p.txn))) (sym c.counted)
         (seen_from c.formulas_of c.geometry p (left (Some c.after) p.txn) c.now c.keys (Do.Read c.at) (Say.Got line (steps_in c.taken)) c.is
         c.same_keys refl
@@ -229,11 +229,11 @@ module _ (c : ReadCall) where
     pub cut_held : IsTxnWorld (setup_under c.formulas_of c.geometry c.keys) (left_under None None)
     cut_held = held_under c.formulas_of c.geometry p (left None None) c.keys c.same_keys off_world
 
-    pub cut_seen : IsAnswered (setup_in c.formulas_of c.now) c.now (Do.Read c.at) (Say.Cut c.said)
+    pub cut_seen : IsTxnAnswered (txn_setup_in c.formulas_of c.now) c.now (Do.Read c.at) (Say.Cut c.said)
         (txn_of (setup_under c.formulas_of c.geometry c.keys) (left_under None None))
     cut_seen =
         let levels = c.world.whole_shape.at_most_six_levels in
-        subst (λ (k : ℕ). IsAnswered (setup_in c.formulas_of c.now) c.now (Do.Read c.at) (Say.Cut k)
+        subst (λ (k : ℕ). IsTxnAnswered (txn_setup_in c.formulas_of c.now) c.now (Do.Read c.at) (Say.Cut k)
         (txn_of (setup_under c.formulas_of c.geometry c.keys) (left_under None None))) (sym c.counted)
         (seen_from c.formulas_of c.geometry p (left None None) c.now c.keys (Do.Read c.at) (Say.Cut (steps_in c.taken)) c.is c.same_keys refl
         (served setup old (txn_of setup (left None None)) (Do.Read c.at) (Say.Cut (steps_in c.taken))

@@ -23,12 +23,12 @@ use Rattle.pmem_engine.specs.Outcomes.{TakesAtMost, TakesFewer}
 use Rattle.pmem_engine.specs.Calls.{HasReadLine}
 use Rattle.pmem_recovery.specs.declared.faults.Work.{Work}
 use Rattle.pmem_recovery.specs.Parts.{SuiteState}
-use Rattle.pmem_recovery.specs.Recovered.{HasRecovered, most_steps}
+use Rattle.pmem_recovery.specs.Recovered.{HasRecovered, most_recovery_steps}
 use Rattle.line_txn.specs.declared.store.Store.{Store}
 use Rattle.line_txn.specs.Header.{AreTargets, IsHeader}
 use Rattle.line_txn.specs.Logged.{IsLogged, lines_opened, targets_opened}
 use Rattle.line_txn.specs.Edits.{AreEdited, redoing_edits}
-use Rattle.line_txn.specs.Store.{HasRedone, logged_lines}
+use Rattle.line_txn.specs.Store.{HasTargetsRedone, logged_lines}
 use Rattle.line_txn.proofs.Headers.{one_header}
 use Rattle.line_txn.proofs.LoggedLaws.{kept_by_opening}
 use Rattle.line_txn.proofs.Openings.{logged_size}
@@ -41,10 +41,10 @@ use Rattle.wear_session.proofs.Starts.{one_latch}
 use Rattle.wear_session.proofs.WriteLaws.{whole_places}
 use Rattle.wear_session.proofs.EngineWrites.{memory_now, most_within, AreDone, memory_done, read_line, read_done}
 use Rattle.txn_session.specs.declared.answers.TxnAnswer.TheVariants as Say
-use Rattle.txn_session.specs.During.{HasStarted}
-use Rattle.txn_session.specs.State.{TxnState, moment_in, redo_writes}
-use Rattle.txn_session.specs.World.{TxnParts, IsTxnWorld, IsStoreOff, IsStoredBy, targets_in_force, logical_memory, txn_of}
-use Rattle.txn_session.specs.Answered.{GoesTo, HasOpened as HasOpenedAs, after_redo, most_of_on}
+use Rattle.txn_session.specs.During.{HasTxnStarted}
+use Rattle.txn_session.specs.State.{TxnState, txn_moment_in, redo_writes}
+use Rattle.txn_session.specs.World.{TxnParts, IsTxnWorld, IsStoreOff, IsStoredBy, targets_in_force, redone_memory, txn_of}
+use Rattle.txn_session.specs.Answered.{GoesToTxnState, HasTxnOpened as HasOpenedAs, after_redo, txn_most_of_on}
 use Rattle.txn_session.proofs.Worlds.{few_data, few_lines, targets_held, memory_held, logged_is, goes_to, cut_off, on_after, off_after}
 use Rattle.txn_session.proofs.Rooms.{reserved_world}
 use Rattle.txn_session.proofs.EngineEdits.{all_posted, cost, EndsAt, edits_go}
@@ -82,7 +82,7 @@ module _ (c : OnCall) where
   queue = redo_writes n targets places
 
   abbrev start : Moment
-  start = moment_in setup old
+  start = txn_moment_in setup old
 
   abbrev pub from : Device
   from = device_during lit none_taken
@@ -91,7 +91,7 @@ module _ (c : OnCall) where
   to = device_during c.board c.taken
 
   abbrev pub most : ℕ
-  most = most_of_on old
+  most = txn_most_of_on old
 
   abbrev pub left : BoardMemory → Option Store → TxnParts
   left board store = record { keys = p.keys; board = board; ledger = c.ledger; store = store; txn = None }
@@ -108,9 +108,9 @@ module _ (c : OnCall) where
   pub watched : IsWatched lit c.board c.taken
   watched = subst (λ b. IsWatched b c.board c.taken) c.lit_is c.watched
 
-  pub started : HasStarted setup from to p.ledger c.ledger c.suite_old c.suite_new c.answer
+  pub started : HasTxnStarted setup from to p.ledger c.ledger c.suite_old c.suite_new c.answer
   started =
-      subst (λ b. HasStarted setup (device_during b none_taken) to p.ledger c.ledger c.suite_old c.suite_new c.answer) c.lit_is c.started
+      subst (λ b. HasTxnStarted setup (device_during b none_taken) to p.ledger c.ledger c.suite_old c.suite_new c.answer) c.lit_is c.started
 
   its_targets : AreTargets n targets
   its_targets = world.logged.header.its_targets
@@ -135,8 +135,8 @@ module _ (c : OnCall) where
   -- the marks, memory and the targets in force then
   pub record HasCome (writing : Writing) : Type 0 where
     pub marks : c.ledger.marks ≡ p.ledger.marks ++ writing.made
-    pub logged : IsLogged n places_now (targets_in_force setup places_now) (logical_memory setup places_now)
-    pub its_memory : logical_memory setup places_now ≡ old.memory
+    pub logged : IsLogged n places_now (targets_in_force setup places_now) (redone_memory setup places_now)
+    pub its_memory : redone_memory setup places_now ≡ old.memory
     pub in_force : targets_in_force setup places_now ≡ cond (nat_lt (length targets) writing.done) [] targets
 
   -- where no mark is made
@@ -146,8 +146,8 @@ module _ (c : OnCall) where
         marks = marks ∙ sym (append-nil p.ledger.marks);
         logged =
             subst (λ (m : List Mark). IsLogged n (plain_memory setup m) (targets_in_force setup (plain_memory setup m))
-            (logical_memory setup (plain_memory setup m))) (sym marks) world.logged;
-        its_memory = ap (λ (m : List Mark). logical_memory setup (plain_memory setup m)) marks;
+            (redone_memory setup (plain_memory setup m))) (sym marks) world.logged;
+        its_memory = ap (λ (m : List Mark). redone_memory setup (plain_memory setup m)) marks;
         in_force =
             ap (λ (m : List Mark). targets_in_force setup (plain_memory setup m)) marks
             ∙ sym (ap (λ b. cond b [] targets) (le-ltb (length targets) 0 (omega arith)));
@@ -170,19 +170,19 @@ module _ (c : OnCall) where
         (redoing_fit n (layout.data_lines c.geometry) size targets its_targets.few its_targets.below) refl
         ∙ stage.its_lines
 
-    held_lines : IsLogged n places_now (targets_opened stage.opening targets) (logical_memory setup places)
+    held_lines : IsLogged n places_now (targets_opened stage.opening targets) (redone_memory setup places)
     held_lines =
-        subst (λ l. IsLogged n l (targets_opened stage.opening targets) (logical_memory setup places)) (sym lines_there)
-        (kept_by_opening n small places (logical_memory setup places) targets targets stage.opening world.logged world.logged.header)
+        subst (λ l. IsLogged n l (targets_opened stage.opening targets) (redone_memory setup places)) (sym lines_there)
+        (kept_by_opening n small places (redone_memory setup places) targets targets stage.opening world.logged world.logged.header)
 
     pub come_to : HasCome writing
     come_to =
         record {
           marks = marks;
-          logged = logged_is setup world.whole_shape places_now (logical_memory setup places) (targets_opened stage.opening targets) held_lines;
-          its_memory = memory_held setup world.whole_shape places_now (logical_memory setup places) (targets_opened stage.opening targets) held_lines;
+          logged = logged_is setup world.whole_shape places_now (redone_memory setup places) (targets_opened stage.opening targets) held_lines;
+          its_memory = memory_held setup world.whole_shape places_now (redone_memory setup places) (targets_opened stage.opening targets) held_lines;
           in_force =
-              targets_held setup world.whole_shape places_now (logical_memory setup places) (targets_opened stage.opening targets) held_lines
+              targets_held setup world.whole_shape places_now (redone_memory setup places) (targets_opened stage.opening targets) held_lines
               ∙ stage.its_targets;
         }
 
@@ -226,7 +226,7 @@ module _ (c : OnCall) where
 
     -- power is on, and the store is stuck at this page, or isn't
     pub goes : (store : Store) → c.board.powered ≡ true → c.board.regs.loss ≡ p.board.regs.loss → TakesAtMost most from to
-        → GoesTo (record (after_redo old writing) { stuck = store.stuck }) (steps_in c.taken) most old (txn_of setup (left c.board (Some store)))
+        → GoesToTxnState (record (after_redo old writing) { stuck = store.stuck }) (steps_in c.taken) most old (txn_of setup (left c.board (Some store)))
     goes store powered loss takes =
         let it =
         goes_to setup (record p { board = lit }) (left c.board (Some store)) c.taken watched (record (after_redo old writing) { stuck = store.stuck }) most
@@ -255,7 +255,7 @@ module _ (c : OnCall) where
 
   -- ---- recovery is done
 
-  pub few_recovery : most_steps setup lit.regs ≤ recovery_bound c.geometry
+  pub few_recovery : most_recovery_steps setup lit.regs ≤ recovery_bound c.geometry
   few_recovery = omega (arith, one_latch p.board.regs.group.items, world.few_armed)
 
   module _ (between : Device) (suite_between : SuiteState) (engine : EngineState) (work : Work)
@@ -283,7 +283,7 @@ module _ (c : OnCall) where
           loss = ap (λ (r : Regs). r.loss) it.regs;
           sound = sound_between;
           live = it.power.live refl;
-          takes = most_within from between (most_steps setup lit.regs) (recovery_bound c.geometry) few_recovery it.steps;
+          takes = most_within from between (most_recovery_steps setup lit.regs) (recovery_bound c.geometry) few_recovery it.steps;
         }
 
     pub header_inside : n < layout.data_lines c.geometry
@@ -298,7 +298,7 @@ module _ (c : OnCall) where
         (sym (read_line setup parts_from parts_between [] [] (recovery_bound c.geometry) recovered n new line header_inside read)) world.logged.header)
 
     -- the redo of it
-    pub redo_ends : (found : List ℕ) (new : Parts) (answer : Result (Unit {0}) Fault) → HasRedone setup found parts_between new answer
+    pub redo_ends : (found : List ℕ) (new : Parts) (answer : Result (Unit {0}) Fault) → HasTargetsRedone setup found parts_between new answer
         → EndsAt setup parts_from queue 0 (length (redoing_edits n targets)) most answer new
     redo_ends found new answer redo =
         let same = found_targets redo.between redo.line found redo.was_read redo.header in

@@ -11,17 +11,17 @@ use Rattle.txn_session.specs.declared.commands.TxnCommand.{TxnCommand}
 use Rattle.txn_session.specs.declared.commands.TxnCommand.TheVariants as Do
 use Rattle.txn_session.specs.declared.answers.TxnAnswer.{TxnAnswer}
 use Rattle.txn_session.specs.declared.answers.TxnAnswer.TheVariants as Say
-use Rattle.txn_session.specs.State.{TxnState, Entries, setup_in, lines_in}
+use Rattle.txn_session.specs.State.{TxnState, Entries, txn_setup_in, txn_lines_in}
 use Rattle.txn_session.specs.World.{TxnParts, IsTxnWorld, txn_of}
-use Rattle.txn_session.specs.Answered.{of_open, of_line, committed, held, line_held, decided, IsServed, IsAnswered, IsAnsweredAs}
+use Rattle.txn_session.specs.Answered.{of_open, txn_of_line, committed, held, line_held, txn_decided, IsTxnServed, IsTxnAnswered, IsTxnAnsweredAs}
 
 -- ---- where the state decides nothing
 
-pub read_undecided : (state : TxnState) (a : ℕ) → state.power ≡ true → a < lines_in state → line_held state a ≡ None
-    → decided state (Do.Read a) ≡ None
+pub read_undecided : (state : TxnState) (a : ℕ) → state.power ≡ true → a < txn_lines_in state → line_held state a ≡ None
+    → txn_decided state (Do.Read a) ≡ None
 read_undecided state a lit low none =
-    ap (λ b. if b then of_line state a (held (line_held state a)) else Some Say.Off) lit
-    ∙ ap (λ b. if b then held (line_held state a) else Some Say.Range) (lt-ltb a (lines_in state) low)
+    ap (λ b. if b then txn_of_line state a (held (line_held state a)) else Some Say.Off) lit
+    ∙ ap (λ b. if b then held (line_held state a) else Some Say.Range) (lt-ltb a (txn_lines_in state) low)
     ∙ ap held none
 
 uncommitted : (entries : Entries) → (entries ≡ [] → ⊥) → committed entries ≡ None
@@ -29,30 +29,30 @@ uncommitted [] some = absurd (some refl)
 uncommitted (entry ∷ entries) some = refl
 
 pub commit_undecided : (state : TxnState) (entries : Entries) → state.power ≡ true → state.txn ≡ Some entries → (entries ≡ [] → ⊥)
-    → decided state Do.Commit ≡ None
+    → txn_decided state Do.Commit ≡ None
 commit_undecided state entries lit there some =
     ap (λ b. if b then of_open state.txn committed else Some Say.Off) lit
     ∙ ap (λ txn. of_open txn committed) there ∙ uncommitted entries some
 
-pub on_undecided : (state : TxnState) → state.power ≡ false → decided state Do.On ≡ None
+pub on_undecided : (state : TxnState) → state.power ≡ false → txn_decided state Do.On ≡ None
 on_undecided state dark = ap (λ b. if b then Some Say.Already else None) dark
 
 -- the engine does
-pub served : (setup : Setup) (old new : TxnState) (command : TxnCommand) (answer : TxnAnswer) → decided old command ≡ None
-    → IsServed setup old command answer new → IsAnswered setup old command answer new
-served setup old new command answer none it = subst (λ d. IsAnsweredAs d setup old command answer new) (sym none) it
+pub served : (setup : Setup) (old new : TxnState) (command : TxnCommand) (answer : TxnAnswer) → txn_decided old command ≡ None
+    → IsTxnServed setup old command answer new → IsTxnAnswered setup old command answer new
+served setup old new command answer none it = subst (λ d. IsTxnAnsweredAs d setup old command answer new) (sym none) it
 
 -- ---- as a contract writes it; the suite's keys stay
 
 pub seen_from : (formulas_of : List ℕ → Formulas) (g : Shape) (p q : TxnParts) (now : TxnState) (keys : List ℕ) (command : TxnCommand) (answer : TxnAnswer)
     → txn_of (setup_under formulas_of g p.keys) p ≡ now → keys ≡ p.keys → q.keys ≡ p.keys
-    → IsAnswered (setup_under formulas_of g p.keys) (txn_of (setup_under formulas_of g p.keys) p) command answer (txn_of (setup_under formulas_of g p.keys) q)
-    → IsAnswered (setup_in formulas_of now) now command answer (txn_of (setup_under formulas_of g keys) (record q { keys = keys }))
+    → IsTxnAnswered (setup_under formulas_of g p.keys) (txn_of (setup_under formulas_of g p.keys) p) command answer (txn_of (setup_under formulas_of g p.keys) q)
+    → IsTxnAnswered (txn_setup_in formulas_of now) now command answer (txn_of (setup_under formulas_of g keys) (record q { keys = keys }))
 seen_from formulas_of g p q now keys command answer is same its it =
-    subst (λ (w : TxnState). IsAnswered (setup_in formulas_of w) w command answer (txn_of (setup_under formulas_of g keys) (record q { keys = keys }))) is
-    (subst (λ (k : List ℕ). IsAnswered (setup_under formulas_of g p.keys) (txn_of (setup_under formulas_of g p.keys) p) command answer
+    subst (λ (w : TxnState). IsTxnAnswered (txn_setup_in formulas_of w) w command answer (txn_of (setup_under formulas_of g keys) (record q { keys = keys }))) is
+    (subst (λ (k : List ℕ). IsTxnAnswered (setup_under formulas_of g p.keys) (txn_of (setup_under formulas_of g p.keys) p) command answer
     (txn_of (setup_under formulas_of g k) (record q { keys = k }))) (sym same)
-    (subst (λ (k : List ℕ). IsAnswered (setup_under formulas_of g p.keys) (txn_of (setup_under formulas_of g p.keys) p) command answer
+    (subst (λ (k : List ℕ). IsTxnAnswered (setup_under formulas_of g p.keys) (txn_of (setup_under formulas_of g p.keys) p) command answer
     (txn_of (setup_under formulas_of g p.keys) (record q { keys = k }))) its it))
 
 pub held_under : (formulas_of : List ℕ → Formulas) (g : Shape) (p q : TxnParts) (keys : List ℕ) → keys ≡ p.keys

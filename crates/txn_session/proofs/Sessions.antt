@@ -13,10 +13,10 @@ use Rattle.txn_session.specs.declared.commands.TxnCommand.{TxnCommand}
 use Rattle.txn_session.specs.declared.commands.TxnCommand.TheVariants as Do
 use Rattle.txn_session.specs.declared.answers.TxnAnswer.{TxnAnswer}
 use Rattle.txn_session.specs.declared.answers.TxnAnswer.TheVariants as Say
-use Rattle.txn_session.specs.State.{TxnState, Entries, lines_in, moment_in, line_in, commit_writes, with_commit, without_power}
-use Rattle.txn_session.specs.Answered.{begun, of_open, of_line, is_full, committed, held, line_held, after_decided, HasCommitted, HasRead, HasOpened, IsCommitting, EndsCommit, IsRedoing, EndsRedo, IsAnswered, IsAnsweredAs, after_commit, after_redo, most_of_commit}
+use Rattle.txn_session.specs.State.{TxnState, Entries, txn_lines_in, txn_moment_in, entry_in, commit_writes, with_commit, txn_without_power}
+use Rattle.txn_session.specs.Answered.{begun_txn, of_open, txn_of_line, is_txn_full, committed, held, line_held, txn_after_decided, HasTxnCommitted, HasTxnRead, HasTxnOpened, IsCommitting, EndsCommit, IsRedoing, EndsRedo, IsTxnAnswered, IsTxnAnsweredAs, after_commit, after_redo, most_of_commit}
 use Rattle.txn_session.proofs.WriteLists.{length-commit_writes}
-use Rattle.txn_session.specs.Guarantees.{TxnReply, AreAnswered, Seen, seen_after, IsReadOf, AreReadAsCommitted, IsMendedAnswer, stuck_after, IsStuckAnswer, AreStuckAnswers, IsSpentAnswer, AreSpentAsUsedUp, nothing_seen, AreTxnReplies, AreTxnsKept, AreTxnsSpent}
+use Rattle.txn_session.specs.Guarantees.{TxnReply, AreTxnAnswered, Seen, seen_after, IsTxnReadOf, AreReadAsCommitted, IsTxnMendedAnswer, stuck_after, IsStuckAnswer, AreStuckAnswers, IsTxnSpentAnswer, AreTxnSpentAsUsedUp, nothing_seen, AreTxnReplies, AreTxnsKept, AreTxnsSpent}
 
 -- ---- one answer
 
@@ -27,8 +27,8 @@ seen_in state = record { memory = state.memory; txn = state.txn }
 record Step (old : TxnState) (command : TxnCommand) (answer : TxnAnswer) (new : TxnState) : Type 0 where
   seen : seen_in new ≡ seen_after (seen_in old) command answer
   its_stuck : new.stuck ≡ stuck_after old.stuck command answer
-  read : IsReadOf (seen_in old) command answer
-  mended : IsMendedAnswer command answer
+  read : IsTxnReadOf (seen_in old) command answer
+  mended : IsTxnMendedAnswer command answer
   refused : IsStuckAnswer old.stuck command answer
 
 seen_is : (new : TxnState) (memory : Memory) (txn : Option Entries) → new.memory ≡ memory → new.txn ≡ txn
@@ -40,27 +40,27 @@ seen_is new memory txn e f =
 -- ---- answers that the state decides
 
 module _ (old : TxnState) where
-  fixed_step : (command : TxnCommand) (fixed answer : TxnAnswer) (new : TxnState) → answer ≡ fixed → new ≡ after_decided old command fixed
-      → Step old command fixed (after_decided old command fixed) → Step old command answer new
+  fixed_step : (command : TxnCommand) (fixed answer : TxnAnswer) (new : TxnState) → answer ≡ fixed → new ≡ txn_after_decided old command fixed
+      → Step old command fixed (txn_after_decided old command fixed) → Step old command answer new
   fixed_step command fixed answer new e f it =
       subst (λ a. Step old command a new) (sym e) (subst (Step old command fixed) (sym f) it)
 
   begun_step : (stuck : Option ℕ) (txn : Option Entries) → old.stuck ≡ stuck
-      → Step old Do.Begin (begun stuck txn) (after_decided old Do.Begin (begun stuck txn))
+      → Step old Do.Begin (begun_txn stuck txn) (txn_after_decided old Do.Begin (begun_txn stuck txn))
   begun_step (Some page) txn e = record { seen = refl; its_stuck = refl; read = tt; mended = tt; refused = e }
   begun_step None (Some entries) e = record { seen = refl; its_stuck = refl; read = tt; mended = tt; refused = e }
   begun_step None None e = record { seen = refl; its_stuck = refl; read = tt; mended = tt; refused = e }
 
   begin_step : (setup : Setup) (answer : TxnAnswer) (new : TxnState) (power : Bool)
-      → IsAnsweredAs (if power then Some (begun old.stuck old.txn) else Some Say.Off) setup old Do.Begin answer new
+      → IsTxnAnsweredAs (if power then Some (begun_txn old.stuck old.txn) else Some Say.Off) setup old Do.Begin answer new
       → Step old Do.Begin answer new
   begin_step setup answer new true it =
-      fixed_step Do.Begin (begun old.stuck old.txn) answer new it.0 it.1 (begun_step old.stuck old.txn refl)
+      fixed_step Do.Begin (begun_txn old.stuck old.txn) answer new it.0 it.1 (begun_step old.stuck old.txn refl)
   begin_step setup answer new false it =
       fixed_step Do.Begin Say.Off answer new it.0 it.1 (record { seen = refl; its_stuck = refl; read = tt; mended = tt; refused = tt })
 
   put_open : (setup : Setup) (a : ℕ) (line : Line) (answer : TxnAnswer) (new : TxnState) (inside full : Bool)
-      → IsAnsweredAs (if inside then Some (if full then Say.Full else Say.Ok) else Some Say.Range) setup old (Do.Put a line) answer new
+      → IsTxnAnsweredAs (if inside then Some (if full then Say.Full else Say.Ok) else Some Say.Range) setup old (Do.Put a line) answer new
       → Step old (Do.Put a line) answer new
   put_open setup a line answer new true true it =
       fixed_step (Do.Put a line) Say.Full answer new it.0 it.1 (record { seen = refl; its_stuck = refl; read = tt; mended = tt; refused = tt })
@@ -70,19 +70,19 @@ module _ (old : TxnState) where
       fixed_step (Do.Put a line) Say.Range answer new it.0 it.1 (record { seen = refl; its_stuck = refl; read = tt; mended = tt; refused = tt })
 
   put_step : (setup : Setup) (a : ℕ) (line : Line) (answer : TxnAnswer) (new : TxnState) (power : Bool) (txn : Option Entries)
-      → IsAnsweredAs
-      (if power then of_open txn (λ entries. of_line old a (Some (if is_full entries a then Say.Full else Say.Ok))) else Some Say.Off)
+      → IsTxnAnsweredAs
+      (if power then of_open txn (λ entries. txn_of_line old a (Some (if is_txn_full entries a then Say.Full else Say.Ok))) else Some Say.Off)
       setup old (Do.Put a line) answer new
       → Step old (Do.Put a line) answer new
   put_step setup a line answer new true (Some entries) it =
-      put_open setup a line answer new (nat_lt a (lines_in old)) (is_full entries a) it
+      put_open setup a line answer new (nat_lt a (txn_lines_in old)) (is_txn_full entries a) it
   put_step setup a line answer new true None it =
       fixed_step (Do.Put a line) Say.Closed answer new it.0 it.1 (record { seen = refl; its_stuck = refl; read = tt; mended = tt; refused = tt })
   put_step setup a line answer new false txn it =
       fixed_step (Do.Put a line) Say.Off answer new it.0 it.1 (record { seen = refl; its_stuck = refl; read = tt; mended = tt; refused = tt })
 
   abort_step : (setup : Setup) (answer : TxnAnswer) (new : TxnState) (power : Bool) (txn : Option Entries)
-      → IsAnsweredAs (if power then of_open txn (λ entries. Some Say.Ok) else Some Say.Off) setup old Do.Abort answer new
+      → IsTxnAnsweredAs (if power then of_open txn (λ entries. Some Say.Ok) else Some Say.Off) setup old Do.Abort answer new
       → Step old Do.Abort answer new
   abort_step setup answer new true (Some entries) it =
       fixed_step Do.Abort Say.Ok answer new it.0 it.1 (record { seen = refl; its_stuck = refl; read = tt; mended = tt; refused = tt })
@@ -92,7 +92,7 @@ module _ (old : TxnState) where
       fixed_step Do.Abort Say.Off answer new it.0 it.1 (record { seen = refl; its_stuck = refl; read = tt; mended = tt; refused = tt })
 
   off_step : (setup : Setup) (answer : TxnAnswer) (new : TxnState) (power : Bool)
-      → IsAnsweredAs (if power then Some Say.Ok else Some Say.Off) setup old Do.Off answer new → Step old Do.Off answer new
+      → IsTxnAnsweredAs (if power then Some Say.Ok else Some Say.Off) setup old Do.Off answer new → Step old Do.Off answer new
   off_step setup answer new true it =
       fixed_step Do.Off Say.Ok answer new it.0 it.1 (record { seen = refl; its_stuck = refl; read = tt; mended = tt; refused = tt })
   off_step setup answer new false it =
@@ -100,7 +100,7 @@ module _ (old : TxnState) where
 
   -- ---- reads
 
-  read_done : (setup : Setup) (a : ℕ) (answer : TxnAnswer) (new : TxnState) → line_held old a ≡ None → HasRead old a answer new
+  read_done : (setup : Setup) (a : ℕ) (answer : TxnAnswer) (new : TxnState) → line_held old a ≡ None → HasTxnRead old a answer new
       → Step old (Do.Read a) answer new
   read_done setup a (Say.Got line steps) new none it =
       record {
@@ -121,7 +121,7 @@ module _ (old : TxnState) where
   read_done setup a answer new none it = absurd it
 
   read_line : (setup : Setup) (a : ℕ) (answer : TxnAnswer) (new : TxnState) (inside : Bool) (line : Option Line) → line_held old a ≡ line
-      → IsAnsweredAs (if inside then held line else Some Say.Range) setup old (Do.Read a) answer new
+      → IsTxnAnsweredAs (if inside then held line else Some Say.Range) setup old (Do.Read a) answer new
       → Step old (Do.Read a) answer new
   read_line setup a answer new true (Some line) e it =
       fixed_step (Do.Read a) (Say.Got line 0) answer new it.0 it.1
@@ -137,15 +137,15 @@ module _ (old : TxnState) where
       fixed_step (Do.Read a) Say.Range answer new it.0 it.1 (record { seen = refl; its_stuck = refl; read = tt; mended = tt; refused = tt })
 
   read_step : (setup : Setup) (a : ℕ) (answer : TxnAnswer) (new : TxnState) (power : Bool)
-      → IsAnsweredAs (if power then of_line old a (held (line_held old a)) else Some Say.Off) setup old (Do.Read a) answer new
+      → IsTxnAnsweredAs (if power then txn_of_line old a (held (line_held old a)) else Some Say.Off) setup old (Do.Read a) answer new
       → Step old (Do.Read a) answer new
-  read_step setup a answer new true it = read_line setup a answer new (nat_lt a (lines_in old)) (line_held old a) refl it
+  read_step setup a answer new true it = read_line setup a answer new (nat_lt a (txn_lines_in old)) (line_held old a) refl it
   read_step setup a answer new false it =
       fixed_step (Do.Read a) Say.Off answer new it.0 it.1 (record { seen = refl; its_stuck = refl; read = tt; mended = tt; refused = tt })
 
   -- ---- recovery
 
-  opened_step : (setup : Setup) (answer : TxnAnswer) (new : TxnState) → HasOpened setup old answer new → Step old Do.On answer new
+  opened_step : (setup : Setup) (answer : TxnAnswer) (new : TxnState) → HasTxnOpened setup old answer new → Step old Do.On answer new
   opened_step setup (Say.Opened redone steps) new it =
       let becomes = it.ends.1.becomes in
       record {
@@ -176,7 +176,7 @@ module _ (old : TxnState) where
   opened_step setup answer new it = absurd it.ends
 
   on_step : (setup : Setup) (answer : TxnAnswer) (new : TxnState) (power : Bool)
-      → IsAnsweredAs (if power then Some Say.Already else None) setup old Do.On answer new → Step old Do.On answer new
+      → IsTxnAnsweredAs (if power then Some Say.Already else None) setup old Do.On answer new → Step old Do.On answer new
   on_step setup answer new true it =
       fixed_step Do.On Say.Already answer new it.0 it.1 (record { seen = refl; its_stuck = refl; read = tt; mended = tt; refused = tt })
   on_step setup answer new false it = opened_step setup answer new it
@@ -218,7 +218,7 @@ module _ (old : TxnState) where
       (if done == 2 * length entries + 2 then [] else targets_of entries)
 
 committed_step : (setup : Setup) (old : TxnState) (entry : ℕ × Line) (rest : Entries) (answer : TxnAnswer) (new : TxnState)
-    → old.txn ≡ Some (entry ∷ rest) → HasCommitted setup old (entry ∷ rest) answer new → Step old Do.Commit answer new
+    → old.txn ≡ Some (entry ∷ rest) → HasTxnCommitted setup old (entry ∷ rest) answer new → Step old Do.Commit answer new
 committed_step setup old entry rest answer new opened it = go answer it.came it.ends
   where
     its : unwrap_or old.txn [] ≡ entry ∷ rest
@@ -246,12 +246,12 @@ committed_step setup old entry rest answer new opened it = go answer it.came it.
     closing = closed_after old (entry ∷ rest) it.writing.done
 
     go : (answer : TxnAnswer)
-        → IsCommitting (length (entry ∷ rest)) setup.formulas (moment_in setup old) (commit_writes (lines_in old) (entry ∷ rest)) it.writing answer
+        → IsCommitting (length (entry ∷ rest)) setup.formulas (txn_moment_in setup old) (commit_writes (txn_lines_in old) (entry ∷ rest)) it.writing answer
         → EndsCommit (after_commit old (entry ∷ rest) it.writing) (most_of_commit old.shape (length (entry ∷ rest))) answer old new
         → Step old Do.Commit answer new
     go (Say.Applied steps) came ends =
         let through = came.0 in
-        let long = length-commit_writes (lines_in old) entry rest in
+        let long = length-commit_writes (txn_lines_in old) entry rest in
         record {
           seen = is_written ends.becomes.memory ends.becomes.txn (omega (arith, through, long));
           its_stuck = ends.becomes.stuck ∙ closing.1;
@@ -294,7 +294,7 @@ committed_step setup old entry rest answer new opened it = go answer it.came it.
     go answer came ends = absurd ends
 
 commit_step : (setup : Setup) (old : TxnState) (answer : TxnAnswer) (new : TxnState) (power : Bool) (txn : Option Entries) → old.txn ≡ txn
-    → IsAnsweredAs (if power then of_open txn committed else Some Say.Off) setup old Do.Commit answer new → Step old Do.Commit answer new
+    → IsTxnAnsweredAs (if power then of_open txn committed else Some Say.Off) setup old Do.Commit answer new → Step old Do.Commit answer new
 commit_step setup old answer new true (Some []) e it =
     fixed_step old Do.Commit (Say.Applied 0) answer new it.0 it.1
     (record {
@@ -306,13 +306,13 @@ commit_step setup old answer new true (Some []) e it =
     })
 commit_step setup old answer new true (Some (entry ∷ rest)) e it =
     committed_step setup old entry rest answer new e
-    (subst (λ es. HasCommitted setup old es answer new) (ap (λ t. unwrap_or t []) e) it)
+    (subst (λ es. HasTxnCommitted setup old es answer new) (ap (λ t. unwrap_or t []) e) it)
 commit_step setup old answer new true None e it =
     fixed_step old Do.Commit Say.Closed answer new it.0 it.1 (record { seen = refl; its_stuck = refl; read = tt; mended = tt; refused = tt })
 commit_step setup old answer new false txn e it =
     fixed_step old Do.Commit Say.Off answer new it.0 it.1 (record { seen = refl; its_stuck = refl; read = tt; mended = tt; refused = tt })
 
-step : (setup : Setup) (old : TxnState) (command : TxnCommand) (answer : TxnAnswer) (new : TxnState) → IsAnswered setup old command answer new
+step : (setup : Setup) (old : TxnState) (command : TxnCommand) (answer : TxnAnswer) (new : TxnState) → IsTxnAnswered setup old command answer new
     → Step old command answer new
 step setup old Do.Begin answer new it = begin_step old setup answer new old.power it
 step setup old (Do.Put a line) answer new it = put_step old setup a line answer new old.power old.txn it
@@ -326,21 +326,21 @@ step setup old Do.On answer new it = on_step old setup answer new old.power it
 
 -- ---- a chain of answers
 
-reads_of : (setup : Setup) (first last : TxnState) (replies : List TxnReply) → AreAnswered setup first replies last
+reads_of : (setup : Setup) (first last : TxnState) (replies : List TxnReply) → AreTxnAnswered setup first replies last
     → AreReadAsCommitted (seen_in first) replies
 reads_of setup first last [] chain = tt
 reads_of setup first last (reply ∷ replies) chain =
     let it = step setup first reply.command reply.answer chain.0 chain.1 in
     (it.read, subst (λ seen. AreReadAsCommitted seen replies) it.seen (reads_of setup chain.0 last replies chain.2))
 
-mended_of : (setup : Setup) (first last : TxnState) (replies : List TxnReply) → AreAnswered setup first replies last
-    → All (λ reply. IsMendedAnswer reply.command reply.answer) replies
-mended_of setup first last [] chain = All-nil (λ reply. IsMendedAnswer reply.command reply.answer)
+mended_of : (setup : Setup) (first last : TxnState) (replies : List TxnReply) → AreTxnAnswered setup first replies last
+    → All (λ reply. IsTxnMendedAnswer reply.command reply.answer) replies
+mended_of setup first last [] chain = All-nil (λ reply. IsTxnMendedAnswer reply.command reply.answer)
 mended_of setup first last (reply ∷ replies) chain =
-    All-cons (λ reply. IsMendedAnswer reply.command reply.answer) reply replies
+    All-cons (λ reply. IsTxnMendedAnswer reply.command reply.answer) reply replies
     (step setup first reply.command reply.answer chain.0 chain.1).mended (mended_of setup chain.0 last replies chain.2)
 
-stuck_of : (setup : Setup) (first last : TxnState) (replies : List TxnReply) → AreAnswered setup first replies last
+stuck_of : (setup : Setup) (first last : TxnState) (replies : List TxnReply) → AreTxnAnswered setup first replies last
     → AreStuckAnswers first.stuck replies
 stuck_of setup first last [] chain = tt
 stuck_of setup first last (reply ∷ replies) chain =
@@ -363,8 +363,8 @@ txns_kept_always setup replies last session =
 -- ---- used up
 
 module _ (setup : Setup) (first next : TxnState) where
-  commit_spent : (answer : TxnAnswer) → HasCommitted setup first (unwrap_or first.txn []) answer next
-      → IsSpentAnswer setup first Do.Commit answer next
+  commit_spent : (answer : TxnAnswer) → HasTxnCommitted setup first (unwrap_or first.txn []) answer next
+      → IsTxnSpentAnswer setup first Do.Commit answer next
   commit_spent (Say.Spent page steps) it =
       let became = it.ends.becomes.memory in (
         it.writing.done,
@@ -377,30 +377,30 @@ module _ (setup : Setup) (first next : TxnState) where
   commit_spent answer it = tt
 
   by_txn : (answer : TxnAnswer) (power : Bool) (txn : Option Entries)
-      → IsAnsweredAs (if power then of_open txn committed else Some Say.Off) setup first Do.Commit answer next
-      → IsSpentAnswer setup first Do.Commit answer next
-  by_txn answer true (Some []) it = subst (λ a. IsSpentAnswer setup first Do.Commit a next) (sym it.0) tt
+      → IsTxnAnsweredAs (if power then of_open txn committed else Some Say.Off) setup first Do.Commit answer next
+      → IsTxnSpentAnswer setup first Do.Commit answer next
+  by_txn answer true (Some []) it = subst (λ a. IsTxnSpentAnswer setup first Do.Commit a next) (sym it.0) tt
   by_txn answer true (Some (entry ∷ rest)) it = commit_spent answer it
-  by_txn answer true None it = subst (λ a. IsSpentAnswer setup first Do.Commit a next) (sym it.0) tt
-  by_txn answer false txn it = subst (λ a. IsSpentAnswer setup first Do.Commit a next) (sym it.0) tt
+  by_txn answer true None it = subst (λ a. IsTxnSpentAnswer setup first Do.Commit a next) (sym it.0) tt
+  by_txn answer false txn it = subst (λ a. IsTxnSpentAnswer setup first Do.Commit a next) (sym it.0) tt
 
-  opened_spent : (answer : TxnAnswer) → HasOpened setup first answer next → IsSpentAnswer setup first Do.On answer next
+  opened_spent : (answer : TxnAnswer) → HasTxnOpened setup first answer next → IsTxnSpentAnswer setup first Do.On answer next
   opened_spent (Say.Stuck page steps) it = (it.writing.done, record { used_up = it.came.spent; its_page = it.came.its_page })
   opened_spent answer it = tt
 
-  by_power : (answer : TxnAnswer) (power : Bool) → IsAnsweredAs (if power then Some Say.Already else None) setup first Do.On answer next
-      → IsSpentAnswer setup first Do.On answer next
-  by_power answer true it = subst (λ a. IsSpentAnswer setup first Do.On a next) (sym it.0) tt
+  by_power : (answer : TxnAnswer) (power : Bool) → IsTxnAnsweredAs (if power then Some Say.Already else None) setup first Do.On answer next
+      → IsTxnSpentAnswer setup first Do.On answer next
+  by_power answer true it = subst (λ a. IsTxnSpentAnswer setup first Do.On a next) (sym it.0) tt
   by_power answer false it = opened_spent answer it
 
-  spent_answer : (command : TxnCommand) (answer : TxnAnswer) → IsAnswered setup first command answer next
-      → IsSpentAnswer setup first command answer next
+  spent_answer : (command : TxnCommand) (answer : TxnAnswer) → IsTxnAnswered setup first command answer next
+      → IsTxnSpentAnswer setup first command answer next
   spent_answer Do.Commit answer it = by_txn answer first.power first.txn it
   spent_answer Do.On answer it = by_power answer first.power it
   spent_answer command answer it = tt
 
-all_spent : (setup : Setup) (first last : TxnState) (replies : List TxnReply) → AreAnswered setup first replies last
-    → AreSpentAsUsedUp setup first replies
+all_spent : (setup : Setup) (first last : TxnState) (replies : List TxnReply) → AreTxnAnswered setup first replies last
+    → AreTxnSpentAsUsedUp setup first replies
 all_spent setup first last [] chain = tt
 all_spent setup first last (reply ∷ replies) chain =
     (chain.0, chain.1, spent_answer setup first chain.0 reply.command reply.answer chain.1, all_spent setup chain.0 last replies chain.2)

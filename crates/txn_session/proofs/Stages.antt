@@ -10,7 +10,7 @@ use Rattle.plain_model.specs.State.{Memory}
 use Rattle.line_txn.specs.declared.edits.Edit.{Edit}
 use Rattle.line_txn.specs.declared.edits.Edit.TheVariants as Make
 use Rattle.line_txn.specs.Header.{AreTargets, header_of}
-use Rattle.line_txn.specs.Logged.{Stage, logged, decided, cleared, lines_at, lines_decided, targets_at, memory_at, with_header, targets_of, bodies_of, Opening, partly, through, lines_opened, targets_opened}
+use Rattle.line_txn.specs.Logged.{CommitStage, logged, decided, cleared, commit_lines_at, lines_decided, targets_at, commit_memory_at, with_header, targets_of, bodies_of, Opening, partly, through, lines_opened, targets_opened}
 use Rattle.line_txn.specs.Edits.{edited, all_edited, body_edits, target_edits, copy_edits, deciding_edits, applying_edits, redoing_edits}
 use Rattle.line_txn.proofs.LoggedLaws.{zero_header}
 use Rattle.line_txn.proofs.EditStages.{after_bodies, after_all_bodies, after_targets, after_all_targets, after_copies, after_last, length-bodies, length-targets, length-deciding, length-applying, length-copy_edits}
@@ -27,11 +27,11 @@ commit_edits n txn = deciding_edits n txn ++ applying_edits n txn
 
 -- the stage once so many are made, the targets in force, and the memory
 pub record IsAtStage (n : ℕ) (txn : Entries) (lines : Memory) (k : ℕ) : Type 0 where
-  pub stage : Stage
-  pub its_lines : all_edited (take k (commit_edits n txn)) lines ≡ lines_at stage n txn lines
+  pub stage : CommitStage
+  pub its_lines : all_edited (take k (commit_edits n txn)) lines ≡ commit_lines_at stage n txn lines
   pub targets :
       targets_at stage txn ≡ cond (nat_lt (length txn) k) (cond (k == 2 * length txn + 2) [] (targets_of txn)) []
-  pub its_memory : (memory : Memory) → memory_at stage txn memory ≡ cond (nat_lt (length txn) k) (put_lines txn memory) memory
+  pub its_memory : (memory : Memory) → commit_memory_at stage txn memory ≡ cond (nat_lt (length txn) k) (put_lines txn memory) memory
 
 module _ (n : ℕ) (txn : Entries) (lines : Memory) where
   abbrev c : ℕ
@@ -45,7 +45,7 @@ module _ (n : ℕ) (txn : Entries) (lines : Memory) where
       after_last (body_edits (n + 1) (bodies_of txn)) (Make.Put n (header_of (targets_of txn))) lines
       ∙ ap (with_header n (targets_of txn)) (after_all_bodies (n + 1) (bodies_of txn) lines)
 
-  cleared_lines : all_edited (applying_edits n txn) after_header ≡ lines_at cleared n txn lines
+  cleared_lines : all_edited (applying_edits n txn) after_header ≡ commit_lines_at cleared n txn lines
   cleared_lines =
       after_last (target_edits txn) (Make.Put n zero_line) after_header
       ∙ ap (λ l. slice_set l n zero_line) (after_all_targets txn after_header)

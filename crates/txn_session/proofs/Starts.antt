@@ -18,7 +18,7 @@ use Rattle.pmem_recovery.specs.Recovered.{HasRecovered}
 use Rattle.line_txn.specs.declared.store.Store.{Store}
 use Rattle.line_txn.specs.declared.store.Opened.{Opened}
 use Rattle.line_txn.specs.declared.store.TxnFault.{TxnFault}
-use Rattle.line_txn.specs.Store.{HasOpened}
+use Rattle.line_txn.specs.Store.{HasStoreOpened}
 use Rattle.watched_board.specs.declared.taken.Taken.{Taken}
 use Rattle.watched_board.specs.Watching.{steps_in, step_limit, device_during, none_taken, IsWatched}
 use Rattle.wear_session.specs.Answered.{read_steps, write_steps}
@@ -26,7 +26,7 @@ use Rattle.wear_session.proofs.Seen.{setup_under}
 use Rattle.txn_session.specs.declared.calls.StartFault.{StartFault}
 use Rattle.txn_session.specs.State.{TxnState}
 use Rattle.txn_session.specs.World.{TxnParts, IsTxnWorld, txn_of}
-use Rattle.txn_session.specs.During.{HasStarted, started_as}
+use Rattle.txn_session.specs.During.{HasTxnStarted, txn_started_as}
 use Rattle.txn_session.specs.Answered.{most_of_redo}
 
 -- where recovery was done, its engine is of the geometry, and the store is opened under the same keys
@@ -34,11 +34,11 @@ pub has_started : (formulas_of : List ℕ → Formulas) (g : Shape) (old between
     (suite_old suite_between suite_new : SuiteState) (recovery : Result (EngineState × Work) RecFault) (engine : EngineState) (work : Work)
     (answer : Result (Store × Opened) TxnFault) → recovery ≡ Ok (engine, work)
     → HasRecovered (record { shape = g; formulas = formulas_of suite_old.keys }) ledger_old old between suite_old suite_between recovery
-    → HasOpened (record { shape = engine.shape; formulas = formulas_of suite_between.keys })
+    → HasStoreOpened (record { shape = engine.shape; formulas = formulas_of suite_between.keys })
     (parts_of engine between ledger_old suite_between.tags suite_between.digests)
     (λ now. parts_of now new ledger_new suite_new.tags suite_new.digests) answer
-    → HasStarted (record { shape = g; formulas = formulas_of suite_old.keys }) old new ledger_old ledger_new suite_old suite_new
-    (started_as answer)
+    → HasTxnStarted (record { shape = g; formulas = formulas_of suite_old.keys }) old new ledger_old ledger_new suite_old suite_new
+    (txn_started_as answer)
 has_started formulas_of g old between new ledger_old ledger_new suite_old suite_between suite_new recovery engine work answer is recovered opened =
     let done = subst (λ r. HasRecovered (record { shape = g; formulas = formulas_of suite_old.keys }) ledger_old old between suite_old suite_between r) is recovered in
     record {
@@ -48,10 +48,10 @@ has_started formulas_of g old between new ledger_old ledger_new suite_old suite_
       recovered = done;
       then = (
         answer,
-        subst (λ k. HasOpened (record { shape = g; formulas = formulas_of k })
+        subst (λ k. HasStoreOpened (record { shape = g; formulas = formulas_of k })
             (parts_of engine between ledger_old suite_between.tags suite_between.digests)
             (λ now. parts_of now new ledger_new suite_new.tags suite_new.digests) answer) done.keys
-            (subst (λ s. HasOpened (record { shape = s; formulas = formulas_of suite_between.keys })
+            (subst (λ s. HasStoreOpened (record { shape = s; formulas = formulas_of suite_between.keys })
             (parts_of engine between ledger_old suite_between.tags suite_between.digests)
             (λ now. parts_of now new ledger_new suite_new.tags suite_new.digests) answer) (ap (λ (e : EngineState). e.shape) done.engine) opened),
         refl,
@@ -105,5 +105,5 @@ pub record OnCall : Type 0 where
   pub counted : said ≡ steps_in taken
   pub answer : Result (Store × Opened) StartFault
   pub started :
-      HasStarted (setup_under formulas_of geometry before.keys) (device_during lit none_taken) (device_during board taken)
+      HasTxnStarted (setup_under formulas_of geometry before.keys) (device_during lit none_taken) (device_during board taken)
       ledger_before ledger suite_old suite_new answer

@@ -24,9 +24,9 @@ use Rattle.line_txn.proofs.Openings.{logged_size}
 use Rattle.watched_board.specs.declared.taken.Taken.{Taken}
 use Rattle.watched_board.specs.Watching.{counted, cuts_after, steps_in, step_limit, FollowsOn, IsWatched}
 use Rattle.wear_session.proofs.Worlds.{sealed_in, places_of, rises_by, has_burnt, has_run_out}
-use Rattle.txn_session.specs.State.{TxnState, Entries, without_power}
-use Rattle.txn_session.specs.World.{TxnParts, IsTxnWorld, IsStoreOn, IsStoredBy, targets_in_force, logical_memory, txn_of}
-use Rattle.txn_session.specs.Answered.{IsButForSteps, GoesTo, IsCutOff}
+use Rattle.txn_session.specs.State.{TxnState, Entries, txn_without_power}
+use Rattle.txn_session.specs.World.{TxnParts, IsTxnWorld, IsStoreOn, IsStoredBy, targets_in_force, redone_memory, txn_of}
+use Rattle.txn_session.specs.Answered.{IsTxnButForSteps, GoesToTxnState, IsTxnCutOff}
 
 -- ---- the log
 
@@ -46,18 +46,18 @@ module _ (setup : Setup) (shape : IsShape setup.shape) (lines memory : Memory) (
       targets_of_header (logged_lines setup.shape) (line_at lines (logged_lines setup.shape)) targets
       (let few = few_lines setup.shape shape in omega (arith, few)) it.header
 
-  pub memory_held : logical_memory setup lines ≡ memory
+  pub memory_held : redone_memory setup lines ≡ memory
   memory_held = ap (λ ts. memory_in (logged_lines setup.shape) ts lines) targets_held ∙ it.its_memory
 
-  pub logged_is : IsLogged (logged_lines setup.shape) lines (targets_in_force setup lines) (logical_memory setup lines)
+  pub logged_is : IsLogged (logged_lines setup.shape) lines (targets_in_force setup lines) (redone_memory setup lines)
   logged_is = subst₂ (λ ts m. IsLogged (logged_lines setup.shape) lines ts m) (sym targets_held) (sym memory_held) it
 
 -- ---- states
 
 module _ (setup : Setup) (old new : TxnParts) (taken : Taken) (watched : IsWatched old.board new.board taken) (expected : TxnState) (most : ℕ) where
   -- a call that goes on
-  pub goes_to : new.board.powered ≡ true → steps_in taken ≤ most → IsButForSteps expected (txn_of setup new)
-      → GoesTo expected (steps_in taken) most (txn_of setup old) (txn_of setup new)
+  pub goes_to : new.board.powered ≡ true → steps_in taken ≤ most → IsTxnButForSteps expected (txn_of setup new)
+      → GoesToTxnState expected (steps_in taken) most (txn_of setup old) (txn_of setup new)
   goes_to powered few becomes =
       record {
         becomes = becomes;
@@ -67,8 +67,8 @@ module _ (setup : Setup) (old new : TxnParts) (taken : Taken) (watched : IsWatch
       }
 
   -- a call that is cut
-  pub cut_off : new.board.powered ≡ false → steps_in taken < most → most ≤ step_limit → IsButForSteps (without_power expected) (txn_of setup new)
-      → IsCutOff expected (steps_in taken) most (txn_of setup old) (txn_of setup new)
+  pub cut_off : new.board.powered ≡ false → steps_in taken < most → most ≤ step_limit → IsTxnButForSteps (txn_without_power expected) (txn_of setup new)
+      → IsTxnCutOff expected (steps_in taken) most (txn_of setup old) (txn_of setup new)
   cut_off off below bounded becomes =
       record {
         becomes = becomes;
@@ -87,7 +87,7 @@ IsOpenTxn setup stuck txn =
 -- with power on, where all is sound
 pub on_of : (setup : Setup) (parts : TxnParts) (store : Store) → parts.store ≡ Some store → IsShape setup.shape → AreInRange setup.formulas
     → IsLogged (logged_lines setup.shape) (plain_memory setup parts.ledger.marks) (targets_in_force setup (plain_memory setup parts.ledger.marks))
-    (logical_memory setup (plain_memory setup parts.ledger.marks))
+    (redone_memory setup (plain_memory setup parts.ledger.marks))
     → parts.board.powered ≡ true → IsSound setup store.engine parts.board.lines parts.board.regs parts.ledger
     → store.logged.items ≡ targets_in_force setup (plain_memory setup parts.ledger.marks) → IsOpenTxn setup store.stuck parts.txn
     → IsTxnWorld setup parts
@@ -130,7 +130,7 @@ on_of setup parts store there shape formulas logged powered sound log txn =
 module _ (setup : Setup) (p : TxnParts) (board : BoardMemory) (ledger : LedgerState) (world : IsTxnWorld setup p)
     (logged :
     IsLogged (logged_lines setup.shape) (plain_memory setup ledger.marks) (targets_in_force setup (plain_memory setup ledger.marks))
-    (logical_memory setup (plain_memory setup ledger.marks))) where
+    (redone_memory setup (plain_memory setup ledger.marks))) where
   -- after a call with power on
   pub on_after : (after : Store) (txn : Option Entries) → board.powered ≡ true → IsSound setup after.engine board.lines board.regs ledger
       → after.logged.items ≡ targets_in_force setup (plain_memory setup ledger.marks) → IsOpenTxn setup after.stuck txn

@@ -17,7 +17,7 @@ use Rattle.plain_model.specs.Bounds.{recovery_bound}
 use Rattle.plain_model.specs.Asked.{Moment}
 use Rattle.plain_model.specs.Fits.{IsSpentNext}
 use Rattle.plain_model.specs.Shown.{IsTwinOfSeal}
-use Rattle.wear_session.specs.Answered.{RisesBySteps, write_steps, read_steps, Writing, AreAllMade, IsCutAmong, is_own_seal}
+use Rattle.wear_session.specs.Answered.{RisesBySteps, write_steps, read_steps, Writing, AreAllWritesMade, IsCutAmong, is_own_seal}
 use Rattle.txn_session.specs.declared.commands.TxnCommand.{TxnCommand}
 use Rattle.txn_session.specs.declared.commands.TxnCommand.TheVariants as Do
 use Rattle.txn_session.specs.declared.answers.TxnAnswer.{TxnAnswer}
@@ -27,7 +27,7 @@ use Rattle.trace_text.specs.declared.talk.Halt.{Halt}
 use Rattle.trace_text.specs.declared.talk.Halt.TheVariants as Stop
 use Rattle.txn_session.specs.Answers.{txn_text}
 use Rattle.txn_session.specs.Commands.{reading_of_txn}
-use Rattle.txn_session.specs.State.{TxnState, Entries, lines_in, view_in, places_in, moment_in, line_in, with_line, commit_writes, redo_writes, without_power, with_commit, with_redo}
+use Rattle.txn_session.specs.State.{TxnState, Entries, txn_lines_in, txn_view_in, txn_places_in, txn_moment_in, entry_in, with_put_line, commit_writes, redo_writes, txn_without_power, with_commit, with_redo}
 
 -- ---- answers that the state decides
 
@@ -36,8 +36,8 @@ abbrev pub of_power : TxnState → Option TxnAnswer → Option TxnAnswer
 of_power state answer = if state.power then answer else Some Say.Off
 
 -- the answer, where there is such a line
-abbrev pub of_line : TxnState → ℕ → Option TxnAnswer → Option TxnAnswer
-of_line state a answer = if nat_lt a (lines_in state) then answer else Some Say.Range
+abbrev pub txn_of_line : TxnState → ℕ → Option TxnAnswer → Option TxnAnswer
+txn_of_line state a answer = if nat_lt a (txn_lines_in state) then answer else Some Say.Range
 
 -- the answer, where a transaction is open
 abbrev pub of_open : Option Entries → (Entries → Option TxnAnswer) → Option TxnAnswer
@@ -45,14 +45,14 @@ of_open None answer = Some Say.Closed
 of_open (Some entries) answer = answer entries
 
 -- whether no other line goes into a transaction
-abbrev pub is_full : Entries → ℕ → Bool
-is_full entries a = if is_some (line_in entries a) then false else length entries == 15
+abbrev pub is_txn_full : Entries → ℕ → Bool
+is_txn_full entries a = if is_some (entry_in entries a) then false else length entries == 15
 
 -- a transaction is opened, where the store isn't stuck
-abbrev pub begun : Option ℕ → Option Entries → TxnAnswer
-begun (Some page) open_txn = Say.Blocked page
-begun None (Some entries) = Say.Busy
-begun None None = Say.Ok
+abbrev pub begun_txn : Option ℕ → Option Entries → TxnAnswer
+begun_txn (Some page) open_txn = Say.Blocked page
+begun_txn None (Some entries) = Say.Busy
+begun_txn None None = Say.Ok
 
 -- a commit without lines is done with no step
 abbrev pub committed : Entries → Option TxnAnswer
@@ -66,37 +66,37 @@ held (Some line) = Some (Say.Got line 0)
 
 -- what a state's transaction holds
 abbrev pub line_held : TxnState → ℕ → Option Line
-line_held state a = line_in (unwrap_or state.txn []) a
+line_held state a = entry_in (unwrap_or state.txn []) a
 
 -- the answer that the state alone decides; none where the engine decides
-abbrev pub decided : TxnState → TxnCommand → Option TxnAnswer
-decided state Do.Begin = of_power state (Some (begun state.stuck state.txn))
-decided state (Do.Put a line) =
+abbrev pub txn_decided : TxnState → TxnCommand → Option TxnAnswer
+txn_decided state Do.Begin = of_power state (Some (begun_txn state.stuck state.txn))
+txn_decided state (Do.Put a line) =
     of_power state
     (of_open state.txn
-    (λ entries. of_line state a (Some (if is_full entries a then Say.Full else Say.Ok))))
-decided state Do.Commit = of_power state (of_open state.txn committed)
-decided state Do.Abort = of_power state (of_open state.txn (λ entries. Some Say.Ok))
-decided state (Do.Read a) = of_power state (of_line state a (held (line_held state a)))
-decided state (Do.Cut n) = Some Say.Ok
-decided state Do.Off = of_power state (Some Say.Ok)
-decided state Do.On = if state.power then Some Say.Already else None
+    (λ entries. txn_of_line state a (Some (if is_txn_full entries a then Say.Full else Say.Ok))))
+txn_decided state Do.Commit = of_power state (of_open state.txn committed)
+txn_decided state Do.Abort = of_power state (of_open state.txn (λ entries. Some Say.Ok))
+txn_decided state (Do.Read a) = of_power state (txn_of_line state a (held (line_held state a)))
+txn_decided state (Do.Cut n) = Some Say.Ok
+txn_decided state Do.Off = of_power state (Some Say.Ok)
+txn_decided state Do.On = if state.power then Some Say.Already else None
 
 -- the state after such an answer
-abbrev pub after_decided : TxnState → TxnCommand → TxnAnswer → TxnState
-after_decided state Do.Begin Say.Ok = record state { txn = Some [] }
-after_decided state (Do.Put a line) Say.Ok =
-    record state { txn = option_map (λ entries. with_line entries a line) state.txn }
-after_decided state Do.Commit (Say.Applied steps) = record state { txn = None }
-after_decided state Do.Abort Say.Ok = record state { txn = None }
-after_decided state (Do.Cut n) answer = record state { fuse = Some n }
-after_decided state Do.Off Say.Ok = without_power state
-after_decided state command answer = state
+abbrev pub txn_after_decided : TxnState → TxnCommand → TxnAnswer → TxnState
+txn_after_decided state Do.Begin Say.Ok = record state { txn = Some [] }
+txn_after_decided state (Do.Put a line) Say.Ok =
+    record state { txn = option_map (λ entries. with_put_line entries a line) state.txn }
+txn_after_decided state Do.Commit (Say.Applied steps) = record state { txn = None }
+txn_after_decided state Do.Abort Say.Ok = record state { txn = None }
+txn_after_decided state (Do.Cut n) answer = record state { fuse = Some n }
+txn_after_decided state Do.Off Say.Ok = txn_without_power state
+txn_after_decided state command answer = state
 
 -- ---- steps
 
 -- a state that is another but for the fuse and the board's counts
-pub record IsButForSteps (expected new : TxnState) : Type 0 where
+pub record IsTxnButForSteps (expected new : TxnState) : Type 0 where
   pub shape : new.shape ≡ expected.shape
   pub keys : new.keys ≡ expected.keys
   pub memory : new.memory ≡ expected.memory
@@ -108,15 +108,15 @@ pub record IsButForSteps (expected new : TxnState) : Type 0 where
   pub marks : new.marks ≡ expected.marks
 
 -- steps were done, at most `most` and no more than the fuse had left, and nothing was cut
-pub record GoesTo (expected : TxnState) (steps most : ℕ) (old new : TxnState) : Type 0 where
-  pub becomes : IsButForSteps expected new
+pub record GoesToTxnState (expected : TxnState) (steps most : ℕ) (old new : TxnState) : Type 0 where
+  pub becomes : IsTxnButForSteps expected new
   pub rises : RisesBySteps steps old.writes old.latches new.writes new.latches
   pub few : steps ≤ most
   pub fuse : HasBurnt steps old.fuse new.fuse old.cuts new.cuts
 
 -- power was cut with the fuse used up, after fewer than `most` steps
-pub record IsCutOff (expected : TxnState) (steps most : ℕ) (old new : TxnState) : Type 0 where
-  pub becomes : IsButForSteps (without_power expected) new
+pub record IsTxnCutOff (expected : TxnState) (steps most : ℕ) (old new : TxnState) : Type 0 where
+  pub becomes : IsTxnButForSteps (txn_without_power expected) new
   pub rises : RisesBySteps steps old.writes old.latches new.writes new.latches
   pub below : steps < most
   pub fuse : HasRunOut steps old.fuse new.fuse old.cuts new.cuts
@@ -131,15 +131,15 @@ most_of_redo g count =
     if count == 0 then 0 else count * (read_steps g + write_steps g) + write_steps g
 
 -- those of recovery, the header's read and the redo
-abbrev pub most_of_on : TxnState → ℕ
-most_of_on state =
+abbrev pub txn_most_of_on : TxnState → ℕ
+txn_most_of_on state =
     recovery_bound state.shape + read_steps state.shape + most_of_redo state.shape (length state.in_force)
 
 -- ---- writes in order
 
 -- all of them are done
 abbrev pub IsAllWritten : Formulas → Moment → List Posted → Writing → Type 0
-IsAllWritten f now writes writing = (writing.done ≡ length writes) × AreAllMade f now writes writing
+IsAllWritten f now writes writing = (writing.done ≡ length writes) × AreAllWritesMade f now writes writing
 
 -- ---- a commit
 
@@ -158,10 +158,10 @@ IsCommitting count f now writes writing (Say.CutLost steps) =
 IsCommitting count f now writes writing answer = ⊥
 
 -- whether the header's own seal is among the marks, after a cut
-abbrev pub IsKept : ℕ → List Mark → TxnAnswer → Type 0
-IsKept header made (Say.CutKept steps) = list_any (is_own_seal header) made ≡ true
-IsKept header made (Say.CutLost steps) = list_any (is_own_seal header) made ≡ false
-IsKept header made answer = ⊤
+abbrev pub IsTxnCommitKept : ℕ → List Mark → TxnAnswer → Type 0
+IsTxnCommitKept header made (Say.CutKept steps) = list_any (is_own_seal header) made ≡ true
+IsTxnCommitKept header made (Say.CutLost steps) = list_any (is_own_seal header) made ≡ false
+IsTxnCommitKept header made answer = ⊤
 
 -- the state that so many done writes leave, but for power, fuse and counts
 abbrev pub after_commit : TxnState → Entries → Writing → TxnState
@@ -169,31 +169,31 @@ after_commit old entries writing =
     record (with_commit old entries writing.done) { marks = old.marks ++ writing.made }
 
 abbrev pub EndsCommit : TxnState → ℕ → TxnAnswer → TxnState → TxnState → Type 0
-EndsCommit expected most (Say.Applied steps) old new = GoesTo expected steps most old new
+EndsCommit expected most (Say.Applied steps) old new = GoesToTxnState expected steps most old new
 EndsCommit expected most (Say.Stuck page steps) old new =
-    GoesTo (record expected { stuck = Some page }) steps most old new
-EndsCommit expected most (Say.Spent page steps) old new = GoesTo expected steps most old new
-EndsCommit expected most (Say.CutKept steps) old new = IsCutOff expected steps most old new
-EndsCommit expected most (Say.CutLost steps) old new = IsCutOff expected steps most old new
+    GoesToTxnState (record expected { stuck = Some page }) steps most old new
+EndsCommit expected most (Say.Spent page steps) old new = GoesToTxnState expected steps most old new
+EndsCommit expected most (Say.CutKept steps) old new = IsTxnCutOff expected steps most old new
+EndsCommit expected most (Say.CutLost steps) old new = IsTxnCutOff expected steps most old new
 EndsCommit expected most answer old new = ⊥
 
-pub record HasCommitted (setup : Setup) (old : TxnState) (entries : Entries) (answer : TxnAnswer) (new : TxnState) :
+pub record HasTxnCommitted (setup : Setup) (old : TxnState) (entries : Entries) (answer : TxnAnswer) (new : TxnState) :
     Type 0 where
   pub writing : Writing
   pub came :
-      IsCommitting (length entries) setup.formulas (moment_in setup old) (commit_writes (lines_in old) entries)
+      IsCommitting (length entries) setup.formulas (txn_moment_in setup old) (commit_writes (txn_lines_in old) entries)
       writing answer
-  pub kept : IsKept (lines_in old) writing.made answer
+  pub kept : IsTxnCommitKept (txn_lines_in old) writing.made answer
   pub ends :
       EndsCommit (after_commit old entries writing) (most_of_commit old.shape (length entries)) answer old new
 
 -- ---- a read, and recovery
 
-abbrev pub HasRead : TxnState → ℕ → TxnAnswer → TxnState → Type 0
-HasRead old a (Say.Got line steps) new =
-    (line ≡ line_at old.memory a) × GoesTo old steps (read_steps old.shape) old new
-HasRead old a (Say.Cut steps) new = IsCutOff old steps (read_steps old.shape) old new
-HasRead old a answer new = ⊥
+abbrev pub HasTxnRead : TxnState → ℕ → TxnAnswer → TxnState → Type 0
+HasTxnRead old a (Say.Got line steps) new =
+    (line ≡ line_at old.memory a) × GoesToTxnState old steps (read_steps old.shape) old new
+HasTxnRead old a (Say.Cut steps) new = IsTxnCutOff old steps (read_steps old.shape) old new
+HasTxnRead old a answer new = ⊥
 
 -- how far a redo came, by its answer: through; or up to a line that is spent; or up to a cut
 abbrev pub IsRedoing : Formulas → Moment → List Posted → Writing → TxnAnswer → Type 0
@@ -209,82 +209,82 @@ after_redo old writing =
 
 abbrev pub EndsRedo : TxnState → TxnAnswer → TxnState → TxnState → Type 0
 EndsRedo expected (Say.Opened redone steps) old new =
-    (redone ≡ length old.in_force) × GoesTo expected steps (most_of_on old) old new
+    (redone ≡ length old.in_force) × GoesToTxnState expected steps (txn_most_of_on old) old new
 EndsRedo expected (Say.Stuck page steps) old new =
-    GoesTo (record expected { stuck = Some page }) steps (most_of_on old) old new
-EndsRedo expected (Say.Cut steps) old new = IsCutOff expected steps (most_of_on old) old new
+    GoesToTxnState (record expected { stuck = Some page }) steps (txn_most_of_on old) old new
+EndsRedo expected (Say.Cut steps) old new = IsTxnCutOff expected steps (txn_most_of_on old) old new
 EndsRedo expected answer old new = ⊥
 
-pub record HasOpened (setup : Setup) (old : TxnState) (answer : TxnAnswer) (new : TxnState) : Type 0 where
+pub record HasTxnOpened (setup : Setup) (old : TxnState) (answer : TxnAnswer) (new : TxnState) : Type 0 where
   pub writing : Writing
   pub came :
-      IsRedoing setup.formulas (moment_in setup old)
-      (redo_writes (lines_in old) old.in_force (places_in setup old)) writing answer
+      IsRedoing setup.formulas (txn_moment_in setup old)
+      (redo_writes (txn_lines_in old) old.in_force (txn_places_in setup old)) writing answer
   pub ends : EndsRedo (after_redo old writing) answer old new
 
 -- ---- the relation
 
 -- what the engine answers, and what it leaves
-abbrev pub IsServed : Setup → TxnState → TxnCommand → TxnAnswer → TxnState → Type 0
-IsServed setup old Do.Commit answer new = HasCommitted setup old (unwrap_or old.txn []) answer new
-IsServed setup old (Do.Read a) answer new = HasRead old a answer new
-IsServed setup old Do.On answer new = HasOpened setup old answer new
-IsServed setup old command answer new = ⊥
+abbrev pub IsTxnServed : Setup → TxnState → TxnCommand → TxnAnswer → TxnState → Type 0
+IsTxnServed setup old Do.Commit answer new = HasTxnCommitted setup old (unwrap_or old.txn []) answer new
+IsTxnServed setup old (Do.Read a) answer new = HasTxnRead old a answer new
+IsTxnServed setup old Do.On answer new = HasTxnOpened setup old answer new
+IsTxnServed setup old command answer new = ⊥
 
--- a decided answer leaves the counts as they are
-abbrev pub IsAnsweredAs :
+-- a txn_decided answer leaves the counts as they are
+abbrev pub IsTxnAnsweredAs :
     Option TxnAnswer → Setup → TxnState → TxnCommand → TxnAnswer → TxnState → Type 0
-IsAnsweredAs (Some fixed) setup old command answer new =
-    (answer ≡ fixed) × (new ≡ after_decided old command fixed)
-IsAnsweredAs None setup old command answer new = IsServed setup old command answer new
+IsTxnAnsweredAs (Some fixed) setup old command answer new =
+    (answer ≡ fixed) × (new ≡ txn_after_decided old command fixed)
+IsTxnAnsweredAs None setup old command answer new = IsTxnServed setup old command answer new
 
 -- the answer that the state decides, or else one that the engine may give
-abbrev pub IsAnswered : Setup → TxnState → TxnCommand → TxnAnswer → TxnState → Type 0
-IsAnswered setup old command answer new =
-    IsAnsweredAs (decided old command) setup old command answer new
+abbrev pub IsTxnAnswered : Setup → TxnState → TxnCommand → TxnAnswer → TxnState → Type 0
+IsTxnAnswered setup old command answer new =
+    IsTxnAnsweredAs (txn_decided old command) setup old command answer new
 
 -- an exhibit comes of recovery alone: a twin that holds, of the last seal of one of the data lines
-abbrev pub IsShownBy : Setup → TxnState → TxnCommand → Exhibit → Type 0
-IsShownBy setup old Do.On (Twin at major low high cipher tag) =
+abbrev pub IsTxnShownBy : Setup → TxnState → TxnCommand → Exhibit → Type 0
+IsTxnShownBy setup old Do.On (Twin at major low high cipher tag) =
     (old.power ≡ false) × (at < data_lines setup.shape)
     × IsExhibit setup.formulas (Twin at major low high cipher tag)
-    × IsTwinOfSeal setup (places_in setup old) old.loss (view_in old) at major low high cipher tag
-IsShownBy setup old command exhibit = ⊥
+    × IsTwinOfSeal setup (txn_places_in setup old) old.loss (txn_view_in old) at major low high cipher tag
+IsTxnShownBy setup old command exhibit = ⊥
 
 -- whether a command may want memory
-abbrev pub takes_memory : TxnCommand → Bool
-takes_memory Do.Commit = true
-takes_memory Do.On = true
-takes_memory command = false
+abbrev pub txn_takes_memory : TxnCommand → Bool
+txn_takes_memory Do.Commit = true
+txn_takes_memory Do.On = true
+txn_takes_memory command = false
 
 -- a command may want memory where the state doesn't decide its answer
-abbrev pub CanWantMemory : TxnState → TxnCommand → Type 0
-CanWantMemory old command = IsTrue (takes_memory command) × (decided old command ≡ None)
+abbrev pub IsTxnMemoryWanted : TxnState → TxnCommand → Type 0
+IsTxnMemoryWanted old command = IsTrue (txn_takes_memory command) × (txn_decided old command ≡ None)
 
 -- why a command has no answer: memory is wanted, and nothing was done; or it is an exhibit
-abbrev pub IsHalt : Setup → TxnState → TxnCommand → Halt → TxnState → Type 0
-IsHalt setup old command Stop.Memory new = CanWantMemory old command × (new ≡ old)
-IsHalt setup old command (Stop.Shown exhibit) new = IsShownBy setup old command exhibit
-IsHalt setup old command (Stop.Line kind) new = ⊥
+abbrev pub IsTxnHalt : Setup → TxnState → TxnCommand → Halt → TxnState → Type 0
+IsTxnHalt setup old command Stop.Memory new = IsTxnMemoryWanted old command × (new ≡ old)
+IsTxnHalt setup old command (Stop.Shown exhibit) new = IsTxnShownBy setup old command exhibit
+IsTxnHalt setup old command (Stop.Line kind) new = ⊥
 
 -- ---- a line and its answer
 
 -- the line asks for a command, and the text is that of one of its answers
-pub record IsTalkedOf (setup : Setup) (old : TxnState) (line text : List ℕ) (new : TxnState) : Type 0 where
+pub record IsTxnTalkedOf (setup : Setup) (old : TxnState) (line text : List ℕ) (new : TxnState) : Type 0 where
   pub command : TxnCommand
   pub its_reading : reading_of_txn line ≡ Ok (Some command)
   pub answer : TxnAnswer
   pub its_text : text ≡ txn_text answer
-  pub answered : IsAnswered setup old command answer new
+  pub answered : IsTxnAnswered setup old command answer new
 
 -- the line asks for a command whose answer is the exhibit
-pub record IsShownOf (setup : Setup) (old : TxnState) (line : List ℕ) (exhibit : Exhibit) : Type 0 where
+pub record IsTxnShownOf (setup : Setup) (old : TxnState) (line : List ℕ) (exhibit : Exhibit) : Type 0 where
   pub command : TxnCommand
   pub its_reading : reading_of_txn line ≡ Ok (Some command)
-  pub shown : IsShownBy setup old command exhibit
+  pub shown : IsTxnShownBy setup old command exhibit
 
 -- the line asks for a command that may want memory
-pub record IsStarvedOf (old : TxnState) (line : List ℕ) : Type 0 where
+pub record IsTxnStarvedOf (old : TxnState) (line : List ℕ) : Type 0 where
   pub command : TxnCommand
   pub its_reading : reading_of_txn line ≡ Ok (Some command)
-  pub wanted : CanWantMemory old command
+  pub wanted : IsTxnMemoryWanted old command

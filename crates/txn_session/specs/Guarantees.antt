@@ -13,8 +13,8 @@ use Rattle.txn_session.specs.declared.commands.TxnCommand.{TxnCommand}
 use Rattle.txn_session.specs.declared.commands.TxnCommand.TheVariants as Do
 use Rattle.txn_session.specs.declared.answers.TxnAnswer.{TxnAnswer}
 use Rattle.txn_session.specs.declared.answers.TxnAnswer.TheVariants as Say
-use Rattle.txn_session.specs.State.{TxnState, Entries, IsNewTxn, moment_in, lines_in, places_in, line_in, with_line, commit_writes, redo_writes}
-use Rattle.txn_session.specs.Answered.{IsAnswered}
+use Rattle.txn_session.specs.State.{TxnState, Entries, IsNewTxn, txn_moment_in, txn_lines_in, txn_places_in, entry_in, with_put_line, commit_writes, redo_writes}
+use Rattle.txn_session.specs.Answered.{IsTxnAnswered}
 
 -- ---- chains of answers
 
@@ -24,17 +24,17 @@ pub record TxnReply : Type 0 where
   pub answer : TxnAnswer
 
 -- each was answered in the state that those before it left
-abbrev pub AreAnswered : Setup → TxnState → List TxnReply → TxnState → Type 0
-AreAnswered setup first [] last = last ≡ first
-AreAnswered setup first (reply ∷ replies) last =
-    (next : TxnState) × IsAnswered setup first reply.command reply.answer next
-    × AreAnswered setup next replies last
+abbrev pub AreTxnAnswered : Setup → TxnState → List TxnReply → TxnState → Type 0
+AreTxnAnswered setup first [] last = last ≡ first
+AreTxnAnswered setup first (reply ∷ replies) last =
+    (next : TxnState) × IsTxnAnswered setup first reply.command reply.answer next
+    × AreTxnAnswered setup next replies last
 
 -- a chain from a new session on
-pub record IsSession (setup : Setup) (replies : List TxnReply) (last : TxnState) : Type 0 where
+pub record IsTxnSession (setup : Setup) (replies : List TxnReply) (last : TxnState) : Type 0 where
   pub first : TxnState
   pub is_new : IsNewTxn setup first
-  pub answered : AreAnswered setup first replies last
+  pub answered : AreTxnAnswered setup first replies last
 
 -- ---- what is read
 
@@ -56,7 +56,7 @@ written seen = record { memory = put_lines (unwrap_or seen.txn []) seen.memory; 
 abbrev pub seen_after : Seen → TxnCommand → TxnAnswer → Seen
 seen_after seen Do.Begin Say.Ok = record seen { txn = Some [] }
 seen_after seen (Do.Put a line) Say.Ok =
-    record seen { txn = option_map (λ entries. with_line entries a line) seen.txn }
+    record seen { txn = option_map (λ entries. with_put_line entries a line) seen.txn }
 seen_after seen Do.Commit (Say.Applied steps) = written seen
 seen_after seen Do.Commit (Say.Stuck page steps) = written seen
 seen_after seen Do.Commit (Say.CutKept steps) = written seen
@@ -69,28 +69,28 @@ seen_after seen Do.Off Say.Ok = closed seen
 seen_after seen command answer = seen
 
 -- a read shows the line that the open transaction holds, with no step, or else that of memory
-abbrev pub IsReadOf : Seen → TxnCommand → TxnAnswer → Type 0
-IsReadOf seen (Do.Read a) (Say.Got line steps) =
-    MatchOption (line_in (unwrap_or seen.txn []) a) (line ≡ line_at seen.memory a)
+abbrev pub IsTxnReadOf : Seen → TxnCommand → TxnAnswer → Type 0
+IsTxnReadOf seen (Do.Read a) (Say.Got line steps) =
+    MatchOption (entry_in (unwrap_or seen.txn []) a) (line ≡ line_at seen.memory a)
     (λ held. (line ≡ held) × (steps ≡ 0))
-IsReadOf seen command answer = ⊤
+IsTxnReadOf seen command answer = ⊤
 
 abbrev pub AreReadAsCommitted : Seen → List TxnReply → Type 0
 AreReadAsCommitted seen [] = ⊤
 AreReadAsCommitted seen (reply ∷ replies) =
-    IsReadOf seen reply.command reply.answer
+    IsTxnReadOf seen reply.command reply.answer
     × AreReadAsCommitted (seen_after seen reply.command reply.answer) replies
 
 -- ---- recovery
 
 -- recovery ends with power on, where it may be stuck, unless it is cut; or it shows a twin
-abbrev pub IsMendedAnswer : TxnCommand → TxnAnswer → Type 0
-IsMendedAnswer Do.On Say.Already = ⊤
-IsMendedAnswer Do.On (Say.Opened redone steps) = ⊤
-IsMendedAnswer Do.On (Say.Stuck page steps) = ⊤
-IsMendedAnswer Do.On (Say.Cut steps) = ⊤
-IsMendedAnswer Do.On answer = ⊥
-IsMendedAnswer command answer = ⊤
+abbrev pub IsTxnMendedAnswer : TxnCommand → TxnAnswer → Type 0
+IsTxnMendedAnswer Do.On Say.Already = ⊤
+IsTxnMendedAnswer Do.On (Say.Opened redone steps) = ⊤
+IsTxnMendedAnswer Do.On (Say.Stuck page steps) = ⊤
+IsTxnMendedAnswer Do.On (Say.Cut steps) = ⊤
+IsTxnMendedAnswer Do.On answer = ⊥
+IsTxnMendedAnswer command answer = ⊤
 
 -- ---- stuck
 
@@ -122,32 +122,32 @@ AreStuckAnswers stuck (reply ∷ replies) =
 -- ---- used up
 
 -- the next of these writes was answered as used up, and its line lies in this page
-pub record WasSpent (setup : Setup) (old : TxnState) (writes : List Posted) (done page : ℕ) : Type 0 where
-  pub used_up : next_marks setup.formulas (moment_in setup old) writes done ≡ None
+pub record WasTxnSpent (setup : Setup) (old : TxnState) (writes : List Posted) (done page : ℕ) : Type 0 where
+  pub used_up : next_marks setup.formulas (txn_moment_in setup old) writes done ≡ None
   pub its_page : MatchOption (slice_get writes done) ⊥ (λ write. page_of write.at ≡ page)
 
 abbrev pub writes_of_commit : TxnState → List Posted
-writes_of_commit old = commit_writes (lines_in old) (unwrap_or old.txn [])
+writes_of_commit old = commit_writes (txn_lines_in old) (unwrap_or old.txn [])
 
 -- a commit is spent only so, before its header, by which nothing changes but that it is closed; it is stuck only so
 -- after it, and so is a recovery
-abbrev pub IsSpentAnswer : Setup → TxnState → TxnCommand → TxnAnswer → TxnState → Type 0
-IsSpentAnswer setup old Do.Commit (Say.Spent page steps) new =
-    (done : ℕ) × (done ≤ length (unwrap_or old.txn [])) × WasSpent setup old (writes_of_commit old) done page
+abbrev pub IsTxnSpentAnswer : Setup → TxnState → TxnCommand → TxnAnswer → TxnState → Type 0
+IsTxnSpentAnswer setup old Do.Commit (Say.Spent page steps) new =
+    (done : ℕ) × (done ≤ length (unwrap_or old.txn [])) × WasTxnSpent setup old (writes_of_commit old) done page
     × (new.memory ≡ old.memory)
-IsSpentAnswer setup old Do.Commit (Say.Stuck page steps) new =
-    (done : ℕ) × (length (unwrap_or old.txn []) < done) × WasSpent setup old (writes_of_commit old) done page
-IsSpentAnswer setup old Do.On (Say.Stuck page steps) new =
+IsTxnSpentAnswer setup old Do.Commit (Say.Stuck page steps) new =
+    (done : ℕ) × (length (unwrap_or old.txn []) < done) × WasTxnSpent setup old (writes_of_commit old) done page
+IsTxnSpentAnswer setup old Do.On (Say.Stuck page steps) new =
     (done : ℕ)
-    × WasSpent setup old (redo_writes (lines_in old) old.in_force (places_in setup old)) done page
-IsSpentAnswer setup old command answer new = ⊤
+    × WasTxnSpent setup old (redo_writes (txn_lines_in old) old.in_force (txn_places_in setup old)) done page
+IsTxnSpentAnswer setup old command answer new = ⊤
 
 -- so it is of each answer of a chain
-abbrev pub AreSpentAsUsedUp : Setup → TxnState → List TxnReply → Type 0
-AreSpentAsUsedUp setup first [] = ⊤
-AreSpentAsUsedUp setup first (reply ∷ replies) =
-    (next : TxnState) × IsAnswered setup first reply.command reply.answer next
-    × IsSpentAnswer setup first reply.command reply.answer next × AreSpentAsUsedUp setup next replies
+abbrev pub AreTxnSpentAsUsedUp : Setup → TxnState → List TxnReply → Type 0
+AreTxnSpentAsUsedUp setup first [] = ⊤
+AreTxnSpentAsUsedUp setup first (reply ∷ replies) =
+    (next : TxnState) × IsTxnAnswered setup first reply.command reply.answer next
+    × IsTxnSpentAnswer setup first reply.command reply.answer next × AreTxnSpentAsUsedUp setup next replies
 
 -- ---- the whole
 
@@ -159,17 +159,17 @@ nothing_seen n = record { memory = replicate n zero_line; txn = None }
 -- isn't cut succeeds or is stuck, and a transaction is refused as stuck exactly where the store is.
 pub record AreTxnReplies (n : ℕ) (replies : List TxnReply) : Type 0 where
   pub reads : AreReadAsCommitted (nothing_seen n) replies
-  pub mended : All (λ reply. IsMendedAnswer reply.command reply.answer) replies
+  pub mended : All (λ reply. IsTxnMendedAnswer reply.command reply.answer) replies
   pub stuck : AreStuckAnswers None replies
 
 -- each session's replies do
 abbrev pub AreTxnsKept : Setup → Type 0
 AreTxnsKept setup =
     (replies : List TxnReply) (last : TxnState)
-    → IsSession setup replies last → AreTxnReplies (logged_lines setup.shape) replies
+    → IsTxnSession setup replies last → AreTxnReplies (logged_lines setup.shape) replies
 
 -- and each is stuck or spent only where a counter is used up
 abbrev pub AreTxnsSpent : Setup → Type 0
 AreTxnsSpent setup =
     (first last : TxnState) (replies : List TxnReply)
-    → IsNewTxn setup first → AreAnswered setup first replies last → AreSpentAsUsedUp setup first replies
+    → IsNewTxn setup first → AreTxnAnswered setup first replies last → AreTxnSpentAsUsedUp setup first replies

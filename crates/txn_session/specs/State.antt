@@ -49,37 +49,37 @@ pub record TxnState : Type 0 where
 -- ---- what it says
 
 -- the geometry, and a suite's formulas under the session's keys
-abbrev pub setup_in : (List ℕ → Formulas) → TxnState → Setup
-setup_in formulas_of state = record { shape = state.shape; formulas = formulas_of state.keys }
+abbrev pub txn_setup_in : (List ℕ → Formulas) → TxnState → Setup
+txn_setup_in formulas_of state = record { shape = state.shape; formulas = formulas_of state.keys }
 
 -- how many data lines there are
-abbrev pub lines_in : TxnState → ℕ
-lines_in state = logged_lines state.shape
+abbrev pub txn_lines_in : TxnState → ℕ
+txn_lines_in state = logged_lines state.shape
 
 -- what the marks say of counters and of pages under re-encryption
-abbrev pub view_in : TxnState → DeviceView
-view_in state = view_of state.shape state.marks
+abbrev pub txn_view_in : TxnState → DeviceView
+txn_view_in state = view_of state.shape state.marks
 
 -- the data lines and the log, as they were last sealed
-abbrev pub places_in : Setup → TxnState → Memory
-places_in setup state = plain_memory setup state.marks
+abbrev pub txn_places_in : Setup → TxnState → Memory
+txn_places_in setup state = plain_memory setup state.marks
 
 -- what a write of the engine finds
-abbrev pub moment_in : Setup → TxnState → Moment
-moment_in setup state = record { memory = places_in setup state; view = view_in state }
+abbrev pub txn_moment_in : Setup → TxnState → Moment
+txn_moment_in setup state = record { memory = txn_places_in setup state; view = txn_view_in state }
 
 -- ---- a transaction
 
 -- what a transaction holds for a data line
-abbrev pub line_in : Entries → ℕ → Option Line
-line_in [] a = None
-line_in (entry ∷ entries) a = if entry.0 == a then Some entry.1 else line_in entries a
+abbrev pub entry_in : Entries → ℕ → Option Line
+entry_in [] a = None
+entry_in (entry ∷ entries) a = if entry.0 == a then Some entry.1 else entry_in entries a
 
 -- a line is put in the place of an earlier one, or at the end
-abbrev pub with_line : Entries → ℕ → Line → Entries
-with_line [] a line = (a, line) ∷ []
-with_line (entry ∷ entries) a line =
-    if entry.0 == a then (a, line) ∷ entries else entry ∷ with_line entries a line
+abbrev pub with_put_line : Entries → ℕ → Line → Entries
+with_put_line [] a line = (a, line) ∷ []
+with_put_line (entry ∷ entries) a line =
+    if entry.0 == a then (a, line) ∷ entries else entry ∷ with_put_line entries a line
 
 -- ---- the writes of the engine, in order
 
@@ -107,8 +107,8 @@ redo_writes n (target ∷ targets) places =
 
 -- ---- the state after
 
-abbrev pub without_power : TxnState → TxnState
-without_power state = record state { stuck = None; txn = None; power = false; fuse = None }
+abbrev pub txn_without_power : TxnState → TxnState
+txn_without_power state = record state { stuck = None; txn = None; power = false; fuse = None }
 
 -- So many of a commit's writes were done. With the header, which comes after the bodies, the transaction is in
 -- memory and in force; with the last one it is in force no more.

@@ -28,8 +28,8 @@ targets_in_force setup places =
     let header = line_at places (logged_lines setup.shape) in targets_in header (slice_index header.0 0)
 
 -- the data lines with the bodies put into those
-abbrev pub logical_memory : Setup → Memory → Memory
-logical_memory setup places =
+abbrev pub redone_memory : Setup → Memory → Memory
+redone_memory setup places =
     memory_in (logged_lines setup.shape) (targets_in_force setup places) places
 
 -- ---- a state of its parts
@@ -53,7 +53,7 @@ txn_of setup parts =
     record {
       shape = setup.shape;
       keys = parts.keys;
-      memory = logical_memory setup places;
+      memory = redone_memory setup places;
       in_force = targets_in_force setup places;
       stuck = stuck_in parts.store;
       txn = parts.txn;
@@ -102,5 +102,5 @@ pub record IsTxnWorld (setup : Setup) (parts : TxnParts) : Type 0 where
   pub places : IsMemoryOf setup parts.ledger.marks (plain_memory setup parts.ledger.marks)
   pub logged :
       let memory = plain_memory setup parts.ledger.marks in
-      IsLogged (logged_lines setup.shape) memory (targets_in_force setup memory) (logical_memory setup memory)
+      IsLogged (logged_lines setup.shape) memory (targets_in_force setup memory) (redone_memory setup memory)
   pub chip : IsStoredBy setup parts parts.store

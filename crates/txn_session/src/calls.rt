@@ -15,13 +15,13 @@ ghost use Rattle.pmem_engine.specs.Outcomes.{LeavesTrusted, LeavesSound};
 ghost use Rattle.pmem_engine.specs.Calls.{IsUsable, HasReadLine};
 ghost use Rattle.pmem_recovery.specs.Parts.{suite_state};
 ghost use Rattle.start_gap.specs.Gapped.{HasLines};
-ghost use Rattle.line_txn.specs.Header.{AreBelow};
+ghost use Rattle.line_txn.specs.Header.{AreDistinctBelow};
 ghost use Rattle.line_txn.specs.Logged.{IsLogged, targets_of};
 ghost use Rattle.line_txn.specs.Edits.{IsWholeTxn};
 ghost use Rattle.line_txn.specs.Serving.{served_from};
-ghost use Rattle.line_txn.specs.Store.{HasCommitted, IsLeftLogged, IsSoundAnswer, IsSpentUndecided, IsServedAs, outcome_by};
+ghost use Rattle.line_txn.specs.Store.{HasStoreCommitted, IsLeftLogged, IsSoundCommitAnswer, IsSpentUndecided, IsServedAs, commit_outcome_by};
 ghost use Rattle.watched_board.specs.Watching.{IsWatched, device_during, none_taken};
-ghost use Rattle.txn_session.specs.During.{HasStarted};
+ghost use Rattle.txn_session.specs.During.{HasTxnStarted};
 
 use arrayvec::ArrayVec;
 use board::{Board, MemBoard};
@@ -131,12 +131,12 @@ pub(crate) fn commit<S: Suite>(
     ledger: &mut Ledger,
     txn: &ArrayVec<(u32, Line), 15>,
 ) -> Called<Result<Done, CommitFault>>
-    requires targets { AreBelow store.old.lines (targets_of txn.now.items) }
+    requires targets { AreDistinctBelow store.old.lines (targets_of txn.now.items) }
     requires free { store.old.stuck ≡ None }
     requires room { 2112 ≤ (ledger_of ledger.old).spare }
     requires on { (memory_of board.old).powered ≡ true }
     requires usable { IsUsable store.old.engine.shape store.old.engine (device_during (memory_of board.old) none_taken) (ledger_of ledger.old) }
-    ensures committed { HasCommitted (record { shape = store.old.engine.shape; formulas = S.formulas_of (S.keys suite.old) })
+    ensures committed { HasStoreCommitted (record { shape = store.old.engine.shape; formulas = S.formulas_of (S.keys suite.old) })
         txn.now.items store.old store.new
         (parts_of store.old.engine (device_during (memory_of board.old) none_taken) (ledger_of ledger.old) (S.tags suite.old) (S.digests suite.old))
         (parts_of store.new.engine (device_during (memory_of board.new) result.taken) (ledger_of ledger.new) (S.tags suite.new) (S.digests suite.new)) result.answer }
@@ -149,12 +149,12 @@ pub(crate) fn commit<S: Suite>(
         (parts_of store.new.engine (device_during (memory_of board.new) result.taken) (ledger_of ledger.new) (S.tags suite.new) (S.digests suite.new)) result.answer }
     ensures trusted { AreTrusted (record { shape = store.old.engine.shape; formulas = S.formulas_of (S.keys suite.old) })
         (parts_of store.old.engine (device_during (memory_of board.old) none_taken) (ledger_of ledger.old) (S.tags suite.old) (S.digests suite.old))
-        → LeavesTrusted (record { shape = store.old.engine.shape; formulas = S.formulas_of (S.keys suite.old) }) (outcome_by result.answer)
+        → LeavesTrusted (record { shape = store.old.engine.shape; formulas = S.formulas_of (S.keys suite.old) }) (commit_outcome_by result.answer)
         (parts_of store.new.engine (device_during (memory_of board.new) result.taken) (ledger_of ledger.new) (S.tags suite.new) (S.digests suite.new)) }
     ensures sound { AreSound (record { shape = store.old.engine.shape; formulas = S.formulas_of (S.keys suite.old) })
         (parts_of store.old.engine (device_during (memory_of board.old) none_taken) (ledger_of ledger.old) (S.tags suite.old) (S.digests suite.old))
-        → LeavesSound (record { shape = store.old.engine.shape; formulas = S.formulas_of (S.keys suite.old) }) (outcome_by result.answer)
-        (parts_of store.new.engine (device_during (memory_of board.new) result.taken) (ledger_of ledger.new) (S.tags suite.new) (S.digests suite.new)) × IsSoundAnswer result.answer }
+        → LeavesSound (record { shape = store.old.engine.shape; formulas = S.formulas_of (S.keys suite.old) }) (commit_outcome_by result.answer)
+        (parts_of store.new.engine (device_during (memory_of board.new) result.taken) (ledger_of ledger.new) (S.tags suite.new) (S.digests suite.new)) × IsSoundCommitAnswer result.answer }
     ensures spent { IsSpentUndecided result.answer }
     ensures whole { IsWholeTxn txn.now.items }
     ensures watched { IsWatched (memory_of board.old) (memory_of board.new) result.taken }
@@ -178,7 +178,7 @@ fn commit_watched<'a, K: Start, S: Suite>(
     ledger: &mut Ledger,
     txn: &ArrayVec<(u32, Line), 15>,
 ) -> Left<'a, Result<Done, CommitFault>>
-    requires targets { AreBelow store.old.lines (targets_of txn.now.items) }
+    requires targets { AreDistinctBelow store.old.lines (targets_of txn.now.items) }
     requires free { store.old.stuck ≡ None }
     requires room { 2112 ≤ (ledger_of ledger.old).spare }
     requires start { memory_of board.old ≡ K.start }
@@ -186,7 +186,7 @@ fn commit_watched<'a, K: Start, S: Suite>(
     requires on { (memory_of board.old).powered ≡ true }
     requires usable { IsUsable store.old.engine.shape store.old.engine (device_during (memory_of board.old) none_taken) (ledger_of ledger.old) }
     ensures name { result.board.ghost_name ≡ K.name }
-    ensures committed { HasCommitted (record { shape = store.old.engine.shape; formulas = S.formulas_of (S.keys suite.old) })
+    ensures committed { HasStoreCommitted (record { shape = store.old.engine.shape; formulas = S.formulas_of (S.keys suite.old) })
         txn.now.items store.old store.new
         (parts_of store.old.engine (device_during (memory_of board.old) none_taken) (ledger_of ledger.old) (S.tags suite.old) (S.digests suite.old))
         (parts_of store.new.engine (device_during (memory_of result.board.now) result.taken) (ledger_of ledger.new) (S.tags suite.new) (S.digests suite.new)) result.answer }
@@ -199,12 +199,12 @@ fn commit_watched<'a, K: Start, S: Suite>(
         (parts_of store.new.engine (device_during (memory_of result.board.now) result.taken) (ledger_of ledger.new) (S.tags suite.new) (S.digests suite.new)) result.answer }
     ensures trusted { AreTrusted (record { shape = store.old.engine.shape; formulas = S.formulas_of (S.keys suite.old) })
         (parts_of store.old.engine (device_during (memory_of board.old) none_taken) (ledger_of ledger.old) (S.tags suite.old) (S.digests suite.old))
-        → LeavesTrusted (record { shape = store.old.engine.shape; formulas = S.formulas_of (S.keys suite.old) }) (outcome_by result.answer)
+        → LeavesTrusted (record { shape = store.old.engine.shape; formulas = S.formulas_of (S.keys suite.old) }) (commit_outcome_by result.answer)
         (parts_of store.new.engine (device_during (memory_of result.board.now) result.taken) (ledger_of ledger.new) (S.tags suite.new) (S.digests suite.new)) }
     ensures sound { AreSound (record { shape = store.old.engine.shape; formulas = S.formulas_of (S.keys suite.old) })
         (parts_of store.old.engine (device_during (memory_of board.old) none_taken) (ledger_of ledger.old) (S.tags suite.old) (S.digests suite.old))
-        → LeavesSound (record { shape = store.old.engine.shape; formulas = S.formulas_of (S.keys suite.old) }) (outcome_by result.answer)
-        (parts_of store.new.engine (device_during (memory_of result.board.now) result.taken) (ledger_of ledger.new) (S.tags suite.new) (S.digests suite.new)) × IsSoundAnswer result.answer }
+        → LeavesSound (record { shape = store.old.engine.shape; formulas = S.formulas_of (S.keys suite.old) }) (commit_outcome_by result.answer)
+        (parts_of store.new.engine (device_during (memory_of result.board.now) result.taken) (ledger_of ledger.new) (S.tags suite.new) (S.digests suite.new)) × IsSoundCommitAnswer result.answer }
     ensures spent { IsSpentUndecided result.answer }
     ensures whole { IsWholeTxn txn.now.items }
     ensures watched { IsWatched K.start (memory_of result.board.now) result.taken }
@@ -231,7 +231,7 @@ pub(crate) fn start<S: Suite>(
     requires ledger { IsOfShape (shape_of geo.now) (ledger_of ledger.old) }
     requires room { 1056 ≤ (ledger_of ledger.old).spare }
     requires each_sealed { (a : ℕ) → a < data_lines (shape_of geo.now) → IsSome (last_seal (ledger_of ledger.old).marks a) }
-    ensures started { HasStarted (record { shape = shape_of geo.now; formulas = S.formulas_of (S.keys suite.old) })
+    ensures started { HasTxnStarted (record { shape = shape_of geo.now; formulas = S.formulas_of (S.keys suite.old) })
         (device_during (memory_of board.old) none_taken) (device_during (memory_of board.new) result.taken)
         (ledger_of ledger.old) (ledger_of ledger.new)
         (suite_state (S.keys suite.old) (S.pads suite.old) (S.tags suite.old) (S.digests suite.old))
@@ -266,7 +266,7 @@ fn start_watched<'a, K: Start, S: Suite>(
     requires room { 1056 ≤ (ledger_of ledger.old).spare }
     requires each_sealed { (a : ℕ) → a < data_lines (shape_of geo.now) → IsSome (last_seal (ledger_of ledger.old).marks a) }
     ensures name { result.board.ghost_name ≡ K.name }
-    ensures started { HasStarted (record { shape = shape_of geo.now; formulas = S.formulas_of (S.keys suite.old) })
+    ensures started { HasTxnStarted (record { shape = shape_of geo.now; formulas = S.formulas_of (S.keys suite.old) })
         (device_during (memory_of board.old) none_taken) (device_during (memory_of result.board.now) result.taken)
         (ledger_of ledger.old) (ledger_of ledger.new)
         (suite_state (S.keys suite.old) (S.pads suite.old) (S.tags suite.old) (S.digests suite.old))
@@ -294,7 +294,7 @@ fn recover_and_open<B: Board, S: Suite, A: Audit>(
     requires ledger { IsOfShape (shape_of geo.now) (A.ledger audit.old) }
     requires room { 1056 ≤ (A.ledger audit.old).spare }
     requires each_sealed { (a : ℕ) → a < data_lines (shape_of geo.now) → IsSome (last_seal (A.ledger audit.old).marks a) }
-    ensures started { HasStarted (record { shape = shape_of geo.now; formulas = S.formulas_of (S.keys suite.old) })
+    ensures started { HasTxnStarted (record { shape = shape_of geo.now; formulas = S.formulas_of (S.keys suite.old) })
         (B.device board.old) (B.device board.new)
         (A.ledger audit.old) (A.ledger audit.new)
         (suite_state (S.keys suite.old) (S.pads suite.old) (S.tags suite.old) (S.digests suite.old))

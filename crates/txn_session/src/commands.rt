@@ -1,7 +1,7 @@
 //! What a line asks of a memory that is written by transactions.
 ghost use Rattle.std.specs.Prelude.{◌≡◌};
 ghost use Rattle.collision_witness.specs.Words.{words_of};
-ghost use Rattle.txn_session.specs.Commands.{command_of, reading_of_txn};
+ghost use Rattle.txn_session.specs.Commands.{txn_command_of, reading_of_txn};
 
 use pmem_base::{Kind, Line};
 use trace_text::{first_word, has_no_word, read_one_number, read_poke};
@@ -28,9 +28,9 @@ pub enum TxnCommand {
 }
 
 /// The command that begins with a first word.
-#[tactic(auto, unfolding(crate::specs::Commands::command_of))]
+#[tactic(auto, unfolding(crate::specs::Commands::txn_command_of))]
 fn read_verb(verb: &[u8], text: &[u8]) -> Result<TxnCommand, Kind>
-    ensures { result ≡ command_of verb.now (words_of text.now) }
+    ensures { result ≡ txn_command_of verb.now (words_of text.now) }
 {
     if verb == b"begin".as_slice() {
         has_no_word(text)?;

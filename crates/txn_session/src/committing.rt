@@ -2,9 +2,9 @@
 ghost use Rattle.std.specs.Prelude.{◌≡◌, ◌<◌, ◌==◌, not, length, IfSome, IfOk, OnErr, true, false};
 ghost use Rattle.std.specs.List.{list_any, position_from};
 ghost use Rattle.txn_session.specs.declared.commands.TxnCommand.TheVariants as Do;
-ghost use Rattle.txn_session.specs.State.{setup_in, with_line};
+ghost use Rattle.txn_session.specs.State.{txn_setup_in, with_put_line};
 ghost use Rattle.wear_session.specs.Answered.{is_own_seal};
-ghost use Rattle.txn_session.specs.Answered.{IsAnswered, is_full, CanWantMemory};
+ghost use Rattle.txn_session.specs.Answered.{IsTxnAnswered, is_txn_full, IsTxnMemoryWanted};
 
 use crate::answers::TxnAnswer;
 use crate::calls;
@@ -48,8 +48,8 @@ fn place_in(txn: &[(u32, Line)], at: u32) -> Option<usize>
 
 /// Puts a line into a transaction, in the place of an earlier one where that is there. False where it is full.
 fn put_line(txn: &mut ArrayVec<(u32, Line), 15>, at: u32, line: &Line) -> bool
-    ensures put { result ≡ true → txn.new.items ≡ with_line txn.old.items at line.now }
-    ensures full { result ≡ not (is_full txn.old.items at) }
+    ensures put { result ≡ true → txn.new.items ≡ with_put_line txn.old.items at line.now }
+    ensures full { result ≡ not (is_txn_full txn.old.items at) }
     ensures left { result ≡ false → txn.new.items ≡ txn.old.items }
 {
     match place_in(txn, at) {
@@ -70,7 +70,7 @@ fn put_line(txn: &mut ArrayVec<(u32, Line), 15>, at: u32, line: &Line) -> bool
 impl<S: Suite + Drop> TxnWorld<S> {
     /// A transaction is opened.
     pub(crate) fn begin(&mut self) -> TxnAnswer
-        ensures { IsAnswered (setup_in S.formulas_of self.old) self.old Do.Begin result self.new }
+        ensures { IsTxnAnswered (txn_setup_in S.formulas_of self.old) self.old Do.Begin result self.new }
     {
         let Some(store) = &self.store else {
             return TxnAnswer::Off;
@@ -87,7 +87,7 @@ impl<S: Suite + Drop> TxnWorld<S> {
 
     /// A line is put into the open transaction.
     pub(crate) fn put(&mut self, at: u64, line: &Line) -> TxnAnswer
-        ensures { IsAnswered (setup_in S.formulas_of self.old) self.old (Do.Put at line.now) result self.new }
+        ensures { IsTxnAnswered (txn_setup_in S.formulas_of self.old) self.old (Do.Put at line.now) result self.new }
     {
         let Some(store) = &self.store else {
             return TxnAnswer::Off;
@@ -107,7 +107,7 @@ impl<S: Suite + Drop> TxnWorld<S> {
 
     /// The open transaction is dropped.
     pub(crate) fn abort(&mut self) -> TxnAnswer
-        ensures { IsAnswered (setup_in S.formulas_of self.old) self.old Do.Abort result self.new }
+        ensures { IsTxnAnswered (txn_setup_in S.formulas_of self.old) self.old Do.Abort result self.new }
     {
         if self.store.is_none() {
             return TxnAnswer::Off;
@@ -121,9 +121,9 @@ impl<S: Suite + Drop> TxnWorld<S> {
 
     /// The open transaction is written. The one error is want of memory.
     pub(crate) fn commit(&mut self) -> Result<TxnAnswer, MemFault>
-        ensures answered { IfOk result (λ answer. IsAnswered (setup_in S.formulas_of self.old) self.old Do.Commit answer self.new) }
+        ensures answered { IfOk result (λ answer. IsTxnAnswered (txn_setup_in S.formulas_of self.old) self.old Do.Commit answer self.new) }
         ensures err { OnErr result (self.new ≡ self.old) }
-        ensures wanting { OnErr result (CanWantMemory self.old Do.Commit) }
+        ensures wanting { OnErr result (IsTxnMemoryWanted self.old Do.Commit) }
     {
         let Some(store) = &mut self.store else {
             return Ok(TxnAnswer::Off);

@@ -1,8 +1,8 @@
 //! Power, and recovery.
 ghost use Rattle.std.specs.Prelude.{◌≡◌, IfOk, IfErr};
 ghost use Rattle.txn_session.specs.declared.commands.TxnCommand.TheVariants as Do;
-ghost use Rattle.txn_session.specs.State.{setup_in};
-ghost use Rattle.txn_session.specs.Answered.{IsAnswered, IsHalt};
+ghost use Rattle.txn_session.specs.State.{txn_setup_in};
+ghost use Rattle.txn_session.specs.Answered.{IsTxnAnswered, IsTxnHalt};
 
 use crate::answers::TxnAnswer;
 use crate::calls::{self, StartFault};
@@ -19,7 +19,7 @@ use trace_text::Halt;
 impl<S: Suite + Drop> TxnWorld<S> {
     /// Power is to be cut after `n` more persist steps.
     pub(crate) fn cut(&mut self, n: u64) -> TxnAnswer
-        ensures { IsAnswered (setup_in S.formulas_of self.old) self.old (Do.Cut n) result self.new }
+        ensures { IsTxnAnswered (txn_setup_in S.formulas_of self.old) self.old (Do.Cut n) result self.new }
     {
         self.board.arm(n);
         TxnAnswer::Ok
@@ -27,7 +27,7 @@ impl<S: Suite + Drop> TxnWorld<S> {
 
     /// Power goes off, and the open transaction is dropped.
     pub(crate) fn off(&mut self) -> TxnAnswer
-        ensures { IsAnswered (setup_in S.formulas_of self.old) self.old Do.Off result self.new }
+        ensures { IsTxnAnswered (txn_setup_in S.formulas_of self.old) self.old Do.Off result self.new }
     {
         if self.store.is_none() {
             return TxnAnswer::Off;
@@ -41,8 +41,8 @@ impl<S: Suite + Drop> TxnWorld<S> {
     /// Power comes on, with recovery, and the transaction in force is redone. It stops for want of memory, or at
     /// a twin.
     pub(crate) fn on(&mut self, alloc: Global) -> Result<TxnAnswer, Halt>
-        ensures answered { IfOk result (λ answer. IsAnswered (setup_in S.formulas_of self.old) self.old Do.On answer self.new) }
-        ensures halted { IfErr result (λ halt. IsHalt (setup_in S.formulas_of self.old) self.old Do.On halt self.new) }
+        ensures answered { IfOk result (λ answer. IsTxnAnswered (txn_setup_in S.formulas_of self.old) self.old Do.On answer self.new) }
+        ensures halted { IfErr result (λ halt. IsTxnHalt (txn_setup_in S.formulas_of self.old) self.old Do.On halt self.new) }
     {
         if self.store.is_some() {
             return Ok(TxnAnswer::Already);

@@ -1,8 +1,8 @@
 //! Reads.
 ghost use Rattle.std.specs.Prelude.{◌≡◌, [], option_map, unwrap_or};
 ghost use Rattle.txn_session.specs.declared.commands.TxnCommand.TheVariants as Do;
-ghost use Rattle.txn_session.specs.State.{setup_in, line_in};
-ghost use Rattle.txn_session.specs.Answered.{IsAnswered};
+ghost use Rattle.txn_session.specs.State.{txn_setup_in, entry_in};
+ghost use Rattle.txn_session.specs.Answered.{IsTxnAnswered};
 
 use crate::answers::TxnAnswer;
 use crate::calls;
@@ -14,7 +14,7 @@ use suite::Suite;
 
 /// The line that a transaction holds for a data line.
 fn line_put(txn: &[(u32, Line)], at: u32) -> Option<Line>
-    ensures { result ≡ line_in txn.now at }
+    ensures { result ≡ entry_in txn.now at }
 {
     for (target, line) in txn {
         if *target == at {
@@ -26,7 +26,7 @@ fn line_put(txn: &[(u32, Line)], at: u32) -> Option<Line>
 
 /// The line that the open transaction holds for a data line.
 fn line_held(txn: &Option<ArrayVec<(u32, Line), 15>>, at: u32) -> Option<Line>
-    ensures { result ≡ line_in (unwrap_or (option_map (λ entries. entries.items) txn.now) []) at }
+    ensures { result ≡ entry_in (unwrap_or (option_map (λ entries. entries.items) txn.now) []) at }
 {
     match txn {
         Some(entries) => line_put(entries, at),
@@ -37,7 +37,7 @@ fn line_held(txn: &Option<ArrayVec<(u32, Line), 15>>, at: u32) -> Option<Line>
 impl<S: Suite + Drop> TxnWorld<S> {
     /// A data line is read: as the open transaction has it, where that holds it.
     pub(crate) fn read(&mut self, at: u64) -> TxnAnswer
-        ensures { IsAnswered (setup_in S.formulas_of self.old) self.old (Do.Read at) result self.new }
+        ensures { IsTxnAnswered (txn_setup_in S.formulas_of self.old) self.old (Do.Read at) result self.new }
     {
         let Some(store) = &mut self.store else {
             return TxnAnswer::Off;

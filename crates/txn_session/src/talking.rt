@@ -1,7 +1,7 @@
 //! The session, line by line.
 ghost use Rattle.std.specs.Prelude.{◌≡◌, IfOk, IfErr};
-ghost use Rattle.txn_session.specs.State.{setup_in};
-ghost use Rattle.txn_session.specs.Answered.{IsAnswered, IsHalt};
+ghost use Rattle.txn_session.specs.State.{txn_setup_in};
+ghost use Rattle.txn_session.specs.Answered.{IsTxnAnswered, IsTxnHalt};
 
 use crate::answers::{TxnAnswer, write_txn_answer};
 use crate::commands::{TxnCommand, read_txn_command};
@@ -15,8 +15,8 @@ use trace_text::{Halt, TEXT_BYTES, Talk};
 impl<S: Suite + Drop> TxnWorld<S> {
     /// What a command answers.
     fn answer(&mut self, alloc: Global, command: &TxnCommand) -> Result<TxnAnswer, Halt>
-        ensures answered { IfOk result (λ answer. IsAnswered (setup_in S.formulas_of self.old) self.old command.now answer self.new) }
-        ensures halted { IfErr result (λ halt. IsHalt (setup_in S.formulas_of self.old) self.old command.now halt self.new) }
+        ensures answered { IfOk result (λ answer. IsTxnAnswered (txn_setup_in S.formulas_of self.old) self.old command.now answer self.new) }
+        ensures halted { IfErr result (λ halt. IsTxnHalt (txn_setup_in S.formulas_of self.old) self.old command.now halt self.new) }
     {
         match command {
             TxnCommand::Begin => Ok(self.begin()),
@@ -36,16 +36,16 @@ impl<S: Suite + Drop> TxnWorld<S> {
 
 impl<S: Suite + Drop> Talk for TxnWorld<S> {
     ghost use Rattle.txn_session.specs.Commands.{sort_of_txn};
-    ghost use Rattle.txn_session.specs.State.{setup_in};
-    ghost use Rattle.txn_session.specs.Answered.{IsTalkedOf, IsShownOf, IsStarvedOf};
+    ghost use Rattle.txn_session.specs.State.{txn_setup_in};
+    ghost use Rattle.txn_session.specs.Answered.{IsTxnTalkedOf, IsTxnShownOf, IsTxnStarvedOf};
 
     ghost sort_of = { sort_of_txn };
 
-    ghost answers = { λ old line text new. IsTalkedOf (setup_in S.formulas_of old) old line text new };
+    ghost answers = { λ old line text new. IsTxnTalkedOf (txn_setup_in S.formulas_of old) old line text new };
 
-    ghost shows = { λ old line exhibit. IsShownOf (setup_in S.formulas_of old) old line exhibit };
+    ghost shows = { λ old line exhibit. IsTxnShownOf (txn_setup_in S.formulas_of old) old line exhibit };
 
-    ghost wants_memory = { λ old line. IsStarvedOf old line };
+    ghost wants_memory = { λ old line. IsTxnStarvedOf old line };
 
     fn talk(
         &mut self,

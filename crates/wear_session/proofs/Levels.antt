@@ -11,13 +11,13 @@ use Rattle.start_gap.specs.declared.wear.Wear.{Wear}
 use Rattle.start_gap.specs.Wear.{place_of, first_wear}
 use Rattle.start_gap.specs.Logical.{IsLevelled}
 use Rattle.start_gap.specs.Gapped.{logical_lines}
-use Rattle.wear_session.specs.World.{wear_in, logical_memory}
+use Rattle.wear_session.specs.World.{wear_in, levelled_memory}
 
 module _ (setup : Setup) (lines memory : List Line) (wear : Wear) (it : IsLevelled (logical_lines setup.shape) lines wear memory) where
   pub wear_is : wear_in setup lines ≡ wear
   wear_is = ap (λ (found : Option Wear). unwrap_or found (first_wear (logical_lines setup.shape))) it.its_record
 
-  pub memory_held : logical_memory setup lines ≡ memory
+  pub memory_held : levelled_memory setup lines ≡ memory
   memory_held =
       let n = logical_lines setup.shape in
       let count : length (map at (range_with_len 0 n)) ≡ n = length-map-range_with_len at 0 n in
@@ -31,5 +31,5 @@ module _ (setup : Setup) (lines memory : List Line) (wear : Wear) (it : IsLevell
       at : ℕ → Line
       at a = line_at lines (place_of (logical_lines setup.shape) (wear_in setup lines) a)
 
-  pub levelled_is : IsLevelled (logical_lines setup.shape) lines (wear_in setup lines) (logical_memory setup lines)
+  pub levelled_is : IsLevelled (logical_lines setup.shape) lines (wear_in setup lines) (levelled_memory setup lines)
   levelled_is = subst₂ (λ w m. IsLevelled (logical_lines setup.shape) lines w m) (sym wear_is) (sym memory_held) it

@@ -42,7 +42,7 @@ use Rattle.start_gap.specs.declared.gapped.GapFault.TheVariants as Gap
 use Rattle.start_gap.specs.Wear.{first_wear}
 use Rattle.start_gap.specs.Record.{recorded}
 use Rattle.start_gap.specs.Logical.{IsLevelled}
-use Rattle.start_gap.specs.Gapped.{HasOpened, HasReadRecord, logical_lines}
+use Rattle.start_gap.specs.Gapped.{HasGappedOpened, HasReadRecord, logical_lines}
 use Rattle.start_gap.proofs.Levelled.{zero_levelled}
 use Rattle.start_gap.proofs.LevelledCalls.{least_lines}
 use Rattle.wear_session.specs.State.{IsNewWear}
@@ -92,7 +92,7 @@ pub record NewCall : Type 0 where
   pub digests_new : ℕ
   pub answer : Result Gapped GapFault
   pub opened :
-      HasOpened setup every (parts_of engine (device_of middle) ledger_middle tags digests)
+      HasGappedOpened setup every (parts_of engine (device_of middle) ledger_middle tags digests)
       (λ now. parts_of now (device_of board) ledger tags_new digests_new) answer
 
 module _ (c : NewCall) where
@@ -236,7 +236,7 @@ module _ (c : NewCall) where
   pub new_outcome : (answer : Result Gapped GapFault) → c.answer ≡ answer → IsGapped answer
   new_outcome answer is = subst IsGapped is (go c.answer c.opened)
     where
-      go : (answer : Result Gapped GapFault) → HasOpened c.setup c.every from to answer → IsGapped answer
+      go : (answer : Result Gapped GapFault) → HasGappedOpened c.setup c.every from to answer → IsGapped answer
       go (Ok gapped) it = (new_world gapped it.0 it.1, new_state gapped it.0 it.1)
       go (Err (Gap.Engine Fail.Cut)) it =
           absurd (true≢false (sym c.formatted.steady ∙ (it.1.done sound.trusted.not_down).gone.power.0))

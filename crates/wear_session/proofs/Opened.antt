@@ -28,24 +28,24 @@ use Rattle.pmem_recovery.specs.declared.faults.Work.{Work}
 use Rattle.pmem_recovery.specs.declared.faults.RecFault.{RecFault}
 use Rattle.pmem_recovery.specs.declared.faults.RecFault.TheVariants as Rec
 use Rattle.pmem_recovery.specs.Parts.{SuiteState}
-use Rattle.pmem_recovery.specs.Recovered.{HasRecovered, HasMended, most_steps}
+use Rattle.pmem_recovery.specs.Recovered.{HasRecovered, HasMended, most_recovery_steps}
 use Rattle.start_gap.specs.declared.wear.Wear.{Wear}
 use Rattle.start_gap.specs.declared.gapped.Gapped.{Gapped}
 use Rattle.start_gap.specs.declared.gapped.GapFault.{GapFault}
 use Rattle.start_gap.specs.declared.gapped.GapFault.TheVariants as Gap
 use Rattle.start_gap.specs.Record.{recorded}
 use Rattle.start_gap.specs.Logical.{IsLevelled}
-use Rattle.start_gap.specs.Gapped.{HasOpened, HasReadRecord, logical_lines}
+use Rattle.start_gap.specs.Gapped.{HasGappedOpened, HasReadRecord, logical_lines}
 use Rattle.watched_board.specs.Watching.{steps_in, device_during, none_taken, IsWatched}
 use Rattle.wear_session.specs.declared.calls.StartFault.{StartFault}
 use Rattle.wear_session.specs.declared.calls.StartFault.TheVariants as Start
 use Rattle.wear_session.specs.declared.commands.WearCommand.TheVariants as Do
 use Rattle.wear_session.specs.declared.answers.WearAnswer.{WearAnswer}
 use Rattle.wear_session.specs.declared.answers.WearAnswer.TheVariants as Say
-use Rattle.wear_session.specs.During.{HasStarted, HasOpenedAfter, started_as}
-use Rattle.wear_session.specs.State.{WearState, setup_in}
-use Rattle.wear_session.specs.World.{WearParts, IsWearWorld, IsLevelledOff, IsLevelledBy, wear_in, logical_memory, wear_of}
-use Rattle.wear_session.specs.Answered.{IsAnswered, IsShownBy, CanWantMemory, HasOpened as HasOpenedAs, decided, with_power, read_steps}
+use Rattle.wear_session.specs.During.{HasWearStarted, HasWearOpenedAfter, wear_started_as}
+use Rattle.wear_session.specs.State.{WearState, wear_setup_in}
+use Rattle.wear_session.specs.World.{WearParts, IsWearWorld, IsLevelledOff, IsLevelledBy, wear_in, levelled_memory, wear_of}
+use Rattle.wear_session.specs.Answered.{IsWearAnswered, IsWearShownBy, IsWearMemoryWanted, HasWearOpened as HasOpenedAs, wear_decided, with_power, read_steps}
 use Rattle.wear_session.proofs.Worlds.{at_most, fewer, goes_to, cut_off, on_after, off_after}
 use Rattle.wear_session.proofs.Seen.{setup_under, served, seen_from, held_under}
 use Rattle.wear_session.proofs.EngineWrites.{most_within, fewer_within, AreDone, read_line, read_done, read_cut}
@@ -86,30 +86,30 @@ module _ (c : OnCall) where
   watched : IsWatched lit c.board c.taken
   watched = subst (λ b. IsWatched b c.board c.taken) c.lit_is c.watched
 
-  started : HasStarted setup p.every from to p.ledger c.ledger c.suite_old c.suite_new c.answer
+  started : HasWearStarted setup p.every from to p.ledger c.ledger c.suite_old c.suite_new c.answer
   started =
-      subst (λ b. HasStarted setup p.every (device_during b none_taken) to p.ledger c.ledger c.suite_old c.suite_new c.answer) c.lit_is c.started
+      subst (λ b. HasWearStarted setup p.every (device_during b none_taken) to p.ledger c.ledger c.suite_old c.suite_new c.answer) c.lit_is c.started
 
   no_count : old.count ≡ 0
   no_count = ap (λ (g : Option Gapped). unwrap_or (option_map (λ (k : Gapped). k.count) g) 0) c.there
 
-  on_decided : decided old Do.On ≡ None
+  on_decided : wear_decided old Do.On ≡ None
   on_decided = ap (λ b. if b then Some Say.Already else None) off.unpowered
 
-  undecided : (answer : WearAnswer) (new : WearState) → HasOpenedAs old answer new → IsAnswered setup old Do.On answer new
+  undecided : (answer : WearAnswer) (new : WearState) → HasOpenedAs old answer new → IsWearAnswered setup old Do.On answer new
   undecided answer new it = served setup old new Do.On answer on_decided it
 
   -- ---- where no mark is made
 
   module _ (marks : c.ledger.marks ≡ p.ledger.marks) where
     levelled : IsLevelled (logical_lines c.geometry) (plain_memory setup c.ledger.marks) (wear_in setup (plain_memory setup c.ledger.marks))
-        (logical_memory setup (plain_memory setup c.ledger.marks))
+        (levelled_memory setup (plain_memory setup c.ledger.marks))
     levelled =
         subst (λ (m : List Mark). IsLevelled (logical_lines c.geometry) (plain_memory setup m) (wear_in setup (plain_memory setup m))
-        (logical_memory setup (plain_memory setup m))) (sym marks) c.world.levelled
+        (levelled_memory setup (plain_memory setup m))) (sym marks) c.world.levelled
 
-    same_memory : logical_memory setup (plain_memory setup c.ledger.marks) ≡ old.memory
-    same_memory = ap (λ (m : List Mark). logical_memory setup (plain_memory setup m)) marks
+    same_memory : levelled_memory setup (plain_memory setup c.ledger.marks) ≡ old.memory
+    same_memory = ap (λ (m : List Mark). levelled_memory setup (plain_memory setup m)) marks
 
     same_wear : wear_in setup (plain_memory setup c.ledger.marks) ≡ old.wear
     same_wear = ap (λ (m : List Mark). wear_in setup (plain_memory setup m)) marks
@@ -173,7 +173,7 @@ module _ (c : OnCall) where
 
   -- ---- recovery is done
 
-  few_recovery : most_steps setup lit.regs ≤ recovery_bound c.geometry
+  few_recovery : most_recovery_steps setup lit.regs ≤ recovery_bound c.geometry
   few_recovery = omega (arith, one_latch p.board.regs.group.items, c.world.few_armed)
 
   module _ (between : Device) (suite_between : SuiteState) (engine : EngineState) (work : Work)
@@ -201,7 +201,7 @@ module _ (c : OnCall) where
           loss = ap (λ (r : Regs). r.loss) it.regs;
           sound = sound_between;
           live = it.power.live refl;
-          takes = most_within from between (most_steps setup lit.regs) (recovery_bound c.geometry) few_recovery it.steps;
+          takes = most_within from between (most_recovery_steps setup lit.regs) (recovery_bound c.geometry) few_recovery it.steps;
         }
 
     record_inside : logical_lines c.geometry + 1 < layout.data_lines c.geometry
@@ -223,7 +223,7 @@ module _ (c : OnCall) where
   abbrev Exit : BoardMemory → Option Gapped → WearAnswer → Type 0
   Exit board gapped answer =
       IsWearWorld (setup_under c.formulas_of c.geometry c.keys) (left_under board gapped)
-      × IsAnswered (setup_in c.formulas_of c.now) c.now Do.On answer (wear_of (setup_under c.formulas_of c.geometry c.keys) (left_under board gapped))
+      × IsWearAnswered (wear_setup_in c.formulas_of c.now) c.now Do.On answer (wear_of (setup_under c.formulas_of c.geometry c.keys) (left_under board gapped))
 
   exit_of : (board : BoardMemory) (gapped : Option Gapped) (answer : WearAnswer) → IsWearWorld setup (left board gapped)
       → HasOpenedAs old answer (wear_of setup (left board gapped)) → Exit board gapped answer
@@ -249,7 +249,7 @@ module _ (c : OnCall) where
   Outcome (Err (Start.Opening (Gap.Engine Fail.Cut))) = Exit c.board None (Say.Cut (steps_in c.taken))
   Outcome (Err (Start.Recovery Rec.Memory)) = IsWearWorld setup (left rested None) × (wear_of setup (left rested None) ≡ old)
   Outcome (Err (Start.Recovery (Rec.Twin at major low high cipher tag))) =
-      IsWearWorld setup (left rested None) × IsShownBy setup old Do.On (Twin at major low high cipher tag)
+      IsWearWorld setup (left rested None) × IsWearShownBy setup old Do.On (Twin at major low high cipher tag)
   Outcome answer = ⊥
 
   -- ---- the record was read, or power was cut in the reading
@@ -294,7 +294,7 @@ module _ (c : OnCall) where
         (cut_seen marks cut.dark cut.loss cut.takes)
 
     by_opened : (opened : Result Gapped GapFault) → HasOpened setup p.every (parts_between between suite_between engine work it) parts_to opened
-        → Outcome (started_as opened)
+        → Outcome (wear_started_as opened)
     by_opened (Ok gapped) opened = opened_exit gapped opened.0 opened.1
     by_opened (Err (Gap.Engine Fail.Cut)) opened = read_cut_exit opened.0 opened.1
     by_opened (Err (Gap.Engine (Fail.Spent page))) opened = absurd opened.1.possible
@@ -334,7 +334,7 @@ module _ (c : OnCall) where
       let dark : c.board.powered ≡ false = it.power.off in
       exit_of c.board None (Say.Cut (steps_in c.taken)) (dark_world marks c.board dark durable few)
       (cut_seen marks dark loss
-      (fewer_within from to (most_steps setup lit.regs) most (let few = few_recovery in omega (arith, few)) it.steps))
+      (fewer_within from to (most_recovery_steps setup lit.regs) most (let few = few_recovery in omega (arith, few)) it.steps))
 
   -- nothing was done, for want of memory
   no_fuse_burnt : (fuse : Option ℕ) → option_map (λ n. n - 0) fuse ≡ fuse
@@ -394,7 +394,7 @@ module _ (c : OnCall) where
 
       go : (recovery : Result (EngineState × Work) RecFault)
           → HasRecovered setup p.ledger from started.between c.suite_old started.suite_between recovery
-          → HasOpenedAfter recovery setup p.every started.between to p.ledger c.ledger started.suite_between c.suite_new c.answer
+          → HasWearOpenedAfter recovery setup p.every started.between to p.ledger c.ledger started.suite_between c.suite_new c.answer
           → Outcome c.answer
       go (Ok done) it later =
           subst Outcome (sym later.2) (by_opened started.between started.suite_between done.0 done.1 it later.0 later.1)
@@ -418,9 +418,9 @@ module _ (c : OnCall) where
   open_exit gapped is =
       said_as c.board (Some gapped) (λ k. Say.Opened gapped.wear.start gapped.wear.gap k) (outcome_as (Ok gapped) is)
 
-  -- the answer wasn't decided, so memory may be wanted for it
-  pub wanted_on : CanWantMemory c.now Do.On
-  wanted_on = subst (λ (w : WearState). CanWantMemory w Do.On) c.is (refl, on_decided)
+  -- the answer wasn't wear_decided, so memory may be wanted for it
+  pub wanted_on : IsWearMemoryWanted c.now Do.On
+  wanted_on = subst (λ (w : WearState). IsWearMemoryWanted w Do.On) c.is (refl, on_decided)
 
   -- no levelled lines are there, as before
   dark_exit : (board : BoardMemory) (answer : WearAnswer) → Exit board None answer → Exit board p.gapped answer
@@ -451,11 +451,11 @@ module _ (c : OnCall) where
 
     pub twin_exit : (at major low high : ℕ) (cipher : Line) (tag : List ℕ) → c.answer ≡ Err (Start.Recovery (Rec.Twin at major low high cipher tag))
         → IsWearWorld (setup_under c.formulas_of c.geometry c.keys) (left_under board p.gapped)
-        × IsShownBy (setup_in c.formulas_of c.now) c.now Do.On (Twin at major low high cipher tag)
+        × IsWearShownBy (wear_setup_in c.formulas_of c.now) c.now Do.On (Twin at major low high cipher tag)
     twin_exit at major low high cipher tag is =
         let it = outcome_as (Err (Start.Recovery (Rec.Twin at major low high cipher tag))) is in (
           held_rested it.0,
-          subst (λ (w : WearState). IsShownBy (setup_in c.formulas_of w) w Do.On (Twin at major low high cipher tag)) c.is it.1,
+          subst (λ (w : WearState). IsWearShownBy (wear_setup_in c.formulas_of w) w Do.On (Twin at major low high cipher tag)) c.is it.1,
         )
 
   -- no other answer comes

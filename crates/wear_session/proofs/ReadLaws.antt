@@ -23,8 +23,8 @@ use Rattle.start_gap.specs.Logical.{IsLevelled}
 use Rattle.start_gap.proofs.Places.{places}
 use Rattle.watched_board.specs.declared.taken.Taken.{Taken}
 use Rattle.watched_board.specs.Watching.{steps_in, step_limit, device_during, none_taken, IsWatched}
-use Rattle.wear_session.specs.World.{WearParts, IsWearWorld, IsLevelledOn, IsLevelledBy, wear_in, logical_memory, wear_of}
-use Rattle.wear_session.specs.Answered.{HasRead, read_steps}
+use Rattle.wear_session.specs.World.{WearParts, IsWearWorld, IsLevelledOn, IsLevelledBy, wear_in, levelled_memory, wear_of}
+use Rattle.wear_session.specs.Answered.{HasWearRead, read_steps}
 use Rattle.wear_session.specs.declared.answers.WearAnswer.TheVariants as Say
 use Rattle.wear_session.proofs.Worlds.{at_most, fewer, goes_to, cut_off, on_after, off_after}
 
@@ -59,10 +59,10 @@ module _ (setup : Setup) (p : WearParts) (gapped after : Gapped) (board : BoardM
 
   levelled_after : ledger.marks ≡ p.ledger.marks
       → IsLevelled (logical_lines setup.shape) (plain_memory setup ledger.marks) (wear_in setup (plain_memory setup ledger.marks))
-      (logical_memory setup (plain_memory setup ledger.marks))
+      (levelled_memory setup (plain_memory setup ledger.marks))
   levelled_after marks =
       subst (λ (m : List Mark). IsLevelled (logical_lines setup.shape) (plain_memory setup m) (wear_in setup (plain_memory setup m))
-      (logical_memory setup (plain_memory setup m))) (sym marks) world.levelled
+      (levelled_memory setup (plain_memory setup m))) (sym marks) world.levelled
 
   its_wear : ledger.marks ≡ p.ledger.marks → after.wear ≡ wear_in setup (plain_memory setup ledger.marks)
   its_wear marks = wear.its_wear ∙ on.its_wear ∙ ap (λ (m : List Mark). wear_in setup (plain_memory setup m)) (sym marks)
@@ -87,7 +87,7 @@ module _ (setup : Setup) (p : WearParts) (gapped after : Gapped) (board : BoardM
         on_after setup p board ledger world (levelled_after marks) after powered (done.gone.sound on.sound) (wear.its_every ∙ on.its_every)
         (its_wear marks)
 
-    shown : line ≡ line_at (logical_memory setup (plain_memory setup p.ledger.marks)) a
+    shown : line ≡ line_at (levelled_memory setup (plain_memory setup p.ledger.marks)) a
     shown =
         let n = lines_are setup p gapped on in
         let inside : a < logical_lines setup.shape = omega (arith, n, within) in
@@ -100,7 +100,7 @@ module _ (setup : Setup) (p : WearParts) (gapped after : Gapped) (board : BoardM
         same_Some line _ (sym (it.answered on.running on.sound.trusted).0 ∙ world.places.each (place_of gapped.lines gapped.wear a) place_within)
         ∙ ap (line_at (plain_memory setup p.ledger.marks)) at ∙ world.levelled.holds.each a inside
 
-    pub read_done : HasRead (wear_of setup p) a (Say.Got line (steps_in taken)) (wear_of setup left_on)
+    pub read_done : HasWearRead (wear_of setup p) a (Say.Got line (steps_in taken)) (wear_of setup left_on)
     read_done = (
       shown,
       goes_to setup p left_on taken watched (wear_of setup p) (read_steps setup.shape) powered
@@ -109,7 +109,7 @@ module _ (setup : Setup) (p : WearParts) (gapped after : Gapped) (board : BoardM
             shape = refl;
             keys = refl;
             every = refl;
-            memory = ap (λ (m : List Mark). logical_memory setup (plain_memory setup m)) marks;
+            memory = ap (λ (m : List Mark). levelled_memory setup (plain_memory setup m)) marks;
             wear = ap (λ (m : List Mark). wear_in setup (plain_memory setup m)) marks;
             count = wear.its_count ∙ sym (ap (λ (g : Option Gapped). unwrap_or (option_map (λ (k : Gapped). k.count) g) 0) there);
             power = powered ∙ sym on.powered;
@@ -135,7 +135,7 @@ module _ (setup : Setup) (p : WearParts) (gapped after : Gapped) (board : BoardM
         off_after setup p board ledger world (levelled_after cut_marks) off (cut_done.gone.sound on.sound)
         (cut_done.gone.small_group on.sound.trusted.no_group)
 
-    pub read_cut : path_length setup.shape ≤ step_limit → HasRead (wear_of setup p) a (Say.Cut (steps_in taken)) (wear_of setup left_off)
+    pub read_cut : path_length setup.shape ≤ step_limit → HasWearRead (wear_of setup p) a (Say.Cut (steps_in taken)) (wear_of setup left_off)
     read_cut small =
         cut_off setup p left_off taken watched (wear_of setup p) (read_steps setup.shape) off
         (fewer p.board board taken (path_length setup.shape) watched.follows.few ((it.steps_of_path on.running).1 on.powered)) small
@@ -143,7 +143,7 @@ module _ (setup : Setup) (p : WearParts) (gapped after : Gapped) (board : BoardM
           shape = refl;
           keys = refl;
           every = refl;
-          memory = ap (λ (m : List Mark). logical_memory setup (plain_memory setup m)) cut_marks;
+          memory = ap (λ (m : List Mark). levelled_memory setup (plain_memory setup m)) cut_marks;
           wear = ap (λ (m : List Mark). wear_in setup (plain_memory setup m)) cut_marks;
           count = refl;
           power = off;

@@ -21,21 +21,21 @@ use Rattle.wear_session.specs.declared.commands.WearCommand.{WearCommand}
 use Rattle.wear_session.specs.declared.commands.WearCommand.TheVariants as Do
 use Rattle.wear_session.specs.declared.answers.WearAnswer.{WearAnswer}
 use Rattle.wear_session.specs.declared.answers.WearAnswer.TheVariants as Say
-use Rattle.wear_session.specs.State.{WearState, setup_in, lines_in}
+use Rattle.wear_session.specs.State.{WearState, wear_setup_in, wear_lines_in}
 use Rattle.wear_session.specs.World.{WearParts, IsWearWorld, wear_of}
-use Rattle.wear_session.specs.Answered.{of_line, decided, IsServed, IsAnswered, IsAnsweredAs}
+use Rattle.wear_session.specs.Answered.{wear_of_line, wear_decided, IsWearServed, IsWearAnswered, IsWearAnsweredAs}
 use Rattle.wear_session.proofs.ReadLaws.{on_in, lines_are, read_world, read_done, cut_world, read_cut}
 
 -- with power on and a line that there is, the inner answer holds
-pub of_line_is : (state : WearState) (a : ℕ) (answer : Option WearAnswer) → state.power ≡ true → a < lines_in state → of_line state a answer ≡ answer
+pub of_line_is : (state : WearState) (a : ℕ) (answer : Option WearAnswer) → state.power ≡ true → a < wear_lines_in state → wear_of_line state a answer ≡ answer
 of_line_is state a answer lit low =
-    ap (λ b. if b then (if nat_lt a (lines_in state) then answer else Some Say.Range) else Some Say.Off) lit
-    ∙ ap (λ b. if b then answer else Some Say.Range) (lt-ltb a (lines_in state) low)
+    ap (λ b. if b then (if nat_lt a (wear_lines_in state) then answer else Some Say.Range) else Some Say.Off) lit
+    ∙ ap (λ b. if b then answer else Some Say.Range) (lt-ltb a (wear_lines_in state) low)
 
 -- where the state decides nothing, the engine does
-pub served : (setup : Setup) (old new : WearState) (command : WearCommand) (answer : WearAnswer) → decided old command ≡ None
-    → IsServed setup old command answer new → IsAnswered setup old command answer new
-served setup old new command answer none it = subst (λ d. IsAnsweredAs d setup old command answer new) (sym none) it
+pub served : (setup : Setup) (old new : WearState) (command : WearCommand) (answer : WearAnswer) → wear_decided old command ≡ None
+    → IsWearServed setup old command answer new → IsWearAnswered setup old command answer new
+served setup old new command answer none it = subst (λ d. IsWearAnsweredAs d setup old command answer new) (sym none) it
 
 -- the geometry, and the formulas under keys
 abbrev pub setup_under : (List ℕ → Formulas) → Shape → List ℕ → Setup
@@ -44,13 +44,13 @@ setup_under formulas_of g keys = record { shape = g; formulas = formulas_of keys
 -- an answer, as a contract writes it; the suite's keys stay
 pub seen_from : (formulas_of : List ℕ → Formulas) (g : Shape) (p q : WearParts) (now : WearState) (keys : List ℕ) (command : WearCommand) (answer : WearAnswer)
     → wear_of (setup_under formulas_of g p.keys) p ≡ now → keys ≡ p.keys → q.keys ≡ p.keys
-    → IsAnswered (setup_under formulas_of g p.keys) (wear_of (setup_under formulas_of g p.keys) p) command answer (wear_of (setup_under formulas_of g p.keys) q)
-    → IsAnswered (setup_in formulas_of now) now command answer (wear_of (setup_under formulas_of g keys) (record q { keys = keys }))
+    → IsWearAnswered (setup_under formulas_of g p.keys) (wear_of (setup_under formulas_of g p.keys) p) command answer (wear_of (setup_under formulas_of g p.keys) q)
+    → IsWearAnswered (wear_setup_in formulas_of now) now command answer (wear_of (setup_under formulas_of g keys) (record q { keys = keys }))
 seen_from formulas_of g p q now keys command answer is same its it =
-    subst (λ (w : WearState). IsAnswered (setup_in formulas_of w) w command answer (wear_of (setup_under formulas_of g keys) (record q { keys = keys }))) is
-    (subst (λ (k : List ℕ). IsAnswered (setup_under formulas_of g p.keys) (wear_of (setup_under formulas_of g p.keys) p) command answer
+    subst (λ (w : WearState). IsWearAnswered (wear_setup_in formulas_of w) w command answer (wear_of (setup_under formulas_of g keys) (record q { keys = keys }))) is
+    (subst (λ (k : List ℕ). IsWearAnswered (setup_under formulas_of g p.keys) (wear_of (setup_under formulas_of g p.keys) p) command answer
     (wear_of (setup_under formulas_of g k) (record q { keys = k }))) (sym same)
-    (subst (λ (k : List ℕ). IsAnswered (setup_under formulas_of g p.keys) (wear_of (setup_under formulas_of g p.keys) p) command answer
+    (subst (λ (k : List ℕ). IsWearAnswered (setup_under formulas_of g p.keys) (wear_of (setup_under formulas_of g p.keys) p) command answer
     (wear_of (setup_under formulas_of g p.keys) (record q { keys = k }))) its it))
 
 pub held_under : (formulas_of : List ℕ → Formulas) (g : Shape) (p q : WearParts) (keys : List ℕ) → keys ≡ p.keys
@@ -115,7 +115,7 @@ module _ (c : ReadCall) where
       (parts_of c.gapped.engine (device_during c.parts.board none_taken) c.parts.ledger c.tags c.digests)
       (parts_of c.after.engine (device_during c.board c.taken) c.ledger c.tags_new c.digests_new) c.answer) on.its_shape c.was_read)
 
-  undecided : of_line (wear_of setup c.parts) c.at None ≡ None
+  undecided : wear_of_line (wear_of setup c.parts) c.at None ≡ None
   undecided =
       let on = on_in setup c.parts c.gapped c.world c.there in
       let n = lines_are setup c.parts c.gapped on in
@@ -129,10 +129,10 @@ module _ (c : ReadCall) where
       c.wear c.watched line (read_as (Ok line) is))
 
   pub got_seen : (line : Line) → c.answer ≡ Ok line
-      → IsAnswered (setup_in c.formulas_of c.now) c.now (Do.Read c.at) (Say.Got line c.said)
+      → IsWearAnswered (wear_setup_in c.formulas_of c.now) c.now (Do.Read c.at) (Say.Got line c.said)
       (wear_of (setup_under c.formulas_of c.geometry c.keys) (left_under (Some c.after)))
   got_seen line is =
-      subst (λ (n : ℕ). IsAnswered (setup_in c.formulas_of c.now) c.now (Do.Read c.at) (Say.Got line n)
+      subst (λ (n : ℕ). IsWearAnswered (wear_setup_in c.formulas_of c.now) c.now (Do.Read c.at) (Say.Got line n)
       (wear_of (setup_under c.formulas_of c.geometry c.keys) (left_under (Some c.after)))) (sym c.counted)
       (seen_from c.formulas_of c.geometry c.parts (left (Some c.after)) c.now c.keys (Do.Read c.at) (Say.Got line (steps_in c.taken)) c.is c.same_keys refl
       (served setup (wear_of setup c.parts) (wear_of setup (left (Some c.after))) (Do.Read c.at) (Say.Got line (steps_in c.taken)) undecided
@@ -146,11 +146,11 @@ module _ (c : ReadCall) where
       c.wear c.watched (read_as (Err Fail.Cut) is))
 
   pub cut_seen : c.answer ≡ Err Fail.Cut
-      → IsAnswered (setup_in c.formulas_of c.now) c.now (Do.Read c.at) (Say.Cut c.said)
+      → IsWearAnswered (wear_setup_in c.formulas_of c.now) c.now (Do.Read c.at) (Say.Cut c.said)
       (wear_of (setup_under c.formulas_of c.geometry c.keys) (left_under None))
   cut_seen is =
       let levels = c.world.whole_shape.at_most_six_levels in
-      subst (λ (n : ℕ). IsAnswered (setup_in c.formulas_of c.now) c.now (Do.Read c.at) (Say.Cut n)
+      subst (λ (n : ℕ). IsWearAnswered (wear_setup_in c.formulas_of c.now) c.now (Do.Read c.at) (Say.Cut n)
       (wear_of (setup_under c.formulas_of c.geometry c.keys) (left_under None))) (sym c.counted)
       (seen_from c.formulas_of c.geometry c.parts (left None) c.now c.keys (Do.Read c.at) (Say.Cut (steps_in c.taken)) c.is c.same_keys refl
       (served setup (wear_of setup c.parts) (wear_of setup (left None)) (Do.Read c.at) (Say.Cut (steps_in c.taken)) undecided

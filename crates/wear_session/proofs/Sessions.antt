@@ -18,11 +18,11 @@ use Rattle.wear_session.specs.declared.commands.WearCommand.{WearCommand}
 use Rattle.wear_session.specs.declared.commands.WearCommand.TheVariants as Do
 use Rattle.wear_session.specs.declared.answers.WearAnswer.{WearAnswer}
 use Rattle.wear_session.specs.declared.answers.WearAnswer.TheVariants as Say
-use Rattle.wear_session.specs.State.{WearState, lines_in, places_in, place_in, is_due, moment_in, moving_writes, own_write, engine_writes}
-use Rattle.wear_session.specs.Answered.{GoesTo, IsCutOff, Writing, IsWriting, HasWritten, HasRead, HasOpened, EndsWriting, IsAnswered, IsAnsweredAs, after_writing}
+use Rattle.wear_session.specs.State.{WearState, wear_lines_in, wear_places_in, place_in, is_due, wear_moment_in, moving_writes, own_write, engine_writes}
+use Rattle.wear_session.specs.Answered.{GoesToWearState, IsWearCutOff, Writing, IsWriting, HasWearWritten, HasWearRead, HasWearOpened, EndsWriting, IsWearAnswered, IsWearAnsweredAs, after_writing}
 use Rattle.wear_session.proofs.Turns.{IsCounted, counted_by}
 use Rattle.wear_session.proofs.WriteLaws.{some_of, with_writes_is}
-use Rattle.wear_session.specs.Guarantees.{WearReply, AreAnswered, memory_with_reply, IsReadOf, AreReadAsWritten, Turning, is_turn, wear_turned, TurnsTo, AreTurned, no_turning, IsMendedAnswer, IsSpentAnswer, AreSpentAsUsedUp, IsWearKept, IsWearSpent}
+use Rattle.wear_session.specs.Guarantees.{WearReply, AreWearAnswered, memory_with_reply, IsWearReadOf, AreReadAsWritten, Turning, is_turn, wear_turned, TurnsTo, AreTurned, no_turning, IsWearMendedAnswer, IsWearSpentAnswer, AreWearSpentAsUsedUp, IsWearKept, IsWearSpent}
 
 -- ---- one answer
 
@@ -36,12 +36,12 @@ Counts state w = state.power ≡ true → state.count ≡ w % state.every
 record IsStep (first next : WearState) (w : ℕ) (command : WearCommand) (answer : WearAnswer) : Type 0 where
   shape : next.shape ≡ first.shape
   its_every : next.every ≡ first.every
-  read : IsReadOf first.memory command answer
+  read : IsWearReadOf first.memory command answer
   memory : next.memory ≡ memory_with_reply first.memory command answer
   after : ℕ
-  turns : TurnsTo (lines_in first) first.every (turning_of first w) command answer (turning_of next after)
+  turns : TurnsTo (wear_lines_in first) first.every (turning_of first w) command answer (turning_of next after)
   count : Counts next after
-  mended : IsMendedAnswer command answer
+  mended : IsWearMendedAnswer command answer
 
 -- nothing changes that the answers tell
 record IsStill (first next : WearState) : Type 0 where
@@ -56,7 +56,7 @@ still_same first next is =
     subst (λ (s : WearState). IsStill first s) (sym is)
     (record { shape = refl; its_every = refl; memory = refl; wear = refl; count = λ lit. (lit, refl) })
 
-still_cut : (expected first next : WearState) (steps most : ℕ) → IsStill first expected → IsCutOff expected steps most first next → IsStill first next
+still_cut : (expected first next : WearState) (steps most : ℕ) → IsStill first expected → IsWearCutOff expected steps most first next → IsStill first next
 still_cut expected first next steps most same cut =
     let it = cut.becomes in
     record {
@@ -72,10 +72,10 @@ still_counts first next w counts same lit =
     let had = same.count lit in had.1 ∙ counts had.0 ∙ ap (λ e. w % e) (sym same.its_every)
 
 -- an answer by which nothing of that changes
-still_step : (first next : WearState) (w : ℕ) (command : WearCommand) (answer : WearAnswer) → IsReadOf first.memory command answer
+still_step : (first next : WearState) (w : ℕ) (command : WearCommand) (answer : WearAnswer) → IsWearReadOf first.memory command answer
     → memory_with_reply first.memory command answer ≡ first.memory
-    → ((new : Turning) → (new.wear ≡ first.wear) × (new.written ≡ w) → TurnsTo (lines_in first) first.every (turning_of first w) command answer new)
-    → IsMendedAnswer command answer → Counts first w → IsStill first next → IsStep first next w command answer
+    → ((new : Turning) → (new.wear ≡ first.wear) × (new.written ≡ w) → TurnsTo (wear_lines_in first) first.every (turning_of first w) command answer new)
+    → IsWearMendedAnswer command answer → Counts first w → IsStill first next → IsStep first next w command answer
 still_step first next w command answer read memory turns mended counts same =
     record {
       shape = same.shape;
@@ -89,10 +89,10 @@ still_step first next w command answer read memory turns mended counts same =
     }
 
 -- an answer by which power goes off, and nothing else of that changes
-dark_step : (first next : WearState) (w : ℕ) (command : WearCommand) (answer : WearAnswer) → IsReadOf first.memory command answer
+dark_step : (first next : WearState) (w : ℕ) (command : WearCommand) (answer : WearAnswer) → IsWearReadOf first.memory command answer
     → memory_with_reply first.memory command answer ≡ first.memory
-    → ((new : Turning) → (new.wear ≡ first.wear) × (new.written ≡ 0) → TurnsTo (lines_in first) first.every (turning_of first w) command answer new)
-    → IsMendedAnswer command answer → next.power ≡ false → IsStill first next → IsStep first next w command answer
+    → ((new : Turning) → (new.wear ≡ first.wear) × (new.written ≡ 0) → TurnsTo (wear_lines_in first) first.every (turning_of first w) command answer new)
+    → IsWearMendedAnswer command answer → next.power ≡ false → IsStill first next → IsStep first next w command answer
 dark_step first next w command answer read memory turns mended dark same =
     record {
       shape = same.shape;
@@ -112,13 +112,13 @@ record IsLeft (first next : WearState) (a : ℕ) (plain : Line) (k : ℕ) : Type
   shape : next.shape ≡ first.shape
   its_every : next.every ≡ first.every
   memory : next.memory ≡ cond (k == 0) first.memory (slice_set first.memory a plain)
-  wear : next.wear ≡ cond (k == 0) first.wear (cond (k == 3) (next_wear (lines_in first) first.wear) first.wear)
+  wear : next.wear ≡ cond (k == 0) first.wear (cond (k == 3) (next_wear (wear_lines_in first) first.wear) first.wear)
   count :
       next.power ≡ true
       → (first.power ≡ true) × (next.count ≡ cond (k == 0) first.count (cond (is_due first) 0 (first.count + 1)))
 
 left_going : (first next : WearState) (a : ℕ) (plain : Line) (writing : Writing) (steps most : ℕ)
-    → GoesTo (after_writing first a plain writing) steps most first next → IsLeft first next a plain writing.done
+    → GoesToWearState (after_writing first a plain writing) steps most first next → IsLeft first next a plain writing.done
 left_going first next a plain writing steps most goes =
     let it = goes.becomes in
     let is = with_writes_is first a plain writing.done in
@@ -131,7 +131,7 @@ left_going first next a plain writing steps most goes =
     }
 
 left_cut : (first next : WearState) (a : ℕ) (plain : Line) (writing : Writing) (steps most : ℕ)
-    → IsCutOff (after_writing first a plain writing) steps most first next → IsLeft first next a plain writing.done
+    → IsWearCutOff (after_writing first a plain writing) steps most first next → IsLeft first next a plain writing.done
 left_cut first next a plain writing steps most cut =
     let it = cut.becomes in
     let is = with_writes_is first a plain writing.done in
@@ -163,7 +163,7 @@ module _ (setup : Setup) (first next : WearState) (w a : ℕ) (plain : Line) (so
   writes_long due is = long (is_due first) is
     where
       long : (d : Bool) → d ≡ due
-          → length (own_write first a plain ∷ (if d then moving_writes (lines_in first) first.wear (memory_with (places_in setup first) (own_write first a plain)) else []))
+          → length (own_write first a plain ∷ (if d then moving_writes (wear_lines_in first) first.wear (memory_with (wear_places_in setup first) (own_write first a plain)) else []))
           ≡ (if due then 3 else 1)
       long true e = ap (λ b. if b then 3 else 1) e
       long false e = ap (λ b. if b then 3 else 1) e
@@ -171,8 +171,8 @@ module _ (setup : Setup) (first next : WearState) (w a : ℕ) (plain : Line) (so
   -- the line is written
   written_step : (k : ℕ) (answer : WearAnswer) → 0 < k → IsLeft first next a plain k
       → memory_with_reply first.memory (Do.Write a plain) answer ≡ slice_set first.memory a plain
-      → IsReadOf first.memory (Do.Write a plain) answer → IsMendedAnswer (Do.Write a plain) answer
-      → TurnsTo (lines_in first) first.every (turning_of first w) (Do.Write a plain) answer (turning_of next (w + 1))
+      → IsWearReadOf first.memory (Do.Write a plain) answer → IsWearMendedAnswer (Do.Write a plain) answer
+      → TurnsTo (wear_lines_in first) first.every (turning_of first w) (Do.Write a plain) answer (turning_of next (w + 1))
       → IsStep first next w (Do.Write a plain) answer
   written_step k answer done left memory read mended turns =
       record {
@@ -191,25 +191,25 @@ module _ (setup : Setup) (first next : WearState) (w a : ℕ) (plain : Line) (so
 
   -- the wear after so many
   wear_left : (k : ℕ) → 0 < k → IsLeft first next a plain k
-      → next.wear ≡ cond (k == 3) (next_wear (lines_in first) first.wear) first.wear
-  wear_left k done left = left.wear ∙ some_of k first.wear (cond (k == 3) (next_wear (lines_in first) first.wear) first.wear) done
+      → next.wear ≡ cond (k == 3) (next_wear (wear_lines_in first) first.wear) first.wear
+  wear_left k done left = left.wear ∙ some_of k first.wear (cond (k == 3) (next_wear (wear_lines_in first) first.wear) first.wear) done
 
   wear_kept : (k : ℕ) → 0 < k → k ≢ 3 → IsLeft first next a plain k → next.wear ≡ first.wear
   wear_kept k done other left =
-      wear_left k done left ∙ ap (λ b. cond b (next_wear (lines_in first) first.wear) first.wear) (ne_eqb k 3 other)
+      wear_left k done left ∙ ap (λ b. cond b (next_wear (wear_lines_in first) first.wear) first.wear) (ne_eqb k 3 other)
 
   wear_moved : (k : ℕ) → k ≡ 3 → is_due first ≡ true → IsLeft first next a plain k
-      → next.wear ≡ wear_turned (lines_in first) first.every (turning_of first w)
+      → next.wear ≡ wear_turned (wear_lines_in first) first.every (turning_of first w)
   wear_moved k all due left =
       wear_left k (omega (arith, all)) left
-      ∙ ap (λ b. cond b (next_wear (lines_in first) first.wear) first.wear) (eq-eqb k 3 all)
-      ∙ sym (ap (λ b. if b then next_wear (lines_in first) first.wear else first.wear) (its_turn ∙ due))
+      ∙ ap (λ b. cond b (next_wear (wear_lines_in first) first.wear) first.wear) (eq-eqb k 3 all)
+      ∙ sym (ap (λ b. if b then next_wear (wear_lines_in first) first.wear else first.wear) (its_turn ∙ due))
 
   wear_unturned : (k : ℕ) → 0 < k → k ≢ 3 → is_due first ≡ false → IsLeft first next a plain k
-      → next.wear ≡ wear_turned (lines_in first) first.every (turning_of first w)
+      → next.wear ≡ wear_turned (wear_lines_in first) first.every (turning_of first w)
   wear_unturned k done other early left =
       wear_kept k done other left
-      ∙ sym (ap (λ b. if b then next_wear (lines_in first) first.wear else first.wear) (its_turn ∙ early))
+      ∙ sym (ap (λ b. if b then next_wear (wear_lines_in first) first.wear else first.wear) (its_turn ∙ early))
 
   all_step : (writing : Writing) (steps : ℕ) (due : Bool) → is_due first ≡ due → writing.done ≡ length writes
       → IsLeft first next a plain writing.done → IsStep first next w (Do.Write a plain) (Say.Written steps)
@@ -234,7 +234,7 @@ module _ (setup : Setup) (first next : WearState) (w a : ℕ) (plain : Line) (so
   kept_step : (writing : Writing) (steps : ℕ) (due : Bool) → is_due first ≡ due → 0 < writing.done → writing.done ≤ length writes
       → next.power ≡ false → IsLeft first next a plain writing.done → IsStep first next w (Do.Write a plain) (Say.CutKept steps)
   kept_step writing steps due is done few dark left =
-      let wears : (next.wear ≡ first.wear) ⊎ (next.wear ≡ wear_turned (lines_in first) first.every (turning_of first w)) =
+      let wears : (next.wear ≡ first.wear) ⊎ (next.wear ≡ wear_turned (wear_lines_in first) first.every (turning_of first w)) =
       elim (cases_eq writing.done 3) [
         | inl all ↦ inr (by_due due is all)
         | inr other ↦ inl (wear_kept writing.done done other left)
@@ -250,17 +250,17 @@ module _ (setup : Setup) (first next : WearState) (w a : ℕ) (plain : Line) (so
         mended = tt;
       }
     where
-      by_due : (due : Bool) → is_due first ≡ due → writing.done ≡ 3 → next.wear ≡ wear_turned (lines_in first) first.every (turning_of first w)
+      by_due : (due : Bool) → is_due first ≡ due → writing.done ≡ 3 → next.wear ≡ wear_turned (wear_lines_in first) first.every (turning_of first w)
       by_due true is all = wear_moved writing.done all is left
       by_due false is all = let long = writes_long false is in absurd (omega (arith, long, few, all))
 
-  write_step : (answer : WearAnswer) → HasWritten setup first a plain answer next → IsStep first next w (Do.Write a plain) answer
+  write_step : (answer : WearAnswer) → HasWearWritten setup first a plain answer next → IsStep first next w (Do.Write a plain) answer
   write_step answer it = go answer it.came it.ends
     where
       writing : Writing
       writing = it.writing
 
-      go : (answer : WearAnswer) → IsWriting setup.formulas (moment_in setup first) writes writing answer
+      go : (answer : WearAnswer) → IsWriting setup.formulas (wear_moment_in setup first) writes writing answer
           → EndsWriting (after_writing first a plain writing) answer first next → IsStep first next w (Do.Write a plain) answer
       go (Say.Written steps) came ends = all_step writing steps (is_due first) refl came.0 (left_going first next a plain writing steps _ ends)
       go (Say.Held page steps) came ends =
@@ -280,7 +280,7 @@ module _ (setup : Setup) (first next : WearState) (w a : ℕ) (plain : Line) (so
 -- ---- the other commands
 
 module _ (setup : Setup) (first next : WearState) (w : ℕ) (some : 1 ≤ first.every) (counts : Counts first w) where
-  still_going : (expected : WearState) (steps most : ℕ) → IsStill first expected → GoesTo expected steps most first next → IsStill first next
+  still_going : (expected : WearState) (steps most : ℕ) → IsStill first expected → GoesToWearState expected steps most first next → IsStill first next
   still_going expected steps most same goes =
       let it = goes.becomes in
       record {
@@ -294,14 +294,14 @@ module _ (setup : Setup) (first next : WearState) (w : ℕ) (some : 1 ≤ first.
   as_it_is : IsStill first first
   as_it_is = still_same first first refl
 
-  read_step : (a : ℕ) (answer : WearAnswer) → HasRead first a answer next → IsStep first next w (Do.Read a) answer
+  read_step : (a : ℕ) (answer : WearAnswer) → HasWearRead first a answer next → IsStep first next w (Do.Read a) answer
   read_step a (Say.Got line steps) it =
       still_step first next w (Do.Read a) (Say.Got line steps) it.0 refl (λ new h. h) tt counts (still_going first steps _ as_it_is it.1)
   read_step a (Say.Cut steps) it =
       dark_step first next w (Do.Read a) (Say.Cut steps) tt refl (λ new h. h) tt it.becomes.power (still_cut first first next steps _ as_it_is it)
   read_step a answer it = absurd it
 
-  open_step : (answer : WearAnswer) → HasOpened first answer next → IsStep first next w Do.On answer
+  open_step : (answer : WearAnswer) → HasWearOpened first answer next → IsStep first next w Do.On answer
   open_step (Say.Opened start gap steps) it =
       let goes = it.2.becomes in
       record {
@@ -323,7 +323,7 @@ module _ (setup : Setup) (first next : WearState) (w : ℕ) (some : 1 ≤ first.
 
   -- a line's command, where power is on and there is such a line, or else
   write_by : (p b : Bool) (a : ℕ) (plain : Line) (answer : WearAnswer) → first.power ≡ p
-      → IsAnsweredAs (if p then (if b then None else Some Say.Range) else Some Say.Off) setup first (Do.Write a plain) answer next
+      → IsWearAnsweredAs (if p then (if b then None else Some Say.Range) else Some Say.Off) setup first (Do.Write a plain) answer next
       → IsStep first next w (Do.Write a plain) answer
   write_by true true a plain answer lit it = write_step setup first next w a plain some lit counts answer it
   write_by true false a plain answer lit it =
@@ -334,7 +334,7 @@ module _ (setup : Setup) (first next : WearState) (w : ℕ) (some : 1 ≤ first.
       (still_step first next w (Do.Write a plain) Say.Off tt refl (λ new h. h) tt counts (still_same first next it.1))
 
   read_by : (p b : Bool) (a : ℕ) (answer : WearAnswer)
-      → IsAnsweredAs (if p then (if b then None else Some Say.Range) else Some Say.Off) setup first (Do.Read a) answer next
+      → IsWearAnsweredAs (if p then (if b then None else Some Say.Range) else Some Say.Off) setup first (Do.Read a) answer next
       → IsStep first next w (Do.Read a) answer
   read_by true true a answer it = read_step a answer it
   read_by true false a answer it =
@@ -345,7 +345,7 @@ module _ (setup : Setup) (first next : WearState) (w : ℕ) (some : 1 ≤ first.
       (still_step first next w (Do.Read a) Say.Off tt refl (λ new h. h) tt counts (still_same first next it.1))
 
   place_by : (p b : Bool) (a : ℕ) (answer : WearAnswer)
-      → IsAnsweredAs (if p then (if b then Some (Say.At (place_in first a)) else Some Say.Range) else Some Say.Off) setup first (Do.Place a) answer next
+      → IsWearAnsweredAs (if p then (if b then Some (Say.At (place_in first a)) else Some Say.Range) else Some Say.Off) setup first (Do.Place a) answer next
       → IsStep first next w (Do.Place a) answer
   place_by true true a answer it =
       let same = still_same first next it.1 in
@@ -380,17 +380,17 @@ module _ (setup : Setup) (first next : WearState) (w : ℕ) (some : 1 ≤ first.
       subst (IsStep first next w Do.Off) (sym (is ∙ same))
       (still_step first next w Do.Off Say.Off tt refl (λ new h. h) tt counts (still_same first next it))
 
-  on_by : (p : Bool) (answer : WearAnswer) → IsAnsweredAs (if p then Some Say.Already else None) setup first Do.On answer next
+  on_by : (p : Bool) (answer : WearAnswer) → IsWearAnsweredAs (if p then Some Say.Already else None) setup first Do.On answer next
       → IsStep first next w Do.On answer
   on_by true answer it =
       subst (IsStep first next w Do.On) (sym it.0)
       (still_step first next w Do.On Say.Already tt refl (λ new h. h) tt counts (still_same first next it.1))
   on_by false answer it = open_step answer it
 
-  step : (command : WearCommand) (answer : WearAnswer) → IsAnswered setup first command answer next → IsStep first next w command answer
-  step (Do.Write a plain) answer it = write_by first.power (nat_lt a (lines_in first)) a plain answer refl it
-  step (Do.Read a) answer it = read_by first.power (nat_lt a (lines_in first)) a answer it
-  step (Do.Place a) answer it = place_by first.power (nat_lt a (lines_in first)) a answer it
+  step : (command : WearCommand) (answer : WearAnswer) → IsWearAnswered setup first command answer next → IsStep first next w command answer
+  step (Do.Write a plain) answer it = write_by first.power (nat_lt a (wear_lines_in first)) a plain answer refl it
+  step (Do.Read a) answer it = read_by first.power (nat_lt a (wear_lines_in first)) a answer it
+  step (Do.Place a) answer it = place_by first.power (nat_lt a (wear_lines_in first)) a answer it
   step (Do.Cut n) answer it =
       subst (IsStep first next w (Do.Cut n)) (sym it.0)
       (still_step first next w (Do.Cut n) Say.Ok tt refl (λ new h. h) tt counts
@@ -399,7 +399,7 @@ module _ (setup : Setup) (first next : WearState) (w : ℕ) (some : 1 ≤ first.
   step Do.Off answer it = off_as first.power refl it
     where
       off_as : (p : Bool) → first.power ≡ p
-          → IsAnsweredAs (if p then Some Say.Ok else Some Say.Off) setup first Do.Off answer next → IsStep first next w Do.Off answer
+          → IsWearAnsweredAs (if p then Some Say.Ok else Some Say.Off) setup first Do.Off answer next → IsStep first next w Do.Off answer
       off_as true lit it = off_by true answer lit Say.Ok refl it.0 (it.1 ∙ ap (λ b. if b then record first { count = 0; power = false; fuse = None } else first) lit)
       off_as false dark it = off_by false answer dark Say.Off refl it.0 (it.1 ∙ ap (λ b. if b then record first { count = 0; power = false; fuse = None } else first) dark)
   step Do.On answer it = on_by first.power answer it
@@ -411,30 +411,30 @@ record SayAll (n every : ℕ) (memory : Memory) (turning : Turning) (replies : L
   reads : AreReadAsWritten memory replies
   last : Turning
   turned : AreTurned n every turning replies last
-  mended : All (λ (reply : WearReply). IsMendedAnswer reply.command reply.answer) replies
+  mended : All (λ (reply : WearReply). IsWearMendedAnswer reply.command reply.answer) replies
 
 say_all : (setup : Setup) (first last : WearState) (replies : List WearReply) (w : ℕ) → 1 ≤ first.every → Counts first w
-    → AreAnswered setup first replies last → SayAll (lines_in first) first.every first.memory (turning_of first w) replies
+    → AreWearAnswered setup first replies last → SayAll (wear_lines_in first) first.every first.memory (turning_of first w) replies
 say_all setup first last [] w some counts chain =
-    record { reads = tt; last = turning_of first w; turned = refl; mended = All-nil (λ (reply : WearReply). IsMendedAnswer reply.command reply.answer) }
+    record { reads = tt; last = turning_of first w; turned = refl; mended = All-nil (λ (reply : WearReply). IsWearMendedAnswer reply.command reply.answer) }
 say_all setup first last (reply ∷ replies) w some counts chain =
     let next = chain.0 in
     let it = step setup first next w some counts reply.command reply.answer chain.1 in
     let later = say_all setup next last replies it.after (subst (λ e. 1 ≤ e) (sym it.its_every) some) it.count chain.2 in
-    let turned : AreTurned (lines_in first) first.every (turning_of next it.after) replies later.last =
+    let turned : AreTurned (wear_lines_in first) first.every (turning_of next it.after) replies later.last =
     subst₂ (λ n e. AreTurned n e (turning_of next it.after) replies later.last) (ap logical_lines it.shape) it.its_every later.turned in
     record {
       reads = (it.read, subst (λ m. AreReadAsWritten m replies) it.memory later.reads);
       last = later.last;
       turned = (turning_of next it.after, it.turns, turned);
-      mended = All-cons (λ (reply : WearReply). IsMendedAnswer reply.command reply.answer) reply replies it.mended later.mended;
+      mended = All-cons (λ (reply : WearReply). IsWearMendedAnswer reply.command reply.answer) reply replies it.mended later.mended;
     }
 
 pub wear_kept_always : (setup : Setup) → IsWearKept setup
 wear_kept_always setup every replies last session =
     let first = session.first in
     let new = session.is_new in
-    let n_is : lines_in first ≡ logical_lines setup.shape = ap logical_lines new.shape in
+    let n_is : wear_lines_in first ≡ logical_lines setup.shape = ap logical_lines new.shape in
     let some : 1 ≤ first.every = subst (λ e. 1 ≤ e) (sym new.its_every) new.some_every in
     let all = say_all setup first last replies 0 some (λ lit. new.count ∙ sym (mod-eq_of_lt some)) session.answered in
     let begins : turning_of first 0 ≡ no_turning (logical_lines setup.shape) = ap (λ (wear : Wear). record { wear = wear; written = 0 }) new.wear in
@@ -449,18 +449,18 @@ wear_kept_always setup every replies last session =
 
 -- ---- what is used up
 
-spent_by : (setup : Setup) (first next : WearState) (a : ℕ) (plain : Line) (answer : WearAnswer) → HasWritten setup first a plain answer next
-    → IsSpentAnswer setup first (Do.Write a plain) answer next
+spent_by : (setup : Setup) (first next : WearState) (a : ℕ) (plain : Line) (answer : WearAnswer) → HasWearWritten setup first a plain answer next
+    → IsWearSpentAnswer setup first (Do.Write a plain) answer next
 spent_by setup first next a plain answer it = go answer it.came it.ends
   where
     writing : Writing
     writing = it.writing
 
-    go : (answer : WearAnswer) → IsWriting setup.formulas (moment_in setup first) (engine_writes setup first a plain) writing answer
-        → EndsWriting (after_writing first a plain writing) answer first next → IsSpentAnswer setup first (Do.Write a plain) answer next
+    go : (answer : WearAnswer) → IsWriting setup.formulas (wear_moment_in setup first) (engine_writes setup first a plain) writing answer
+        → EndsWriting (after_writing first a plain writing) answer first next → IsWearSpentAnswer setup first (Do.Write a plain) answer next
     go (Say.Held page steps) came ends = (writing.done, came.0, record { used_up = came.1.spent; its_page = came.1.its_page })
     go (Say.Spent page steps) came ends =
-        let next_spent = subst (λ k. IsSpentNext setup.formulas (moment_in setup first) (engine_writes setup first a plain) k page writing.made) came.0 came.1 in
+        let next_spent = subst (λ k. IsSpentNext setup.formulas (wear_moment_in setup first) (engine_writes setup first a plain) k page writing.made) came.0 came.1 in
         let same = still_left first next a plain writing.done came.0 (left_going first next a plain writing steps _ ends) in
         let none : writing.made ≡ [] = sym (same_Some [] writing.made next_spent.all_drained) in (
           record { used_up = next_spent.spent; its_page = next_spent.its_page },
@@ -470,19 +470,19 @@ spent_by setup first next a plain answer it = go answer it.came it.ends
         )
     go answer came ends = tt
 
-spent_answer : (setup : Setup) (first next : WearState) (command : WearCommand) (answer : WearAnswer) → IsAnswered setup first command answer next
-    → IsSpentAnswer setup first command answer next
-spent_answer setup first next (Do.Write a plain) answer it = by_line first.power (nat_lt a (lines_in first)) it
+spent_answer : (setup : Setup) (first next : WearState) (command : WearCommand) (answer : WearAnswer) → IsWearAnswered setup first command answer next
+    → IsWearSpentAnswer setup first command answer next
+spent_answer setup first next (Do.Write a plain) answer it = by_line first.power (nat_lt a (wear_lines_in first)) it
   where
-    by_line : (p b : Bool) → IsAnsweredAs (if p then (if b then None else Some Say.Range) else Some Say.Off) setup first (Do.Write a plain) answer next
-        → IsSpentAnswer setup first (Do.Write a plain) answer next
+    by_line : (p b : Bool) → IsWearAnsweredAs (if p then (if b then None else Some Say.Range) else Some Say.Off) setup first (Do.Write a plain) answer next
+        → IsWearSpentAnswer setup first (Do.Write a plain) answer next
     by_line true true it = spent_by setup first next a plain answer it
-    by_line true false it = subst (λ r. IsSpentAnswer setup first (Do.Write a plain) r next) (sym it.0) tt
-    by_line false b it = subst (λ r. IsSpentAnswer setup first (Do.Write a plain) r next) (sym it.0) tt
+    by_line true false it = subst (λ r. IsWearSpentAnswer setup first (Do.Write a plain) r next) (sym it.0) tt
+    by_line false b it = subst (λ r. IsWearSpentAnswer setup first (Do.Write a plain) r next) (sym it.0) tt
 spent_answer setup first next command answer it = tt
 
-all_spent : (setup : Setup) (first last : WearState) (replies : List WearReply) → AreAnswered setup first replies last
-    → AreSpentAsUsedUp setup first replies
+all_spent : (setup : Setup) (first last : WearState) (replies : List WearReply) → AreWearAnswered setup first replies last
+    → AreWearSpentAsUsedUp setup first replies
 all_spent setup first last [] chain = tt
 all_spent setup first last (reply ∷ replies) chain = (
   chain.0,

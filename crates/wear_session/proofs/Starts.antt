@@ -19,13 +19,13 @@ use Rattle.pmem_recovery.specs.Parts.{SuiteState}
 use Rattle.pmem_recovery.specs.Recovered.{HasRecovered}
 use Rattle.start_gap.specs.declared.gapped.Gapped.{Gapped}
 use Rattle.start_gap.specs.declared.gapped.GapFault.{GapFault}
-use Rattle.start_gap.specs.Gapped.{HasOpened}
+use Rattle.start_gap.specs.Gapped.{HasGappedOpened}
 use Rattle.watched_board.specs.declared.taken.Taken.{Taken}
 use Rattle.watched_board.specs.Watching.{steps_in, step_limit, device_during, none_taken, IsWatched}
 use Rattle.wear_session.specs.declared.calls.StartFault.{StartFault}
 use Rattle.wear_session.specs.State.{WearState}
 use Rattle.wear_session.specs.World.{WearParts, IsWearWorld, wear_of}
-use Rattle.wear_session.specs.During.{HasStarted, started_as}
+use Rattle.wear_session.specs.During.{HasWearStarted, wear_started_as}
 use Rattle.wear_session.specs.Answered.{read_steps}
 use Rattle.wear_session.proofs.Seen.{setup_under}
 
@@ -34,11 +34,11 @@ pub has_started : (formulas_of : List ℕ → Formulas) (g : Shape) (every : ℕ
     (suite_old suite_between suite_new : SuiteState) (recovery : Result (EngineState × Work) RecFault) (engine : EngineState) (work : Work)
     (answer : Result Gapped GapFault) → recovery ≡ Ok (engine, work)
     → HasRecovered (record { shape = g; formulas = formulas_of suite_old.keys }) ledger_old old between suite_old suite_between recovery
-    → HasOpened (record { shape = engine.shape; formulas = formulas_of suite_between.keys }) every
+    → HasGappedOpened (record { shape = engine.shape; formulas = formulas_of suite_between.keys }) every
     (parts_of engine between ledger_old suite_between.tags suite_between.digests)
     (λ now. parts_of now new ledger_new suite_new.tags suite_new.digests) answer
-    → HasStarted (record { shape = g; formulas = formulas_of suite_old.keys }) every old new ledger_old ledger_new suite_old suite_new
-    (started_as answer)
+    → HasWearStarted (record { shape = g; formulas = formulas_of suite_old.keys }) every old new ledger_old ledger_new suite_old suite_new
+    (wear_started_as answer)
 has_started formulas_of g every old between new ledger_old ledger_new suite_old suite_between suite_new recovery engine work answer is recovered opened =
     let done = subst (λ r. HasRecovered (record { shape = g; formulas = formulas_of suite_old.keys }) ledger_old old between suite_old suite_between r) is recovered in
     record {
@@ -48,10 +48,10 @@ has_started formulas_of g every old between new ledger_old ledger_new suite_old 
       recovered = done;
       then = (
         answer,
-        subst (λ k. HasOpened (record { shape = g; formulas = formulas_of k }) every
+        subst (λ k. HasGappedOpened (record { shape = g; formulas = formulas_of k }) every
             (parts_of engine between ledger_old suite_between.tags suite_between.digests)
             (λ now. parts_of now new ledger_new suite_new.tags suite_new.digests) answer) done.keys
-            (subst (λ s. HasOpened (record { shape = s; formulas = formulas_of suite_between.keys }) every
+            (subst (λ s. HasGappedOpened (record { shape = s; formulas = formulas_of suite_between.keys }) every
             (parts_of engine between ledger_old suite_between.tags suite_between.digests)
             (λ now. parts_of now new ledger_new suite_new.tags suite_new.digests) answer) (ap (λ (e : EngineState). e.shape) done.engine) opened),
         refl,
@@ -101,5 +101,5 @@ pub record OnCall : Type 0 where
   pub counted : said ≡ steps_in taken
   pub answer : Result Gapped StartFault
   pub started :
-      HasStarted (setup_under formulas_of geometry parts.keys) parts.every (device_during lit none_taken) (device_during board taken)
+      HasWearStarted (setup_under formulas_of geometry parts.keys) parts.every (device_during lit none_taken) (device_during board taken)
       parts.ledger ledger suite_old suite_new answer

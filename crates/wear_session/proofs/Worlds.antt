@@ -27,9 +27,9 @@ use Rattle.pmem_engine.specs.Outcomes.{TakesAtMost, TakesFewer}
 use Rattle.watched_board.specs.declared.taken.Taken.{Taken}
 use Rattle.watched_board.specs.Watching.{counted, cuts_after, steps_in, step_limit, device_during, none_taken, FollowsOn, IsWatched}
 use Rattle.trace_text.specs.Sessions.{HasBurnt, HasRunOut}
-use Rattle.wear_session.specs.State.{WearState, without_power}
-use Rattle.wear_session.specs.World.{WearParts, IsWearWorld, IsLevelledOn, IsLevelledBy, wear_in, logical_memory, wear_of}
-use Rattle.wear_session.specs.Answered.{IsButForSteps, RisesBySteps, GoesTo, IsCutOff}
+use Rattle.wear_session.specs.State.{WearState, wear_without_power}
+use Rattle.wear_session.specs.World.{WearParts, IsWearWorld, IsLevelledOn, IsLevelledBy, wear_in, levelled_memory, wear_of}
+use Rattle.wear_session.specs.Answered.{IsWearButForSteps, RisesBySteps, GoesToWearState, IsWearCutOff}
 
 -- ---- sealed lines
 
@@ -124,8 +124,8 @@ module _ (old new : BoardMemory) (taken : Taken) (follows : FollowsOn old new ta
 
 module _ (setup : Setup) (old new : WearParts) (taken : Taken) (watched : IsWatched old.board new.board taken) (expected : WearState) (most : ℕ) where
   -- a call that goes on
-  pub goes_to : new.board.powered ≡ true → steps_in taken ≤ most → IsButForSteps expected (wear_of setup new)
-      → GoesTo expected (steps_in taken) most (wear_of setup old) (wear_of setup new)
+  pub goes_to : new.board.powered ≡ true → steps_in taken ≤ most → IsWearButForSteps expected (wear_of setup new)
+      → GoesToWearState expected (steps_in taken) most (wear_of setup old) (wear_of setup new)
   goes_to powered few becomes =
       record {
         becomes = becomes;
@@ -135,8 +135,8 @@ module _ (setup : Setup) (old new : WearParts) (taken : Taken) (watched : IsWatc
       }
 
   -- a call that is cut
-  pub cut_off : new.board.powered ≡ false → steps_in taken < most → most ≤ step_limit → IsButForSteps (without_power expected) (wear_of setup new)
-      → IsCutOff expected (steps_in taken) most (wear_of setup old) (wear_of setup new)
+  pub cut_off : new.board.powered ≡ false → steps_in taken < most → most ≤ step_limit → IsWearButForSteps (wear_without_power expected) (wear_of setup new)
+      → IsWearCutOff expected (steps_in taken) most (wear_of setup old) (wear_of setup new)
   cut_off off below bounded becomes =
       record {
         becomes = becomes;
@@ -151,7 +151,7 @@ module _ (setup : Setup) (old new : WearParts) (taken : Taken) (watched : IsWatc
 pub on_of : (setup : Setup) (parts : WearParts) (gapped : Gapped) → parts.gapped ≡ Some gapped → IsShape setup.shape → AreInRange setup.formulas
     → 1 ≤ parts.every
     → IsLevelled (logical_lines setup.shape) (plain_memory setup parts.ledger.marks) (wear_in setup (plain_memory setup parts.ledger.marks))
-    (logical_memory setup (plain_memory setup parts.ledger.marks))
+    (levelled_memory setup (plain_memory setup parts.ledger.marks))
     → parts.board.powered ≡ true → IsSound setup gapped.engine parts.board.lines parts.board.regs parts.ledger → gapped.every ≡ parts.every
     → gapped.wear ≡ wear_in setup (plain_memory setup parts.ledger.marks) → IsWearWorld setup parts
 on_of setup parts gapped there shape formulas some levelled powered sound every wear =
@@ -194,7 +194,7 @@ on_of setup parts gapped there shape formulas some levelled powered sound every 
 module _ (setup : Setup) (p : WearParts) (board : BoardMemory) (ledger : LedgerState) (world : IsWearWorld setup p)
     (levelled :
     IsLevelled (logical_lines setup.shape) (plain_memory setup ledger.marks) (wear_in setup (plain_memory setup ledger.marks))
-    (logical_memory setup (plain_memory setup ledger.marks))) where
+    (levelled_memory setup (plain_memory setup ledger.marks))) where
   -- after a call with power on
   pub on_after : (after : Gapped) → board.powered ≡ true → IsSound setup after.engine board.lines board.regs ledger → after.every ≡ p.every
       → after.wear ≡ wear_in setup (plain_memory setup ledger.marks)

@@ -28,7 +28,7 @@ use Rattle.start_gap.specs.declared.gapped.Moved.TheVariants as Move
 use Rattle.start_gap.specs.declared.gapped.WriteFault.{WriteFault}
 use Rattle.start_gap.specs.Wear.{place_of, next_wear, source_of}
 use Rattle.start_gap.specs.Record.{wear_record}
-use Rattle.start_gap.specs.Gapped.{HasRecorded, HasRecordedAfter, HasCopied, HasCopiedAfter, HasMovedGap, HasGoneOn, HasLevelledWrite, HasCounted, HasTriedMove, HasWear, answer_by, done_as, wear_by}
+use Rattle.start_gap.specs.Gapped.{HasRecorded, HasRecordedAfter, HasCopied, HasCopiedAfter, HasMovedGap, HasWriteGoneOn, HasLevelledWrite, HasCounted, HasTriedMove, HasWear, write_answer_by, done_as, wear_by}
 use Rattle.start_gap.proofs.Places.{places, source-within}
 use Rattle.wear_session.specs.State.{moving_writes}
 use Rattle.wear_session.specs.Answered.{Writing, is_own_seal, IsCutAmong, write_steps, read_steps}
@@ -105,7 +105,7 @@ pub wears_as : (setup : Setup) (a : ℕ) (plain : Line) (old new : Gapped) (from
     → HasLevelledWrite setup a plain old new from to answer → WearsAs old new answer
 wears_as setup a plain old new from to answer it = go it.made it.then
   where
-    tried_as : (tried : Result (Unit {0}) Fault) → HasWear (wear_by tried old.lines old.wear) 0 old new → WearsAs old new (answer_by tried)
+    tried_as : (tried : Result (Unit {0}) Fault) → HasWear (wear_by tried old.lines old.wear) 0 old new → WearsAs old new (write_answer_by tried)
     tried_as (Ok done) wear = wear
     tried_as (Err (Fail.Spent page)) wear = wear
     tried_as (Err fault) wear = λ e. absurd (true≢false e)
@@ -115,7 +115,7 @@ wears_as setup a plain old new from to answer it = go it.made it.then
     gone_on true counted = subst (WearsAs old new) (sym counted.its_answer) counted.its_wear
     gone_on false tried = subst (WearsAs old new) (sym tried.its_answer) (tried_as tried.tried tried.its_wear)
 
-    go : (made : Result Ctr Fault) → HasGoneOn made setup old new it.between to answer → WearsAs old new answer
+    go : (made : Result Ctr Fault) → HasWriteGoneOn made setup old new it.between to answer → WearsAs old new answer
     go (Ok ctr) later = gone_on (nat_lt (old.count + 1) old.every) later
     go (Err fault) later = subst (WearsAs old new) (sym later.its_answer) (λ e. later.its_wear)
 
@@ -384,7 +384,7 @@ module _ (setup : Setup) (a : ℕ) (plain : Line) (old new : Gapped) (from to : 
   abbrev Ends : Bool → Result Moved WriteFault → Parts → Type 0
   Ends due answer parts = EndsAt setup from (queue due) place due (most_of setup.shape due) answer parts
 
-  tried_ends : (tried : Result (Unit {0}) Fault) (parts : Parts) → MoveEnds tried parts → Ends true (answer_by tried) parts
+  tried_ends : (tried : Result (Unit {0}) Fault) (parts : Parts) → MoveEnds tried parts → Ends true (write_answer_by tried) parts
   tried_ends (Ok done) parts it = (refl, it)
   tried_ends (Err (Fail.Spent page)) parts it = (refl, it)
   tried_ends (Err Fail.Cut) parts it = it
@@ -448,7 +448,7 @@ module _ (setup : Setup) (a : ℕ) (plain : Line) (old new : Gapped) (from to : 
       → Ends (not (nat_lt (old.count + 1) old.every)) answer to
   write_ends_at answer it = go it.made it.was_written it.then
     where
-      go : (made : Result Ctr Fault) → HasWrittenLine setup own from it.between made → HasGoneOn made setup old new it.between to answer
+      go : (made : Result Ctr Fault) → HasWrittenLine setup own from it.between made → HasWriteGoneOn made setup old new it.between to answer
           → Ends (not (nat_lt (old.count + 1) old.every)) answer to
       go (Ok ctr) written later = gone_on (nat_lt (old.count + 1) old.every) ctr it.between answer written later
       go (Err fault) written later =

@@ -28,13 +28,13 @@ use Rattle.pmem_engine.proofs.PostedWrites.WriteEnds.{whole_posted}
 use Rattle.start_gap.specs.declared.wear.Wear.{Wear}
 use Rattle.start_gap.specs.Wear.{place_of, next_wear, source_of}
 use Rattle.start_gap.specs.Record.{wear_record}
-use Rattle.start_gap.specs.Logical.{IsLevelled, Stage, begun, written, copied, moved, lines_at, memory_at, wear_at, with_line, with_copy, with_record}
+use Rattle.start_gap.specs.Logical.{IsLevelled, MoveStage, begun, written, copied, moved, write_lines_at, write_memory_at, wear_at, with_levelled_line, with_copy, with_record}
 use Rattle.start_gap.specs.Gapped.{logical_lines}
 use Rattle.start_gap.proofs.Levelled.{safe_at_each_stage}
 use Rattle.start_gap.proofs.Places.{places}
 use Rattle.start_gap.proofs.Records.{wear_record-IsLine}
-use Rattle.wear_session.specs.State.{WearState, lines_in, is_due, with_writes}
-use Rattle.wear_session.specs.World.{wear_in, logical_memory}
+use Rattle.wear_session.specs.State.{WearState, wear_lines_in, is_due, with_writes}
+use Rattle.wear_session.specs.World.{wear_in, levelled_memory}
 use Rattle.wear_session.proofs.Levels.{wear_is, memory_held, levelled_is}
 use Rattle.wear_session.proofs.Worlds.{sealed_in}
 use Rattle.wear_session.proofs.WriteEnds.{writes_of}
@@ -73,7 +73,7 @@ put lines at line each low whole =
     (sym (put_whole (line_at lines at) (whole_write at line) (let long = is.long in omega (arith, long)) (whole_posted at line low whole) refl))
 
 -- the stage after so many
-abbrev pub stage_of : ℕ → Stage
+abbrev pub stage_of : ℕ → MoveStage
 stage_of zero = begun
 stage_of (suc zero) = written
 stage_of (suc (suc zero)) = copied
@@ -88,7 +88,7 @@ module _ (lines memory : Memory) (n : ℕ) (wear : Wear) (a : ℕ) (plain : Line
   own = whole_write place plain
 
   abbrev line_there : Memory
-  line_there = with_line n wear a plain lines
+  line_there = with_levelled_line n wear a plain lines
 
   abbrev copy_there : Memory
   copy_there = with_copy n wear line_there
@@ -124,7 +124,7 @@ module _ (lines memory : Memory) (n : ℕ) (wear : Wear) (a : ℕ) (plain : Line
       ∙ put copy_there (n + 1) (wear_record n (next_wear n wear)) copy_whole (omega (arith, few)) (wear_record-IsLine n (next_wear n wear))
 
   pub lines_done : (f : Formulas) (now : Moment) (due : Bool) (k : ℕ) → now.memory ≡ lines → k ≤ length (writes_of lines n wear due a plain)
-      → (moment_after_writes f now (take k (writes_of lines n wear due a plain))).memory ≡ lines_at (stage_of k) n wear a plain lines
+      → (moment_after_writes f now (take k (writes_of lines n wear due a plain))).memory ≡ write_lines_at (stage_of k) n wear a plain lines
   lines_done f now due zero same some = same
   lines_done f now due (suc zero) same some = ap (λ l. memory_with l own) same ∙ with_own
   lines_done f now true (suc (suc zero)) same some =
@@ -136,7 +136,7 @@ module _ (lines memory : Memory) (n : ℕ) (wear : Wear) (a : ℕ) (plain : Line
   lines_done f now false (suc (suc k)) same some = absurd (omega (arith, some))
   lines_done f now true (suc (suc (suc (suc k)))) same some = absurd (omega (arith, some))
 
-  pub levelled_done : (k : ℕ) → IsLevelled n (lines_at (stage_of k) n wear a plain lines) (wear_at (stage_of k) n wear) (memory_at (stage_of k) a plain memory)
+  pub levelled_done : (k : ℕ) → IsLevelled n (write_lines_at (stage_of k) n wear a plain lines) (wear_at (stage_of k) n wear) (write_memory_at (stage_of k) a plain memory)
   levelled_done k = safe_at_each_stage n (omega (arith, few)) lines memory wear a plain (stage_of k) inside had
 
 -- ---- the same as a session's state says it
@@ -145,7 +145,7 @@ module _ (lines memory : Memory) (n : ℕ) (wear : Wear) (a : ℕ) (plain : Line
 pub some_of : {X : Type 0} (k : ℕ) (x y : X) → 0 < k → cond (k == 0) x y ≡ y
 some_of k x y some = cond-false (k == 0) x y (ne_eqb k 0 (λ none. omega (arith, none, some)))
 
-pub memory_by : (k : ℕ) (a : ℕ) (plain : Line) (memory : Memory) → memory_at (stage_of k) a plain memory ≡ cond (k == 0) memory (slice_set memory a plain)
+pub memory_by : (k : ℕ) (a : ℕ) (plain : Line) (memory : Memory) → write_memory_at (stage_of k) a plain memory ≡ cond (k == 0) memory (slice_set memory a plain)
 memory_by zero a plain memory = refl
 memory_by (suc zero) a plain memory = refl
 memory_by (suc (suc zero)) a plain memory = refl
@@ -159,20 +159,20 @@ wear_by (suc (suc (suc zero))) n wear few = refl
 wear_by (suc (suc (suc (suc k)))) n wear few = absurd (omega (arith, few))
 
 module _ (setup : Setup) (lines memory now : Memory) (n : ℕ) (wear : Wear) (a : ℕ) (plain : Line) (k : ℕ) (n_is : n ≡ logical_lines setup.shape)
-    (is : now ≡ lines_at (stage_of k) n wear a plain lines)
-    (held : IsLevelled n (lines_at (stage_of k) n wear a plain lines) (wear_at (stage_of k) n wear) (memory_at (stage_of k) a plain memory)) where
-  its : IsLevelled (logical_lines setup.shape) now (wear_at (stage_of k) n wear) (memory_at (stage_of k) a plain memory)
+    (is : now ≡ write_lines_at (stage_of k) n wear a plain lines)
+    (held : IsLevelled n (write_lines_at (stage_of k) n wear a plain lines) (wear_at (stage_of k) n wear) (write_memory_at (stage_of k) a plain memory)) where
+  its : IsLevelled (logical_lines setup.shape) now (wear_at (stage_of k) n wear) (write_memory_at (stage_of k) a plain memory)
   its =
-      subst₂ (λ m l. IsLevelled m l (wear_at (stage_of k) n wear) (memory_at (stage_of k) a plain memory)) n_is (sym is) held
+      subst₂ (λ m l. IsLevelled m l (wear_at (stage_of k) n wear) (write_memory_at (stage_of k) a plain memory)) n_is (sym is) held
 
   pub wear_after : wear_in setup now ≡ wear_at (stage_of k) n wear
-  wear_after = wear_is setup now (memory_at (stage_of k) a plain memory) (wear_at (stage_of k) n wear) its
+  wear_after = wear_is setup now (write_memory_at (stage_of k) a plain memory) (wear_at (stage_of k) n wear) its
 
-  pub memory_after : logical_memory setup now ≡ memory_at (stage_of k) a plain memory
-  memory_after = memory_held setup now (memory_at (stage_of k) a plain memory) (wear_at (stage_of k) n wear) its
+  pub memory_after : levelled_memory setup now ≡ write_memory_at (stage_of k) a plain memory
+  memory_after = memory_held setup now (write_memory_at (stage_of k) a plain memory) (wear_at (stage_of k) n wear) its
 
-  pub levelled_after : IsLevelled (logical_lines setup.shape) now (wear_in setup now) (logical_memory setup now)
-  levelled_after = levelled_is setup now (memory_at (stage_of k) a plain memory) (wear_at (stage_of k) n wear) its
+  pub levelled_after : IsLevelled (logical_lines setup.shape) now (wear_in setup now) (levelled_memory setup now)
+  levelled_after = levelled_is setup now (write_memory_at (stage_of k) a plain memory) (wear_at (stage_of k) n wear) its
 
 -- the state that so many leave, field by field
 by_done : (b due last : Bool) (state : WearState) (memory : Memory) (wear : Wear)
@@ -189,8 +189,8 @@ pub with_writes_is : (state : WearState) (a : ℕ) (plain : Line) (k : ℕ)
     → with_writes state a plain k
     ≡ record state {
       memory = cond (k == 0) state.memory (slice_set state.memory a plain);
-      wear = cond (k == 0) state.wear (cond (k == 3) (next_wear (lines_in state) state.wear) state.wear);
+      wear = cond (k == 0) state.wear (cond (k == 3) (next_wear (wear_lines_in state) state.wear) state.wear);
       count = cond (k == 0) state.count (cond (is_due state) 0 (state.count + 1));
     }
 with_writes_is state a plain k =
-    by_done (k == 0) (is_due state) (k == 3) state (slice_set state.memory a plain) (next_wear (lines_in state) state.wear)
+    by_done (k == 0) (is_due state) (k == 3) state (slice_set state.memory a plain) (next_wear (wear_lines_in state) state.wear)

@@ -28,16 +28,16 @@ use Rattle.start_gap.specs.declared.gapped.Moved.{Moved}
 use Rattle.start_gap.specs.declared.gapped.Moved.TheVariants as Move
 use Rattle.start_gap.specs.declared.gapped.WriteFault.{WriteFault}
 use Rattle.start_gap.specs.Wear.{place_of, next_wear}
-use Rattle.start_gap.specs.Logical.{IsLevelled, lines_at, wear_at, memory_at}
+use Rattle.start_gap.specs.Logical.{IsLevelled, write_lines_at, wear_at, write_memory_at}
 use Rattle.start_gap.specs.Gapped.{HasLevelledWrite, IsCutOrSpent, logical_lines}
 use Rattle.watched_board.specs.declared.taken.Taken.{Taken}
 use Rattle.watched_board.specs.Watching.{steps_in, step_limit, device_during, none_taken, IsWatched}
 use Rattle.wear_session.specs.declared.commands.WearCommand.TheVariants as Do
 use Rattle.wear_session.specs.declared.answers.WearAnswer.{WearAnswer}
 use Rattle.wear_session.specs.declared.answers.WearAnswer.TheVariants as Say
-use Rattle.wear_session.specs.State.{WearState, setup_in, lines_in, is_due, engine_writes, moment_in, place_in}
-use Rattle.wear_session.specs.World.{WearParts, IsWearWorld, IsLevelledOn, wear_in, logical_memory, wear_of}
-use Rattle.wear_session.specs.Answered.{Writing, is_own_seal, IsAnswered, IsWriting, IsKept, EndsWriting, IsButForSteps, GoesTo, IsCutOff, after_writing, most_of_write, of_line, write_steps}
+use Rattle.wear_session.specs.State.{WearState, wear_setup_in, wear_lines_in, is_due, engine_writes, wear_moment_in, place_in}
+use Rattle.wear_session.specs.World.{WearParts, IsWearWorld, IsLevelledOn, wear_in, levelled_memory, wear_of}
+use Rattle.wear_session.specs.Answered.{Writing, is_own_seal, IsWearAnswered, IsWriting, IsWearWriteKept, EndsWriting, IsWearButForSteps, GoesToWearState, IsWearCutOff, after_writing, most_of_write, wear_of_line, write_steps}
 use Rattle.wear_session.proofs.Worlds.{at_most, fewer, goes_to, cut_off, on_after, off_after}
 use Rattle.wear_session.proofs.ReadLaws.{on_in, lines_are}
 use Rattle.wear_session.proofs.Seen.{setup_under, of_line_is, served, seen_from, held_under}
@@ -185,15 +185,15 @@ module _ (c : WriteCall) where
   wears : (answer : Result Moved WriteFault) → c.answer ≡ answer → WearsAs c.gapped c.after answer
   wears answer is = subst (WearsAs c.gapped c.after) is (wears_as setup c.at c.plain c.gapped c.after from to c.answer written_as)
 
-  had : IsLevelled n places wear (logical_memory setup places)
+  had : IsLevelled n places wear (levelled_memory setup places)
   had =
-      subst (λ m. IsLevelled m places wear (logical_memory setup places)) (sym n_is)
-      (subst (λ w. IsLevelled (logical_lines c.geometry) places w (logical_memory setup places)) (sym on.its_wear) world.levelled)
+      subst (λ m. IsLevelled m places wear (levelled_memory setup places)) (sym n_is)
+      (subst (λ w. IsLevelled (logical_lines c.geometry) places w (levelled_memory setup places)) (sym on.its_wear) world.levelled)
 
   -- ---- once so many of its engine writes are done
 
   module _ (k : ℕ) (made : List Mark) (few : k ≤ length queue)
-      (is : plain_memory setup c.ledger.marks ≡ lines_at (stage_of k) n wear c.at c.plain places) where
+      (is : plain_memory setup c.ledger.marks ≡ write_lines_at (stage_of k) n wear c.at c.plain places) where
     k_few : k ≤ 3
     k_few = let long = queue_long due in omega (arith, few, long)
       where
@@ -201,28 +201,28 @@ module _ (c : WriteCall) where
         queue_long true = omega arith
         queue_long false = omega arith
 
-    held_lines : IsLevelled n (lines_at (stage_of k) n wear c.at c.plain places) (wear_at (stage_of k) n wear)
-        (memory_at (stage_of k) c.at c.plain (logical_memory setup places))
+    held_lines : IsLevelled n (write_lines_at (stage_of k) n wear c.at c.plain places) (wear_at (stage_of k) n wear)
+        (write_memory_at (stage_of k) c.at c.plain (levelled_memory setup places))
     held_lines =
-        levelled_done places (logical_memory setup places) n wear c.at c.plain
+        levelled_done places (levelled_memory setup places) n wear c.at c.plain
         (whole_places setup c.before.board.regs c.ledger_before places world.whole_formulas on.sound.trusted.anchored world.places).each
         c.gapped.few_lines c.within c.whole had k
 
     levelled : IsLevelled (logical_lines c.geometry) (plain_memory setup c.ledger.marks) (wear_in setup (plain_memory setup c.ledger.marks))
-        (logical_memory setup (plain_memory setup c.ledger.marks))
-    levelled = levelled_after setup places (logical_memory setup places) (plain_memory setup c.ledger.marks) n wear c.at c.plain k n_is is held_lines
+        (levelled_memory setup (plain_memory setup c.ledger.marks))
+    levelled = levelled_after setup places (levelled_memory setup places) (plain_memory setup c.ledger.marks) n wear c.at c.plain k n_is is held_lines
 
     its_wear : wear_in setup (plain_memory setup c.ledger.marks) ≡ wear_at (stage_of k) n wear
-    its_wear = wear_after setup places (logical_memory setup places) (plain_memory setup c.ledger.marks) n wear c.at c.plain k n_is is held_lines
+    its_wear = wear_after setup places (levelled_memory setup places) (plain_memory setup c.ledger.marks) n wear c.at c.plain k n_is is held_lines
 
-    wear_now : wear_in setup (plain_memory setup c.ledger.marks) ≡ cond (k == 0) old.wear (cond (k == 3) (next_wear (lines_in old) old.wear) old.wear)
+    wear_now : wear_in setup (plain_memory setup c.ledger.marks) ≡ cond (k == 0) old.wear (cond (k == 3) (next_wear (wear_lines_in old) old.wear) old.wear)
     wear_now =
         its_wear ∙ ap (λ m. wear_at (stage_of k) m wear) n_is ∙ ap (λ w. wear_at (stage_of k) (logical_lines c.geometry) w) on.its_wear
         ∙ wear_by k (logical_lines c.geometry) old.wear k_few
 
-    memory_now_is : logical_memory setup (plain_memory setup c.ledger.marks) ≡ cond (k == 0) old.memory (slice_set old.memory c.at c.plain)
+    memory_now_is : levelled_memory setup (plain_memory setup c.ledger.marks) ≡ cond (k == 0) old.memory (slice_set old.memory c.at c.plain)
     memory_now_is =
-        memory_after setup places (logical_memory setup places) (plain_memory setup c.ledger.marks) n wear c.at c.plain k n_is is held_lines
+        memory_after setup places (levelled_memory setup places) (plain_memory setup c.ledger.marks) n wear c.at c.plain k n_is is held_lines
         ∙ memory_by k c.at c.plain old.memory
 
     abbrev writing : Writing
@@ -235,11 +235,11 @@ module _ (c : WriteCall) where
       going_world =
           on_after setup p c.board c.ledger world levelled c.after done.live done.sound (every ∙ on.its_every) (its_after ∙ sym its_wear)
 
-      goes : GoesTo (after_writing old c.at c.plain writing) (steps_in c.taken) limit old (wear_of setup (left (Some c.after)))
+      goes : GoesToWearState (after_writing old c.at c.plain writing) (steps_in c.taken) limit old (wear_of setup (left (Some c.after)))
       goes =
           goes_to setup p (left (Some c.after)) c.taken c.watched (after_writing old c.at c.plain writing) limit done.live
           (at_most c.before.board c.board c.taken limit c.watched.follows.few done.takes)
-          (subst (λ e. IsButForSteps (record e { marks = old.marks ++ made })
+          (subst (λ e. IsWearButForSteps (record e { marks = old.marks ++ made })
           (wear_of setup (left (Some c.after)))) (sym (with_writes_is old c.at c.plain k))
           (record {
             shape = refl;
@@ -260,11 +260,11 @@ module _ (c : WriteCall) where
       cut_world : IsWearWorld setup (left None)
       cut_world = off_after setup p c.board c.ledger world levelled cut.dark cut.durable cut.small_group
 
-      cuts : limit ≤ step_limit → IsCutOff (after_writing old c.at c.plain writing) (steps_in c.taken) limit old (wear_of setup (left None))
+      cuts : limit ≤ step_limit → IsWearCutOff (after_writing old c.at c.plain writing) (steps_in c.taken) limit old (wear_of setup (left None))
       cuts small =
           cut_off setup p (left None) c.taken c.watched (after_writing old c.at c.plain writing) limit cut.dark
           (fewer c.before.board c.board c.taken limit c.watched.follows.few cut.takes) small
-          (subst (λ e. IsButForSteps (record e { marks = old.marks ++ made; count = 0; power = false; fuse = None })
+          (subst (λ e. IsWearButForSteps (record e { marks = old.marks ++ made; count = 0; power = false; fuse = None })
           (wear_of setup (left None))) (sym (with_writes_is old c.at c.plain k))
           (record {
             shape = refl;
@@ -281,16 +281,16 @@ module _ (c : WriteCall) where
   -- memory once so many are done
   lines_are_at : (k : ℕ) → k ≤ length queue
       → plain_memory setup c.ledger.marks ≡ (moment_after_writes setup.formulas (moment_now setup from) (take k queue)).memory
-      → plain_memory setup c.ledger.marks ≡ lines_at (stage_of k) n wear c.at c.plain places
+      → plain_memory setup c.ledger.marks ≡ write_lines_at (stage_of k) n wear c.at c.plain places
   lines_are_at k few it =
       it
-      ∙ lines_done places (logical_memory setup places) n wear c.at c.plain
+      ∙ lines_done places (levelled_memory setup places) n wear c.at c.plain
       (whole_places setup c.before.board.regs c.ledger_before places world.whole_formulas on.sound.trusted.anchored world.places).each
       c.gapped.few_lines c.within c.whole had setup.formulas (moment_now setup from) due k refl few
 
   -- ---- as contracts write it
 
-  undecided : of_line old c.at None ≡ None
+  undecided : wear_of_line old c.at None ≡ None
   undecided =
       let same = n_is in
       let low = c.within in
@@ -305,19 +305,19 @@ module _ (c : WriteCall) where
   -- what an answer says, by its engine writes and its end
   seen_as : (gapped : Option Gapped) (writing : Writing) (say : ℕ → WearAnswer)
       → IsWriting setup.formulas (moment_now setup from) queue writing (say (steps_in c.taken))
-      → IsKept (place_of n wear c.at) writing.made (say (steps_in c.taken))
+      → IsWearWriteKept (place_of n wear c.at) writing.made (say (steps_in c.taken))
       → EndsWriting (after_writing old c.at c.plain writing) (say (steps_in c.taken)) old (wear_of setup (left gapped))
-      → IsAnswered (setup_in c.formulas_of c.now) c.now (Do.Write c.at c.plain) (say c.said)
+      → IsWearAnswered (wear_setup_in c.formulas_of c.now) c.now (Do.Write c.at c.plain) (say c.said)
       (wear_of (setup_under c.formulas_of c.geometry c.keys) (left_under gapped))
   seen_as gapped writing say came kept ended =
-      subst (λ (k : ℕ). IsAnswered (setup_in c.formulas_of c.now) c.now (Do.Write c.at c.plain) (say k)
+      subst (λ (k : ℕ). IsWearAnswered (wear_setup_in c.formulas_of c.now) c.now (Do.Write c.at c.plain) (say k)
       (wear_of (setup_under c.formulas_of c.geometry c.keys) (left_under gapped))) (sym c.counted)
       (seen_from c.formulas_of c.geometry p (left gapped) c.now c.keys (Do.Write c.at c.plain) (say (steps_in c.taken)) now_is c.same_keys refl
       (served setup old (wear_of setup (left gapped)) (Do.Write c.at c.plain) (say (steps_in c.taken)) undecided
       (record {
         writing = writing;
-        came = subst (λ q. IsWriting setup.formulas (moment_in setup old) q writing (say (steps_in c.taken))) (sym queue_is) came;
-        kept = subst (λ a. IsKept a writing.made (say (steps_in c.taken))) (sym place_is) kept;
+        came = subst (λ q. IsWriting setup.formulas (wear_moment_in setup old) q writing (say (steps_in c.taken))) (sym queue_is) came;
+        kept = subst (λ a. IsWearWriteKept a writing.made (say (steps_in c.taken))) (sym place_is) kept;
         ends = ended;
       })))
 
@@ -326,7 +326,7 @@ module _ (c : WriteCall) where
   abbrev Exit : Option Gapped → (ℕ → WearAnswer) → Type 0
   Exit gapped say =
       IsWearWorld (setup_under c.formulas_of c.geometry c.keys) (left_under gapped)
-      × IsAnswered (setup_in c.formulas_of c.now) c.now (Do.Write c.at c.plain) (say c.said)
+      × IsWearAnswered (wear_setup_in c.formulas_of c.now) c.now (Do.Write c.at c.plain) (say c.said)
       (wear_of (setup_under c.formulas_of c.geometry c.keys) (left_under gapped))
 
   -- all are done
@@ -338,7 +338,7 @@ module _ (c : WriteCall) where
       let is = lines_are_at k few (memory_done setup from to (take k queue) gone.made most gone.done) in (
         held_as (Some c.after) (going_world k gone.made few is most (take k queue) gone.done its_after count every),
         seen_as (Some c.after) (record { done = k; made = gone.made }) Say.Written (all, (few, gone.done.asked)) tt
-            (subst (λ m. GoesTo (after_writing old c.at c.plain (record { done = k; made = gone.made })) (steps_in c.taken) m old
+            (subst (λ m. GoesToWearState (after_writing old c.at c.plain (record { done = k; made = gone.made })) (steps_in c.taken) m old
             (wear_of setup (left (Some c.after)))) (sym most_is) (goes k gone.made few is most (take k queue) gone.done its_after count every)),
       )
 
@@ -376,7 +376,7 @@ module _ (c : WriteCall) where
       ∙ sym (some_of held.count c.gapped.count (cond due 0 (c.gapped.count + 1)) held.some) in (
         held_as (Some c.after) (going_world held.count held.made few lines most (take held.count queue) held.done its_after count its.its_every),
         seen_as (Some c.after) (record { done = held.count; made = held.made }) (λ steps. Say.Held page steps) (held.some, held.next) tt
-            (subst (λ m. GoesTo (after_writing old c.at c.plain (record { done = held.count; made = held.made })) (steps_in c.taken) m old
+            (subst (λ m. GoesToWearState (after_writing old c.at c.plain (record { done = held.count; made = held.made })) (steps_in c.taken) m old
             (wear_of setup (left (Some c.after)))) (sym most_is)
             (goes held.count held.made few lines most (take held.count queue) held.done its_after count its.its_every)),
       )
@@ -406,7 +406,7 @@ module _ (c : WriteCall) where
       let lines = lines_are_at k kept.few kept.cut.memory in (
         held_as None (cut_world k kept.writing.made kept.few lines most (take k queue) kept.cut),
         seen_as None kept.writing Say.CutKept (kept.some, kept.came) kept.own
-            (subst (λ m. IsCutOff (after_writing old c.at c.plain kept.writing) (steps_in c.taken) m old (wear_of setup (left None))) (sym most_is)
+            (subst (λ m. IsWearCutOff (after_writing old c.at c.plain kept.writing) (steps_in c.taken) m old (wear_of setup (left None))) (sym most_is)
             (cuts k kept.writing.made kept.few lines most (take k queue) kept.cut (few_steps due))),
       )
 
@@ -451,7 +451,7 @@ module _ (c : WriteCall) where
 
   pub kept_seen : (written : Bool) → c.answer ≡ Err (record { fault = Fail.Cut; written = written })
       → (written ≡ true) ⊎ (list_any (is_own_seal (place_of n wear c.at)) (drop (length c.ledger_before.marks) c.ledger.marks) ≡ true)
-      → IsAnswered (setup_in c.formulas_of c.now) c.now (Do.Write c.at c.plain) (Say.CutKept c.said)
+      → IsWearAnswered (wear_setup_in c.formulas_of c.now) c.now (Do.Write c.at c.plain) (Say.CutKept c.said)
       (wear_of (setup_under c.formulas_of c.geometry c.keys) (left_under None))
   kept_seen written is why = elim (by_end written is) [
     | inl kept ↦ (kept_exit kept).1
@@ -464,7 +464,7 @@ module _ (c : WriteCall) where
 
   pub lost_seen : (written : Bool) → c.answer ≡ Err (record { fault = Fail.Cut; written = written })
       → list_any (is_own_seal (place_of n wear c.at)) (drop (length c.ledger_before.marks) c.ledger.marks) ≡ false
-      → IsAnswered (setup_in c.formulas_of c.now) c.now (Do.Write c.at c.plain) (Say.CutLost c.said)
+      → IsWearAnswered (wear_setup_in c.formulas_of c.now) c.now (Do.Write c.at c.plain) (Say.CutLost c.said)
       (wear_of (setup_under c.formulas_of c.geometry c.keys) (left_under None))
   lost_seen written is none = elim (by_end written is) [
     | inl kept ↦ absurd (true≢false (sym kept.own ∙ sym (has_own kept.writing.made kept.cut.marks) ∙ none))

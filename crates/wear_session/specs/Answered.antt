@@ -28,33 +28,33 @@ use Rattle.trace_text.specs.declared.talk.Halt.{Halt}
 use Rattle.trace_text.specs.declared.talk.Halt.TheVariants as Stop
 use Rattle.wear_session.specs.Answers.{wear_text}
 use Rattle.wear_session.specs.Commands.{reading_of_wear}
-use Rattle.wear_session.specs.State.{WearState, lines_in, view_in, places_in, moment_in, place_in, is_due, engine_writes, without_power, with_writes}
+use Rattle.wear_session.specs.State.{WearState, wear_lines_in, wear_view_in, wear_places_in, wear_moment_in, place_in, is_due, engine_writes, wear_without_power, with_writes}
 
 -- ---- answers that the state decides
 
 -- the answer, where power is on and there is such a line
-abbrev pub of_line : WearState → ℕ → Option WearAnswer → Option WearAnswer
-of_line state a answer =
-    if state.power then (if nat_lt a (lines_in state) then answer else Some Say.Range) else Some Say.Off
+abbrev pub wear_of_line : WearState → ℕ → Option WearAnswer → Option WearAnswer
+wear_of_line state a answer =
+    if state.power then (if nat_lt a (wear_lines_in state) then answer else Some Say.Range) else Some Say.Off
 
 -- the answer that the state alone decides; none where the engine decides
-abbrev pub decided : WearState → WearCommand → Option WearAnswer
-decided state (Do.Write a plain) = of_line state a None
-decided state (Do.Read a) = of_line state a None
-decided state (Do.Place a) = of_line state a (Some (Say.At (place_in state a)))
-decided state (Do.Cut n) = Some Say.Ok
-decided state Do.Off = if state.power then Some Say.Ok else Some Say.Off
-decided state Do.On = if state.power then Some Say.Already else None
+abbrev pub wear_decided : WearState → WearCommand → Option WearAnswer
+wear_decided state (Do.Write a plain) = wear_of_line state a None
+wear_decided state (Do.Read a) = wear_of_line state a None
+wear_decided state (Do.Place a) = wear_of_line state a (Some (Say.At (place_in state a)))
+wear_decided state (Do.Cut n) = Some Say.Ok
+wear_decided state Do.Off = if state.power then Some Say.Ok else Some Say.Off
+wear_decided state Do.On = if state.power then Some Say.Already else None
 
-abbrev pub after_decided : WearState → WearCommand → WearState
-after_decided state (Do.Cut n) = record state { fuse = Some n }
-after_decided state Do.Off = if state.power then without_power state else state
-after_decided state command = state
+abbrev pub wear_after_decided : WearState → WearCommand → WearState
+wear_after_decided state (Do.Cut n) = record state { fuse = Some n }
+wear_after_decided state Do.Off = if state.power then wear_without_power state else state
+wear_after_decided state command = state
 
 -- ---- steps
 
 -- a state that is another but for the fuse and the board's counts
-pub record IsButForSteps (expected new : WearState) : Type 0 where
+pub record IsWearButForSteps (expected new : WearState) : Type 0 where
   pub shape : new.shape ≡ expected.shape
   pub keys : new.keys ≡ expected.keys
   pub every : new.every ≡ expected.every
@@ -74,15 +74,15 @@ pub record RisesBySteps (steps writes latches writes_after latches_after : ℕ) 
   pub its_latches : latches_after ≡ counted latches latched
 
 -- steps were done, at most `most` and no more than the fuse had left, and nothing was cut
-pub record GoesTo (expected : WearState) (steps most : ℕ) (old new : WearState) : Type 0 where
-  pub becomes : IsButForSteps expected new
+pub record GoesToWearState (expected : WearState) (steps most : ℕ) (old new : WearState) : Type 0 where
+  pub becomes : IsWearButForSteps expected new
   pub rises : RisesBySteps steps old.writes old.latches new.writes new.latches
   pub few : steps ≤ most
   pub fuse : HasBurnt steps old.fuse new.fuse old.cuts new.cuts
 
 -- power was cut with the fuse used up, after fewer than `most` steps
-pub record IsCutOff (expected : WearState) (steps most : ℕ) (old new : WearState) : Type 0 where
-  pub becomes : IsButForSteps (without_power expected) new
+pub record IsWearCutOff (expected : WearState) (steps most : ℕ) (old new : WearState) : Type 0 where
+  pub becomes : IsWearButForSteps (wear_without_power expected) new
   pub rises : RisesBySteps steps old.writes old.latches new.writes new.latches
   pub below : steps < most
   pub fuse : HasRunOut steps old.fuse new.fuse old.cuts new.cuts
@@ -99,8 +99,8 @@ abbrev pub most_of_write : WearState → ℕ
 most_of_write state =
     if is_due state then 3 * write_steps state.shape + read_steps state.shape else write_steps state.shape
 
-abbrev pub most_of_on : WearState → ℕ
-most_of_on state = recovery_bound state.shape + read_steps state.shape
+abbrev pub wear_most_of_on : WearState → ℕ
+wear_most_of_on state = recovery_bound state.shape + read_steps state.shape
 
 -- ---- a write
 
@@ -115,20 +115,20 @@ is_own_seal a (Begin page) = false
 is_own_seal a (Seal b ctr cipher tag) = b == a && nat_lt 0 ctr.minor
 
 -- the marks are all those of the writes that are done
-abbrev pub AreAllMade : Formulas → Moment → List Posted → Writing → Type 0
-AreAllMade f now writes writing =
+abbrev pub AreAllWritesMade : Formulas → Moment → List Posted → Writing → Type 0
+AreAllWritesMade f now writes writing =
     (writing.done ≤ length writes) × (drained_marks f now writes writing.done ≡ Some writing.made)
 
 -- power was cut as one of them ended, or in the next one
 abbrev pub IsCutAmong : Formulas → Moment → List Posted → Writing → Type 0
 IsCutAmong f now writes writing =
-    AreAllMade f now writes writing ⊎ IsStopped f now writes writing.done writing.made
+    AreAllWritesMade f now writes writing ⊎ IsStopped f now writes writing.done writing.made
 
 -- How far a write came, by its answer: all of its engine writes; or up to one whose counter is used up, which is
 -- the line's own or a later one; or up to a cut, with the seal of the line's own write or before it.
 abbrev pub IsWriting : Formulas → Moment → List Posted → Writing → WearAnswer → Type 0
 IsWriting f now writes writing (Say.Written steps) =
-    (writing.done ≡ length writes) × AreAllMade f now writes writing
+    (writing.done ≡ length writes) × AreAllWritesMade f now writes writing
 IsWriting f now writes writing (Say.Held page steps) =
     (0 < writing.done) × IsSpentNext f now writes writing.done page writing.made
 IsWriting f now writes writing (Say.Spent page steps) =
@@ -140,10 +140,10 @@ IsWriting f now writes writing (Say.CutLost steps) =
 IsWriting f now writes writing answer = ⊥
 
 -- whether the line's own seal is among the marks, after a cut
-abbrev pub IsKept : ℕ → List Mark → WearAnswer → Type 0
-IsKept place made (Say.CutKept steps) = list_any (is_own_seal place) made ≡ true
-IsKept place made (Say.CutLost steps) = list_any (is_own_seal place) made ≡ false
-IsKept place made answer = ⊤
+abbrev pub IsWearWriteKept : ℕ → List Mark → WearAnswer → Type 0
+IsWearWriteKept place made (Say.CutKept steps) = list_any (is_own_seal place) made ≡ true
+IsWearWriteKept place made (Say.CutLost steps) = list_any (is_own_seal place) made ≡ false
+IsWearWriteKept place made answer = ⊤
 
 -- the state that so many done writes leave, but for power, fuse and counts
 abbrev pub after_writing : WearState → ℕ → Line → Writing → WearState
@@ -151,101 +151,101 @@ after_writing old a plain writing =
     record (with_writes old a plain writing.done) { marks = old.marks ++ writing.made }
 
 abbrev pub EndsWriting : WearState → WearAnswer → WearState → WearState → Type 0
-EndsWriting expected (Say.CutKept steps) old new = IsCutOff expected steps (most_of_write old) old new
-EndsWriting expected (Say.CutLost steps) old new = IsCutOff expected steps (write_steps old.shape) old new
-EndsWriting expected (Say.Written steps) old new = GoesTo expected steps (most_of_write old) old new
-EndsWriting expected (Say.Held page steps) old new = GoesTo expected steps (most_of_write old) old new
-EndsWriting expected (Say.Spent page steps) old new = GoesTo expected steps (path_length old.shape) old new
+EndsWriting expected (Say.CutKept steps) old new = IsWearCutOff expected steps (most_of_write old) old new
+EndsWriting expected (Say.CutLost steps) old new = IsWearCutOff expected steps (write_steps old.shape) old new
+EndsWriting expected (Say.Written steps) old new = GoesToWearState expected steps (most_of_write old) old new
+EndsWriting expected (Say.Held page steps) old new = GoesToWearState expected steps (most_of_write old) old new
+EndsWriting expected (Say.Spent page steps) old new = GoesToWearState expected steps (path_length old.shape) old new
 EndsWriting expected answer old new = ⊥
 
-pub record HasWritten (setup : Setup) (old : WearState) (a : ℕ) (plain : Line) (answer : WearAnswer) (new : WearState) :
+pub record HasWearWritten (setup : Setup) (old : WearState) (a : ℕ) (plain : Line) (answer : WearAnswer) (new : WearState) :
     Type 0 where
   pub writing : Writing
-  pub came : IsWriting setup.formulas (moment_in setup old) (engine_writes setup old a plain) writing answer
-  pub kept : IsKept (place_in old a) writing.made answer
+  pub came : IsWriting setup.formulas (wear_moment_in setup old) (engine_writes setup old a plain) writing answer
+  pub kept : IsWearWriteKept (place_in old a) writing.made answer
   pub ends : EndsWriting (after_writing old a plain writing) answer old new
 
 -- ---- a read, and recovery
 
-abbrev pub HasRead : WearState → ℕ → WearAnswer → WearState → Type 0
-HasRead old a (Say.Got line steps) new =
-    (line ≡ line_at old.memory a) × GoesTo old steps (read_steps old.shape) old new
-HasRead old a (Say.Cut steps) new = IsCutOff old steps (read_steps old.shape) old new
-HasRead old a answer new = ⊥
+abbrev pub HasWearRead : WearState → ℕ → WearAnswer → WearState → Type 0
+HasWearRead old a (Say.Got line steps) new =
+    (line ≡ line_at old.memory a) × GoesToWearState old steps (read_steps old.shape) old new
+HasWearRead old a (Say.Cut steps) new = IsWearCutOff old steps (read_steps old.shape) old new
+HasWearRead old a answer new = ⊥
 
 -- no write was done since power came on
 abbrev pub with_power : WearState → WearState
 with_power state = record state { power = true; count = 0 }
 
-abbrev pub HasOpened : WearState → WearAnswer → WearState → Type 0
-HasOpened old (Say.Opened start gap steps) new =
-    (start ≡ old.wear.start) × (gap ≡ old.wear.gap) × GoesTo (with_power old) steps (most_of_on old) old new
-HasOpened old (Say.Cut steps) new = IsCutOff old steps (most_of_on old) old new
-HasOpened old answer new = ⊥
+abbrev pub HasWearOpened : WearState → WearAnswer → WearState → Type 0
+HasWearOpened old (Say.Opened start gap steps) new =
+    (start ≡ old.wear.start) × (gap ≡ old.wear.gap) × GoesToWearState (with_power old) steps (wear_most_of_on old) old new
+HasWearOpened old (Say.Cut steps) new = IsWearCutOff old steps (wear_most_of_on old) old new
+HasWearOpened old answer new = ⊥
 
 -- ---- the relation
 
 -- what the engine answers, and what it leaves
-abbrev pub IsServed : Setup → WearState → WearCommand → WearAnswer → WearState → Type 0
-IsServed setup old (Do.Write a plain) answer new = HasWritten setup old a plain answer new
-IsServed setup old (Do.Read a) answer new = HasRead old a answer new
-IsServed setup old Do.On answer new = HasOpened old answer new
-IsServed setup old command answer new = ⊥
+abbrev pub IsWearServed : Setup → WearState → WearCommand → WearAnswer → WearState → Type 0
+IsWearServed setup old (Do.Write a plain) answer new = HasWearWritten setup old a plain answer new
+IsWearServed setup old (Do.Read a) answer new = HasWearRead old a answer new
+IsWearServed setup old Do.On answer new = HasWearOpened old answer new
+IsWearServed setup old command answer new = ⊥
 
--- a decided answer leaves the counts as they are
-abbrev pub IsAnsweredAs :
+-- a wear_decided answer leaves the counts as they are
+abbrev pub IsWearAnsweredAs :
     Option WearAnswer → Setup → WearState → WearCommand → WearAnswer → WearState → Type 0
-IsAnsweredAs (Some fixed) setup old command answer new =
-    (answer ≡ fixed) × (new ≡ after_decided old command)
-IsAnsweredAs None setup old command answer new = IsServed setup old command answer new
+IsWearAnsweredAs (Some fixed) setup old command answer new =
+    (answer ≡ fixed) × (new ≡ wear_after_decided old command)
+IsWearAnsweredAs None setup old command answer new = IsWearServed setup old command answer new
 
 -- the answer that the state decides, or else one that the engine may give
-abbrev pub IsAnswered : Setup → WearState → WearCommand → WearAnswer → WearState → Type 0
-IsAnswered setup old command answer new =
-    IsAnsweredAs (decided old command) setup old command answer new
+abbrev pub IsWearAnswered : Setup → WearState → WearCommand → WearAnswer → WearState → Type 0
+IsWearAnswered setup old command answer new =
+    IsWearAnsweredAs (wear_decided old command) setup old command answer new
 
 -- an exhibit comes of recovery alone: a twin that holds, of the last seal of one of the data lines
-abbrev pub IsShownBy : Setup → WearState → WearCommand → Exhibit → Type 0
-IsShownBy setup old Do.On (Twin at major low high cipher tag) =
+abbrev pub IsWearShownBy : Setup → WearState → WearCommand → Exhibit → Type 0
+IsWearShownBy setup old Do.On (Twin at major low high cipher tag) =
     (old.power ≡ false) × (at < data_lines setup.shape)
     × IsExhibit setup.formulas (Twin at major low high cipher tag)
-    × IsTwinOfSeal setup (places_in setup old) old.loss (view_in old) at major low high cipher tag
-IsShownBy setup old command exhibit = ⊥
+    × IsTwinOfSeal setup (wear_places_in setup old) old.loss (wear_view_in old) at major low high cipher tag
+IsWearShownBy setup old command exhibit = ⊥
 
 -- whether a command may want memory
-abbrev pub takes_memory : WearCommand → Bool
-takes_memory (Do.Write a plain) = true
-takes_memory Do.On = true
-takes_memory command = false
+abbrev pub wear_takes_memory : WearCommand → Bool
+wear_takes_memory (Do.Write a plain) = true
+wear_takes_memory Do.On = true
+wear_takes_memory command = false
 
 -- a command may want memory where the state doesn't decide its answer
-abbrev pub CanWantMemory : WearState → WearCommand → Type 0
-CanWantMemory old command = IsTrue (takes_memory command) × (decided old command ≡ None)
+abbrev pub IsWearMemoryWanted : WearState → WearCommand → Type 0
+IsWearMemoryWanted old command = IsTrue (wear_takes_memory command) × (wear_decided old command ≡ None)
 
 -- why a command has no answer: memory is wanted, and nothing was done; or it is an exhibit
-abbrev pub IsHalt : Setup → WearState → WearCommand → Halt → WearState → Type 0
-IsHalt setup old command Stop.Memory new = CanWantMemory old command × (new ≡ old)
-IsHalt setup old command (Stop.Shown exhibit) new = IsShownBy setup old command exhibit
-IsHalt setup old command (Stop.Line kind) new = ⊥
+abbrev pub IsWearHalt : Setup → WearState → WearCommand → Halt → WearState → Type 0
+IsWearHalt setup old command Stop.Memory new = IsWearMemoryWanted old command × (new ≡ old)
+IsWearHalt setup old command (Stop.Shown exhibit) new = IsWearShownBy setup old command exhibit
+IsWearHalt setup old command (Stop.Line kind) new = ⊥
 
 -- ---- a line and its answer
 
 -- the line asks for a command, and the text is that of one of its answers
-pub record IsTalkedOf (setup : Setup) (old : WearState) (line text : List ℕ) (new : WearState) : Type 0 where
+pub record IsWearTalkedOf (setup : Setup) (old : WearState) (line text : List ℕ) (new : WearState) : Type 0 where
   pub command : WearCommand
   pub its_reading : reading_of_wear line ≡ Ok (Some command)
   pub answer : WearAnswer
   pub its_text : text ≡ wear_text answer
-  pub answered : IsAnswered setup old command answer new
+  pub answered : IsWearAnswered setup old command answer new
 
 -- the line asks for a command whose answer is the exhibit
-pub record IsShownOf (setup : Setup) (old : WearState) (line : List ℕ) (exhibit : Exhibit) : Type 0 where
+pub record IsWearShownOf (setup : Setup) (old : WearState) (line : List ℕ) (exhibit : Exhibit) : Type 0 where
   pub command : WearCommand
   pub its_reading : reading_of_wear line ≡ Ok (Some command)
-  pub shown : IsShownBy setup old command exhibit
+  pub shown : IsWearShownBy setup old command exhibit
 
 -- the line asks for a command that may want memory
-pub record IsStarvedOf (old : WearState) (line : List ℕ) : Type 0 where
+pub record IsWearStarvedOf (old : WearState) (line : List ℕ) : Type 0 where
   pub command : WearCommand
   pub its_reading : reading_of_wear line ≡ Ok (Some command)
-  pub wanted : CanWantMemory old command
+  pub wanted : IsWearMemoryWanted old command

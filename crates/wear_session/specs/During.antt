@@ -11,35 +11,35 @@ use Rattle.pmem_recovery.specs.Parts.{SuiteState}
 use Rattle.pmem_recovery.specs.Recovered.{HasRecovered}
 use Rattle.start_gap.specs.declared.gapped.Gapped.{Gapped}
 use Rattle.start_gap.specs.declared.gapped.GapFault.{GapFault}
-use Rattle.start_gap.specs.Gapped.{HasOpened}
+use Rattle.start_gap.specs.Gapped.{HasGappedOpened}
 use Rattle.wear_session.specs.declared.calls.StartFault.{StartFault}
 use Rattle.wear_session.specs.declared.calls.StartFault.TheVariants.{Recovery, Opening}
 
 -- the answer of both by that of the opening
-abbrev pub started_as : Result Gapped GapFault → Result Gapped StartFault
-started_as (Ok gapped) = Ok gapped
-started_as (Err fault) = Err (Opening fault)
+abbrev pub wear_started_as : Result Gapped GapFault → Result Gapped StartFault
+wear_started_as (Ok gapped) = Ok gapped
+wear_started_as (Err fault) = Err (Opening fault)
 
 -- what follows recovery: where it is done its engine's lines are opened, else nothing
-abbrev pub HasOpenedAfter :
+abbrev pub HasWearOpenedAfter :
     Result (EngineState × Work) RecFault → Setup → ℕ → Device → Device → LedgerState → LedgerState → SuiteState
     → SuiteState → Result Gapped StartFault → Type 0
-HasOpenedAfter (Ok done) setup every between new ledger_between ledger_new suite_between suite_new answer =
+HasWearOpenedAfter (Ok done) setup every between new ledger_between ledger_new suite_between suite_new answer =
     (opened : Result Gapped GapFault)
-    × HasOpened setup every
+    × HasGappedOpened setup every
     (parts_of done.0 between ledger_between suite_between.tags suite_between.digests)
     (λ now. parts_of now new ledger_new suite_new.tags suite_new.digests) opened
-    × (answer ≡ started_as opened)
-HasOpenedAfter (Err fault) setup every between new ledger_between ledger_new suite_between suite_new answer =
+    × (answer ≡ wear_started_as opened)
+HasWearOpenedAfter (Err fault) setup every between new ledger_between ledger_new suite_between suite_new answer =
     (answer ≡ Err (Recovery fault)) × (new ≡ between) × (ledger_new ≡ ledger_between)
     × (suite_new ≡ suite_between)
 
 -- recovery, and then the opening
-pub record HasStarted (setup : Setup) (every : ℕ) (old new : Device) (ledger_old ledger_new : LedgerState)
+pub record HasWearStarted (setup : Setup) (every : ℕ) (old new : Device) (ledger_old ledger_new : LedgerState)
     (suite_old suite_new : SuiteState) (answer : Result Gapped StartFault) : Type 0 where
   pub recovery : Result (EngineState × Work) RecFault
   pub between : Device
   pub suite_between : SuiteState
   pub recovered : HasRecovered setup ledger_old old between suite_old suite_between recovery
   pub then :
-      HasOpenedAfter recovery setup every between new ledger_old ledger_new suite_between suite_new answer
+      HasWearOpenedAfter recovery setup every between new ledger_old ledger_new suite_between suite_new answer

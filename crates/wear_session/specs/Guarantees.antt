@@ -15,8 +15,8 @@ use Rattle.wear_session.specs.declared.commands.WearCommand.{WearCommand}
 use Rattle.wear_session.specs.declared.commands.WearCommand.TheVariants as Do
 use Rattle.wear_session.specs.declared.answers.WearAnswer.{WearAnswer}
 use Rattle.wear_session.specs.declared.answers.WearAnswer.TheVariants as Say
-use Rattle.wear_session.specs.State.{WearState, IsNewWear, moment_in, engine_writes}
-use Rattle.wear_session.specs.Answered.{IsAnswered}
+use Rattle.wear_session.specs.State.{WearState, IsNewWear, wear_moment_in, engine_writes}
+use Rattle.wear_session.specs.Answered.{IsWearAnswered}
 
 -- ---- chains of answers
 
@@ -26,17 +26,17 @@ pub record WearReply : Type 0 where
   pub answer : WearAnswer
 
 -- each was answered in the state that those before it left
-abbrev pub AreAnswered : Setup → WearState → List WearReply → WearState → Type 0
-AreAnswered setup first [] last = last ≡ first
-AreAnswered setup first (reply ∷ replies) last =
-    (next : WearState) × IsAnswered setup first reply.command reply.answer next
-    × AreAnswered setup next replies last
+abbrev pub AreWearAnswered : Setup → WearState → List WearReply → WearState → Type 0
+AreWearAnswered setup first [] last = last ≡ first
+AreWearAnswered setup first (reply ∷ replies) last =
+    (next : WearState) × IsWearAnswered setup first reply.command reply.answer next
+    × AreWearAnswered setup next replies last
 
 -- a chain from a new session on
-pub record IsSession (setup : Setup) (every : ℕ) (replies : List WearReply) (last : WearState) : Type 0 where
+pub record IsWearSession (setup : Setup) (every : ℕ) (replies : List WearReply) (last : WearState) : Type 0 where
   pub first : WearState
   pub is_new : IsNewWear setup every first
-  pub answered : AreAnswered setup first replies last
+  pub answered : AreWearAnswered setup first replies last
 
 -- ---- what is read
 
@@ -48,15 +48,15 @@ memory_with_reply memory (Do.Write a plain) (Say.CutKept steps) = slice_set memo
 memory_with_reply memory command answer = memory
 
 -- a read shows this memory's line
-abbrev pub IsReadOf : Memory → WearCommand → WearAnswer → Type 0
-IsReadOf memory (Do.Read a) (Say.Got plain steps) = plain ≡ line_at memory a
-IsReadOf memory command answer = ⊤
+abbrev pub IsWearReadOf : Memory → WearCommand → WearAnswer → Type 0
+IsWearReadOf memory (Do.Read a) (Say.Got plain steps) = plain ≡ line_at memory a
+IsWearReadOf memory command answer = ⊤
 
 -- each read shows the line that was last written, or that of this memory
 abbrev pub AreReadAsWritten : Memory → List WearReply → Type 0
 AreReadAsWritten memory [] = ⊤
 AreReadAsWritten memory (reply ∷ replies) =
-    IsReadOf memory reply.command reply.answer
+    IsWearReadOf memory reply.command reply.answer
     × AreReadAsWritten (memory_with_reply memory reply.command reply.answer) replies
 
 -- ---- start and gap
@@ -105,37 +105,37 @@ no_turning n = record { wear = first_wear n; written = 0 }
 -- ---- recovery
 
 -- recovery ends with power on, unless it is cut; or it shows a twin
-abbrev pub IsMendedAnswer : WearCommand → WearAnswer → Type 0
-IsMendedAnswer Do.On Say.Already = ⊤
-IsMendedAnswer Do.On (Say.Opened start gap steps) = ⊤
-IsMendedAnswer Do.On (Say.Cut steps) = ⊤
-IsMendedAnswer Do.On answer = ⊥
-IsMendedAnswer command answer = ⊤
+abbrev pub IsWearMendedAnswer : WearCommand → WearAnswer → Type 0
+IsWearMendedAnswer Do.On Say.Already = ⊤
+IsWearMendedAnswer Do.On (Say.Opened start gap steps) = ⊤
+IsWearMendedAnswer Do.On (Say.Cut steps) = ⊤
+IsWearMendedAnswer Do.On answer = ⊥
+IsWearMendedAnswer command answer = ⊤
 
 -- ---- used up
 
 -- one of the command's engine writes was answered as used up: of the line's place, or after the line's own write
 -- of the gap or of the record
-pub record WasSpent (setup : Setup) (old : WearState) (a : ℕ) (plain : Line) (done page : ℕ) : Type 0 where
-  pub used_up : next_marks setup.formulas (moment_in setup old) (engine_writes setup old a plain) done ≡ None
+pub record WasWearSpent (setup : Setup) (old : WearState) (a : ℕ) (plain : Line) (done page : ℕ) : Type 0 where
+  pub used_up : next_marks setup.formulas (wear_moment_in setup old) (engine_writes setup old a plain) done ≡ None
   pub its_page :
       MatchOption (slice_get (engine_writes setup old a plain) done) ⊥ (λ write. page_of write.at ≡ page)
 
 -- a held move comes only so, and a line that is spent too, by which nothing is written
-abbrev pub IsSpentAnswer : Setup → WearState → WearCommand → WearAnswer → WearState → Type 0
-IsSpentAnswer setup old (Do.Write a plain) (Say.Held page steps) new =
-    (done : ℕ) × (0 < done) × WasSpent setup old a plain done page
-IsSpentAnswer setup old (Do.Write a plain) (Say.Spent page steps) new =
-    WasSpent setup old a plain 0 page × (new.memory ≡ old.memory) × (new.wear ≡ old.wear)
+abbrev pub IsWearSpentAnswer : Setup → WearState → WearCommand → WearAnswer → WearState → Type 0
+IsWearSpentAnswer setup old (Do.Write a plain) (Say.Held page steps) new =
+    (done : ℕ) × (0 < done) × WasWearSpent setup old a plain done page
+IsWearSpentAnswer setup old (Do.Write a plain) (Say.Spent page steps) new =
+    WasWearSpent setup old a plain 0 page × (new.memory ≡ old.memory) × (new.wear ≡ old.wear)
     × (new.marks ≡ old.marks)
-IsSpentAnswer setup old command answer new = ⊤
+IsWearSpentAnswer setup old command answer new = ⊤
 
 -- so it is of each answer of a chain
-abbrev pub AreSpentAsUsedUp : Setup → WearState → List WearReply → Type 0
-AreSpentAsUsedUp setup first [] = ⊤
-AreSpentAsUsedUp setup first (reply ∷ replies) =
-    (next : WearState) × IsAnswered setup first reply.command reply.answer next
-    × IsSpentAnswer setup first reply.command reply.answer next × AreSpentAsUsedUp setup next replies
+abbrev pub AreWearSpentAsUsedUp : Setup → WearState → List WearReply → Type 0
+AreWearSpentAsUsedUp setup first [] = ⊤
+AreWearSpentAsUsedUp setup first (reply ∷ replies) =
+    (next : WearState) × IsWearAnswered setup first reply.command reply.answer next
+    × IsWearSpentAnswer setup first reply.command reply.answer next × AreWearSpentAsUsedUp setup next replies
 
 -- ---- the whole
 
@@ -145,18 +145,18 @@ pub record AreWearReplies (n every : ℕ) (replies : List WearReply) : Type 0 wh
   pub reads : AreReadAsWritten (replicate n zero_line) replies
   pub turning : Turning
   pub turned : AreTurned n every (no_turning n) replies turning
-  pub mended : All (λ reply. IsMendedAnswer reply.command reply.answer) replies
+  pub mended : All (λ reply. IsWearMendedAnswer reply.command reply.answer) replies
 
 -- each session's replies do
 abbrev pub IsWearKept : Setup → Type 0
 IsWearKept setup =
     (every : ℕ) (replies : List WearReply) (last : WearState)
-    → IsSession setup every replies last
+    → IsWearSession setup every replies last
     → AreWearReplies (logical_lines setup.shape) every replies
 
 -- and each is held or spent only where a counter is used up
 abbrev pub IsWearSpent : Setup → Type 0
 IsWearSpent setup =
     (every : ℕ) (first last : WearState) (replies : List WearReply)
-    → IsNewWear setup every first → AreAnswered setup first replies last
-    → AreSpentAsUsedUp setup first replies
+    → IsNewWear setup every first → AreWearAnswered setup first replies last
+    → AreWearSpentAsUsedUp setup first replies

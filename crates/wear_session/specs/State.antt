@@ -46,27 +46,27 @@ pub record WearState : Type 0 where
 -- ---- what it says
 
 -- the geometry, and a suite's formulas under the session's keys
-abbrev pub setup_in : (List ℕ → Formulas) → WearState → Setup
-setup_in formulas_of state = record { shape = state.shape; formulas = formulas_of state.keys }
+abbrev pub wear_setup_in : (List ℕ → Formulas) → WearState → Setup
+wear_setup_in formulas_of state = record { shape = state.shape; formulas = formulas_of state.keys }
 
 -- how many logical lines there are
-abbrev pub lines_in : WearState → ℕ
-lines_in state = logical_lines state.shape
+abbrev pub wear_lines_in : WearState → ℕ
+wear_lines_in state = logical_lines state.shape
 
 -- what the marks say of counters and of pages under re-encryption
-abbrev pub view_in : WearState → DeviceView
-view_in state = view_of state.shape state.marks
+abbrev pub wear_view_in : WearState → DeviceView
+wear_view_in state = view_of state.shape state.marks
 
 -- the data lines, place by place and with the record, as they were last sealed
-abbrev pub places_in : Setup → WearState → Memory
-places_in setup state = plain_memory setup state.marks
+abbrev pub wear_places_in : Setup → WearState → Memory
+wear_places_in setup state = plain_memory setup state.marks
 
 -- what a write of the engine finds
-abbrev pub moment_in : Setup → WearState → Moment
-moment_in setup state = record { memory = places_in setup state; view = view_in state }
+abbrev pub wear_moment_in : Setup → WearState → Moment
+wear_moment_in setup state = record { memory = wear_places_in setup state; view = wear_view_in state }
 
 abbrev pub place_in : WearState → ℕ → ℕ
-place_in state a = place_of (lines_in state) state.wear a
+place_in state a = place_of (wear_lines_in state) state.wear a
 
 -- whether a move follows the next write
 abbrev pub is_due : WearState → Bool
@@ -88,12 +88,12 @@ own_write state a plain = whole_write (place_in state a) plain
 abbrev pub engine_writes : Setup → WearState → ℕ → Line → List Posted
 engine_writes setup state a plain =
     let own = own_write state a plain in
-    own ∷ (if is_due state then moving_writes (lines_in state) state.wear (memory_with (places_in setup state) own) else [])
+    own ∷ (if is_due state then moving_writes (wear_lines_in state) state.wear (memory_with (wear_places_in setup state) own) else [])
 
 -- ---- the state after
 
-abbrev pub without_power : WearState → WearState
-without_power state = record state { count = 0; power = false; fuse = None }
+abbrev pub wear_without_power : WearState → WearState
+wear_without_power state = record state { count = 0; power = false; fuse = None }
 
 -- So many of a write's engine writes were done: by the first the line is written, and by all three of a
 -- write with its move the next wear is recorded.
@@ -103,7 +103,7 @@ with_writes state a plain done =
     else
     record state {
       memory = slice_set state.memory a plain;
-      wear = if done == 3 then next_wear (lines_in state) state.wear else state.wear;
+      wear = if done == 3 then next_wear (wear_lines_in state) state.wear else state.wear;
       count = if is_due state then 0 else state.count + 1;
     }
 

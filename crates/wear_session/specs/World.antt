@@ -30,8 +30,8 @@ wear_in setup places =
     let n = logical_lines setup.shape in unwrap_or (recorded n (line_at places (n + 1))) (first_wear n)
 
 -- the logical lines, each at its place
-abbrev pub logical_memory : Setup → Memory → Memory
-logical_memory setup places =
+abbrev pub levelled_memory : Setup → Memory → Memory
+levelled_memory setup places =
     let n = logical_lines setup.shape in
     map (λ a. line_at places (place_of n (wear_in setup places) a)) (range_with_len 0 n)
 
@@ -52,7 +52,7 @@ wear_of setup parts =
       shape = setup.shape;
       keys = parts.keys;
       every = parts.every;
-      memory = logical_memory setup places;
+      memory = levelled_memory setup places;
       wear = wear_in setup places;
       count = unwrap_or (option_map (λ gapped. gapped.count) parts.gapped) 0;
       power = parts.board.powered;
@@ -98,5 +98,5 @@ pub record IsWearWorld (setup : Setup) (parts : WearParts) : Type 0 where
   pub places : IsMemoryOf setup parts.ledger.marks (plain_memory setup parts.ledger.marks)
   pub levelled :
       let memory = plain_memory setup parts.ledger.marks in
-      IsLevelled (logical_lines setup.shape) memory (wear_in setup memory) (logical_memory setup memory)
+      IsLevelled (logical_lines setup.shape) memory (wear_in setup memory) (levelled_memory setup memory)
   pub chip : IsLevelledBy setup parts parts.gapped

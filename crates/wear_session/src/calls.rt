@@ -14,9 +14,9 @@ ghost use Rattle.pmem_engine.specs.Outcomes.{LeavesTrusted, LeavesSound};
 ghost use Rattle.pmem_engine.specs.Calls.{IsUsable, HasReadLine};
 ghost use Rattle.pmem_recovery.specs.Parts.{suite_state};
 ghost use Rattle.start_gap.specs.Wear.{place_of};
-ghost use Rattle.start_gap.specs.Gapped.{HasLines, HasWear, HasLevelledWrite, IsLeftLevelled, IsSoundAnswer, IsSpentUnwritten, outcome_by};
+ghost use Rattle.start_gap.specs.Gapped.{HasLines, HasWear, HasLevelledWrite, IsLeftLevelled, IsSoundWriteAnswer, IsSpentUnwritten, write_outcome_by};
 ghost use Rattle.watched_board.specs.Watching.{IsWatched, device_during, none_taken};
-ghost use Rattle.wear_session.specs.During.{HasStarted};
+ghost use Rattle.wear_session.specs.During.{HasWearStarted};
 
 use board::{Board, MemBoard};
 use pmem_base::{Geo, Line};
@@ -129,12 +129,12 @@ pub(crate) fn write<S: Suite>(
         (parts_of gapped.new.engine (device_during (memory_of board.new) result.taken) (ledger_of ledger.new) (S.tags suite.new) (S.digests suite.new)) result.answer }
     ensures trusted { AreTrusted (record { shape = gapped.old.engine.shape; formulas = S.formulas_of (S.keys suite.old) })
         (parts_of gapped.old.engine (device_during (memory_of board.old) none_taken) (ledger_of ledger.old) (S.tags suite.old) (S.digests suite.old))
-        → LeavesTrusted (record { shape = gapped.old.engine.shape; formulas = S.formulas_of (S.keys suite.old) }) (outcome_by result.answer)
+        → LeavesTrusted (record { shape = gapped.old.engine.shape; formulas = S.formulas_of (S.keys suite.old) }) (write_outcome_by result.answer)
         (parts_of gapped.new.engine (device_during (memory_of board.new) result.taken) (ledger_of ledger.new) (S.tags suite.new) (S.digests suite.new)) }
     ensures sound { AreSound (record { shape = gapped.old.engine.shape; formulas = S.formulas_of (S.keys suite.old) })
         (parts_of gapped.old.engine (device_during (memory_of board.old) none_taken) (ledger_of ledger.old) (S.tags suite.old) (S.digests suite.old))
-        → LeavesSound (record { shape = gapped.old.engine.shape; formulas = S.formulas_of (S.keys suite.old) }) (outcome_by result.answer)
-        (parts_of gapped.new.engine (device_during (memory_of board.new) result.taken) (ledger_of ledger.new) (S.tags suite.new) (S.digests suite.new)) × IsSoundAnswer result.answer }
+        → LeavesSound (record { shape = gapped.old.engine.shape; formulas = S.formulas_of (S.keys suite.old) }) (write_outcome_by result.answer)
+        (parts_of gapped.new.engine (device_during (memory_of board.new) result.taken) (ledger_of ledger.new) (S.tags suite.new) (S.digests suite.new)) × IsSoundWriteAnswer result.answer }
     ensures spent { IsSpentUnwritten result.answer }
     ensures watched { IsWatched (memory_of board.old) (memory_of board.new) result.taken }
     ensures keys { S.keys suite.new ≡ S.keys suite.old }
@@ -178,12 +178,12 @@ fn write_watched<'a, K: Start, S: Suite>(
         (parts_of gapped.new.engine (device_during (memory_of result.board.now) result.taken) (ledger_of ledger.new) (S.tags suite.new) (S.digests suite.new)) result.answer }
     ensures trusted { AreTrusted (record { shape = gapped.old.engine.shape; formulas = S.formulas_of (S.keys suite.old) })
         (parts_of gapped.old.engine (device_during (memory_of board.old) none_taken) (ledger_of ledger.old) (S.tags suite.old) (S.digests suite.old))
-        → LeavesTrusted (record { shape = gapped.old.engine.shape; formulas = S.formulas_of (S.keys suite.old) }) (outcome_by result.answer)
+        → LeavesTrusted (record { shape = gapped.old.engine.shape; formulas = S.formulas_of (S.keys suite.old) }) (write_outcome_by result.answer)
         (parts_of gapped.new.engine (device_during (memory_of result.board.now) result.taken) (ledger_of ledger.new) (S.tags suite.new) (S.digests suite.new)) }
     ensures sound { AreSound (record { shape = gapped.old.engine.shape; formulas = S.formulas_of (S.keys suite.old) })
         (parts_of gapped.old.engine (device_during (memory_of board.old) none_taken) (ledger_of ledger.old) (S.tags suite.old) (S.digests suite.old))
-        → LeavesSound (record { shape = gapped.old.engine.shape; formulas = S.formulas_of (S.keys suite.old) }) (outcome_by result.answer)
-        (parts_of gapped.new.engine (device_during (memory_of result.board.now) result.taken) (ledger_of ledger.new) (S.tags suite.new) (S.digests suite.new)) × IsSoundAnswer result.answer }
+        → LeavesSound (record { shape = gapped.old.engine.shape; formulas = S.formulas_of (S.keys suite.old) }) (write_outcome_by result.answer)
+        (parts_of gapped.new.engine (device_during (memory_of result.board.now) result.taken) (ledger_of ledger.new) (S.tags suite.new) (S.digests suite.new)) × IsSoundWriteAnswer result.answer }
     ensures spent { IsSpentUnwritten result.answer }
     ensures watched { IsWatched K.start (memory_of result.board.now) result.taken }
     ensures keys { S.keys suite.new ≡ S.keys suite.old }
@@ -210,7 +210,7 @@ pub(crate) fn start<S: Suite>(
     requires regs { IsValidRegs (shape_of geo.now) (memory_of board.old).regs }
     requires ledger { IsOfShape (shape_of geo.now) (ledger_of ledger.old) }
     requires each_sealed { (a : ℕ) → a < data_lines (shape_of geo.now) → IsSome (last_seal (ledger_of ledger.old).marks a) }
-    ensures started { HasStarted (record { shape = shape_of geo.now; formulas = S.formulas_of (S.keys suite.old) }) every
+    ensures started { HasWearStarted (record { shape = shape_of geo.now; formulas = S.formulas_of (S.keys suite.old) }) every
         (device_during (memory_of board.old) none_taken) (device_during (memory_of board.new) result.taken)
         (ledger_of ledger.old) (ledger_of ledger.new)
         (suite_state (S.keys suite.old) (S.pads suite.old) (S.tags suite.old) (S.digests suite.old))
@@ -246,7 +246,7 @@ fn start_watched<'a, K: Start, S: Suite>(
     requires ledger { IsOfShape (shape_of geo.now) (ledger_of ledger.old) }
     requires each_sealed { (a : ℕ) → a < data_lines (shape_of geo.now) → IsSome (last_seal (ledger_of ledger.old).marks a) }
     ensures name { result.board.ghost_name ≡ K.name }
-    ensures started { HasStarted (record { shape = shape_of geo.now; formulas = S.formulas_of (S.keys suite.old) }) every
+    ensures started { HasWearStarted (record { shape = shape_of geo.now; formulas = S.formulas_of (S.keys suite.old) }) every
         (device_during (memory_of board.old) none_taken) (device_during (memory_of result.board.now) result.taken)
         (ledger_of ledger.old) (ledger_of ledger.new)
         (suite_state (S.keys suite.old) (S.pads suite.old) (S.tags suite.old) (S.digests suite.old))
@@ -275,7 +275,7 @@ fn recover_and_open<B: Board, S: Suite, A: Audit>(
     requires regs { IsValidRegs (shape_of geo.now) (B.device board.old).regs }
     requires ledger { IsOfShape (shape_of geo.now) (A.ledger audit.old) }
     requires each_sealed { (a : ℕ) → a < data_lines (shape_of geo.now) → IsSome (last_seal (A.ledger audit.old).marks a) }
-    ensures started { HasStarted (record { shape = shape_of geo.now; formulas = S.formulas_of (S.keys suite.old) }) every
+    ensures started { HasWearStarted (record { shape = shape_of geo.now; formulas = S.formulas_of (S.keys suite.old) }) every
         (B.device board.old) (B.device board.new) (A.ledger audit.old) (A.ledger audit.new)
         (suite_state (S.keys suite.old) (S.pads suite.old) (S.tags suite.old) (S.digests suite.old))
         (suite_state (S.keys suite.new) (S.pads suite.new) (S.tags suite.new) (S.digests suite.new)) result }

@@ -1,7 +1,7 @@
 //! What a line asks of a levelled memory.
 ghost use Rattle.std.specs.Prelude.{◌≡◌};
 ghost use Rattle.collision_witness.specs.Words.{words_of};
-ghost use Rattle.wear_session.specs.Commands.{command_of, reading_of_wear};
+ghost use Rattle.wear_session.specs.Commands.{wear_command_of, reading_of_wear};
 
 use pmem_base::{Kind, Line};
 use trace_text::{first_word, has_no_word, read_one_number, read_poke};
@@ -24,9 +24,9 @@ pub enum WearCommand {
 }
 
 /// The command that begins with a first word.
-#[tactic(auto, unfolding(crate::specs::Commands::command_of))]
+#[tactic(auto, unfolding(crate::specs::Commands::wear_command_of))]
 fn read_verb(verb: &[u8], text: &[u8]) -> Result<WearCommand, Kind>
-    ensures { result ≡ command_of verb.now (words_of text.now) }
+    ensures { result ≡ wear_command_of verb.now (words_of text.now) }
 {
     if verb == b"write".as_slice() {
         let (at, line) = read_poke(text)?;

@@ -1,8 +1,8 @@
 //! Power, and recovery.
 ghost use Rattle.std.specs.Prelude.{◌≡◌, IfOk, IfErr};
 ghost use Rattle.wear_session.specs.declared.commands.WearCommand.TheVariants as Do;
-ghost use Rattle.wear_session.specs.State.{setup_in};
-ghost use Rattle.wear_session.specs.Answered.{IsAnswered, IsHalt};
+ghost use Rattle.wear_session.specs.State.{wear_setup_in};
+ghost use Rattle.wear_session.specs.Answered.{IsWearAnswered, IsWearHalt};
 
 use crate::answers::WearAnswer;
 use crate::calls::{self, StartFault};
@@ -18,7 +18,7 @@ use trace_text::Halt;
 impl<S: Suite + Drop> WearWorld<S> {
     /// Power is to be cut after `n` more persist steps.
     pub(crate) fn cut(&mut self, n: u64) -> WearAnswer
-        ensures { IsAnswered (setup_in S.formulas_of self.old) self.old (Do.Cut n) result self.new }
+        ensures { IsWearAnswered (wear_setup_in S.formulas_of self.old) self.old (Do.Cut n) result self.new }
     {
         self.board.arm(n);
         WearAnswer::Ok
@@ -26,7 +26,7 @@ impl<S: Suite + Drop> WearWorld<S> {
 
     /// Power goes off.
     pub(crate) fn off(&mut self) -> WearAnswer
-        ensures { IsAnswered (setup_in S.formulas_of self.old) self.old Do.Off result self.new }
+        ensures { IsWearAnswered (wear_setup_in S.formulas_of self.old) self.old Do.Off result self.new }
     {
         if self.gapped.is_none() {
             return WearAnswer::Off;
@@ -38,8 +38,8 @@ impl<S: Suite + Drop> WearWorld<S> {
 
     /// Power comes on, with recovery, and the lines are opened. It stops for want of memory, or at a twin.
     pub(crate) fn on(&mut self, alloc: Global) -> Result<WearAnswer, Halt>
-        ensures answered { IfOk result (λ answer. IsAnswered (setup_in S.formulas_of self.old) self.old Do.On answer self.new) }
-        ensures halted { IfErr result (λ halt. IsHalt (setup_in S.formulas_of self.old) self.old Do.On halt self.new) }
+        ensures answered { IfOk result (λ answer. IsWearAnswered (wear_setup_in S.formulas_of self.old) self.old Do.On answer self.new) }
+        ensures halted { IfErr result (λ halt. IsWearHalt (wear_setup_in S.formulas_of self.old) self.old Do.On halt self.new) }
     {
         if self.gapped.is_some() {
             return Ok(WearAnswer::Already);

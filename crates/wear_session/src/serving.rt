@@ -2,8 +2,8 @@
 ghost use Rattle.std.specs.Prelude.{◌≡◌, IfOk, OnErr};
 ghost use Rattle.std.specs.List.{list_any};
 ghost use Rattle.wear_session.specs.declared.commands.WearCommand.TheVariants as Do;
-ghost use Rattle.wear_session.specs.State.{setup_in};
-ghost use Rattle.wear_session.specs.Answered.{is_own_seal, IsAnswered, CanWantMemory};
+ghost use Rattle.wear_session.specs.State.{wear_setup_in};
+ghost use Rattle.wear_session.specs.Answered.{is_own_seal, IsWearAnswered, IsWearMemoryWanted};
 
 use crate::answers::WearAnswer;
 use crate::calls;
@@ -34,9 +34,9 @@ fn has_own_seal(marks: &[Mark], at: u32) -> bool
 impl<S: Suite + Drop> WearWorld<S> {
     /// A logical line is written. The one error is want of memory.
     pub(crate) fn write(&mut self, at: u64, line: &Line) -> Result<WearAnswer, MemFault>
-        ensures answered { IfOk result (λ answer. IsAnswered (setup_in S.formulas_of self.old) self.old (Do.Write at line.now) answer self.new) }
+        ensures answered { IfOk result (λ answer. IsWearAnswered (wear_setup_in S.formulas_of self.old) self.old (Do.Write at line.now) answer self.new) }
         ensures err { OnErr result (self.new ≡ self.old) }
-        ensures wanting { OnErr result (CanWantMemory self.old (Do.Write at line.now)) }
+        ensures wanting { OnErr result (IsWearMemoryWanted self.old (Do.Write at line.now)) }
     {
         let Some(gapped) = &mut self.gapped else {
             return Ok(WearAnswer::Off);
@@ -81,7 +81,7 @@ impl<S: Suite + Drop> WearWorld<S> {
 
     /// A logical line is read.
     pub(crate) fn read(&mut self, at: u64) -> WearAnswer
-        ensures { IsAnswered (setup_in S.formulas_of self.old) self.old (Do.Read at) result self.new }
+        ensures { IsWearAnswered (wear_setup_in S.formulas_of self.old) self.old (Do.Read at) result self.new }
     {
         let Some(gapped) = &mut self.gapped else {
             return WearAnswer::Off;
@@ -110,7 +110,7 @@ impl<S: Suite + Drop> WearWorld<S> {
 
     /// The place of a logical line.
     pub(crate) fn place(&self, at: u64) -> WearAnswer
-        ensures { IsAnswered (setup_in S.formulas_of self.now) self.now (Do.Place at) result self.now }
+        ensures { IsWearAnswered (wear_setup_in S.formulas_of self.now) self.now (Do.Place at) result self.now }
     {
         let Some(gapped) = &self.gapped else {
             return WearAnswer::Off;

@@ -1,7 +1,7 @@
 //! The session, line by line.
 ghost use Rattle.std.specs.Prelude.{◌≡◌, IfOk, IfErr};
-ghost use Rattle.wear_session.specs.State.{setup_in};
-ghost use Rattle.wear_session.specs.Answered.{IsAnswered, IsHalt};
+ghost use Rattle.wear_session.specs.State.{wear_setup_in};
+ghost use Rattle.wear_session.specs.Answered.{IsWearAnswered, IsWearHalt};
 
 use crate::answers::{WearAnswer, write_wear_answer};
 use crate::commands::{WearCommand, read_wear_command};
@@ -15,8 +15,8 @@ use trace_text::{Halt, TEXT_BYTES, Talk};
 impl<S: Suite + Drop> WearWorld<S> {
     /// What a command answers.
     fn answer(&mut self, alloc: Global, command: &WearCommand) -> Result<WearAnswer, Halt>
-        ensures answered { IfOk result (λ answer. IsAnswered (setup_in S.formulas_of self.old) self.old command.now answer self.new) }
-        ensures halted { IfErr result (λ halt. IsHalt (setup_in S.formulas_of self.old) self.old command.now halt self.new) }
+        ensures answered { IfOk result (λ answer. IsWearAnswered (wear_setup_in S.formulas_of self.old) self.old command.now answer self.new) }
+        ensures halted { IfErr result (λ halt. IsWearHalt (wear_setup_in S.formulas_of self.old) self.old command.now halt self.new) }
     {
         match command {
             WearCommand::Write { at, line } => match self.write(*at, line) {
@@ -34,16 +34,16 @@ impl<S: Suite + Drop> WearWorld<S> {
 
 impl<S: Suite + Drop> Talk for WearWorld<S> {
     ghost use Rattle.wear_session.specs.Commands.{sort_of_wear};
-    ghost use Rattle.wear_session.specs.State.{setup_in};
-    ghost use Rattle.wear_session.specs.Answered.{IsTalkedOf, IsShownOf, IsStarvedOf};
+    ghost use Rattle.wear_session.specs.State.{wear_setup_in};
+    ghost use Rattle.wear_session.specs.Answered.{IsWearTalkedOf, IsWearShownOf, IsWearStarvedOf};
 
     ghost sort_of = { sort_of_wear };
 
-    ghost answers = { λ old line text new. IsTalkedOf (setup_in S.formulas_of old) old line text new };
+    ghost answers = { λ old line text new. IsWearTalkedOf (wear_setup_in S.formulas_of old) old line text new };
 
-    ghost shows = { λ old line exhibit. IsShownOf (setup_in S.formulas_of old) old line exhibit };
+    ghost shows = { λ old line exhibit. IsWearShownOf (wear_setup_in S.formulas_of old) old line exhibit };
 
-    ghost wants_memory = { λ old line. IsStarvedOf old line };
+    ghost wants_memory = { λ old line. IsWearStarvedOf old line };
 
     fn talk(
         &mut self,

@@ -24,7 +24,7 @@ use Rattle.pmem_engine.specs.Engine.{EngineState}
 use Rattle.pmem_engine.specs.Invariants.{IsTrusted, stored_meta, is_named, IsMendable, IsDirtyNamed, IsSound}
 use Rattle.pmem_engine.specs.Steps.{IsPathNamed}
 use Rattle.pmem_engine.specs.Recached.{IsMirrorWritten, IsPathInCache}
-use Rattle.pmem_engine.specs.Named.{slot_line, IsSlotInShadow, ArePathSlotsNamed, AreNodeSlotsNamed}
+use Rattle.pmem_engine.specs.Named.{named_slot_line, IsSlotInShadow, ArePathSlotsNamed, AreNodeSlotsNamed}
 use Rattle.pmem_engine.proofs.Laws.DeviceRegions.{stored_meta-set_shadow}
 use Rattle.pmem_engine.proofs.Laws.GroupLaws.{IsMendable-unarmed, IsDurable-unarmed}
 
@@ -119,18 +119,18 @@ pub IsSound-named : (setup : Setup) (old new : EngineState) (lines : List Line) 
     (ledger : LedgerState) (bank set : ℕ) (slot : Slot) (line : Line) → IsSound setup old lines regs ledger
     → IsBanksOf setup.shape old.cache → Contains (set_of old.cache bank set) slot
     → Names setup.shape old.mirror new.mirror bank (slot_number setup.shape set slot) slot.position → IsLine line
-    → IsMirrorWritten old new (slot_line setup.shape bank set slot) line
-    → IsSound setup new (slice_set lines (shadow_line setup.shape (slot_line setup.shape bank set slot)) line) regs
+    → IsMirrorWritten old new (named_slot_line setup.shape bank set slot) line
+    → IsSound setup new (slice_set lines (shadow_line setup.shape (named_slot_line setup.shape bank set slot)) line) regs
     ledger
 IsSound-named setup old new lines regs ledger bank set slot line sound form stands names good written =
     record {
-      trusted = IsTrusted-named setup old new regs ledger (slot_line setup.shape bank set slot) line written sound.trusted;
+      trusted = IsTrusted-named setup old new regs ledger (named_slot_line setup.shape bank set slot) line written sound.trusted;
       durable =
           IsDurable-unarmed setup after regs ledger
           (AreLinesOf-set (device_lines setup.shape) lines
-          (shadow_line setup.shape (slot_line setup.shape bank set slot)) line sound.durable.device_whole good)
+          (shadow_line setup.shape (named_slot_line setup.shape bank set slot)) line sound.durable.device_whole good)
           sound.trusted.no_group
-          (IsMendable-set_shadow setup lines (slot_line setup.shape bank set slot) line regs ledger
+          (IsMendable-set_shadow setup lines (named_slot_line setup.shape bank set slot) line regs ledger
           (true_or_named_from_sound setup.shape old.cache after ledger.truth form stored named_on_board)
           (IsMendable-unarmed setup lines regs ledger sound.durable sound.trusted.no_group));
       true_unless_dirty =
@@ -143,19 +143,19 @@ IsSound-named setup old new lines regs ledger bank set slot line sound form stan
     }
   where
     after : List Line
-    after = slice_set lines (shadow_line setup.shape (slot_line setup.shape bank set slot)) line
+    after = slice_set lines (shadow_line setup.shape (named_slot_line setup.shape bank set slot)) line
 
     shadow_now : new.mirror ≡ shadow_of setup.shape after
     shadow_now =
         written.mirror
-        ∙ ap (λ mirror. slice_set mirror (slot_line setup.shape bank set slot) line) sound.mirror_true
-        ∙ sym (shadow_of-set setup.shape lines (slot_line setup.shape bank set slot) line)
+        ∙ ap (λ mirror. slice_set mirror (named_slot_line setup.shape bank set slot) line) sound.mirror_true
+        ∙ sym (shadow_of-set setup.shape lines (named_slot_line setup.shape bank set slot) line)
 
     stored : (x : ℕ) → x < meta_lines setup.shape
         → is_cached_dirty setup.shape old.cache (level_of x) x ≡ false
         → stored_meta setup.shape after x ≡ line_at ledger.truth x
     stored x h clean =
-        stored_meta-set_shadow setup.shape lines (slot_line setup.shape bank set slot) line x h
+        stored_meta-set_shadow setup.shape lines (named_slot_line setup.shape bank set slot) line x h
         ∙ sound.true_unless_dirty x h clean
 
     named : (bank' set' : ℕ) → All (IsDirtyNamed setup.shape new.mirror bank' set') (set_of old.cache bank' set')

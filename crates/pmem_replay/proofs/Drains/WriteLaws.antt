@@ -25,7 +25,7 @@ use Rattle.plain_model.specs.State.{PlainState, is_flagged}
 use Rattle.plain_model.specs.View.{view_after_marks, counter_at, true_line}
 use Rattle.plain_model.specs.After.{after_drains}
 use Rattle.plain_model.specs.Asked.{Moment, moment_of, marks_of_write, marks_of_writes}
-use Rattle.plain_model.specs.Legal.{port_of, state_at_turn, can_put_first, MayDiffer, IsRefusalCaused}
+use Rattle.plain_model.specs.Legal.{port_drained, state_at_turn, can_put_first, MayDiffer, IsRefusalCaused}
 use Rattle.plain_model.specs.Shown.{IsShown}
 use Rattle.plain_model.specs.Bounds.{writing_bound, path_length, spent_bound, dirty_bound, is_spent_in_flight, cut_bound, IsCutWriteWithin, IsSpentWithin}
 use Rattle.plain_model.specs.Fits.{IsStopped, IsSpentNext, IsPlaceInFlight}
@@ -100,7 +100,7 @@ module _ (setup : Setup) (old mid new : WorldState) (command : Command) (d : Opt
       fuse_cut old.state.fuse spent (steps_in taken) drained.fuse
       (sym mid_fuse ∙ cut_at_fuse mid.state mid.board new.board taken call.world.board call.follows off few)
 
-  done_writes : IsTrue (can_put_first old.state (port_of command) (unwrap_or d 0))
+  done_writes : IsTrue (can_put_first old.state (port_drained command) (unwrap_or d 0))
   done_writes =
       subst (λ p. IsTrue (can_put_first old.state p (unwrap_or d 0))) (sym writing.its_port)
       (subst (λ k. IsTrue (can_put_first old.state port k)) (sym writing.count) drained.can)

@@ -21,7 +21,7 @@ use Rattle.plain_model.specs.Asked.{Moment, moment_of}
 use Rattle.pmem_base.specs.declared.answers.Exhibit.{Exhibit}
 use Rattle.pmem_base.specs.WaitingWrites.{queue_of}
 use Rattle.plain_model.specs.Answers.{is_engine_answer}
-use Rattle.plain_model.specs.Legal.{front_of, state_at_turn, line_at_turn, port_of, IsLineOfRead}
+use Rattle.plain_model.specs.Legal.{front_of, state_at_turn, line_at_turn, port_drained, IsLineOfRead}
 use Rattle.plain_model.specs.Bounds.{IsWriteWithin, IsWithinBounds}
 use Rattle.plain_model.specs.Fits.{drained_marks, next_marks, marks_in_flight, marks_still_asked, IsStopped, IsResealOf, IsPlaceInFlight, HasWriteMarks, HasMarks, IsPeekTrue}
 use Rattle.pmem_engine.specs.Calls.{IsPartOf, IsRefusedLine}
@@ -37,7 +37,7 @@ use Rattle.pmem_replay.proofs.Drains.DrainLists.{drains_more}
 -- a drain, before which nothing was drained, or a fence after n drained writes
 pub record IsWriting (setup : Setup) (old : WorldState) (command : Command) (drained : Option ℕ) (port n : ℕ) : Type 0 where
   pub count : unwrap_or drained 0 ≡ n
-  pub its_port : port_of command ≡ port
+  pub its_port : port_drained command ≡ port
   pub turn : state_at_turn old.state command n ≡ after_drains old.state port n
   pub line : (state : PlainState) → line_at_turn state command ≡ option_map (λ write. write.at) (front_of state port)
   pub no_read : (b : ℕ) → IsLineOfRead command b

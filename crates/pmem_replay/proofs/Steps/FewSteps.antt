@@ -22,7 +22,7 @@ use Rattle.plain_model.specs.Legal.{front_of}
 use Rattle.plain_model.specs.Shown.{IsEngineReply}
 use Rattle.pmem_replay.specs.World.{WorldState, IsWorld, view_in}
 use Rattle.watched_board.specs.Watching.{step_limit}
-use Rattle.pmem_replay.specs.Stepped.{HasCalled, HasDrained, EndsFence, HasFenced, HasPoweredOn, IsStatAnswer, IsByTable, IsCommandDone, HasStepped, most_steps, AddsFewSteps}
+use Rattle.pmem_replay.specs.Stepped.{HasCalled, HasDrained, EndsFence, HasFenced, HasPoweredOn, IsStatAnswer, IsByTable, IsCommandDone, HasStepped, most_command_steps, AddsFewSteps}
 use Rattle.pmem_replay.proofs.Marks.AfterMarks.{after_marks-is}
 
 -- ---- the state's steps after a reply
@@ -227,12 +227,12 @@ few_front : (setup : Setup) (front : Option Posted) (old new : WorldState) (answ
 few_front setup None old new answer drained quiet = absurd drained
 few_front setup (Some write) old new answer drained quiet = few_called old new answer drained quiet
 
-few_stat : (world : WorldState) (answer : Answer) → IsStatAnswer world answer → steps_of answer ≤ most_steps
+few_stat : (world : WorldState) (answer : Answer) → IsStatAnswer world answer → steps_of answer ≤ most_command_steps
 few_stat world (Say.Counts counts) told = omega arith
 few_stat world answer told = absurd told
 
 few_on : (setup : Setup) (old new : WorldState) (answer : Answer) → HasPoweredOn setup old new answer
-    → is_shown answer ≡ false → steps_of answer ≤ most_steps
+    → is_shown answer ≡ false → steps_of answer ≤ most_command_steps
 few_on setup old new answer on quiet = omega (arith, on.steps quiet, on.few)
 
 -- no queue has more than sixteen writes
@@ -244,7 +244,7 @@ short_queue queues ports port =
     ]
 
 few_done : (setup : Setup) (old new : WorldState) (command : Command) (answer : Answer) → IsWorld setup old
-    → IsCommandDone setup old command answer new → is_shown answer ≡ false → steps_of answer ≤ most_steps
+    → IsCommandDone setup old command answer new → is_shown answer ≡ false → steps_of answer ≤ most_command_steps
 few_done setup old new (Do.Read port at) answer whole done quiet =
     let few = few_called old new answer done quiet in omega (arith, few)
 few_done setup old new (Do.Drain port) answer whole done quiet =
@@ -261,14 +261,14 @@ few_done setup old new (Do.Loss n) answer whole done quiet =
     let few = few_called old new answer done quiet in omega (arith, few)
 few_done setup old new Do.On answer whole done quiet = few_on setup old new answer done quiet
 few_done setup old new (Do.Peek d) answer whole done quiet =
-    subst (λ (a : Answer). steps_of a ≤ most_steps) (sym done.1) (omega arith)
+    subst (λ (a : Answer). steps_of a ≤ most_command_steps) (sym done.1) (omega arith)
 few_done setup old new Do.Stat answer whole done quiet = few_stat old answer done.1
 few_done setup old new command answer whole done quiet = absurd done
 
 few_reply : (setup : Setup) (old new : WorldState) (command : Command) (answer : Answer) (decided : Option Answer) (X : Type 0) → IsWorld setup old
     → NamesNoSteps decided
     → MatchOption decided (IsCommandDone setup old command answer new) (λ told. IsByTable old command told new)
-    → MatchOption decided X (λ told. answer ≡ told) → is_shown answer ≡ false → steps_of answer ≤ most_steps
+    → MatchOption decided X (λ told. answer ≡ told) → is_shown answer ≡ false → steps_of answer ≤ most_command_steps
 few_reply setup old new command answer None X whole none done legal quiet = few_done setup old new command answer whole done quiet
 few_reply setup old new command answer (Some told) X whole none done legal quiet = omega (arith, ap steps_of legal, none)
 

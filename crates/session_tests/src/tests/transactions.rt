@@ -5,7 +5,7 @@ ghost use Rattle.pmem_base.specs.Geo.{shape_of};
 ghost use Rattle.board.specs.Memory.{device_of};
 ghost use Rattle.board.specs.MemBoard.{memory_of};
 ghost use Rattle.pmem_engine.specs.Calls.{IsReady};
-ghost use Rattle.line_txn.specs.Header.{AreBelow};
+ghost use Rattle.line_txn.specs.Header.{AreDistinctBelow};
 ghost use Rattle.line_txn.specs.Logged.{targets_of};
 
 use super::bench::{Bench, fresh, recovered, steps};
@@ -47,7 +47,7 @@ fn commit(
 ) -> Result<Done, CommitFault>
     requires shape { store.old.engine.shape ≡ shape_of bench.old.geo }
     requires ready { IsReady store.old.engine.shape store.old.engine (device_of (memory_of bench.old.board)) }
-    requires targets { AreBelow store.old.lines (targets_of txn.now.items) }
+    requires targets { AreDistinctBelow store.old.lines (targets_of txn.now.items) }
     ensures geo { shape_of bench.new.geo ≡ shape_of bench.old.geo }
     ensures shape { store.new.engine.shape ≡ store.old.engine.shape }
     ensures ready { IsReady store.new.engine.shape store.new.engine (device_of (memory_of bench.new.board)) }

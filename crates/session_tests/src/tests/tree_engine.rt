@@ -3,7 +3,7 @@ ghost use Rattle.std.specs.Prelude.{◌≡◌};
 ghost use Rattle.pmem_base.specs.Geo.{shape_of};
 ghost use Rattle.board.specs.Memory.{device_of};
 ghost use Rattle.board.specs.MemBoard.{memory_of};
-ghost use Rattle.asit_shadow.specs.Parts.{parts_of, IsUsable};
+ghost use Rattle.asit_shadow.specs.Parts.{tree_parts_of, IsTreeUsable};
 
 use crate::tests::equal;
 use asit_shadow::{TreeEngine, TreeFault, TreeRec, tree_format, tree_recover};
@@ -25,7 +25,7 @@ struct Machine<W: Watch + Drop> {
     watch: W,
     engine: TreeEngine,
     ghost its_shape: { engine.shape ≡ shape_of geo },
-    ghost usable: { IsUsable engine.shape (parts_of engine (device_of (memory_of board)) (W.watched watch)) },
+    ghost usable: { IsTreeUsable engine.shape (tree_parts_of engine (device_of (memory_of board)) (W.watched watch)) },
 }
 
 /// A formatted device of the default geometry.

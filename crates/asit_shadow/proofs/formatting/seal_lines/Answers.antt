@@ -10,14 +10,14 @@ use Rattle.pmem_recovery.specs.Formatting.{StaysSteady}
 use Rattle.pmem_recovery.proofs.FormatSteps.{StaysSteady-then}
 use Rattle.pmem_recovery.proofs.PartLaws.{SuiteRise-then, SuiteRise-as}
 use Rattle.asit_shadow.specs.Paths.{tag_only}
-use Rattle.asit_shadow.specs.Formatting.{first_seal, sealed_lines, AreSealsTold}
+use Rattle.asit_shadow.specs.Formatting.{first_tree_seal, tree_sealed_lines, AreSealsTold}
 use Rattle.asit_shadow.proofs.FormatSteps.{length-set_first, sealed-more, seals-more}
 use Rattle.asit_shadow.proofs.formatting.seal_lines.Goals as goal
 
 pub seal_one-requires-clause-seals : goal.seal_one-requires-clause-seals
 seal_one-requires-clause-seals g c =
     ap (λ (seals : List (Option LineSeal)). length seals) c.lines.invariant.told.seals
-    ∙ (length-set_first (λ a. a) (λ a. Some (first_seal (g.S.Suite.formulas_of (g.S.Suite.keys c.args.suite.now)) a)) c.lines.at (g.W.Watch.watched c.args.watch.now).seals ∙ c.requires.seals)
+    ∙ (length-set_first (λ a. a) (λ a. Some (first_tree_seal (g.S.Suite.formulas_of (g.S.Suite.keys c.args.suite.now)) a)) c.lines.at (g.W.Watch.watched c.args.watch.now).seals ∙ c.requires.seals)
 
 pub lines-preserved : goal.lines-preserved
 lines-preserved g c =
@@ -30,10 +30,10 @@ lines-preserved g c =
           sealed-more (record { shape = shape_of c.args.geo.now; formulas = g.S.Suite.formulas_of (g.S.Suite.keys c.args.suite.now) }) c.lines.at (g.B.Board.device c.args.board.now).lines (g.B.Board.device c.lines.board).lines (g.B.Board.device c.seal_one.new.board).lines
           c.lines.invariant.lines
           (subst (λ (keys : List ℕ). (g.B.Board.device c.seal_one.new.board).lines
-          ≡ with_line (with_line (g.B.Board.device c.lines.board).lines c.lines.at (first_seal (g.S.Suite.formulas_of keys) c.lines.at).cipher) (line_of_tag (shape_of c.args.geo.now) c.lines.at) (tag_only (first_seal (g.S.Suite.formulas_of keys) c.lines.at).tag)) c.lines.invariant.keys c.seal_one.ensures.lines);
+          ≡ with_line (with_line (g.B.Board.device c.lines.board).lines c.lines.at (first_tree_seal (g.S.Suite.formulas_of keys) c.lines.at).cipher) (line_of_tag (shape_of c.args.geo.now) c.lines.at) (tag_only (first_tree_seal (g.S.Suite.formulas_of keys) c.lines.at).tag)) c.lines.invariant.keys c.seal_one.ensures.lines);
       told =
           seals-more (g.S.Suite.formulas_of (g.S.Suite.keys c.args.suite.now)) c.lines.at (g.W.Watch.watched c.args.watch.now) (g.W.Watch.watched c.lines.watch) (g.W.Watch.watched c.seal_one.new.watch) c.lines.invariant.told
-          (subst (λ (keys : List ℕ). HasSealNoted (g.W.Watch.watched c.lines.watch) (g.W.Watch.watched c.seal_one.new.watch) c.lines.at (first_seal (g.S.Suite.formulas_of keys) c.lines.at)) c.lines.invariant.keys c.seal_one.ensures.noted);
+          (subst (λ (keys : List ℕ). HasSealNoted (g.W.Watch.watched c.lines.watch) (g.W.Watch.watched c.seal_one.new.watch) c.lines.at (first_tree_seal (g.S.Suite.formulas_of keys) c.lines.at)) c.lines.invariant.keys c.seal_one.ensures.noted);
       counts = SuiteRise-then c.lines.at c.lines.at 0 1 1 0 _ _ _ c.lines.invariant.counts c.seal_one.ensures.counts;
       keys = c.seal_one.ensures.keys ∙ c.lines.invariant.keys;
     }
@@ -46,7 +46,7 @@ returns-clause-steady g c =
 pub returns-clause-lines : goal.returns-clause-lines
 returns-clause-lines g c =
     let all : c.lines.at ≡ tree_lines (shape_of c.args.geo.now) = omega arith in
-    subst (λ n. (g.B.Board.device c.lines.board).lines ≡ option_map (sealed_lines (record { shape = shape_of c.args.geo.now; formulas = g.S.Suite.formulas_of (g.S.Suite.keys c.args.suite.now) }) n) (g.B.Board.device c.args.board.now).lines) all c.lines.invariant.lines
+    subst (λ n. (g.B.Board.device c.lines.board).lines ≡ option_map (tree_sealed_lines (record { shape = shape_of c.args.geo.now; formulas = g.S.Suite.formulas_of (g.S.Suite.keys c.args.suite.now) }) n) (g.B.Board.device c.args.board.now).lines) all c.lines.invariant.lines
 
 pub returns-clause-told : goal.returns-clause-told
 returns-clause-told g c =

@@ -4,7 +4,7 @@ use Rattle.std.specs.Prelude.{option_map}
 use Rattle.pmem_base.specs.Geo.{shape_of}
 use Rattle.pmem_recovery.specs.Formatting.{StaysSteady}
 use Rattle.pmem_recovery.specs.Parts.{suite_state, SuiteRise}
-use Rattle.asit_shadow.specs.Formatting.{sealed_lines, AreSealsTold}
+use Rattle.asit_shadow.specs.Formatting.{tree_sealed_lines, AreSealsTold}
 use Rattle.asit_shadow.proofs.formatting.seal_lines.Given as goal
 
 abbrev pub invariant-lines : goal.invariant-lines
@@ -13,7 +13,7 @@ invariant-lines g l =
       steady : StaysSteady (2 * l.at) (g.B.Board.device l.fn.board) (g.B.Board.device l.board);
       lines :
           (g.B.Board.device l.board).lines
-          ≡ option_map (sealed_lines (record { shape = shape_of l.fn.geo; formulas = g.S.Suite.formulas_of (g.S.Suite.keys l.fn.suite) }) l.at) (g.B.Board.device l.fn.board).lines;
+          ≡ option_map (tree_sealed_lines (record { shape = shape_of l.fn.geo; formulas = g.S.Suite.formulas_of (g.S.Suite.keys l.fn.suite) }) l.at) (g.B.Board.device l.fn.board).lines;
       told : AreSealsTold (g.S.Suite.formulas_of (g.S.Suite.keys l.fn.suite)) l.at (g.W.Watch.watched l.fn.watch) (g.W.Watch.watched l.watch);
       counts :
           SuiteRise l.at l.at 0 (suite_state (g.S.Suite.keys l.fn.suite) (g.S.Suite.pads l.fn.suite) (g.S.Suite.tags l.fn.suite) (g.S.Suite.digests l.fn.suite))

@@ -9,7 +9,7 @@ use Rattle.counter_tree.specs.Watch.{HasSealNoted}
 use Rattle.pmem_recovery.proofs.FormatSteps.{StaysSteady-then, StaysSteady-written}
 use Rattle.asit_shadow.specs.Paths.{tag_only}
 use Rattle.asit_shadow.specs.Writing.{IsSealMade}
-use Rattle.asit_shadow.specs.Formatting.{first_seal}
+use Rattle.asit_shadow.specs.Formatting.{first_tree_seal}
 use Rattle.asit_shadow.proofs.FormatSteps.{first-made}
 use Rattle.asit_shadow.proofs.formatting.seal_one.Goals as goal
 
@@ -23,11 +23,11 @@ pub returns-clause-lines : goal.returns-clause-lines
 returns-clause-lines g c =
     let made = first-made (g.S.Suite.formulas_of (g.S.Suite.keys c.args.suite.now)) c.args.at c.sealed-seal.result
     (subst (λ (l : Line). IsSealMade (g.S.Suite.formulas_of (g.S.Suite.keys c.args.suite.now)) c.args.at 0 l c.sealed-seal.result) c.default.ensures c.sealed-seal.ensures.made) in
-    let tags : c.tag_line.result ≡ tag_only (first_seal (g.S.Suite.formulas_of (g.S.Suite.keys c.args.suite.now)) c.args.at).tag = c.tag_line.ensures ∙ ap (λ (s : LineSeal). tag_only s.tag) made in
+    let tags : c.tag_line.result ≡ tag_only (first_tree_seal (g.S.Suite.formulas_of (g.S.Suite.keys c.args.suite.now)) c.args.at).tag = c.tag_line.ensures ∙ ap (λ (s : LineSeal). tag_only s.tag) made in
     c.write_steady-2.ensures.lines
     ∙ (ap (λ n. with_line (g.B.Board.device c.write_steady.new.board).lines n c.tag_line.result) c.tag_place.ensures.value
     ∙ (ap (with_line (g.B.Board.device c.write_steady.new.board).lines (line_of_tag (shape_of c.args.geo.now) c.args.at)) tags
-    ∙ ap (λ told. with_line told (line_of_tag (shape_of c.args.geo.now) c.args.at) (tag_only (first_seal (g.S.Suite.formulas_of (g.S.Suite.keys c.args.suite.now)) c.args.at).tag))
+    ∙ ap (λ told. with_line told (line_of_tag (shape_of c.args.geo.now) c.args.at) (tag_only (first_tree_seal (g.S.Suite.formulas_of (g.S.Suite.keys c.args.suite.now)) c.args.at).tag))
     (c.write_steady.ensures.lines ∙ ap (λ (s : LineSeal). with_line (g.B.Board.device c.args.board.now).lines c.args.at s.cipher) made)))
 
 pub returns-clause-noted : goal.returns-clause-noted

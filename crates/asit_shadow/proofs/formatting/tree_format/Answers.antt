@@ -7,7 +7,7 @@ use Rattle.pmem_base.specs.Lines.{zero_line}
 use Rattle.counter_tree.specs.Layout.{tree_slots}
 use Rattle.asit_shadow.specs.declared.cache.CachedNode.{CachedNode}
 use Rattle.asit_shadow.specs.State.{TreeState, IsTreeEngine}
-use Rattle.asit_shadow.specs.Parts.{parts_of, IsUsable}
+use Rattle.asit_shadow.specs.Parts.{tree_parts_of, IsTreeUsable}
 use Rattle.asit_shadow.specs.Recovering.{rest_of}
 use Rattle.asit_shadow.specs.Formatting.{first_held, first_cache, HasTreeFormatted}
 use Rattle.asit_shadow.proofs.FormatEnds.{first-engine, tree-formatted, formatted-usable}
@@ -50,7 +50,7 @@ returns-clause-formatted g c =
 pub returns-clause-usable : goal.returns-clause-usable
 returns-clause-usable g c =
     let before = (goal.at.returns-clause-usable g c).After-fill_device in
-    subst (λ (e : TreeState). IsUsable (shape_of c.args.geo.now) (parts_of e (g.B.Board.device c.fill_device.new.board) (g.W.Watch.watched c.fill_device.new.watch))) (sym c.new.ensures)
+    subst (λ (e : TreeState). IsTreeUsable (shape_of c.args.geo.now) (tree_parts_of e (g.B.Board.device c.fill_device.new.board) (g.W.Watch.watched c.fill_device.new.watch))) (sym c.new.ensures)
     (formatted-usable (record { shape = shape_of c.args.geo.now; formulas = g.S.Suite.formulas_of (g.S.Suite.keys c.args.suite.now) })
     (rest_of (g.B.Board.device c.args.board.now) (g.W.Watch.watched c.args.watch.now)) (rest_of (g.B.Board.device c.fill_device.new.board) (g.W.Watch.watched c.fill_device.new.watch))
     (record { shape = shape_of c.args.geo.now; cache = slice_set c.in_ok-room.room.cache.items 0 (Some first_held); tree = c.fill_device.new.tree; down = false })

@@ -5,13 +5,13 @@ use Rattle.pmem_base.specs.Geo.{shape_of}
 use Rattle.pmem_base.specs.Lines.{IsLine, line_at}
 use Rattle.board.specs.Steps.{Tells}
 use Rattle.counter_tree.specs.Layout.{line_of_slot}
-use Rattle.asit_shadow.specs.Recovering.{HasOnlyRead}
+use Rattle.asit_shadow.specs.Recovering.{HasOnlyReadLines}
 use Rattle.asit_shadow.proofs.recovery.read_slots.Given as goal
 
 abbrev pub invariant-slots : goal.invariant-slots
 invariant-slots g l =
     record {
-      read : HasOnlyRead l.i (g.B.Board.device l.fn.board) (g.B.Board.device l.board);
+      read : HasOnlyReadLines l.i (g.B.Board.device l.fn.board) (g.B.Board.device l.board);
       whole : All IsLine l.slots;
       told :
           (j : ℕ) → j < l.i

@@ -1,7 +1,7 @@
 use Rattle.std.proofs.Common.{◌≡◌, false, sym, ap, subst, ◌∙◌, rules, arith}
 use Rattle.std.specs.Prelude.{IsTrue}
 use Rattle.std.proofs.lemmas.Bool.{false≢true}
-use Rattle.line_txn.specs.Header.{AreBelow, header_of}
+use Rattle.line_txn.specs.Header.{AreDistinctBelow, header_of}
 use Rattle.line_txn.proofs.Headers.{too_many, read_of_header}
 use Rattle.line_txn.proofs.header.read_header.Goals as goal
 use Rattle.line_txn.proofs.header.read_header.Goals.{else-are_targets-via-then-are_targets+else-eq, else-are_targets-via-else-are_targets}
@@ -19,7 +19,7 @@ returns-else-are_targets-clause-none c = λ _ targets its.
           let other : w.header_line.result ≡ c.args.line.now → ⊥ = search rules in
           other same
       | else-are_targets-via-else-are_targets w ↦
-          let below : AreBelow c.args.n c.deref.result.now = subst (AreBelow c.args.n) (sym c.deref.ensures.0) read.0 in
+          let below : AreDistinctBelow c.args.n c.deref.result.now = subst (AreDistinctBelow c.args.n) (sym c.deref.ensures.0) read.0 in
           let true_now : IsTrue c.are_targets.result = c.are_targets.ensures.1 below in
           let never : IsTrue false = subst IsTrue w.if-are_targets.false true_now in
           false≢true never

@@ -1,7 +1,7 @@
 use Rattle.std.proofs.Common.{◌≡◌}
 use Rattle.suite.specs.Setup.{Setup}
 use Rattle.pmem_base.specs.Geo.{shape_of}
-use Rattle.txn_session.specs.State.{TxnState, setup_in}
+use Rattle.txn_session.specs.State.{TxnState, txn_setup_in}
 use Rattle.pmem_cli.specs.Txn.{transactions_session}
 use Rattle.pmem_cli.proofs.SessionLemmas.{HasConversed-memory, HasConversed-stopped, said_first}
 use Rattle.pmem_cli.proofs.TxnLemmas.{txn_protocol, follows_txn, keeps_txn, setup_begins}
@@ -14,7 +14,7 @@ pub returns-in-Ok-clause-talked : goal.returns-in-Ok-clause-talked
 returns-in-Ok-clause-talked g c =
     let f = g.U.Suite.formulas_of in
     let setup : Setup = record { shape = shape_of c.args.geo; formulas = f (g.U.Suite.keys c.args.suite) } in
-    HasConversed-stopped (transactions_session setup) (txn_protocol f) (λ (state : TxnState). ◌≡◌ {A = Setup} (setup_in f state) setup) (follows_txn f setup)
+    HasConversed-stopped (transactions_session setup) (txn_protocol f) (λ (state : TxnState). ◌≡◌ {A = Setup} (txn_setup_in f state) setup) (follows_txn f setup)
     _ c.talk_trace.result _ _ _ _ (keeps_txn setup c.sessions_keep_transactions.ensures.kept c.sessions_keep_transactions.ensures.spent)
     c.in-Ok.ensures.new (setup_begins f _ _ _ c.in-Ok.ensures.new c.in-Ok.ensures.keys) c.talk_trace.ensures.stopped
 
@@ -22,5 +22,5 @@ pub returns-in-Ok-clause-replies_first : goal.returns-in-Ok-clause-replies_first
 returns-in-Ok-clause-replies_first g c =
     let f = g.U.Suite.formulas_of in
     let setup : Setup = record { shape = shape_of c.args.geo; formulas = f (g.U.Suite.keys c.args.suite) } in
-    said_first (transactions_session setup) (txn_protocol f) (λ (state : TxnState). ◌≡◌ {A = Setup} (setup_in f state) setup) (follows_txn f setup)
+    said_first (transactions_session setup) (txn_protocol f) (λ (state : TxnState). ◌≡◌ {A = Setup} (txn_setup_in f state) setup) (follows_txn f setup)
     _ _ _ _ _ _ _ c.in-Ok.ensures.new (setup_begins f _ _ _ c.in-Ok.ensures.new c.in-Ok.ensures.keys) c.talk_trace.ensures.replies_first

@@ -1,7 +1,7 @@
 use Rattle.std.proofs.Common.{◌≡◌}
 use Rattle.suite.specs.Setup.{Setup}
 use Rattle.pmem_base.specs.Geo.{shape_of}
-use Rattle.wear_session.specs.State.{WearState, setup_in}
+use Rattle.wear_session.specs.State.{WearState, wear_setup_in}
 use Rattle.pmem_cli.specs.Wear.{levelled_session}
 use Rattle.pmem_cli.proofs.SessionLemmas.{HasConversed-memory, HasConversed-stopped, said_first}
 use Rattle.pmem_cli.proofs.WearLemmas.{wear_protocol, follows_wear, keeps_wear, setup_begins}
@@ -14,7 +14,7 @@ pub returns-in-Ok-clause-talked : goal.returns-in-Ok-clause-talked
 returns-in-Ok-clause-talked g c =
     let f = g.U.Suite.formulas_of in
     let setup : Setup = record { shape = shape_of c.args.geo; formulas = f (g.U.Suite.keys c.args.suite) } in
-    HasConversed-stopped (levelled_session setup c.args.every) (wear_protocol f) (λ (state : WearState). ◌≡◌ {A = Setup} (setup_in f state) setup) (follows_wear f setup c.args.every)
+    HasConversed-stopped (levelled_session setup c.args.every) (wear_protocol f) (λ (state : WearState). ◌≡◌ {A = Setup} (wear_setup_in f state) setup) (follows_wear f setup c.args.every)
     _ c.talk_trace.result _ _ _ _ (keeps_wear setup c.args.every c.sessions_keep_lines.ensures.kept c.sessions_keep_lines.ensures.spent)
     c.in-Ok.ensures.new (setup_begins f _ _ c.args.every _ c.in-Ok.ensures.new c.in-Ok.ensures.keys) c.talk_trace.ensures.stopped
 
@@ -22,5 +22,5 @@ pub returns-in-Ok-clause-replies_first : goal.returns-in-Ok-clause-replies_first
 returns-in-Ok-clause-replies_first g c =
     let f = g.U.Suite.formulas_of in
     let setup : Setup = record { shape = shape_of c.args.geo; formulas = f (g.U.Suite.keys c.args.suite) } in
-    said_first (levelled_session setup c.args.every) (wear_protocol f) (λ (state : WearState). ◌≡◌ {A = Setup} (setup_in f state) setup) (follows_wear f setup c.args.every)
+    said_first (levelled_session setup c.args.every) (wear_protocol f) (λ (state : WearState). ◌≡◌ {A = Setup} (wear_setup_in f state) setup) (follows_wear f setup c.args.every)
     _ _ _ _ _ _ _ c.in-Ok.ensures.new (setup_begins f _ _ c.args.every _ c.in-Ok.ensures.new c.in-Ok.ensures.keys) c.talk_trace.ensures.replies_first

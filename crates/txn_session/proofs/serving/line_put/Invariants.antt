@@ -1,7 +1,7 @@
 -- None of the entries so far is of the line.
 use Rattle.std.proofs.Common.{◌≡◌, drop}
-use Rattle.txn_session.specs.State.{line_in}
+use Rattle.txn_session.specs.State.{entry_in}
 use Rattle.txn_session.proofs.serving.line_put.Given as goal
 
 abbrev pub invariant-loop-target : goal.invariant-loop-target
-invariant-loop-target l = line_in l.txn l.at ≡ line_in (drop l.target-index l.txn) l.at
+invariant-loop-target l = entry_in l.txn l.at ≡ entry_in (drop l.target-index l.txn) l.at

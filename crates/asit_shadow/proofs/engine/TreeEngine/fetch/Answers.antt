@@ -7,7 +7,7 @@ use Rattle.suite.specs.Setup.{Setup}
 use Rattle.bonsai_tree.specs.Positions.{child_slot}
 use Rattle.counter_tree.specs.Nodes.{counter}
 use Rattle.asit_shadow.specs.State.{TreeState, IsCachedAs}
-use Rattle.asit_shadow.specs.Parts.{Parts, parts_of, AreTrusted}
+use Rattle.asit_shadow.specs.Parts.{TreeEngineParts, tree_parts_of, AreTreeTrusted}
 use Rattle.pmem_base.specs.Counts.{risen_times}
 use Rattle.asit_shadow.specs.Counts.{level_tags, fetch_tags}
 use Rattle.asit_shadow.specs.Paths.{line_path}
@@ -20,8 +20,8 @@ use Rattle.asit_shadow.proofs.engine.TreeEngine.fetch.Goals.{After-from}
 use Rattle.asit_shadow.proofs.engine.TreeEngine.fetch.Goals as goal
 
 -- what the fetch works on at a moment
-abbrev at : (g : Over) → TreeState → g.row.B.Denot → g.row.W.Denot → Parts
-at g engine board watch = parts_of engine (g.B.Board.device board) (g.W.Watch.watched watch)
+abbrev at : (g : Over) → TreeState → g.row.B.Denot → g.row.W.Denot → TreeEngineParts
+at g engine board watch = tree_parts_of engine (g.B.Board.device board) (g.W.Watch.watched watch)
 
 abbrev under : (g : Over) → TreeState → g.row.S.Denot → Setup
 under g engine suite = record { shape = engine.shape; formulas = g.S.Suite.formulas_of (g.S.Suite.keys suite) }
@@ -144,7 +144,7 @@ returns-clause-fetched g c =
       path = path;
       last =
           last-end (under g c.args.self.now c.args.suite.now) c.args.at c.levels.node (at g c.args.self.now c.args.board.now c.args.watch.now) (at g c.levels.self c.levels.board c.levels.watch) path
-          (subst (λ n. AreTrusted (under g c.args.self.now c.args.suite.now) (at g c.levels.self c.levels.board c.levels.watch)
+          (subst (λ n. AreTreeTrusted (under g c.args.self.now c.args.suite.now) (at g c.levels.self c.levels.board c.levels.watch)
           → IsCachedAs c.args.self.now.shape c.levels.self.cache (slice_index (line_path c.args.self.now.shape c.args.at) n) c.levels.node) all c.levels.invariant.last);
     }
 

@@ -2,7 +2,7 @@
 use Rattle.std.proofs.Common.{◌≡◌}
 use Rattle.std.specs.Prelude.{slice_index}
 use Rattle.asit_shadow.specs.State.{IsCachedAs}
-use Rattle.asit_shadow.specs.Parts.{parts_of, AreTrusted}
+use Rattle.asit_shadow.specs.Parts.{tree_parts_of, AreTreeTrusted}
 use Rattle.pmem_base.specs.Counts.{risen_times}
 use Rattle.asit_shadow.specs.Counts.{fetch_tags}
 use Rattle.asit_shadow.specs.Paths.{line_path}
@@ -14,11 +14,11 @@ invariant-levels g l =
     record {
       fetched :
           IsPathFetchedTo (record { shape = l.fn.self.shape; formulas = g.S.Suite.formulas_of (g.S.Suite.keys l.fn.suite) }) l.fn.at l.level
-          (parts_of l.fn.self (g.B.Board.device l.fn.board) (g.W.Watch.watched l.fn.watch))
-          (parts_of l.self (g.B.Board.device l.board) (g.W.Watch.watched l.watch));
+          (tree_parts_of l.fn.self (g.B.Board.device l.fn.board) (g.W.Watch.watched l.fn.watch))
+          (tree_parts_of l.self (g.B.Board.device l.board) (g.W.Watch.watched l.watch));
       last :
-          AreTrusted (record { shape = l.fn.self.shape; formulas = g.S.Suite.formulas_of (g.S.Suite.keys l.fn.suite) })
-          (parts_of l.self (g.B.Board.device l.board) (g.W.Watch.watched l.watch))
+          AreTreeTrusted (record { shape = l.fn.self.shape; formulas = g.S.Suite.formulas_of (g.S.Suite.keys l.fn.suite) })
+          (tree_parts_of l.self (g.B.Board.device l.board) (g.W.Watch.watched l.watch))
           → IsCachedAs l.fn.self.shape l.self.cache (slice_index (line_path l.fn.self.shape l.fn.at) l.level) l.node;
       tags : g.S.Suite.tags l.suite ≡ risen_times (fetch_tags (record { shape = l.fn.self.shape; formulas = g.S.Suite.formulas_of (g.S.Suite.keys l.fn.suite) }) l.fn.self.cache l.fn.at l.level) (g.S.Suite.tags l.fn.suite);
       pads : g.S.Suite.pads l.suite ≡ g.S.Suite.pads l.fn.suite;

@@ -6,15 +6,15 @@ use Rattle.suite.specs.Setup.{Setup}
 use Rattle.pmem_engine.specs.Outcomes.{is_going}
 use Rattle.pmem_recovery.specs.Parts.{suite_state}
 use Rattle.asit_shadow.specs.State.{TreeState}
-use Rattle.asit_shadow.specs.Parts.{Parts, parts_of}
-use Rattle.asit_shadow.specs.Calls.{outcome_of_fault}
+use Rattle.asit_shadow.specs.Parts.{TreeEngineParts, tree_parts_of}
+use Rattle.asit_shadow.specs.Calls.{outcome_of_tree_fault}
 use Rattle.asit_shadow.proofs.CallCounts.{read_counts-ended}
 use Rattle.asit_shadow.proofs.CallEnds.{HasEnded, answers-up, read-ended}
 use Rattle.asit_shadow.proofs.engine.TreeEngine.read.Given.{Over}
 use Rattle.asit_shadow.proofs.engine.TreeEngine.read.Goals as goal
 
-abbrev at : (g : Over) → TreeState → g.row.B.Denot → g.row.W.Denot → Parts
-at g engine board watch = parts_of engine (g.B.Board.device board) (g.W.Watch.watched watch)
+abbrev at : (g : Over) → TreeState → g.row.B.Denot → g.row.W.Denot → TreeEngineParts
+at g engine board watch = tree_parts_of engine (g.B.Board.device board) (g.W.Watch.watched watch)
 
 abbrev under : (g : Over) → TreeState → g.row.S.Denot → Setup
 under g engine suite = record { shape = engine.shape; formulas = g.S.Suite.formulas_of (g.S.Suite.keys suite) }
@@ -27,7 +27,7 @@ returns-in-Err-clause-read g c =
       down =
           answers-up {T = Line} (at g c.args.self.now c.args.board.now c.args.watch.now) (at g c.end.new.self c.read_line.new.board c.read_line.new.watch) (Err c.in-Err.fault)
           (sym c.is_down.ensures ∙ c.if-is_down.false) c.in-Err.ensures.read.up
-          (c.end.ensures.down ∙ ap (λ b. b || not (is_going (outcome_of_fault c.in-Err.fault))) c.in-Err.ensures.down);
+          (c.end.ensures.down ∙ ap (λ b. b || not (is_going (outcome_of_tree_fault c.in-Err.fault))) c.in-Err.ensures.down);
       done =
           λ up.
           read-ended (under g c.args.self.now c.args.suite.now) c.args.at (at g c.args.self.now c.args.board.now c.args.watch.now)

@@ -12,15 +12,15 @@ use Rattle.counter_tree.specs.declared.accepted.FetchFault.TheVariants as Missed
 use Rattle.counter_tree.specs.Accepted.{IsLineFetched, is_line_tagged, is_line_unsealed}
 use Rattle.counter_tree.specs.Watch.{WatchState, last_seal_of}
 use Rattle.asit_shadow.specs.State.{TreeState}
-use Rattle.asit_shadow.specs.Parts.{Parts, parts_of}
+use Rattle.asit_shadow.specs.Parts.{TreeEngineParts, tree_parts_of}
 use Rattle.asit_shadow.proofs.CallCounts.{line-counts, line_cut-counts}
 use Rattle.asit_shadow.proofs.ReadEnds.{IsPathHad, line_counter-is, read-ok, read-cut, read-refused, read-shown, line_shown-work}
 use Rattle.asit_shadow.proofs.engine.TreeEngine.read_line.Given.{Over}
 use Rattle.asit_shadow.proofs.engine.TreeEngine.read_line.Goals.{After-fetch_line}
 use Rattle.asit_shadow.proofs.engine.TreeEngine.read_line.Goals as goal
 
-abbrev at : (g : Over) → TreeState → g.row.B.Denot → g.row.W.Denot → Parts
-at g engine board watch = parts_of engine (g.B.Board.device board) (g.W.Watch.watched watch)
+abbrev at : (g : Over) → TreeState → g.row.B.Denot → g.row.W.Denot → TreeEngineParts
+at g engine board watch = tree_parts_of engine (g.B.Board.device board) (g.W.Watch.watched watch)
 
 abbrev under : (g : Over) → TreeState → g.row.S.Denot → Setup
 under g engine suite = record { shape = engine.shape; formulas = g.S.Suite.formulas_of (g.S.Suite.keys suite) }

@@ -18,7 +18,7 @@ use Rattle.counter_tree.specs.Nodes.{counter, total}
 use Rattle.counter_tree.specs.Shadow.{ChipTree, IsShadowTree, shadow_height}
 use Rattle.counter_tree.specs.Watch.{WatchState}
 use Rattle.asit_shadow.specs.State.{TreeState, IsHeldNode, top_node}
-use Rattle.asit_shadow.specs.Parts.{Parts, parts_of, AreTrusted, IsWatchReady}
+use Rattle.asit_shadow.specs.Parts.{TreeEngineParts, tree_parts_of, AreTreeTrusted, IsWatchReady}
 use Rattle.asit_shadow.specs.Calls.{IsUsedUp}
 use Rattle.asit_shadow.specs.Counts.{CountsOfArming, naming_digests}
 use Rattle.asit_shadow.specs.Writing.{armed_lines, dirty_entries, pair_at, set_pairs, IsPathRaised, IsSealMade, IsTreeNamed, IsWriteTold, IsWriteMade}
@@ -31,8 +31,8 @@ use Rattle.asit_shadow.proofs.engine.TreeEngine.write_line.Given.{Over}
 use Rattle.asit_shadow.proofs.engine.TreeEngine.write_line.Goals.{After-is_used_up, After-next_regs-regs}
 use Rattle.asit_shadow.proofs.engine.TreeEngine.write_line.Goals as goal
 
-abbrev at : (g : Over) → TreeState → g.row.B.Denot → g.row.W.Denot → Parts
-at g engine board watch = parts_of engine (g.B.Board.device board) (g.W.Watch.watched watch)
+abbrev at : (g : Over) → TreeState → g.row.B.Denot → g.row.W.Denot → TreeEngineParts
+at g engine board watch = tree_parts_of engine (g.B.Board.device board) (g.W.Watch.watched watch)
 
 abbrev under : (g : Over) → TreeState → g.row.S.Denot → Setup
 under g engine suite = record { shape = engine.shape; formulas = g.S.Suite.formulas_of (g.S.Suite.keys suite) }
@@ -54,12 +54,12 @@ module _ (g : Over) (c : After-is_used_up g) where
   unspent : c.is_used_up.result ≡ false → total (top_node c.args.self.now.cache) ≢ 2 ^ 64 - 1
   unspent is = eqb-false (total (top_node c.args.self.now.cache)) (2 ^ 64 - 1) (sym tested ∙ is)
 
-  used_up : c.is_used_up.result ≡ true → AreTrusted (under g c.args.self.now c.args.suite.now) (at g c.args.self.now c.args.board.now c.args.watch.now)
+  used_up : c.is_used_up.result ≡ true → AreTreeTrusted (under g c.args.self.now c.args.suite.now) (at g c.args.self.now c.args.board.now c.args.watch.now)
       → IsUsedUp (at g c.args.self.now c.args.board.now c.args.watch.now)
   used_up is trusted =
       sym (top-used_up (under g c.args.self.now c.args.suite.now) (at g c.args.self.now c.args.board.now c.args.watch.now) trusted) ∙ spent is
 
-  unused : c.is_used_up.result ≡ false → AreTrusted (under g c.args.self.now c.args.suite.now) (at g c.args.self.now c.args.board.now c.args.watch.now)
+  unused : c.is_used_up.result ≡ false → AreTreeTrusted (under g c.args.self.now c.args.suite.now) (at g c.args.self.now c.args.board.now c.args.watch.now)
       → IsUsedUp (at g c.args.self.now c.args.board.now c.args.watch.now) → ⊥
   unused is trusted up =
       unspent is (top-used_up (under g c.args.self.now c.args.suite.now) (at g c.args.self.now c.args.board.now c.args.watch.now) trusted ∙ up)
@@ -126,7 +126,7 @@ module _ (g : Over) (c : After-next_regs-regs g) where
       → engine.cache ≡ set_pairs (dirty_entries c.next_regs-regs.new.self.shape c.raised-nodes.result.items) c.next_regs-regs.new.self.cache
       → engine.shape ≡ c.next_regs-regs.new.self.shape → engine.tree ≡ c.next_regs-regs.new.self.tree → engine.down ≡ c.next_regs-regs.new.self.down
       → IsWriteMade (under g c.args.self.now c.args.suite.now) c.args.at c.args.line.now c.sealed-seal.result c.raised-nodes.result.items c.next_regs-regs.result
-      (at g c.fetch.new.self c.fetch.new.board c.fetch.new.watch) (parts_of engine device watch)
+      (at g c.fetch.new.self c.fetch.new.board c.fetch.new.watch) (tree_parts_of engine device watch)
   write_made engine device watch told cache its_shape tree down =
       let count = pairs-count c.args.self.now.shape c.args.at c.raised-nodes.result.items raised.positions in
       let same : c.next_regs-regs.new.self.shape ≡ c.args.self.now.shape = c.next_regs-regs.ensures.shape ∙ shape in
@@ -152,8 +152,8 @@ module _ (g : Over) (c : After-next_regs-regs g) where
         down = down ∙ c.next_regs-regs.ensures.down;
       }
 
-  armed : (new : Parts) (device : Device)
-      → (AreTrusted (under g c.args.self.now c.args.suite.now) (at g c.args.self.now c.args.board.now c.args.watch.now) → IsUsedUp (at g c.args.self.now c.args.board.now c.args.watch.now) → ⊥)
+  armed : (new : TreeEngineParts) (device : Device)
+      → (AreTreeTrusted (under g c.args.self.now c.args.suite.now) (at g c.args.self.now c.args.board.now c.args.watch.now) → IsUsedUp (at g c.args.self.now c.args.board.now c.args.watch.now) → ⊥)
       → HasLatched (g.B.Board.device c.fetch.new.board) c.next_regs-regs.result device
       → IsWriteMade (under g c.args.self.now c.args.suite.now) c.args.at c.args.line.now c.sealed-seal.result c.raised-nodes.result.items c.next_regs-regs.result
       (at g c.fetch.new.self c.fetch.new.board c.fetch.new.watch) new

@@ -8,7 +8,7 @@ use Rattle.seal_ledger.specs.View.{ledger_of}
 use Rattle.suite.specs.Setup.{Setup}
 use Rattle.pmem_engine.specs.Engine.{EngineState}
 use Rattle.pmem_engine.specs.Parts.{parts_of}
-use Rattle.start_gap.specs.Gapped.{HasOpened}
+use Rattle.start_gap.specs.Gapped.{HasGappedOpened}
 use Rattle.wear_session.specs.State.{IsNewWear}
 use Rattle.wear_session.specs.World.{IsWearWorld, wear_of}
 use Rattle.wear_session.proofs.NewLaws.{NewCall, held, new_outcome}
@@ -46,12 +46,12 @@ module _ (g : Over) (c : After-open g) where
         digests_new = g.S.Suite.digests c.open.new.suite;
         answer = c.open.result;
         opened =
-            subst (λ (k : List ℕ). HasOpened (record { shape = shape_of c.args.geo; formulas = g.S.Suite.formulas_of k }) c.args.every
+            subst (λ (k : List ℕ). HasGappedOpened (record { shape = shape_of c.args.geo; formulas = g.S.Suite.formulas_of k }) c.args.every
             (parts_of c.in_ok-engine.engine (device_of (memory_of c.format.new.board)) (ledger_of c.format.new.audit)
             (g.S.Suite.tags c.format.new.suite) (g.S.Suite.digests c.format.new.suite))
             (λ now. parts_of now (device_of (memory_of c.open.new.board)) (ledger_of c.open.new.audit) (g.S.Suite.tags c.open.new.suite)
             (g.S.Suite.digests c.open.new.suite)) c.open.result) c.format.ensures.keys
-            (subst (λ (s : Shape). HasOpened (record { shape = s; formulas = g.S.Suite.formulas_of (g.S.Suite.keys c.format.new.suite) }) c.args.every
+            (subst (λ (s : Shape). HasGappedOpened (record { shape = s; formulas = g.S.Suite.formulas_of (g.S.Suite.keys c.format.new.suite) }) c.args.every
             (parts_of c.in_ok-engine.engine (device_of (memory_of c.format.new.board)) (ledger_of c.format.new.audit)
             (g.S.Suite.tags c.format.new.suite) (g.S.Suite.digests c.format.new.suite))
             (λ now. parts_of now (device_of (memory_of c.open.new.board)) (ledger_of c.open.new.audit) (g.S.Suite.tags c.open.new.suite)
