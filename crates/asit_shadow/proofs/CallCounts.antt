@@ -13,7 +13,7 @@ use Rattle.asit_shadow.specs.declared.fault.TreeFault.TheVariants as Fail
 use Rattle.asit_shadow.specs.State.{TreeState}
 use Rattle.asit_shadow.specs.Parts.{TreeEngineParts, tree_parts_of}
 use Rattle.asit_shadow.specs.Counts.{fetch_tags, CountsOfStop, CountsOfLine, CountsOfRead, CountsOfWrite, naming_digests}
-use Rattle.asit_shadow.proofs.CallEnds.{HasEnded, ended-going, cut_work-ended, shown_at-ended, line_shown_at-ended, path_work-ended}
+use Rattle.asit_shadow.proofs.CallEnds.{HasTreeEnded, ended-going, cut_work-ended, shown_at-ended, line_shown_at-ended, path_work-ended}
 use Rattle.asit_shadow.proofs.ReadEnds.{IsPathHad, line_cut-work}
 use Rattle.asit_shadow.proofs.WriteCalls.{cut_group-ended}
 
@@ -83,7 +83,7 @@ shown_stop-ended setup a old mid engine before after cache it =
       counts = it.counts;
     }
 
-pub read_counts-ended : (setup : Setup) (a : ℕ) (old mid : TreeEngineParts) (engine : TreeState) (before after : SuiteState) (fault : TreeFault) → HasEnded fault mid.engine engine → CountsOfRead setup a old mid before after (Err fault)
+pub read_counts-ended : (setup : Setup) (a : ℕ) (old mid : TreeEngineParts) (engine : TreeState) (before after : SuiteState) (fault : TreeFault) → HasTreeEnded fault mid.engine engine → CountsOfRead setup a old mid before after (Err fault)
     → CountsOfRead setup a old (tree_parts_of engine mid.device mid.watch) before after (Err fault)
 read_counts-ended setup a old mid engine before after Fail.Cut ended it = cut_stop-ended setup a old mid engine before after ended.cache it
 read_counts-ended setup a old mid engine before after Fail.Shown ended it =
@@ -97,7 +97,7 @@ read_counts-ended setup a old mid engine before after (Fail.Node x) ended it =
 read_counts-ended setup a old mid engine before after (Fail.Tag b) ended it = it
 read_counts-ended setup a old mid engine before after Fail.Spent ended it = it
 
-pub write_counts-ended : (setup : Setup) (a : ℕ) (old mid : TreeEngineParts) (engine : TreeState) (before after : SuiteState) (fault : TreeFault) → HasEnded fault mid.engine engine → CountsOfWrite setup a old mid before after (Err fault)
+pub write_counts-ended : (setup : Setup) (a : ℕ) (old mid : TreeEngineParts) (engine : TreeState) (before after : SuiteState) (fault : TreeFault) → HasTreeEnded fault mid.engine engine → CountsOfWrite setup a old mid before after (Err fault)
     → CountsOfWrite setup a old (tree_parts_of engine mid.device mid.watch) before after (Err fault)
 write_counts-ended setup a old mid engine before after Fail.Cut ended it =
     elim it [

@@ -35,7 +35,7 @@ engine_same a b shape cache tree down =
     first ∙ (second ∙ (third ∙ last))
 
 -- the engine after the end of a call that was refused
-pub record HasEnded (fault : TreeFault) (old new : TreeState) : Type 0 where
+pub record HasTreeEnded (fault : TreeFault) (old new : TreeState) : Type 0 where
   pub shape : new.shape ≡ old.shape
   pub cache : new.cache ≡ old.cache
   pub tree : new.tree ≡ old.tree
@@ -46,7 +46,7 @@ or_false true = refl
 or_false false = refl
 
 -- where it goes on, nothing was changed
-pub ended-going : (fault : TreeFault) (old new : TreeState) → is_going (outcome_of_tree_fault fault) ≡ true → HasEnded fault old new → new ≡ old
+pub ended-going : (fault : TreeFault) (old new : TreeState) → is_going (outcome_of_tree_fault fault) ≡ true → HasTreeEnded fault old new → new ≡ old
 ended-going fault old new goes it =
     engine_same new old it.shape it.cache it.tree (it.down ∙ (ap (λ b. old.down || not b) goes ∙ or_false old.down))
 
@@ -166,7 +166,7 @@ cut_work-ended setup a old mid engine cache it =
 
 -- ---- a read
 
-pub read-ended : (setup : Setup) (a : ℕ) (old mid : TreeEngineParts) (engine : TreeState) (fault : TreeFault) → HasEnded fault mid.engine engine → IsLineRead setup a old mid (Err fault) → IsLineRead setup a old (tree_parts_of engine mid.device mid.watch) (Err fault)
+pub read-ended : (setup : Setup) (a : ℕ) (old mid : TreeEngineParts) (engine : TreeState) (fault : TreeFault) → HasTreeEnded fault mid.engine engine → IsLineRead setup a old mid (Err fault) → IsLineRead setup a old (tree_parts_of engine mid.device mid.watch) (Err fault)
 read-ended setup a old mid engine Fail.Cut ended it =
     record {
       kind = it.kind;

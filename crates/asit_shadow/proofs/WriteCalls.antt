@@ -25,7 +25,7 @@ use Rattle.asit_shadow.specs.Writing.{armed_lines, set_pairs, HasWrittenUp}
 use Rattle.asit_shadow.proofs.PathSteps.{top-in, in-true}
 use Rattle.asit_shadow.proofs.PairSets.{pairs-are, lines-are}
 use Rattle.asit_shadow.proofs.PutLaws.{write_group-IsGroup}
-use Rattle.asit_shadow.proofs.CallEnds.{HasEnded, ended-going, effect-cut, effect-shown, node_shown-ended, path_work-ended, shown_at-ended, cut_work-ended}
+use Rattle.asit_shadow.proofs.CallEnds.{HasTreeEnded, ended-going, effect-cut, effect-shown, node_shown-ended, path_work-ended, shown_at-ended, cut_work-ended}
 
 -- ---- when a write is spent
 
@@ -99,7 +99,7 @@ cut_group-ended setup a old mid engine cache it =
       since = it.since;
     }
 
-pub write-ended : (setup : Setup) (a : ℕ) (plain : Line) (old mid : TreeEngineParts) (engine : TreeState) (fault : TreeFault) → HasEnded fault mid.engine engine → IsLineWritten setup a plain old mid (Err fault) → IsLineWritten setup a plain old (tree_parts_of engine mid.device mid.watch) (Err fault)
+pub write-ended : (setup : Setup) (a : ℕ) (plain : Line) (old mid : TreeEngineParts) (engine : TreeState) (fault : TreeFault) → HasTreeEnded fault mid.engine engine → IsLineWritten setup a plain old mid (Err fault) → IsLineWritten setup a plain old (tree_parts_of engine mid.device mid.watch) (Err fault)
 write-ended setup a plain old mid engine Fail.Cut ended it =
     record {
       kind = it.kind;

@@ -25,8 +25,8 @@ use Rattle.line_txn.specs.Logged.{CommitStage, logged, decided, cleared, lines_d
 use Rattle.line_txn.specs.Edits.{AreEdited, IsEditOf, IsWholeTxn, all_edited, body_edits, target_edits, deciding_edits, applying_edits}
 use Rattle.line_txn.specs.Store.{HasStoreCommitted, HasDecided, HasCommitGoneOn, IsServedAs, IsServedBy, IsCommitEnd, IsLeftLogged, IsSoundCommitAnswer, IsSpentUndecided, commit_answer_by, commit_outcome_by}
 use Rattle.line_txn.proofs.LoggedLaws.{whole_at_each_stage, zero_header}
-use Rattle.line_txn.proofs.EditLaws.{AfterEdits, LeftTrusted, LeftSound, trusted_after_edits, sound_after_edits, edits_leave, LeavesAll}
-use Rattle.line_txn.proofs.EditStages.{after_bodies, after_all_bodies, after_targets, after_all_targets, after_last, length-bodies, length-targets, StopsBy, stops_by, deciding_fit, applying_fit}
+use Rattle.line_txn.proofs.EditLaws.{AfterEdits, CommitLeftTrusted, CommitLeftSound, trusted_after_edits, sound_after_edits, edits_leave, LeavesAll}
+use Rattle.line_txn.proofs.EditStages.{after_bodies, after_all_bodies, after_targets, after_all_targets, after_last, length-bodies, length-targets, StopsEditsBy, stops_by, deciding_fit, applying_fit}
 
 -- ---- the lines
 
@@ -72,7 +72,7 @@ module _ (setup : Setup) (n : ℕ) (txn : List (ℕ × Line)) (lines : List Line
 
   -- the header isn't written, or it is where no line is spent
   refused_left : (to : Parts) (fault : Fault)
-      → StopsBy setup (body_edits (n + 1) (bodies_of txn)) (Make.Put n (header_of (targets_of txn))) lines to fault
+      → StopsEditsBy setup (body_edits (n + 1) (bodies_of txn)) (Make.Put n (header_of (targets_of txn))) lines to fault
       → Left to (Err (record { fault = fault; committed = false }))
   refused_left to fault stops =
       elim stops.left [
@@ -110,7 +110,7 @@ module _ (setup : Setup) (n : ℕ) (txn : List (ℕ × Line)) (lines : List Line
       at_cleared (Fail.Tag at) unspent = refl
       at_cleared Fail.Shown unspent = refl
 
-      go : StopsBy setup (target_edits txn) (Make.Put n zero_line) (lines_decided n txn lines) to fault → Left to (commit_answer_by (Err fault))
+      go : StopsEditsBy setup (target_edits txn) (Make.Put n zero_line) (lines_decided n txn lines) to fault → Left to (commit_answer_by (Err fault))
       go by =
           elim by.left [
             | inl same ↦
@@ -210,11 +210,11 @@ pub commit_trusted : (setup : Setup) (txn : List (ℕ × Line)) (old new : Store
     → HasStoreCommitted setup txn old new from to answer → AreTrusted setup from → LeavesTrusted setup (commit_outcome_by answer) to
 commit_trusted setup txn old new from to answer it trusted =
     go answer
-    (commit_ends setup (AreTrusted setup) (LeftTrusted setup)
+    (commit_ends setup (AreTrusted setup) (CommitLeftTrusted setup)
     (λ edits here there done had was. trusted_after_edits setup edits here there done was had)
     txn old new from to answer trusted it)
   where
-    go : (answer : Result Done CommitFault) → AfterCommit (AreTrusted setup) (LeftTrusted setup) answer to → LeavesTrusted setup (commit_outcome_by answer) to
+    go : (answer : Result Done CommitFault) → AfterCommit (AreTrusted setup) (CommitLeftTrusted setup) answer to → LeavesTrusted setup (commit_outcome_by answer) to
     go (Ok Do.Applied) is = is
     go (Ok (Do.Stuck page)) is = is
     go (Err fault) is = is
@@ -223,11 +223,11 @@ pub commit_sound : (setup : Setup) (txn : List (ℕ × Line)) (old new : Store) 
     → HasStoreCommitted setup txn old new from to answer → AreSound setup from → LeavesSound setup (commit_outcome_by answer) to × IsSoundCommitAnswer answer
 commit_sound setup txn old new from to answer it sound =
     go answer
-    (commit_ends setup (AreSound setup) (LeftSound setup)
+    (commit_ends setup (AreSound setup) (CommitLeftSound setup)
     (λ edits here there done had was. sound_after_edits setup edits here there done was had)
     txn old new from to answer sound it)
   where
-    go : (answer : Result Done CommitFault) → AfterCommit (AreSound setup) (LeftSound setup) answer to
+    go : (answer : Result Done CommitFault) → AfterCommit (AreSound setup) (CommitLeftSound setup) answer to
         → LeavesSound setup (commit_outcome_by answer) to × IsSoundCommitAnswer answer
     go (Ok Do.Applied) is = (is, tt)
     go (Ok (Do.Stuck page)) is = (is.0, tt)

@@ -1,7 +1,7 @@
 -- What changes of data lines leave, call by call.
 use Rattle.std.proofs.Common.{ℕ, zero, suc, ◌≡◌, ◌<◌, ◌≤◌, ◌+◌, ◌^◌, ◌⊎◌, inl, List, [], ◌∷◌, ◌++◌, length, get_or, take, Result, Ok, Err, refl, sym, subst, arith}
 use Rattle.std.specs.Prelude.{All, slice_set, ⊤}
-use Rattle.std.proofs.lemmas.List.{take_more, take_all}
+use Rattle.std.proofs.lemmas.List.{take_more}
 use Rattle.std.proofs.lemmas.List.Elements.{All-head, All-tail}
 use Rattle.pmem_base.specs.declared.lines.Line.{Line}
 use Rattle.pmem_base.specs.declared.lines.Ctr.{Ctr}
@@ -75,10 +75,6 @@ edits_stop setup (edit ∷ edits) (suc i) d old between new fault inside done it
     go (Ok made) next rest = next rest
     go (Err other) next rest = absurd (done_not_fault other rest.0)
 
-pub edits_end : (setup : Setup) (edits : List Edit) (i : ℕ) (old new : Parts) → length edits ≤ i
-    → AreEdited setup (take i edits) old new (Ok tt) → AreEdited setup edits old new (Ok tt)
-edits_end setup edits i old new all it = subst (λ es. AreEdited setup es old new (Ok tt)) (take_all i edits all) it
-
 -- ---- a later call is of the same geometry and keys
 
 module _ (formulas_of : List ℕ → Formulas) (g g' : Shape) (keys keys' : List ℕ) (same : g' ≡ g) (same_keys : keys' ≡ keys) where
@@ -145,16 +141,16 @@ module _ (setup : Setup) (P : Parts → Type 0) (E : Fault → Parts → Type 0)
 
 -- ---- trusted and sound
 
-abbrev pub LeftTrusted : Setup → Fault → Parts → Type 0
-LeftTrusted setup fault parts = LeavesTrusted setup (outcome_of_fault fault) parts
+abbrev pub CommitLeftTrusted : Setup → Fault → Parts → Type 0
+CommitLeftTrusted setup fault parts = LeavesTrusted setup (outcome_of_fault fault) parts
 
-abbrev pub LeftSound : Setup → Fault → Parts → Type 0
-LeftSound setup fault parts = LeavesSound setup (outcome_of_fault fault) parts × IsCutOrSpent fault
+abbrev pub CommitLeftSound : Setup → Fault → Parts → Type 0
+CommitLeftSound setup fault parts = LeavesSound setup (outcome_of_fault fault) parts × IsCutOrSpent fault
 
 pub trusted_after_edits : (setup : Setup) (edits : List Edit) (old new : Parts) (answer : Result (Unit {0}) Fault)
-    → AreEdited setup edits old new answer → AreTrusted setup old → AfterEdits (AreTrusted setup) (LeftTrusted setup) answer new
+    → AreEdited setup edits old new answer → AreTrusted setup old → AfterEdits (AreTrusted setup) (CommitLeftTrusted setup) answer new
 trusted_after_edits setup edits old new answer it trusted =
-    edits_ends setup (AreTrusted setup) (LeftTrusted setup)
+    edits_ends setup (AreTrusted setup) (CommitLeftTrusted setup)
     (λ at here there line read. trusted_after_read setup at here there (Ok line) read)
     (λ at here there fault read. trusted_after_read setup at here there (Err fault) read)
     (λ write here there ctr done. trusted_after_write setup write here there (Ok ctr) done)
@@ -162,9 +158,9 @@ trusted_after_edits setup edits old new answer it trusted =
     edits old new answer trusted it
 
 pub trusted_after_edit : (setup : Setup) (edit : Edit) (old new : Parts) (answer : Result (Unit {0}) Fault)
-    → HasEdited setup edit old new answer → AreTrusted setup old → AfterEdits (AreTrusted setup) (LeftTrusted setup) answer new
+    → HasEdited setup edit old new answer → AreTrusted setup old → AfterEdits (AreTrusted setup) (CommitLeftTrusted setup) answer new
 trusted_after_edit setup edit old new answer it trusted =
-    edit_ends setup (AreTrusted setup) (LeftTrusted setup)
+    edit_ends setup (AreTrusted setup) (CommitLeftTrusted setup)
     (λ at here there line read. trusted_after_read setup at here there (Ok line) read)
     (λ at here there fault read. trusted_after_read setup at here there (Err fault) read)
     (λ write here there ctr done. trusted_after_write setup write here there (Ok ctr) done)
@@ -177,9 +173,9 @@ unrefused_fault T (Fail.Spent page) is = tt
 unrefused_fault T fault is = absurd is
 
 pub sound_after_edits : (setup : Setup) (edits : List Edit) (old new : Parts) (answer : Result (Unit {0}) Fault)
-    → AreEdited setup edits old new answer → AreSound setup old → AfterEdits (AreSound setup) (LeftSound setup) answer new
+    → AreEdited setup edits old new answer → AreSound setup old → AfterEdits (AreSound setup) (CommitLeftSound setup) answer new
 sound_after_edits setup edits old new answer it sound =
-    edits_ends setup (AreSound setup) (LeftSound setup)
+    edits_ends setup (AreSound setup) (CommitLeftSound setup)
     (λ at here there line read had. (sound_after_read setup at here there (Ok line) read had).0)
     (λ at here there fault read had.
     let after = sound_after_read setup at here there (Err fault) read had in (after.0, unrefused_fault Line fault after.1))

@@ -99,7 +99,7 @@ leaves_cases setup (Fail.Tag at) before after new it = elim it [ inl same ↦ in
 leaves_cases setup Fail.Shown before after new it = elim it [ inl same ↦ inl same | inr put ↦ inr (tt, put) ]
 
 -- so many of the changes before the last one are made, or all of these, or the last one too, where no line is spent
-pub record StopsBy (setup : Setup) (edits : List Edit) (last : Edit) (lines : List Line) (new : Parts) (fault : Fault) : Type 0 where
+pub record StopsEditsBy (setup : Setup) (edits : List Edit) (last : Edit) (lines : List Line) (new : Parts) (fault : Fault) : Type 0 where
   pub k : ℕ
   pub within : k ≤ length edits
   pub left :
@@ -107,7 +107,7 @@ pub record StopsBy (setup : Setup) (edits : List Edit) (last : Edit) (lines : Li
       ⊎ ((k ≡ length edits) × IsUnspent fault × HasLines setup (edited last (all_edited edits lines)) new)
 
 pub stops_by : (setup : Setup) (few : data_lines setup.shape ≤ 2 ^ 32) (edits : List Edit) (last : Edit) (lines : List Line) (new : Parts) (fault : Fault)
-    → StopsAt setup few (edits ++ last ∷ []) lines new fault → StopsBy setup edits last lines new fault
+    → StopsAt setup few (edits ++ last ∷ []) lines new fault → StopsEditsBy setup edits last lines new fault
 stops_by setup few edits last lines new fault it =
     elim (leaves_cases setup fault _ _ new it.left) [
       | inl same ↦
@@ -129,7 +129,7 @@ stops_by setup few edits last lines new fault it =
     front k few = take-append-le k edits (last ∷ []) few
 
     next : (it.k < length edits) ⊎ (length edits ≤ it.k) → IsUnspent fault × HasLines setup (all_edited (take (suc it.k) (edits ++ last ∷ [])) lines) new
-        → StopsBy setup edits last lines new fault
+        → StopsEditsBy setup edits last lines new fault
     next (inl early) put =
         record {
           k = suc it.k;

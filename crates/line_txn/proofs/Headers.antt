@@ -5,11 +5,11 @@ use Rattle.std.specs.List.{flat_map, list_any}
 use Rattle.std.specs.Int.{w32, from_be_bytes}
 use borrow.Rule.Slice.PartMut.{put_mid}
 use Rattle.std.proofs.lemmas.Grind.{flat_map-append}
-use Rattle.std.proofs.lemmas.Bool.{false≢true, eq-eqb, ne_eqb}
-use Rattle.std.proofs.lemmas.List.{length-append, length-take-le, append_assoc, append-nil, take_more, take_all, drop-drop, drop-replicate, get_or-take, get_or_default}
+use Rattle.std.proofs.lemmas.Bool.{false≢true, eq-eqb}
+use Rattle.std.proofs.lemmas.List.{length-append, length-take-le, append_assoc, append-nil, take_more, take_all, drop-drop, drop-replicate}
 use Rattle.std.proofs.lemmas.List.Elements.{All-nil, All-cons, All-head, All-tail, All-append}
 use Rattle.std.proofs.lemmas.List.Quantifiers.{all_pairs_push}
-use Rattle.std.proofs.lemmas.List.Folds.{list_any_at, list_any_none}
+use Rattle.std.proofs.lemmas.List.Folds.{list_any_at}
 use Rattle.std.proofs.Math.Seq.{take-append_seam, drop-append_seam}
 use Rattle.pmem_base.specs.declared.lines.Line.{Line}
 use Rattle.pmem_base.specs.Lines.{IsLine, line_of, big_endian, from_big_endian}
@@ -75,10 +75,6 @@ header_end targets bytes i all its =
 
 -- ---- the targets that are read
 
-pub length-numbers_in : (bytes : List ℕ) (count : ℕ) → length (numbers_in bytes count) ≡ count
-length-numbers_in bytes zero = refl
-length-numbers_in bytes (suc count) = ap suc (length-numbers_in (drop 4 bytes) count)
-
 pub numbers_more : (bytes : List ℕ) (count : ℕ)
     → numbers_in bytes (count + 1) ≡ numbers_in bytes count ++ from_big_endian (take 4 (drop (4 * count) bytes)) ∷ []
 numbers_more bytes zero = refl
@@ -122,21 +118,6 @@ below_more n targets i inside low new old =
       each = All-append (λ t. t < n) (take i targets) (t ∷ []) old.each (All-cons (λ t. t < n) t [] low (All-nil (λ t. t < n)));
       distinct = all_pairs_push (λ t u. t ≢ u) (take i targets) t old.distinct apart;
     })
-
-pub below_not_low : (n : ℕ) (targets : List ℕ) (i : ℕ) → i < length targets → n ≤ get_or targets i 0 → AreDistinctBelow n targets → ⊥
-below_not_low n targets i inside high all = omega (arith, high, all.each i 0 inside)
-
-pub below_not_new : (n : ℕ) (targets : List ℕ) (i : ℕ) → i < length targets
-    → list_any (λ y. y == get_or targets i 0) (take i targets) ≡ true → AreDistinctBelow n targets → ⊥
-below_not_new n targets i inside twice all =
-    let t = get_or targets i 0 in
-    let long : length (take i targets) ≡ i = length-take-le i targets (omega (arith, inside)) in
-    let apart : All (λ y. (y == t) ≡ false) (take i targets) =
-    λ k d l.
-    ne_eqb (get_or (take i targets) k d) t
-    (λ e. all.distinct k i d (omega (arith, l, long)) inside
-    (sym (get_or-take i targets k d (omega (arith, l, long))) ∙ e ∙ sym (get_or_default targets i d 0 inside))) in
-    false≢true (sym (list_any_none (λ y. y == t) (take i targets) apart) ∙ twice)
 
 -- ---- the header that is read
 

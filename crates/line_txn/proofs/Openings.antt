@@ -25,7 +25,7 @@ use Rattle.line_txn.specs.Logged.{IsLogged, Opening, partly, through, lines_open
 use Rattle.line_txn.specs.Edits.{AreEdited, IsEditOf, edited, all_edited, copy_edits, redoing_edits}
 use Rattle.line_txn.specs.Store.{logged_lines, HasStoreOpened, HasStoreStarted, HasTargetsRedone, HasFailedRedo, HasFoundNone, IsOpenedBy, IsOpenedTo, HasOpenedLogged, LeavesOpenedTrusted, LeavesOpenedSound}
 use Rattle.line_txn.proofs.LoggedLaws.{kept_by_opening, zero_header}
-use Rattle.line_txn.proofs.EditLaws.{AfterEdits, LeftTrusted, LeftSound, trusted_after_edits, sound_after_edits, edits_leave, LeavesAll, unrefused_fault}
+use Rattle.line_txn.proofs.EditLaws.{AfterEdits, CommitLeftTrusted, CommitLeftSound, trusted_after_edits, sound_after_edits, edits_leave, LeavesAll, unrefused_fault}
 use Rattle.line_txn.proofs.EditStages.{after_copies, after_last, length-copy_edits, stops_by, redoing_fit}
 
 -- ---- the lines
@@ -62,17 +62,17 @@ module _ (setup : Setup) (lines : List Line) (size : logged_lines setup.shape + 
       ∙ ap (with_header n []) (after_copies n 15 targets lines its.below long)
 
   -- how an opening ends, by the answer of its redo
-  abbrev EndsRedo : Result (Unit {0}) Fault → List ℕ → Parts → Type 0
-  EndsRedo (Ok done) targets new = (opening : Opening) × (targets_opened opening targets ≡ []) × HasLines setup (lines_opened opening n targets lines) new
-  EndsRedo (Err fault) targets new =
+  abbrev EndsStoreRedo : Result (Unit {0}) Fault → List ℕ → Parts → Type 0
+  EndsStoreRedo (Ok done) targets new = (opening : Opening) × (targets_opened opening targets ≡ []) × HasLines setup (lines_opened opening n targets lines) new
+  EndsStoreRedo (Err fault) targets new =
       (opening : Opening) × HasLines setup (lines_opened opening n targets lines) new
       × (IsUnspent fault ⊎ (targets_opened opening targets ≡ targets))
 
   redo_ends : (targets : List ℕ) (between new : Parts) (redone : Result (Unit {0}) Fault) → AreTargets n targets
       → HasLines setup lines between → AreTrusted setup between → AreEdited setup (redoing_edits n targets) between new redone
-      → EndsRedo redone targets new
+      → EndsStoreRedo redone targets new
   redo_ends [] between new redone its had trusted it =
-      subst (λ r. EndsRedo r [] new) (sym it.0) (partly 0, refl, subst (HasLines setup lines) (sym it.1) had)
+      subst (λ r. EndsStoreRedo r [] new) (sym it.0) (partly 0, refl, subst (HasLines setup lines) (sym it.1) had)
   redo_ends (t ∷ targets) between new redone its had trusted it =
       go redone (edits_leave setup small (redoing_edits n (t ∷ targets)) lines between new redone fit had trusted it)
     where
@@ -90,7 +90,7 @@ module _ (setup : Setup) (lines : List Line) (size : logged_lines setup.shape + 
       all = through_lines (t ∷ targets) its long
 
       go : (redone : Result (Unit {0}) Fault) → LeavesAll setup small redone (redoing_edits n (t ∷ targets)) lines new
-          → EndsRedo redone (t ∷ targets) new
+          → EndsStoreRedo redone (t ∷ targets) new
       go (Ok done) holds =
           (through, refl, subst (λ l. HasLines setup l new) (after_last (copy_edits (n + 1) (t ∷ targets)) (Make.Put n zero_line) lines ∙ all) holds)
       go (Err fault) stops =
@@ -104,7 +104,7 @@ module _ (setup : Setup) (lines : List Line) (size : logged_lines setup.shape + 
   -- the redo of the header that was read
   record RedoneTo (targets : List ℕ) (new : Parts) (redone : Result (Unit {0}) Fault) : Type 0 where
     its_header : IsHeader n (line_at lines n) targets
-    ends : EndsRedo redone targets new
+    ends : EndsStoreRedo redone targets new
 
   redone_to_end : (targets : List ℕ) (old new : Parts) (redone : Result (Unit {0}) Fault) → HasLines setup lines old → AreTrusted setup old
       → HasTargetsRedone setup targets old new redone → RedoneTo targets new redone
@@ -127,7 +127,7 @@ module _ (setup : Setup) (lines : List Line) (size : logged_lines setup.shape + 
       let to = redone_to_end it.targets old new it.redone had trusted it.was_redone in
       go it.redone it.its_end to.ends to.its_header
     where
-      go : (redone : Result (Unit {0}) Fault) → IsOpenedBy redone store.lines it.targets store opened → EndsRedo redone it.targets new
+      go : (redone : Result (Unit {0}) Fault) → IsOpenedBy redone store.lines it.targets store opened → EndsStoreRedo redone it.targets new
           → IsHeader n (line_at lines n) it.targets
           → (opening : Opening) × (found : List ℕ) × IsOpenedTo setup lines new store.logged.items opening found × (opened.redone ≡ length found)
       go (Ok done) by ends header =
@@ -167,13 +167,13 @@ module _ (setup : Setup) (lines : List Line) (size : logged_lines setup.shape + 
 -- ---- trusted and sound
 
 redone_trusted : (setup : Setup) (targets : List ℕ) (old new : Parts) (redone : Result (Unit {0}) Fault) → AreTrusted setup old
-    → HasTargetsRedone setup targets old new redone → AfterEdits (AreTrusted setup) (LeftTrusted setup) redone new
+    → HasTargetsRedone setup targets old new redone → AfterEdits (AreTrusted setup) (CommitLeftTrusted setup) redone new
 redone_trusted setup targets old new redone trusted it =
     trusted_after_edits setup (redoing_edits (logged_lines setup.shape) targets) it.between new redone it.was_redone
     (trusted_after_read setup (logged_lines setup.shape) old it.between (Ok it.line) it.was_read trusted)
 
 redone_sound : (setup : Setup) (targets : List ℕ) (old new : Parts) (redone : Result (Unit {0}) Fault) → AreSound setup old
-    → HasTargetsRedone setup targets old new redone → AfterEdits (AreSound setup) (LeftSound setup) redone new
+    → HasTargetsRedone setup targets old new redone → AfterEdits (AreSound setup) (CommitLeftSound setup) redone new
 redone_sound setup targets old new redone sound it =
     sound_after_edits setup (redoing_edits (logged_lines setup.shape) targets) it.between new redone it.was_redone
     (sound_after_read setup (logged_lines setup.shape) old it.between (Ok it.line) it.was_read sound).0
@@ -184,7 +184,7 @@ opened_trusted setup old now (Ok both) it trusted =
     go it.redone it.its_end (redone_trusted setup it.targets old (now both.0.engine) it.redone trusted it.was_redone)
   where
     go : (redone : Result (Unit {0}) Fault) → IsOpenedBy redone both.0.lines it.targets both.0 both.1
-        → AfterEdits (AreTrusted setup) (LeftTrusted setup) redone (now both.0.engine) → AreTrusted setup (now both.0.engine)
+        → AfterEdits (AreTrusted setup) (CommitLeftTrusted setup) redone (now both.0.engine) → AreTrusted setup (now both.0.engine)
     go (Ok done) by is = is
     go (Err (Fail.Spent page)) by is = is
     go (Err fault) by is = absurd by
@@ -215,7 +215,7 @@ opened_sound setup old now (Ok both) it sound =
     go it.redone it.its_end (redone_sound setup it.targets old (now both.0.engine) it.redone sound it.was_redone)
   where
     go : (redone : Result (Unit {0}) Fault) → IsOpenedBy redone both.0.lines it.targets both.0 both.1
-        → AfterEdits (AreSound setup) (LeftSound setup) redone (now both.0.engine) → AreSound setup (now both.0.engine)
+        → AfterEdits (AreSound setup) (CommitLeftSound setup) redone (now both.0.engine) → AreSound setup (now both.0.engine)
     go (Ok done) by is = is
     go (Err (Fail.Spent page)) by is = is.0
     go (Err fault) by is = absurd by
@@ -260,12 +260,6 @@ redone_by setup n old between new line targets redone same read header edits =
       header = subst (λ m. IsHeader m line targets) same header;
       was_redone = subst (λ m. AreEdited setup (redoing_edits m targets) between new redone) same edits;
     }
-
-pub started_by : (setup : Setup) (old new : Parts) (store : Store) (opened : Opened) (targets : List ℕ) (redone : Result (Unit {0}) Fault)
-    → HasTargetsRedone setup targets old new redone → store.lines ≡ logged_lines setup.shape → opened.redone ≡ length targets
-    → IsOpenedBy redone store.lines targets store opened → HasStoreStarted setup old new store opened
-started_by setup old new store opened targets redone was lines count end =
-    record { targets = targets; redone = redone; was_redone = was; its_lines = lines; its_count = count; its_end = end }
 
 abbrev IsThere : {X : Type 0} → Option X → Type 0
 IsThere (Some x) = ⊤

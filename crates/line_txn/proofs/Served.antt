@@ -16,20 +16,20 @@ use Rattle.line_txn.specs.Serving.{body_or_place, served_from}
 use Rattle.line_txn.proofs.LoggedLaws.{read_from}
 
 -- a target has its body, and no line that isn't one has another place
-abbrev IsServed : ℕ → List ℕ → ℕ → ℕ → Type 0
-IsServed k targets a place =
+abbrev IsStoreServed : ℕ → List ℕ → ℕ → ℕ → Type 0
+IsStoreServed k targets a place =
     ((i : ℕ) × (i < length targets) × (slice_index targets i ≡ a) × (place ≡ k + i))
     ⊎ (((i : ℕ) → i < length targets → slice_index targets i ≡ a → ⊥) × (place ≡ a))
 
-served_cases : (k : ℕ) (targets : List ℕ) (a : ℕ) → IsServed k targets a (body_or_place k targets a)
+served_cases : (k : ℕ) (targets : List ℕ) (a : ℕ) → IsStoreServed k targets a (body_or_place k targets a)
 served_cases k [] a = inr ((λ i inside e. omega (arith, inside)), refl)
 served_cases k (t ∷ targets) a =
     elim (cases_Bool (eqb t a)) [
       | inl is ↦
-          subst (λ b. IsServed k (t ∷ targets) a (cond b k (body_or_place (k + 1) targets a))) (sym is)
+          subst (λ b. IsStoreServed k (t ∷ targets) a (cond b k (body_or_place (k + 1) targets a))) (sym is)
           (inl (0, omega arith, eqb-true t a is, omega arith))
       | inr isnt ↦
-          subst (λ b. IsServed k (t ∷ targets) a (cond b k (body_or_place (k + 1) targets a))) (sym isnt)
+          subst (λ b. IsStoreServed k (t ∷ targets) a (cond b k (body_or_place (k + 1) targets a))) (sym isnt)
           (later (body_or_place (k + 1) targets a) (λ e. eqb-false t a isnt e) (served_cases (k + 1) targets a))
     ]
   where
@@ -38,7 +38,7 @@ served_cases k (t ∷ targets) a =
     not other none zero inside e = other e
     not other none (suc i) inside e = none i (omega (arith, inside)) e
 
-    later : (place : ℕ) → (t ≡ a → ⊥) → IsServed (k + 1) targets a place → IsServed k (t ∷ targets) a place
+    later : (place : ℕ) → (t ≡ a → ⊥) → IsStoreServed (k + 1) targets a place → IsStoreServed k (t ∷ targets) a place
     later place other (inl is) =
         let inside = is.1 in let at = is.3 in
         inl (suc is.0, omega (arith, inside), is.2, omega (arith, at))

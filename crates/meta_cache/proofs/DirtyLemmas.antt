@@ -40,20 +40,20 @@ find_found {X = X} p (y ∷ xs) x e = by_test (p y) refl e (λ rest. find_found 
         record { place = suc later.place; within = omega (arith, later.within); here = later.here; passes = later.passes }
 
 -- the first answer is that of some element
-record IsAnswer {X Y : Type 0} (f : X → Option Y) (xs : List X) (y : Y) : Type 0 where
+record IsDirtyAnswer {X Y : Type 0} (f : X → Option Y) (xs : List X) (y : Y) : Type 0 where
   place : ℕ
   within : place < length xs
   answers : (d : X) → f (get_or xs place d) ≡ Some y
 
 answer_found : {X Y : Type 0} (f : X → Option Y) (xs : List X) (y : Y) → slice_get (filter_map f xs) 0 ≡ Some y
-    → IsAnswer f xs y
+    → IsDirtyAnswer f xs y
 answer_found f [] y e = absurd cc
 answer_found {X = X} {Y = Y} f (x ∷ xs) y e = by_answer (f x) refl e (λ rest. answer_found f xs y rest)
   where
     by_answer : (answer : Option Y) → f x ≡ answer → slice_get (cons_option answer (filter_map f xs)) 0 ≡ Some y
-        → (slice_get (filter_map f xs) 0 ≡ Some y → IsAnswer f xs y) → IsAnswer f (x ∷ xs) y
+        → (slice_get (filter_map f xs) 0 ≡ Some y → IsDirtyAnswer f xs y) → IsDirtyAnswer f (x ∷ xs) y
     by_answer None silent found again =
-        let later : IsAnswer f xs y = again found in
+        let later : IsDirtyAnswer f xs y = again found in
         record { place = suc later.place; within = omega (arith, later.within); answers = λ d. later.answers d }
     by_answer (Some z) answers found again =
         let same : z ≡ y = cc in
@@ -66,13 +66,13 @@ position_found : (answer : Option Slot) (x : ℕ) → option_map (λ (slot : Slo
 position_found v0 x e = search rules
 
 -- the oldest dirty position of a set is dirty there
-record IsDirtyAt (slots : List Slot) (x : ℕ) : Type 0 where
+record IsSlotDirtyAt (slots : List Slot) (x : ℕ) : Type 0 where
   place : ℕ
   within : place < length slots
   position : (d : Slot) → (get_or slots place d).position ≡ x
   dirty : (d : Slot) → (get_or slots place d).dirty ≡ true
 
-dirty_at : (slots : List Slot) (x : ℕ) → oldest_dirty_in slots ≡ Some x → IsDirtyAt slots x
+dirty_at : (slots : List Slot) (x : ℕ) → oldest_dirty_in slots ≡ Some x → IsSlotDirtyAt slots x
 dirty_at slots x e =
     let slot = position_found (find (λ (s : Slot). s.dirty) (reverse slots)) x e in
     let found : IsFound (λ (s : Slot). s.dirty) (reverse slots) slot.0 =
@@ -93,12 +93,12 @@ dirty_at slots x e =
 pub oldest_of_bank_cached : (g : Shape) (banks : Banks) (bank x : ℕ) → IsCacheOf g banks
     → oldest_dirty_of (bank_of banks bank) ≡ Some x → is_cached_dirty g banks bank x ≡ true
 oldest_of_bank_cached g banks bank x form e =
-    let answer : IsAnswer oldest_dirty_in (bank_of banks bank) x =
+    let answer : IsDirtyAnswer oldest_dirty_in (bank_of banks bank) x =
     answer_found oldest_dirty_in (bank_of banks bank) x e in
     let n : ℕ = answer.place in
     let set : get_or (bank_of banks bank) n [] ≡ set_of banks bank n =
     ap (λ (sets : List (List Slot)). get_or sets n []) (bank_of-get_or banks bank) ∙ sym (set_of-get_or banks bank n) in
-    let dirty : IsDirtyAt (set_of banks bank n) x =
+    let dirty : IsSlotDirtyAt (set_of banks bank n) x =
     dirty_at (set_of banks bank n) x (ap oldest_dirty_in (sym set) ∙ answer.answers []) in
     let its : set_index g x ≡ n =
     ap (set_index g) (sym (dirty.position blank)) ∙ (form.each_set bank n).its_positions dirty.place blank dirty.within in
@@ -115,7 +115,7 @@ pair_found v0 bank found e = search rules
 pub oldest_cached : (g : Shape) (banks : Banks) (found : ℕ × ℕ) → IsCacheOf g banks
     → oldest_dirty banks ≡ Some found → (found.0 ≤ g.levels) × (is_cached_dirty g banks found.0 found.1 ≡ true)
 oldest_cached g banks found form e =
-    let answer : IsAnswer (dirty_in_bank banks) (range_with_len 0 (length banks)) found =
+    let answer : IsDirtyAnswer (dirty_in_bank banks) (range_with_len 0 (length banks)) found =
     answer_found (dirty_in_bank banks) (range_with_len 0 (length banks)) found e in
     let low : answer.place < length banks = omega (arith, answer.within, length-range_with_len 0 (length banks)) in
     let at : get_or (range_with_len 0 (length banks)) answer.place 0 ≡ answer.place =

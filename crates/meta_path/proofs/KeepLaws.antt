@@ -20,7 +20,7 @@ use Rattle.meta_path.specs.Fetching.{absent_count, spilled}
 use Rattle.meta_path.specs.Keeping.{HasComeIn, HasGivenWay, WasWrittenBack, KeepsBlocks}
 use Rattle.meta_path.proofs.SetFacts.{touched_contains, contains_touched, placed_contains, contains_placed, placed_gone, victim_contained}
 use Rattle.meta_path.proofs.PathFacts.{path_at-level, path_at-lt, its_bank_of}
-use Rattle.meta_path.proofs.KeepLemmas.{IsPart, IsPathSet, IsSpilledAt, path_set_or_not, used_or_placed, spilled_told, spilled_or_kept_told, length-spilled, absent_count-le, absent_count-more, dirty_count-fetched}
+use Rattle.meta_path.proofs.KeepLemmas.{IsKeptPart, IsPathSet, IsSpilledAt, path_set_or_not, used_or_placed, spilled_told, spilled_or_kept_told, length-spilled, absent_count-le, absent_count-more, dirty_count-fetched}
 
 -- what holds of each slot of a set holds of all
 pub all_of : {X : Type 0} (P : X → Type 0) (xs : List X) → ((x : X) → Contains xs x → P x) → All P xs
@@ -29,7 +29,7 @@ all_of P xs each = λ k d h. each (get_or xs k d) (All-contains_itself xs k d h)
 -- ---- the slots of a set, now and before
 
 module _ {g : Shape} {truth : List Line} {page n : ℕ} {old new : CacheState} {before after : Device}
-    (part : IsPart g truth page n old new before after) (bank set : ℕ) where
+    (part : IsKeptPart g truth page n old new before after) (bank set : ℕ) where
   abbrev x : ℕ
   x = path_at g page bank
 
@@ -107,7 +107,7 @@ module _ {g : Shape} {truth : List Line} {page n : ℕ} {old new : CacheState} {
 -- ---- together
 
 module _ {g : Shape} {truth : List Line} {page n : ℕ} {old new : CacheState} {before after : Device}
-    (part : IsPart g truth page n old new before after) where
+    (part : IsKeptPart g truth page n old new before after) where
   -- a level's write-back is that of a dirty block that is cached no more
   written_back : (at : ℕ) → IsSpilledAt g old.banks page n at → WasWrittenBack g old.banks new.banks after.lines at
   written_back at spilled =

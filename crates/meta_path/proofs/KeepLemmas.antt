@@ -26,7 +26,7 @@ use Rattle.meta_path.proofs.PathFacts.{its_bank_of, put_lines-elsewhere, level_w
 use Rattle.meta_path.proofs.FetchLemmas.{IsFetchOf}
 
 -- the first n levels of the path are fetched, and their write-backs are all that the board wrote
-pub record IsPart (g : Shape) (truth : List Line) (page n : ℕ) (old new : CacheState) (before after : Device) :
+pub record IsKeptPart (g : Shape) (truth : List Line) (page n : ℕ) (old new : CacheState) (before after : Device) :
     Type 0 where
   pub of : IsFetchOf g page old.banks
   pub some_way : 1 ≤ g.ways

@@ -22,7 +22,7 @@ use Rattle.meta_path.specs.Levels.{IsLevelFetched, IsLevelFault}
 use Rattle.meta_path.specs.Fetching.{absent_count, spilled, IsFetchedTo, IsReadAt, IsCutAt, IsPathFault}
 use Rattle.meta_path.specs.Keeping.{KeepsBlocks, IsUndisturbed, IsTrueTree, IsFaultCaused}
 use Rattle.meta_path.proofs.FetchLemmas.{IsFetchOf, IsFetchedTo-more, IsPathFault-at, cached_no_fault}
-use Rattle.meta_path.proofs.KeepLemmas.{IsPart, length-spilled, absent_count-cached}
+use Rattle.meta_path.proofs.KeepLemmas.{IsKeptPart, length-spilled, absent_count-cached}
 use Rattle.meta_path.proofs.KeepLaws.{in_their_banks, KeepsBlocks-part}
 use Rattle.meta_path.proofs.CauseLaws.{cut_dirty, IsFaultCaused-fault}
 
@@ -55,15 +55,15 @@ module _ {g : Shape} {page : ℕ} {old : FetchState} (start : IsStart g page old
       }
 
   part_fetched : {f : Formulas} {truth : List Line} {n : ℕ} {new : FetchState} → n ≤ g.levels + 1
-      → IsFetchedTo g f truth page n old new → IsPart g truth page n old.cache new.cache old.device new.device
+      → IsFetchedTo g f truth page n old new → IsKeptPart g truth page n old.cache new.cache old.device new.device
   part_fetched level h = search (rules, fetch_of)
 
   part_read : {f : Formulas} {truth : List Line} {n : ℕ} {line : Line} {new : FetchState}
-      → IsReadAt g f truth page n line old new → IsPart g truth page n old.cache new.cache old.device new.device
+      → IsReadAt g f truth page n line old new → IsKeptPart g truth page n old.cache new.cache old.device new.device
   part_read h = search (rules, fetch_of)
 
   part_cut : {f : Formulas} {truth : List Line} {new : FetchState} (cut : IsCutAt g f truth page old new)
-      → IsPart g truth page cut.n old.cache new.cache old.device new.device
+      → IsKeptPart g truth page cut.n old.cache new.cache old.device new.device
   part_cut cut = search (rules, fetch_of)
 
   -- what is kept where a fault is answered
@@ -85,7 +85,7 @@ pub record IsRun (g : Shape) (f : Formulas) (page n : ℕ) (old mid : FetchState
   pub ledger : mid_ledger ≡ old_ledger
 
 -- and the level's fault that ends it
-pub record IsEnded (g : Shape) (f : Formulas) (page n : ℕ) (old mid new : FetchState)
+pub record IsRunEnded (g : Shape) (f : Formulas) (page n : ℕ) (old mid new : FetchState)
     (old_ledger mid_ledger new_ledger : LedgerState) (fault : PathFault) : Type 0 where
   pub run : IsRun g f page n old mid old_ledger mid_ledger
   pub on_path : n ≤ g.levels
@@ -108,7 +108,7 @@ module _ {g : Shape} {f : Formulas} {page n : ℕ} {old mid : FetchState} {old_l
       (IsFetchedTo-more run.fetched level (fetch_of run.start) le)
 
 module _ {g : Shape} {f : Formulas} {page n : ℕ} {old mid new : FetchState} {old_ledger mid_ledger new_ledger : LedgerState}
-    {fault : PathFault} (end : IsEnded g f page n old mid new old_ledger mid_ledger new_ledger fault) where
+    {fault : PathFault} (end : IsRunEnded g f page n old mid new old_ledger mid_ledger new_ledger fault) where
   pub fault_of_end : IsPathFault g f page old new old_ledger new_ledger fault
   fault_of_end =
       IsPathFault-at g f page n old mid new old_ledger mid_ledger new_ledger fault end.on_path end.run.fetched end.run.ledger

@@ -2,9 +2,8 @@
 use Rattle.std.proofs.Common.{arith, ◌∙◌, List, ℕ, [], ◌++◌, sym, ap, append_assoc, append-nil}
 use Rattle.std.proofs.lemmas.Grind.{common_steps}
 use Rattle.std.specs.Prelude.{Option}
-use Rattle.std.specs.Io.KnownBytes.{Appends}
 use Rattle.std.proofs.KnownBytes.{Appends-nil, Appends-trans}
-use Rattle.pmem_cli.specs.Printed.{Output, Prints, PrintsFront, with_waiting}
+use Rattle.pmem_cli.specs.Printed.{Output, Prints, PrintsFront}
 
 -- nothing was printed
 pub Prints-nil : (a : Output) → Prints a a []
@@ -29,7 +28,3 @@ PrintsFront-trans a b c s t first second = grind (arith, common_steps)
 -- more text may follow
 pub PrintsFront-more : (a b : Output) (s t : List ℕ) → PrintsFront a b s → PrintsFront a b (s ++ t)
 PrintsFront-more a b s t front = grind (arith, common_steps)
-
--- where nothing waited, and nothing waits, all was put
-pub Prints-whole : (p q : Option (List ℕ)) (s : List ℕ) → Prints (with_waiting p []) (with_waiting q []) s → Appends p q s
-Prints-whole p q s printed = rw (printed.in_order ∙ append-nil printed.done) printed.appended

@@ -33,11 +33,6 @@ use Rattle.pmem_cli.proofs.StandingLemmas.{StandingAfter-trans, AreStepped-after
 
 -- ---- the commands
 
--- where commands are left, the first of them
-pub first_command : (state number left m : ℕ) → left ≡ suc m
-    → commands_from state number left ≡ sample_command number (word_at state) ∷ commands_from (state_after_word state) (number + 1) m
-first_command state number left m more = rw more refl
-
 -- a sample trace ends with its counts
 pub sample_is : (seed count : ℕ) → sample_trace seed count ≡ commands_from (state_of_seed seed) 1 count ++ Do.Stat ∷ []
 unfolding sample_trace

@@ -35,10 +35,6 @@ use Rattle.pmem_cli.proofs.RunLemmas.{ends_answered}
 use Rattle.pmem_cli.proofs.TurnLemmas.{IfSome-map}
 use Rattle.pmem_cli.proofs.Untampering.{untampered}
 
-is_write_fault : (stop : Stop) → (stop ≡ WriteFault) ⊎ (stop ≢ WriteFault)
-is_write_fault WriteFault = inl refl
-is_write_fault stop = inr (λ same. cc)
-
 -- ---- what was asked for, finished by the last line
 
 -- what was made of an ending: its status, and its line
@@ -161,14 +157,6 @@ TaskOutcome-finished (Task.Txn c) ending status pull_failed trace left before af
     (subst (λ (e : Ending). IsFinished e status between after) ended.its_stop finished)
 
 -- ---- faults, by the status
-
-is_read_ending : (ending : Ending) → (ending ≡ Stopped ReadFault) ⊎ (ending ≢ Stopped ReadFault)
-is_read_ending (Stopped ReadFault) = inl refl
-is_read_ending ending = inr (λ same. cc)
-
-pub is_write_ending : (ending : Ending) → (ending ≡ Stopped WriteFault) ⊎ (ending ≢ Stopped WriteFault)
-is_write_ending (Stopped stop) = elim (is_write_fault stop) [ inl same ↦ inl (ap Stopped same) | inr other ↦ inr (λ same. other (cc same)) ]
-is_write_ending ending = inr (λ same. cc)
 
 -- a failed pull
 pub pull_told : (ending : Ending) (status before now : ℕ) → CountsFault (ending ≡ Stopped ReadFault) before now → (status ≢ 4 → status ≡ ending_status ending) → now ≢ before

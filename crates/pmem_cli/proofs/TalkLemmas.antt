@@ -36,9 +36,6 @@ module _ {S X : Type 0} (p : Protocol S X) where
 
   -- ---- some lines, and more
 
-  pub IsTalk-nil : (first : S) → IsTalk p first [] [] first
-  IsTalk-nil first = (refl, refl)
-
   pub IsTalk-one : (first next : S) (line : List ℕ) (xs : List X) → AnswersOne p first line xs next → IsTalk p first (line ∷ []) xs next
   IsTalk-one first next line xs answered = (next, xs, [], answered, sym (append-nil xs), (refl, refl))
 

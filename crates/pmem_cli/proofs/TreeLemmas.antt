@@ -87,13 +87,13 @@ abbrev IsShownBefore : Setup → SessionState → Exhibit → Type 0
 IsShownBefore setup last its = (command : TreeCommand) × ((new : SessionState) × IsEngineShown setup last command its new)
 
 -- the replies are a chain, and an exhibit comes after them
-record IsChain (setup : Setup) (first : SessionState) (said : List (Said TreeReply)) : Type 0 where
+record IsTreeChain (setup : Setup) (first : SessionState) (said : List (Said TreeReply)) : Type 0 where
   last : SessionState
   answered : AreTreeAnswered setup first (replies_among said) last
   shown : All (IsShownBefore setup last) (exhibits_among said)
 
 chain_of_given : (setup : Setup) (first : SessionState) (said : List (Said TreeReply))
-    → AreGiven (session_protocol (counter_tree_session setup)) first said → IsChain setup first said
+    → AreGiven (session_protocol (counter_tree_session setup)) first said → IsTreeChain setup first said
 chain_of_given setup first [] given = record { last = first; answered = refl; shown = All-nil _ }
 chain_of_given setup first (reply its ∷ said) (line, its_sort, inl (next, answered, more)) =
     let rest = chain_of_given setup next said more in
@@ -101,7 +101,7 @@ chain_of_given setup first (reply its ∷ said) (line, its_sort, inl (next, answ
 chain_of_given setup first (reply its ∷ said) (line, its_sort, inr (shown, none)) = absurd shown
 chain_of_given setup first (exhibit its ∷ said) (line, its_sort, inl (next, answered, more)) = absurd answered
 chain_of_given setup first (exhibit its ∷ said) (line, its_sort, inr (shown, none)) =
-    subst (λ (zs : List (Said TreeReply)). IsChain setup first (exhibit its ∷ zs)) (sym none)
+    subst (λ (zs : List (Said TreeReply)). IsTreeChain setup first (exhibit its ∷ zs)) (sym none)
     (record { last = first; answered = refl; shown = All-cons (IsShownBefore setup first) its [] (shown.command, (shown.new, shown.shown)) (All-nil _) })
 
 -- what holds of none is none

@@ -24,14 +24,14 @@ use Rattle.pmem_cli.proofs.SessionLemmas.{Keeps}
 
 -- ---- geometry and keys stay
 
-record AreSame (old new : TxnState) : Type 0 where
+record AreTxnSame (old new : TxnState) : Type 0 where
   shape : new.shape ≡ old.shape
   keys : new.keys ≡ old.keys
 
-same_self : (state : TxnState) → AreSame state state
+same_self : (state : TxnState) → AreTxnSame state state
 same_self state = record { shape = refl; keys = refl }
 
-same_decided : (old : TxnState) (command : TxnCommand) (answer : TxnAnswer) → AreSame old (txn_after_decided old command answer)
+same_decided : (old : TxnState) (command : TxnCommand) (answer : TxnAnswer) → AreTxnSame old (txn_after_decided old command answer)
 same_decided old Do.Begin Say.Ok = record { shape = refl; keys = refl }
 same_decided old (Do.Put a line) Say.Ok = record { shape = refl; keys = refl }
 same_decided old Do.Commit (Say.Applied steps) = record { shape = refl; keys = refl }
@@ -42,15 +42,15 @@ same_decided old command answer = record { shape = refl; keys = refl }
 
 same_writes : (b : Bool) (old : TxnState) (memory : Memory) (targets : List ℕ) (marks : List Mark)
     → (let closed : TxnState = record old { txn = None } in
-    AreSame old (record (if b then record closed { memory = memory; in_force = targets } else closed) { marks = marks }))
+    AreTxnSame old (record (if b then record closed { memory = memory; in_force = targets } else closed) { marks = marks }))
 same_writes true old memory targets marks = record { shape = refl; keys = refl }
 same_writes false old memory targets marks = record { shape = refl; keys = refl }
 
-same_commit : (old : TxnState) (entries : Entries) (writing : Writing) → AreSame old (after_commit old entries writing)
+same_commit : (old : TxnState) (entries : Entries) (writing : Writing) → AreTxnSame old (after_commit old entries writing)
 same_commit old entries writing = same_writes (nat_lt (length entries) writing.done) old _ _ _
 
-same_committed : (expected : TxnState) (most : ℕ) (answer : TxnAnswer) (old new : TxnState) → AreSame old expected
-    → EndsCommit expected most answer old new → AreSame old new
+same_committed : (expected : TxnState) (most : ℕ) (answer : TxnAnswer) (old new : TxnState) → AreTxnSame old expected
+    → EndsCommit expected most answer old new → AreTxnSame old new
 same_committed expected most (Say.Applied steps) old new same ends = record { shape = ends.becomes.shape ∙ same.shape; keys = ends.becomes.keys ∙ same.keys }
 same_committed expected most (Say.Stuck page steps) old new same ends = record { shape = ends.becomes.shape ∙ same.shape; keys = ends.becomes.keys ∙ same.keys }
 same_committed expected most (Say.Spent page steps) old new same ends = record { shape = ends.becomes.shape ∙ same.shape; keys = ends.becomes.keys ∙ same.keys }
@@ -58,19 +58,19 @@ same_committed expected most (Say.CutKept steps) old new same ends = record { sh
 same_committed expected most (Say.CutLost steps) old new same ends = record { shape = ends.becomes.shape ∙ same.shape; keys = ends.becomes.keys ∙ same.keys }
 same_committed expected most answer old new same ends = absurd ends
 
-same_read : (old : TxnState) (a : ℕ) (answer : TxnAnswer) (new : TxnState) → HasTxnRead old a answer new → AreSame old new
+same_read : (old : TxnState) (a : ℕ) (answer : TxnAnswer) (new : TxnState) → HasTxnRead old a answer new → AreTxnSame old new
 same_read old a (Say.Got line steps) new (its, goes) = record { shape = goes.becomes.shape; keys = goes.becomes.keys }
 same_read old a (Say.Cut steps) new cut = record { shape = cut.becomes.shape; keys = cut.becomes.keys }
 same_read old a answer new none = absurd none
 
 same_opened : (old : TxnState) (writing : Writing) (answer : TxnAnswer) (new : TxnState) → EndsRedo (after_redo old writing) answer old new
-    → AreSame old new
+    → AreTxnSame old new
 same_opened old writing (Say.Opened redone steps) new (count, goes) = record { shape = goes.becomes.shape; keys = goes.becomes.keys }
 same_opened old writing (Say.Stuck page steps) new goes = record { shape = goes.becomes.shape; keys = goes.becomes.keys }
 same_opened old writing (Say.Cut steps) new cut = record { shape = cut.becomes.shape; keys = cut.becomes.keys }
 same_opened old writing answer new none = absurd none
 
-same_served : (setup : Setup) (old : TxnState) (command : TxnCommand) (answer : TxnAnswer) (new : TxnState) → IsTxnServed setup old command answer new → AreSame old new
+same_served : (setup : Setup) (old : TxnState) (command : TxnCommand) (answer : TxnAnswer) (new : TxnState) → IsTxnServed setup old command answer new → AreTxnSame old new
 same_served setup old Do.Commit answer new committed =
     same_committed (after_commit old (unwrap_or old.txn []) committed.writing) (most_of_commit old.shape (length (unwrap_or old.txn []))) answer old new
     (same_commit old (unwrap_or old.txn []) committed.writing) committed.ends
@@ -79,8 +79,8 @@ same_served setup old Do.On answer new opened = same_opened old opened.writing a
 same_served setup old command answer new none = absurd none
 
 same_as : (fixed : Option TxnAnswer) (setup : Setup) (old : TxnState) (command : TxnCommand) (answer : TxnAnswer) (new : TxnState)
-    → IsTxnAnsweredAs fixed setup old command answer new → AreSame old new
-same_as (Some fixed) setup old command answer new (its, same) = subst (λ state. AreSame old state) (sym same) (same_decided old command fixed)
+    → IsTxnAnsweredAs fixed setup old command answer new → AreTxnSame old new
+same_as (Some fixed) setup old command answer new (its, same) = subst (λ state. AreTxnSame old state) (sym same) (same_decided old command fixed)
 same_as None setup old command answer new served = same_served setup old command answer new served
 
 -- the setup of a state stays

@@ -25,30 +25,30 @@ use Rattle.pmem_cli.proofs.SessionLemmas.{Keeps}
 
 -- ---- geometry and keys stay
 
-record AreSame (old new : WearState) : Type 0 where
+record AreWearSame (old new : WearState) : Type 0 where
   shape : new.shape ≡ old.shape
   keys : new.keys ≡ old.keys
 
-same_self : (state : WearState) → AreSame state state
+same_self : (state : WearState) → AreWearSame state state
 same_self state = record { shape = refl; keys = refl }
 
-same_off : (b : Bool) (old : WearState) → AreSame old (if b then wear_without_power old else old)
+same_off : (b : Bool) (old : WearState) → AreWearSame old (if b then wear_without_power old else old)
 same_off true old = record { shape = refl; keys = refl }
 same_off false old = same_self old
 
-same_decided : (old : WearState) (command : WearCommand) → AreSame old (wear_after_decided old command)
+same_decided : (old : WearState) (command : WearCommand) → AreWearSame old (wear_after_decided old command)
 same_decided old Do.Off = same_off old.power old
 same_decided old command = record { shape = refl; keys = refl }
 
 same_writes : (b : Bool) (old : WearState) (memory : Memory) (wear : Wear) (count : ℕ) (marks : List Mark)
-    → AreSame old (record (if b then old else record old { memory = memory; wear = wear; count = count }) { marks = marks })
+    → AreWearSame old (record (if b then old else record old { memory = memory; wear = wear; count = count }) { marks = marks })
 same_writes true old memory wear count marks = record { shape = refl; keys = refl }
 same_writes false old memory wear count marks = record { shape = refl; keys = refl }
 
-same_writing : (old : WearState) (a : ℕ) (plain : Line) (writing : Writing) → AreSame old (after_writing old a plain writing)
+same_writing : (old : WearState) (a : ℕ) (plain : Line) (writing : Writing) → AreWearSame old (after_writing old a plain writing)
 same_writing old a plain writing = same_writes (writing.done == 0) old _ _ _ _
 
-same_written : (expected : WearState) (answer : WearAnswer) (old new : WearState) → AreSame old expected → EndsWriting expected answer old new → AreSame old new
+same_written : (expected : WearState) (answer : WearAnswer) (old new : WearState) → AreWearSame old expected → EndsWriting expected answer old new → AreWearSame old new
 same_written expected (Say.CutKept steps) old new same ends = record { shape = ends.becomes.shape ∙ same.shape; keys = ends.becomes.keys ∙ same.keys }
 same_written expected (Say.CutLost steps) old new same ends = record { shape = ends.becomes.shape ∙ same.shape; keys = ends.becomes.keys ∙ same.keys }
 same_written expected (Say.Written steps) old new same ends = record { shape = ends.becomes.shape ∙ same.shape; keys = ends.becomes.keys ∙ same.keys }
@@ -56,17 +56,17 @@ same_written expected (Say.Held page steps) old new same ends = record { shape =
 same_written expected (Say.Spent page steps) old new same ends = record { shape = ends.becomes.shape ∙ same.shape; keys = ends.becomes.keys ∙ same.keys }
 same_written expected answer old new same ends = absurd ends
 
-same_read : (old : WearState) (a : ℕ) (answer : WearAnswer) (new : WearState) → HasWearRead old a answer new → AreSame old new
+same_read : (old : WearState) (a : ℕ) (answer : WearAnswer) (new : WearState) → HasWearRead old a answer new → AreWearSame old new
 same_read old a (Say.Got line steps) new (its, goes) = record { shape = goes.becomes.shape; keys = goes.becomes.keys }
 same_read old a (Say.Cut steps) new cut = record { shape = cut.becomes.shape; keys = cut.becomes.keys }
 same_read old a answer new none = absurd none
 
-same_opened : (old : WearState) (answer : WearAnswer) (new : WearState) → HasWearOpened old answer new → AreSame old new
+same_opened : (old : WearState) (answer : WearAnswer) (new : WearState) → HasWearOpened old answer new → AreWearSame old new
 same_opened old (Say.Opened start gap steps) new (its_start, its_gap, goes) = record { shape = goes.becomes.shape; keys = goes.becomes.keys }
 same_opened old (Say.Cut steps) new cut = record { shape = cut.becomes.shape; keys = cut.becomes.keys }
 same_opened old answer new none = absurd none
 
-same_served : (setup : Setup) (old : WearState) (command : WearCommand) (answer : WearAnswer) (new : WearState) → IsWearServed setup old command answer new → AreSame old new
+same_served : (setup : Setup) (old : WearState) (command : WearCommand) (answer : WearAnswer) (new : WearState) → IsWearServed setup old command answer new → AreWearSame old new
 same_served setup old (Do.Write a plain) answer new written =
     same_written (after_writing old a plain written.writing) answer old new (same_writing old a plain written.writing) written.ends
 same_served setup old (Do.Read a) answer new read = same_read old a answer new read
@@ -74,8 +74,8 @@ same_served setup old Do.On answer new opened = same_opened old answer new opene
 same_served setup old command answer new none = absurd none
 
 same_as : (fixed : Option WearAnswer) (setup : Setup) (old : WearState) (command : WearCommand) (answer : WearAnswer) (new : WearState)
-    → IsWearAnsweredAs fixed setup old command answer new → AreSame old new
-same_as (Some fixed) setup old command answer new (its, same) = subst (λ state. AreSame old state) (sym same) (same_decided old command)
+    → IsWearAnsweredAs fixed setup old command answer new → AreWearSame old new
+same_as (Some fixed) setup old command answer new (its, same) = subst (λ state. AreWearSame old state) (sym same) (same_decided old command)
 same_as None setup old command answer new served = same_served setup old command answer new served
 
 -- the setup of a state stays

@@ -51,18 +51,18 @@ pub StaysSteady-written : (old : Device) (at : ℕ) (line : Line) (new : Device)
 StaysSteady-written old at line new w = search rules
 
 -- the lines before and after a write
-pub record IsLineWritten (at : ℕ) (line : Line) (old : Device) (now : List Line) : Type 0 where
+pub record IsFirstLineWritten (at : ℕ) (line : Line) (old : Device) (now : List Line) : Type 0 where
   pub lines : List Line
   pub told : old.lines ≡ Some lines
   pub set : slice_set lines at line ≡ now
 
-pub written_is : (old : Device) (at : ℕ) (line : Line) (new : Device) (now : List Line) → HasWritten old at line new → new.lines ≡ Some now → IsLineWritten at line old now
+pub written_is : (old : Device) (at : ℕ) (line : Line) (new : Device) (now : List Line) → HasWritten old at line new → new.lines ≡ Some now → IsFirstLineWritten at line old now
 written_is old at line new now w after = search rules
 
-pub written_here : (old : Device) (at : ℕ) (line : Line) (now : List Line) (w : IsLineWritten at line old now) → at < length now → line_at now at ≡ line
+pub written_here : (old : Device) (at : ℕ) (line : Line) (now : List Line) (w : IsFirstLineWritten at line old now) → at < length now → line_at now at ≡ line
 written_here old at line now w inside = search rules
 
-pub written_other : (old : Device) (at : ℕ) (line : Line) (now : List Line) (w : IsLineWritten at line old now) (d : ℕ) → d ≢ at → line_at now d ≡ line_at w.lines d
+pub written_other : (old : Device) (at : ℕ) (line : Line) (now : List Line) (w : IsFirstLineWritten at line old now) (d : ℕ) → d ≢ at → line_at now d ≡ line_at w.lines d
 written_other old at line now w d apart = search rules
 
 -- ---- the ledger
@@ -115,7 +115,7 @@ IsGroupTo-more setup group i at old mid new inside small here g w =
     further d (inl low) = inl low
     further d (inr high) = inr (omega (arith, high))
 
-    cipher : (now : List Line) (s : IsLineWritten at (first_cipher setup at) mid now) → length now ≡ layout.device_lines setup.shape → length s.lines ≡ layout.device_lines setup.shape → (j : ℕ) → j < i + 1 → (j ≡ i) ⊎ (j ≡ i → ⊥) → line_at now (4 * group + j) ≡ first_cipher setup (4 * group + j)
+    cipher : (now : List Line) (s : IsFirstLineWritten at (first_cipher setup at) mid now) → length now ≡ layout.device_lines setup.shape → length s.lines ≡ layout.device_lines setup.shape → (j : ℕ) → j < i + 1 → (j ≡ i) ⊎ (j ≡ i → ⊥) → line_at now (4 * group + j) ≡ first_cipher setup (4 * group + j)
     cipher now s long size j low (inl same) =
         let place : at ≡ 4 * group + j = omega (arith, here, same) in
         subst (λ k. line_at now k ≡ first_cipher setup k) place (written_here mid at (first_cipher setup at) now s (omega (arith, here, small, inside, long)))

@@ -69,13 +69,6 @@ RisesAtMost-both n m k before mid after few a b =
       bound = λ h. omega (arith, few, b.bound h, a.bound (omega (arith, h, b.never_falls)));
     }
 
-pub RisesAtMost-read : (old : Device) (at : ℕ) (line : Line) (new : Device) → HasRead old at line new → RisesAtMost 1 old.reads new.reads
-RisesAtMost-read old at line new r =
-    record { never_falls = r.reads.never_falls; bound = λ h. omega (arith, r.reads.exact h) }
-
-pub RisesAtMost-cut : (n : ℕ) (old new : Device) → WasCut old new → RisesAtMost n old.reads new.reads
-RisesAtMost-cut n old new c = subst (RisesAtMost n old.reads) (sym c.reads) (RisesAtMost-none n old.reads)
-
 -- ---- a stage that stops
 
 pub StopsBy-after : (fault : RecFault) (old mid new : Device) → IsUncut old mid → StopsBy fault mid new → StopsBy fault old new
@@ -122,9 +115,6 @@ SuiteWorkAtMost-after n m k l p q old mid new few_trials few_digests a b =
     }
 
 -- ---- pads, tags and digests
-
-pub SuiteRise-none : (old : SuiteState) → SuiteRise 0 0 0 old old
-SuiteRise-none old = record { its_keys = refl; its_pads = refl; its_tags = refl; its_digests = refl }
 
 pub SuiteRise-then : (a b c d e f : ℕ) (old mid new : SuiteState) → SuiteRise a b c old mid → SuiteRise d e f mid new → SuiteRise (a + d) (b + e) (c + f) old new
 SuiteRise-then a b c d e f old mid new x y =

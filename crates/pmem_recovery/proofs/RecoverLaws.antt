@@ -53,7 +53,7 @@ recovered_interrupted setup ledger old new suite shape size whole valid armed cu
 -- ---- the group redone, and the named lines made and written
 
 -- the stages of a recovery that has its memory
-pub record IsRun (setup : Setup) (old mid new : Device) : Type 0 where
+pub record IsRecoveryRun (setup : Setup) (old mid new : Device) : Type 0 where
   pub size : old.size ≡ layout.device_lines setup.shape
   pub whole_before : AreToldLines old.size old.lines
   pub whole_after : AreToldLines new.size new.lines
@@ -67,7 +67,7 @@ pub record IsRun (setup : Setup) (old mid new : Device) : Type 0 where
       (λ lines. length lines ≡ layout.device_lines setup.shape
       → RisesAtMost (named_reads setup.shape (shadow_of setup.shape lines)) mid.reads new.reads)
 
-module _ (setup : Setup) (ledger : LedgerState) (old mid new : Device) (run : IsRun setup old mid new) where
+module _ (setup : Setup) (ledger : LedgerState) (old mid new : Device) (run : IsRecoveryRun setup old mid new) where
   pub new_regs : new.regs ≡ without_group old.regs
   new_regs = run.written.same_regs ∙ run.finished.regs
 

@@ -18,7 +18,7 @@ use Rattle.start_gap.specs.declared.gapped.Moved.TheVariants as Move
 use Rattle.start_gap.specs.declared.gapped.WriteFault.{WriteFault}
 use Rattle.start_gap.specs.Wear.{place_of, next_wear, source_of}
 use Rattle.start_gap.specs.Record.{wear_record}
-use Rattle.start_gap.specs.Gapped.{HasRecorded, HasRecordedAfter, HasCopied, HasCopiedAfter, HasMovedGap, HasWriteGoneOn, HasLevelledWrite, HasCounted, HasTriedMove, write_answer_by, write_outcome_by, done_as, IsSoundWriteAnswer, IsCutOrSpent, IsSpentUnwritten}
+use Rattle.start_gap.specs.Gapped.{HasRecorded, HasRecordedAfter, HasCopied, HasCopiedAfter, HasMovedGap, HasWriteGoneOn, HasLevelledWrite, HasCounted, HasTriedMove, write_answer_by, write_outcome_by, done_as, IsSoundWriteAnswer, IsCutOrSpent}
 use Rattle.start_gap.proofs.EngineLines.{trusted_after_write, sound_after_write, trusted_after_read, sound_after_read}
 use Rattle.start_gap.proofs.LevelledWrites.{due_cases}
 
@@ -149,22 +149,3 @@ sound_after setup a plain old new from to answer it sound =
     go (Ok Move.Made) is = (is, tt)
     go (Ok (Move.Held page)) is = (is.0, tt)
     go (Err fault) is = is
-
--- ---- spent is the line's own write alone
-
-answer_unspent : (tried : Result (Unit {0}) Fault) → IsSpentUnwritten (write_answer_by tried)
-answer_unspent (Ok done) = tt
-answer_unspent (Err (Fail.Spent page)) = tt
-answer_unspent (Err fault) = λ e. tt
-
-pub spent_unwritten : (setup : Setup) (a : ℕ) (plain : Line) (old new : Gapped) (from to : Parts) (answer : Result Moved WriteFault)
-    → HasLevelledWrite setup a plain old new from to answer → IsSpentUnwritten answer
-spent_unwritten setup a plain old new from to answer it = go it.made it.then
-  where
-    go : (made : Result Ctr Fault) → HasWriteGoneOn made setup old new it.between to answer → IsSpentUnwritten answer
-    go (Ok ctr) then =
-        due_cases (nat_lt (old.count + 1) old.every) _ _ then
-        (λ (counted : HasCounted old new it.between to answer). subst IsSpentUnwritten (sym counted.its_answer) tt)
-        (λ (tried : HasTriedMove setup old new it.between to answer).
-        subst IsSpentUnwritten (sym tried.its_answer) (answer_unspent tried.tried))
-    go (Err fault) then = subst IsSpentUnwritten (sym then.its_answer) (λ e. absurd (true≢false (sym e)))

@@ -22,7 +22,7 @@ use Rattle.tree_session.specs.declared.answers.TreeAnswer.TheVariants as Say
 use Rattle.tree_session.specs.State.{SessionState, IsNewTree}
 use Rattle.tree_session.specs.Answered.{tree_decided, device_node, device_tag, IsPathTampered, IsSlotTampered, IsTreeAnswered, IsPlainKept, IsNodeExhibit, IsDataExhibit, IsShadowExhibit, ShowsEngine}
 use Rattle.tree_session.specs.Guarantees.{TreeReply, AreTreeAnswered, IsTreeSession, History, first_history, history_with, history_after, IsAllowed, AreAllowed, MayShow, version_by, ShowsNode, ShowsLine, ShowsClash, IsTreeKept, IsTreeShown, IsTreeUntouched, IsNoTampering, IsTreeAnswerUnrefused}
-use Rattle.tree_session.proofs.Histories.{history_of, history-equal, Follows, follows, path-kept, slot-kept, hurt-kept}
+use Rattle.tree_session.proofs.Histories.{history_of, history-equal, TreeFollows, follows, path-kept, slot-kept, hurt-kept}
 
 -- ---- the beginning
 
@@ -37,7 +37,7 @@ counts-first setup first new = ap length new.counts ∙ length-replicate (tree_l
 -- ---- chains
 
 next : (setup : Setup) (first : SessionState) (reply : TreeReply) (second : SessionState) → length first.plain.counts ≡ tree_lines setup.shape → IsTreeAnswered setup first reply.command reply.answer second
-    → Follows setup.shape first.plain second.plain reply.command reply.answer
+    → TreeFollows setup.shape first.plain second.plain reply.command reply.answer
 next setup first reply second count it = follows setup first.plain second.plain reply.command reply.answer count it.answered
 
 allowed-chain : (setup : Setup) (first last : SessionState) (replies : List TreeReply) → length first.plain.counts ≡ tree_lines setup.shape → AreTreeAnswered setup first replies last

@@ -25,7 +25,7 @@ use Rattle.tree_session.specs.World.{TreeParts, plain_of_parts}
 use Rattle.tree_session.specs.Answered.{IsRooted, IsNodeRefusal, IsNodeExhibit, IsPlainKept}
 use Rattle.tree_session.proofs.BoardSteps.{taken-exact}
 use Rattle.tree_session.proofs.PlainStates.{plain-kept}
-use Rattle.tree_session.proofs.Held.{EngineCall, on, from, to, trusted_from, rooted_open}
+use Rattle.tree_session.proofs.Held.{TreeEngineCall, on, from, to, trusted_from, rooted_open}
 use Rattle.tree_session.proofs.Refusals.{rooted_with, node-refused, node-shown}
 
 -- so many write-backs are all of its steps
@@ -52,7 +52,7 @@ undecided_line power a n off range on low =
     ∙ ap (λ (b : Bool). if b then None else Some range) (lt-ltb a n low)
 
 -- what was left where the watch knows what it knew
-pub kept_plain : (c : EngineCall) (outcome : Outcome) (q : TreeParts) → KeepsWatch outcome c.parts.watch c.watch → q.watch ≡ c.watch → q.tampered ≡ c.parts.tampered → q.hurt ≡ c.parts.hurt
+pub kept_plain : (c : TreeEngineCall) (outcome : Outcome) (q : TreeParts) → KeepsWatch outcome c.parts.watch c.watch → q.watch ≡ c.watch → q.tampered ≡ c.parts.tampered → q.hurt ≡ c.parts.hurt
     → IsPlainKept (plain_of_parts c.setup c.parts) (plain_of_parts c.setup q)
 kept_plain c outcome q keeps its tampered hurt =
     plain-kept c.setup c.parts q (ap (λ (w : Rattle.counter_tree.specs.Watch.WatchState). w.seals) its ∙ keeps.seals)
@@ -60,13 +60,13 @@ kept_plain c outcome q keeps its tampered hurt =
     tampered hurt
 
 -- after an exhibit the root is the one before
-pub rooted_shown : (c : EngineCall) (q : TreeParts) → IsPlainKept (plain_of_parts c.setup c.parts) (plain_of_parts c.setup q) → q.board.regs.root ≡ c.parts.board.regs.root
+pub rooted_shown : (c : TreeEngineCall) (q : TreeParts) → IsPlainKept (plain_of_parts c.setup c.parts) (plain_of_parts c.setup q) → q.board.regs.root ≡ c.parts.board.regs.root
     → q.board.powered ≡ false → IsRooted c.setup (plain_of_parts c.setup q)
 rooted_shown c q kept root off =
     subst (IsRooted c.setup) (sym kept)
     (rooted_with c.setup (plain_of_parts c.setup c.parts) q.board (rooted_open c.setup c.parts c.world c.none) root off)
 
-module _ (c : EngineCall) (a : ℕ) (within : a < tree_lines c.setup.shape) (b : BoardMemory) (lines : b.lines ≡ c.board.lines) where
+module _ (c : TreeEngineCall) (a : ℕ) (within : a < tree_lines c.setup.shape) (b : BoardMemory) (lines : b.lines ≡ c.board.lines) where
   -- an unchanged node is held
   held : (x : ℕ) → x < meta_lines c.setup.shape → slice_index_or c.parts.tampered (line_of_node c.setup.shape x) false ≡ false
       → HoldsNode c.setup (from c) x

@@ -144,7 +144,7 @@ rooted_open setup p world none = go p.engine refl
 -- ---- after a call of the engine
 
 -- a call over the watched board, as the session's parts have it: the parts before, and the engine, the board and the watch after it
-pub record EngineCall : Type 0 where
+pub record TreeEngineCall : Type 0 where
   pub setup : Setup
   pub parts : TreeParts
   pub engine : TreeState
@@ -157,7 +157,7 @@ pub record EngineCall : Type 0 where
   pub there : parts.engine ≡ Some engine
   pub watched : IsWatched parts.board board taken
 
-module _ (c : EngineCall) where
+module _ (c : TreeEngineCall) where
   abbrev pub from : TreeEngineParts
   from = tree_parts_of c.engine (device_during c.parts.board none_taken) c.parts.watch
 

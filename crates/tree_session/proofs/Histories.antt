@@ -80,7 +80,7 @@ darkened-write g s a line before after cut made =
 -- ---- one answer
 
 -- it is allowed, and says what the state has then; as many counts are kept
-pub record Follows (g : Shape) (before after : PlainTree) (command : TreeCommand) (answer : TreeAnswer) : Type 0 where
+pub record TreeFollows (g : Shape) (before after : PlainTree) (command : TreeCommand) (answer : TreeAnswer) : Type 0 where
   pub allowed : IsAllowed g (history_of before) command answer
   pub history : history_of after ≡ history_with g (history_of before) command answer
   pub count : length after.counts ≡ length before.counts
@@ -96,9 +96,9 @@ knows : (setup : Setup) (before after : PlainTree) (command : TreeCommand) (answ
     → IsAllowed setup.shape (history_of before) command known
     → history_of (tree_after_decided setup.shape before command known) ≡ history_with setup.shape (history_of before) command known
     → length (tree_after_decided setup.shape before command known).counts ≡ length before.counts
-    → Follows setup.shape before after command answer
+    → TreeFollows setup.shape before after command answer
 knows setup before after command answer known it allowed history count =
-    subst (λ (a : TreeAnswer). Follows setup.shape before after command a) (sym it.0)
+    subst (λ (a : TreeAnswer). TreeFollows setup.shape before after command a) (sym it.0)
     (record {
       allowed = allowed;
       history = ap history_of it.1 ∙ history;
@@ -121,7 +121,7 @@ hurt-kept before after a kept it = subst (λ (flags : List Bool). IsHurt flags a
 -- ---- writes
 
 by_write : (setup : Setup) (before after : PlainTree) (a : ℕ) (line : Line) (answer : TreeAnswer) → before.board.powered ≡ true → a < tree_lines setup.shape → length before.counts ≡ tree_lines setup.shape
-    → SaysOfWrite setup before a line after answer → Follows setup.shape before after (Do.Write a line) answer
+    → SaysOfWrite setup before a line after answer → TreeFollows setup.shape before after (Do.Write a line) answer
 by_write setup before after a line (Say.Written s) on low count it =
     record {
       allowed = (record { power = on; inside = low }, it.0, it.3, (it.1.fuse.lasting, it.4));
@@ -166,7 +166,7 @@ by_write setup before after a line (Say.Cut s) on low count it = absurd it
 -- ---- reads
 
 by_read : (setup : Setup) (before after : PlainTree) (a : ℕ) (answer : TreeAnswer) → before.board.powered ≡ true → a < tree_lines setup.shape
-    → SaysOfRead setup before a after answer → Follows setup.shape before after (Do.Read a) answer
+    → SaysOfRead setup before a after answer → TreeFollows setup.shape before after (Do.Read a) answer
 by_read setup before after a (Say.Got got s) on low it =
     record {
       allowed = (record { power = on; inside = low }, it.0, (it.1.fuse.lasting, it.2));
@@ -205,7 +205,7 @@ by_read setup before after a (Say.CutLost s) on low it = absurd it
 
 -- ---- recoveries
 
-by_on : (setup : Setup) (before after : PlainTree) (answer : TreeAnswer) → before.board.powered ≡ false → SaysOfOn setup before after answer → Follows setup.shape before after Do.On answer
+by_on : (setup : Setup) (before after : PlainTree) (answer : TreeAnswer) → before.board.powered ≡ false → SaysOfOn setup before after answer → TreeFollows setup.shape before after Do.On answer
 by_on setup before after (Say.Recovered digests s) off it =
     record {
       allowed = (off, it.0, (it.1.fuse.lasting, it.4));
@@ -242,10 +242,10 @@ by_on setup before after (Say.CutLost s) off it = absurd it
 -- whether the power is on, and whether a place is there, decide
 on_line : (setup : Setup) (before after : PlainTree) (command : TreeCommand) (answer : TreeAnswer) (a : ℕ)
     → AnswersWith setup before command after answer (if not before.board.powered then Some Say.Off else if nat_lt a (tree_lines setup.shape) then None else Some Say.Range)
-    → (before.board.powered ≡ false → AnswersWith setup before command after answer (Some Say.Off) → Follows setup.shape before after command answer)
-    → (before.board.powered ≡ true → tree_lines setup.shape ≤ a → AnswersWith setup before command after answer (Some Say.Range) → Follows setup.shape before after command answer)
-    → (before.board.powered ≡ true → a < tree_lines setup.shape → AnswersWith setup before command after answer None → Follows setup.shape before after command answer)
-    → Follows setup.shape before after command answer
+    → (before.board.powered ≡ false → AnswersWith setup before command after answer (Some Say.Off) → TreeFollows setup.shape before after command answer)
+    → (before.board.powered ≡ true → tree_lines setup.shape ≤ a → AnswersWith setup before command after answer (Some Say.Range) → TreeFollows setup.shape before after command answer)
+    → (before.board.powered ≡ true → a < tree_lines setup.shape → AnswersWith setup before command after answer None → TreeFollows setup.shape before after command answer)
+    → TreeFollows setup.shape before after command answer
 on_line setup before after command answer a it off range served =
     elim (cases_Bool before.board.powered) [
       | inr dark ↦ off dark (subst (λ (b : Bool). AnswersWith setup before command after answer (if not b then Some Say.Off else if nat_lt a (tree_lines setup.shape) then None else Some Say.Range)) dark it)
@@ -266,7 +266,7 @@ no-snapshot None is = refl
 no-snapshot (Some kept) is = absurd (Rattle.std.proofs.lemmas.Bool.false≢true is)
 
 pub follows : (setup : Setup) (before after : PlainTree) (command : TreeCommand) (answer : TreeAnswer) → length before.counts ≡ tree_lines setup.shape
-    → AnswersWith setup before command after answer (tree_decided setup.shape before command) → Follows setup.shape before after command answer
+    → AnswersWith setup before command after answer (tree_decided setup.shape before command) → TreeFollows setup.shape before after command answer
 follows setup before after (Do.Write a line) answer count it =
     on_line setup before after (Do.Write a line) answer a it
     (λ dark known. knows setup before after (Do.Write a line) answer Say.Off known dark refl refl)

@@ -17,7 +17,7 @@ use Rattle.tree_session.specs.World.{TreeParts, state_of, IsTreeWorld}
 use Rattle.tree_session.proofs.News.{new_held, new_is}
 use Rattle.tree_session.proofs.Seen.{setup_under}
 
-pub record NewCall : Type 0 where
+pub record NewTreeCall : Type 0 where
   pub formulas_of : List ℕ → Formulas
   pub geometry : Shape
   pub keys : List ℕ
@@ -45,7 +45,7 @@ pub record NewCall : Type 0 where
   pub keys_then : List ℕ
   pub same_keys : keys_then ≡ keys
 
-module _ (n : NewCall) where
+module _ (n : NewTreeCall) where
   abbrev setup : Setup
   setup = setup_under n.formulas_of n.geometry n.keys
 

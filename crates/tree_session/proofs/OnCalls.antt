@@ -22,10 +22,10 @@ use Rattle.tree_session.specs.declared.answers.TreeAnswer.TheVariants as Say
 use Rattle.tree_session.specs.State.{SessionState, tree_setup_in}
 use Rattle.tree_session.specs.World.{TreeParts, state_of, IsTreeWorld}
 use Rattle.tree_session.specs.Answered.{IsTreeAnswered, IsTreeMemoryWanted, IsTreeHalt}
-use Rattle.tree_session.proofs.Recoveries.{RecoveryCall, rest_from, rest_to, left_with, resting, recovered_held, recovered_done, cut_held, cut_done, refused_held, refused_done, memory_held, memory_wanted, clash_held, clash_done, clash_minors}
+use Rattle.tree_session.proofs.Recoveries.{TreeRecoveryCall, rest_from, rest_to, left_with, resting, recovered_held, recovered_done, cut_held, cut_done, refused_held, refused_done, memory_held, memory_wanted, clash_held, clash_done, clash_minors}
 use Rattle.tree_session.proofs.Seen.{setup_under, seen_from, held_under, halts}
 
-pub record OnCall : Type 0 where
+pub record OnTreeCall : Type 0 where
   pub formulas_of : List ℕ → Formulas
   pub geometry : Shape
   pub parts : TreeParts
@@ -51,8 +51,8 @@ pub record OnCall : Type 0 where
   pub said : ℕ
   pub counted : said ≡ steps_in taken
 
-module _ (o : OnCall) where
-  abbrev call : RecoveryCall
+module _ (o : OnTreeCall) where
+  abbrev call : TreeRecoveryCall
   call =
       record {
         setup = setup_under o.formulas_of o.geometry o.parts.keys;

@@ -19,7 +19,7 @@ use Rattle.tree_session.proofs.Held.{left, left_resting, from, to, trusted_from}
 use Rattle.tree_session.proofs.ReadLaws.{read_held, read_done, cut_held, cut_done, node_held, node_done, tag_held, tag_done, shown_held, shown_done, shown_minors}
 use Rattle.tree_session.proofs.Seen.{WorldCall, call, setup_of, setup_under, as_read, seen, held, halts, some_of}
 
-pub record ReadCall : Type 0 where
+pub record ReadTreeCall : Type 0 where
   pub world : WorldCall
   pub at : ℕ
   pub within : at < tree_lines world.geometry
@@ -27,7 +27,7 @@ pub record ReadCall : Type 0 where
   pub was_read :
       HasReadTreeLine (setup_under world.formulas_of world.engine.shape world.parts.keys) at (from (call world)) (to (call world)) answer
 
-module _ (r : ReadCall) where
+module _ (r : ReadTreeCall) where
   abbrev kept : Option Rattle.asit_shadow.specs.State.TreeState → TreeParts
   kept found = left (call r.world) found r.world.parts.hurt
 

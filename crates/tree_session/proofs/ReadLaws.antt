@@ -29,12 +29,12 @@ use Rattle.tree_session.specs.World.{TreeParts, plain_of_parts, state_of, IsTree
 use Rattle.tree_session.specs.Answered.{IsTreeAnswered, IsRooted, IsEngineShown, IsBoardSpilled, SaysOfRead, AnswersWith, tree_decided, IsDataRefusal, IsDataExhibit, IsNodeExhibit, IsNodeRefusal}
 use Rattle.tree_session.proofs.BoardSteps.{goes_on, cut_off, then_rests}
 use Rattle.tree_session.proofs.PlainStates.{plain_is}
-use Rattle.tree_session.proofs.Held.{EngineCall, from, to, left, left_resting, trusted_from, powered_from, seals_kept, on_after, rooted_after, off_after, rooted_cut, ended_after}
+use Rattle.tree_session.proofs.Held.{TreeEngineCall, from, to, left, left_resting, trusted_from, powered_from, seals_kept, on_after, rooted_after, off_after, rooted_cut, ended_after}
 use Rattle.tree_session.proofs.EngineCalls.{backs, backs-cut, undecided_line, kept_plain, rooted_shown, refused_node, shown_node, forged-minors}
 use Rattle.tree_session.proofs.Spills.{board_spilled}
 use Rattle.tree_session.proofs.Refusals.{data-refused, data-shown}
 
-module _ (c : EngineCall) (a : ℕ) (within : a < tree_lines c.setup.shape) where
+module _ (c : TreeEngineCall) (a : ℕ) (within : a < tree_lines c.setup.shape) where
   -- the answer of the engine, where the state doesn't decide
   by_engine : (answer : TreeAnswer) (q : TreeParts) → SaysOfRead c.setup (plain_of_parts c.setup c.parts) a (plain_of_parts c.setup q) answer
       → AnswersWith c.setup (plain_of_parts c.setup c.parts) (Do.Read a) (plain_of_parts c.setup q) answer (tree_decided c.setup.shape (plain_of_parts c.setup c.parts) (Do.Read a))

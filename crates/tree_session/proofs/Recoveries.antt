@@ -65,7 +65,7 @@ some_latch [] some = absurd (some refl)
 some_latch (entry ∷ group) some = refl
 
 -- a recovery, as the session's parts have it: power came on before it
-pub record RecoveryCall : Type 0 where
+pub record TreeRecoveryCall : Type 0 where
   pub setup : Setup
   pub parts : TreeParts
   pub board : BoardMemory
@@ -78,7 +78,7 @@ pub record RecoveryCall : Type 0 where
   pub before : ℕ
   pub later : ℕ
 
-module _ (c : RecoveryCall) where
+module _ (c : TreeRecoveryCall) where
   abbrev pub rest_from : Rest
   rest_from = rest_of (device_during (record c.parts.board { powered = true }) none_taken) c.parts.watch
 

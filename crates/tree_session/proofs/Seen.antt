@@ -22,7 +22,7 @@ use Rattle.tree_session.specs.declared.answers.TreeAnswer.{TreeAnswer}
 use Rattle.tree_session.specs.State.{SessionState, tree_setup_in}
 use Rattle.tree_session.specs.World.{TreeParts, state_of, IsTreeWorld}
 use Rattle.tree_session.specs.Answered.{IsTreeAnswered, IsTreeHalt, IsEngineShown}
-use Rattle.tree_session.proofs.Held.{EngineCall, on, from, to}
+use Rattle.tree_session.proofs.Held.{TreeEngineCall, on, from, to}
 
 -- the geometry, and the formulas under keys
 abbrev pub setup_under : (List ℕ → Formulas) → Shape → List ℕ → Setup
@@ -74,7 +74,7 @@ module _ (w : WorldCall) where
   pub none_of : w.parts.watch.exhibit ≡ None
   none_of = ap (λ (s : SessionState). s.shown) w.is ∙ w.unshown
 
-  abbrev pub call : EngineCall
+  abbrev pub call : TreeEngineCall
   call =
       record {
         setup = setup_under w.formulas_of w.geometry w.parts.keys;

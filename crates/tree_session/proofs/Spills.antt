@@ -31,7 +31,7 @@ use Rattle.tree_session.specs.World.{TreeParts, plain_of_parts}
 use Rattle.tree_session.specs.Answered.{AreLinesSpilled, IsBoardSpilled, IsBoardWritten, put_by_write, board_redone}
 use Rattle.tree_session.proofs.BoardSteps.{taken-exact}
 use Rattle.tree_session.proofs.PlainStates.{plain_is, node-is}
-use Rattle.tree_session.proofs.Held.{EngineCall, from, to, trusted_from}
+use Rattle.tree_session.proofs.Held.{TreeEngineCall, from, to, trusted_from}
 use Rattle.tree_session.proofs.Refusals.{cipher-here}
 
 -- ---- lines that are put, of which something holds
@@ -95,7 +95,7 @@ module _ (setup : Setup) (engine : TreeState) (regs : Rattle.pmem_base.specs.dec
 
 -- ---- a call
 
-module _ (c : EngineCall) (a : ℕ) where
+module _ (c : TreeEngineCall) (a : ℕ) where
   made-by : (n : ℕ) → AreLinesSpilled c.setup (plain_of_parts c.setup c.parts) (redone (spilled_nodes c.setup c.engine.cache a n) c.parts.board.lines)
   made-by n d =
       let trusted = trusted_from c in

@@ -22,7 +22,7 @@ use Rattle.tree_session.proofs.Held.{left, left_resting, from, to, trusted_from}
 use Rattle.tree_session.proofs.WriteLaws.{written_held, written_done, lost_held, lost_done, kept_held, kept_done, unwritten_held, unwritten_done, spent_held, spent_done, unwritten_shown_held, unwritten_shown_done, unwritten_shown_minors}
 use Rattle.tree_session.proofs.Seen.{WorldCall, call, setup_of, setup_under, as_written, seen, held, halts, some_of}
 
-pub record WriteCall : Type 0 where
+pub record WriteTreeCall : Type 0 where
   pub world : WorldCall
   pub at : ℕ
   pub within : at < tree_lines world.geometry
@@ -32,7 +32,7 @@ pub record WriteCall : Type 0 where
   pub was_written :
       HasWrittenTreeLine (setup_under world.formulas_of world.engine.shape world.parts.keys) at line (from (call world)) (to (call world)) answer
 
-module _ (r : WriteCall) where
+module _ (r : WriteTreeCall) where
   abbrev kept : Option TreeState → TreeParts
   kept found = left (call r.world) found r.world.parts.hurt
 

@@ -35,7 +35,7 @@ use Rattle.tree_session.specs.World.{TreeParts, plain_of_parts, state_of, IsTree
 use Rattle.tree_session.specs.Answered.{IsTreeAnswered, IsRooted, IsEngineShown, SaysOfWrite, AnswersWith, IsNodeExhibit, IsNodeRefusal, AllAreMade, tree_write_bound, IsBoardSpilled}
 use Rattle.tree_session.proofs.BoardSteps.{goes_on, cut_off, latched, unlatched, untouched, then_rests, taken-exact}
 use Rattle.tree_session.proofs.PlainStates.{plain_is, plain-kept, plain-written, writes-are}
-use Rattle.tree_session.proofs.Held.{EngineCall, from, to, left, left_resting, trusted_from, powered_from, seals_kept, on_after, rooted_after, off_after, rooted_cut, ended_after, none_is}
+use Rattle.tree_session.proofs.Held.{TreeEngineCall, from, to, left, left_resting, trusted_from, powered_from, seals_kept, on_after, rooted_after, off_after, rooted_cut, ended_after, none_is}
 use Rattle.tree_session.proofs.Spills.{board_spilled, few_spilled, board_written, group_kept}
 use Rattle.tree_session.proofs.EngineCalls.{backs, undecided_line, kept_plain, rooted_shown, refused_node, shown_node, forged-minors}
 
@@ -47,7 +47,7 @@ group-length g a seal nodes =
     let count = length-map (line_path g a) named ∙ length-path_of g (a / 4) in
     omega (arith, count)
 
-module _ (c : EngineCall) (a : ℕ) (within : a < tree_lines c.setup.shape) (line : Line) (whole : IsLine line) where
+module _ (c : TreeEngineCall) (a : ℕ) (within : a < tree_lines c.setup.shape) (line : Line) (whole : IsLine line) where
   answered : (answer : TreeAnswer) (q : TreeParts) → q.keys ≡ c.parts.keys → q.watch.exhibit ≡ None → IsRooted c.setup (plain_of_parts c.setup q)
       → SaysOfWrite c.setup (plain_of_parts c.setup c.parts) a line (plain_of_parts c.setup q) answer
       → IsTreeAnswered c.setup (state_of c.setup c.parts) (Do.Write a line) answer (state_of c.setup q)

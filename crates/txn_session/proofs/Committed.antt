@@ -27,8 +27,8 @@ use Rattle.txn_session.specs.World.{TxnParts, IsTxnWorld, stuck_in, txn_of}
 use Rattle.txn_session.specs.Answered.{IsTxnAnswered, IsCommitting, IsTxnCommitKept, EndsCommit, HasTxnCommitted, after_commit}
 use Rattle.txn_session.proofs.Rooms.{reserved_state}
 use Rattle.txn_session.proofs.Seen.{commit_undecided, served, seen_from, held_under}
-use Rattle.txn_session.proofs.EngineEdits.{IsCutAt}
-use Rattle.txn_session.proofs.CommitEnds.{FailsAt, own_absent, own_present}
+use Rattle.txn_session.proofs.EngineEdits.{IsTxnCutAt}
+use Rattle.txn_session.proofs.CommitEnds.{FailsTxnAt, own_absent, own_present}
 use Rattle.txn_session.proofs.CommitStates.{CommitCall}
 use Rattle.txn_session.proofs.CommitStates as state
 
@@ -97,8 +97,8 @@ module _ (c : CommitCall) where
 
   -- ---- the exits: what is held, and what is answered
 
-  abbrev Exit : Option Store → (ℕ → TxnAnswer) → Type 0
-  Exit store say =
+  abbrev CommitExit : Option Store → (ℕ → TxnAnswer) → Type 0
+  CommitExit store say =
       IsTxnWorld (setup_under c.formulas_of c.geometry c.keys) (left_under store)
       × IsTxnAnswered (txn_setup_in c.formulas_of c.now) c.now Do.Commit (say c.said) (txn_of (setup_under c.formulas_of c.geometry c.keys) (left_under store))
 
@@ -106,7 +106,7 @@ module _ (c : CommitCall) where
   stuck_still : c.after.stuck ≡ c.store.stuck → c.after.stuck ≡ old.stuck
   stuck_still same = same ∙ sym (ap stuck_in c.there)
 
-  pub applied_exit : c.answer ≡ Ok Make.Applied → Exit (Some c.after) Say.Applied
+  pub applied_exit : c.answer ≡ Ok Make.Applied → CommitExit (Some c.after) Say.Applied
   applied_exit is =
       let gone = state.ends c (Ok Make.Applied) is in
       let its = state.serves c (Ok Make.Applied) is in
@@ -129,7 +129,7 @@ module _ (c : CommitCall) where
       targets_all : cond (nat_lt count (2 * count + 2)) (cond (2 * count + 2 == 2 * count + 2) [] (targets_of c.entries)) [] ≡ []
       targets_all = by_last (nat_lt count (2 * count + 2)) (2 * count + 2 == 2 * count + 2) (eq-eqb (2 * count + 2) (2 * count + 2) refl)
 
-  pub stuck_exit : (page : ℕ) → c.answer ≡ Ok (Make.Stuck page) → Exit (Some c.after) (λ steps. Say.Stuck page steps)
+  pub stuck_exit : (page : ℕ) → c.answer ≡ Ok (Make.Stuck page) → CommitExit (Some c.after) (λ steps. Say.Stuck page steps)
   stuck_exit page is =
       let spent = state.ends c (Ok (Make.Stuck page)) is in
       let its = state.serves c (Ok (Make.Stuck page)) is in
@@ -150,7 +150,7 @@ module _ (c : CommitCall) where
       )
 
   pub spent_exit : (page : ℕ) (committed : Bool) → c.answer ≡ Err (record { fault = Fail.Spent page; committed = committed })
-      → Exit (Some c.after) (λ steps. Say.Spent page steps)
+      → CommitExit (Some c.after) (λ steps. Say.Spent page steps)
   spent_exit page committed is =
       let spent = state.ends c (Err (record { fault = Fail.Spent page; committed = committed })) is in
       let its = state.serves c (Err (record { fault = Fail.Spent page; committed = committed })) is in
@@ -178,7 +178,7 @@ module _ (c : CommitCall) where
       omega (arith, both, write_most)
 
   abbrev CutAt : Type 0
-  CutAt = IsCutAt setup from queue 0 (2 * count + 2) most to
+  CutAt = IsTxnCutAt setup from queue 0 (2 * count + 2) most to
 
   by_end : (committed : Bool) → c.answer ≡ Err (record { fault = Fail.Cut; committed = committed })
       → (it : CutAt) × ((count < it.writing.done) ⊎ ((it.writing.done ≤ count) × (committed ≡ false)))
@@ -191,7 +191,7 @@ module _ (c : CommitCall) where
       let cut = state.ends c (Err (record { fault = Fail.Cut; committed = false })) is in
       (cut, elim (cases_lt count cut.writing.done) [ inl past ↦ inl past | inr before ↦ inr (before, refl) ])
 
-  kept_exit : (it : CutAt) → count < it.writing.done → Exit None Say.CutKept
+  kept_exit : (it : CutAt) → count < it.writing.done → CommitExit None Say.CutKept
   kept_exit it past =
       let k = it.writing.done in (
         held_as None (state.cut_world c k it.writing.made it.high it.cut.memory most (take k queue) it.cut),
@@ -200,7 +200,7 @@ module _ (c : CommitCall) where
             (state.cuts c k it.writing.made it.high it.cut.memory most (take k queue) it.cut few_steps),
       )
 
-  lost_exit : (it : CutAt) → it.writing.done ≤ count → Exit None Say.CutLost
+  lost_exit : (it : CutAt) → it.writing.done ≤ count → CommitExit None Say.CutLost
   lost_exit it before =
       let k = it.writing.done in (
         held_as None (state.cut_world c k it.writing.made it.high it.cut.memory most (take k queue) it.cut),
@@ -266,7 +266,7 @@ module _ (c : CommitCall) where
   pub sound_fault : (fault : CommitFault) → c.answer ≡ Err fault → IsCutOrSpent fault.fault
   sound_fault fault is = go fault.fault fault.committed (state.ends c (Err fault) is)
     where
-      go : (kind : Fault) (committed : Bool) → FailsAt setup from queue count most kind committed to → IsCutOrSpent kind
+      go : (kind : Fault) (committed : Bool) → FailsTxnAt setup from queue count most kind committed to → IsCutOrSpent kind
       go Fail.Cut committed end = tt
       go (Fail.Spent page) committed end = tt
       go fault committed end = absurd end

@@ -65,7 +65,7 @@ none_to_write g page (suc n) =
     nothing = search rules
 
 -- what formatting and the opening leave
-pub record NewCall : Type 0 where
+pub record NewTxnCall : Type 0 where
   pub setup : Setup
   pub whole_shape : IsShape setup.shape
   pub in_range : AreInRange setup.formulas
@@ -93,7 +93,7 @@ pub record NewCall : Type 0 where
       HasStoreOpened setup (parts_of engine (device_of middle) ledger_before tags digests)
       (λ now. parts_of now (device_of board) ledger tags_new digests_new) answer
 
-module _ (c : NewCall) where
+module _ (c : NewTxnCall) where
   abbrev g : Shape
   g = c.setup.shape
 

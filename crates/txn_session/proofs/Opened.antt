@@ -33,7 +33,7 @@ use Rattle.line_txn.specs.declared.store.TxnFault.{TxnFault}
 use Rattle.line_txn.specs.declared.store.TxnFault.TheVariants as Txn
 use Rattle.line_txn.specs.Header.{IsHeader}
 use Rattle.line_txn.specs.Edits.{redoing_edits}
-use Rattle.line_txn.specs.Store.{HasStoreOpened, HasStoreStarted as HasOpenedBy, HasFailedRedo, IsOpenedBy}
+use Rattle.line_txn.specs.Store.{HasStoreStarted as HasOpenedBy, HasFailedRedo, IsOpenedBy}
 use Rattle.watched_board.specs.Watching.{steps_in}
 use Rattle.wear_session.specs.Answered.{Writing, read_steps}
 use Rattle.wear_session.proofs.Seen.{setup_under}
@@ -50,12 +50,12 @@ use Rattle.txn_session.specs.World.{TxnParts, IsTxnWorld, stuck_in, txn_of}
 use Rattle.txn_session.specs.Answered.{IsTxnAnswered, IsTxnShownBy, IsTxnMemoryWanted, GoesToTxnState, HasTxnOpened as HasOpenedAs, after_redo}
 use Rattle.txn_session.proofs.Rooms.{reserved_state}
 use Rattle.txn_session.proofs.Seen.{on_undecided, served, seen_from, held_under}
-use Rattle.txn_session.proofs.EngineEdits.{IsCutAt, EndsAt}
+use Rattle.txn_session.proofs.EngineEdits.{IsTxnCutAt, EndsTxnAt}
 use Rattle.txn_session.proofs.RedoLists.{none_redone, few_redone}
-use Rattle.txn_session.proofs.Starts.{OnCall}
+use Rattle.txn_session.proofs.Starts.{OnTxnCall}
 use Rattle.txn_session.proofs.Redone as state
 
-module _ (c : OnCall) where
+module _ (c : OnTxnCall) where
   abbrev setup : Setup
   setup = state.setup c
 
@@ -97,8 +97,8 @@ module _ (c : OnCall) where
 
   -- ---- the answers
 
-  abbrev Exit : BoardMemory → Option Store → TxnAnswer → Type 0
-  Exit board store answer =
+  abbrev OpenExit : BoardMemory → Option Store → TxnAnswer → Type 0
+  OpenExit board store answer =
       IsTxnWorld (setup_under c.formulas_of c.geometry c.keys) (left_under board store)
       × IsTxnAnswered (txn_setup_in c.formulas_of c.now) c.now Do.On answer (txn_of (setup_under c.formulas_of c.geometry c.keys) (left_under board store))
 
@@ -110,7 +110,7 @@ module _ (c : OnCall) where
   txn_as P board store it = subst (λ t. P (record (left board store) { txn = t })) (sym (state.off c).no_txn) it
 
   exit_of : (board : BoardMemory) (store : Option Store) (answer : TxnAnswer) → IsTxnWorld setup (left board store)
-      → HasOpenedAs setup old answer (txn_of setup (left board store)) → Exit board store answer
+      → HasOpenedAs setup old answer (txn_of setup (left board store)) → OpenExit board store answer
   exit_of board store answer held it = (
     held_under c.formulas_of c.geometry p (record (left board store) { txn = p.txn }) c.keys c.same_keys (txn_as (IsTxnWorld setup) board store held),
     seen_from c.formulas_of c.geometry p (record (left board store) { txn = p.txn }) c.now c.keys Do.On answer now_is c.same_keys refl
@@ -119,25 +119,25 @@ module _ (c : OnCall) where
   )
 
   -- what an exit says, whatever steps are answered
-  said_as : (board : BoardMemory) (store : Option Store) (answer : ℕ → TxnAnswer) → Exit board store (answer (steps_in c.taken))
-      → Exit board store (answer c.said)
-  said_as board store answer it = subst (λ k. Exit board store (answer k)) (sym c.counted) it
+  said_as : (board : BoardMemory) (store : Option Store) (answer : ℕ → TxnAnswer) → OpenExit board store (answer (steps_in c.taken))
+      → OpenExit board store (answer c.said)
+  said_as board store answer it = subst (λ k. OpenExit board store (answer k)) (sym c.counted) it
 
   -- the board once power is off again
   abbrev rested : BoardMemory
   rested = record c.board { powered = false }
 
   -- what holds after each answer of recovery and the opening
-  abbrev Outcome : Result (Store × Opened) StartFault → Type 0
-  Outcome (Ok both) =
-      MatchOption both.1.stuck (Exit c.board (Some both.0) (Say.Opened both.1.redone (steps_in c.taken)))
-      (λ page. Exit c.board (Some both.0) (Say.Stuck page (steps_in c.taken)))
-  Outcome (Err (Start.Recovery Rec.Cut)) = Exit c.board None (Say.Cut (steps_in c.taken))
-  Outcome (Err (Start.Opening (Txn.Engine Fail.Cut))) = Exit c.board None (Say.Cut (steps_in c.taken))
-  Outcome (Err (Start.Recovery Rec.Memory)) = IsTxnWorld setup (left rested None) × (txn_of setup (left rested None) ≡ old)
-  Outcome (Err (Start.Recovery (Rec.Twin at major low high cipher tag))) =
+  abbrev OpenOutcome : Result (Store × Opened) StartFault → Type 0
+  OpenOutcome (Ok both) =
+      MatchOption both.1.stuck (OpenExit c.board (Some both.0) (Say.Opened both.1.redone (steps_in c.taken)))
+      (λ page. OpenExit c.board (Some both.0) (Say.Stuck page (steps_in c.taken)))
+  OpenOutcome (Err (Start.Recovery Rec.Cut)) = OpenExit c.board None (Say.Cut (steps_in c.taken))
+  OpenOutcome (Err (Start.Opening (Txn.Engine Fail.Cut))) = OpenExit c.board None (Say.Cut (steps_in c.taken))
+  OpenOutcome (Err (Start.Recovery Rec.Memory)) = IsTxnWorld setup (left rested None) × (txn_of setup (left rested None) ≡ old)
+  OpenOutcome (Err (Start.Recovery (Rec.Twin at major low high cipher tag))) =
       IsTxnWorld setup (left rested None) × IsTxnShownBy setup old Do.On (Twin at major low high cipher tag)
-  Outcome answer = ⊥
+  OpenOutcome answer = ⊥
 
   -- ---- the header was read, and its transaction redone, or power was cut
 
@@ -155,7 +155,7 @@ module _ (c : OnCall) where
     abbrev middle : Parts
     middle = state.parts_between c between suite_between engine work it
 
-    opened_exit : (store : Store) (opened : Opened) → HasOpenedBy setup middle (parts_to store.engine) store opened → Outcome (Ok (store, opened))
+    opened_exit : (store : Store) (opened : Opened) → HasOpenedBy setup middle (parts_to store.engine) store opened → OpenOutcome (Ok (store, opened))
     opened_exit store opened its =
         go its.redone its.its_end (state.redo_ends c between suite_between engine work it its.targets (parts_to store.engine) its.redone its.was_redone)
       where
@@ -163,14 +163,14 @@ module _ (c : OnCall) where
         same = state.found_targets c between suite_between engine work it its.was_redone.between its.was_redone.line its.targets its.was_redone.was_read its.was_redone.header
 
         go : (redone : Result (Unit {0}) Fault) → IsOpenedBy redone store.lines its.targets store opened
-            → EndsAt setup first queue 0 (length (redoing_edits n targets)) most redone (parts_to store.engine) → Outcome (Ok (store, opened))
+            → EndsTxnAt setup first queue 0 (length (redoing_edits n targets)) most redone (parts_to store.engine) → OpenOutcome (Ok (store, opened))
         go (Ok done) by gone =
             let writing : Writing = record { done = length (redoing_edits n targets); made = gone.made } in
             let come : state.HasCome c writing =
             state.come_to c writing gone.done.marks (memory_done setup first (parts_to store.engine) (take writing.done queue) gone.made most gone.done) in
             let stuck : store.stuck ≡ old.stuck = by.1 ∙ sym (ap stuck_in c.there) in
-            subst (λ o. MatchOption o (Exit c.board (Some store) (Say.Opened opened.redone (steps_in c.taken)))
-            (λ page. Exit c.board (Some store) (Say.Stuck page (steps_in c.taken)))) (sym by.2)
+            subst (λ o. MatchOption o (OpenExit c.board (Some store) (Say.Opened opened.redone (steps_in c.taken)))
+            (λ page. OpenExit c.board (Some store) (Say.Stuck page (steps_in c.taken)))) (sym by.2)
             (exit_of c.board (Some store) (Say.Opened opened.redone (steps_in c.taken))
             (state.lit_world c writing come store gone.done.live gone.done.sound (by.0 ∙ sym (none_redone n targets)))
             (let said : HasOpenedAs setup old (Say.Opened opened.redone (steps_in c.taken)) (txn_of setup (left c.board (Some store))) =
@@ -189,8 +189,8 @@ module _ (c : OnCall) where
             state.come_to c writing spent.done.marks (memory_done setup first (parts_to store.engine) (take spent.count queue) spent.made most spent.done) in
             let high = spent.high in
             let before : spent.count ≤ length targets = let all = few_redone n targets in omega (arith, high, all) in
-            subst (λ o. MatchOption o (Exit c.board (Some store) (Say.Opened opened.redone (steps_in c.taken)))
-            (λ page. Exit c.board (Some store) (Say.Stuck page (steps_in c.taken)))) (sym by.2)
+            subst (λ o. MatchOption o (OpenExit c.board (Some store) (Say.Opened opened.redone (steps_in c.taken)))
+            (λ page. OpenExit c.board (Some store) (Say.Stuck page (steps_in c.taken)))) (sym by.2)
             (exit_of c.board (Some store) (Say.Stuck page (steps_in c.taken))
             (state.lit_world c writing come store spent.done.live spent.done.sound
             (by.0 ∙ same ∙ sym (ap (λ b. cond b [] targets) (le-ltb (length targets) spent.count before))))
@@ -205,16 +205,16 @@ module _ (c : OnCall) where
         go (Err fault) by ends = absurd by
 
     -- power was cut in the redo
-    redo_cut_exit : (dropped : EngineState) → HasFailedRedo setup middle (parts_to dropped) Fail.Cut → Exit c.board None (Say.Cut (steps_in c.taken))
+    redo_cut_exit : (dropped : EngineState) → HasFailedRedo setup middle (parts_to dropped) Fail.Cut → OpenExit c.board None (Say.Cut (steps_in c.taken))
     redo_cut_exit dropped redo =
-        let end : IsCutAt setup first queue 0 (length (redoing_edits n targets)) most (parts_to dropped) =
+        let end : IsTxnCutAt setup first queue 0 (length (redoing_edits n targets)) most (parts_to dropped) =
         state.redo_ends c between suite_between engine work it redo.targets (parts_to dropped) (Err Fail.Cut) redo.was_redone in
         let come : state.HasCome c end.writing = state.come_to c end.writing end.cut.marks end.cut.memory in
         exit_of c.board None (Say.Cut (steps_in c.taken)) (state.dark_world c end.writing come c.board end.cut.dark end.cut.durable end.cut.small_group)
         (state.cut_seen c end.writing come end.came end.cut.dark end.cut.loss end.cut.takes)
 
     -- or in the reading of the header
-    read_cut_exit : (dropped : EngineState) → HasReadLine setup n middle (parts_to dropped) (Err Fail.Cut) → Exit c.board None (Say.Cut (steps_in c.taken))
+    read_cut_exit : (dropped : EngineState) → HasReadLine setup n middle (parts_to dropped) (Err Fail.Cut) → OpenExit c.board None (Say.Cut (steps_in c.taken))
     read_cut_exit dropped was =
         let cut = read_cut setup first middle [] [] bound (state.recovered c between suite_between engine work it) n (parts_to dropped) was in
         let writing : Writing = record { done = 0; made = [] } in
@@ -223,7 +223,7 @@ module _ (c : OnCall) where
         (state.cut_seen c writing come (inl (omega arith, refl)) cut.dark cut.loss
         (fewer_within from to (bound + read_steps c.geometry) most (omega arith) cut.takes))
 
-    by_opened : (opened : Result (Store × Opened) TxnFault) → HasOpened setup middle parts_to opened → Outcome (txn_started_as opened)
+    by_opened : (opened : Result (Store × Opened) TxnFault) → HasOpened setup middle parts_to opened → OpenOutcome (txn_started_as opened)
     by_opened (Ok both) opened = opened_exit both.0 both.1 opened
     by_opened (Err (Txn.Engine Fail.Cut)) opened =
         elim opened.1 [ inl read ↦ read_cut_exit opened.0 read | inr redo ↦ redo_cut_exit opened.0 redo ]
@@ -263,7 +263,7 @@ module _ (c : OnCall) where
   nothing_done = record { done = 0; made = [] }
 
   recovery_cut : (suite_between : SuiteState) → HasRecovered setup p.ledger from to c.suite_old suite_between (Err Rec.Cut) → c.ledger ≡ p.ledger
-      → Exit c.board None (Say.Cut (steps_in c.taken))
+      → OpenExit c.board None (Say.Cut (steps_in c.taken))
   recovery_cut suite_between it ledger =
       let come = state.still_come c (marks_same suite_between Rec.Cut it ledger) in
       let durable = durable_now suite_between Rec.Cut it ledger ((mended suite_between Rec.Cut it ledger).from_durable (state.off c).durable) in
@@ -284,7 +284,7 @@ module _ (c : OnCall) where
   no_fuse_burnt (Some n) = ap (λ (k : ℕ). Some k) (omega arith)
 
   recovery_wanted : (suite_between : SuiteState) → HasRecovered setup p.ledger from to c.suite_old suite_between (Err Rec.Memory)
-      → c.ledger ≡ p.ledger → Outcome (Err (Start.Recovery Rec.Memory))
+      → c.ledger ≡ p.ledger → OpenOutcome (Err (Start.Recovery Rec.Memory))
   recovery_wanted suite_between it ledger =
       let marks = marks_same suite_between Rec.Memory it ledger in
       let durable = durable_now suite_between Rec.Memory it ledger ((mended suite_between Rec.Memory it ledger).from_durable (state.off c).durable) in
@@ -309,7 +309,7 @@ module _ (c : OnCall) where
 
   recovery_twin : (suite_between : SuiteState) (at major low high : ℕ) (cipher : Line) (tag : List ℕ)
       → HasRecovered setup p.ledger from to c.suite_old suite_between (Err (Rec.Twin at major low high cipher tag)) → c.ledger ≡ p.ledger
-      → Outcome (Err (Start.Recovery (Rec.Twin at major low high cipher tag)))
+      → OpenOutcome (Err (Start.Recovery (Rec.Twin at major low high cipher tag)))
   recovery_twin suite_between at major low high cipher tag it ledger =
       let fault = Rec.Twin at major low high cipher tag in
       let marks = marks_same suite_between fault it ledger in
@@ -327,7 +327,7 @@ module _ (c : OnCall) where
         ),
       )
 
-  outcome : Outcome c.answer
+  outcome : OpenOutcome c.answer
   outcome = go (state.started c).recovery (state.started c).recovered (state.started c).then
     where
       refused : (fault : RecFault) → HasRecovered setup p.ledger from (state.started c).between c.suite_old (state.started c).suite_between (Err fault) → to ≡ (state.started c).between
@@ -338,23 +338,23 @@ module _ (c : OnCall) where
       go : (recovery : Result (EngineState × Work) RecFault)
           → HasRecovered setup p.ledger from (state.started c).between c.suite_old (state.started c).suite_between recovery
           → HasTxnOpenedAfter recovery setup (state.started c).between to p.ledger c.ledger (state.started c).suite_between c.suite_new c.answer
-          → Outcome c.answer
+          → OpenOutcome c.answer
       go (Ok done) it later =
-          subst Outcome (sym later.2) (by_opened (state.started c).between (state.started c).suite_between done.0 done.1 it later.0 later.1)
+          subst OpenOutcome (sym later.2) (by_opened (state.started c).between (state.started c).suite_between done.0 done.1 it later.0 later.1)
       go (Err Rec.Cut) it later =
-          subst Outcome (sym later.0) (recovery_cut (state.started c).suite_between (refused Rec.Cut it later.1) later.2)
+          subst OpenOutcome (sym later.0) (recovery_cut (state.started c).suite_between (refused Rec.Cut it later.1) later.2)
       go (Err Rec.Memory) it later =
-          subst Outcome (sym later.0) (recovery_wanted (state.started c).suite_between (refused Rec.Memory it later.1) later.2)
+          subst OpenOutcome (sym later.0) (recovery_wanted (state.started c).suite_between (refused Rec.Memory it later.1) later.2)
       go (Err (Rec.Twin at major low high cipher tag)) it later =
-          subst Outcome (sym later.0)
+          subst OpenOutcome (sym later.0)
           (recovery_twin (state.started c).suite_between at major low high cipher tag (refused (Rec.Twin at major low high cipher tag) it later.1) later.2)
       go (Err fault) it later =
           absurd ((mended (state.started c).suite_between fault (refused fault it later.1) later.2).from_durable (state.off c).durable)
 
   -- ---- as contracts write it
 
-  outcome_as : (answer : Result (Store × Opened) StartFault) → c.answer ≡ answer → Outcome answer
-  outcome_as answer is = subst Outcome is outcome
+  outcome_as : (answer : Result (Store × Opened) StartFault) → c.answer ≡ answer → OpenOutcome answer
+  outcome_as answer is = subst OpenOutcome is outcome
 
   -- what is held, whether the store is stuck or not
   pub open_held : (store : Store) (opened : Opened) → c.answer ≡ Ok (store, opened)
@@ -362,36 +362,36 @@ module _ (c : OnCall) where
   open_held store opened is = go opened.stuck (outcome_as (Ok (store, opened)) is)
     where
       go : (stuck : Option ℕ)
-          → MatchOption stuck (Exit c.board (Some store) (Say.Opened opened.redone (steps_in c.taken)))
-          (λ page. Exit c.board (Some store) (Say.Stuck page (steps_in c.taken)))
+          → MatchOption stuck (OpenExit c.board (Some store) (Say.Opened opened.redone (steps_in c.taken)))
+          (λ page. OpenExit c.board (Some store) (Say.Stuck page (steps_in c.taken)))
           → IsTxnWorld (setup_under c.formulas_of c.geometry c.keys) (left_under c.board (Some store))
       go None it = it.0
       go (Some page) it = it.0
 
   pub open_exit : (store : Store) (opened : Opened) → c.answer ≡ Ok (store, opened) → opened.stuck ≡ None
-      → Exit c.board (Some store) (Say.Opened opened.redone c.said)
+      → OpenExit c.board (Some store) (Say.Opened opened.redone c.said)
   open_exit store opened is none =
       said_as c.board (Some store) (λ k. Say.Opened opened.redone k)
-      (subst (λ o. MatchOption o (Exit c.board (Some store) (Say.Opened opened.redone (steps_in c.taken)))
-      (λ page. Exit c.board (Some store) (Say.Stuck page (steps_in c.taken)))) none (outcome_as (Ok (store, opened)) is))
+      (subst (λ o. MatchOption o (OpenExit c.board (Some store) (Say.Opened opened.redone (steps_in c.taken)))
+      (λ page. OpenExit c.board (Some store) (Say.Stuck page (steps_in c.taken)))) none (outcome_as (Ok (store, opened)) is))
 
   pub stuck_exit : (store : Store) (opened : Opened) (page : ℕ) → c.answer ≡ Ok (store, opened) → opened.stuck ≡ Some page
-      → Exit c.board (Some store) (Say.Stuck page c.said)
+      → OpenExit c.board (Some store) (Say.Stuck page c.said)
   stuck_exit store opened page is there =
       said_as c.board (Some store) (λ k. Say.Stuck page k)
-      (subst (λ o. MatchOption o (Exit c.board (Some store) (Say.Opened opened.redone (steps_in c.taken)))
-      (λ page. Exit c.board (Some store) (Say.Stuck page (steps_in c.taken)))) there (outcome_as (Ok (store, opened)) is))
+      (subst (λ o. MatchOption o (OpenExit c.board (Some store) (Say.Opened opened.redone (steps_in c.taken)))
+      (λ page. OpenExit c.board (Some store) (Say.Stuck page (steps_in c.taken)))) there (outcome_as (Ok (store, opened)) is))
 
   -- the answer wasn't decided, so memory may be wanted for it
   pub wanted_on : IsTxnMemoryWanted c.now Do.On
   wanted_on = subst (λ (w : TxnState). IsTxnMemoryWanted w Do.On) now_is (refl, on_undecided old (state.off c).unpowered)
 
   -- no store is there, as before
-  dark_exit : (board : BoardMemory) (answer : TxnAnswer) → Exit board None answer → Exit board p.store answer
-  dark_exit board answer it = subst (λ s. Exit board s answer) (sym c.there) it
+  dark_exit : (board : BoardMemory) (answer : TxnAnswer) → OpenExit board None answer → OpenExit board p.store answer
+  dark_exit board answer it = subst (λ s. OpenExit board s answer) (sym c.there) it
 
   pub cut_exit : (c.answer ≡ Err (Start.Recovery Rec.Cut)) ⊎ (c.answer ≡ Err (Start.Opening (Txn.Engine Fail.Cut)))
-      → Exit c.board p.store (Say.Cut c.said)
+      → OpenExit c.board p.store (Say.Cut c.said)
   cut_exit (inl is) = dark_exit c.board (Say.Cut c.said) (said_as c.board None (λ k. Say.Cut k) (outcome_as (Err (Start.Recovery Rec.Cut)) is))
   cut_exit (inr is) =
       dark_exit c.board (Say.Cut c.said) (said_as c.board None (λ k. Say.Cut k) (outcome_as (Err (Start.Opening (Txn.Engine Fail.Cut))) is))
@@ -426,18 +426,18 @@ module _ (c : OnCall) where
         )
 
   -- no other answer comes
-  abbrev pub IsPossible : Result (Store × Opened) StartFault → Type 0
-  IsPossible (Ok both) = ⊤
-  IsPossible (Err (Start.Recovery Rec.Cut)) = ⊤
-  IsPossible (Err (Start.Opening (Txn.Engine Fail.Cut))) = ⊤
-  IsPossible (Err (Start.Recovery Rec.Memory)) = ⊤
-  IsPossible (Err (Start.Recovery (Rec.Twin at major low high cipher tag))) = ⊤
-  IsPossible answer = ⊥
+  abbrev pub IsTxnPossible : Result (Store × Opened) StartFault → Type 0
+  IsTxnPossible (Ok both) = ⊤
+  IsTxnPossible (Err (Start.Recovery Rec.Cut)) = ⊤
+  IsTxnPossible (Err (Start.Opening (Txn.Engine Fail.Cut))) = ⊤
+  IsTxnPossible (Err (Start.Recovery Rec.Memory)) = ⊤
+  IsTxnPossible (Err (Start.Recovery (Rec.Twin at major low high cipher tag))) = ⊤
+  IsTxnPossible answer = ⊥
 
-  pub possible : (answer : Result (Store × Opened) StartFault) → c.answer ≡ answer → IsPossible answer
+  pub possible : (answer : Result (Store × Opened) StartFault) → c.answer ≡ answer → IsTxnPossible answer
   possible answer is = go answer (outcome_as answer is)
     where
-      go : (answer : Result (Store × Opened) StartFault) → Outcome answer → IsPossible answer
+      go : (answer : Result (Store × Opened) StartFault) → OpenOutcome answer → IsTxnPossible answer
       go (Ok both) it = tt
       go (Err (Start.Recovery Rec.Cut)) it = tt
       go (Err (Start.Opening (Txn.Engine Fail.Cut))) it = tt

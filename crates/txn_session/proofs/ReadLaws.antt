@@ -24,7 +24,7 @@ use Rattle.line_txn.specs.Logged.{IsLogged}
 use Rattle.line_txn.specs.Serving.{served_from}
 use Rattle.line_txn.specs.Store.{IsServedAs, logged_lines}
 use Rattle.watched_board.specs.declared.taken.Taken.{Taken}
-use Rattle.watched_board.specs.Watching.{steps_in, step_limit, device_during, none_taken, IsWatched}
+use Rattle.watched_board.specs.Watching.{steps_in, device_during, none_taken, IsWatched}
 use Rattle.wear_session.specs.Answered.{read_steps}
 use Rattle.wear_session.proofs.Worlds.{at_most, fewer}
 use Rattle.wear_session.proofs.WriteLaws.{whole_places}
@@ -38,7 +38,7 @@ use Rattle.txn_session.proofs.Worlds.{IsOpenTxn, goes_to, cut_off, on_in, lines_
 use Rattle.txn_session.proofs.Seen.{read_undecided, served, seen_from, held_under}
 
 -- the session's parts as the read finds them, what it leaves and answers
-pub record ReadCall : Type 0 where
+pub record ReadTxnCall : Type 0 where
   pub formulas_of : List ℕ → Formulas
   pub geometry : Shape
   pub parts : TxnParts
@@ -79,7 +79,7 @@ pub record ReadCall : Type 0 where
       → IsLogged store.lines lines store.logged.items memory
       → IfOk answer (λ read. read ≡ line_at memory at)
 
-module _ (c : ReadCall) where
+module _ (c : ReadTxnCall) where
   abbrev setup : Setup
   setup = setup_under c.formulas_of c.geometry c.parts.keys
 

@@ -47,13 +47,13 @@ use Rattle.txn_session.specs.World.{TxnParts, IsTxnWorld, IsStoreOff, IsStoredBy
 use Rattle.txn_session.specs.Answered.{GoesToTxnState, HasTxnOpened as HasOpenedAs, after_redo, txn_most_of_on}
 use Rattle.txn_session.proofs.Worlds.{few_data, few_lines, targets_held, memory_held, logged_is, goes_to, cut_off, on_after, off_after}
 use Rattle.txn_session.proofs.Rooms.{reserved_world}
-use Rattle.txn_session.proofs.EngineEdits.{all_posted, cost, EndsAt, edits_go}
+use Rattle.txn_session.proofs.EngineEdits.{all_posted, cost, EndsTxnAt, edits_go}
 use Rattle.txn_session.proofs.WriteLists.{posted_redo, edits_memory}
 use Rattle.txn_session.proofs.Stages.{IsRedoneTo, redone_at}
 use Rattle.txn_session.proofs.RedoLists.{cost_redo, length-redo}
-use Rattle.txn_session.proofs.Starts.{OnCall, few_of_on}
+use Rattle.txn_session.proofs.Starts.{OnTxnCall, few_of_on}
 
-module _ (c : OnCall) where
+module _ (c : OnTxnCall) where
   abbrev pub setup : Setup
   setup = setup_under c.formulas_of c.geometry c.before.keys
 
@@ -133,14 +133,14 @@ module _ (c : OnCall) where
   -- ---- once so many of the redo's writes are done
 
   -- the marks, memory and the targets in force then
-  pub record HasCome (writing : Writing) : Type 0 where
+  pub record HasTxnCome (writing : Writing) : Type 0 where
     pub marks : c.ledger.marks ≡ p.ledger.marks ++ writing.made
     pub logged : IsLogged n places_now (targets_in_force setup places_now) (redone_memory setup places_now)
     pub its_memory : redone_memory setup places_now ≡ old.memory
     pub in_force : targets_in_force setup places_now ≡ cond (nat_lt (length targets) writing.done) [] targets
 
   -- where no mark is made
-  pub still_come : c.ledger.marks ≡ p.ledger.marks → HasCome (record { done = 0; made = [] })
+  pub still_come : c.ledger.marks ≡ p.ledger.marks → HasTxnCome (record { done = 0; made = [] })
   still_come marks =
       record {
         marks = marks ∙ sym (append-nil p.ledger.marks);
@@ -175,7 +175,7 @@ module _ (c : OnCall) where
         subst (λ l. IsLogged n l (targets_opened stage.opening targets) (redone_memory setup places)) (sym lines_there)
         (kept_by_opening n small places (redone_memory setup places) targets targets stage.opening world.logged world.logged.header)
 
-    pub come_to : HasCome writing
+    pub come_to : HasTxnCome writing
     come_to =
         record {
           marks = marks;
@@ -188,7 +188,7 @@ module _ (c : OnCall) where
 
   -- ---- what is held, and what the state is
 
-  module _ (writing : Writing) (come : HasCome writing) where
+  module _ (writing : Writing) (come : HasTxnCome writing) where
     pub dark_world : (board : BoardMemory) → board.powered ≡ false → IsDurable setup board.lines board.regs c.ledger
         → length board.regs.group.items ≤ 3 → IsTxnWorld setup (left board None)
     dark_world board dark durable few = off_after setup p board c.ledger world come.logged dark durable few
@@ -299,14 +299,14 @@ module _ (c : OnCall) where
 
     -- the redo of it
     pub redo_ends : (found : List ℕ) (new : Parts) (answer : Result (Unit {0}) Fault) → HasTargetsRedone setup found parts_between new answer
-        → EndsAt setup parts_from queue 0 (length (redoing_edits n targets)) most answer new
+        → EndsTxnAt setup parts_from queue 0 (length (redoing_edits n targets)) most answer new
     redo_ends found new answer redo =
         let same = found_targets redo.between redo.line found redo.was_read redo.header in
         let read = read_done setup parts_from parts_between [] [] (recovery_bound c.geometry) recovered n redo.between redo.line redo.was_read in
         let bound = recovery_bound c.geometry + read_steps c.geometry in
         let memory : memory_now setup redo.between ≡ places = memory_done setup parts_from redo.between [] [] bound read in
-        subst (λ m. EndsAt setup parts_from queue 0 (length (redoing_edits n targets)) (bound + m) answer new) (cost_redo c.geometry n targets)
-        (subst (λ k. EndsAt setup parts_from queue 0 k (bound + cost_of_redo) answer new) (omega arith)
+        subst (λ m. EndsTxnAt setup parts_from queue 0 (length (redoing_edits n targets)) (bound + m) answer new) (cost_redo c.geometry n targets)
+        (subst (λ k. EndsTxnAt setup parts_from queue 0 k (bound + cost_of_redo) answer new) (omega arith)
         (edits_go setup parts_from queue (redoing_edits n targets) 0 bound [] redo.between new [] answer
         (redoing_fit n (layout.data_lines c.geometry) size targets its_targets.few its_targets.below) read
         (sym (posted_redo n targets places its_targets.below.each long) ∙ ap (λ m. all_posted m (redoing_edits n targets)) (sym memory)

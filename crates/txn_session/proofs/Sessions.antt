@@ -13,10 +13,10 @@ use Rattle.txn_session.specs.declared.commands.TxnCommand.{TxnCommand}
 use Rattle.txn_session.specs.declared.commands.TxnCommand.TheVariants as Do
 use Rattle.txn_session.specs.declared.answers.TxnAnswer.{TxnAnswer}
 use Rattle.txn_session.specs.declared.answers.TxnAnswer.TheVariants as Say
-use Rattle.txn_session.specs.State.{TxnState, Entries, txn_lines_in, txn_moment_in, entry_in, commit_writes, with_commit, txn_without_power}
-use Rattle.txn_session.specs.Answered.{begun_txn, of_open, txn_of_line, is_txn_full, committed, held, line_held, txn_after_decided, HasTxnCommitted, HasTxnRead, HasTxnOpened, IsCommitting, EndsCommit, IsRedoing, EndsRedo, IsTxnAnswered, IsTxnAnsweredAs, after_commit, after_redo, most_of_commit}
+use Rattle.txn_session.specs.State.{TxnState, Entries, txn_lines_in, txn_moment_in, commit_writes, with_commit}
+use Rattle.txn_session.specs.Answered.{begun_txn, of_open, txn_of_line, is_txn_full, committed, held, line_held, txn_after_decided, HasTxnCommitted, HasTxnRead, HasTxnOpened, IsCommitting, EndsCommit, IsTxnAnswered, IsTxnAnsweredAs, after_commit, most_of_commit}
 use Rattle.txn_session.proofs.WriteLists.{length-commit_writes}
-use Rattle.txn_session.specs.Guarantees.{TxnReply, AreTxnAnswered, Seen, seen_after, IsTxnReadOf, AreReadAsCommitted, IsTxnMendedAnswer, stuck_after, IsStuckAnswer, AreStuckAnswers, IsTxnSpentAnswer, AreTxnSpentAsUsedUp, nothing_seen, AreTxnReplies, AreTxnsKept, AreTxnsSpent}
+use Rattle.txn_session.specs.Guarantees.{TxnReply, AreTxnAnswered, Seen, seen_after, IsTxnReadOf, AreReadAsCommitted, IsTxnMendedAnswer, stuck_after, IsStuckAnswer, AreStuckAnswers, IsTxnSpentAnswer, AreTxnSpentAsUsedUp, AreTxnsKept, AreTxnsSpent}
 
 -- ---- one answer
 
@@ -24,7 +24,7 @@ use Rattle.txn_session.specs.Guarantees.{TxnReply, AreTxnAnswered, Seen, seen_af
 abbrev seen_in : TxnState → Seen
 seen_in state = record { memory = state.memory; txn = state.txn }
 
-record Step (old : TxnState) (command : TxnCommand) (answer : TxnAnswer) (new : TxnState) : Type 0 where
+record TxnStep (old : TxnState) (command : TxnCommand) (answer : TxnAnswer) (new : TxnState) : Type 0 where
   seen : seen_in new ≡ seen_after (seen_in old) command answer
   its_stuck : new.stuck ≡ stuck_after old.stuck command answer
   read : IsTxnReadOf (seen_in old) command answer
@@ -41,19 +41,19 @@ seen_is new memory txn e f =
 
 module _ (old : TxnState) where
   fixed_step : (command : TxnCommand) (fixed answer : TxnAnswer) (new : TxnState) → answer ≡ fixed → new ≡ txn_after_decided old command fixed
-      → Step old command fixed (txn_after_decided old command fixed) → Step old command answer new
+      → TxnStep old command fixed (txn_after_decided old command fixed) → TxnStep old command answer new
   fixed_step command fixed answer new e f it =
-      subst (λ a. Step old command a new) (sym e) (subst (Step old command fixed) (sym f) it)
+      subst (λ a. TxnStep old command a new) (sym e) (subst (TxnStep old command fixed) (sym f) it)
 
   begun_step : (stuck : Option ℕ) (txn : Option Entries) → old.stuck ≡ stuck
-      → Step old Do.Begin (begun_txn stuck txn) (txn_after_decided old Do.Begin (begun_txn stuck txn))
+      → TxnStep old Do.Begin (begun_txn stuck txn) (txn_after_decided old Do.Begin (begun_txn stuck txn))
   begun_step (Some page) txn e = record { seen = refl; its_stuck = refl; read = tt; mended = tt; refused = e }
   begun_step None (Some entries) e = record { seen = refl; its_stuck = refl; read = tt; mended = tt; refused = e }
   begun_step None None e = record { seen = refl; its_stuck = refl; read = tt; mended = tt; refused = e }
 
   begin_step : (setup : Setup) (answer : TxnAnswer) (new : TxnState) (power : Bool)
       → IsTxnAnsweredAs (if power then Some (begun_txn old.stuck old.txn) else Some Say.Off) setup old Do.Begin answer new
-      → Step old Do.Begin answer new
+      → TxnStep old Do.Begin answer new
   begin_step setup answer new true it =
       fixed_step Do.Begin (begun_txn old.stuck old.txn) answer new it.0 it.1 (begun_step old.stuck old.txn refl)
   begin_step setup answer new false it =
@@ -61,7 +61,7 @@ module _ (old : TxnState) where
 
   put_open : (setup : Setup) (a : ℕ) (line : Line) (answer : TxnAnswer) (new : TxnState) (inside full : Bool)
       → IsTxnAnsweredAs (if inside then Some (if full then Say.Full else Say.Ok) else Some Say.Range) setup old (Do.Put a line) answer new
-      → Step old (Do.Put a line) answer new
+      → TxnStep old (Do.Put a line) answer new
   put_open setup a line answer new true true it =
       fixed_step (Do.Put a line) Say.Full answer new it.0 it.1 (record { seen = refl; its_stuck = refl; read = tt; mended = tt; refused = tt })
   put_open setup a line answer new true false it =
@@ -73,7 +73,7 @@ module _ (old : TxnState) where
       → IsTxnAnsweredAs
       (if power then of_open txn (λ entries. txn_of_line old a (Some (if is_txn_full entries a then Say.Full else Say.Ok))) else Some Say.Off)
       setup old (Do.Put a line) answer new
-      → Step old (Do.Put a line) answer new
+      → TxnStep old (Do.Put a line) answer new
   put_step setup a line answer new true (Some entries) it =
       put_open setup a line answer new (nat_lt a (txn_lines_in old)) (is_txn_full entries a) it
   put_step setup a line answer new true None it =
@@ -83,7 +83,7 @@ module _ (old : TxnState) where
 
   abort_step : (setup : Setup) (answer : TxnAnswer) (new : TxnState) (power : Bool) (txn : Option Entries)
       → IsTxnAnsweredAs (if power then of_open txn (λ entries. Some Say.Ok) else Some Say.Off) setup old Do.Abort answer new
-      → Step old Do.Abort answer new
+      → TxnStep old Do.Abort answer new
   abort_step setup answer new true (Some entries) it =
       fixed_step Do.Abort Say.Ok answer new it.0 it.1 (record { seen = refl; its_stuck = refl; read = tt; mended = tt; refused = tt })
   abort_step setup answer new true None it =
@@ -92,7 +92,7 @@ module _ (old : TxnState) where
       fixed_step Do.Abort Say.Off answer new it.0 it.1 (record { seen = refl; its_stuck = refl; read = tt; mended = tt; refused = tt })
 
   off_step : (setup : Setup) (answer : TxnAnswer) (new : TxnState) (power : Bool)
-      → IsTxnAnsweredAs (if power then Some Say.Ok else Some Say.Off) setup old Do.Off answer new → Step old Do.Off answer new
+      → IsTxnAnsweredAs (if power then Some Say.Ok else Some Say.Off) setup old Do.Off answer new → TxnStep old Do.Off answer new
   off_step setup answer new true it =
       fixed_step Do.Off Say.Ok answer new it.0 it.1 (record { seen = refl; its_stuck = refl; read = tt; mended = tt; refused = tt })
   off_step setup answer new false it =
@@ -101,7 +101,7 @@ module _ (old : TxnState) where
   -- ---- reads
 
   read_done : (setup : Setup) (a : ℕ) (answer : TxnAnswer) (new : TxnState) → line_held old a ≡ None → HasTxnRead old a answer new
-      → Step old (Do.Read a) answer new
+      → TxnStep old (Do.Read a) answer new
   read_done setup a (Say.Got line steps) new none it =
       record {
         seen = seen_is new old.memory old.txn it.1.becomes.memory it.1.becomes.txn;
@@ -122,7 +122,7 @@ module _ (old : TxnState) where
 
   read_line : (setup : Setup) (a : ℕ) (answer : TxnAnswer) (new : TxnState) (inside : Bool) (line : Option Line) → line_held old a ≡ line
       → IsTxnAnsweredAs (if inside then held line else Some Say.Range) setup old (Do.Read a) answer new
-      → Step old (Do.Read a) answer new
+      → TxnStep old (Do.Read a) answer new
   read_line setup a answer new true (Some line) e it =
       fixed_step (Do.Read a) (Say.Got line 0) answer new it.0 it.1
       (record {
@@ -138,14 +138,14 @@ module _ (old : TxnState) where
 
   read_step : (setup : Setup) (a : ℕ) (answer : TxnAnswer) (new : TxnState) (power : Bool)
       → IsTxnAnsweredAs (if power then txn_of_line old a (held (line_held old a)) else Some Say.Off) setup old (Do.Read a) answer new
-      → Step old (Do.Read a) answer new
+      → TxnStep old (Do.Read a) answer new
   read_step setup a answer new true it = read_line setup a answer new (nat_lt a (txn_lines_in old)) (line_held old a) refl it
   read_step setup a answer new false it =
       fixed_step (Do.Read a) Say.Off answer new it.0 it.1 (record { seen = refl; its_stuck = refl; read = tt; mended = tt; refused = tt })
 
   -- ---- recovery
 
-  opened_step : (setup : Setup) (answer : TxnAnswer) (new : TxnState) → HasTxnOpened setup old answer new → Step old Do.On answer new
+  opened_step : (setup : Setup) (answer : TxnAnswer) (new : TxnState) → HasTxnOpened setup old answer new → TxnStep old Do.On answer new
   opened_step setup (Say.Opened redone steps) new it =
       let becomes = it.ends.1.becomes in
       record {
@@ -176,7 +176,7 @@ module _ (old : TxnState) where
   opened_step setup answer new it = absurd it.ends
 
   on_step : (setup : Setup) (answer : TxnAnswer) (new : TxnState) (power : Bool)
-      → IsTxnAnsweredAs (if power then Some Say.Already else None) setup old Do.On answer new → Step old Do.On answer new
+      → IsTxnAnsweredAs (if power then Some Say.Already else None) setup old Do.On answer new → TxnStep old Do.On answer new
   on_step setup answer new true it =
       fixed_step Do.On Say.Already answer new it.0 it.1 (record { seen = refl; its_stuck = refl; read = tt; mended = tt; refused = tt })
   on_step setup answer new false it = opened_step setup answer new it
@@ -218,7 +218,7 @@ module _ (old : TxnState) where
       (if done == 2 * length entries + 2 then [] else targets_of entries)
 
 committed_step : (setup : Setup) (old : TxnState) (entry : ℕ × Line) (rest : Entries) (answer : TxnAnswer) (new : TxnState)
-    → old.txn ≡ Some (entry ∷ rest) → HasTxnCommitted setup old (entry ∷ rest) answer new → Step old Do.Commit answer new
+    → old.txn ≡ Some (entry ∷ rest) → HasTxnCommitted setup old (entry ∷ rest) answer new → TxnStep old Do.Commit answer new
 committed_step setup old entry rest answer new opened it = go answer it.came it.ends
   where
     its : unwrap_or old.txn [] ≡ entry ∷ rest
@@ -248,7 +248,7 @@ committed_step setup old entry rest answer new opened it = go answer it.came it.
     go : (answer : TxnAnswer)
         → IsCommitting (length (entry ∷ rest)) setup.formulas (txn_moment_in setup old) (commit_writes (txn_lines_in old) (entry ∷ rest)) it.writing answer
         → EndsCommit (after_commit old (entry ∷ rest) it.writing) (most_of_commit old.shape (length (entry ∷ rest))) answer old new
-        → Step old Do.Commit answer new
+        → TxnStep old Do.Commit answer new
     go (Say.Applied steps) came ends =
         let through = came.0 in
         let long = length-commit_writes (txn_lines_in old) entry rest in
@@ -294,7 +294,7 @@ committed_step setup old entry rest answer new opened it = go answer it.came it.
     go answer came ends = absurd ends
 
 commit_step : (setup : Setup) (old : TxnState) (answer : TxnAnswer) (new : TxnState) (power : Bool) (txn : Option Entries) → old.txn ≡ txn
-    → IsTxnAnsweredAs (if power then of_open txn committed else Some Say.Off) setup old Do.Commit answer new → Step old Do.Commit answer new
+    → IsTxnAnsweredAs (if power then of_open txn committed else Some Say.Off) setup old Do.Commit answer new → TxnStep old Do.Commit answer new
 commit_step setup old answer new true (Some []) e it =
     fixed_step old Do.Commit (Say.Applied 0) answer new it.0 it.1
     (record {
@@ -313,7 +313,7 @@ commit_step setup old answer new false txn e it =
     fixed_step old Do.Commit Say.Off answer new it.0 it.1 (record { seen = refl; its_stuck = refl; read = tt; mended = tt; refused = tt })
 
 step : (setup : Setup) (old : TxnState) (command : TxnCommand) (answer : TxnAnswer) (new : TxnState) → IsTxnAnswered setup old command answer new
-    → Step old command answer new
+    → TxnStep old command answer new
 step setup old Do.Begin answer new it = begin_step old setup answer new old.power it
 step setup old (Do.Put a line) answer new it = put_step old setup a line answer new old.power old.txn it
 step setup old Do.Commit answer new it = commit_step setup old answer new old.power old.txn refl it

@@ -80,7 +80,7 @@ few_of_on g shape count few =
     by_none false few = few
 
 -- the session's parts as power comes on, what recovery and the opening leave and answer
-pub record OnCall : Type 0 where
+pub record OnTxnCall : Type 0 where
   pub formulas_of : List ℕ → Formulas
   pub geometry : Shape
   -- before room for marks was made, and after

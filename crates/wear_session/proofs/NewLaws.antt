@@ -68,7 +68,7 @@ few_lines g shape =
     omega (arith, pages)
 
 -- what formatting and the opening leave
-pub record NewCall : Type 0 where
+pub record NewWearCall : Type 0 where
   pub setup : Setup
   pub whole_shape : IsShape setup.shape
   pub in_range : AreInRange setup.formulas
@@ -95,7 +95,7 @@ pub record NewCall : Type 0 where
       HasGappedOpened setup every (parts_of engine (device_of middle) ledger_middle tags digests)
       (λ now. parts_of now (device_of board) ledger tags_new digests_new) answer
 
-module _ (c : NewCall) where
+module _ (c : NewWearCall) where
   abbrev g : Shape
   g = c.setup.shape
 

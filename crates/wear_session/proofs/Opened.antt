@@ -35,7 +35,7 @@ use Rattle.start_gap.specs.declared.gapped.GapFault.{GapFault}
 use Rattle.start_gap.specs.declared.gapped.GapFault.TheVariants as Gap
 use Rattle.start_gap.specs.Record.{recorded}
 use Rattle.start_gap.specs.Logical.{IsLevelled}
-use Rattle.start_gap.specs.Gapped.{HasGappedOpened, HasReadRecord, logical_lines}
+use Rattle.start_gap.specs.Gapped.{HasReadRecord, logical_lines}
 use Rattle.watched_board.specs.Watching.{steps_in, device_during, none_taken, IsWatched}
 use Rattle.wear_session.specs.declared.calls.StartFault.{StartFault}
 use Rattle.wear_session.specs.declared.calls.StartFault.TheVariants as Start
@@ -49,10 +49,10 @@ use Rattle.wear_session.specs.Answered.{IsWearAnswered, IsWearShownBy, IsWearMem
 use Rattle.wear_session.proofs.Worlds.{at_most, fewer, goes_to, cut_off, on_after, off_after}
 use Rattle.wear_session.proofs.Seen.{setup_under, served, seen_from, held_under}
 use Rattle.wear_session.proofs.EngineWrites.{most_within, fewer_within, AreDone, read_line, read_done, read_cut}
-use Rattle.wear_session.proofs.Starts.{OnCall, one_latch, few_of_on}
+use Rattle.wear_session.proofs.Starts.{OnWearCall, one_latch, few_of_on}
 use Rattle.wear_session.proofs.Twins.{tried_line, seal_twin}
 
-module _ (c : OnCall) where
+module _ (c : OnWearCall) where
   abbrev setup : Setup
   setup = setup_under c.formulas_of c.geometry c.parts.keys
 
@@ -220,13 +220,13 @@ module _ (c : OnCall) where
 
   -- ---- the answers
 
-  abbrev Exit : BoardMemory → Option Gapped → WearAnswer → Type 0
-  Exit board gapped answer =
+  abbrev WearExit : BoardMemory → Option Gapped → WearAnswer → Type 0
+  WearExit board gapped answer =
       IsWearWorld (setup_under c.formulas_of c.geometry c.keys) (left_under board gapped)
       × IsWearAnswered (wear_setup_in c.formulas_of c.now) c.now Do.On answer (wear_of (setup_under c.formulas_of c.geometry c.keys) (left_under board gapped))
 
   exit_of : (board : BoardMemory) (gapped : Option Gapped) (answer : WearAnswer) → IsWearWorld setup (left board gapped)
-      → HasOpenedAs old answer (wear_of setup (left board gapped)) → Exit board gapped answer
+      → HasOpenedAs old answer (wear_of setup (left board gapped)) → WearExit board gapped answer
   exit_of board gapped answer world it = (
     held_under c.formulas_of c.geometry p (left board gapped) c.keys c.same_keys world,
     seen_from c.formulas_of c.geometry p (left board gapped) c.now c.keys Do.On answer c.is c.same_keys refl
@@ -234,23 +234,23 @@ module _ (c : OnCall) where
   )
 
   -- what an exit says, whatever steps are answered
-  said_as : (board : BoardMemory) (gapped : Option Gapped) (answer : ℕ → WearAnswer) → Exit board gapped (answer (steps_in c.taken))
-      → Exit board gapped (answer c.said)
-  said_as board gapped answer it = subst (λ k. Exit board gapped (answer k)) (sym c.counted) it
+  said_as : (board : BoardMemory) (gapped : Option Gapped) (answer : ℕ → WearAnswer) → WearExit board gapped (answer (steps_in c.taken))
+      → WearExit board gapped (answer c.said)
+  said_as board gapped answer it = subst (λ k. WearExit board gapped (answer k)) (sym c.counted) it
 
   -- the board once power is off again
   abbrev rested : BoardMemory
   rested = record c.board { powered = false }
 
   -- what holds after each answer of recovery and the opening
-  abbrev Outcome : Result Gapped StartFault → Type 0
-  Outcome (Ok gapped) = Exit c.board (Some gapped) (Say.Opened gapped.wear.start gapped.wear.gap (steps_in c.taken))
-  Outcome (Err (Start.Recovery Rec.Cut)) = Exit c.board None (Say.Cut (steps_in c.taken))
-  Outcome (Err (Start.Opening (Gap.Engine Fail.Cut))) = Exit c.board None (Say.Cut (steps_in c.taken))
-  Outcome (Err (Start.Recovery Rec.Memory)) = IsWearWorld setup (left rested None) × (wear_of setup (left rested None) ≡ old)
-  Outcome (Err (Start.Recovery (Rec.Twin at major low high cipher tag))) =
+  abbrev WearOutcome : Result Gapped StartFault → Type 0
+  WearOutcome (Ok gapped) = WearExit c.board (Some gapped) (Say.Opened gapped.wear.start gapped.wear.gap (steps_in c.taken))
+  WearOutcome (Err (Start.Recovery Rec.Cut)) = WearExit c.board None (Say.Cut (steps_in c.taken))
+  WearOutcome (Err (Start.Opening (Gap.Engine Fail.Cut))) = WearExit c.board None (Say.Cut (steps_in c.taken))
+  WearOutcome (Err (Start.Recovery Rec.Memory)) = IsWearWorld setup (left rested None) × (wear_of setup (left rested None) ≡ old)
+  WearOutcome (Err (Start.Recovery (Rec.Twin at major low high cipher tag))) =
       IsWearWorld setup (left rested None) × IsWearShownBy setup old Do.On (Twin at major low high cipher tag)
-  Outcome answer = ⊥
+  WearOutcome answer = ⊥
 
   -- ---- the record was read, or power was cut in the reading
 
@@ -267,7 +267,7 @@ module _ (c : OnCall) where
 
     opened_exit : (gapped : Gapped) (line : Line)
         → HasReadRecord setup p.every line (parts_between between suite_between engine work it) (parts_to gapped.engine) gapped
-        → Outcome (Ok gapped)
+        → WearOutcome (Ok gapped)
     opened_exit gapped line read =
         let start = parts_from between suite_between engine work it in
         let middle = parts_between between suite_between engine work it in
@@ -284,7 +284,7 @@ module _ (c : OnCall) where
 
     read_cut_exit : (dropped : EngineState)
         → HasReadLine setup (logical_lines c.geometry + 1) (parts_between between suite_between engine work it) (parts_to dropped) (Err Fail.Cut)
-        → Exit c.board None (Say.Cut (steps_in c.taken))
+        → WearExit c.board None (Say.Cut (steps_in c.taken))
     read_cut_exit dropped was =
         let start = parts_from between suite_between engine work it in
         let middle = parts_between between suite_between engine work it in
@@ -294,7 +294,7 @@ module _ (c : OnCall) where
         (cut_seen marks cut.dark cut.loss cut.takes)
 
     by_opened : (opened : Result Gapped GapFault) → HasOpened setup p.every (parts_between between suite_between engine work it) parts_to opened
-        → Outcome (wear_started_as opened)
+        → WearOutcome (wear_started_as opened)
     by_opened (Ok gapped) opened = opened_exit gapped opened.0 opened.1
     by_opened (Err (Gap.Engine Fail.Cut)) opened = read_cut_exit opened.0 opened.1
     by_opened (Err (Gap.Engine (Fail.Spent page))) opened = absurd opened.1.possible
@@ -321,7 +321,7 @@ module _ (c : OnCall) where
   few_by regs same few = subst (λ (r : Regs). length r.group.items ≤ 3) (sym same) few
 
   recovery_cut : (suite_between : SuiteState) → HasRecovered setup p.ledger from to c.suite_old suite_between (Err Rec.Cut) → c.ledger ≡ p.ledger
-      → Exit c.board None (Say.Cut (steps_in c.taken))
+      → WearExit c.board None (Say.Cut (steps_in c.taken))
   recovery_cut suite_between it ledger =
       let marks = marks_same suite_between Rec.Cut it ledger in
       let durable = durable_now suite_between Rec.Cut it ledger ((mended suite_between Rec.Cut it ledger).from_durable off.durable) in
@@ -342,7 +342,7 @@ module _ (c : OnCall) where
   no_fuse_burnt (Some n) = ap (λ (k : ℕ). Some k) (omega arith)
 
   recovery_wanted : (suite_between : SuiteState) → HasRecovered setup p.ledger from to c.suite_old suite_between (Err Rec.Memory)
-      → c.ledger ≡ p.ledger → Outcome (Err (Start.Recovery Rec.Memory))
+      → c.ledger ≡ p.ledger → WearOutcome (Err (Start.Recovery Rec.Memory))
   recovery_wanted suite_between it ledger =
       let marks = marks_same suite_between Rec.Memory it ledger in
       let durable = durable_now suite_between Rec.Memory it ledger ((mended suite_between Rec.Memory it ledger).from_durable off.durable) in
@@ -366,7 +366,7 @@ module _ (c : OnCall) where
 
   recovery_twin : (suite_between : SuiteState) (at major low high : ℕ) (cipher : Line) (tag : List ℕ)
       → HasRecovered setup p.ledger from to c.suite_old suite_between (Err (Rec.Twin at major low high cipher tag)) → c.ledger ≡ p.ledger
-      → Outcome (Err (Start.Recovery (Rec.Twin at major low high cipher tag)))
+      → WearOutcome (Err (Start.Recovery (Rec.Twin at major low high cipher tag)))
   recovery_twin suite_between at major low high cipher tag it ledger =
       let fault = Rec.Twin at major low high cipher tag in
       let marks = marks_same suite_between fault it ledger in
@@ -384,7 +384,7 @@ module _ (c : OnCall) where
         ),
       )
 
-  outcome : Outcome c.answer
+  outcome : WearOutcome c.answer
   outcome = go started.recovery started.recovered started.then
     where
       refused : (fault : RecFault) → HasRecovered setup p.ledger from started.between c.suite_old started.suite_between (Err fault) → to ≡ started.between
@@ -395,26 +395,26 @@ module _ (c : OnCall) where
       go : (recovery : Result (EngineState × Work) RecFault)
           → HasRecovered setup p.ledger from started.between c.suite_old started.suite_between recovery
           → HasWearOpenedAfter recovery setup p.every started.between to p.ledger c.ledger started.suite_between c.suite_new c.answer
-          → Outcome c.answer
+          → WearOutcome c.answer
       go (Ok done) it later =
-          subst Outcome (sym later.2) (by_opened started.between started.suite_between done.0 done.1 it later.0 later.1)
+          subst WearOutcome (sym later.2) (by_opened started.between started.suite_between done.0 done.1 it later.0 later.1)
       go (Err Rec.Cut) it later =
-          subst Outcome (sym later.0) (recovery_cut started.suite_between (refused Rec.Cut it later.1) later.2)
+          subst WearOutcome (sym later.0) (recovery_cut started.suite_between (refused Rec.Cut it later.1) later.2)
       go (Err Rec.Memory) it later =
-          subst Outcome (sym later.0) (recovery_wanted started.suite_between (refused Rec.Memory it later.1) later.2)
+          subst WearOutcome (sym later.0) (recovery_wanted started.suite_between (refused Rec.Memory it later.1) later.2)
       go (Err (Rec.Twin at major low high cipher tag)) it later =
-          subst Outcome (sym later.0)
+          subst WearOutcome (sym later.0)
           (recovery_twin started.suite_between at major low high cipher tag (refused (Rec.Twin at major low high cipher tag) it later.1) later.2)
       go (Err fault) it later =
           absurd ((mended started.suite_between fault (refused fault it later.1) later.2).from_durable off.durable)
 
   -- ---- as contracts write it
 
-  outcome_as : (answer : Result Gapped StartFault) → c.answer ≡ answer → Outcome answer
-  outcome_as answer is = subst Outcome is outcome
+  outcome_as : (answer : Result Gapped StartFault) → c.answer ≡ answer → WearOutcome answer
+  outcome_as answer is = subst WearOutcome is outcome
 
   pub open_exit : (gapped : Gapped) → c.answer ≡ Ok gapped
-      → Exit c.board (Some gapped) (Say.Opened gapped.wear.start gapped.wear.gap c.said)
+      → WearExit c.board (Some gapped) (Say.Opened gapped.wear.start gapped.wear.gap c.said)
   open_exit gapped is =
       said_as c.board (Some gapped) (λ k. Say.Opened gapped.wear.start gapped.wear.gap k) (outcome_as (Ok gapped) is)
 
@@ -423,11 +423,11 @@ module _ (c : OnCall) where
   wanted_on = subst (λ (w : WearState). IsWearMemoryWanted w Do.On) c.is (refl, on_decided)
 
   -- no levelled lines are there, as before
-  dark_exit : (board : BoardMemory) (answer : WearAnswer) → Exit board None answer → Exit board p.gapped answer
-  dark_exit board answer it = subst (λ g. Exit board g answer) (sym c.there) it
+  dark_exit : (board : BoardMemory) (answer : WearAnswer) → WearExit board None answer → WearExit board p.gapped answer
+  dark_exit board answer it = subst (λ g. WearExit board g answer) (sym c.there) it
 
   pub cut_exit : (c.answer ≡ Err (Start.Recovery Rec.Cut)) ⊎ (c.answer ≡ Err (Start.Opening (Gap.Engine Fail.Cut)))
-      → Exit c.board p.gapped (Say.Cut c.said)
+      → WearExit c.board p.gapped (Say.Cut c.said)
   cut_exit (inl is) = dark_exit c.board (Say.Cut c.said) (said_as c.board None (λ k. Say.Cut k) (outcome_as (Err (Start.Recovery Rec.Cut)) is))
   cut_exit (inr is) =
       dark_exit c.board (Say.Cut c.said) (said_as c.board None (λ k. Say.Cut k) (outcome_as (Err (Start.Opening (Gap.Engine Fail.Cut))) is))
@@ -459,18 +459,18 @@ module _ (c : OnCall) where
         )
 
   -- no other answer comes
-  abbrev pub IsPossible : Result Gapped StartFault → Type 0
-  IsPossible (Ok gapped) = ⊤
-  IsPossible (Err (Start.Recovery Rec.Cut)) = ⊤
-  IsPossible (Err (Start.Opening (Gap.Engine Fail.Cut))) = ⊤
-  IsPossible (Err (Start.Recovery Rec.Memory)) = ⊤
-  IsPossible (Err (Start.Recovery (Rec.Twin at major low high cipher tag))) = ⊤
-  IsPossible answer = ⊥
+  abbrev pub IsWearPossible : Result Gapped StartFault → Type 0
+  IsWearPossible (Ok gapped) = ⊤
+  IsWearPossible (Err (Start.Recovery Rec.Cut)) = ⊤
+  IsWearPossible (Err (Start.Opening (Gap.Engine Fail.Cut))) = ⊤
+  IsWearPossible (Err (Start.Recovery Rec.Memory)) = ⊤
+  IsWearPossible (Err (Start.Recovery (Rec.Twin at major low high cipher tag))) = ⊤
+  IsWearPossible answer = ⊥
 
-  pub possible : (answer : Result Gapped StartFault) → c.answer ≡ answer → IsPossible answer
+  pub possible : (answer : Result Gapped StartFault) → c.answer ≡ answer → IsWearPossible answer
   possible answer is = go answer (outcome_as answer is)
     where
-      go : (answer : Result Gapped StartFault) → Outcome answer → IsPossible answer
+      go : (answer : Result Gapped StartFault) → WearOutcome answer → IsWearPossible answer
       go (Ok gapped) it = tt
       go (Err (Start.Recovery Rec.Cut)) it = tt
       go (Err (Start.Opening (Gap.Engine Fail.Cut))) it = tt

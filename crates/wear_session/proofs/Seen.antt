@@ -61,7 +61,7 @@ held_under formulas_of g p q keys same it =
 -- ---- a read
 
 -- the session's parts as the read finds them, what it leaves and answers
-pub record ReadCall : Type 0 where
+pub record ReadWearCall : Type 0 where
   pub formulas_of : List ℕ → Formulas
   pub geometry : Shape
   pub parts : WearParts
@@ -92,7 +92,7 @@ pub record ReadCall : Type 0 where
       (parts_of gapped.engine (device_during parts.board none_taken) parts.ledger tags digests)
       (parts_of after.engine (device_during board taken) ledger tags_new digests_new) answer
 
-module _ (c : ReadCall) where
+module _ (c : ReadWearCall) where
   abbrev setup : Setup
   setup = setup_under c.formulas_of c.geometry c.parts.keys
 

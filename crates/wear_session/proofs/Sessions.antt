@@ -33,7 +33,7 @@ turning_of state w = record { wear = state.wear; written = w }
 abbrev Counts : WearState → ℕ → Type 0
 Counts state w = state.power ≡ true → state.count ≡ w % state.every
 
-record IsStep (first next : WearState) (w : ℕ) (command : WearCommand) (answer : WearAnswer) : Type 0 where
+record IsWearStep (first next : WearState) (w : ℕ) (command : WearCommand) (answer : WearAnswer) : Type 0 where
   shape : next.shape ≡ first.shape
   its_every : next.every ≡ first.every
   read : IsWearReadOf first.memory command answer
@@ -75,7 +75,7 @@ still_counts first next w counts same lit =
 still_step : (first next : WearState) (w : ℕ) (command : WearCommand) (answer : WearAnswer) → IsWearReadOf first.memory command answer
     → memory_with_reply first.memory command answer ≡ first.memory
     → ((new : Turning) → (new.wear ≡ first.wear) × (new.written ≡ w) → TurnsTo (wear_lines_in first) first.every (turning_of first w) command answer new)
-    → IsWearMendedAnswer command answer → Counts first w → IsStill first next → IsStep first next w command answer
+    → IsWearMendedAnswer command answer → Counts first w → IsStill first next → IsWearStep first next w command answer
 still_step first next w command answer read memory turns mended counts same =
     record {
       shape = same.shape;
@@ -92,7 +92,7 @@ still_step first next w command answer read memory turns mended counts same =
 dark_step : (first next : WearState) (w : ℕ) (command : WearCommand) (answer : WearAnswer) → IsWearReadOf first.memory command answer
     → memory_with_reply first.memory command answer ≡ first.memory
     → ((new : Turning) → (new.wear ≡ first.wear) × (new.written ≡ 0) → TurnsTo (wear_lines_in first) first.every (turning_of first w) command answer new)
-    → IsWearMendedAnswer command answer → next.power ≡ false → IsStill first next → IsStep first next w command answer
+    → IsWearMendedAnswer command answer → next.power ≡ false → IsStill first next → IsWearStep first next w command answer
 dark_step first next w command answer read memory turns mended dark same =
     record {
       shape = same.shape;
@@ -173,7 +173,7 @@ module _ (setup : Setup) (first next : WearState) (w a : ℕ) (plain : Line) (so
       → memory_with_reply first.memory (Do.Write a plain) answer ≡ slice_set first.memory a plain
       → IsWearReadOf first.memory (Do.Write a plain) answer → IsWearMendedAnswer (Do.Write a plain) answer
       → TurnsTo (wear_lines_in first) first.every (turning_of first w) (Do.Write a plain) answer (turning_of next (w + 1))
-      → IsStep first next w (Do.Write a plain) answer
+      → IsWearStep first next w (Do.Write a plain) answer
   written_step k answer done left memory read mended turns =
       record {
         shape = left.shape;
@@ -212,7 +212,7 @@ module _ (setup : Setup) (first next : WearState) (w a : ℕ) (plain : Line) (so
       ∙ sym (ap (λ b. if b then next_wear (wear_lines_in first) first.wear else first.wear) (its_turn ∙ early))
 
   all_step : (writing : Writing) (steps : ℕ) (due : Bool) → is_due first ≡ due → writing.done ≡ length writes
-      → IsLeft first next a plain writing.done → IsStep first next w (Do.Write a plain) (Say.Written steps)
+      → IsLeft first next a plain writing.done → IsWearStep first next w (Do.Write a plain) (Say.Written steps)
   all_step writing steps true is all left =
       let three : writing.done ≡ 3 = all ∙ writes_long true is in
       written_step writing.done (Say.Written steps) (omega (arith, three)) left refl tt tt (wear_moved writing.done three is left, refl)
@@ -222,7 +222,7 @@ module _ (setup : Setup) (first next : WearState) (w a : ℕ) (plain : Line) (so
       (wear_unturned writing.done (omega (arith, one)) (omega (arith, one)) is left, refl)
 
   held_step : (writing : Writing) (page steps : ℕ) (due : Bool) → is_due first ≡ due → 0 < writing.done → writing.done < length writes
-      → IsLeft first next a plain writing.done → IsStep first next w (Do.Write a plain) (Say.Held page steps)
+      → IsLeft first next a plain writing.done → IsWearStep first next w (Do.Write a plain) (Say.Held page steps)
   held_step writing page steps true is done waits left =
       let long = writes_long true is in
       written_step writing.done (Say.Held page steps) done left refl tt tt
@@ -232,7 +232,7 @@ module _ (setup : Setup) (first next : WearState) (w a : ℕ) (plain : Line) (so
       absurd (omega (arith, long, waits, done))
 
   kept_step : (writing : Writing) (steps : ℕ) (due : Bool) → is_due first ≡ due → 0 < writing.done → writing.done ≤ length writes
-      → next.power ≡ false → IsLeft first next a plain writing.done → IsStep first next w (Do.Write a plain) (Say.CutKept steps)
+      → next.power ≡ false → IsLeft first next a plain writing.done → IsWearStep first next w (Do.Write a plain) (Say.CutKept steps)
   kept_step writing steps due is done few dark left =
       let wears : (next.wear ≡ first.wear) ⊎ (next.wear ≡ wear_turned (wear_lines_in first) first.every (turning_of first w)) =
       elim (cases_eq writing.done 3) [
@@ -254,14 +254,14 @@ module _ (setup : Setup) (first next : WearState) (w a : ℕ) (plain : Line) (so
       by_due true is all = wear_moved writing.done all is left
       by_due false is all = let long = writes_long false is in absurd (omega (arith, long, few, all))
 
-  write_step : (answer : WearAnswer) → HasWearWritten setup first a plain answer next → IsStep first next w (Do.Write a plain) answer
+  write_step : (answer : WearAnswer) → HasWearWritten setup first a plain answer next → IsWearStep first next w (Do.Write a plain) answer
   write_step answer it = go answer it.came it.ends
     where
       writing : Writing
       writing = it.writing
 
       go : (answer : WearAnswer) → IsWriting setup.formulas (wear_moment_in setup first) writes writing answer
-          → EndsWriting (after_writing first a plain writing) answer first next → IsStep first next w (Do.Write a plain) answer
+          → EndsWriting (after_writing first a plain writing) answer first next → IsWearStep first next w (Do.Write a plain) answer
       go (Say.Written steps) came ends = all_step writing steps (is_due first) refl came.0 (left_going first next a plain writing steps _ ends)
       go (Say.Held page steps) came ends =
           held_step writing page steps (is_due first) refl came.0 came.1.one_waits (left_going first next a plain writing steps _ ends)
@@ -294,14 +294,14 @@ module _ (setup : Setup) (first next : WearState) (w : ℕ) (some : 1 ≤ first.
   as_it_is : IsStill first first
   as_it_is = still_same first first refl
 
-  read_step : (a : ℕ) (answer : WearAnswer) → HasWearRead first a answer next → IsStep first next w (Do.Read a) answer
+  read_step : (a : ℕ) (answer : WearAnswer) → HasWearRead first a answer next → IsWearStep first next w (Do.Read a) answer
   read_step a (Say.Got line steps) it =
       still_step first next w (Do.Read a) (Say.Got line steps) it.0 refl (λ new h. h) tt counts (still_going first steps _ as_it_is it.1)
   read_step a (Say.Cut steps) it =
       dark_step first next w (Do.Read a) (Say.Cut steps) tt refl (λ new h. h) tt it.becomes.power (still_cut first first next steps _ as_it_is it)
   read_step a answer it = absurd it
 
-  open_step : (answer : WearAnswer) → HasWearOpened first answer next → IsStep first next w Do.On answer
+  open_step : (answer : WearAnswer) → HasWearOpened first answer next → IsWearStep first next w Do.On answer
   open_step (Say.Opened start gap steps) it =
       let goes = it.2.becomes in
       record {
@@ -324,32 +324,32 @@ module _ (setup : Setup) (first next : WearState) (w : ℕ) (some : 1 ≤ first.
   -- a line's command, where power is on and there is such a line, or else
   write_by : (p b : Bool) (a : ℕ) (plain : Line) (answer : WearAnswer) → first.power ≡ p
       → IsWearAnsweredAs (if p then (if b then None else Some Say.Range) else Some Say.Off) setup first (Do.Write a plain) answer next
-      → IsStep first next w (Do.Write a plain) answer
+      → IsWearStep first next w (Do.Write a plain) answer
   write_by true true a plain answer lit it = write_step setup first next w a plain some lit counts answer it
   write_by true false a plain answer lit it =
-      subst (IsStep first next w (Do.Write a plain)) (sym it.0)
+      subst (IsWearStep first next w (Do.Write a plain)) (sym it.0)
       (still_step first next w (Do.Write a plain) Say.Range tt refl (λ new h. h) tt counts (still_same first next it.1))
   write_by false b a plain answer lit it =
-      subst (IsStep first next w (Do.Write a plain)) (sym it.0)
+      subst (IsWearStep first next w (Do.Write a plain)) (sym it.0)
       (still_step first next w (Do.Write a plain) Say.Off tt refl (λ new h. h) tt counts (still_same first next it.1))
 
   read_by : (p b : Bool) (a : ℕ) (answer : WearAnswer)
       → IsWearAnsweredAs (if p then (if b then None else Some Say.Range) else Some Say.Off) setup first (Do.Read a) answer next
-      → IsStep first next w (Do.Read a) answer
+      → IsWearStep first next w (Do.Read a) answer
   read_by true true a answer it = read_step a answer it
   read_by true false a answer it =
-      subst (IsStep first next w (Do.Read a)) (sym it.0)
+      subst (IsWearStep first next w (Do.Read a)) (sym it.0)
       (still_step first next w (Do.Read a) Say.Range tt refl (λ new h. h) tt counts (still_same first next it.1))
   read_by false b a answer it =
-      subst (IsStep first next w (Do.Read a)) (sym it.0)
+      subst (IsWearStep first next w (Do.Read a)) (sym it.0)
       (still_step first next w (Do.Read a) Say.Off tt refl (λ new h. h) tt counts (still_same first next it.1))
 
   place_by : (p b : Bool) (a : ℕ) (answer : WearAnswer)
       → IsWearAnsweredAs (if p then (if b then Some (Say.At (place_in first a)) else Some Say.Range) else Some Say.Off) setup first (Do.Place a) answer next
-      → IsStep first next w (Do.Place a) answer
+      → IsWearStep first next w (Do.Place a) answer
   place_by true true a answer it =
       let same = still_same first next it.1 in
-      subst (IsStep first next w (Do.Place a)) (sym it.0)
+      subst (IsWearStep first next w (Do.Place a)) (sym it.0)
       (record {
         shape = same.shape;
         its_every = same.its_every;
@@ -361,45 +361,45 @@ module _ (setup : Setup) (first next : WearState) (w : ℕ) (some : 1 ≤ first.
         mended = tt;
       })
   place_by true false a answer it =
-      subst (IsStep first next w (Do.Place a)) (sym it.0)
+      subst (IsWearStep first next w (Do.Place a)) (sym it.0)
       (still_step first next w (Do.Place a) Say.Range tt refl (λ new h. h) tt counts (still_same first next it.1))
   place_by false b a answer it =
-      subst (IsStep first next w (Do.Place a)) (sym it.0)
+      subst (IsWearStep first next w (Do.Place a)) (sym it.0)
       (still_step first next w (Do.Place a) Say.Off tt refl (λ new h. h) tt counts (still_same first next it.1))
 
   off_by : (p : Bool) (answer : WearAnswer) → first.power ≡ p
       → (fixed : WearAnswer) → fixed ≡ (if p then Say.Ok else Say.Off) → answer ≡ fixed
       → next ≡ (if p then record first { count = 0; power = false; fuse = None } else first)
-      → IsStep first next w Do.Off answer
+      → IsWearStep first next w Do.Off answer
   off_by true answer lit fixed same is it =
-      subst (IsStep first next w Do.Off) (sym (is ∙ same))
+      subst (IsWearStep first next w Do.Off) (sym (is ∙ same))
       (dark_step first next w Do.Off Say.Ok tt refl (λ new h. h) tt (ap (λ (s : WearState). s.power) it)
       (subst (λ (s : WearState). IsStill first s) (sym it)
       (record { shape = refl; its_every = refl; memory = refl; wear = refl; count = λ lit. absurd (true≢false (sym lit)) })))
   off_by false answer dark fixed same is it =
-      subst (IsStep first next w Do.Off) (sym (is ∙ same))
+      subst (IsWearStep first next w Do.Off) (sym (is ∙ same))
       (still_step first next w Do.Off Say.Off tt refl (λ new h. h) tt counts (still_same first next it))
 
   on_by : (p : Bool) (answer : WearAnswer) → IsWearAnsweredAs (if p then Some Say.Already else None) setup first Do.On answer next
-      → IsStep first next w Do.On answer
+      → IsWearStep first next w Do.On answer
   on_by true answer it =
-      subst (IsStep first next w Do.On) (sym it.0)
+      subst (IsWearStep first next w Do.On) (sym it.0)
       (still_step first next w Do.On Say.Already tt refl (λ new h. h) tt counts (still_same first next it.1))
   on_by false answer it = open_step answer it
 
-  step : (command : WearCommand) (answer : WearAnswer) → IsWearAnswered setup first command answer next → IsStep first next w command answer
+  step : (command : WearCommand) (answer : WearAnswer) → IsWearAnswered setup first command answer next → IsWearStep first next w command answer
   step (Do.Write a plain) answer it = write_by first.power (nat_lt a (wear_lines_in first)) a plain answer refl it
   step (Do.Read a) answer it = read_by first.power (nat_lt a (wear_lines_in first)) a answer it
   step (Do.Place a) answer it = place_by first.power (nat_lt a (wear_lines_in first)) a answer it
   step (Do.Cut n) answer it =
-      subst (IsStep first next w (Do.Cut n)) (sym it.0)
+      subst (IsWearStep first next w (Do.Cut n)) (sym it.0)
       (still_step first next w (Do.Cut n) Say.Ok tt refl (λ new h. h) tt counts
       (subst (λ (s : WearState). IsStill first s) (sym it.1)
       (record { shape = refl; its_every = refl; memory = refl; wear = refl; count = λ lit. (lit, refl) })))
   step Do.Off answer it = off_as first.power refl it
     where
       off_as : (p : Bool) → first.power ≡ p
-          → IsWearAnsweredAs (if p then Some Say.Ok else Some Say.Off) setup first Do.Off answer next → IsStep first next w Do.Off answer
+          → IsWearAnsweredAs (if p then Some Say.Ok else Some Say.Off) setup first Do.Off answer next → IsWearStep first next w Do.Off answer
       off_as true lit it = off_by true answer lit Say.Ok refl it.0 (it.1 ∙ ap (λ b. if b then record first { count = 0; power = false; fuse = None } else first) lit)
       off_as false dark it = off_by false answer dark Say.Off refl it.0 (it.1 ∙ ap (λ b. if b then record first { count = 0; power = false; fuse = None } else first) dark)
   step Do.On answer it = on_by first.power answer it

@@ -79,7 +79,7 @@ none_of None some is none = refl
 none_of (Some x) some is none = absurd (true≢false (sym is ∙ none))
 
 -- the session's parts as power comes on, what recovery and the opening leave and answer
-pub record OnCall : Type 0 where
+pub record OnWearCall : Type 0 where
   pub formulas_of : List ℕ → Formulas
   pub geometry : Shape
   pub parts : WearParts

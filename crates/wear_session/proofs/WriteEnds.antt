@@ -48,7 +48,7 @@ most_of g due = if due then 3 * write_steps g + read_steps g else write_steps g
 -- ---- ends
 
 -- so many of them are done
-pub record AreGone (setup : Setup) (from : Parts) (queue : List Posted) (count most : ℕ) (to : Parts) : Type 0 where
+pub record AreWearGone (setup : Setup) (from : Parts) (queue : List Posted) (count most : ℕ) (to : Parts) : Type 0 where
   pub made : List Mark
   pub done : AreDone setup from (take count queue) made most to
 
@@ -82,17 +82,17 @@ pub record IsLostAt (setup : Setup) (from : Parts) (queue : List Posted) (place 
   pub own : list_any (is_own_seal place) made ≡ false
   pub cut : AreCut setup from [] made (write_steps setup.shape) to
 
-abbrev pub FailsAt : Setup → Parts → List Posted → ℕ → ℕ → Fault → Bool → Parts → Type 0
-FailsAt setup from queue place most (Fail.Spent page) written to = (written ≡ false) × IsSpentFirst setup from queue page to
-FailsAt setup from queue place most Fail.Cut true to = IsKeptAt setup from queue place most to
-FailsAt setup from queue place most Fail.Cut false to = IsKeptAt setup from queue place most to ⊎ IsLostAt setup from queue place to
-FailsAt setup from queue place most fault written to = ⊥
+abbrev pub FailsWearAt : Setup → Parts → List Posted → ℕ → ℕ → Fault → Bool → Parts → Type 0
+FailsWearAt setup from queue place most (Fail.Spent page) written to = (written ≡ false) × IsSpentFirst setup from queue page to
+FailsWearAt setup from queue place most Fail.Cut true to = IsKeptAt setup from queue place most to
+FailsWearAt setup from queue place most Fail.Cut false to = IsKeptAt setup from queue place most to ⊎ IsLostAt setup from queue place to
+FailsWearAt setup from queue place most fault written to = ⊥
 
-abbrev pub EndsAt : Setup → Parts → List Posted → ℕ → Bool → ℕ → Result Moved WriteFault → Parts → Type 0
-EndsAt setup from queue place due most (Ok Move.Not) to = (due ≡ false) × AreGone setup from queue 1 most to
-EndsAt setup from queue place due most (Ok Move.Made) to = (due ≡ true) × AreGone setup from queue 3 most to
-EndsAt setup from queue place due most (Ok (Move.Held page)) to = (due ≡ true) × IsHeldAt setup from queue page most to
-EndsAt setup from queue place due most (Err fault) to = FailsAt setup from queue place most fault.fault fault.written to
+abbrev pub EndsWearAt : Setup → Parts → List Posted → ℕ → Bool → ℕ → Result Moved WriteFault → Parts → Type 0
+EndsWearAt setup from queue place due most (Ok Move.Not) to = (due ≡ false) × AreWearGone setup from queue 1 most to
+EndsWearAt setup from queue place due most (Ok Move.Made) to = (due ≡ true) × AreWearGone setup from queue 3 most to
+EndsWearAt setup from queue place due most (Ok (Move.Held page)) to = (due ≡ true) × IsHeldAt setup from queue page most to
+EndsWearAt setup from queue place due most (Err fault) to = FailsWearAt setup from queue place most fault.fault fault.written to
 
 -- the wear and the count that an answer leaves
 abbrev pub WearsAs : Gapped → Gapped → Result Moved WriteFault → Type 0
@@ -285,7 +285,7 @@ module _ (setup : Setup) (a : ℕ) (plain : Line) (old new : Gapped) (from to : 
   -- ---- a move, by its answer
 
   abbrev MoveEnds : Result (Unit {0}) Fault → Parts → Type 0
-  MoveEnds (Ok done) parts = AreGone setup from (queue true) 3 most parts
+  MoveEnds (Ok done) parts = AreWearGone setup from (queue true) 3 most parts
   MoveEnds (Err (Fail.Spent page)) parts = IsHeldAt setup from (queue true) page most parts
   MoveEnds (Err Fail.Cut) parts = IsKeptAt setup from (queue true) place most parts
   MoveEnds (Err fault) parts = ⊥
@@ -305,7 +305,7 @@ module _ (setup : Setup) (a : ℕ) (plain : Line) (old new : Gapped) (from to : 
       go : (made_by : Result Ctr Fault) → HasWrittenLine setup recording parts to made_by → answer ≡ done_as made_by → MoveEnds answer to
       go (Ok ctr) written e =
           subst (λ r. MoveEnds r to) (sym e)
-          (let end : AreGone setup from (queue true) 3 most to =
+          (let end : AreWearGone setup from (queue true) 3 most to =
           record {
             made = made ++ written.made;
             done =
@@ -381,10 +381,10 @@ module _ (setup : Setup) (a : ℕ) (plain : Line) (old new : Gapped) (from to : 
 
   -- ---- the write
 
-  abbrev Ends : Bool → Result Moved WriteFault → Parts → Type 0
-  Ends due answer parts = EndsAt setup from (queue due) place due (most_of setup.shape due) answer parts
+  abbrev EndsWearWrite : Bool → Result Moved WriteFault → Parts → Type 0
+  EndsWearWrite due answer parts = EndsWearAt setup from (queue due) place due (most_of setup.shape due) answer parts
 
-  tried_ends : (tried : Result (Unit {0}) Fault) (parts : Parts) → MoveEnds tried parts → Ends true (write_answer_by tried) parts
+  tried_ends : (tried : Result (Unit {0}) Fault) (parts : Parts) → MoveEnds tried parts → EndsWearWrite true (write_answer_by tried) parts
   tried_ends (Ok done) parts it = (refl, it)
   tried_ends (Err (Fail.Spent page)) parts it = (refl, it)
   tried_ends (Err Fail.Cut) parts it = it
@@ -395,7 +395,7 @@ module _ (setup : Setup) (a : ℕ) (plain : Line) (old new : Gapped) (from to : 
 
   -- the line's own write ended
   refused_ends : (due : Bool) (fault : Fault) (parts : Parts) → HasWrittenLine setup own from parts (Err fault)
-      → FailsAt setup from (queue due) place (most_of setup.shape due) fault false parts
+      → FailsWearAt setup from (queue due) place (most_of setup.shape due) fault false parts
   refused_ends due (Fail.Spent page) parts written = (
     refl,
     record {
@@ -425,11 +425,11 @@ module _ (setup : Setup) (a : ℕ) (plain : Line) (old new : Gapped) (from to : 
   refused_ends due fault parts written = absurd (written.unrefused (sound_trusted setup from sound).not_down sound)
 
   gone_on : (early : Bool) (ctr : Ctr) (between : Parts) (answer : Result Moved WriteFault) → HasWrittenLine setup own from between (Ok ctr)
-      → MatchBool early (HasCounted old new between to answer) (HasTriedMove setup old new between to answer) → Ends (not early) answer to
+      → MatchBool early (HasCounted old new between to answer) (HasTriedMove setup old new between to answer) → EndsWearWrite (not early) answer to
   gone_on true ctr between answer written counted =
-      subst (λ r. Ends false r to) (sym counted.its_answer)
-      (subst (Ends false (Ok Move.Not)) (sym counted.nothing_else)
-      (let end : AreGone setup from (queue false) 1 (most_of setup.shape false) between =
+      subst (λ r. EndsWearWrite false r to) (sym counted.its_answer)
+      (subst (EndsWearWrite false (Ok Move.Not)) (sym counted.nothing_else)
+      (let end : AreWearGone setup from (queue false) 1 (most_of setup.shape false) between =
       record {
         made = written.made;
         done =
@@ -438,20 +438,20 @@ module _ (setup : Setup) (a : ℕ) (plain : Line) (old new : Gapped) (from to : 
       } in
       (refl, end)))
   gone_on false ctr between answer written tried =
-      subst (λ r. Ends true r to) (sym tried.its_answer)
+      subst (λ r. EndsWearWrite true r to) (sym tried.its_answer)
       (tried_ends tried.tried to
       (moved_ends between written.made tried.tried
       (asked_own setup.formulas place written.made (write_asked setup from from [] [] 0 begun own between place_inside ctr written)).1
       (write_done setup from from [] [] 0 begun own between place_inside ctr written) tried.was_tried))
 
   pub write_ends_at : (answer : Result Moved WriteFault) → HasLevelledWrite setup a plain old new from to answer
-      → Ends (not (nat_lt (old.count + 1) old.every)) answer to
+      → EndsWearWrite (not (nat_lt (old.count + 1) old.every)) answer to
   write_ends_at answer it = go it.made it.was_written it.then
     where
       go : (made : Result Ctr Fault) → HasWrittenLine setup own from it.between made → HasWriteGoneOn made setup old new it.between to answer
-          → Ends (not (nat_lt (old.count + 1) old.every)) answer to
+          → EndsWearWrite (not (nat_lt (old.count + 1) old.every)) answer to
       go (Ok ctr) written later = gone_on (nat_lt (old.count + 1) old.every) ctr it.between answer written later
       go (Err fault) written later =
-          subst (λ r. Ends (not (nat_lt (old.count + 1) old.every)) r to) (sym later.its_answer)
-          (subst (FailsAt setup from (queue (not (nat_lt (old.count + 1) old.every))) place (most_of setup.shape (not (nat_lt (old.count + 1) old.every))) fault false)
+          subst (λ r. EndsWearWrite (not (nat_lt (old.count + 1) old.every)) r to) (sym later.its_answer)
+          (subst (FailsWearAt setup from (queue (not (nat_lt (old.count + 1) old.every))) place (most_of setup.shape (not (nat_lt (old.count + 1) old.every))) fault false)
           (sym later.nothing_else) (refused_ends (not (nat_lt (old.count + 1) old.every)) fault it.between written))

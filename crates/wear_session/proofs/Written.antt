@@ -43,7 +43,7 @@ use Rattle.wear_session.proofs.ReadLaws.{on_in, lines_are}
 use Rattle.wear_session.proofs.Seen.{setup_under, of_line_is, served, seen_from, held_under}
 use Rattle.wear_session.proofs.Rooms.{reserved_world, reserved_state}
 use Rattle.wear_session.proofs.EngineWrites.{moment_now, AreDone, AreCut, memory_done}
-use Rattle.wear_session.proofs.WriteEnds.{writes_of, most_of, AreGone, IsKeptAt, IsLostAt, FailsAt, EndsAt, WearsAs, write_ends_at, wears_as}
+use Rattle.wear_session.proofs.WriteEnds.{writes_of, most_of, AreWearGone, IsKeptAt, IsLostAt, FailsWearAt, EndsWearAt, WearsAs, write_ends_at, wears_as}
 use Rattle.wear_session.proofs.WriteLaws.{whole_places, stage_of, lines_done, levelled_done, memory_by, wear_by, wear_after, memory_after, levelled_after, some_of, with_writes_is}
 
 -- the marks of a list's end, as the program takes them
@@ -58,7 +58,7 @@ own_marks result own a from marks old now is same_own same_from same_marks =
     ∙ ap (λ (l : List Mark). list_any (is_own_seal a) (drop (length old) l)) same_marks
 
 -- the session's parts as the write finds them, what it leaves and answers
-pub record WriteCall : Type 0 where
+pub record WriteWearCall : Type 0 where
   pub formulas_of : List ℕ → Formulas
   pub geometry : Shape
   -- before room for marks was made, and after
@@ -93,7 +93,7 @@ pub record WriteCall : Type 0 where
       (parts_of gapped.engine (device_during before.board none_taken) ledger_before tags digests)
       (parts_of after.engine (device_during board taken) ledger tags_new digests_new) answer
 
-module _ (c : WriteCall) where
+module _ (c : WriteWearCall) where
   abbrev setup : Setup
   setup = setup_under c.formulas_of c.geometry c.before.keys
 
@@ -177,9 +177,9 @@ module _ (c : WriteCall) where
   written_as =
       subst (λ s. HasLevelledWrite (setup_under c.formulas_of s c.before.keys) c.at c.plain c.gapped c.after from to c.answer) on.its_shape c.was_written
 
-  ends : (answer : Result Moved WriteFault) → c.answer ≡ answer → EndsAt setup from queue (place_of n wear c.at) due most answer to
+  ends : (answer : Result Moved WriteFault) → c.answer ≡ answer → EndsWearAt setup from queue (place_of n wear c.at) due most answer to
   ends answer is =
-      subst (λ r. EndsAt setup from queue (place_of n wear c.at) due most r to) is
+      subst (λ r. EndsWearAt setup from queue (place_of n wear c.at) due most r to) is
       (write_ends_at setup c.at c.plain c.gapped c.after from to on.sound on.powered size c.within c.answer written_as)
 
   wears : (answer : Result Moved WriteFault) → c.answer ≡ answer → WearsAs c.gapped c.after answer
@@ -330,7 +330,7 @@ module _ (c : WriteCall) where
       (wear_of (setup_under c.formulas_of c.geometry c.keys) (left_under gapped))
 
   -- all are done
-  gone_exit : (k : ℕ) (gone : AreGone setup from queue k most to) → k ≡ length queue → c.after.wear ≡ wear_at (stage_of k) n wear
+  gone_exit : (k : ℕ) (gone : AreWearGone setup from queue k most to) → k ≡ length queue → c.after.wear ≡ wear_at (stage_of k) n wear
       → c.after.count ≡ cond (k == 0) c.gapped.count (cond due 0 (c.gapped.count + 1)) → c.after.every ≡ c.gapped.every
       → Exit (Some c.after) Say.Written
   gone_exit k gone all its_after count every =
@@ -475,7 +475,7 @@ module _ (c : WriteCall) where
   pub sound_fault : (fault : WriteFault) → c.answer ≡ Err fault → IsCutOrSpent fault.fault
   sound_fault fault is = go fault.fault fault.written (ends (Err fault) is)
     where
-      go : (kind : Fault) (written : Bool) → FailsAt setup from queue (place_of n wear c.at) most kind written to → IsCutOrSpent kind
+      go : (kind : Fault) (written : Bool) → FailsWearAt setup from queue (place_of n wear c.at) most kind written to → IsCutOrSpent kind
       go Fail.Cut written end = tt
       go (Fail.Spent page) written end = tt
       go fault written end = absurd end

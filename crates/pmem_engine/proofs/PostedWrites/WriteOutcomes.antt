@@ -29,7 +29,7 @@ use Rattle.pmem_engine.specs.Writing.{overflow_of, HasFinishMarks, HasMadePlain,
 use Rattle.pmem_engine.proofs.PostedWrites.WriteAsks.{asked_seal, asked_begin, asked_none, free_at_overflow, overflow_fault}
 use Rattle.pmem_engine.proofs.PostedWrites.WriteParts.{IsWritePart, held_back, part_chained, fetch_part, plain_part, name_part}
 use Rattle.pmem_engine.proofs.PostedWrites.WriteFinishes.{HasFinishedSome, finish_asked, finished_for}
-use Rattle.pmem_engine.proofs.PostedWrites.WriteWorks.{IsWorkBefore, worked_before}
+use Rattle.pmem_engine.proofs.PostedWrites.WriteWorks.{IsWriteWorkBefore, worked_before}
 use Rattle.pmem_engine.proofs.PostedWrites.WriteSeals.{written_with_seal}
 use Rattle.pmem_engine.proofs.CallEnds.ShadowLines.{shadow_still, shadow_chained}
 use Rattle.pmem_engine.proofs.PathNaming.ShadowNames.{none_named, then_named, then_all, named_then}
@@ -416,7 +416,7 @@ module _ (setup : Setup) (write : Posted) (within : write.at < layout.data_lines
                   (steps4 trusted memory was)
                   (steps_most (3 * length (begin_asked overflows page)) p4.device p5.device some5.counts)
 
-              work5 : IsWorkBefore setup write before old p5
+              work5 : IsWriteWorkBefore setup write before old p5
               work5 =
                   worked_before setup write old p1 p2 p3 p4 p5 plain overflows front (begin_counter overflows setup write.at p4) fetched
                   made_plain some3 shadow3.mirror named some5

@@ -41,7 +41,7 @@ use Rattle.pmem_engine.proofs.PostedWrites.WriteParts.{IsWritePart}
 use Rattle.pmem_engine.proofs.PostedWrites.WriteSteps.{most_then, fewer_then, steps_most, fewer_most, more_most, more_fewer}
 use Rattle.pmem_engine.proofs.PostedWrites.WriteCuts.{cut_past}
 use Rattle.pmem_engine.proofs.PostedWrites.WriteExits.{some_after}
-use Rattle.pmem_engine.proofs.PostedWrites.WriteWorks.{named_work, work_before, IsWorkBefore}
+use Rattle.pmem_engine.proofs.PostedWrites.WriteWorks.{named_work, work_before, IsWriteWorkBefore}
 
 module _ (setup : Setup) (write : Posted) (within : write.at < layout.data_lines setup.shape) (old p5 new : Parts) (plain : Line)
     (before : List Mark) (part5 : IsWritePart setup write.at going before old p5) (wanted : Memory → List Mark) (most : Memory → ℕ)
@@ -57,7 +57,7 @@ module _ (setup : Setup) (write : Posted) (within : write.at < layout.data_lines
     (few_before : length before ≤ 65) (minors_before : AreUnderMinorZero before)
     (names5 : HasNamedAll setup.shape (page_of write.at) old p5)
     (most5 : TakesAtMost (2 * path_length setup.shape + 259) old.device p5.device)
-    (work5 : IsWorkBefore setup write before old p5)
+    (work5 : IsWriteWorkBefore setup write before old p5)
     (answer : Result Ctr Fault) (it : HasSealedNext setup write.at plain p5 new answer) where
   abbrev page : ℕ
   page = page_of write.at

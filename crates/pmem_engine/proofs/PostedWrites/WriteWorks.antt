@@ -40,7 +40,7 @@ abbrev pub work_before : Shape → Posted → List Mark → Parts → Banks → 
 work_before g write before old fetched =
     then_work (named_work g write (seal_count before) old fetched) (begin_work g (begin_count before))
 
-pub record IsWorkBefore (setup : Setup) (write : Posted) (before : List Mark) (old new : Parts) : Type 0 where
+pub record IsWriteWorkBefore (setup : Setup) (write : Posted) (before : List Mark) (old new : Parts) : Type 0 where
   pub fetched : Banks
   pub path_fetched : IsPathFetchedInto setup.shape (page_of write.at) old fetched
   pub kept : KeepsButPath setup.shape (page_of write.at) fetched new.engine.cache
@@ -116,7 +116,7 @@ module _ (setup : Setup) (write : Posted) (old p1 p2 p3 p4 p5 : Parts) (plain : 
       ap₂ (λ sealed begun. then_work (named_work g write sealed old banks) (begin_work g begun)) (sym seals_before)
       (omega (arith, seals_before, marks_before))
 
-  pub worked_before : IsWorkBefore setup write before old p5
+  pub worked_before : IsWriteWorkBefore setup write before old p5
   worked_before =
       record {
         fetched = banks;

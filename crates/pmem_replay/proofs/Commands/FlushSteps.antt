@@ -27,7 +27,7 @@ use Rattle.pmem_replay.proofs.Commands.FlushLaws as laws
 use Rattle.pmem_replay.proofs.Steps.DeviceEvidence.{small_position}
 use Rattle.pmem_replay.proofs.Table.UnchangedSteps.{lit_in}
 use Rattle.pmem_replay.proofs.Steps.CallSurroundings.{state_going, state_cut, few_steps}
-use Rattle.pmem_replay.proofs.Steps.PartsOfWorld.{Ends}
+use Rattle.pmem_replay.proofs.Steps.PartsOfWorld.{EndsCall}
 use Rattle.pmem_replay.proofs.Steps.EngineCalls.{EngineCall, setup_at, first_world, old_world, parts_left, on_before, its_banks, call_to, was_called, returned}
 
 -- what a flush leaves: it makes no mark, and needs no room for one
@@ -46,7 +46,7 @@ module _ (s : EngineCall) where
   Has answer = HasFlushed setup (parts_in old s.engine none_taken) (parts_in (world_of setup (flagged s.parts.dirtying)) s.after s.taken) answer
 
   abbrev Ended : Answer → WorldParts → Type 0
-  Ended answer q = Ends s.formulas_of s.geometry s.now Do.Flush (without_marks answer) q
+  Ended answer q = EndsCall s.formulas_of s.geometry s.now Do.Flush (without_marks answer) q
 
   on_now : IsOn setup old s.engine
   on_now = on_before s

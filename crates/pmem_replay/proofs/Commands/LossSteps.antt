@@ -23,7 +23,7 @@ use Rattle.pmem_replay.proofs.Steps.MarklessCalls.{cut_state}
 use Rattle.pmem_replay.proofs.Commands.LossLaws as laws
 use Rattle.pmem_replay.proofs.Table.UnchangedSteps.{lit_in}
 use Rattle.pmem_replay.proofs.Steps.CallSurroundings.{state_called, state_cut, few_steps}
-use Rattle.pmem_replay.proofs.Steps.PartsOfWorld.{Ends}
+use Rattle.pmem_replay.proofs.Steps.PartsOfWorld.{EndsCall}
 use Rattle.pmem_replay.proofs.Steps.EngineCalls.{EngineCall, setup_at, first_world, old_world, parts_left, on_before, its_banks, call_to, was_called, returned}
 
 module _ (s : EngineCall) (n : ℕ) (some : IsTrue (is_loss n)) (other : n ≢ s.parts.board.regs.loss) where
@@ -40,7 +40,7 @@ module _ (s : EngineCall) (n : ℕ) (some : IsTrue (is_loss n)) (other : n ≢ s
   Has answer = HasSetLoss setup n (parts_in old s.engine none_taken) (parts_in on_new s.after s.taken) answer
 
   abbrev Ended : Answer → WorldParts → Type 0
-  Ended answer q = Ends s.formulas_of s.geometry s.now (Do.Loss n) (without_marks answer) q
+  Ended answer q = EndsCall s.formulas_of s.geometry s.now (Do.Loss n) (without_marks answer) q
 
   on_now : IsOn setup old s.engine
   on_now = on_before s

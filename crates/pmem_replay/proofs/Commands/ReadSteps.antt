@@ -39,7 +39,7 @@ use Rattle.pmem_replay.proofs.Steps.MarklessCalls.{counted_state, cut_state, qui
 use Rattle.pmem_replay.proofs.Commands.ReadLaws as laws
 use Rattle.pmem_replay.proofs.Table.UnchangedSteps.{lit_in}
 use Rattle.pmem_replay.proofs.Steps.CallSurroundings.{state_going, state_cut, few_steps}
-use Rattle.pmem_replay.proofs.Steps.PartsOfWorld.{Ends}
+use Rattle.pmem_replay.proofs.Steps.PartsOfWorld.{EndsCall}
 use Rattle.pmem_replay.proofs.Steps.EngineCalls.{EngineCall, setup_at, first_world, old_world, parts_left, on_before, its_banks, call_to, was_called, returned}
 
 -- what a read of data line `at` through a port leaves
@@ -59,7 +59,7 @@ module _ (s : EngineCall) (port at : ℕ) (within : at < layout.data_lines s.geo
   Has answer = HasReadLine setup at (parts_in old s.engine none_taken) (parts_in on_new s.after s.taken) answer
 
   abbrev Ended : Answer → WorldParts → Type 0
-  Ended answer q = Ends s.formulas_of s.geometry s.now (Do.Read port at) (without_marks answer) q
+  Ended answer q = EndsCall s.formulas_of s.geometry s.now (Do.Read port at) (without_marks answer) q
 
   on_now : IsOn setup old s.engine
   on_now = on_before s

@@ -34,7 +34,7 @@ use Rattle.pmem_replay.proofs.Steps.DeviceEvidence.{tag_wrong, small_line, forge
 use Rattle.pmem_replay.proofs.Table.UnchangedSteps.{lit_in}
 use Rattle.pmem_replay.proofs.Steps.CallSurroundings.{state_called, state_cut_with, few_steps}
 use Rattle.plain_model.proofs.PlainMemory.{memory_is}
-use Rattle.pmem_replay.proofs.Steps.PartsOfWorld.{Ends}
+use Rattle.pmem_replay.proofs.Steps.PartsOfWorld.{EndsCall}
 use Rattle.pmem_replay.proofs.Steps.EngineCalls.{EngineCall, setup_at, first_world, old_world, parts_left, on_before, its_banks, call_to, was_called, returned}
 
 -- what a turn leaves
@@ -52,7 +52,7 @@ module _ (s : EngineCall) where
   Has answer = HasTurned setup (parts_in old s.engine none_taken) (parts_in on_new s.after s.taken) answer
 
   abbrev Ended : List Mark → Answer → WorldParts → Type 0
-  Ended marks answer q = Ends s.formulas_of s.geometry s.now Do.Turn (record { marks = marks; answer = answer }) q
+  Ended marks answer q = EndsCall s.formulas_of s.geometry s.now Do.Turn (record { marks = marks; answer = answer }) q
 
   on_now : IsOn setup old s.engine
   on_now = on_before s

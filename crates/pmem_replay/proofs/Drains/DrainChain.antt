@@ -113,7 +113,7 @@ pub drained_none : (setup : Setup) (old : WorldState) (port : ℕ) → IsWorld s
 drained_none setup old port world = search (rules, arith, append-nil, zero_within, fuse_none)
 
 -- what is known of the write that comes next
-pub record IsNext (setup : Setup) (old mid : WorldState) (port n : ℕ) (made : List Mark) (write : Posted) : Type 0 where
+pub record IsNextDrain (setup : Setup) (old mid : WorldState) (port n : ℕ) (made : List Mark) (write : Posted) : Type 0 where
   pub its_place : slice_get (queue_of old.state.queues port) n ≡ Some write
   pub moment :
       moment_after_writes setup.formulas (moment_of old.state (view_in setup old)) (take n (queue_of old.state.queues port))
@@ -152,7 +152,7 @@ module _ (setup : Setup) (old mid : WorldState) (port n : ℕ) (made : List Mark
       ∙ ap (view_of setup.shape) (sym drained.marks) in
       ap₂ (λ (m : List Line) (v : DeviceView). record { memory = m; view = v }) memory view
 
-  pub next-known : IsNext setup old mid port n made write
+  pub next-known : IsNextDrain setup old mid port n made write
   next-known = search (rules, its_queue, next-moment, next-place)
 
   -- the marks of one more

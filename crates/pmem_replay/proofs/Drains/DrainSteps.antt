@@ -53,7 +53,7 @@ use Rattle.pmem_replay.proofs.Steps.DeviceEvidence.{meta_wrong, tag_wrong, small
 use Rattle.pmem_replay.proofs.Steps.WorldSteps.{stepped_by_engine}
 use Rattle.pmem_replay.proofs.Table.UnchangedSteps.{IsGoingOn, lit_in}
 use Rattle.pmem_replay.proofs.Drains.WriteLaws.{shown-good, path-steps, meta-good, tag-good, spent-good, spent-steps, lost-good, kept-good, cut-bound, cut-dirty, lost-unsealed, kept-sealed}
-use Rattle.pmem_replay.proofs.Drains.WriteReplies.{IsWriting, drain_is_writing, after_refused, after_spent, after_lost, after_kept}
+use Rattle.pmem_replay.proofs.Drains.WriteReplies.{IsReplayWriting, drain_is_writing, after_refused, after_spent, after_lost, after_kept}
 use Rattle.pmem_replay.proofs.Drains.WriteWorlds.{front_on_memory}
 
 some_long : (write : Posted) (later : List Posted) → (length (write ∷ later) == 0) ≡ false
@@ -88,7 +88,7 @@ module _ (setup : Setup) (old new : WorldState) (ledger : LedgerState) (room : H
   drained : IsDrainedTo setup mid mid port 0 [] 0
   drained = drained_none setup mid port whole
 
-  writing : IsWriting setup mid (Do.Drain port) None port 0
+  writing : IsReplayWriting setup mid (Do.Drain port) None port 0
   writing = drain_is_writing setup mid port
 
   good_mid : (reply : Reply) → IsGood setup mid (Do.Drain port) reply → IsGood setup old (Do.Drain port) reply

@@ -44,7 +44,7 @@ use Rattle.pmem_replay.proofs.Marks.SealedLines.{same_truth}
 use Rattle.pmem_replay.proofs.Steps.DeviceEvidence.{meta_wrong, tag_wrong, small_position, small_line, clash_sight, forged_sight_by, seal_counter}
 use Rattle.pmem_replay.proofs.Steps.WorldSteps.{stepped_by_engine}
 use Rattle.pmem_replay.proofs.Drains.WriteLaws.{shown-good, path-bound, meta-good, tag-good, spent-good, spent-bound, lost-good, kept-good, cut-bound, lost-unsealed, kept-sealed}
-use Rattle.pmem_replay.proofs.Drains.WriteReplies.{IsWriting, fence_is_writing, after_refused, after_spent, after_lost, after_kept}
+use Rattle.pmem_replay.proofs.Drains.WriteReplies.{IsReplayWriting, fence_is_writing, after_refused, after_spent, after_lost, after_kept}
 use Rattle.pmem_replay.proofs.Drains.WriteWorlds.{front_on_memory}
 
 -- so many writes of the port were drained by a fence, and more wait; with a fence of those from now on
@@ -70,7 +70,7 @@ module _ (setup : Setup) (mid now new : WorldState) (port : ℕ) (small : port <
   whole : IsWorld setup now
   whole = drained.world
 
-  writing : IsWriting setup mid (Do.Fence port) (Some n) port n
+  writing : IsReplayWriting setup mid (Do.Fence port) (Some n) port n
   writing = fence_is_writing setup mid port n
 
   module _ (answer : Result Ctr Fault) (given : WasGiven setup now port answer new) where

@@ -27,7 +27,7 @@ use Rattle.pmem_replay.proofs.Marks.OpenPages.{IsWholePage}
 use Rattle.pmem_replay.proofs.Marks.AskedMarks.{asked_form}
 use Rattle.plain_model.proofs.WriteMarks.{writing_bound-append, marks_of_writes-more}
 use Rattle.pmem_replay.proofs.Drains.DrainLists.{take-next}
-use Rattle.pmem_replay.proofs.Drains.DrainChain.{IsDrainedTo, IsNext}
+use Rattle.pmem_replay.proofs.Drains.DrainChain.{IsDrainedTo, IsNextDrain}
 
 -- ---- the steps of a refused write
 
@@ -74,7 +74,7 @@ bound_is g n made (Some more) = refl
 
 -- what the first writes ask, with the next one
 pub first_next : (setup : Setup) (old mid : WorldState) (port n : ℕ) (made : List Mark) (spent : ℕ) (write : Posted)
-    → IsDrainedTo setup old mid port n made spent → IsNext setup old mid port n made write
+    → IsDrainedTo setup old mid port n made spent → IsNextDrain setup old mid port n made write
     → marks_of_first setup old.state (view_in setup old) port (n + 1)
     ≡ option_map (λ more. made ++ more) (marks_of_write setup.formulas (moment_of mid.state (view_in setup mid)) write)
 first_next setup old mid port n made spent write drained next =
@@ -84,7 +84,7 @@ first_next setup old mid port n made spent write drained next =
     ∙ ap (λ moment. option_map (λ more. made ++ more) (marks_of_write setup.formulas moment write)) next.moment
 
 pub bound_at : (setup : Setup) (old mid : WorldState) (port n : ℕ) (made : List Mark) (spent : ℕ) (write : Posted)
-    → IsDrainedTo setup old mid port n made spent → IsNext setup old mid port n made write
+    → IsDrainedTo setup old mid port n made spent → IsNextDrain setup old mid port n made write
     → (it : Option (List Mark)) → marks_of_write setup.formulas (moment_of mid.state (view_in setup mid)) write ≡ it
     → cut_bound setup old.state (view_in setup old) port n ≡ bound_by setup.shape n made it
 bound_at setup old mid port n made spent write drained next it there =
@@ -102,7 +102,7 @@ refused_bound g n made more spent steps before few = omega (arith, few, before, 
 
 -- so are those of any refusal, also where the write is spent
 pub refusal_within : (setup : Setup) (old mid : WorldState) (port n : ℕ) (made : List Mark) (spent : ℕ) (write : Posted)
-    → IsDrainedTo setup old mid port n made spent → IsNext setup old mid port n made write
+    → IsDrainedTo setup old mid port n made spent → IsNextDrain setup old mid port n made write
     → (d : Option ℕ) → unwrap_or d 0 ≡ n → (all : List Mark) (steps : ℕ)
     → (marks_of_write setup.formulas (moment_of mid.state (view_in setup mid)) write ≡ None → IsSpentWithin setup.shape old.state d all steps)
     → steps ≤ writing_bound setup.shape (n + 1) all → IsRefusedWriteWithin setup old.state (view_in setup old) port d all steps

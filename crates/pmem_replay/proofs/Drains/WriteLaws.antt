@@ -51,13 +51,13 @@ use Rattle.pmem_replay.proofs.Marks.AskedMarks.{asked_form, asked_seals, asked_f
 use Rattle.plain_model.proofs.WriteMarks.{writing_bound-append}
 use Rattle.pmem_replay.proofs.Drains.DrainLists.{writing_bound-few}
 use Rattle.pmem_replay.proofs.Drains.WriteWorlds.{front_on_memory}
-use Rattle.pmem_replay.proofs.Drains.DrainChain.{IsDrainedTo, IsNext, next-known, next-short, can-more, marks-more, fuse_more, fuse_cut, drains_fuse}
-use Rattle.pmem_replay.proofs.Drains.WriteReplies.{IsWriting, part_none, stopped, place_refused, meta_refused, refused_part}
+use Rattle.pmem_replay.proofs.Drains.DrainChain.{IsDrainedTo, IsNextDrain, next-known, next-short, can-more, marks-more, fuse_more, fuse_cut, drains_fuse}
+use Rattle.pmem_replay.proofs.Drains.WriteReplies.{IsReplayWriting, part_none, stopped, place_refused, meta_refused, refused_part}
 use Rattle.pmem_replay.proofs.Steps.GoodReplies.{IsGood}
 use Rattle.pmem_replay.proofs.Drains.WriteBounds.{takes_meta, takes_tag, some_asked, view_both, refused_bound, refusal_within, none_within, bound_by, first_next, bound_at, CanBeRefusedIn, next_count}
 
 module _ (setup : Setup) (old mid new : WorldState) (command : Command) (d : Option ℕ) (port n : ℕ) (made : List Mark) (spent : ℕ)
-    (writing : IsWriting setup old command d port n) (drained : IsDrainedTo setup old mid port n made spent) (world : IsWorld setup old)
+    (writing : IsReplayWriting setup old command d port n) (drained : IsDrainedTo setup old mid port n made spent) (world : IsWorld setup old)
     (small : port < 8) (write : Posted) (later : List Posted) (waits : queue_of mid.state.queues port ≡ write ∷ later)
     (engine after : EngineState) (taken : Taken) (call : IsCall setup mid new engine after taken) where
   on_mid : IsOn setup mid engine
@@ -75,7 +75,7 @@ module _ (setup : Setup) (old mid new : WorldState) (command : Command) (d : Opt
   abbrev x_state : PlainState
   x_state = after_drains old.state port n
 
-  next : IsNext setup old mid port n made write
+  next : IsNextDrain setup old mid port n made write
   next = next-known setup old mid port n made spent drained world small write later waits
 
   within : write.at < layout.data_lines setup.shape

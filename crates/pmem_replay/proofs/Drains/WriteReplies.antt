@@ -35,7 +35,7 @@ use Rattle.pmem_replay.proofs.Drains.DrainLists.{drains_more}
 -- ---- a command that gives waiting writes to the engine
 
 -- a drain, before which nothing was drained, or a fence after n drained writes
-pub record IsWriting (setup : Setup) (old : WorldState) (command : Command) (drained : Option ℕ) (port n : ℕ) : Type 0 where
+pub record IsReplayWriting (setup : Setup) (old : WorldState) (command : Command) (drained : Option ℕ) (port n : ℕ) : Type 0 where
   pub count : unwrap_or drained 0 ≡ n
   pub its_port : port_drained command ≡ port
   pub turn : state_at_turn old.state command n ≡ after_drains old.state port n
@@ -56,10 +56,10 @@ pub record IsWriting (setup : Setup) (old : WorldState) (command : Command) (dra
   pub can_lose : (steps : ℕ) → IsTrue (is_engine_answer command (Say.CutLost drained steps))
   pub can_show : (exhibit : Exhibit) → IsTrue (is_engine_answer command (Say.Shown exhibit))
 
-pub drain_is_writing : (setup : Setup) (old : WorldState) (port : ℕ) → IsWriting setup old (Do.Drain port) None port 0
+pub drain_is_writing : (setup : Setup) (old : WorldState) (port : ℕ) → IsReplayWriting setup old (Do.Drain port) None port 0
 drain_is_writing setup old port = search rules
 
-pub fence_is_writing : (setup : Setup) (old : WorldState) (port n : ℕ) → IsWriting setup old (Do.Fence port) (Some n) port n
+pub fence_is_writing : (setup : Setup) (old : WorldState) (port n : ℕ) → IsReplayWriting setup old (Do.Fence port) (Some n) port n
 fence_is_writing setup old port n = search rules
 
 -- ---- marks of a write that isn't done
@@ -151,7 +151,7 @@ drains_flushed state port (suc n) = drains_flushed (after_drain state port) port
     one (write ∷ later) = refl
 
 module _ (setup : Setup) (old mid : WorldState) (command : Command) (d : Option ℕ) (port n : ℕ) (made more : List Mark) (spent taken : ℕ)
-    (writing : IsWriting setup old command d port n) (drained : IsDrainedTo setup old mid port n made spent)
+    (writing : IsReplayWriting setup old command d port n) (drained : IsDrainedTo setup old mid port n made spent)
     (write : Posted) (later : List Posted) (waits : queue_of mid.state.queues port ≡ write ∷ later) where
   abbrev x_state : PlainState
   x_state = after_drains old.state port n

@@ -47,7 +47,7 @@ use Rattle.pmem_replay.proofs.Steps.MarklessCalls.{counted_state, cut_state}
 use Rattle.pmem_replay.proofs.Power.OnLaws.{IsOnCall, lit, one_latch, off_in, recovered_state, cut_on_state, recovered-good, recovered-world, cut-good, cut-world}
 use Rattle.pmem_replay.proofs.Power.RefusedRecoveries.{tried_within, redone_same, counter-good, counter-world, root-good, root-world, twin-good}
 use Rattle.pmem_replay.proofs.Steps.DeviceEvidence.{small_line}
-use Rattle.pmem_replay.proofs.Steps.PartsOfWorld.{Ends, ends, numbered, setup_in}
+use Rattle.pmem_replay.proofs.Steps.PartsOfWorld.{EndsCall, ends, numbered, setup_in}
 use Rattle.pmem_replay.proofs.Steps.WorldSteps.{stepped_by_engine}
 use Rattle.pmem_replay.proofs.Table.UnchangedSteps.{dark_in}
 use Rattle.pmem_replay.proofs.Steps.CallSurroundings.{called}
@@ -158,7 +158,7 @@ module _ (s : RecoveryCall) where
 
   -- the answer as the program has it, with the engine in its place
   abbrev Ended : Answer → WorldParts → Type 0
-  Ended answer q = Ends s.formulas_of s.geometry s.now Do.On (without_marks answer) q
+  Ended answer q = EndsCall s.formulas_of s.geometry s.now Do.On (without_marks answer) q
 
   ended : (say : ℕ → Answer) (to : Option EngineState → BoardMemory → WorldParts) (engine : Option EngineState) (left board : BoardMemory)
       → (to s.engine left).keys ≡ s.keys → s.engine ≡ engine → left ≡ board

@@ -26,7 +26,7 @@ use Rattle.pmem_replay.specs.During.{parts_in}
 use Rattle.pmem_replay.specs.Stepped.{HasCalled, IsCommandDone, IsSeenOnDevice}
 use Rattle.pmem_replay.proofs.Steps.WorldsAfterCalls.{on_in, IsCall, cut_counted, uncut_counted}
 use Rattle.pmem_replay.proofs.Steps.GoodReplies.{IsGood}
-use Rattle.pmem_replay.proofs.Steps.PartsOfWorld.{Ends, ends, numbered, setup_in}
+use Rattle.pmem_replay.proofs.Steps.PartsOfWorld.{EndsCall, ends, numbered, setup_in}
 use Rattle.pmem_replay.proofs.Steps.ReservedRoom.{good_before}
 use Rattle.pmem_replay.proofs.Steps.CallSurroundings.{called, IsServed, call_of}
 use Rattle.pmem_replay.proofs.Steps.WorldSteps.{stepped_by_engine}
@@ -106,7 +106,7 @@ module _ (s : EngineCall) where
       → (is_shown (say (steps_in s.taken)) ≡ false → IsWorld setup_at (world_of setup_at q))
       → IsCommandDone setup_at first_world command (say (steps_in s.taken)) (world_of setup_at q)
       → IsSeenOnDevice setup_at first_world command (say (steps_in s.taken)) (world_of setup_at q)
-      → Ends s.formulas_of s.geometry s.now command (record { marks = marks; answer = say s.said }) q
+      → EndsCall s.formulas_of s.geometry s.now command (record { marks = marks; answer = say s.said }) q
   returned command marks say q keys start shown made undecided good in_range state world worked seen =
       let reply : Reply = record { marks = marks; answer = say (steps_in s.taken) } in
       ends s.formulas_of s.geometry (record (s.parts) { ledger = s.before }) q s.now command (record { marks = marks; answer = say s.said }) s.is

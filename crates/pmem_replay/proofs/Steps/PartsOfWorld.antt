@@ -138,7 +138,7 @@ from_no_error (Ok value) fine holds = holds
 from_no_error (Err error) fine holds = absurd (fine refl)
 
 -- what a command owes as it returns: the world that it leaves, and its step
-pub record Ends (formulas_of : List ℕ → Formulas) (g : Shape) (now : WorldState) (command : Command) (reply : Reply) (q : WorldParts) : Type 0 where
+pub record EndsCall (formulas_of : List ℕ → Formulas) (g : Shape) (now : WorldState) (command : Command) (reply : Reply) (q : WorldParts) : Type 0 where
   pub holds : q.shown ≡ false → IsWorld (setup_in formulas_of g q) (world_of (setup_in formulas_of g q) q)
   pub stepped : HasStepped (setup_of_world formulas_of now) now command reply (world_of (setup_in formulas_of g q) q)
 
@@ -146,7 +146,7 @@ pub record Ends (formulas_of : List ℕ → Formulas) (g : Shape) (now : WorldSt
 pub ends : (formulas_of : List ℕ → Formulas) (g : Shape) (p q : WorldParts) (now : WorldState) (command : Command) (reply : Reply)
     → world_of (setup_in formulas_of g p) p ≡ now → q.keys ≡ p.keys
     → HasStepped (setup_in formulas_of g p) (world_of (setup_in formulas_of g p) p) command reply (world_of (setup_in formulas_of g p) q)
-    → Ends formulas_of g now command reply q
+    → EndsCall formulas_of g now command reply q
 ends formulas_of g p q now command reply is same step =
     let its = rekeyed formulas_of g p q command reply same step in
     record {

@@ -10,7 +10,7 @@ use Rattle.meta_path.specs.Levels.{HasParent, IsLevelFetched, IsLevelFault}
 use Rattle.meta_path.specs.Fetching.{IsFetchedTo}
 use Rattle.meta_path.proofs.FetchLemmas.{HasParent-at, IsPathCached-fetched}
 use Rattle.meta_path.proofs.PathFacts.{position_is, all_levels}
-use Rattle.meta_path.proofs.RunLaws.{IsRun, IsEnded, banks_of_run, keeps_of_run, fetched_next, fault_of_end, keeps_of_end, cause_of_end, dirty_of_end, undisturbed_of_end, truth_of_end, IsUndisturbed-cached, fault_handed_on, same_fault}
+use Rattle.meta_path.proofs.RunLaws.{IsRun, IsRunEnded, banks_of_run, keeps_of_run, fetched_next, fault_of_end, keeps_of_end, cause_of_end, dirty_of_end, undisturbed_of_end, truth_of_end, IsUndisturbed-cached, fault_handed_on, same_fault}
 use Rattle.meta_path.proofs.fetching.fetch_path.Given.{Over}
 use Rattle.meta_path.proofs.fetching.fetch_path.Goals.{After-fetch_level-arg-in-levels-3-1}
 use Rattle.meta_path.proofs.fetching.fetch_path.Goals as goal
@@ -50,7 +50,7 @@ fetch_level-requires-clause-parent g c =
 -- ---- an end at a level
 
 module _ (g : Over) (c : goal.After-from_residual g) where
-  end_here : IsEnded (shape_of c.args.geo.now) (formulas g c.args.suite.now) c.args.page c.levels.bank
+  end_here : IsRunEnded (shape_of c.args.geo.now) (formulas g c.args.suite.now) c.args.page c.levels.bank
       (at g c.args.cache.now c.args.board.now c.args.suite.now) (at g c.levels.cache c.levels.board c.levels.suite)
       (at g c.fetch_level.new.cache c.fetch_level.new.board c.fetch_level.new.suite)
       (g.A.Audit.ledger c.args.audit.now) (g.A.Audit.ledger c.levels.audit) (g.A.Audit.ledger c.fetch_level.new.audit)

@@ -10,7 +10,7 @@ use Rattle.pmem_recovery.specs.declared.faults.RecFault.TheVariants.{Memory, Cut
 use Rattle.pmem_recovery.specs.Parts.{setup_of, SuiteState, suite_state}
 use Rattle.pmem_recovery.specs.Recovered.{Answer, HasRecovered}
 use Rattle.pmem_recovery.proofs.PartLaws.{IsShape-geo}
-use Rattle.pmem_recovery.proofs.RecoverLaws.{IsRun, recovered_memory, recovered_interrupted, recovered_fault, recovered_ok}
+use Rattle.pmem_recovery.proofs.RecoverLaws.{IsRecoveryRun, recovered_memory, recovered_interrupted, recovered_fault, recovered_ok}
 use Rattle.pmem_recovery.proofs.recovery.recover.Given.{Over}
 use Rattle.pmem_recovery.proofs.recovery.recover.Goals.{After-mend}
 use Rattle.pmem_recovery.proofs.recovery.recover.Goals as goal
@@ -41,7 +41,7 @@ module _ (g : Over) (c : After-mend g) where
   abbrev setup : Setup
   setup = setup_of c.args.geo.now (g.S.Suite.formulas_of (g.S.Suite.keys c.args.suite.now))
 
-  run : IsRun setup (g.B.Board.device c.args.board.now) (g.B.Board.device c.finish.new.board) (g.B.Board.device c.mend.new.board)
+  run : IsRecoveryRun setup (g.B.Board.device c.args.board.now) (g.B.Board.device c.finish.new.board) (g.B.Board.device c.mend.new.board)
   run =
       record {
         size = c.requires.size;

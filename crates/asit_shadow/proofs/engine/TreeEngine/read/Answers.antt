@@ -9,7 +9,7 @@ use Rattle.asit_shadow.specs.State.{TreeState}
 use Rattle.asit_shadow.specs.Parts.{TreeEngineParts, tree_parts_of}
 use Rattle.asit_shadow.specs.Calls.{outcome_of_tree_fault}
 use Rattle.asit_shadow.proofs.CallCounts.{read_counts-ended}
-use Rattle.asit_shadow.proofs.CallEnds.{HasEnded, answers-up, read-ended}
+use Rattle.asit_shadow.proofs.CallEnds.{HasTreeEnded, answers-up, read-ended}
 use Rattle.asit_shadow.proofs.engine.TreeEngine.read.Given.{Over}
 use Rattle.asit_shadow.proofs.engine.TreeEngine.read.Goals as goal
 
@@ -21,7 +21,7 @@ under g engine suite = record { shape = engine.shape; formulas = g.S.Suite.formu
 
 pub returns-in-Err-clause-read : goal.returns-in-Err-clause-read
 returns-in-Err-clause-read g c =
-    let ended : HasEnded c.in-Err.fault c.read_line.new.self c.end.new.self =
+    let ended : HasTreeEnded c.in-Err.fault c.read_line.new.self c.end.new.self =
     record { shape = c.end.ensures.shape; cache = c.end.ensures.cache; tree = c.end.ensures.tree; down = c.end.ensures.down } in
     record {
       down =
@@ -36,7 +36,7 @@ returns-in-Err-clause-read g c =
 
 pub returns-in-Err-clause-counts : goal.returns-in-Err-clause-counts
 returns-in-Err-clause-counts g c =
-    let ended : HasEnded c.in-Err.fault c.read_line.new.self c.end.new.self =
+    let ended : HasTreeEnded c.in-Err.fault c.read_line.new.self c.end.new.self =
     record { shape = c.end.ensures.shape; cache = c.end.ensures.cache; tree = c.end.ensures.tree; down = c.end.ensures.down } in
     read_counts-ended (under g c.args.self.now c.args.suite.now) c.args.at (at g c.args.self.now c.args.board.now c.args.watch.now)
     (at g c.read_line.new.self c.read_line.new.board c.read_line.new.watch) c.end.new.self

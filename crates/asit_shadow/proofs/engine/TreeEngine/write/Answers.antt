@@ -9,7 +9,7 @@ use Rattle.asit_shadow.specs.State.{TreeState}
 use Rattle.asit_shadow.specs.Parts.{TreeEngineParts, tree_parts_of}
 use Rattle.asit_shadow.specs.Calls.{outcome_of_tree_fault}
 use Rattle.asit_shadow.proofs.CallCounts.{write_counts-ended}
-use Rattle.asit_shadow.proofs.CallEnds.{HasEnded, answers-up}
+use Rattle.asit_shadow.proofs.CallEnds.{HasTreeEnded, answers-up}
 use Rattle.asit_shadow.proofs.WriteCalls.{written-up, write-ended}
 use Rattle.asit_shadow.proofs.engine.TreeEngine.write.Given.{Over}
 use Rattle.asit_shadow.proofs.engine.TreeEngine.write.Goals as goal
@@ -22,7 +22,7 @@ under g engine suite = record { shape = engine.shape; formulas = g.S.Suite.formu
 
 pub returns-in-Err-clause-written : goal.returns-in-Err-clause-written
 returns-in-Err-clause-written g c =
-    let ended : HasEnded c.in-Err.fault c.write_line.new.self c.end.new.self =
+    let ended : HasTreeEnded c.in-Err.fault c.write_line.new.self c.end.new.self =
     record { shape = c.end.ensures.shape; cache = c.end.ensures.cache; tree = c.end.ensures.tree; down = c.end.ensures.down } in
     let it = written-up (under g c.args.self.now c.args.suite.now) c.args.at c.args.line.now (at g c.args.self.now c.args.board.now c.args.watch.now)
     (at g c.write_line.new.self c.write_line.new.board c.write_line.new.watch) (Err c.in-Err.fault) c.in-Err.ensures.written c.in-Err.ensures.spent in
@@ -39,7 +39,7 @@ returns-in-Err-clause-written g c =
 
 pub returns-in-Err-clause-counts : goal.returns-in-Err-clause-counts
 returns-in-Err-clause-counts g c =
-    let ended : HasEnded c.in-Err.fault c.write_line.new.self c.end.new.self =
+    let ended : HasTreeEnded c.in-Err.fault c.write_line.new.self c.end.new.self =
     record { shape = c.end.ensures.shape; cache = c.end.ensures.cache; tree = c.end.ensures.tree; down = c.end.ensures.down } in
     write_counts-ended (under g c.args.self.now c.args.suite.now) c.args.at (at g c.args.self.now c.args.board.now c.args.watch.now)
     (at g c.write_line.new.self c.write_line.new.board c.write_line.new.watch) c.end.new.self

@@ -4,12 +4,12 @@ use Rattle.std.specs.Prelude.{replicate}
 use Rattle.pmem_base.specs.Geo.{shape_of}
 use Rattle.board.specs.MemBoard.{memory_of}
 use Rattle.counter_tree.specs.BookView.{watch_of}
-use Rattle.tree_session.proofs.NewCalls.{NewCall, held, is_new}
+use Rattle.tree_session.proofs.NewCalls.{NewTreeCall, held, is_new}
 use Rattle.tree_session.proofs.world.TreeWorld.new.Goals as goal
 
 pub invariant_of-result : goal.invariant_of-result
 invariant_of-result g c =
-    let n : NewCall =
+    let n : NewTreeCall =
     record {
       formulas_of = g.S.Suite.formulas_of;
       geometry = shape_of c.args.geo;
@@ -41,7 +41,7 @@ invariant_of-result g c =
 
 pub returns-clause-new : goal.returns-clause-new
 returns-clause-new g c =
-    let n : NewCall =
+    let n : NewTreeCall =
     record {
       formulas_of = g.S.Suite.formulas_of;
       geometry = shape_of c.args.geo;

@@ -6,14 +6,14 @@ use Rattle.counter_tree.specs.BookView.{watch_of}
 use Rattle.tree_session.specs.declared.commands.TreeCommand.TheVariants as Do
 use Rattle.tree_session.specs.declared.answers.TreeAnswer.TheVariants as Say
 use Rattle.tree_session.proofs.Decided.{QuietCall, found_none, found_some, already, as_now}
-use Rattle.tree_session.proofs.OnCalls.{OnCall, on_held, on_seen, cut_kept, cut_seen, shadow_kept, shadow_seen, shown_kept, shown_seen}
+use Rattle.tree_session.proofs.OnCalls.{OnTreeCall, on_held, on_seen, cut_kept, cut_seen, shadow_kept, shadow_seen, shown_kept, shown_seen}
 use Rattle.tree_session.proofs.world.TreeWorld.on.Given.{Over}
 use Rattle.tree_session.proofs.world.TreeWorld.on.Goals.{After-steps-steps}
 use Rattle.tree_session.proofs.world.TreeWorld.on.Goals as goal
 
 -- once recovery has answered
 module _ (g : Over) (c : After-steps-steps g) where
-  abbrev call : OnCall
+  abbrev call : OnTreeCall
   call =
       record {
         formulas_of = g.S.Suite.formulas_of;

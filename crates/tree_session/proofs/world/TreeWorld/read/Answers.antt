@@ -5,7 +5,7 @@ use Rattle.board.specs.MemBoard.{memory_of}
 use Rattle.counter_tree.specs.BookView.{watch_of}
 use Rattle.tree_session.proofs.Seen.{WorldCall}
 use Rattle.tree_session.proofs.Decided.{QuietCall, read_off, read_past}
-use Rattle.tree_session.proofs.ReadCalls.{ReadCall, got_held, got_seen, node_kept, node_seen, tag_kept, tag_seen, cut_kept, cut_seen, shown_kept, shown_seen}
+use Rattle.tree_session.proofs.ReadCalls.{ReadTreeCall, got_held, got_seen, node_kept, node_seen, tag_kept, tag_seen, cut_kept, cut_seen, shown_kept, shown_seen}
 use Rattle.tree_session.proofs.world.TreeWorld.read.Given.{Over}
 use Rattle.tree_session.proofs.world.TreeWorld.read.Goals.{After-steps-steps}
 use Rattle.tree_session.proofs.world.TreeWorld.read.Goals as goal
@@ -43,7 +43,7 @@ module _ (g : Over) (c : After-steps-steps g) where
         counted = c.steps-steps.ensures;
       }
 
-  abbrev call : ReadCall
+  abbrev call : ReadTreeCall
   call =
       record {
         world = its;

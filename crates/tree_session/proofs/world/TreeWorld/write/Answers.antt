@@ -5,7 +5,7 @@ use Rattle.board.specs.MemBoard.{memory_of}
 use Rattle.counter_tree.specs.BookView.{watch_of}
 use Rattle.tree_session.proofs.Seen.{WorldCall}
 use Rattle.tree_session.proofs.Decided.{QuietCall, write_off, write_past}
-use Rattle.tree_session.proofs.WriteCalls.{WriteCall, made_held, made_seen, node_kept, node_seen, spent_kept, spent_seen, lost_kept, lost_seen, cut_kept, cut_seen, shown_kept, shown_seen}
+use Rattle.tree_session.proofs.WriteCalls.{WriteTreeCall, made_held, made_seen, node_kept, node_seen, spent_kept, spent_seen, lost_kept, lost_seen, cut_kept, cut_seen, shown_kept, shown_seen}
 use Rattle.tree_session.proofs.world.TreeWorld.write.Given.{Over}
 use Rattle.tree_session.proofs.world.TreeWorld.write.Goals.{After-steps-steps}
 use Rattle.tree_session.proofs.world.TreeWorld.write.Goals as goal
@@ -43,7 +43,7 @@ module _ (g : Over) (c : After-steps-steps g) where
         counted = c.steps-steps.ensures;
       }
 
-  abbrev call : WriteCall
+  abbrev call : WriteTreeCall
   call =
       record {
         world = its;

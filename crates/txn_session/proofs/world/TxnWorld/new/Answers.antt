@@ -11,7 +11,7 @@ use Rattle.pmem_engine.specs.Parts.{parts_of}
 use Rattle.line_txn.specs.Store.{HasStoreOpened}
 use Rattle.txn_session.specs.State.{IsNewTxn}
 use Rattle.txn_session.specs.World.{IsTxnWorld, txn_of}
-use Rattle.txn_session.proofs.NewLaws.{NewCall, held, new_outcome}
+use Rattle.txn_session.proofs.NewLaws.{NewTxnCall, held, new_outcome}
 use Rattle.txn_session.proofs.world.TxnWorld.new.Given.{Over}
 use Rattle.txn_session.proofs.world.TxnWorld.new.Goals.{After-open}
 use Rattle.txn_session.proofs.world.TxnWorld.new.Goals as goal
@@ -21,7 +21,7 @@ module _ (g : Over) (c : After-open g) where
   abbrev setup : Setup
   setup = record { shape = shape_of c.args.geo; formulas = g.S.Suite.formulas_of (g.S.Suite.keys c.args.suite) }
 
-  abbrev call : NewCall
+  abbrev call : NewTxnCall
   call =
       record {
         setup = setup;

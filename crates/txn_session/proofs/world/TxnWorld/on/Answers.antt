@@ -10,7 +10,7 @@ use Rattle.pmem_recovery.specs.Parts.{suite_state}
 use Rattle.line_txn.specs.declared.store.TxnFault.TheVariants as Txn
 use Rattle.wear_session.proofs.Starts.{none_of}
 use Rattle.txn_session.specs.declared.calls.StartFault.TheVariants as Start
-use Rattle.txn_session.proofs.Starts.{OnCall}
+use Rattle.txn_session.proofs.Starts.{OnTxnCall}
 use Rattle.txn_session.proofs.Opened.{open_held, open_exit, stuck_exit, cut_exit, wanted_on, wanted_exit, twin_exit, possible}
 use Rattle.txn_session.proofs.world.TxnWorld.on.Given.{Over}
 use Rattle.txn_session.proofs.world.TxnWorld.on.Goals.{After-steps-steps, in-Some, in-None, In-Err-Recovery, In-Err-Opening, In-Engine}
@@ -18,7 +18,7 @@ use Rattle.txn_session.proofs.world.TxnWorld.on.Goals as goal
 
 -- once recovery and the opening have answered
 module _ (g : Over) (c : After-steps-steps g) where
-  abbrev call : OnCall
+  abbrev call : OnTxnCall
   call =
       record {
         formulas_of = g.S.Suite.formulas_of;

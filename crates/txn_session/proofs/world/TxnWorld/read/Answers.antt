@@ -4,14 +4,14 @@ use Rattle.std.specs.Prelude.{option_map}
 use Rattle.pmem_base.specs.Geo.{shape_of}
 use Rattle.board.specs.MemBoard.{memory_of}
 use Rattle.seal_ledger.specs.View.{ledger_of}
-use Rattle.txn_session.proofs.ReadLaws.{ReadCall, got_held, got_seen, cut_held, cut_seen}
+use Rattle.txn_session.proofs.ReadLaws.{ReadTxnCall, got_held, got_seen, cut_held, cut_seen}
 use Rattle.txn_session.proofs.world.TxnWorld.read.Given.{Over}
 use Rattle.txn_session.proofs.world.TxnWorld.read.Goals.{After-steps-steps}
 use Rattle.txn_session.proofs.world.TxnWorld.read.Goals as goal
 
 -- once the engine has answered
 module _ (g : Over) (c : After-steps-steps g) where
-  abbrev call : ReadCall
+  abbrev call : ReadTxnCall
   call =
       record {
         formulas_of = g.S.Suite.formulas_of;

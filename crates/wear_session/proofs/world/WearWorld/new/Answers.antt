@@ -11,7 +11,7 @@ use Rattle.pmem_engine.specs.Parts.{parts_of}
 use Rattle.start_gap.specs.Gapped.{HasGappedOpened}
 use Rattle.wear_session.specs.State.{IsNewWear}
 use Rattle.wear_session.specs.World.{IsWearWorld, wear_of}
-use Rattle.wear_session.proofs.NewLaws.{NewCall, held, new_outcome}
+use Rattle.wear_session.proofs.NewLaws.{NewWearCall, held, new_outcome}
 use Rattle.wear_session.proofs.world.WearWorld.new.Given.{Over}
 use Rattle.wear_session.proofs.world.WearWorld.new.Goals.{After-open}
 use Rattle.wear_session.proofs.world.WearWorld.new.Goals as goal
@@ -21,7 +21,7 @@ module _ (g : Over) (c : After-open g) where
   abbrev setup : Setup
   setup = record { shape = shape_of c.args.geo; formulas = g.S.Suite.formulas_of (g.S.Suite.keys c.args.suite) }
 
-  abbrev call : NewCall
+  abbrev call : NewWearCall
   call =
       record {
         setup = setup;

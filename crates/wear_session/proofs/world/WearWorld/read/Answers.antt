@@ -3,14 +3,14 @@ use Rattle.std.proofs.Common.{rules, arith}
 use Rattle.pmem_base.specs.Geo.{shape_of}
 use Rattle.board.specs.MemBoard.{memory_of}
 use Rattle.seal_ledger.specs.View.{ledger_of}
-use Rattle.wear_session.proofs.Seen.{ReadCall, got_held, got_seen, cut_held, cut_seen}
+use Rattle.wear_session.proofs.Seen.{ReadWearCall, got_held, got_seen, cut_held, cut_seen}
 use Rattle.wear_session.proofs.world.WearWorld.read.Given.{Over}
 use Rattle.wear_session.proofs.world.WearWorld.read.Goals.{After-steps-steps}
 use Rattle.wear_session.proofs.world.WearWorld.read.Goals as goal
 
 -- once the engine has answered
 module _ (g : Over) (c : After-steps-steps g) where
-  abbrev call : ReadCall
+  abbrev call : ReadWearCall
   call =
       record {
         formulas_of = g.S.Suite.formulas_of;

@@ -9,14 +9,14 @@ use Rattle.pmem_engine.specs.declared.fault.Fault.TheVariants as Fail
 use Rattle.start_gap.specs.Gapped.{IsCutOrSpent}
 use Rattle.start_gap.specs.Wear.{place_of}
 use Rattle.wear_session.specs.Answered.{is_own_seal}
-use Rattle.wear_session.proofs.Written.{WriteCall, made_exit, held_exit, spent_exit, cut_held, cut_marks, own_marks, kept_seen, lost_seen, sound_fault}
+use Rattle.wear_session.proofs.Written.{WriteWearCall, made_exit, held_exit, spent_exit, cut_held, cut_marks, own_marks, kept_seen, lost_seen, sound_fault}
 use Rattle.wear_session.proofs.world.WearWorld.write.Given.{Over}
 use Rattle.wear_session.proofs.world.WearWorld.write.Goals.{After-steps-steps, then-written, else-written, then-has_own_seal, else-has_own_seal}
 use Rattle.wear_session.proofs.world.WearWorld.write.Goals as goal
 
 -- once the engine has answered
 module _ (g : Over) (c : After-steps-steps g) where
-  abbrev call : WriteCall
+  abbrev call : WriteWearCall
   call =
       record {
         formulas_of = g.S.Suite.formulas_of;
