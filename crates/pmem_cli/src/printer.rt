@@ -11,7 +11,7 @@ use crate::source::Failed;
 use arrayvec::ArrayVec;
 use pmem_base::{Answer, Command, Mark};
 use std::marker::Model;
-use trace_text::{push_answer, push_bytes, write_command, write_mark};
+use trace_text::{push_answer, push_bytes, push_mark, write_command};
 
 /// The bytes that may wait.
 const WAITING_BYTES: usize = 65_536;
@@ -134,9 +134,10 @@ impl Printer {
             (as_line (mark_text mark.now))) }
         ensures cause { HasCause (K.faults out.old) (K.faults out.new) result }
     {
-        let mut text = write_mark(mark);
-        push_bytes(&mut text, b"\n");
-        self.print(out, text.as_slice())
+        self.text.clear();
+        push_mark(&mut self.text, mark);
+        push_bytes(&mut self.text, b"\n");
+        print_text(&mut self.waiting, out, self.text.as_slice())
     }
 
     /// Prints the text of a command, with its LF.
