@@ -141,7 +141,7 @@ module _ (c : TreeEngineCall) (a : ℕ) (within : a < tree_lines c.setup.shape) 
     abbrev tag : IsLineRead c.setup a (from c) (to c) (Err (Fail.Tag t))
     tag = it.done (trusted_from c).not_down
 
-    abbrev why : told.IsTagRefused c.setup a (from c) (to c)
+    abbrev why : told.IsTreeTagRefused c.setup a (from c) (to c)
     why = ((it.done (trusted_from c).not_down).answered (trusted_from c)).2
 
     pub tag_held : IsTreeWorld c.setup (left c (Some c.after) c.parts.hurt)

@@ -166,7 +166,7 @@ module _ (c : OnTxnCall) where
             → EndsTxnAt setup first queue 0 (length (redoing_edits n targets)) most redone (parts_to store.engine) → OpenOutcome (Ok (store, opened))
         go (Ok done) by gone =
             let writing : Writing = record { done = length (redoing_edits n targets); made = gone.made } in
-            let come : state.HasCome c writing =
+            let come : state.HasTxnCome c writing =
             state.come_to c writing gone.done.marks (memory_done setup first (parts_to store.engine) (take writing.done queue) gone.made most gone.done) in
             let stuck : store.stuck ≡ old.stuck = by.1 ∙ sym (ap stuck_in c.there) in
             subst (λ o. MatchOption o (OpenExit c.board (Some store) (Say.Opened opened.redone (steps_in c.taken)))
@@ -185,7 +185,7 @@ module _ (c : OnTxnCall) where
             } in said))
         go (Err (Fail.Spent page)) by spent =
             let writing : Writing = record { done = spent.count; made = spent.made } in
-            let come : state.HasCome c writing =
+            let come : state.HasTxnCome c writing =
             state.come_to c writing spent.done.marks (memory_done setup first (parts_to store.engine) (take spent.count queue) spent.made most spent.done) in
             let high = spent.high in
             let before : spent.count ≤ length targets = let all = few_redone n targets in omega (arith, high, all) in
@@ -209,7 +209,7 @@ module _ (c : OnTxnCall) where
     redo_cut_exit dropped redo =
         let end : IsTxnCutAt setup first queue 0 (length (redoing_edits n targets)) most (parts_to dropped) =
         state.redo_ends c between suite_between engine work it redo.targets (parts_to dropped) (Err Fail.Cut) redo.was_redone in
-        let come : state.HasCome c end.writing = state.come_to c end.writing end.cut.marks end.cut.memory in
+        let come : state.HasTxnCome c end.writing = state.come_to c end.writing end.cut.marks end.cut.memory in
         exit_of c.board None (Say.Cut (steps_in c.taken)) (state.dark_world c end.writing come c.board end.cut.dark end.cut.durable end.cut.small_group)
         (state.cut_seen c end.writing come end.came end.cut.dark end.cut.loss end.cut.takes)
 
@@ -218,7 +218,7 @@ module _ (c : OnTxnCall) where
     read_cut_exit dropped was =
         let cut = read_cut setup first middle [] [] bound (state.recovered c between suite_between engine work it) n (parts_to dropped) was in
         let writing : Writing = record { done = 0; made = [] } in
-        let come : state.HasCome c writing = state.still_come c (cut.marks ∙ append-nil p.ledger.marks) in
+        let come : state.HasTxnCome c writing = state.still_come c (cut.marks ∙ append-nil p.ledger.marks) in
         exit_of c.board None (Say.Cut (steps_in c.taken)) (state.dark_world c writing come c.board cut.dark cut.durable cut.small_group)
         (state.cut_seen c writing come (inl (omega arith, refl)) cut.dark cut.loss
         (fewer_within from to (bound + read_steps c.geometry) most (omega arith) cut.takes))
