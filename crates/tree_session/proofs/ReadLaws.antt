@@ -26,13 +26,13 @@ use Rattle.tree_session.specs.declared.commands.TreeCommand.TheVariants as Do
 use Rattle.tree_session.specs.declared.answers.TreeAnswer.{TreeAnswer}
 use Rattle.tree_session.specs.declared.answers.TreeAnswer.TheVariants as Say
 use Rattle.tree_session.specs.World.{TreeParts, plain_of_parts, state_of, IsTreeWorld}
-use Rattle.tree_session.specs.Answered.{IsTreeAnswered, IsRooted, IsEngineShown, IsBoardSpilled, SaysOfRead, AnswersWith, tree_decided, IsDataRefusal, IsDataExhibit, IsNodeExhibit, IsNodeRefusal}
+use Rattle.tree_session.specs.Answered.{IsTreeAnswered, IsRooted, IsEngineShown, IsBoardSpilled, SaysOfRead, AnswersWith, tree_decided, IsDataAccepted, IsDataRefusal, IsDataExhibit, IsNodeExhibit, IsNodeRefusal}
 use Rattle.tree_session.proofs.BoardSteps.{goes_on, cut_off, then_rests}
 use Rattle.tree_session.proofs.PlainStates.{plain_is}
 use Rattle.tree_session.proofs.Held.{TreeEngineCall, from, to, left, left_resting, trusted_from, powered_from, seals_kept, on_after, rooted_after, off_after, rooted_cut, ended_after}
 use Rattle.tree_session.proofs.EngineCalls.{backs, backs-cut, undecided_line, kept_plain, rooted_shown, refused_node, shown_node, forged-minors}
 use Rattle.tree_session.proofs.Spills.{board_spilled}
-use Rattle.tree_session.proofs.Refusals.{data-refused, data-shown}
+use Rattle.tree_session.proofs.Refusals.{data-accepted, data-refused, data-shown}
 
 module _ (c : TreeEngineCall) (a : ℕ) (within : a < tree_lines c.setup.shape) where
   -- the answer of the engine, where the state doesn't decide
@@ -64,13 +64,18 @@ module _ (c : TreeEngineCall) (a : ℕ) (within : a < tree_lines c.setup.shape) 
 
     pub read_done : IsTreeAnswered c.setup (state_of c.setup c.parts) (Do.Read a) (Say.Got line (steps_in c.taken)) (state_of c.setup (left c (Some c.after) c.parts.hurt))
     read_done =
+        let plain = kept_plain c going (left c (Some c.after) c.parts.hurt) done.watch refl refl refl in
+        let accepted = (done.answered (trusted_from c)).2 in
         answered (Say.Got line (steps_in c.taken)) (left c (Some c.after) c.parts.hurt) refl (done.watch.exhibit going-unshown ∙ c.none)
         (rooted_after c done.effect c.parts.hurt c.world.hurt_count (seals_kept c going done.effect)) (
           (done.answered (trusted_from c)).0 ∙ sym ((plain_is c.setup c.parts c.parts.board.regs c.world.whole_shape (trusted_from c).anchored).memory a within),
           goes_on c.parts.board c.board c.taken c.watched (done.effect.power.1 (powered_from c)),
           backs c.taken c.setup.shape.levels going c.parts.board c.board c.watched done.steps,
-          kept_plain c going (left c (Some c.after) c.parts.hurt) done.watch refl refl refl,
+          plain,
           board_spilled c a c.setup.shape.levels (left c (Some c.after) c.parts.hurt) refl refl done.work.fetched,
+          subst (λ s. IsDataAccepted c.setup s a) (sym plain)
+              (data-accepted c.setup c.parts c.parts.board.regs c.board c.world.whole_shape c.world.whole_formulas (trusted_from c).anchored a accepted.cipher accepted.tags within
+              accepted.its.cipher_read accepted.its.tags_read accepted.fits accepted.last),
         )
 
   -- ---- power is cut

@@ -26,7 +26,7 @@ use Rattle.asit_shadow.specs.Steps.{tree_plain_of}
 use Rattle.asit_shadow.specs.Plain.{PlainTree, true_node, true_version, true_count, true_cipher, slot_naming, with_board}
 use Rattle.asit_shadow.proofs.SlotPlaces.{on_path-inside}
 use Rattle.tree_session.specs.World.{TreeParts, plain_of_parts}
-use Rattle.tree_session.specs.Answered.{IsRooted, IsPathTampered, IsNodeRefusal, IsNodeExhibit, IsDataRefusal, IsDataExhibit}
+use Rattle.tree_session.specs.Answered.{IsRooted, IsPathTampered, IsNodeRefusal, IsNodeExhibit, IsDataAccepted, IsDataRefusal, IsDataExhibit, device_tag}
 use Rattle.tree_session.proofs.PlainStates.{plain_is, node-is}
 
 -- the true nodes don't depend on the board
@@ -146,6 +146,23 @@ module _ (setup : Setup) (p : TreeParts) (regs : Regs) (b : BoardMemory) (shape 
       ∙ cipher_of-back setup.formulas a (version_counter it.seal.counter) it.seal.cipher in_range (record { major = it.in_range.counter; minor = omega arith })
       it.in_range.cipher)
 
+  -- a tag that fits the cipher read fits that of the device, under the true counter
+  device-fits : (a : ℕ) (cipher tags : Line) → a < tree_lines setup.shape → cipher ≡ line_at b.lines a → tags ≡ line_at b.lines (line_of_tag setup.shape a)
+      → setup.formulas.tag_of a (version_counter (line_counter setup.shape p.watch.nodes a)) cipher ≡ tag_slot tags 0
+      → setup.formulas.tag_of a (version_counter (true_count (with_board (plain_of_parts setup p) b) a)) (line_at b.lines a) ≡ device_tag setup.shape (with_board (plain_of_parts setup p) b) a
+  device-fits a cipher tags within read read_tags fits =
+      ap (λ n. setup.formulas.tag_of a (version_counter n) (line_at b.lines a)) (count-here a within)
+      ∙ (ap (setup.formulas.tag_of a (version_counter (line_counter setup.shape p.watch.nodes a))) (sym read)
+      ∙ (fits ∙ ap (λ l. tag_slot l 0) read_tags))
+
+  pub data-accepted : (a : ℕ) (cipher tags : Line) → a < tree_lines setup.shape → cipher ≡ line_at b.lines a → tags ≡ line_at b.lines (line_of_tag setup.shape a)
+      → setup.formulas.tag_of a (version_counter (line_counter setup.shape p.watch.nodes a)) cipher ≡ tag_slot tags 0
+      → IfSome (last_seal_of p.watch a) (λ seal. cipher ≡ seal.cipher) → IsDataAccepted setup (with_board (plain_of_parts setup p) b) a
+  data-accepted a cipher tags within read read_tags fits last =
+      let sealed = anchored.seals a within in
+      let same : cipher ≡ sealed.seal.cipher = subst (λ s. IfSome s (λ seal. cipher ≡ seal.cipher)) sealed.last last in
+      record { cipher = sym read ∙ (same ∙ sym (cipher-here a within)); fits = device-fits a cipher tags within read read_tags fits }
+
   pub data-shown : (a : ℕ) (cipher tags : Line) (exhibit : Exhibit) → a < tree_lines setup.shape → cipher ≡ line_at b.lines a
       → tags ≡ line_at b.lines (line_of_tag setup.shape a)
       → setup.formulas.tag_of a (version_counter (line_counter setup.shape p.watch.nodes a)) cipher ≡ tag_slot tags 0
@@ -157,10 +174,7 @@ module _ (setup : Setup) (p : TreeParts) (regs : Regs) (b : BoardMemory) (shape 
       let differs : cipher ≢ sealed.seal.cipher = subst (λ s. IfSome s (λ seal. cipher ≢ seal.cipher)) sealed.last other in
       record {
         hurt = hurt-here a unhurt;
-        fits =
-            ap (λ n. setup.formulas.tag_of a (version_counter n) (line_at b.lines a)) (count-here a within)
-            ∙ (ap (setup.formulas.tag_of a (version_counter (line_counter setup.shape p.watch.nodes a))) (sym read)
-            ∙ (fits ∙ ap (λ l. tag_slot l 0) read_tags));
+        fits = device-fits a cipher tags within read read_tags fits;
         other = λ e. differs (read ∙ (e ∙ cipher-here a within));
         its =
             its

@@ -181,6 +181,13 @@ pub record IsNodeExhibit (setup : Setup) (after : PlainTree) (a : ℕ) (exhibit 
       ≡ Forged (node_place x) (version_counter (true_version setup.shape after x))
       (without_tag (device_node setup.shape after x)) (tag_slot (device_node setup.shape after x) 3)
 
+-- the device has the cipher of line a under its counter, and a tag that fits it
+pub record IsDataAccepted (setup : Setup) (after : PlainTree) (a : ℕ) : Type 0 where
+  pub cipher : line_at after.board.lines a ≡ true_cipher setup.formulas after a
+  pub fits :
+      setup.formulas.tag_of a (version_counter (true_count after a)) (line_at after.board.lines a)
+      ≡ device_tag setup.shape after a
+
 -- the tag of line a fails under its counter
 pub record IsDataRefusal (setup : Setup) (after : PlainTree) (a : ℕ) : Type 0 where
   pub hurt : IsHurt after.hurt a
@@ -289,6 +296,7 @@ SaysOfRead setup before a after (Say.Got line s) =
     × (s ≤ read_bound setup.shape)
     × IsPlainKept before after
     × IsBoardSpilled setup before after
+    × IsDataAccepted setup after a
 SaysOfRead setup before a after (Say.Cut s) =
     IsTreeCutAt s before.board after.board
     × (s < read_bound setup.shape)
