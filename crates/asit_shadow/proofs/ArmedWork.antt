@@ -16,9 +16,11 @@ use Rattle.counter_tree.specs.Watch.{WatchState}
 use Rattle.asit_shadow.specs.declared.cache.CachedNode.{CachedNode}
 use Rattle.asit_shadow.specs.Parts.{TreeEngineParts, IsWatchReady, tree_lines_redone}
 use Rattle.asit_shadow.specs.Paths.{is_path_slot, write_group, HasPathCached}
+use Rattle.asit_shadow.specs.Steps.{KeepsOtherRegisters}
 use Rattle.asit_shadow.specs.Work.{absent_nodes, HasSlotsFetched, HasArmedPath}
 use Rattle.asit_shadow.specs.Fetching.{IsPathFetchedTo}
 use Rattle.asit_shadow.specs.Writing.{IsWriteMade}
+use Rattle.asit_shadow.proofs.RegisterLaws.{others-then}
 use Rattle.asit_shadow.proofs.SlotPlaces.{path_slot-of}
 use Rattle.asit_shadow.proofs.SetLaws.{cache_with-HasPathCached}
 use Rattle.asit_shadow.proofs.PairSets.{IsPairing, pairs-are, lines-are, cache-is}
@@ -56,8 +58,8 @@ armed-group setup a plain seal pairs regs old mid new it =
     it.made.group ∙ lines-are setup.shape a seal pairs new.watch.nodes (pairing setup a plain seal pairs regs old mid new it)
 
 pub armed-path : (setup : Setup) (a latches : ℕ) (plain : Line) (seal : LineSeal) (pairs : List (ℕ × Node)) (regs : Regs) (old mid new : TreeEngineParts) → IsArmedOver setup a plain seal pairs regs old mid new → tree_lines_redone new ≡ redone_told regs.group.items mid.device.lines
-    → RisesBy latches old.device.latches new.device.latches → new.device.reads ≡ mid.device.reads → HasArmedPath setup a latches seal old new
-armed-path setup a latches plain seal pairs regs old mid new it lines latched reads =
+    → KeepsOtherRegisters regs new.device.regs → RisesBy latches old.device.latches new.device.latches → new.device.reads ≡ mid.device.reads → HasArmedPath setup a latches seal old new
+armed-path setup a latches plain seal pairs regs old mid new it lines others latched reads =
     let mine = pairing setup a plain seal pairs regs old mid new it in
     record {
       last =
@@ -72,6 +74,8 @@ armed-path setup a latches plain seal pairs regs old mid new it lines latched re
           lines
           ∙ (ap (λ (group : List (ℕ × Line)). redone_told group mid.device.lines) (armed-group setup a plain seal pairs regs old mid new it)
           ∙ ap (redone_told (write_group setup.shape a seal new.watch.nodes)) it.path.done.lines);
+      others =
+          others-then old.device.regs regs new.device.regs (subst (λ (r : Regs). KeepsOtherRegisters r regs) it.path.regs it.made.others) others;
       latched = latched;
       reads =
           subst (RisesBy (absent_nodes setup.shape old.engine.cache a setup.shape.levels) old.device.reads) (sym reads) it.path.reads;

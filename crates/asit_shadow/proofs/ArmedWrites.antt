@@ -106,6 +106,7 @@ armed-and_stored setup a plain seal pairs regs old new shape inside engine trust
                 named.its_root
                 ∙ (ap (λ h. root_of setup.formulas h (put_lines (slot_entries setup.shape (λ i. i) pairs) old.watch.slots)) height
                 ∙ ap (root_of setup.formulas (shadow_height setup.shape)) (sym made.told.slots));
+            others = made.others;
           };
       stored =
           record {

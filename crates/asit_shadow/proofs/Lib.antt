@@ -2,6 +2,7 @@ pub mod SlotPlaces
 pub mod PutLaws
 pub mod ArmLaws
 pub mod GroupLaws
+pub mod RegisterLaws
 pub mod FetchLaws
 pub mod ReadLaws
 pub mod RecoverLaws

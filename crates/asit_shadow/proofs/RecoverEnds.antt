@@ -33,10 +33,11 @@ use Rattle.asit_shadow.specs.declared.cache.CachedNode.{CachedNode}
 use Rattle.asit_shadow.specs.State.{TreeState, IsTreeEngine}
 use Rattle.asit_shadow.specs.Invariants.{IsTreeAnchored, IsTreeDurable, IsTreeSound, IsTreeSealStored, IsSlotStored}
 use Rattle.asit_shadow.specs.Places.{IsNodeHeld, IsNodeHeldBy}
-use Rattle.asit_shadow.specs.Steps.{IsTreeEmptied, IsTreeRecovered, slots_read}
+use Rattle.asit_shadow.specs.Steps.{IsTreeRecovered, slots_read}
 use Rattle.asit_shadow.specs.Recovering.{Rest, rest_redone, IsRestAnchored, IsRestDurable, HasOnlyReadLines, AreSlotsRead, IsTreeWork, IsReadFinished, IsRoomFilled, HasTreeRecovered, IsNameable}
 use Rattle.asit_shadow.proofs.ArmLaws.{IsAnchored-emptied}
 use Rattle.asit_shadow.proofs.GroupLaws.{IsDurable-finished}
+use Rattle.asit_shadow.proofs.RegisterLaws.{finished-emptied}
 use Rattle.asit_shadow.proofs.PlaceLaws.{recovered-place}
 use Rattle.asit_shadow.proofs.RecoverLaws.{clash-holds, IsTrusted-recovered, slots-sound, IsSound-recovered, lines-equal, length-slots_read, line_at-slots_read}
 use Rattle.asit_shadow.proofs.Chains.{power-then, going-uncut, cut-unshown}
@@ -119,10 +120,6 @@ read_finished g old mid new first second =
           };
       power = power-then going old mid new (first.steady, first.live, first.cuts) second.power;
     }
-
-finished-emptied : (old new : Regs) → new ≡ without_group old → IsTreeEmptied old new
-finished-emptied old new is =
-    record { root = ap (λ (r : Regs). r.root) is; no_group = ap (λ (r : Regs). r.group.items) is }
 
 finished-redone : (old new : Rest) → new.device.regs ≡ without_group old.device.regs → new.device.lines ≡ redone_told old.device.regs.group.items old.device.lines → rest_redone new ≡ rest_redone old
 finished-redone old new regs lines =

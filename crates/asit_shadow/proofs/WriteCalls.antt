@@ -89,6 +89,7 @@ cut_group-ended setup a old mid engine cache it =
             last = it.armed.last;
             cache = subst (HasPathCached setup.shape a mid.watch.nodes old.engine.cache) (sym cache) it.armed.cache;
             lines = it.armed.lines;
+            others = it.armed.others;
             latched = it.armed.latched;
             reads = it.armed.reads;
           };

@@ -7,7 +7,7 @@ use Rattle.pmem_base.specs.declared.lines.Line.{Line}
 use Rattle.pmem_base.specs.declared.registers.Regs.{Regs}
 use Rattle.pmem_base.specs.Counts.{HasRisen}
 use Rattle.pmem_base.specs.Lines.{line_at}
-use Rattle.pmem_base.specs.Registers.{IsGroup}
+use Rattle.pmem_base.specs.Registers.{IsGroup, without_group}
 use Rattle.pmem_base.specs.Shape.{Shape, IsShape}
 use Rattle.pmem_base.proofs.LineSets.{length-put_lines}
 use Rattle.suite.specs.Setup.{Setup}
@@ -38,6 +38,7 @@ use Rattle.asit_shadow.specs.Fetching.{IsNodePathFetched}
 use Rattle.asit_shadow.specs.Writing.{HasWrittenUp, IsWriteMade, IsWriteTold, slot_entries}
 use Rattle.asit_shadow.proofs.ArmLaws.{armed-made, IsAnchored-armed, IsDurable-armed, IsTrusted-written, IsSound-written}
 use Rattle.asit_shadow.proofs.GroupLaws.{IsDurable-again}
+use Rattle.asit_shadow.proofs.RegisterLaws.{others-same, finished-emptied}
 use Rattle.asit_shadow.proofs.PairSets.{length-set_pairs, pairs-count}
 use Rattle.asit_shadow.proofs.SlotPlaces.{on_path-inside}
 use Rattle.asit_shadow.proofs.PlaceLaws.{armed-places, written-place}
@@ -203,7 +204,7 @@ kept-work setup a plain seal pairs regs old mid new armed it cut =
     let over = armed-over setup a plain seal pairs regs old mid new armed it in
     record {
       seal = seal;
-      armed = armed-path setup a 1 plain seal pairs regs old mid new over made one_latched (cut.reads ∙ it.latched.reads);
+      armed = armed-path setup a 1 plain seal pairs regs old mid new over made (others-same regs new.device.regs new_regs) one_latched (cut.reads ∙ it.latched.reads);
       group = ap (λ (r : Regs). r.group.items) new_regs ∙ armed-group setup a plain seal pairs regs old mid new over;
       group_count = ap (λ (r : Regs). length r.group.items) new_regs ∙ count;
       armed_writes = mid.device.writes;
@@ -329,8 +330,7 @@ write-done setup a plain seal pairs regs old mid new armed it done =
     let no_new : new.device.regs.group.items ≡ [] = ap (λ (r : Regs). r.group.items) done.regs in
     let made : tree_lines_redone new ≡ redone_told regs.group.items mid.device.lines =
     ap (λ group. redone_told group new.device.lines) no_new ∙ (redone-nil new.device.lines ∙ lines) in
-    let emptied : IsTreeEmptied regs new.device.regs =
-    record { root = ap (λ (r : Regs). r.root) done.regs ∙ ap (λ (r : Regs). r.root) it.latched.regs; no_group = no_new } in
+    let emptied : IsTreeEmptied regs new.device.regs = finished-emptied regs new.device.regs (done.regs ∙ ap without_group it.latched.regs) in
     let count = group-count setup a plain seal pairs regs mid new it.made in
     let writes : RisesBy (length regs.group.items) armed.writes new.device.writes =
     subst (λ (r : Regs). RisesBy (length r.group.items) armed.writes new.device.writes) it.latched.regs done.writes in
@@ -397,7 +397,7 @@ write-done setup a plain seal pairs regs old mid new armed it done =
           record {
             seal = seal;
             armed =
-                armed-path setup a 2 plain seal pairs regs old mid new (armed-over setup a plain seal pairs regs old mid new armed it) made two_latched
+                armed-path setup a 2 plain seal pairs regs old mid new (armed-over setup a plain seal pairs regs old mid new armed it) made emptied.others two_latched
                 (done.reads ∙ it.latched.reads);
             no_group = no_new;
             writes =

@@ -20,6 +20,10 @@ use Rattle.asit_shadow.specs.declared.cache.CachedNode.{CachedNode}
 use Rattle.asit_shadow.specs.Paths.{HasPathNamed, HasPathCached, write_group}
 use Rattle.asit_shadow.specs.Invariants.{IsNodeStored, IsTreeOver}
 
+-- of the registers only the root and the group may have changed
+abbrev pub KeepsOtherRegisters : Regs → Regs → Type 0
+KeepsOtherRegisters old new = new ≡ record old { root = new.root; group = new.group }
+
 -- ---- a write of data line a is armed: one latch, and the watch is told
 
 pub record IsTreeArmed (setup : Setup) (a : ℕ) (seal : LineSeal) (old_regs new_regs : Regs) (old new : WatchState) : Type 0 where
@@ -38,6 +42,7 @@ pub record IsTreeArmed (setup : Setup) (a : ℕ) (seal : LineSeal) (old_regs new
   pub no_group_before : old_regs.group.items ≡ []
   pub group : new_regs.group.items ≡ write_group setup.shape a seal new.nodes
   pub root : new_regs.root ≡ shadow_root setup.shape setup.formulas new.slots
+  pub others : KeepsOtherRegisters old_regs new_regs
 
 -- the engine after the write: its path is dirty in the cache, and its shadow tree has the new slot lines
 pub record HasPathStored (setup : Setup) (a : ℕ) (old new : TreeState) (watch : WatchState) : Type 0 where
@@ -51,6 +56,7 @@ pub record HasPathStored (setup : Setup) (a : ℕ) (old new : TreeState) (watch 
 pub record IsTreeEmptied (old new : Regs) : Type 0 where
   pub root : new.root ≡ old.root
   pub no_group : new.group.items ≡ []
+  pub others : KeepsOtherRegisters old new
 
 -- ---- a node is fetched: its line was read under its version, and the watch let it go on
 

@@ -22,6 +22,7 @@ use Rattle.asit_shadow.specs.declared.fault.TreeFault.TheVariants as Fail
 use Rattle.asit_shadow.specs.State.{cache_at}
 use Rattle.asit_shadow.specs.Parts.{TreeEngineParts, tree_lines_redone}
 use Rattle.asit_shadow.specs.Paths.{path_node, IsNodePathCached, HasPathCached, write_group}
+use Rattle.asit_shadow.specs.Steps.{KeepsOtherRegisters}
 
 -- ---- one node
 
@@ -160,6 +161,7 @@ pub record HasArmedPath (setup : Setup) (a latches : ℕ) (seal : LineSeal) (old
       tree_lines_redone new
       ≡ redone_told (write_group setup.shape a seal new.watch.nodes)
       (redone_told (spilled_nodes setup old.engine.cache a setup.shape.levels) old.device.lines)
+  pub others : KeepsOtherRegisters old.device.regs new.device.regs
   pub latched : RisesBy latches old.device.latches new.device.latches
   pub reads :
       RisesBy (absent_nodes setup.shape old.engine.cache a setup.shape.levels) old.device.reads new.device.reads

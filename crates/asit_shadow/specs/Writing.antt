@@ -19,6 +19,7 @@ use Rattle.counter_tree.specs.Watch.{WatchState, IsLineSeal}
 use Rattle.asit_shadow.specs.declared.cache.CachedNode.{CachedNode}
 use Rattle.asit_shadow.specs.State.{IsCachedAs, IsHeldNode}
 use Rattle.asit_shadow.specs.Paths.{line_path, path_node, tag_only}
+use Rattle.asit_shadow.specs.Steps.{KeepsOtherRegisters}
 use Rattle.asit_shadow.specs.declared.fault.TreeFault.{TreeFault}
 use Rattle.asit_shadow.specs.Parts.{TreeEngineParts, AreTreeTrusted, AreTreeSound, IsBoardReady, IsWatchReady}
 use Rattle.asit_shadow.specs.Calls.{AnswersTreeWrite, TreeCallEffect, IsTreeDownAnswer, IsTreeRefusal, IsTreeUnrefused, IsWriteAnswer, KeepsWatch, StepsOfWrite, tree_outcome_of}
@@ -99,6 +100,7 @@ pub record IsWriteMade (setup : Setup) (a : ℕ) (plain : Line) (seal : LineSeal
       (slots : List Line) → length slots ≡ tree_slots setup.shape
       → IsShadowTree setup.formulas old.engine.tree.height slots old.engine.tree.lines
       → IsTreeNamed setup.formulas setup.shape pairs old.engine.tree new.engine.tree regs.root slots
+  pub others : KeepsOtherRegisters old.device.regs regs
   pub told : IsWriteTold setup.shape a seal pairs old.watch new.watch
   pub cache : new.engine.cache ≡ set_pairs (dirty_entries setup.shape pairs) old.engine.cache
   pub height : new.engine.tree.height ≡ old.engine.tree.height

@@ -14,6 +14,7 @@ ghost use Rattle.asit_shadow.specs.State.{IsCached, IsCachedAs, IsHeldNode, top_
 ghost use Rattle.asit_shadow.specs.Calls.{IsTreeSpentAnswer};
 ghost use Rattle.asit_shadow.specs.Counts.{CountsOfWrite};
 ghost use Rattle.asit_shadow.specs.Paths.{line_path};
+ghost use Rattle.asit_shadow.specs.Steps.{KeepsOtherRegisters};
 ghost use Rattle.asit_shadow.specs.Parts.{tree_parts_of, IsWatchReady, IsTreeUsable};
 ghost use Rattle.asit_shadow.specs.Writing.{set_pairs, position_below, IsPathRaised, dirty_entries, armed_lines, IsTreeNamed, IsWriteTold, HasWrittenUp, pair_at};
 
@@ -126,6 +127,7 @@ impl TreeEngine {
         ensures root { (slots : List Line) → length slots ≡ tree_slots self.old.shape
             → IsShadowTree (S.formulas_of (S.keys suite.old)) self.old.tree.height slots self.old.tree.lines
             → IsTreeNamed (S.formulas_of (S.keys suite.old)) self.old.shape nodes.now.items self.old.tree self.new.tree result.root slots }
+        ensures others { KeepsOtherRegisters regs.now result }
         ensures height { self.new.tree.height ≡ self.old.tree.height }
         ensures shape { self.new.shape ≡ self.old.shape }
         ensures cache { self.new.cache ≡ self.old.cache }

@@ -13,6 +13,7 @@ use Rattle.pmem_base.specs.Layout.{meta_lines}
 use Rattle.counter_tree.proofs.Positions.{meta_lines-most}
 use Rattle.counter_tree.proofs.HeightLemmas.{shadow_height-room}
 use Rattle.asit_shadow.specs.Writing.{armed_lines, IsTreeNamed}
+use Rattle.asit_shadow.proofs.RegisterLaws.{others-emptied, others-then}
 use Rattle.asit_shadow.proofs.TagLaws.{path-digests}
 use Rattle.asit_shadow.proofs.WriteLoops.{armed-none, armed-next, named-next}
 use Rattle.asit_shadow.proofs.engine.TreeEngine.next_regs.Given.{Over}
@@ -28,6 +29,9 @@ levels-init g c =
           (ap (λ (r : Regs). r.group.items) c.emptied-next.ensures) place c.tag_line.ensures c.push.ensures.items c.push-2.ensures.items;
       tree = λ slots long over. over;
       root = λ slots some long over. absurd (omega (arith, some));
+      others =
+          others-then c.args.regs.now c.emptied-next.result (record c.emptied-next.result { group = c.push-2.new.self })
+          (others-emptied c.args.regs.now c.emptied-next.result c.emptied-next.ensures) refl;
       height = refl;
       shape = refl;
       cache = refl;
@@ -78,6 +82,9 @@ levels-preserved g c =
           (c.slot_place.ensures.value ∙ ap (λ (k : Shape). line_of_slot k c.slot_of-i.result) c.geo-geo.ensures) (slot g before) c.slot_line-line.ensures c.levels.invariant.group c.push-in-levels.ensures.items;
       tree = λ slots long over. (named g before slots long over).tree;
       root = λ slots some long over. named g before slots long over;
+      others =
+          others-then c.args.regs.now c.levels.next (record c.levels.next { root = c.name-next.result; group = c.push-in-levels.new.self })
+          c.levels.invariant.others refl;
       height = c.name-next.ensures.height ∙ c.levels.invariant.height;
       shape = c.name-next.ensures.shape ∙ c.levels.invariant.shape;
       cache = c.name-next.ensures.cache ∙ c.levels.invariant.cache;
@@ -101,6 +108,9 @@ returns-clause-root g c =
     let past : length c.args.nodes.now.items ≤ c.levels.x-index = subst (λ (ps : List (ℕ × Node)). length ps ≤ c.levels.x-index) c.as_slice-x-items.ensures.value c.levels-test.false in
     subst (λ (ps : List (ℕ × Node)). IsTreeNamed (g.S.Suite.formulas_of (g.S.Suite.keys c.args.suite.now)) c.args.self.now.shape ps c.args.self.now.tree c.levels.self.tree c.levels.next.root slots)
     (take_all c.levels.x-index c.args.nodes.now.items past) (c.levels.invariant.root slots (omega (arith, c.requires.some, past)) long over)
+
+pub returns-clause-others : goal.returns-clause-others
+returns-clause-others g c = c.levels.invariant.others
 
 pub returns-clause-pads : goal.returns-clause-pads
 returns-clause-pads g c = c.levels.invariant.pads

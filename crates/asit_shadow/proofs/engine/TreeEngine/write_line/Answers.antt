@@ -21,6 +21,7 @@ use Rattle.asit_shadow.specs.State.{TreeState, IsHeldNode, top_node}
 use Rattle.asit_shadow.specs.Parts.{TreeEngineParts, tree_parts_of, AreTreeTrusted, IsWatchReady}
 use Rattle.asit_shadow.specs.Calls.{IsUsedUp}
 use Rattle.asit_shadow.specs.Counts.{CountsOfArming, naming_digests}
+use Rattle.asit_shadow.specs.Steps.{KeepsOtherRegisters}
 use Rattle.asit_shadow.specs.Writing.{armed_lines, dirty_entries, pair_at, set_pairs, IsPathRaised, IsSealMade, IsTreeNamed, IsWriteTold, IsWriteMade}
 use Rattle.asit_shadow.proofs.PairSets.{pairs-count}
 use Rattle.asit_shadow.proofs.WriteCalls.{top-used_up, fetch-unspent, armed-IsGroup}
@@ -141,6 +142,7 @@ module _ (g : Over) (c : After-next_regs-regs g) where
             λ slots long over.
             subst (λ (t : ChipTree). IsTreeNamed (g.S.Suite.formulas_of (g.S.Suite.keys c.args.suite.now)) c.args.self.now.shape c.raised-nodes.result.items c.fetch.new.self.tree t c.next_regs-regs.result.root slots) (sym tree)
             (root slots long over);
+        others = subst (λ (r : Regs). KeepsOtherRegisters r c.next_regs-regs.result) c.regs.ensures c.next_regs-regs.ensures.others;
         told =
             subst (λ (k : Shape). IsWriteTold k c.args.at c.sealed-seal.result c.raised-nodes.result.items (g.W.Watch.watched c.fetch.new.watch) watch) same told;
         cache =

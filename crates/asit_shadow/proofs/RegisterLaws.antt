@@ -1,0 +1,18 @@
+-- The registers beside the root and the group, and the group emptied.
+use Rattle.std.proofs.Common.{◌≡◌, refl, sym, ap, subst, ◌∙◌}
+use Rattle.pmem_base.specs.declared.registers.Regs.{Regs}
+use Rattle.pmem_base.specs.Registers.{without_group}
+use Rattle.asit_shadow.specs.Steps.{KeepsOtherRegisters, IsTreeEmptied}
+
+pub others-same : (old new : Regs) → new ≡ old → KeepsOtherRegisters old new
+others-same old new is = subst (KeepsOtherRegisters old) (sym is) refl
+
+pub others-then : (old mid new : Regs) → KeepsOtherRegisters old mid → KeepsOtherRegisters mid new → KeepsOtherRegisters old new
+others-then old mid new first second = second ∙ ap (λ (r : Regs). record r { root = new.root; group = new.group }) first
+
+pub others-emptied : (old new : Regs) → new ≡ without_group old → KeepsOtherRegisters old new
+others-emptied old new is = subst (KeepsOtherRegisters old) (sym is) refl
+
+pub finished-emptied : (old new : Regs) → new ≡ without_group old → IsTreeEmptied old new
+finished-emptied old new is =
+    record { root = ap (λ (r : Regs). r.root) is; no_group = ap (λ (r : Regs). r.group.items) is; others = others-emptied old new is }
