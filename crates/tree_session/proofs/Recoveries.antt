@@ -396,7 +396,7 @@ module _ (c : TreeRecoveryCall) where
   -- ---- a clash
 
   module _ (exhibit : Exhibit) (is : c.watch.exhibit ≡ Some exhibit) (it : HasTreeRecovered c.setup rest_from rest_to c.before c.later (Err Fail.Shown)) where
-    abbrev clash : Rattle.asit_shadow.specs.Recovering.IsClashShown c.setup rest_from rest_to
+    abbrev clash : Rattle.asit_shadow.specs.Recovering.IsTreeClashShown c.setup rest_from rest_to
     clash = it.answered
 
     abbrev at : Exhibit

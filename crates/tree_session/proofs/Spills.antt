@@ -10,6 +10,7 @@ use Rattle.pmem_base.specs.Lines.{line_at}
 use Rattle.pmem_base.specs.Layout.{meta_lines}
 use Rattle.pmem_base.proofs.LineSets.{line_at-set_same, line_at-set_other}
 use Rattle.suite.specs.Setup.{Setup}
+use Rattle.board.specs.Memory.{BoardMemory}
 use Rattle.commit_regs.specs.Groups.{redone}
 use Rattle.counter_tree.specs.declared.nodes.Node.{Node}
 use Rattle.counter_tree.specs.declared.watch.LineSeal.{LineSeal}
@@ -22,6 +23,7 @@ use Rattle.asit_shadow.specs.declared.cache.CachedNode.{CachedNode}
 use Rattle.asit_shadow.specs.State.{TreeState, cache_at}
 use Rattle.asit_shadow.specs.Invariants.{IsTreeAnchored, IsTreeTrusted}
 use Rattle.asit_shadow.specs.Paths.{line_path, path_node, tag_only, write_group}
+use Rattle.asit_shadow.specs.Steps.{KeepsOtherRegisters}
 use Rattle.asit_shadow.specs.Work.{spilled_nodes, node_level_write, write_back, is_node_cached, HasFetchedNodes, HasArmedPath}
 use Rattle.asit_shadow.specs.Plain.{PlainTree, true_node, true_count, true_cipher}
 use Rattle.asit_shadow.proofs.SlotPlaces.{on_path-inside}
@@ -199,6 +201,7 @@ module _ (c : TreeEngineCall) (a : ℕ) where
           put =
               ap board_redone its
               ∙ (put ∙ ap (λ g. redone g (redone (spilled_nodes c.setup c.engine.cache a c.setup.shape.levels) c.parts.board.lines)) (sym group_is));
+          regs = subst (λ (b : BoardMemory). KeepsOtherRegisters c.parts.board.regs b.regs) (sym its) it.others;
         }
 
     pub group_kept : c.board.regs.group.items ≡ write_group c.setup.shape a seal c.watch.nodes → c.board.regs.group.items ≡ put_by_write c.setup (plain_of_parts c.setup q) a

@@ -23,7 +23,7 @@ use Rattle.trace_text.specs.Sessions.{HasBurnt, HasRunOut}
 use Rattle.trace_text.specs.declared.talk.Halt.{Halt}
 use Rattle.trace_text.specs.declared.talk.Halt.TheVariants as Stop
 use Rattle.asit_shadow.specs.Paths.{line_path, tag_only}
-use Rattle.asit_shadow.specs.Steps.{slots_read}
+use Rattle.asit_shadow.specs.Steps.{KeepsOtherRegisters, slots_read}
 use Rattle.asit_shadow.specs.Plain.{PlainTree, true_node, true_version, true_count, true_cipher, true_slots, after_tree_write, after_change, with_board}
 use Rattle.tree_session.specs.declared.commands.TreeCommand.{TreeCommand}
 use Rattle.tree_session.specs.declared.commands.TreeCommand.TheVariants as Do
@@ -121,11 +121,13 @@ put_by_write setup after a =
     (λ x. (line_of_slot setup.shape (slot_of setup.shape x), slot_line x (true_node setup.shape after x)))
     (line_path setup.shape a)
 
--- true nodes were written back, and then these lines put, or armed to be put
+-- true nodes were written back, and then these lines put, or armed to be put; of the registers only the root
+-- and the group may have changed
 pub record IsBoardWritten (setup : Setup) (a : ℕ) (before after : PlainTree) : Type 0 where
   pub spilled : List Line
   pub lines : AreLinesSpilled setup before spilled
   pub put : board_redone after.board ≡ redone (put_by_write setup after a) spilled
+  pub regs : KeepsOtherRegisters before.board.regs after.board.regs
 
 -- nothing but the board changed
 abbrev pub IsPlainKept : PlainTree → PlainTree → Type 0
