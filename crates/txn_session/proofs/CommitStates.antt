@@ -21,7 +21,7 @@ use Rattle.line_txn.specs.declared.store.CommitFault.{CommitFault}
 use Rattle.line_txn.specs.Header.{AreTargets}
 use Rattle.line_txn.specs.Logged.{IsLogged, commit_lines_at, targets_at, commit_memory_at, targets_of}
 use Rattle.line_txn.specs.Edits.{IsEditOf, IsWholeTxn, deciding_edits, applying_edits}
-use Rattle.line_txn.specs.Store.{HasStoreCommitted as HasCommittedBy, logged_lines}
+use Rattle.line_txn.specs.Store.{HasStoreCommitted, logged_lines}
 use Rattle.line_txn.proofs.LoggedLaws.{whole_at_each_stage}
 use Rattle.line_txn.proofs.EditStages.{deciding_fit, applying_fit}
 use Rattle.std.proofs.lemmas.List.Elements.{All-append}
@@ -99,7 +99,7 @@ pub record CommitCall : Type 0 where
   pub counted : said ≡ steps_in taken
   pub answer : Result Done CommitFault
   pub was_committed :
-      HasCommittedBy (setup_under formulas_of store.engine.shape before.keys) entries store after
+      HasStoreCommitted (setup_under formulas_of store.engine.shape before.keys) entries store after
       (parts_of store.engine (device_during before.board none_taken) ledger_before tags digests)
       (parts_of after.engine (device_during board taken) ledger tags_new digests_new) answer
 
@@ -178,9 +178,9 @@ module _ (c : CommitCall) where
 
   -- ---- how it ended
 
-  committed_as : HasCommittedBy setup c.entries c.store c.after from to c.answer
+  committed_as : HasStoreCommitted setup c.entries c.store c.after from to c.answer
   committed_as =
-      subst (λ s. HasCommittedBy (setup_under c.formulas_of s c.before.keys) c.entries c.store c.after from to c.answer) on.its_shape c.was_committed
+      subst (λ s. HasStoreCommitted (setup_under c.formulas_of s c.before.keys) c.entries c.store c.after from to c.answer) on.its_shape c.was_committed
 
   pub ends : (answer : Result Done CommitFault) → c.answer ≡ answer → CommitEndsAt setup from queue count most answer to
   ends answer is =

@@ -33,7 +33,7 @@ use Rattle.line_txn.specs.declared.store.TxnFault.{TxnFault}
 use Rattle.line_txn.specs.declared.store.TxnFault.TheVariants as Txn
 use Rattle.line_txn.specs.Header.{IsHeader}
 use Rattle.line_txn.specs.Edits.{redoing_edits}
-use Rattle.line_txn.specs.Store.{HasStoreStarted as HasOpenedBy, HasFailedRedo, IsOpenedBy}
+use Rattle.line_txn.specs.Store.{HasStoreOpened, HasStoreStarted, HasFailedRedo, IsOpenedBy}
 use Rattle.watched_board.specs.Watching.{steps_in}
 use Rattle.wear_session.specs.Answered.{Writing, read_steps}
 use Rattle.wear_session.proofs.Seen.{setup_under}
@@ -47,7 +47,7 @@ use Rattle.txn_session.specs.declared.answers.TxnAnswer.TheVariants as Say
 use Rattle.txn_session.specs.During.{HasTxnOpenedAfter, txn_started_as}
 use Rattle.txn_session.specs.State.{TxnState, txn_setup_in}
 use Rattle.txn_session.specs.World.{TxnParts, IsTxnWorld, stuck_in, txn_of}
-use Rattle.txn_session.specs.Answered.{IsTxnAnswered, IsTxnShownBy, IsTxnMemoryWanted, GoesToTxnState, HasTxnOpened as HasOpenedAs, after_redo}
+use Rattle.txn_session.specs.Answered.{IsTxnAnswered, IsTxnShownBy, IsTxnMemoryWanted, GoesToTxnState, HasTxnOpened, after_redo}
 use Rattle.txn_session.proofs.Rooms.{reserved_state}
 use Rattle.txn_session.proofs.Seen.{on_undecided, served, seen_from, held_under}
 use Rattle.txn_session.proofs.EngineEdits.{IsTxnCutAt, EndsTxnAt}
@@ -110,7 +110,7 @@ module _ (c : OnTxnCall) where
   txn_as P board store it = subst (λ t. P (record (left board store) { txn = t })) (sym (state.off c).no_txn) it
 
   exit_of : (board : BoardMemory) (store : Option Store) (answer : TxnAnswer) → IsTxnWorld setup (left board store)
-      → HasOpenedAs setup old answer (txn_of setup (left board store)) → OpenExit board store answer
+      → HasTxnOpened setup old answer (txn_of setup (left board store)) → OpenExit board store answer
   exit_of board store answer held it = (
     held_under c.formulas_of c.geometry p (record (left board store) { txn = p.txn }) c.keys c.same_keys (txn_as (IsTxnWorld setup) board store held),
     seen_from c.formulas_of c.geometry p (record (left board store) { txn = p.txn }) c.now c.keys Do.On answer now_is c.same_keys refl
@@ -155,7 +155,7 @@ module _ (c : OnTxnCall) where
     abbrev middle : Parts
     middle = state.parts_between c between suite_between engine work it
 
-    opened_exit : (store : Store) (opened : Opened) → HasOpenedBy setup middle (parts_to store.engine) store opened → OpenOutcome (Ok (store, opened))
+    opened_exit : (store : Store) (opened : Opened) → HasStoreStarted setup middle (parts_to store.engine) store opened → OpenOutcome (Ok (store, opened))
     opened_exit store opened its =
         go its.redone its.its_end (state.redo_ends c between suite_between engine work it its.targets (parts_to store.engine) its.redone its.was_redone)
       where
@@ -173,7 +173,7 @@ module _ (c : OnTxnCall) where
             (λ page. OpenExit c.board (Some store) (Say.Stuck page (steps_in c.taken)))) (sym by.2)
             (exit_of c.board (Some store) (Say.Opened opened.redone (steps_in c.taken))
             (state.lit_world c writing come store gone.done.live gone.done.sound (by.0 ∙ sym (none_redone n targets)))
-            (let said : HasOpenedAs setup old (Say.Opened opened.redone (steps_in c.taken)) (txn_of setup (left c.board (Some store))) =
+            (let said : HasTxnOpened setup old (Say.Opened opened.redone (steps_in c.taken)) (txn_of setup (left c.board (Some store))) =
             record {
               writing = writing;
               came = (sym (state.count_is c), (omega (arith, (state.count_is c)), gone.done.asked));
@@ -194,7 +194,7 @@ module _ (c : OnTxnCall) where
             (exit_of c.board (Some store) (Say.Stuck page (steps_in c.taken))
             (state.lit_world c writing come store spent.done.live spent.done.sound
             (by.0 ∙ same ∙ sym (ap (λ b. cond b [] targets) (le-ltb (length targets) spent.count before))))
-            (let said : HasOpenedAs setup old (Say.Stuck page (steps_in c.taken)) (txn_of setup (left c.board (Some store))) =
+            (let said : HasTxnOpened setup old (Say.Stuck page (steps_in c.taken)) (txn_of setup (left c.board (Some store))) =
             record {
               writing = writing;
               came = spent.next;
@@ -223,7 +223,7 @@ module _ (c : OnTxnCall) where
         (state.cut_seen c writing come (inl (omega arith, refl)) cut.dark cut.loss
         (fewer_within from to (bound + read_steps c.geometry) most (omega arith) cut.takes))
 
-    by_opened : (opened : Result (Store × Opened) TxnFault) → HasOpened setup middle parts_to opened → OpenOutcome (txn_started_as opened)
+    by_opened : (opened : Result (Store × Opened) TxnFault) → HasStoreOpened setup middle parts_to opened → OpenOutcome (txn_started_as opened)
     by_opened (Ok both) opened = opened_exit both.0 both.1 opened
     by_opened (Err (Txn.Engine Fail.Cut)) opened =
         elim opened.1 [ inl read ↦ read_cut_exit opened.0 read | inr redo ↦ redo_cut_exit opened.0 redo ]

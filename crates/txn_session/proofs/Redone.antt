@@ -44,7 +44,7 @@ use Rattle.txn_session.specs.declared.answers.TxnAnswer.TheVariants as Say
 use Rattle.txn_session.specs.During.{HasTxnStarted}
 use Rattle.txn_session.specs.State.{TxnState, txn_moment_in, redo_writes}
 use Rattle.txn_session.specs.World.{TxnParts, IsTxnWorld, IsStoreOff, IsStoredBy, targets_in_force, redone_memory, txn_of}
-use Rattle.txn_session.specs.Answered.{GoesToTxnState, HasTxnOpened as HasOpenedAs, after_redo, txn_most_of_on}
+use Rattle.txn_session.specs.Answered.{GoesToTxnState, HasTxnOpened, after_redo, txn_most_of_on}
 use Rattle.txn_session.proofs.Worlds.{few_data, few_lines, targets_held, memory_held, logged_is, goes_to, cut_off, on_after, off_after}
 use Rattle.txn_session.proofs.Rooms.{reserved_world}
 use Rattle.txn_session.proofs.EngineEdits.{all_posted, cost, EndsTxnAt, edits_go}
@@ -195,7 +195,7 @@ module _ (c : OnTxnCall) where
 
     -- power was cut
     pub cut_seen : IsCutAmong setup.formulas start queue writing → c.board.powered ≡ false → c.board.regs.loss ≡ p.board.regs.loss
-        → TakesFewer most from to → HasOpenedAs setup old (Say.Cut (steps_in c.taken)) (txn_of setup (left c.board None))
+        → TakesFewer most from to → HasTxnOpened setup old (Say.Cut (steps_in c.taken)) (txn_of setup (left c.board None))
     cut_seen came dark loss takes =
         let it =
         cut_off setup (record p { board = lit }) (left c.board None) c.taken watched (after_redo old writing) most dark

@@ -35,7 +35,7 @@ use Rattle.start_gap.specs.declared.gapped.GapFault.{GapFault}
 use Rattle.start_gap.specs.declared.gapped.GapFault.TheVariants as Gap
 use Rattle.start_gap.specs.Record.{recorded}
 use Rattle.start_gap.specs.Logical.{IsLevelled}
-use Rattle.start_gap.specs.Gapped.{HasReadRecord, logical_lines}
+use Rattle.start_gap.specs.Gapped.{HasGappedOpened, HasReadRecord, logical_lines}
 use Rattle.watched_board.specs.Watching.{steps_in, device_during, none_taken, IsWatched}
 use Rattle.wear_session.specs.declared.calls.StartFault.{StartFault}
 use Rattle.wear_session.specs.declared.calls.StartFault.TheVariants as Start
@@ -45,7 +45,7 @@ use Rattle.wear_session.specs.declared.answers.WearAnswer.TheVariants as Say
 use Rattle.wear_session.specs.During.{HasWearStarted, HasWearOpenedAfter, wear_started_as}
 use Rattle.wear_session.specs.State.{WearState, wear_setup_in}
 use Rattle.wear_session.specs.World.{WearParts, IsWearWorld, IsLevelledOff, IsLevelledBy, wear_in, levelled_memory, wear_of}
-use Rattle.wear_session.specs.Answered.{IsWearAnswered, IsWearShownBy, IsWearMemoryWanted, HasWearOpened as HasOpenedAs, wear_decided, with_power, read_steps}
+use Rattle.wear_session.specs.Answered.{IsWearAnswered, IsWearShownBy, IsWearMemoryWanted, HasWearOpened, wear_decided, with_power, read_steps}
 use Rattle.wear_session.proofs.Worlds.{at_most, fewer, goes_to, cut_off, on_after, off_after}
 use Rattle.wear_session.proofs.Seen.{setup_under, served, seen_from, held_under}
 use Rattle.wear_session.proofs.EngineWrites.{most_within, fewer_within, AreDone, read_line, read_done, read_cut}
@@ -96,7 +96,7 @@ module _ (c : OnWearCall) where
   on_decided : wear_decided old Do.On ≡ None
   on_decided = ap (λ b. if b then Some Say.Already else None) off.unpowered
 
-  undecided : (answer : WearAnswer) (new : WearState) → HasOpenedAs old answer new → IsWearAnswered setup old Do.On answer new
+  undecided : (answer : WearAnswer) (new : WearState) → HasWearOpened old answer new → IsWearAnswered setup old Do.On answer new
   undecided answer new it = served setup old new Do.On answer on_decided it
 
   -- ---- where no mark is made
@@ -120,7 +120,7 @@ module _ (c : OnWearCall) where
 
     -- power was cut
     cut_seen : c.board.powered ≡ false → c.board.regs.loss ≡ p.board.regs.loss → TakesFewer most from to
-        → HasOpenedAs old (Say.Cut (steps_in c.taken)) (wear_of setup (left c.board None))
+        → HasWearOpened old (Say.Cut (steps_in c.taken)) (wear_of setup (left c.board None))
     cut_seen dark loss takes =
         let it =
         cut_off setup (record p { board = lit }) (left c.board None) c.taken watched old most dark
@@ -145,7 +145,7 @@ module _ (c : OnWearCall) where
 
     open_seen : (gapped : Gapped) → c.board.powered ≡ true → c.board.regs.loss ≡ p.board.regs.loss → TakesAtMost most from to
         → gapped.count ≡ 0 → gapped.wear ≡ old.wear
-        → HasOpenedAs old (Say.Opened gapped.wear.start gapped.wear.gap (steps_in c.taken)) (wear_of setup (left c.board (Some gapped)))
+        → HasWearOpened old (Say.Opened gapped.wear.start gapped.wear.gap (steps_in c.taken)) (wear_of setup (left c.board (Some gapped)))
     open_seen gapped powered loss takes none its_wear =
         let it =
         goes_to setup (record p { board = lit }) (left c.board (Some gapped)) c.taken watched (with_power old) most powered
@@ -226,7 +226,7 @@ module _ (c : OnWearCall) where
       × IsWearAnswered (wear_setup_in c.formulas_of c.now) c.now Do.On answer (wear_of (setup_under c.formulas_of c.geometry c.keys) (left_under board gapped))
 
   exit_of : (board : BoardMemory) (gapped : Option Gapped) (answer : WearAnswer) → IsWearWorld setup (left board gapped)
-      → HasOpenedAs old answer (wear_of setup (left board gapped)) → WearExit board gapped answer
+      → HasWearOpened old answer (wear_of setup (left board gapped)) → WearExit board gapped answer
   exit_of board gapped answer world it = (
     held_under c.formulas_of c.geometry p (left board gapped) c.keys c.same_keys world,
     seen_from c.formulas_of c.geometry p (left board gapped) c.now c.keys Do.On answer c.is c.same_keys refl
@@ -293,7 +293,7 @@ module _ (c : OnWearCall) where
         exit_of c.board None (Say.Cut (steps_in c.taken)) (dark_world marks c.board cut.dark cut.durable cut.small_group)
         (cut_seen marks cut.dark cut.loss cut.takes)
 
-    by_opened : (opened : Result Gapped GapFault) → HasOpened setup p.every (parts_between between suite_between engine work it) parts_to opened
+    by_opened : (opened : Result Gapped GapFault) → HasGappedOpened setup p.every (parts_between between suite_between engine work it) parts_to opened
         → WearOutcome (wear_started_as opened)
     by_opened (Ok gapped) opened = opened_exit gapped opened.0 opened.1
     by_opened (Err (Gap.Engine Fail.Cut)) opened = read_cut_exit opened.0 opened.1

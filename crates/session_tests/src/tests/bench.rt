@@ -10,11 +10,12 @@ ghost use Rattle.seal_ledger.specs.View.{ledger_of};
 ghost use Rattle.pmem_engine.specs.Calls.{IsReady};
 
 use board::MemBoard;
-use pmem_base::Geo;
-use pmem_engine::Engine;
+use pmem_base::{Ctr, Geo, Line};
+use pmem_engine::{Engine, Fault};
 use pmem_recovery::{format, recover};
-use seal_ledger::Ledger;
+use seal_ledger::{Audit, Ledger};
 use std::alloc::Global;
+use std::process::Abort;
 use std::test::Fail;
 use suite::WeakSuite;
 
@@ -69,4 +70,28 @@ pub(super) fn recovered(alloc: Global, bench: &mut Bench) -> Result<Engine, Fail
 pub(super) fn steps(bench: &Bench) -> u64 {
     let (_, writes, latches) = bench.board.counts();
     writes.wrapping_add(latches)
+}
+
+/// Writes a data line by the engine, past what is kept over it.
+pub(super) fn write_past(
+    rt: &impl Abort,
+    bench: &mut Bench,
+    engine: &mut Engine,
+    at: u32,
+    line: &Line,
+) -> Result<Ctr, Fault>
+    requires shape { engine.old.shape ≡ shape_of bench.old.geo }
+    requires ready { IsReady engine.old.shape engine.old (device_of (memory_of bench.old.board)) }
+    ensures geo { shape_of bench.new.geo ≡ shape_of bench.old.geo }
+    ensures shape { engine.new.shape ≡ engine.old.shape }
+    ensures ready { IsReady engine.new.shape engine.new (device_of (memory_of bench.new.board)) }
+{
+    assert!(rt; at < engine.geo().lines() && bench.ledger.reserve(66).is_ok());
+    engine.write(
+        &mut bench.board,
+        &mut bench.suite,
+        &mut bench.ledger,
+        at,
+        line,
+    )
 }

@@ -6,10 +6,10 @@ ghost use Rattle.board.specs.Memory.{device_of};
 ghost use Rattle.board.specs.MemBoard.{memory_of};
 ghost use Rattle.pmem_engine.specs.Calls.{IsReady};
 
-use super::bench::{Bench, fresh, recovered, steps};
+use super::bench::{Bench, fresh, recovered, steps, write_past};
 use crate::tests::equal;
 use board::Board;
-use pmem_base::{Ctr, Line};
+use pmem_base::Line;
 use pmem_engine::{Engine, Fault};
 use seal_ledger::Audit;
 use start_gap::{GapFault, Gapped, Moved, Wear, WriteFault, place};
@@ -70,30 +70,6 @@ fn put(
         &mut bench.ledger,
         line,
         plain,
-    )
-}
-
-/// Writes a data line past the levelling.
-fn write_past(
-    rt: &impl Abort,
-    bench: &mut Bench,
-    engine: &mut Engine,
-    at: u32,
-    line: &Line,
-) -> Result<Ctr, Fault>
-    requires shape { engine.old.shape ≡ shape_of bench.old.geo }
-    requires ready { IsReady engine.old.shape engine.old (device_of (memory_of bench.old.board)) }
-    ensures geo { shape_of bench.new.geo ≡ shape_of bench.old.geo }
-    ensures shape { engine.new.shape ≡ engine.old.shape }
-    ensures ready { IsReady engine.new.shape engine.new (device_of (memory_of bench.new.board)) }
-{
-    assert!(rt; at < engine.geo().lines() && bench.ledger.reserve(66).is_ok());
-    engine.write(
-        &mut bench.board,
-        &mut bench.suite,
-        &mut bench.ledger,
-        at,
-        line,
     )
 }
 

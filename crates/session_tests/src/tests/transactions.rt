@@ -8,16 +8,33 @@ ghost use Rattle.pmem_engine.specs.Calls.{IsReady};
 ghost use Rattle.line_txn.specs.Header.{AreDistinctBelow};
 ghost use Rattle.line_txn.specs.Logged.{targets_of};
 
-use super::bench::{Bench, fresh, recovered, steps};
+use super::bench::{Bench, fresh, recovered, steps, write_past};
 use crate::tests::equal;
 use arrayvec::ArrayVec;
-use line_txn::{CommitFault, Done, Opened, Store};
+use line_txn::{CommitFault, Done, Opened, Store, TxnFault};
 use pmem_base::Line;
-use pmem_engine::Fault;
+use pmem_engine::{Engine, Fault};
 use seal_ledger::Audit;
 use std::alloc::Global;
 use std::process::Abort;
 use std::test::Fail;
+
+/// Opens the lines of an engine over the memory.
+fn open(rt: &impl Abort, bench: &mut Bench, engine: Engine) -> Result<(Store, Opened), TxnFault>
+    requires shape { engine.shape ≡ shape_of bench.old.geo }
+    requires ready { IsReady engine.shape engine (device_of (memory_of bench.old.board)) }
+    ensures geo { shape_of bench.new.geo ≡ shape_of bench.old.geo }
+    ensures shape { IfOk result (λ opened. opened.0.engine.shape ≡ shape_of bench.old.geo) }
+    ensures ready { IfOk result (λ opened. IsReady opened.0.engine.shape opened.0.engine (device_of (memory_of bench.new.board))) }
+{
+    assert!(rt; bench.ledger.reserve(1056).is_ok());
+    Store::open(
+        engine,
+        &mut bench.board,
+        &mut bench.suite,
+        &mut bench.ledger,
+    )
+}
 
 /// Recovers the memory, and opens its lines.
 fn opened(rt: &impl Abort, alloc: Global, bench: &mut Bench) -> Result<(Store, Opened), Fail>
@@ -26,13 +43,7 @@ fn opened(rt: &impl Abort, alloc: Global, bench: &mut Bench) -> Result<(Store, O
     ensures ready { IfOk result (λ opened. IsReady opened.0.engine.shape opened.0.engine (device_of (memory_of bench.new.board))) }
 {
     let engine = recovered(alloc, bench)?;
-    assert!(rt; bench.ledger.reserve(1056).is_ok());
-    match Store::open(
-        engine,
-        &mut bench.board,
-        &mut bench.suite,
-        &mut bench.ledger,
-    ) {
+    match open(rt, bench, engine) {
         Ok(both) => Ok(both),
         Err(_) => Err(Fail::new("not opened")),
     }
@@ -138,4 +149,62 @@ fn cuts_leave_all_or_none(rt: HostRuntime) -> Result<(), Fail> {
         assert_eq!(rt; found, lines, "at {fuse}");
     }
     Ok(())
+}
+
+/// The header of fifteen targets, 240 and from 1 to 14, with one byte set to this one.
+fn header_with(at: usize, byte: u8) -> Line {
+    let mut line = Line([0; 64]);
+    line.0[0] = 15;
+    line.0[7] = 240;
+    for i in 1..15_u8 {
+        line.0[usize::from(i) * 4 + 7] = i;
+    }
+    if at < 64 {
+        line.0[at] = byte;
+    }
+    line
+}
+
+/// Writes this line in the place of the header, and opens the lines.
+fn open_over(
+    rt: &impl Abort,
+    alloc: Global,
+    line: &Line,
+) -> Result<Result<Opened, TxnFault>, Fail> {
+    let mut bench = fresh(alloc, 0)?;
+    let mut engine = recovered(alloc, &mut bench)?;
+    let written = write_past(rt, &mut bench, &mut engine, 1008, line);
+    equal(rt, written.is_ok(), true);
+    match open(rt, &mut bench, engine) {
+        Ok((_, opened)) => Ok(Ok(opened)),
+        Err(fault) => Ok(Err(fault)),
+    }
+}
+
+/// With this byte changed the line is no header.
+fn refuse(rt: &impl Abort, alloc: Global, at: usize, byte: u8) -> Result<(), Fail> {
+    let line = header_with(at, byte);
+    let found = open_over(rt, alloc, &line)?;
+    equal(rt, (at, found), (at, Err(TxnFault::Header { line })));
+    Ok(())
+}
+
+// A header of fifteen targets is in force. With one byte changed no commit could have written it.
+#[test]
+fn other_headers_are_refused(rt: HostRuntime) -> Result<(), Fail> {
+    let found = open_over(&rt, rt.alloc(), &header_with(0, 15))?;
+    let opened = Opened {
+        redone: 15,
+        stuck: None,
+    };
+    equal(&rt, found, Ok(opened));
+    // the count is above 15, and one that leaves a target out
+    refuse(&rt, rt.alloc(), 0, 16)?;
+    refuse(&rt, rt.alloc(), 0, 14)?;
+    // the first target isn't below 1,008, and is the sixth one too
+    refuse(&rt, rt.alloc(), 6, 3)?;
+    refuse(&rt, rt.alloc(), 7, 5)?;
+    // another byte isn't 0
+    refuse(&rt, rt.alloc(), 1, 1)?;
+    refuse(&rt, rt.alloc(), 3, 1)
 }
