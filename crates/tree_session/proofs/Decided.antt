@@ -41,12 +41,7 @@ pub found_some : {X : Type 0} (found : Option X) (some : Bool) → some ≡ is_s
 found_some None some its is = absurd (false≢true (sym its ∙ is))
 found_some (Some x) some its is = (x, refl)
 
--- what holds of an answer that is no error
-pub from_no_error : {T E P : Type 0} (answer : Result T E) → (IsErr answer → ⊥) → OnOk answer P → P
-from_no_error (Ok value) fine holds = holds
-from_no_error (Err error) fine holds = absurd (fine refl)
-
--- and what holds of one
+-- what holds of an answer that is an error
 from_error : {T E P : Type 0} (answer : Result T E) → IsErr answer → OnErr answer P → P
 from_error (Ok value) is holds = absurd (false≢true is)
 from_error (Err error) is holds = holds

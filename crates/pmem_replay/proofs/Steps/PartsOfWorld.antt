@@ -132,11 +132,6 @@ pub engine_some : (engine : Option EngineState) (none : Bool) → is_some engine
 engine_some None none its is = absurd (true≢false (sym (its ∙ ap not is)))
 engine_some (Some found) none its is = (found, refl)
 
--- what holds of an answer that is no error
-pub from_no_error : {T E P : Type 0} (answer : Result T E) → (IsErr answer → ⊥) → OnOk answer P → P
-from_no_error (Ok value) fine holds = holds
-from_no_error (Err error) fine holds = absurd (fine refl)
-
 -- what a command owes as it returns: the world that it leaves, and its step
 pub record EndsCall (formulas_of : List ℕ → Formulas) (g : Shape) (now : WorldState) (command : Command) (reply : Reply) (q : WorldParts) : Type 0 where
   pub holds : q.shown ≡ false → IsWorld (setup_in formulas_of g q) (world_of (setup_in formulas_of g q) q)
