@@ -9,6 +9,7 @@ use Rattle.board.specs.Device.{Device}
 use Rattle.board.specs.Memory.{BoardMemory}
 use Rattle.watched_board.specs.declared.taken.Taken.{Taken}
 use Rattle.watched_board.specs.Watching.{counted, cuts_after, steps_in, step_limit, device_during, none_taken, IsWatched}
+use Rattle.watched_board.proofs.StepLaws.{rose}
 use Rattle.tree_session.specs.Answered.{TakesTreeSteps, IsTreeCutAt}
 
 -- ---- counts
@@ -22,15 +23,6 @@ risen-one last l tl nl latches in_l = (omega arith, λ below. omega arith)
 
 unrisen-one : (last l nl : ℕ) → nl ≡ min (l + 0) last → l ≤ last → nl ≡ l
 unrisen-one last l nl latches in_l = omega arith
-
--- a count after some more has risen
-rose_by : (before more : ℕ) → 0 < more → HasRisen before (cuts_after before more)
-rose_by before zero some = absurd (omega (arith, some))
-rose_by before (suc more) some =
-    elim (cases_lt before (counted before (suc more))) [
-      | inl above ↦ inl above
-      | inr below ↦ inr (omega (arith, below))
-    ]
 
 -- a fuse with nothing burnt
 unburnt : (fuse : Option ℕ) → option_map (λ m. m - 0) fuse ≡ fuse
@@ -77,7 +69,7 @@ module _ (old new : BoardMemory) (taken : Taken) (watched : IsWatched old new ta
             record {
               at_end = watched.follows.spent off below;
               cleared = watched.follows.cleared off;
-              cut = subst (λ n. HasRisen old.cuts n) (sym watched.follows.cuts) (rose_by old.cuts taken.cuts (watched.follows.cut off));
+              cut = rose old new taken watched.follows off;
             };
         power = off;
         snapshot = watched.follows.snapshot;

@@ -34,8 +34,8 @@ use Rattle.line_txn.proofs.LoggedLaws.{kept_by_opening}
 use Rattle.line_txn.proofs.Openings.{logged_size}
 use Rattle.line_txn.proofs.EditStages.{redoing_fit}
 use Rattle.watched_board.specs.Watching.{steps_in, device_during, none_taken, IsWatched}
+use Rattle.watched_board.proofs.StepLaws.{at_most, fewer}
 use Rattle.wear_session.specs.Answered.{Writing, IsCutAmong, read_steps}
-use Rattle.wear_session.proofs.Worlds.{at_most, fewer}
 use Rattle.wear_session.proofs.Seen.{setup_under}
 use Rattle.wear_session.proofs.Starts.{one_latch}
 use Rattle.wear_session.proofs.WriteLaws.{whole_places}
@@ -199,7 +199,7 @@ module _ (c : OnTxnCall) where
     cut_seen came dark loss takes =
         let it =
         cut_off setup (record p { board = lit }) (left c.board None) c.taken watched (after_redo old writing) most dark
-        (fewer lit c.board c.taken most watched.follows.few takes)
+        (fewer c.taken most watched.follows.few takes.sum)
         (few_of_on c.geometry world.whole_shape (length targets) its_targets.few)
         (record {
           shape = refl;
@@ -230,7 +230,7 @@ module _ (c : OnTxnCall) where
     goes store powered loss takes =
         let it =
         goes_to setup (record p { board = lit }) (left c.board (Some store)) c.taken watched (record (after_redo old writing) { stuck = store.stuck }) most
-        powered (at_most lit c.board c.taken most watched.follows.few takes)
+        powered (at_most c.taken most watched.follows.few takes.sum)
         (record {
           shape = refl;
           keys = refl;

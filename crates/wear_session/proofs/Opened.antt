@@ -37,6 +37,7 @@ use Rattle.start_gap.specs.Record.{recorded}
 use Rattle.start_gap.specs.Logical.{IsLevelled}
 use Rattle.start_gap.specs.Gapped.{HasGappedOpened, HasReadRecord, logical_lines}
 use Rattle.watched_board.specs.Watching.{steps_in, device_during, none_taken, IsWatched}
+use Rattle.watched_board.proofs.StepLaws.{at_most, fewer}
 use Rattle.wear_session.specs.declared.calls.StartFault.{StartFault}
 use Rattle.wear_session.specs.declared.calls.StartFault.TheVariants as Start
 use Rattle.wear_session.specs.declared.commands.WearCommand.TheVariants as Do
@@ -46,7 +47,7 @@ use Rattle.wear_session.specs.During.{HasWearStarted, HasWearOpenedAfter, wear_s
 use Rattle.wear_session.specs.State.{WearState, wear_setup_in}
 use Rattle.wear_session.specs.World.{WearParts, IsWearWorld, IsLevelledOff, IsLevelledBy, wear_in, levelled_memory, wear_of}
 use Rattle.wear_session.specs.Answered.{IsWearAnswered, IsWearShownBy, IsWearMemoryWanted, HasWearOpened, wear_decided, with_power, read_steps}
-use Rattle.wear_session.proofs.Worlds.{at_most, fewer, goes_to, cut_off, on_after, off_after}
+use Rattle.wear_session.proofs.Worlds.{goes_to, cut_off, on_after, off_after}
 use Rattle.wear_session.proofs.Seen.{setup_under, served, seen_from, held_under}
 use Rattle.wear_session.proofs.EngineWrites.{most_within, fewer_within, AreDone, read_line, read_done, read_cut}
 use Rattle.wear_session.proofs.Starts.{OnWearCall, one_latch, few_of_on}
@@ -124,7 +125,7 @@ module _ (c : OnWearCall) where
     cut_seen dark loss takes =
         let it =
         cut_off setup (record p { board = lit }) (left c.board None) c.taken watched old most dark
-        (fewer lit c.board c.taken most watched.follows.few takes) (few_of_on c.geometry c.world.whole_shape)
+        (fewer c.taken most watched.follows.few takes.sum) (few_of_on c.geometry c.world.whole_shape)
         (record {
           shape = refl;
           keys = refl;
@@ -149,7 +150,7 @@ module _ (c : OnWearCall) where
     open_seen gapped powered loss takes none its_wear =
         let it =
         goes_to setup (record p { board = lit }) (left c.board (Some gapped)) c.taken watched (with_power old) most powered
-        (at_most lit c.board c.taken most watched.follows.few takes)
+        (at_most c.taken most watched.follows.few takes.sum)
         (record {
           shape = refl;
           keys = refl;
