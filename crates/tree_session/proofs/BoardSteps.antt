@@ -1,14 +1,13 @@
 -- The steps of a call on a watched board, as an answer tells them.
-use Rattle.std.proofs.Common.{ℕ, zero, suc, ◌≡◌, ◌<◌, ◌≤◌, ◌+◌, ◌-◌, true, false, Bool, inl, inr, Option, Some, None, refl, sym, ap, subst, ◌∙◌, arith}
+use Rattle.std.proofs.Common.{ℕ, ◌≡◌, ◌<◌, ◌≤◌, ◌+◌, ◌-◌, true, false, Bool, Option, Some, None, refl, ap, ◌∙◌, arith}
 use Rattle.std.specs.Prelude.{min, option_map, IfSome}
-use Rattle.std.proofs.lemmas.Bool.{cases_lt}
 use Rattle.std.proofs.lemmas.Option.{same_Some}
-use Rattle.pmem_base.specs.Counts.{last_count, HasRisen}
+use Rattle.pmem_base.specs.Counts.{last_count}
 use Rattle.board.specs.Counts.{RisesBy}
 use Rattle.board.specs.Device.{Device}
 use Rattle.board.specs.Memory.{BoardMemory}
 use Rattle.watched_board.specs.declared.taken.Taken.{Taken}
-use Rattle.watched_board.specs.Watching.{counted, cuts_after, steps_in, step_limit, device_during, none_taken, IsWatched}
+use Rattle.watched_board.specs.Watching.{counted, steps_in, step_limit, device_during, none_taken, IsWatched}
 use Rattle.watched_board.proofs.StepLaws.{rose}
 use Rattle.tree_session.specs.Answered.{TakesTreeSteps, IsTreeCutAt}
 

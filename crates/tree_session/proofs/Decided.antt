@@ -1,6 +1,6 @@
 -- Answers that the state decides.
 use Rattle.std.proofs.Common.{ℕ, ◌≡◌, ◌<◌, ◌≤◌, true, false, Bool, List, Option, Some, None, Ok, Err, refl, sym, ap, subst, ◌∙◌}
-use Rattle.std.specs.Prelude.{Result, IsErr, OnOk, OnErr, nat_lt, not, is_none, is_some, if◌then◌else◌, slice_set, All}
+use Rattle.std.specs.Prelude.{Result, IsErr, OnErr, nat_lt, not, is_none, is_some, if◌then◌else◌, slice_set, All}
 use Rattle.std.proofs.lemmas.Bool.{lt-ltb, le-ltb, true≢false, false≢true}
 use Rattle.pmem_base.specs.declared.lines.Line.{Line}
 use Rattle.pmem_base.specs.Lines.{IsLine, line_at}

@@ -1,9 +1,7 @@
 -- What a session holds after a call that goes on or is cut, and how its state stands to the one before.
-use Rattle.std.proofs.Common.{rules, ℕ, zero, suc, ◌≡◌, ◌<◌, ◌≤◌, ◌+◌, inl, inr, true, false, List, length, Option, Some, None, refl, sym, ap, subst, ◌∙◌, arith}
+use Rattle.std.proofs.Common.{rules, ℕ, zero, ◌≡◌, ◌<◌, ◌≤◌, true, false, List, length, Option, Some, None, refl, sym, ap, subst, ◌∙◌, arith}
 use Rattle.std.specs.Prelude.{IsSome, option_map}
-use Rattle.std.proofs.lemmas.Bool.{cases_lt}
 use Rattle.std.proofs.lemmas.Option.{none-some}
-use Rattle.pmem_base.specs.Counts.{last_count, HasRisen}
 use Rattle.pmem_base.specs.declared.answers.Mark.{Mark}
 use Rattle.pmem_base.specs.Layout as layout
 use Rattle.pmem_base.specs.Marks.{SealOf, last_seal}
@@ -23,9 +21,8 @@ use Rattle.pmem_engine.specs.Invariants.{IsAnchored, IsDurable, IsSound}
 use Rattle.start_gap.specs.declared.gapped.Gapped.{Gapped}
 use Rattle.start_gap.specs.Logical.{IsLevelled}
 use Rattle.start_gap.specs.Gapped.{logical_lines}
-use Rattle.pmem_engine.specs.Outcomes.{TakesAtMost, TakesFewer}
 use Rattle.watched_board.specs.declared.taken.Taken.{Taken}
-use Rattle.watched_board.specs.Watching.{counted, cuts_after, steps_in, step_limit, device_during, none_taken, FollowsOn, IsWatched}
+use Rattle.watched_board.specs.Watching.{steps_in, step_limit, FollowsOn, IsWatched}
 use Rattle.watched_board.proofs.StepLaws.{rose}
 use Rattle.trace_text.specs.Sessions.{HasBurnt, HasRunOut}
 use Rattle.wear_session.specs.State.{WearState, wear_without_power}

@@ -6,7 +6,6 @@ use Rattle.std.proofs.lemmas.Bool.{true≢false}
 use Rattle.std.proofs.lemmas.List.{append-nil, length-replicate, get_or-replicate}
 use Rattle.pmem_base.specs.declared.commands.Posted.{Posted}
 use Rattle.pmem_base.specs.declared.commands.Command.{Command}
-use Rattle.pmem_base.specs.Counts.{last_count}
 use Rattle.pmem_base.specs.Shape.{Shape}
 use Rattle.pmem_base.specs.Layout as layout
 use Rattle.pmem_base.specs.WaitingWrites.{no_writes}
@@ -22,7 +21,7 @@ use Rattle.plain_model.specs.Answers.{decided_answer}
 use Rattle.plain_model.specs.State.{Reply}
 use Rattle.plain_model.specs.View.{DeviceView, IsMemoryOf}
 use Rattle.pmem_engine.specs.Engine.{EngineState}
-use Rattle.pmem_engine.specs.Outcomes.{going, cut_short, OneLossEffect, TakesAtMost, TakesFewer, TakesSteps}
+use Rattle.pmem_engine.specs.Outcomes.{going, cut_short, OneLossEffect, TakesSteps}
 use Rattle.pmem_replay.specs.World.{WorldState, HasFlags, HasQueues, IsOn, IsWorld}
 use Rattle.watched_board.specs.declared.taken.Taken.{Taken}
 use Rattle.watched_board.specs.Watching.{none_taken, device_during, steps_in, step_limit}

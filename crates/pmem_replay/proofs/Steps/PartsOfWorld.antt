@@ -1,6 +1,6 @@
 -- A world's fields as its parts, and steps as contracts write them.
 use Rattle.std.proofs.Common.{ℕ, ◌≡◌, Bool, false, List, [], Option, Some, None, refl, sym, ap, subst, ◌∙◌}
-use Rattle.std.specs.Prelude.{is_some, not, length, drop, Result, Ok, Err, IsErr, OnOk}
+use Rattle.std.specs.Prelude.{is_some, not, length, drop}
 use Rattle.std.proofs.lemmas.Bool.{true≢false}
 use Rattle.std.proofs.Math.Seq.{drop-append_seam}
 use Rattle.pmem_base.specs.declared.commands.Posted.{Posted}
