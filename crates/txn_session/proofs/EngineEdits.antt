@@ -24,7 +24,7 @@ use Rattle.line_txn.specs.declared.edits.Edit.{Edit}
 use Rattle.line_txn.specs.declared.edits.Edit.TheVariants as Make
 use Rattle.line_txn.specs.Edits.{HasLinePut, HasPutRead, HasEdited, CommitGoesOn, AreEdited, IsEditOf}
 use Rattle.wear_session.specs.Answered.{Writing, IsCutAmong, write_steps, read_steps}
-use Rattle.wear_session.proofs.AskedWrites.{stopped}
+use Rattle.pmem_engine.proofs.PostedWrites.StoppedWrites.{stopped}
 use Rattle.wear_session.proofs.EngineWrites.{memory_now, moment_now, most_within, fewer_within, AreDone, AreCut, memory_done, read_line, read_done, read_cut, write_done, spent_next, spent_done, write_cut}
 
 -- ---- the writes of changes

@@ -32,7 +32,8 @@ use Rattle.start_gap.specs.Gapped.{HasRecorded, HasRecordedAfter, HasCopied, Has
 use Rattle.start_gap.proofs.Places.{places, source-within}
 use Rattle.wear_session.specs.State.{moving_writes}
 use Rattle.wear_session.specs.Answered.{Writing, is_own_seal, IsCutAmong, write_steps, read_steps}
-use Rattle.wear_session.proofs.AskedWrites.{asked_own, own_by_seal, stopped}
+use Rattle.pmem_engine.proofs.PostedWrites.StoppedWrites.{stopped}
+use Rattle.wear_session.proofs.AskedWrites.{asked_own, own_by_seal}
 use Rattle.wear_session.proofs.EngineWrites.{memory_now, moment_now, most_within, fewer_within, AreDone, AreCut, IsCutAfter, IsCutBefore, none_done, memory_done, read_line, read_done, read_cut, write_done, write_asked, spent_next, spent_done, spent_path, write_cut}
 
 -- ---- the engine writes of a write

@@ -42,6 +42,7 @@ use Rattle.watched_board.specs.Watching.{none_taken, steps_in, step_limit}
 use Rattle.watched_board.proofs.StepLaws.{at_most, fewer}
 use Rattle.pmem_replay.specs.During.{parts_in}
 use Rattle.pmem_engine.proofs.PostedWrites.WriteParts.{last_seal-unsealed}
+use Rattle.pmem_engine.proofs.PostedWrites.StoppedWrites.{stopped}
 use Rattle.pmem_replay.proofs.Marks.SealedLines.{counter_now}
 use Rattle.pmem_replay.proofs.Steps.WorldsAfterCalls.{on_in, IsCall, cut_at_fuse, within_fuse}
 use Rattle.pmem_replay.proofs.Steps.FaultCauses.{on_path-within, may_differ, fetched_before, stored_unspoiled, hurt_before, tag_unstored, forged_unstored, forged_other, zero_within, shown_uncut}
@@ -53,7 +54,7 @@ use Rattle.plain_model.proofs.WriteMarks.{writing_bound-append}
 use Rattle.pmem_replay.proofs.Drains.DrainLists.{writing_bound-few}
 use Rattle.pmem_replay.proofs.Drains.WriteWorlds.{front_on_memory}
 use Rattle.pmem_replay.proofs.Drains.DrainChain.{IsDrainedTo, IsNextDrain, next-known, next-short, can-more, marks-more, fuse_more, fuse_cut, drains_fuse}
-use Rattle.pmem_replay.proofs.Drains.WriteReplies.{IsReplayWriting, part_none, stopped, place_refused, meta_refused, refused_part}
+use Rattle.pmem_replay.proofs.Drains.WriteReplies.{IsReplayWriting, part_none, place_refused, meta_refused, refused_part}
 use Rattle.pmem_replay.proofs.Steps.GoodReplies.{IsGood}
 use Rattle.pmem_replay.proofs.Drains.WriteBounds.{takes_meta, takes_tag, some_asked, view_both, refused_bound, refusal_within, none_within, bound_by, first_next, bound_at, CanBeRefusedIn, next_count}
 
