@@ -35,6 +35,7 @@ use Rattle.line_txn.specs.Header.{IsHeader}
 use Rattle.line_txn.specs.Edits.{redoing_edits}
 use Rattle.line_txn.specs.Store.{HasStoreOpened, HasStoreStarted, HasFailedRedo, IsOpenedBy}
 use Rattle.watched_board.specs.Watching.{steps_in}
+use Rattle.watched_board.proofs.StepLaws.{unburnt}
 use Rattle.wear_session.specs.Answered.{Writing, read_steps}
 use Rattle.wear_session.proofs.Seen.{setup_under}
 use Rattle.wear_session.proofs.Twins.{tried_line, seal_twin}
@@ -279,10 +280,6 @@ module _ (c : OnTxnCall) where
       (fewer_within from to (most_recovery_steps setup lit.regs) most (let few = state.few_recovery c in omega (arith, few)) it.steps))
 
   -- nothing was done, for want of memory
-  no_fuse_burnt : (fuse : Option ℕ) → option_map (λ n. n - 0) fuse ≡ fuse
-  no_fuse_burnt None = refl
-  no_fuse_burnt (Some n) = ap (λ (k : ℕ). Some k) (omega arith)
-
   recovery_wanted : (suite_between : SuiteState) → HasRecovered setup p.ledger from to c.suite_old suite_between (Err Rec.Memory)
       → c.ledger ≡ p.ledger → OpenOutcome (Err (Start.Recovery Rec.Memory))
   recovery_wanted suite_between it ledger =
@@ -296,7 +293,7 @@ module _ (c : OnTxnCall) where
       let follows = (state.watched c).follows in
       let none : steps_in c.taken ≡ 0 = omega (arith, no_writes, no_latches) in
       let fuse : c.board.fuse ≡ p.board.fuse =
-      follows.burnt lasting ∙ ap (λ k. option_map (λ n. n - k) p.board.fuse) none ∙ no_fuse_burnt p.board.fuse in
+      follows.burnt lasting ∙ ap (λ k. option_map (λ n. n - k) p.board.fuse) none ∙ unburnt p.board.fuse in
       let writes : c.board.writes ≡ p.board.writes = omega (arith, follows.writes, (state.watched c).in_count.writes, no_writes) in
       let latches : c.board.latches ≡ p.board.latches = omega (arith, follows.latches, (state.watched c).in_count.latches, no_latches) in
       let cuts : c.board.cuts ≡ p.board.cuts = follows.uncut lasting in

@@ -1,5 +1,6 @@
 -- The steps and the cuts of a call on a watched board, from what it took.
-use Rattle.std.proofs.Common.{ℕ, zero, suc, ◌≡◌, ◌<◌, ◌≤◌, ◌+◌, false, inl, inr, sym, subst, arith}
+use Rattle.std.proofs.Common.{ℕ, zero, suc, ◌≡◌, ◌<◌, ◌≤◌, ◌+◌, ◌-◌, false, inl, inr, Option, Some, None, refl, sym, ap, subst, arith}
+use Rattle.std.specs.Prelude.{option_map}
 use Rattle.std.proofs.lemmas.Bool.{cases_lt}
 use Rattle.pmem_base.specs.Counts.{last_count, HasRisen}
 use Rattle.board.specs.Memory.{BoardMemory}
@@ -22,6 +23,11 @@ pub fewer : (taken : Taken) (n : ℕ) → steps_in taken ≤ step_limit
 fewer taken n few bound =
     let exact = few_exact taken few in
     omega (arith, bound exact.0 exact.1)
+
+-- a fuse with nothing burnt
+pub unburnt : (fuse : Option ℕ) → option_map (λ n. n - 0) fuse ≡ fuse
+unburnt None = refl
+unburnt (Some n) = ap (λ (k : ℕ). Some k) (omega arith)
 
 -- a count after some more has risen
 rose_by : (before more : ℕ) → 0 < more → HasRisen before (cuts_after before more)

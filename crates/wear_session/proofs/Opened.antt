@@ -37,7 +37,7 @@ use Rattle.start_gap.specs.Record.{recorded}
 use Rattle.start_gap.specs.Logical.{IsLevelled}
 use Rattle.start_gap.specs.Gapped.{HasGappedOpened, HasReadRecord, logical_lines}
 use Rattle.watched_board.specs.Watching.{steps_in, device_during, none_taken, IsWatched}
-use Rattle.watched_board.proofs.StepLaws.{at_most, fewer}
+use Rattle.watched_board.proofs.StepLaws.{at_most, fewer, unburnt}
 use Rattle.wear_session.specs.declared.calls.StartFault.{StartFault}
 use Rattle.wear_session.specs.declared.calls.StartFault.TheVariants as Start
 use Rattle.wear_session.specs.declared.commands.WearCommand.TheVariants as Do
@@ -338,10 +338,6 @@ module _ (c : OnWearCall) where
       (fewer_within from to (most_recovery_steps setup lit.regs) most (let few = few_recovery in omega (arith, few)) it.steps))
 
   -- nothing was done, for want of memory
-  no_fuse_burnt : (fuse : Option ℕ) → option_map (λ n. n - 0) fuse ≡ fuse
-  no_fuse_burnt None = refl
-  no_fuse_burnt (Some n) = ap (λ (k : ℕ). Some k) (omega arith)
-
   recovery_wanted : (suite_between : SuiteState) → HasRecovered setup p.ledger from to c.suite_old suite_between (Err Rec.Memory)
       → c.ledger ≡ p.ledger → WearOutcome (Err (Start.Recovery Rec.Memory))
   recovery_wanted suite_between it ledger =
@@ -355,7 +351,7 @@ module _ (c : OnWearCall) where
       let follows = watched.follows in
       let none : steps_in c.taken ≡ 0 = omega (arith, no_writes, no_latches) in
       let fuse : c.board.fuse ≡ p.board.fuse =
-      follows.burnt lasting ∙ ap (λ k. option_map (λ n. n - k) p.board.fuse) none ∙ no_fuse_burnt p.board.fuse in
+      follows.burnt lasting ∙ ap (λ k. option_map (λ n. n - k) p.board.fuse) none ∙ unburnt p.board.fuse in
       let writes : c.board.writes ≡ p.board.writes = omega (arith, follows.writes, watched.in_count.writes, no_writes) in
       let latches : c.board.latches ≡ p.board.latches = omega (arith, follows.latches, watched.in_count.latches, no_latches) in
       let cuts : c.board.cuts ≡ p.board.cuts = follows.uncut lasting in
