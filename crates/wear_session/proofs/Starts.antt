@@ -1,13 +1,11 @@
 -- Recovery, and then the opening of the lines: one relation, and the steps of both.
-use Rattle.std.proofs.Common.{Bool, true, false, Option, Some, None, sym, ◌∙◌, ℕ, mul-le-mul_left, mul-le-mul_right, ◌≡◌, ◌≤◌, ◌+◌, ◌*◌, List, [], ◌∷◌, Result, Ok, refl, ap, subst, arith}
+use Rattle.std.proofs.Common.{Bool, true, false, Option, Some, None, sym, ◌∙◌, ℕ, mul-le-mul_left, mul-le-mul_right, ◌≡◌, ◌≤◌, ◌+◌, ◌*◌, List, Result, Ok, refl, ap, subst, arith}
 use Rattle.std.specs.Prelude.{is_some}
 use Rattle.std.proofs.lemmas.Bool.{true≢false}
-use Rattle.pmem_base.specs.declared.lines.Line.{Line}
 use Rattle.pmem_base.specs.Layout as layout
 use Rattle.pmem_base.specs.Shape.{Shape, IsShape}
 use Rattle.board.specs.Device.{Device}
 use Rattle.board.specs.Memory.{BoardMemory}
-use Rattle.commit_regs.specs.Groups.{finishing_latches}
 use Rattle.seal_ledger.specs.Ledger.{LedgerState}
 use Rattle.suite.specs.Formulas.{Formulas}
 use Rattle.plain_model.specs.Bounds.{path_length, recovery_bound}
@@ -59,10 +57,6 @@ has_started formulas_of g every old between new ledger_old ledger_new suite_old 
     }
 
 -- ---- bounds
-
-pub one_latch : (group : List (ℕ × Line)) → finishing_latches group ≤ 1
-one_latch [] = omega arith
-one_latch (entry ∷ rest) = omega arith
 
 pub few_of_on : (g : Shape) → IsShape g → recovery_bound g + read_steps g ≤ step_limit
 few_of_on g shape =

@@ -122,7 +122,7 @@ wears_as setup a plain old new from to answer it = go it.made it.then
 
 -- ---- bounds
 
-within_done : (setup : Setup) (from : Parts) (writes : List Posted) (made : List Mark) (n m : ℕ) (to : Parts) → n ≤ m
+pub within_done : (setup : Setup) (from : Parts) (writes : List Posted) (made : List Mark) (n m : ℕ) (to : Parts) → n ≤ m
     → AreDone setup from writes made n to → AreDone setup from writes made m to
 within_done setup from writes made n m to few it =
     record {
@@ -135,7 +135,7 @@ within_done setup from writes made n m to few it =
       takes = most_within from.device to.device n m few it.takes;
     }
 
-within_cut : (setup : Setup) (from : Parts) (writes : List Posted) (made : List Mark) (n m : ℕ) (to : Parts) → n ≤ m
+pub within_cut : (setup : Setup) (from : Parts) (writes : List Posted) (made : List Mark) (n m : ℕ) (to : Parts) → n ≤ m
     → AreCut setup from writes made n to → AreCut setup from writes made m to
 within_cut setup from writes made n m to few it =
     record {

@@ -29,7 +29,7 @@ use Rattle.pmem_engine.specs.Calls.{HasWrittenLine, write_bound}
 use Rattle.pmem_replay.specs.World.{WorldState, IsOn, IsWorld, view_in, lines_in}
 use Rattle.watched_board.specs.declared.taken.Taken.{Taken}
 use Rattle.watched_board.specs.Watching.{none_taken, steps_in}
-use Rattle.watched_board.proofs.StepLaws.{at_most}
+use Rattle.watched_board.proofs.StepLaws.{at_most, unburnt}
 use Rattle.pmem_replay.specs.During.{parts_in}
 use Rattle.pmem_replay.proofs.Steps.WorldsAfterCalls.{on_in, IsCall, within_fuse}
 use Rattle.pmem_replay.proofs.Steps.FaultCauses.{stored_unspoiled, zero_within}
@@ -52,8 +52,7 @@ fuse_twice None first second = refl
 fuse_twice (Some n) first second = ap (λ (k : ℕ). Some k) (omega arith)
 
 pub fuse_none : (fuse : Option ℕ) → fuse ≡ option_map (λ n. n - 0) fuse
-fuse_none None = refl
-fuse_none (Some n) = ap (λ (k : ℕ). Some k) (omega arith)
+fuse_none fuse = sym (unburnt fuse)
 
 -- steps taken after others are within the fuse that those left
 pub fuse_more : (fuse : Option ℕ) (first second : ℕ) → IfSome fuse (λ n. first ≤ n)
