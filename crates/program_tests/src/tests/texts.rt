@@ -5,7 +5,7 @@ ghost use Rattle.trace_text.specs.Answers.{HasSmallMinors};
 
 use crate::tests::equal;
 use arrayvec::ArrayVec;
-use pmem_base::{Answer, Command, Ctr, Exhibit, Kind, Line, Mark, Place, Stat};
+use pmem_base::{Answer, Command, Ctr, Exhibit, GhostLine, Kind, Line, Mark, Place, Stat};
 use rand_xoshiro::SplitMix64;
 use rand_xoshiro::rand_core::SeedableRng;
 use rand_xoshiro::rand_core::utils::NextWord;
@@ -365,7 +365,7 @@ fn writes_texts(rt: HostRuntime) {
     let seal = Mark::Seal {
         at: 0,
         ctr: Ctr { major: 0, minor: 1 },
-        cipher: Line([0; 64]),
+        cipher: GhostLine::of(&Line([0; 64])),
         tag: [0x51; 16],
     };
     let seal_text = b"seal 0 0.1 51515151515151515151515151515151";
