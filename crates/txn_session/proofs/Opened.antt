@@ -261,7 +261,7 @@ module _ (c : OnTxnCall) where
   recovery_wanted : (suite_between : SuiteState) → HasRecovered setup p.ledger from to c.suite_old suite_between (Err Rec.Memory)
       → c.ledger ≡ p.ledger → OpenOutcome (Err (Start.Recovery Rec.Memory))
   recovery_wanted suite_between it ledger =
-      let marks = ap (λ (l : LedgerState). l.marks) ledger in
+      let marks : c.ledger.marks ≡ p.ledger.marks = ap (λ (l : LedgerState). l.marks) ledger in
       let is = wanted_left setup p.ledger c.ledger lit c.board c.taken c.suite_old suite_between ledger (state.off c).durable (state.world c).few_armed it in
       let still = untouched lit c.board c.taken (state.watched c) it.unchanged refl in
       let loss : c.board.regs.loss ≡ p.board.regs.loss = is.loss in
@@ -280,7 +280,7 @@ module _ (c : OnTxnCall) where
       → HasRecovered setup p.ledger from to c.suite_old suite_between (Err (Rec.Twin at major low high cipher tag)) → c.ledger ≡ p.ledger
       → OpenOutcome (Err (Start.Recovery (Rec.Twin at major low high cipher tag)))
   recovery_twin suite_between at major low high cipher tag it ledger =
-      let marks = ap (λ (l : LedgerState). l.marks) ledger in
+      let marks : c.ledger.marks ≡ p.ledger.marks = ap (λ (l : LedgerState). l.marks) ledger in
       let is = twin_left setup p.ledger c.ledger lit c.board c.taken c.suite_old suite_between ledger (state.off c).durable (state.world c).few_armed at major low high cipher tag it in
       let within = twin_within setup p.ledger c.ledger lit c.board c.taken c.suite_old suite_between ledger (state.off c).durable (state.world c).few_armed at major low high cipher tag it in (
         state.dark_world c nothing_done (state.still_come c marks) rested refl is.durable is.few_armed,

@@ -287,7 +287,7 @@ module _ (c : OnWearCall) where
   recovery_cut : (suite_between : SuiteState) → HasRecovered setup p.ledger from to c.suite_old suite_between (Err Rec.Cut) → c.ledger ≡ p.ledger
       → WearExit c.board None (Say.Cut (steps_in c.taken))
   recovery_cut suite_between it ledger =
-      let marks = ap (λ (l : LedgerState). l.marks) ledger in
+      let marks : c.ledger.marks ≡ p.ledger.marks = ap (λ (l : LedgerState). l.marks) ledger in
       let is = cut_left setup p.ledger c.ledger lit c.board c.taken c.suite_old suite_between ledger off.durable c.world.few_armed it in
       let dark : c.board.powered ≡ false = it.power.off in
       exit_of c.board None (Say.Cut (steps_in c.taken)) (dark_world marks c.board dark is.durable is.few_armed)
@@ -299,7 +299,7 @@ module _ (c : OnWearCall) where
   recovery_wanted : (suite_between : SuiteState) → HasRecovered setup p.ledger from to c.suite_old suite_between (Err Rec.Memory)
       → c.ledger ≡ p.ledger → WearOutcome (Err (Start.Recovery Rec.Memory))
   recovery_wanted suite_between it ledger =
-      let marks = ap (λ (l : LedgerState). l.marks) ledger in
+      let marks : c.ledger.marks ≡ p.ledger.marks = ap (λ (l : LedgerState). l.marks) ledger in
       let is = wanted_left setup p.ledger c.ledger lit c.board c.taken c.suite_old suite_between ledger off.durable c.world.few_armed it in
       let still = untouched lit c.board c.taken watched it.unchanged refl in
       let loss : c.board.regs.loss ≡ p.board.regs.loss = is.loss in
@@ -317,7 +317,7 @@ module _ (c : OnWearCall) where
       → HasRecovered setup p.ledger from to c.suite_old suite_between (Err (Rec.Twin at major low high cipher tag)) → c.ledger ≡ p.ledger
       → WearOutcome (Err (Start.Recovery (Rec.Twin at major low high cipher tag)))
   recovery_twin suite_between at major low high cipher tag it ledger =
-      let marks = ap (λ (l : LedgerState). l.marks) ledger in
+      let marks : c.ledger.marks ≡ p.ledger.marks = ap (λ (l : LedgerState). l.marks) ledger in
       let is = twin_left setup p.ledger c.ledger lit c.board c.taken c.suite_old suite_between ledger off.durable c.world.few_armed at major low high cipher tag it in
       let within = twin_within setup p.ledger c.ledger lit c.board c.taken c.suite_old suite_between ledger off.durable c.world.few_armed at major low high cipher tag it in (
         dark_world marks rested refl is.durable is.few_armed,

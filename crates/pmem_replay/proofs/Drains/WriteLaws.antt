@@ -198,9 +198,6 @@ module _ (setup : Setup) (old mid new : WorldState) (command : Command) (d : Opt
         if_spent (refused_bound setup.shape n made written.made spent (steps_in taken) drained.bound few) in
         record { legal = record { legal = it.legal; shown = tt }; fits = it.fits }
 
-    pub meta-unsealed : is_sealed_by written.made write.at ≡ false
-    meta-unsealed = ap (λ marks. is_sealed_by marks write.at) meta-made
-
   module _ (b : ℕ) (written : HasWrittenLine setup write (parts_in mid engine none_taken) (parts_in new after taken) (Err (Fail.Tag b))) where
     tag_line_of : IsRefusedLine asked written.made write b
     tag_line_of = written.marks on_mid.trusted.not_down on_mid.trusted mid.state.memory call.world.memory.each
@@ -233,7 +230,7 @@ module _ (setup : Setup) (old mid new : WorldState) (command : Command) (d : Opt
   -- ---- a spent write
 
   module _ (page : ℕ) (written : HasWrittenLine setup write (parts_in mid engine none_taken) (parts_in new after taken) (Err (Fail.Spent page))) where
-    spent_marks : (asked ≡ None) × (written.made ≡ []) × (page ≡ page_of write.at)
+    pub spent_marks : (asked ≡ None) × (written.made ≡ []) × (page ≡ page_of write.at)
     spent_marks = written.marks on_mid.trusted.not_down on_mid.trusted mid.state.memory call.world.memory.each
 
     -- its steps are those of its path alone, and of blocks that were dirty
@@ -275,9 +272,6 @@ module _ (setup : Setup) (old mid new : WorldState) (command : Command) (d : Opt
     -- in a fence
     pub spent-bound : spent + steps_in taken ≤ writing_bound setup.shape n (made ++ written.made) + spent_bound setup.shape
     spent-bound = path-bound (Err (Fail.Spent page)) written refl spent_marks.0
-
-    pub spent-unsealed : is_sealed_by written.made write.at ≡ false
-    spent-unsealed = ap (λ marks. is_sealed_by marks write.at) spent_marks.1
 
   -- ---- a cut
 

@@ -47,7 +47,7 @@ use Rattle.pmem_replay.proofs.Steps.WorldsAfterCalls.{cut_counted, uncut_counted
 use Rattle.pmem_base.specs.Counts.{HasRisen}
 use Rattle.pmem_replay.proofs.Steps.MarklessCalls.{counted_state, cut_state}
 use Rattle.pmem_replay.proofs.Power.OnLaws.{IsOnCall, lit, off_in, recovered_state, cut_on_state, recovered-good, recovered-world, cut-good, cut-world}
-use Rattle.pmem_replay.proofs.Power.RefusedRecoveries.{redone_same, counter-good, counter-world, root-good, root-world, twin-good}
+use Rattle.pmem_replay.proofs.Power.RefusedRecoveries.{redone_same, refused-world, counter_tampered, counter_lasting, counter-good, root_tampered, root_lasting, root-good, twin-good}
 use Rattle.pmem_replay.proofs.Steps.DeviceEvidence.{small_line}
 use Rattle.pmem_replay.proofs.Steps.PartsOfWorld.{EndsCall, ends, numbered, setup_in}
 use Rattle.pmem_replay.proofs.Steps.WorldSteps.{stepped_by_engine}
@@ -293,7 +293,8 @@ module _ (s : RecoveryCall) where
       refl refl refl s.served.going.unshown refl refl refl refl refl refl refl refl refl refl refl lasting
       (λ quiet. refl) refl
       (λ quiet. its_state)
-      (λ quiet. counter-world setup old new s.board s.taken at call its_state refl refl)
+      (λ quiet. refused-world setup old new s.board s.taken (Fail.NoCounter at) call call.recovered.regs call.recovered.unchanged
+      (counter_tampered setup old new s.board s.taken at call) (counter_lasting setup old new s.board s.taken at call) its_state refl refl)
       there
 
   pub on-counter : (rested : BoardMemory) (at : ℕ) → s.outcome ≡ Err (Fail.NoCounter at) → rested ≡ dim
@@ -322,7 +323,8 @@ module _ (s : RecoveryCall) where
       refl refl refl s.served.going.unshown refl refl refl refl refl refl refl refl refl refl refl lasting
       (λ quiet. refl) (refl, refl)
       (λ quiet. its_state)
-      (λ quiet. root-world setup old new s.board s.taken kept found call its_state refl refl)
+      (λ quiet. refused-world setup old new s.board s.taken (Fail.Root kept found) call call.recovered.regs call.recovered.unchanged
+      (root_tampered setup old new s.board s.taken kept found call) (root_lasting setup old new s.board s.taken kept found call) its_state refl refl)
       there
 
   pub on-root : (rested : BoardMemory) (kept found : List ℕ) → s.outcome ≡ Err (Fail.Root kept found) → rested ≡ dim → IsTag kept → IsTag found

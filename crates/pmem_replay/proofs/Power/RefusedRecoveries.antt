@@ -130,7 +130,7 @@ module _ (setup : Setup) (old new : WorldState) (left : BoardMemory) (taken : Ta
   abbrev counter_off : IsOff setup old
   counter_off = off setup old new left taken (Err (Fail.NoCounter at)) call
 
-  counter_lasting : left.powered ≡ true
+  pub counter_lasting : left.powered ≡ true
   counter_lasting = call.recovered.power.live refl
 
   pub counter_tampered : has_flags old.state.named ≡ false → ⊥
@@ -165,11 +165,6 @@ module _ (setup : Setup) (old new : WorldState) (left : BoardMemory) (taken : Ta
   pub counter-good : IsGood setup old Do.On (without_marks (Say.NoCounter at (steps_in taken)))
   counter-good = search (rules, within_lasting, counter_caused, counter_lasting, refused_few)
 
-  pub counter-world : new.state ≡ counted_state old.state (steps_in taken) → new.board ≡ record left { powered = false } → new.engine ≡ None
-      → IsWorld setup new
-  counter-world =
-      refused-world setup old new left taken (Fail.NoCounter at) call call.recovered.regs call.recovered.unchanged counter_tampered counter_lasting
-
 pow_some : (n : ℕ) → 1 ≤ 4 ^ n
 pow_some zero = omega arith
 pow_some (suc n) = omega (arith, pow_some n)
@@ -187,7 +182,7 @@ module _ (setup : Setup) (old new : WorldState) (left : BoardMemory) (taken : Ta
   abbrev root_off : IsOff setup old
   root_off = off setup old new left taken (Err (Fail.Root kept found)) call
 
-  root_lasting : left.powered ≡ true
+  pub root_lasting : left.powered ≡ true
   root_lasting = call.recovered.power.live refl
 
   pub root_tampered : has_flags old.state.named ≡ false → ⊥
@@ -225,11 +220,6 @@ module _ (setup : Setup) (old new : WorldState) (left : BoardMemory) (taken : Ta
               within_bounds = refused_few setup old new left taken (Fail.Root kept found) call call.recovered.regs call.recovered.unchanged;
             };
       }
-
-  pub root-world : new.state ≡ counted_state old.state (steps_in taken) → new.board ≡ record left { powered = false } → new.engine ≡ None
-      → IsWorld setup new
-  root-world =
-      refused-world setup old new left taken (Fail.Root kept found) call call.recovered.regs call.recovered.unchanged root_tampered root_lasting
 
 -- ---- a twin
 
