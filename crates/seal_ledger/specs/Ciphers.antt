@@ -1,5 +1,5 @@
 -- The cipher of each data line's last seal.
-use Rattle.std.specs.Prelude.{ℕ, ◌≡◌, List, Option, Some, None, EachIndex}
+use Rattle.std.specs.Prelude.{◌≡◌, List, Option, Some, None, EachIndex}
 use Rattle.pmem_base.specs.declared.lines.Line.{Line}
 use Rattle.pmem_base.specs.declared.answers.Mark.{Mark}
 use Rattle.pmem_base.specs.Lines.{line_at, zero_line}
