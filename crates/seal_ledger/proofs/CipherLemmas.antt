@@ -10,13 +10,13 @@ use Rattle.pmem_base.specs.declared.answers.Mark.TheVariants.{Begin, Seal}
 use Rattle.pmem_base.specs.Lines.{line_at, zero_line}
 use Rattle.pmem_base.specs.Marks.{SealOf, last_seal}
 use Rattle.pmem_base.proofs.LineLemmas.{All-zero_lines}
-use Rattle.seal_ledger.specs.Ciphers.{cipher_of, AreLastCiphers}
+use Rattle.seal_ledger.specs.Ciphers.{cipher_or_zero, AreLastCiphers}
 use Rattle.seal_ledger.proofs.MarkLemmas.{last_seal-begun, last_seal-sealed, last_seal-other}
 
 -- a begin leaves every cipher
 pub AreLastCiphers-begun : (marks : List Mark) (ciphers : List Line) (page : ℕ)
     → AreLastCiphers marks ciphers → AreLastCiphers (marks ++ Begin page ∷ []) ciphers
-AreLastCiphers-begun marks ciphers page h = λ a inside. h a inside ∙ sym (ap cipher_of (last_seal-begun marks page a))
+AreLastCiphers-begun marks ciphers page h = λ a inside. h a inside ∙ sym (ap cipher_or_zero (last_seal-begun marks page a))
 
 -- a seal's cipher is its line's
 pub AreLastCiphers-sealed : (marks : List Mark) (ciphers : List Line) (at : ℕ) (ctr : Ctr) (cipher : Line) (tag : List ℕ)
@@ -29,11 +29,11 @@ AreLastCiphers-sealed marks ciphers at ctr cipher tag h =
           let here : at < length ciphers = omega (arith, within, same) in
           ap (λ z. line_at (slice_set ciphers at cipher) z) same
           ∙ get_or-set_same ciphers at cipher zero_line here
-          ∙ sym (ap (λ z. cipher_of (last_seal (marks ++ Seal at ctr cipher tag ∷ []) z)) same ∙ ap cipher_of (last_seal-sealed marks at ctr cipher tag))
+          ∙ sym (ap (λ z. cipher_or_zero (last_seal (marks ++ Seal at ctr cipher tag ∷ []) z)) same ∙ ap cipher_or_zero (last_seal-sealed marks at ctr cipher tag))
       | inr apart ↦
           get_or-set_other ciphers at a cipher zero_line apart
           ∙ h a within
-          ∙ sym (ap cipher_of (last_seal-other marks at ctr cipher tag a apart))
+          ∙ sym (ap cipher_or_zero (last_seal-other marks at ctr cipher tag a apart))
     ]
 
 -- with no marks each is the zero line
@@ -51,7 +51,7 @@ pub kept_cipher : (marks : List Mark) (ciphers : List Line) (a : ℕ) (line : Li
     → IfSome (last_seal marks a) (λ seal. line ≡ seal.cipher)
 kept_cipher marks ciphers a line h inside is = go (last_seal marks a) (is ∙ get_or_default ciphers a line zero_line inside ∙ h a inside)
   where
-    go : (seal : Option SealOf) → line ≡ cipher_of seal → IfSome seal (λ (s : SealOf). line ≡ s.cipher)
+    go : (seal : Option SealOf) → line ≡ cipher_or_zero seal → IfSome seal (λ (s : SealOf). line ≡ s.cipher)
     go None same = tt
     go (Some seal) same = same
 
