@@ -238,7 +238,6 @@ impl Engine {
         ensures place { result ≡ meta_line self.now.shape (counter_position self.now.shape page) }
         ensures inside { result < device_lines self.now.shape }
     {
-        self.geo
-            .meta_line(self.geo.metas() - self.geo.pages() + page)
+        self.geo.meta_line(self.block_position(page))
     }
 }
