@@ -263,7 +263,7 @@ module _ (c : OnTxnCall) where
     parts_between = parts_of engine between p.ledger suite_between.tags suite_between.digests
 
     abbrev pub recovered_to : AreDone setup parts_from [] [] (recovery_bound c.geometry) parts_between
-    recovered_to = recovered setup p.ledger lit between c.suite_old suite_between engine work it off.durable world.few_armed
+    recovered_to = recovered setup p.ledger lit between c.suite_old suite_between engine work it off.durable refl world.few_armed
 
     pub header_inside : n < layout.data_lines c.geometry
     header_inside = let its = size in omega (arith, its)

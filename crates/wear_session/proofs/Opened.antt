@@ -180,7 +180,7 @@ module _ (c : OnWearCall) where
     parts_between = parts_of engine between p.ledger suite_between.tags suite_between.digests
 
     abbrev recovered_to : AreDone setup parts_from [] [] (recovery_bound c.geometry) parts_between
-    recovered_to = recovered setup p.ledger lit between c.suite_old suite_between engine work it off.durable c.world.few_armed
+    recovered_to = recovered setup p.ledger lit between c.suite_old suite_between engine work it off.durable refl c.world.few_armed
 
     record_inside : logical_lines c.geometry + 1 < layout.data_lines c.geometry
     record_inside =

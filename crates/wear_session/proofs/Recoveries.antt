@@ -53,15 +53,15 @@ module _ (setup : Setup) (ledger : LedgerState) (lit : BoardMemory) (between : D
       go (Some now) there = (it.lines lit.lines refl now there).from_durable durable
 
   -- no write is done yet
-  pub recovered : length lit.regs.group.items ≤ 3 → AreDone setup start [] [] (recovery_bound setup.shape) middle
-  recovered few =
+  pub recovered : lit.powered ≡ true → length lit.regs.group.items ≤ 3 → AreDone setup start [] [] (recovery_bound setup.shape) middle
+  recovered on few =
       record {
         asked = refl;
         moment = refl;
         marks = sym (append-nil ledger.marks);
         loss = ap (λ (r : Regs). r.loss) it.regs;
         sound = sound_recovered;
-        live = it.power.live refl;
+        live = it.power.live on;
         takes =
             most_within (device_during lit none_taken) between (most_recovery_steps setup lit.regs) (recovery_bound setup.shape)
             (few_recovery setup lit.regs few) it.steps;
