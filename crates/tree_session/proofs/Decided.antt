@@ -33,10 +33,6 @@ some_found None none its is = absurd (false≢true (its ∙ ap not is))
 some_found (Some x) none its is = (x, refl)
 
 -- and one of `is_some`
-pub found_none : {X : Type 0} (found : Option X) (some : Bool) → some ≡ is_some found → some ≡ false → found ≡ None
-found_none None some its is = refl
-found_none (Some x) some its is = absurd (true≢false (sym its ∙ is))
-
 pub found_some : {X : Type 0} (found : Option X) (some : Bool) → some ≡ is_some found → some ≡ true → (x : X) × (found ≡ Some x)
 found_some None some its is = absurd (false≢true (sym its ∙ is))
 found_some (Some x) some its is = (x, refl)
