@@ -8,8 +8,7 @@ use Rattle.pmem_replay.proofs.dirtied.Dirtied.note_all.Goals as goal
 
 pub marks-preserved : goal.marks-preserved
 marks-preserved c =
-    let g = shape_of c.args.geo.now in
-    (
+    let g = shape_of c.args.geo.now in (
       c.note.ensures.flags,
       λ state.
           marks_step g _ _ _ c.args.marks.now c.marks.mark-index c.mark-item.result c.marks-test.true
