@@ -341,6 +341,11 @@ fn answers_traces(rt: HostRuntime) -> Result<(), Fail> {
         6,
         "ok / seal 0 0.1 {50} / ok 7 / ok / twin 0 0 0 1 [01..] {50}",
     )?;
+    Ok(())
+}
+
+#[test]
+fn answers_traces_that_are_cut_at_each_step(rt: HostRuntime) -> Result<(), Fail> {
     check_run(
         &rt,
         "--suite weak --sets 1 --ways 1 --levels 3",
@@ -425,6 +430,11 @@ fn answers_traces(rt: HostRuntime) -> Result<(), Fail> {
         0,
         "ok / seal 0 0.1 {51} / ok 8 / ok / seal 4032 0.1 {1e} / ok 10 / ok / ok / seal 0 0.2 {12} / ok 10",
     )?;
+    Ok(())
+}
+
+#[test]
+fn answers_traces_that_are_stopped_or_refused(rt: HostRuntime) -> Result<(), Fail> {
     check_run(
         &rt,
         "--suite weak",
@@ -514,6 +524,11 @@ fn answers_traces(rt: HostRuntime) -> Result<(), Fail> {
         0,
         "ok / ok / seal 0 0.1 {51} / ok 7 / 4x ok / refused root {17} {15} 0 / off",
     )?;
+    Ok(())
+}
+
+#[test]
+fn answers_traces_of_recoveries_and_parts(rt: HostRuntime) -> Result<(), Fail> {
     check_run(
         &rt,
         "--suite weak",

@@ -224,6 +224,32 @@ impl Asked {
     }
 }
 
+/// A page goes on being sealed anew over a line that is tampered with and mended, up to a cut.
+fn seal_anew_to_a_cut<R: Abort + AllocGlobal>(rt: &R, world: &mut Asked) -> Result<(), Fail> {
+    world.ask(rt, Command::Turn, 1, Answer::Turned { left: 58, steps: 4 })?;
+    world.ask(rt, read(0, 1), 0, got(ZEROS))?;
+    world.ask(rt, Command::Flip { at: 5, bit: 0 }, 0, Answer::Ok)?;
+    world.ask(rt, Command::Turn, 1, Answer::Turned { left: 57, steps: 4 })?;
+    world.ask(rt, Command::Turn, 0, refused(Place::Line { at: 5 }))?;
+    world.ask(rt, Command::Flip { at: 5, bit: 0 }, 0, Answer::Ok)?;
+    world.ask(rt, Command::Turn, 1, Answer::Turned { left: 56, steps: 4 })?;
+    world.ask(rt, Command::Cut { n: 3 }, 0, Answer::Ok)?;
+    world.ask(rt, Command::Loss { n: 1 }, 0, Answer::LossSet { steps: 1 })?;
+    world.ask(rt, post(0, 7), 0, Answer::Ok)?;
+    world.ask(
+        rt,
+        drain(0),
+        0,
+        Answer::CutLost {
+            drained: None,
+            steps: 2,
+        },
+    )?;
+    world.ask(rt, Command::Off, 0, Answer::Off)?;
+    world.ask(rt, drain(0), 0, Answer::Off)?;
+    Ok(())
+}
+
 #[test]
 fn pages_are_sealed_anew(rt: HostRuntime) -> Result<(), Fail> {
     let mut world = small_world(rt.alloc(), 0, false)?;
@@ -239,27 +265,7 @@ fn pages_are_sealed_anew(rt: HostRuntime) -> Result<(), Fail> {
     world.ask(&rt, Command::Turn, 1, Answer::Cut { steps: 2 })?;
     world.ask(&rt, Command::Turn, 0, Answer::Off)?;
     world.ask(&rt, Command::On, 0, recovered(10, 5, 7))?;
-    world.ask(&rt, Command::Turn, 1, Answer::Turned { left: 58, steps: 4 })?;
-    world.ask(&rt, read(0, 1), 0, got(ZEROS))?;
-    world.ask(&rt, Command::Flip { at: 5, bit: 0 }, 0, Answer::Ok)?;
-    world.ask(&rt, Command::Turn, 1, Answer::Turned { left: 57, steps: 4 })?;
-    world.ask(&rt, Command::Turn, 0, refused(Place::Line { at: 5 }))?;
-    world.ask(&rt, Command::Flip { at: 5, bit: 0 }, 0, Answer::Ok)?;
-    world.ask(&rt, Command::Turn, 1, Answer::Turned { left: 56, steps: 4 })?;
-    world.ask(&rt, Command::Cut { n: 3 }, 0, Answer::Ok)?;
-    world.ask(&rt, Command::Loss { n: 1 }, 0, Answer::LossSet { steps: 1 })?;
-    world.ask(&rt, post(0, 7), 0, Answer::Ok)?;
-    world.ask(
-        &rt,
-        drain(0),
-        0,
-        Answer::CutLost {
-            drained: None,
-            steps: 2,
-        },
-    )?;
-    world.ask(&rt, Command::Off, 0, Answer::Off)?;
-    world.ask(&rt, drain(0), 0, Answer::Off)?;
+    seal_anew_to_a_cut(&rt, &mut world)?;
     world.ask(&rt, Command::Stat, 0, counts(169, 343, 273, 155, 271))?;
     Ok(())
 }
