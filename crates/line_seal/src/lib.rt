@@ -16,6 +16,7 @@ use suite::{Suite, xor_lines};
 pub use tags::{put_tag, tag_at};
 
 /// The cipher of data line `at` under a counter, and the cipher's tag.
+#[inline(always)]
 pub fn seal<S: Suite>(suite: &mut S, at: u32, ctr: Ctr, plain: &Line) -> (Line, Tag)
     ensures value { result ≡ sealed (S.formulas_of (S.keys suite.old)) at ctr plain.now }
     ensures keys { S.keys suite.new ≡ S.keys suite.old }
@@ -30,6 +31,7 @@ pub fn seal<S: Suite>(suite: &mut S, at: u32, ctr: Ctr, plain: &Line) -> (Line, 
 
 /// The plain line of data line `at`'s cipher under a counter. `None` where `tag` isn't the cipher's
 /// tag; then no pad is made.
+#[inline(always)]
 pub fn unseal<S: Suite>(suite: &mut S, at: u32, ctr: Ctr, cipher: &Line, tag: &Tag) -> Option<Line>
     ensures value { result ≡ unsealed (S.formulas_of (S.keys suite.old)) at ctr cipher.now tag.now }
     ensures none { IsNone result ↔ ((S.formulas_of (S.keys suite.old)).tag_of at ctr cipher.now ≢ tag.now) }

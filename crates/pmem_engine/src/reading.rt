@@ -101,6 +101,7 @@ impl Engine {
     }
 
     // The counter that the counter block of line `at`, which is cached, has for it.
+    #[inline(always)]
     pub(crate) fn block_counter(&self, at: u32) -> Ctr
         requires { at < data_lines self.now.shape }
         ensures cached { result ≡ block_counter (cached_block self.now.shape self.now (page_of at)) (index_in_page at) }

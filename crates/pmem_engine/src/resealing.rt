@@ -169,6 +169,7 @@ impl Engine {
     }
 
     // Lets registers with no group arm a seal: its line done, its cipher and its tag line in the group.
+    #[inline(always)]
     pub(crate) fn put_seal(&self, regs: &mut Regs, next: &NextSeal)
         requires line { next.now.at < data_lines self.now.shape }
         requires valid { IsValidRegs self.now.shape regs.old }

@@ -61,6 +61,7 @@ impl Engine {
     }
 
     // The next counter of line `at`, and its page's counter block with it.
+    #[inline(always)]
     fn next_counter(&self, at: u32) -> (Ctr, Line)
         requires line { at < data_lines self.now.shape }
         requires minor { minor_of (cached_block self.now.shape self.now (page_of at)) (index_in_page at) < 127 }

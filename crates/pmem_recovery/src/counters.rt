@@ -218,6 +218,7 @@ fn try_line<B: Board, S: Suite>(
 }
 
 /// The cipher of a data line, and its tag.
+#[inline(always)]
 fn read_sealed<B: Board>(board: &mut B, geo: &Geo, at: u32) -> Result<(Line, Tag), Cut>
     requires size { (B.device board.old).size ≡ device_lines (shape_of geo.now) }
     requires line { at < data_lines (shape_of geo.now) }

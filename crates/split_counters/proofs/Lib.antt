@@ -4,3 +4,4 @@ pub mod Groups
 pub mod MinorBits
 pub mod StoredBlocks
 pub mod StoredLaws
+pub mod Raising

@@ -1,7 +1,7 @@
 //! The 64 bytes of a counter block: 8 of the major, and then the minors as 7 bits each in a row.
-ghost use Rattle.std.specs.Prelude.{◌≡◌, ◌<◌, ◌≤◌, All, length};
+ghost use Rattle.std.specs.Prelude.{◌≡◌, ◌<◌, ◌≤◌, ◌+◌, All, length};
 ghost use Rattle.pmem_base.specs.Lines.{IsCtr, big_endian, from_big_endian};
-ghost use Rattle.split_counters.specs.Blocks.{IsBlock, block_counter, packed, unpacked, number_of_minors, minors_of_number};
+ghost use Rattle.split_counters.specs.Blocks.{IsBlock, block_counter, minor_of, with_minor, packed, unpacked, number_of_minors, minors_of_number};
 ghost use Rattle.split_counters.specs.Bits.{HasMinorBits};
 
 use crate::Block;
@@ -57,6 +57,30 @@ pub fn counter_at(line: &Line, i: u8) -> Ctr
         major,
         minor: minors[usize::from(i % 8)],
     }
+}
+
+/// Raises the counter of line `i` of a page, whose minor is below 127, in its block's line, and answers it:
+/// of the minors only the group of `i` is unpacked and packed.
+pub fn raise_at(line: &mut Line, i: u8) -> Ctr
+    requires place { i < 64 }
+    requires room { minor_of (unpacked line.old) i < 127 }
+    ensures line { line.new ≡ packed (with_minor (unpacked line.old) i (minor_of (unpacked line.old) i + 1)) }
+    ensures value { result ≡ record { major = (unpacked line.old).major; minor = minor_of (unpacked line.old) i + 1 } }
+    ensures range { IsCtr result }
+{
+    line.is_whole();
+    let mut major = [0; 8];
+    major.copy_from_slice(&line.0[..8]);
+    let start = 7 * usize::from(i / 8) + 8;
+    let place = usize::from(i % 8);
+    let mut minors = unpacked_group(&line.0[start..start + 7]);
+    minors[place] += 1;
+    let group = packed_group(&minors);
+    line.0[start..start + 7].copy_from_slice(&group);
+    line.is_whole();
+    let major = u64::from_be_bytes(major);
+    let minor = minors[place];
+    Ctr { major, minor }
 }
 
 // The 7 bytes of 8 minors.

@@ -3,3 +3,4 @@ pub mod BlockRanges
 pub mod AesLemmas
 pub mod WeakLemmas
 pub mod CipherLemmas
+pub mod FoldLemmas

@@ -1,6 +1,6 @@
 //! The suite of AES-128, HMAC and SHA-256.
 ghost use Rattle.std.specs.Prelude.{◌≡◌, ◌≤◌, ◌+◌, ◌++◌, length, take, drop};
-ghost use Rattle.suite.specs.Formulas.{AreInRange};
+ghost use Rattle.suite.specs.Formulas.{AreInRange, tag_text, digest_text};
 ghost use Rattle.suite.specs.Aes.{pad_input, four_blocks, aes_formulas};
 
 use crate::shared::{header, one_more};
@@ -63,15 +63,12 @@ impl Suite for AesSuite {
 
     fn tag(&mut self, at: u32, ctr: Ctr, cipher: &Line) -> Tag {
         self.tags = one_more(self.tags);
-        tag16(&self.tag_key.hmac_parts(&header(at, ctr), &cipher.0))
+        tag16(&self.tag_key.hmac(&tag_text(at, ctr, cipher)))
     }
 
     fn digest(&mut self, x: u32, line: &Line) -> Tag {
         self.digests = one_more(self.digests);
-        let mut hasher = Sha256::new_with_prefix([1]);
-        hasher.update(x.to_be_bytes());
-        hasher.update(line.0.as_slice());
-        tag16(&hasher.finalize())
+        tag16(&Sha256::digest(digest_text(x, line)))
     }
 
     ghost in_range = { λ suite. suite.in_range };
@@ -81,6 +78,28 @@ impl Counted for AesSuite {
     fn counts(&self) -> (u64, u64, u64) {
         (self.pads, self.tags, self.digests)
     }
+}
+
+// The bytes that a tag is taken over, in one piece: the hasher then copies none of its first block.
+fn tag_text(at: u32, ctr: Ctr, cipher: &Line) -> [u8; 77]
+    ensures { result ≡ tag_text at ctr cipher.now }
+{
+    cipher.is_whole();
+    let mut text = [0; 77];
+    text[..13].copy_from_slice(&header(at, ctr));
+    text[13..].copy_from_slice(&cipher.0);
+    text
+}
+
+// The bytes that a digest is taken over, in one piece.
+fn digest_text(x: u32, line: &Line) -> [u8; 69]
+    ensures { result ≡ digest_text x line.now }
+{
+    line.is_whole();
+    let mut text = [1; 69];
+    text[1..5].copy_from_slice(&x.to_be_bytes());
+    text[5..].copy_from_slice(&line.0);
+    text
 }
 
 // Four blocks encrypted under one key.

@@ -7,6 +7,10 @@ use crate::shared::{header, one_more};
 use crate::{Counted, Suite};
 use arrayvec::ArrayVec;
 use pmem_base::{Ctr, Line, Tag};
+use std::simd::prelude::*;
+
+// The bytes of a line that are combined together.
+const LANES: usize = 16;
 
 /// A suite that anyone can break, for tests. The bytes of a pad count up; a tag or a digest is the
 /// exclusive or of its bytes, with fifteen zeros before it. Under `blur` the tag takes half of the
@@ -73,12 +77,12 @@ impl Suite for WeakSuite {
         self.tags = one_more(self.tags);
         let minor = if self.blur { ctr.minor / 2 } else { ctr.minor };
         let text = folded(0, &header(at, Ctr { minor, ..ctr }));
-        last_byte_tag(self.tag_key[0] ^ folded(text, &cipher.0))
+        last_byte_tag(self.tag_key[0] ^ folded_line(text, cipher))
     }
 
     fn digest(&mut self, x: u32, line: &Line) -> Tag {
         self.digests = one_more(self.digests);
-        last_byte_tag(folded(folded(1, &x.to_be_bytes()), &line.0))
+        last_byte_tag(folded_line(folded(1, &x.to_be_bytes()), line))
     }
 
     ghost in_range = { λ suite. suite.in_range };
@@ -95,6 +99,19 @@ fn folded(start: u8, bytes: &[u8]) -> u8
     ensures { result ≡ fold bit_xor start bytes.now }
 {
     bytes.iter().fold(start, |all, byte| all ^ byte)
+}
+
+// The exclusive or of a byte and of all bytes of a line.
+fn folded_line(start: u8, line: &Line) -> u8
+    ensures { result ≡ fold bit_xor start line.now.0 }
+{
+    line.is_whole();
+    let bytes = &line.0;
+    let all = u8x16::from_slice(bytes)
+        ^ u8x16::from_slice(&bytes[LANES..])
+        ^ u8x16::from_slice(&bytes[2 * LANES..])
+        ^ u8x16::from_slice(&bytes[3 * LANES..]);
+    start ^ all.reduce_xor()
 }
 
 // One byte as 16, the others 0.
