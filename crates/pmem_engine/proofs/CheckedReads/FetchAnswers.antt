@@ -23,6 +23,7 @@ use Rattle.meta_path.specs.Work.{told_line}
 use Rattle.meta_path.specs.Fetching.{spilled, IsFetchedTo, IsCutAt, IsRefusedAt, IsShownAt}
 use Rattle.meta_path.specs.Keeping.{KeepsBlocks, IsTrueTree, HasFalseDigest, HasClash}
 use Rattle.meta_path.proofs.PathFacts.{path_at-level, path_at-lt}
+use Rattle.meta_path.specs.declared.faults.PathFault.TheVariants as Path
 use Rattle.suite.specs.Setup.{Setup}
 use Rattle.pmem_engine.specs.Engine.{EngineState}
 use Rattle.pmem_engine.specs.declared.fault.Fault.TheVariants as Fail
@@ -91,10 +92,8 @@ module _ (setup : Setup) (page : ℕ) (old new : EngineState) (ledger noted : Le
             same_tags over keeps same fetched.work.steady fetched.work.live fetched.work.cuts;
         answered = λ trusted. tt;
         unrefused = λ sound. tt;
-        not_down = λ it. it;
         path_cached = λ ok. cached;
         path_fetched = λ past. cached;
-        possible = tt;
         meta_uncached = tt;
         shadow = shadow;
         work = λ ok. fetched;
@@ -168,7 +167,7 @@ module _ (setup : Setup) (page : ℕ) (old new : EngineState) (ledger noted : Le
       (record { cache = record { shape = setup.shape; banks = old.cache }; device = before; digests = digests })
       (record { cache = record { shape = setup.shape; banks = new.cache }; device = after; digests = digests_now })
       → (before.live ≡ true → 1 ≤ dirty_count setup.shape new.cache)
-      → HasFetched setup page start finish (Err Fail.Cut)
+      → HasFetched setup page start finish (Err Path.Cut)
   fetched_cut uncached same it left =
       record {
         done =
@@ -176,10 +175,8 @@ module _ (setup : Setup) (page : ℕ) (old new : EngineState) (ledger noted : Le
             same_tags over keeps same it.unsteady it.off it.rose;
         answered = λ trusted. tt;
         unrefused = λ sound. tt;
-        not_down = λ it. it;
         path_cached = λ ok. no_answer ok;
         path_fetched = λ past. absurd past;
-        possible = tt;
         meta_uncached = tt;
         shadow = shadow;
         work = λ ok. no_answer ok;
@@ -264,7 +261,7 @@ module _ (setup : Setup) (page : ℕ) (old new : EngineState) (ledger noted : Le
       (record { cache = record { shape = setup.shape; banks = new.cache }; device = after; digests = digests_now })
       → (IsTrueTree setup.shape setup.formulas ledger.truth before.regs.root → AreCachedTrue old.cache ledger.truth
       → HasFalseDigest setup.shape setup.formulas ledger.truth x after.lines)
-      → HasFetched setup page start finish (Err (Fail.Meta x))
+      → HasFetched setup page start finish (Err (Path.Meta x))
   fetched_meta uncached same x it cause =
       record {
         done =
@@ -286,10 +283,8 @@ module _ (setup : Setup) (page : ℕ) (old new : EngineState) (ledger noted : Le
             (read_is_true setup page old new ledger noted before after tags digests tags_now digests_now its_size shape mirror down
             same_tags over keeps sound x false_digest.line false_digest.on_tree
             (at_line (sound_trusted sound) false_digest.line false_digest.tells).uncached false_digest.tells));
-        not_down = λ it. it;
         path_cached = λ ok. no_answer ok;
         path_fetched = λ past. absurd past;
-        possible = tt;
         meta_uncached = (
           ap (is_on_path setup.shape page) (it.position ∙ path_of-at setup.shape page it.n it.read.on_path)
               ∙ path_position-on_path setup.shape page it.n it.read.on_path,
@@ -353,7 +348,7 @@ module _ (setup : Setup) (page : ℕ) (old new : EngineState) (ledger noted : Le
       (record { cache = record { shape = setup.shape; banks = new.cache }; device = after; digests = digests_now }) ledger noted
       → (IsTrueTree setup.shape setup.formulas ledger.truth before.regs.root → AreCachedTrue old.cache ledger.truth
       → HasClash setup.shape setup.formulas after.lines ledger noted)
-      → HasFetched setup page start finish (Err Fail.Shown)
+      → HasFetched setup page start finish (Err Path.Shown)
   fetched_shown uncached it cause =
       record {
         done =
@@ -361,10 +356,8 @@ module _ (setup : Setup) (page : ℕ) (old new : EngineState) (ledger noted : Le
             same_tags over keeps never it.read.work.steady it.read.work.live it.read.work.cuts;
         answered = λ trusted. clash trusted;
         unrefused = never;
-        not_down = λ it. it;
         path_cached = λ ok. no_answer ok;
         path_fetched = λ past. absurd (never_past past);
-        possible = tt;
         meta_uncached = tt;
         shadow = shadow;
         work = λ ok. no_answer ok;

@@ -23,7 +23,7 @@ use Rattle.meta_path.specs.Fetching.{absent_count, IsFetchedTo, IsPathFault}
 use Rattle.meta_path.specs.Keeping.{KeepsBlocks, HasGivenWay, WasWrittenBack, IsTrueTree, IsFaultCaused}
 use Rattle.suite.specs.Setup.{Setup}
 use Rattle.pmem_engine.specs.Engine.{EngineState}
-use Rattle.pmem_engine.specs.Outcomes.{NeverFalls, fault_of_path}
+use Rattle.pmem_engine.specs.Outcomes.{NeverFalls}
 use Rattle.pmem_engine.specs.Parts.{parts_of}
 use Rattle.pmem_engine.specs.Calls.{KeepsShadow}
 use Rattle.pmem_engine.specs.Inner.{HasFetched}
@@ -154,7 +154,7 @@ module _ (setup : Setup) (page : ℕ) (old new : EngineState) (ledger noted : Le
       → IsFaultCaused setup.shape setup.formulas after.lines ledger noted fault)
       → (fault ≡ Path.Cut → before.live ≡ true → 1 ≤ dirty_count setup.shape new.cache)
       → HasFetched setup page (parts_of old before ledger tags digests) (parts_of new after noted tags_now digests_now)
-      (Err (fault_of_path fault))
+      (Err fault)
   fetch_err Path.Cut uncached it cause left =
       fetched_cut setup page old new ledger noted before after tags digests tags_now digests_now its_page few_levels its_size
       shape mirror down same_tags

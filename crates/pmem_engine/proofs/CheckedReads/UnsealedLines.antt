@@ -22,7 +22,7 @@ use Rattle.seal_ledger.specs.Notes.{HasExhibit}
 use Rattle.seal_ledger.proofs.MarkLemmas.{last_seal_has}
 use Rattle.line_seal.specs.Seals.{unsealed}
 use Rattle.plain_model.specs.View.{plain_line}
-use Rattle.pmem_engine.specs.declared.fault.Fault.TheVariants as Fail
+use Rattle.pmem_engine.specs.declared.fault.LineFault.TheVariants as AtLine
 use Rattle.pmem_engine.specs.Engine.{EngineState}
 use Rattle.pmem_engine.specs.Invariants.{IsSound, IsSealStored, IsSealTagged}
 use Rattle.pmem_engine.specs.Parts.{Parts, parts_of, AreTrusted, AreSound, HoldsSeal}
@@ -114,7 +114,7 @@ module _ (setup : Setup) (engine : EngineState) (ledger : LedgerState) (a : ℕ)
 
   -- the tag isn't the one in its slot
   pub refused : a < layout.data_lines setup.shape → setup.formulas.tag_of a ctr cipher ≢ tag_slot tag_line a
-      → HasUnsealed setup a ctr before (after ledger) (Err (Fail.Tag a))
+      → HasUnsealed setup a ctr before (after ledger) (Err (AtLine.Tag a))
   refused within other =
       record {
         done = done_reading setup before (after ledger) only_read;
@@ -129,14 +129,12 @@ module _ (setup : Setup) (engine : EngineState) (ledger : LedgerState) (a : ℕ)
         digests = same;
         same_ledger = λ unshown. refl;
         tells_tag_line = tt;
-        possible = tt;
         writes = both.writes;
         latches = both.latches;
         no_steps = no_steps;
         two_reads = λ ok. no_answer ok;
         one_tag = λ ok. no_answer ok;
         cut_unpowered = λ is_cut. cc;
-        not_down = λ it. it;
       }
     where
       sound_tagged : AreSound setup before → All (IsSealTagged setup.formulas) ledger.marks
@@ -152,7 +150,7 @@ module _ (setup : Setup) (engine : EngineState) (ledger : LedgerState) (a : ℕ)
       → setup.formulas.tag_of a ctr cipher ≡ tag_slot tag_line a
       → IfSome (last_seal ledger.marks a) (λ seal. cipher ≢ seal.cipher)
       → HasExhibit ledger noted (Forged a ctr cipher (tag_slot tag_line a))
-      → HasUnsealed setup a ctr before (after noted) (Err Fail.Shown)
+      → HasUnsealed setup a ctr before (after noted) (Err AtLine.Shown)
   stopped noted within known right other shows = search rules
 
   -- the line is unsealed, and it is the last seal's
@@ -172,14 +170,12 @@ module _ (setup : Setup) (engine : EngineState) (ledger : LedgerState) (a : ℕ)
         digests = same;
         same_ledger = λ unshown. refl;
         tells_tag_line = both.tells_tag_line;
-        possible = tt;
         writes = both.writes;
         latches = both.latches;
         no_steps = no_steps;
         two_reads = λ ok. both.reads;
         one_tag = λ ok. one_tag;
         cut_unpowered = λ is_cut. cc;
-        not_down = λ it. it;
       }
     where
       seal_read : IsLastCounter before a ctr → (seal : SealOf) × (last_seal ledger.marks a ≡ Some seal) × (seal.ctr ≡ ctr) × (cipher ≡ seal.cipher)

@@ -15,7 +15,7 @@ use Rattle.suite.specs.Setup.{Setup}
 use Rattle.plain_model.specs.State.{Memory}
 use Rattle.plain_model.specs.Bounds.{is_seal}
 use Rattle.plain_model.specs.Asked.{reseal_mark, seal_mark}
-use Rattle.pmem_engine.specs.declared.fault.Fault.{Fault}
+use Rattle.pmem_engine.specs.declared.fault.LineFault.{LineFault}
 use Rattle.pmem_engine.specs.Sealed.{sealed_counter}
 use Rattle.pmem_engine.specs.Parts.{Parts, regs_of, AreTrusted, HoldsSeal}
 use Rattle.pmem_engine.specs.Outcomes.{going, is_sealed_by, OneLossEffect, TakesSteps}
@@ -143,7 +143,7 @@ module _ (setup : Setup) (n number : ℕ) (old mid : Parts) (valid : IsValidRegs
   valid_now = first.done.gone.valid valid
 
   -- the next one was done or not
-  module _ (new : Parts) (answer : Result (ℕ × ℕ) Fault) (it : HasResealed setup n mid new answer) where
+  module _ (new : Parts) (answer : Result (ℕ × ℕ) LineFault) (it : HasResealed setup n mid new answer) where
     abbrev next_left : (rest : List ℕ) × (first.left ≡ it.place ∷ rest)
     next_left = first_and_rest first.left it.place (ap (λ places. slice_get places 0) (sym still_open.places) ∙ it.lowest)
 
@@ -337,7 +337,6 @@ finished setup n number old new first whole =
       seals = λ ok. first.seals ∙ sym first.as_many;
       work = λ ok. subst (λ k. IsWork (reseal_work k) old new) (sym first.as_many) first.work;
       meta_lines = λ ok. first.meta_lines;
-      possible = tt;
       shadow = first.shadow;
       few_steps =
           more_most (4 * number) (4 * length (not_done (register_in old n))) old.device new.device
@@ -352,7 +351,6 @@ finished setup n number old new first whole =
       memory_kept = first.memory_kept;
       answered = λ trusted memory was. tt;
       unrefused = λ sound. tt;
-      not_down = λ it. it;
       sealed_before = first.sealed_before;
       closed = λ ok. closed.gone;
       one_less = λ ok. closed.one_less;

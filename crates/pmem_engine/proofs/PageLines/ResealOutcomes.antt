@@ -32,8 +32,8 @@ use Rattle.plain_model.specs.Bounds.{is_seal}
 use Rattle.plain_model.specs.View.{view_of, counter_at, plain_line}
 use Rattle.plain_model.specs.Asked.{reseal_mark, next_major, seal_mark}
 use Rattle.plain_model.proofs.Views.{counter_at-last}
-use Rattle.pmem_engine.specs.declared.fault.Fault.{Fault}
-use Rattle.pmem_engine.specs.declared.fault.Fault.TheVariants as Fail
+use Rattle.pmem_engine.specs.declared.fault.LineFault.{LineFault}
+use Rattle.pmem_engine.specs.declared.fault.LineFault.TheVariants as AtLine
 use Rattle.pmem_engine.specs.declared.reading.Unsealed.{Unsealed}
 use Rattle.pmem_engine.specs.declared.resealing.HeldLine.{HeldLine}
 use Rattle.pmem_engine.specs.declared.resealing.NextSeal.{NextSeal}
@@ -41,12 +41,13 @@ use Rattle.pmem_engine.specs.Engine.{EngineState}
 use Rattle.pmem_engine.specs.Truth.{true_block}
 use Rattle.pmem_engine.specs.Invariants.{IsSealStored, stored_meta}
 use Rattle.commit_regs.proofs.GroupLemmas.{redone-nil}
-use Rattle.pmem_engine.specs.Parts.{Parts, parts_of, regs_of, lines_redone, AreTrusted, AreSound, HoldsSeal, meta_line_in}
+use Rattle.pmem_engine.specs.Parts.{Parts, parts_of, regs_of, lines_redone, AreTrusted, HoldsSeal, meta_line_in}
 use Rattle.pmem_engine.specs.Outcomes.{going, cut_short, is_going, is_sealed_by, NeverFalls, TakesSteps, TakesFewer}
-use Rattle.pmem_engine.specs.Calls.{IsUsable, IsMemory, IsDownAnswer, IsUnrefused, moment_in, IsUnderMinorZero}
-use Rattle.pmem_engine.specs.Inner.{HasUnsealed, IsAnswerOfUnseal, IsLastCounter}
+use Rattle.pmem_engine.specs.Calls.{IsUsable, IsMemory, moment_in, IsUnderMinorZero}
+use Rattle.pmem_engine.specs.Inner.{HasUnsealed, IsLastCounter}
 use Rattle.pmem_engine.specs.Committing.{next_seal_of, entries_of}
-use Rattle.pmem_engine.specs.Resealing.{IsNextHeld, HasLineSealed, HasResealCommitted, IsCutUnarmed, IsResealCutArmed, IsResealCut, line_of_page, HasResealMarks, AnswersReseal, CountsReseal, IsAnswerOfReseal, HasResealed}
+use Rattle.pmem_engine.specs.Resealing.{IsNextHeld, HasLineSealed, HasResealCommitted, IsCutUnarmed, IsResealCutArmed, IsResealCut, line_of_page, HasResealMarks, AnswersReseal, CountsReseal, HasResealed}
+use Rattle.pmem_engine.proofs.CallEnds.ErrorAnswers.{line_unrefused}
 use Rattle.pmem_engine.proofs.CallEnds.StillParts.{sound_trusted}
 use Rattle.pmem_engine.proofs.CallEnds.CallChains.{done_chained}
 use Rattle.pmem_engine.proofs.CallEnds.MetaLines.{committed_at}
@@ -112,65 +113,34 @@ module _ (setup : Setup) (n : ℕ) (engine : EngineState) (old : Device) (before
 
   -- ---- the line isn't unsealed
 
-  not_made : (new : Parts) (fault : Fault) → HasUnsealed setup held.at held.now start new (Err fault)
-      → AreTrusted setup start → (memory : Memory)
+  not_made : (new : Parts) (fault : LineFault) → AreTrusted setup start → (memory : Memory)
       → HasResealMarks setup.formulas (moment_in setup memory start) register.page next.place [] (Err fault)
-  not_made new Fail.Cut it trusted memory = inl refl
-  not_made new (Fail.Tag b) it trusted memory = refl
-  not_made new Fail.Shown it trusted memory = refl
-  not_made new (Fail.Meta x) it trusted memory = it.answered trusted (last_counter trusted)
-  not_made new (Fail.Spent page) it trusted memory = it.answered trusted (last_counter trusted)
-  not_made new Fail.Down it trusted memory = it.answered trusted (last_counter trusted)
+  not_made new AtLine.Cut trusted memory = inl refl
+  not_made new (AtLine.Tag b) trusted memory = refl
+  not_made new AtLine.Shown trusted memory = refl
 
-  says : (new : Parts) (fault : Fault) → HasUnsealed setup held.at held.now start new (Err fault) → AreTrusted setup start
+  says : (new : Parts) (fault : LineFault) → HasUnsealed setup held.at held.now start new (Err fault) → AreTrusted setup start
       → AnswersReseal setup (line_of_page register next.place) start new (Err fault)
-  says new Fail.Cut it trusted = tt
-  says new (Fail.Tag b) it trusted =
+  says new AtLine.Cut it trusted = tt
+  says new (AtLine.Tag b) it trusted =
       let said = it.answered trusted (last_counter trusted) in
       (said.0 ∙ next.its_line, subst (λ a. IsTagRefused setup a new) (sym said.0) said.1)
-  says new Fail.Shown it trusted =
+  says new AtLine.Shown it trusted =
       subst (λ a. IsForgedShown setup a new) next.its_line (it.answered trusted (last_counter trusted))
-  says new (Fail.Meta x) it trusted = tt
-  says new (Fail.Spent page) it trusted = tt
-  says new Fail.Down it trusted = tt
 
-  unrefused_by : (new : Parts) (fault : Fault) → HasUnsealed setup held.at held.now start new (Err fault)
-      → AreSound setup start → IsUnrefused {T = ℕ × ℕ} (Err fault)
-  unrefused_by new Fail.Cut it sound = tt
-  unrefused_by new (Fail.Spent page) it sound = tt
-  unrefused_by new (Fail.Tag b) it sound = it.unrefused sound (last_counter (sound_trusted setup start sound))
-  unrefused_by new Fail.Shown it sound = it.unrefused sound (last_counter (sound_trusted setup start sound))
-  unrefused_by new (Fail.Meta x) it sound = it.unrefused sound (last_counter (sound_trusted setup start sound))
-  unrefused_by new Fail.Down it sound = it.unrefused sound (last_counter (sound_trusted setup start sound))
-
-  not_down_by : (new : Parts) (fault : Fault) → HasUnsealed setup held.at held.now start new (Err fault)
-      → IsDownAnswer {T = ℕ × ℕ} (Err fault) → ⊥
-  not_down_by new v1 it down = search rules
-
-  possible_by : (fault : Fault) → IsAnswerOfUnseal (Err fault) → IsAnswerOfReseal (Err fault)
-  possible_by Fail.Cut it = tt
-  possible_by Fail.Down it = it
-  possible_by Fail.Shown it = tt
-  possible_by (Fail.Meta x) it = it
-  possible_by (Fail.Tag b) it = tt
-  possible_by (Fail.Spent page) it = it
-
-  counted_none : (new : Parts) (fault : Fault) → TakesSteps 0 old new.device → CountsReseal start new (Err fault)
-  counted_none new Fail.Cut none = fewer none
+  counted_none : (new : Parts) (fault : LineFault) → TakesSteps 0 old new.device → CountsReseal start new (Err fault)
+  counted_none new AtLine.Cut none = fewer none
     where
       fewer : TakesSteps 0 old new.device → TakesFewer 4 old new.device
       fewer none = search rules
-  counted_none new (Fail.Tag b) none = none
-  counted_none new Fail.Shown none = none
-  counted_none new (Fail.Meta x) none = none
-  counted_none new (Fail.Spent page) none = none
-  counted_none new Fail.Down none = none
+  counted_none new (AtLine.Tag b) none = none
+  counted_none new AtLine.Shown none = none
 
-  kept_memory : (new : Parts) (fault : Fault) → HasUnsealed setup held.at held.now start new (Err fault)
+  kept_memory : (new : Parts) (fault : LineFault) → HasUnsealed setup held.at held.now start new (Err fault)
       → (memory : Memory) → IsMemory setup memory start → IsMemory setup memory new
   kept_memory new fault it memory was a within = search rules
 
-  pub not_unsealed : (new : Device) (after : LedgerState) (tags_now digests_now : ℕ) (fault : Fault)
+  pub not_unsealed : (new : Device) (after : LedgerState) (tags_now digests_now : ℕ) (fault : LineFault)
       → HasUnsealed setup held.at held.now start (parts_of engine new after tags_now digests_now) (Err fault)
       → HasResealed setup n start (parts_of engine new after tags_now digests_now) (Err fault)
   not_unsealed new after tags_now digests_now fault it =
@@ -179,19 +149,19 @@ module _ (setup : Setup) (n : ℕ) (engine : EngineState) (old : Device) (before
         lowest = next.lowest;
         made = [];
         done = it.done;
-        marks = λ trusted memory was. not_made final fault it trusted memory;
+        marks = λ trusted memory was. not_made final fault trusted memory;
         memory_kept = λ trusted memory was. kept_memory final fault it memory was;
         line_sealed = tt;
         answered = λ trusted. says final fault it trusted;
-        unrefused = λ sound. unrefused_by final fault it sound;
-        not_down = λ down. not_down_by final fault it down;
+        unrefused =
+            λ sound.
+            line_unrefused Unsealed (ℕ × ℕ) fault (it.unrefused sound (last_counter (sound_trusted setup start sound)));
         few = omega arith;
         sealed_before = λ trusted a within made. absurd (true≢false (sym made));
         counts = counted_none final fault it.no_steps;
         one_seal = λ ok. absurd (true≢false (sym ok));
         work = λ ok. absurd (true≢false (sym ok));
         meta_lines = λ ok. absurd (true≢false (sym ok));
-        possible = possible_by fault it.possible;
         minors = All-nil IsUnderMinorZero;
         shadow = shadow_still setup.shape start final refl it.lines;
         engine = refl;
@@ -278,7 +248,7 @@ module _ (setup : Setup) (n : ℕ) (engine : EngineState) (old : Device) (before
 
     pub cut_unarmed : (new : Device) (after : LedgerState) (tags_now digests_now : ℕ) → tags_now ≡ risen tags_mid
         → digests_now ≡ digests_mid → IsCutUnarmed mid new ledger after
-        → HasResealed setup n start (parts_of engine new after tags_now digests_now) (Err Fail.Cut)
+        → HasResealed setup n start (parts_of engine new after tags_now digests_now) (Err AtLine.Cut)
     cut_unarmed new after tags_now digests_now more_tags same_digests was_cut =
         record {
           place = next.place;
@@ -293,7 +263,6 @@ module _ (setup : Setup) (n : ℕ) (engine : EngineState) (old : Device) (before
           line_sealed = tt;
           answered = λ trusted. tt;
           unrefused = λ sound. tt;
-          not_down = λ it. it;
           few = omega arith;
           sealed_before = λ trusted a within made. absurd (true≢false (sym made));
           counts =
@@ -301,7 +270,6 @@ module _ (setup : Setup) (n : ℕ) (engine : EngineState) (old : Device) (before
           one_seal = λ ok. absurd (true≢false (sym ok));
           work = λ ok. absurd (true≢false (sym ok));
           meta_lines = λ ok. absurd (true≢false (sym ok));
-          possible = tt;
           minors = All-nil IsUnderMinorZero;
           shadow = shadow_still setup.shape start final refl (was_cut.device.lines ∙ it.lines);
           engine = refl;
@@ -372,7 +340,7 @@ module _ (setup : Setup) (n : ℕ) (engine : EngineState) (old : Device) (before
       -- ---- or while it was armed
 
       pub cut_armed : IsDevice new → IsResealCutArmed setup.shape sealing mid new ledger after
-          → HasResealed setup n start (parts_of engine new after tags_now digests_now) (Err Fail.Cut)
+          → HasResealed setup n start (parts_of engine new after tags_now digests_now) (Err AtLine.Cut)
       cut_armed device_now was_cut =
           record {
             place = next.place;
@@ -389,7 +357,6 @@ module _ (setup : Setup) (n : ℕ) (engine : EngineState) (old : Device) (before
             line_sealed = tt;
             answered = λ trusted. tt;
             unrefused = λ sound. tt;
-            not_down = λ it. it;
             few = omega arith;
             sealed_before = λ trusted a within made. stored_sealed trusted a made;
             counts =
@@ -397,7 +364,6 @@ module _ (setup : Setup) (n : ℕ) (engine : EngineState) (old : Device) (before
             one_seal = λ ok. absurd (true≢false (sym ok));
             work = λ ok. absurd (true≢false (sym ok));
             meta_lines = λ ok. absurd (true≢false (sym ok));
-            possible = tt;
             minors = All-cons IsUnderMinorZero mark [] (ap (λ (ctr : Ctr). ctr.minor) next.next) (All-nil IsUnderMinorZero);
             shadow =
                 record {
@@ -424,7 +390,7 @@ module _ (setup : Setup) (n : ℕ) (engine : EngineState) (old : Device) (before
 
       -- either
       pub cut_resealing : IsDevice new → IsResealCut setup.shape sealing mid new ledger after
-          → HasResealed setup n start (parts_of engine new after tags_now digests_now) (Err Fail.Cut)
+          → HasResealed setup n start (parts_of engine new after tags_now digests_now) (Err AtLine.Cut)
       cut_resealing device_now (inl before_it) = cut_unarmed new after tags_now digests_now more_tags same_digests before_it
       cut_resealing device_now (inr amid_it) = cut_armed device_now amid_it
 
@@ -450,7 +416,6 @@ module _ (setup : Setup) (n : ℕ) (engine : EngineState) (old : Device) (before
                 search rules;
             answered = λ trusted. tt;
             unrefused = λ sound. tt;
-            not_down = λ it. it;
             few = omega arith;
             sealed_before = λ trusted a within made. stored_sealed trusted a made;
             counts = search rules;
@@ -472,7 +437,6 @@ module _ (setup : Setup) (n : ℕ) (engine : EngineState) (old : Device) (before
                 committed_at (entries_of setup.shape sealing) mid new (layout.meta_line setup.shape x)
                 (meta_off setup.shape sealing x held_in_range) committed.device
                 ∙ ap (λ told. told_line told (layout.meta_line setup.shape x)) it.lines;
-            possible = tt;
             minors = All-cons IsUnderMinorZero mark [] (ap (λ (ctr : Ctr). ctr.minor) next.next) (All-nil IsUnderMinorZero);
             shadow =
                 record {

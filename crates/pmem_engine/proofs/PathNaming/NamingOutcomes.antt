@@ -1,7 +1,8 @@
 -- A path was named, or a cut came before one of its entries was written: what the call keeps.
 use Rattle.std.proofs.Common.{rules, ℕ, ◌≡◌, ◌<◌, ◌≤◌, ◌+◌, ◌⊎◌, inl, inr, true, false, List, [], length, Option, Some, None, Ok, Err, refl, sym, ap, ap₂, subst, ◌∙◌, arith}
-use Rattle.std.specs.Prelude.{MatchOption, IfSome, option_map, is_ok, Result}
+use Rattle.std.specs.Prelude.{MatchOption, IfSome, option_map}
 use Rattle.std.proofs.lemmas.Bool.{true≢false}
+use Rattle.pmem_base.specs.declared.faults.Cut.{Cut}
 use Rattle.pmem_base.specs.declared.lines.Line.{Line}
 use Rattle.pmem_base.specs.declared.registers.Regs.{Regs}
 use Rattle.pmem_base.specs.Counts.{HasRisen}
@@ -20,13 +21,11 @@ use Rattle.meta_path.specs.Work.{told_line}
 use Rattle.meta_path.specs.Naming.{path_number, named_path, naming_writes, IsNamedTo, IsNamingCut}
 use Rattle.meta_path.proofs.NameLemmas.{length-naming_writes}
 use Rattle.suite.specs.Setup.{Setup}
-use Rattle.pmem_engine.specs.declared.fault.Fault.{Fault}
-use Rattle.pmem_engine.specs.declared.fault.Fault.TheVariants as Fail
 use Rattle.pmem_engine.specs.Engine.{EngineState}
 use Rattle.pmem_engine.specs.Invariants.{IsSound, IsDurable, IsSealStored, IsCounterStored, stored_meta}
 use Rattle.pmem_engine.specs.Recached.{IsTrueOrDirty}
 use Rattle.pmem_engine.specs.Parts.{Parts, parts_of, AreTrusted, AreSound, HoldsCounters, lines_redone, meta_line_in}
-use Rattle.pmem_engine.specs.Outcomes.{Outcome, going, cut_short, is_going, outcome_of, KeepsPlaces, KeepsMeta, CallEffect, OneLossEffect, HasPower, HasSmallGroup, LeavesTrusted, LeavesSound, KeepsMetaWhere}
+use Rattle.pmem_engine.specs.Outcomes.{Outcome, going, cut_short, KeepsPlaces, KeepsMeta, CallEffect, OneLossEffect, HasPower, HasSmallGroup, LeavesTrusted, LeavesSound, KeepsMetaWhere}
 use Rattle.pmem_engine.specs.Inner.{HasNamedAll, HasNamedPath}
 use Rattle.pmem_engine.proofs.CallEnds.ToldLines.{unarmed, whole_lines}
 use Rattle.pmem_engine.proofs.CallEnds.ExactWork.{still_rise}
@@ -210,8 +209,6 @@ module _ (setup : Setup) (page : ℕ) (old new : EngineState) (before after : De
             (sym same_engine)
             (sound_at setup page old were before.regs ledger its_page few_levels some_sets cache_form form cached its_mirror sound
             (levels + 1) (omega arith)));
-        cut_alone = tt;
-        not_spent = λ spent e. absurd (true≢false (ap (λ (a : Result Unit Fault). is_ok a) e));
         path_named =
             λ ok.
             record {
@@ -297,9 +294,9 @@ module _ (setup : Setup) (page : ℕ) (old new : EngineState) (before after : De
             down = d;
           }) down
 
-  pub path_cut : IsNamingCut setup.shape old.cache page old.mirror new.mirror before after
-      → HasNamedPath setup page (parts_of old before ledger tags digests) (parts_of new after ledger tags digests) (Err Fail.Cut)
-  path_cut it =
+  pub path_cut : (cut : Cut) → IsNamingCut setup.shape old.cache page old.mirror new.mirror before after
+      → HasNamedPath setup page (parts_of old before ledger tags digests) (parts_of new after ledger tags digests) (Err cut)
+  path_cut cut it =
       record {
         done =
             named_cut setup page it.n old new before after ledger tags digests its_shape shape cache down it.lines it.regs it.size
@@ -307,8 +304,6 @@ module _ (setup : Setup) (page : ℕ) (old new : EngineState) (before after : De
             (λ were sound.
             (sound_at setup page old were before.regs ledger its_page few_levels some_sets cache_form form cached its_mirror sound
             it.n (omega (arith, it.on_path))).durable);
-        cut_alone = tt;
-        not_spent = λ spent e. absurd (true≢false (sym (ap (λ (a : Result Unit Fault). is_going (outcome_of a)) e)));
         path_named = λ ok. absurd (true≢false (sym ok));
         names =
             names_written setup.shape page (parts_of old before ledger tags digests) (parts_of new after ledger tags digests)

@@ -17,7 +17,7 @@ use Rattle.seal_ledger.proofs.MarkLemmas.{last_seal_has}
 use Rattle.suite.specs.Setup.{Setup}
 use Rattle.meta_path.specs.Blocks.{IsPathCached}
 use Rattle.plain_model.specs.View.{plain_of_seal}
-use Rattle.pmem_engine.specs.declared.fault.Fault.{Fault}
+use Rattle.pmem_engine.specs.declared.fault.LineFault.{LineFault}
 use Rattle.pmem_engine.specs.declared.reading.Unsealed.{Unsealed}
 use Rattle.pmem_engine.specs.Parts.{Parts, AreTrusted}
 use Rattle.pmem_engine.specs.Calls.{IsWork, unseal_work, unsealed_count}
@@ -90,8 +90,6 @@ plain_whole setup write parts posted whole =
             λ shorter. absurd (omega (arith, shorter, whole)),
           );
       unrefused = λ sound cached. tt;
-      not_down = λ it. it;
-      possible = tt;
       whole = λ is. (refl, record { engine = refl; device = refl; ledger = refl; tags = refl; digests = refl });
       engine = refl;
       lines = refl;
@@ -109,19 +107,19 @@ plain_whole setup write parts posted whole =
 -- ---- a shorter one
 
 -- the plain line with the write's bytes of a line unsealed
-abbrev pub made_of : Posted → Result Unsealed Fault → Result Line Fault
+abbrev pub made_of : Posted → Result Unsealed LineFault → Result Line LineFault
 made_of write (Ok unsealed) = Ok (put_write unsealed.plain write)
 made_of write (Err fault) = Err fault
 
 module _ (setup : Setup) (write : Posted) (ctr : Ctr) (old new : Parts) (shorter : write.len < 64)
     (last : AreTrusted setup old → IsPathCached setup.shape old.engine.cache (page_of write.at) → IsLastCounter old write.at ctr) where
-  worked : (answer : Result Unsealed Fault) → HasUnsealed setup write.at ctr old new answer → IsOk (made_of write answer)
+  worked : (answer : Result Unsealed LineFault) → HasUnsealed setup write.at ctr old new answer → IsOk (made_of write answer)
       → IsWork (unseal_work (unsealed_count write)) old new
   worked (Ok unsealed) it ok =
       subst (λ n. IsWork (unseal_work n) old new) (sym (cond-true (nat_lt write.len 64) 1 0 (lt-ltb write.len 64 shorter)))
       (unseal_worked setup write.at ctr old new unsealed it)
   worked (Err fault) it ok = absurd (true≢false (sym ok))
 
-  pub plain_unsealed : (answer : Result Unsealed Fault) → HasUnsealed setup write.at ctr old new answer
+  pub plain_unsealed : (answer : Result Unsealed LineFault) → HasUnsealed setup write.at ctr old new answer
       → HasMadePlain setup write old new (made_of write answer)
   plain_unsealed answer it = let did = worked answer it in search rules

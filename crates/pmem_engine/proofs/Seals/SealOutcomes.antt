@@ -3,6 +3,7 @@ use Rattle.std.proofs.Common.{rules, ℕ, ◌≡◌, ◌<◌, ◌≤◌, ◌+◌
 use Rattle.std.specs.Prelude.{option_map, ◌↔◌, ◌==◌, if◌then◌else◌}
 use Rattle.std.specs.List.{list_any}
 use Rattle.std.proofs.lemmas.Bool.{true≢false, cond-true, cond-false}
+use Rattle.pmem_base.specs.declared.faults.Cut.{Cut}
 use Rattle.pmem_base.specs.declared.lines.Line.{Line}
 use Rattle.pmem_base.specs.declared.lines.Ctr.{Ctr}
 use Rattle.pmem_base.specs.declared.answers.Mark.{Mark}
@@ -27,12 +28,11 @@ use Rattle.meta_path.specs.Work.{told_line}
 use Rattle.meta_path.specs.Storing.{IsRenewed}
 use Rattle.plain_model.specs.View.{plain_line}
 use Rattle.plain_model.specs.Bounds.{path_length}
-use Rattle.pmem_engine.specs.declared.fault.Fault.TheVariants as Fail
 use Rattle.pmem_engine.specs.declared.resealing.NextSeal.{NextSeal}
 use Rattle.pmem_engine.specs.Engine.{EngineState}
 use Rattle.pmem_engine.specs.Invariants.{IsTrusted, stored_meta}
 use Rattle.pmem_engine.specs.Parts.{Parts, parts_of, lines_redone, AreTrusted, meta_line_in}
-use Rattle.pmem_engine.specs.Outcomes.{going, cut_short, is_going, outcome_of, is_sealed_by, NeverFalls, OneLossEffect}
+use Rattle.pmem_engine.specs.Outcomes.{going, cut_short, is_sealed_by, NeverFalls, OneLossEffect}
 use Rattle.pmem_engine.specs.Calls.{IsUsable, IsPathNamedInMirror, is_persisting}
 use Rattle.pmem_engine.specs.Committing.{next_seal_of, HasCommitted, IsCutArmed}
 use Rattle.pmem_engine.specs.Inner.{cached_block}
@@ -56,10 +56,10 @@ module _ (setup : Setup) (at : ℕ) (plain : Line) (engine : EngineState) (old :
   start = parts_of engine old before tags digests
 
   -- the board was cut, and nothing done
-  pub seal_unread : (new : Device) (tags_now digests_now : ℕ) → tags_now ≡ tags → NeverFalls digests digests_now → WasCut old new
+  pub seal_unread : (new : Device) (tags_now digests_now : ℕ) → tags_now ≡ tags → NeverFalls digests digests_now → (cut : Cut) → WasCut old new
       → 4 ≤ seal_steps old.regs.loss (next_counter_of setup.shape engine at)
-      → HasSealedNext setup at plain start (parts_of engine new before tags_now digests_now) (Err Fail.Cut)
-  seal_unread new tags_now digests_now same_tags never_digests was some =
+      → HasSealedNext setup at plain start (parts_of engine new before tags_now digests_now) (Err cut)
+  seal_unread new tags_now digests_now same_tags never_digests cut was some =
       record {
         made = [];
         done =
@@ -218,8 +218,8 @@ module _ (setup : Setup) (at : ℕ) (plain tag_line : Line) (persisted : Bool) (
         (read.lines ∙ sym (ap (λ items. redone_told items old.lines) was_unarmed ∙ redone-nil old.lines))
 
     -- cut while its group was armed
-    pub seal_cut : IsDevice new → IsCutArmed group mid new → HasSealedNext setup at plain first final (Err Fail.Cut)
-    seal_cut device_now armed =
+    pub seal_cut : (cut : Cut) → IsDevice new → IsCutArmed group mid new → HasSealedNext setup at plain first final (Err cut)
+    seal_cut cut device_now armed =
         record {
           made = mark ∷ [];
           done =
@@ -292,7 +292,7 @@ module _ (setup : Setup) (at : ℕ) (plain tag_line : Line) (persisted : Bool) (
                 digests = more_digests;
               };
           cache = done.stored.kept;
-          armed = λ cut. absurd (true≢false (ap (λ reply. is_going (outcome_of reply)) cut));
+          armed = λ cut. absurd (true≢false (sym cut));
           meta_lines =
               λ ok x within apart.
               committed_at group mid new (layout.meta_line setup.shape x)
@@ -319,8 +319,8 @@ module _ (setup : Setup) (at : ℕ) (plain tag_line : Line) (persisted : Bool) (
         path_named = kept_named setup.shape (page_of at) persisted lines engine engine_now done.stored cached named
 
   -- a cut before its group was armed
-  pub seal_undone : IsNothingDone engine engine_now mid new before after → HasSealedNext setup at plain first final (Err Fail.Cut)
-  seal_undone was =
+  pub seal_undone : (cut : Cut) → IsNothingDone engine engine_now mid new before after → HasSealedNext setup at plain first final (Err cut)
+  seal_undone cut was =
       record {
         made = [];
         done =
@@ -344,11 +344,11 @@ module _ (setup : Setup) (at : ℕ) (plain tag_line : Line) (persisted : Bool) (
         block_written = λ trusted ok. absurd (true≢false (sym ok));
       }
 
-  pub seal_cuts : IsDevice new
+  pub seal_cuts : (cut : Cut) → IsDevice new
       → IsSealCut setup.shape next persisted block lines root engine engine_now mid new before after
-      → HasSealedNext setup at plain first final (Err Fail.Cut)
-  seal_cuts device_now (inl was) = seal_undone was
-  seal_cuts device_now (inr was) = seal_cut was.path_sealed device_now was.device
+      → HasSealedNext setup at plain first final (Err cut)
+  seal_cuts cut device_now (inl was) = seal_undone cut was
+  seal_cuts cut device_now (inr was) = seal_cut was.path_sealed cut device_now was.device
 
   pub seal_goes : HasSealCommitted setup.shape next persisted block lines root engine engine_now mid new before after
       → HasSealedNext setup at plain first final (Ok ctr)

@@ -8,7 +8,7 @@ use Rattle.pmem_base.proofs.LayoutLemmas.{pages-most}
 use Rattle.suite.specs.Setup.{Setup}
 use Rattle.board.specs.Device.{Device}
 use Rattle.seal_ledger.specs.Ledger.{LedgerState}
-use Rattle.pmem_engine.specs.declared.fault.Fault.TheVariants as Fail
+use Rattle.pmem_engine.specs.declared.fault.LineFault.TheVariants as AtLine
 use Rattle.pmem_engine.specs.declared.resealing.NextSeal.{NextSeal}
 use Rattle.pmem_engine.specs.Parts.{parts_of}
 use Rattle.pmem_engine.specs.Committing.{next_seal_of}
@@ -76,7 +76,7 @@ returns-in_err-commit_reseal-clause-resealed g c =
     subst
     (HasResealed setup c.args.n (parts_of c.args.self.now old before (g.S.Suite.tags c.args.suite.now) (g.S.Suite.digests c.args.suite.now))
     (parts_of c.args.self.now new after (g.S.Suite.tags c.next_seal-next.new.suite) (g.S.Suite.digests c.next_seal-next.new.suite)))
-    (sym (is_err_of c.from_residual-in_err-commit_reseal.result Fail.Cut c.from_residual-in_err-commit_reseal.ensures.1))
+    (sym (is_err_of c.from_residual-in_err-commit_reseal.result AtLine.Cut c.from_residual-in_err-commit_reseal.ensures.1))
     (cut_resealing setup c.args.n c.args.self.now old before (g.S.Suite.tags c.args.suite.now) (g.S.Suite.digests c.args.suite.now)
     c.held_line-held.result c.requires.usable c.requires.up c.requires.register
     (subst (λ register. IsNextHeld register c.held_line-held.result) same c.held_line-held.ensures)

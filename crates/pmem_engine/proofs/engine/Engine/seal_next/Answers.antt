@@ -14,7 +14,6 @@ use Rattle.seal_ledger.specs.Ledger.{LedgerState}
 use Rattle.split_counters.specs.Blocks.{packed}
 use Rattle.meta_path.specs.Blocks.{AreCachedTrue}
 use Rattle.meta_path.specs.Storing.{IsRenewed}
-use Rattle.pmem_engine.specs.declared.fault.Fault.TheVariants as Fail
 use Rattle.pmem_engine.specs.declared.resealing.NextSeal.{NextSeal}
 use Rattle.pmem_engine.specs.Engine.{EngineState}
 use Rattle.pmem_engine.specs.Outcomes.{NeverFalls}
@@ -36,13 +35,13 @@ returns-in_err-tag_line-clause-sealed g c =
     (HasSealedNext setup c.args.at c.args.plain.now
     (parts_of c.args.self.now old before (g.S.Suite.tags c.args.suite.now) (g.S.Suite.digests c.args.suite.now))
     (parts_of c.args.self.now new before (g.S.Suite.tags c.next_path-path.new.suite) (g.S.Suite.digests c.next_path-path.new.suite)))
-    (sym (is_err_of c.from_residual.result Fail.Cut c.from_residual.ensures.1))
+    (sym (is_err_of c.from_residual.result c.in_err-tag_line.field-0.0 c.from_residual.ensures.1))
     (seal_unread setup c.args.at c.args.plain.now c.args.self.now old before (g.S.Suite.tags c.args.suite.now)
     (g.S.Suite.digests c.args.suite.now) c.requires.usable c.requires.up new (g.S.Suite.tags c.next_path-path.new.suite)
     (g.S.Suite.digests c.next_path-path.new.suite) c.next_path-path.ensures.tags
     (subst (λ (n : ℕ). NeverFalls (g.S.Suite.digests c.args.suite.now) n) (sym c.next_path-path.ensures.digests)
     (times_never_fall _ (g.S.Suite.digests c.args.suite.now)))
-    c.in_err-tag_line.ensures.cut
+    c.in_err-tag_line.field-0.0 c.in_err-tag_line.ensures.cut
     (some_steps old.regs.loss (next_counter_of setup.shape c.args.self.now c.args.at)))
 
 pub returns-in_err-commit_seal-clause-sealed : goal.returns-in_err-commit_seal-clause-sealed
@@ -73,7 +72,7 @@ returns-in_err-commit_seal-clause-sealed g c =
     (HasSealedNext setup c.args.at c.args.plain.now
     (parts_of c.args.self.now old before (g.S.Suite.tags c.args.suite.now) (g.S.Suite.digests c.args.suite.now))
     (parts_of c.commit_seal.new.self new after (g.S.Suite.tags c.next_seal-next.new.suite) (g.S.Suite.digests c.next_seal-next.new.suite)))
-    (sym (is_err_of c.from_residual-in_err-commit_seal.result Fail.Cut c.from_residual-in_err-commit_seal.ensures.1))
+    (sym (is_err_of c.from_residual-in_err-commit_seal.result c.in_err-commit_seal.field-0.0 c.from_residual-in_err-commit_seal.ensures.1))
     (seal_cuts setup c.args.at c.args.plain.now c.in_ok-tag_line.tag_line c.due-persisted.result c.args.self.now c.commit_seal.new.self old mid new
     before after (g.S.Suite.tags c.args.suite.now) (g.S.Suite.digests c.args.suite.now) (g.S.Suite.tags c.next_seal-next.new.suite)
     (g.S.Suite.digests c.next_seal-next.new.suite) c.next_path-path.result.lines.items c.next_path-path.result.root
@@ -92,7 +91,7 @@ returns-in_err-commit_seal-clause-sealed g c =
     read due (c.next_seal-next.ensures.tags ∙ ap risen c.next_path-path.ensures.tags)
     (c.next_seal-next.ensures.digests ∙ c.next_path-path.ensures.digests
     ∙ ap (λ (e : EngineState). risen_times (path_length e.shape) (g.S.Suite.digests c.args.suite.now)) c.self.view_is)
-    (g.met.B.Board.whole c.read_line.new.self)
+    (g.met.B.Board.whole c.read_line.new.self) c.in_err-commit_seal.field-0.0
     (g.met.B.Board.whole c.commit_seal.new.board)
     (subst₂
     (λ (next : NextSeal) line. IsSealCut setup.shape next c.due-persisted.result line c.next_path-path.result.lines.items

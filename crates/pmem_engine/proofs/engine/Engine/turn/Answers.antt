@@ -1,12 +1,14 @@
 -- The engine is down, or no page is open, or the oldest page's lowest line was to be sealed anew.
 use Rattle.std.proofs.Common.{◌<◌, length, Ok, Err, Some, sym, ap, subst, ◌∙◌, arith}
+use Rattle.std.specs.Prelude.{◌||◌, not}
 use Rattle.std.proofs.lemmas.Bool.{eqb-true, eqb-false}
 use Rattle.suite.specs.Setup.{Setup}
 use Rattle.pmem_engine.specs.Engine.{EngineState}
 use Rattle.pmem_engine.specs.Parts.{Parts, parts_of}
+use Rattle.pmem_engine.specs.Outcomes.{is_going, outcome_of}
 use Rattle.pmem_engine.specs.Calls.{HasTurned}
 use Rattle.pmem_engine.proofs.CallEnds.ErrorAnswers.{is_err_of}
-use Rattle.pmem_engine.proofs.PageLines.TurnOutcomes.{turned_of, turned_down, turned_idle, turned, none_from_length}
+use Rattle.pmem_engine.proofs.PageLines.TurnOutcomes.{turned_of, turned_by_fault, turned_by_seal, turned_down, turned_idle, turned, none_from_length}
 use Rattle.pmem_engine.proofs.CallEnds.UsableParts.{usable_call}
 use Rattle.pmem_engine.proofs.engine.Engine.turn.Given.{Over}
 use Rattle.pmem_engine.proofs.engine.Engine.turn.Goals.{After-ended}
@@ -60,20 +62,21 @@ module _ (g : Over) (c : After-ended g) where
   turned_at_end : HasTurned setup old new (turned_of c.reseal-answer.result)
   turned_at_end =
       turned setup old mid c.reseal-answer.result c.ended.new.self c.in_ok-is_up.ensures.up some c.reseal-answer.ensures.resealed
-      c.ended.ensures.shape c.ended.ensures.cache c.ended.ensures.mirror c.ended.ensures.down
+      c.ended.ensures.shape c.ended.ensures.cache c.ended.ensures.mirror
+      (c.ended.ensures.down ∙ ap (λ answer. mid.engine.down || not (is_going (outcome_of answer))) c.line_answer.ensures)
 
 pub returns-in_err-sealed-clause-turned : goal.returns-in_err-sealed-clause-turned
 returns-in_err-sealed-clause-turned g c =
     let end : After-ended g = (goal.at.returns-in_err-sealed-clause-turned g c).After-ended in
     subst (HasTurned (setup g end) (old g end) (new g end))
-    (ap turned_of (sym c.in_err-sealed.ensures.answer)
+    (turned_by_fault c.reseal-answer.result c.in_err-sealed.field-0.0 (sym c.line_answer.ensures ∙ sym c.in_err-sealed.ensures.answer)
     ∙ sym (is_err_of c.from_residual-in_err-sealed.result c.in_err-sealed.field-0.0 c.from_residual-in_err-sealed.ensures.1))
     (turned_at_end g end)
 
 pub returns-clause-turned : goal.returns-clause-turned
 returns-clause-turned g c =
     let end : After-ended g = (goal.at.returns-clause-turned g c).After-ended in
-    subst (HasTurned (setup g end) (old g end) (new g end)) (ap turned_of (sym c.in_ok-sealed.ensures.answer)) (turned_at_end g end)
+    subst (HasTurned (setup g end) (old g end) (new g end)) (turned_by_seal c.reseal-answer.result c.in_ok-sealed.sealed (sym c.line_answer.ensures ∙ sym c.in_ok-sealed.ensures.answer)) (turned_at_end g end)
 
 pub returns-in_err-sealed-clause-usable : goal.returns-in_err-sealed-clause-usable
 returns-in_err-sealed-clause-usable g c =
