@@ -18,12 +18,12 @@ use Rattle.meta_path.specs.Fetching.{IsFetchedTo}
 use Rattle.pmem_engine.specs.declared.fault.Fault.{Fault}
 use Rattle.pmem_engine.specs.declared.fault.Fault.TheVariants as Fail
 use Rattle.pmem_engine.specs.declared.reading.Unsealed.{Unsealed}
+use Rattle.pmem_engine.specs.Engine.{EngineState}
 use Rattle.pmem_engine.specs.Parts.{Parts, AreTrusted, AreSound}
 use Rattle.pmem_engine.specs.Outcomes.{Outcome, going, cut_short, shown, is_going, outcome_of, outcome_of_fault, OneLossEffect, TakesSteps, TakesAtMost}
 use Rattle.pmem_engine.specs.Calls.{IsDownAnswer, IsUnrefused, TakesWithin, TakesWithinOfLive, IsMetaUncached, fetch_state, path_spilled, fetch_work, unseal_work, IsPathFetched, IsPastFetch, IsAnswerOfRead, IsReadWork, AnswersRead, IsReadOfCached, HasFetchedLevels, IsFetchedAsFar, IsCutWhereDue}
 use Rattle.pmem_engine.specs.Inner.{HasFetched, HasUnsealed, IsAnswerOfFetch, AnswersFetch, IsAnswerOfUnseal, UpReadOutcome, IsLastCounter, AnswersUnseal, StandsStill}
 use Rattle.pmem_engine.proofs.CallEnds.CallChains.{done_chained}
-use Rattle.pmem_engine.proofs.CallEnds.EndedEngines.{with_engine}
 use Rattle.pmem_engine.proofs.CallEnds.ExactWork.{work_then, fetch_worked, unseal_worked}
 use Rattle.pmem_engine.proofs.CallEnds.ShadowLines.{shadow_chained, shadow_still}
 use Rattle.pmem_engine.proofs.CallEnds.StillParts.{sound_trusted}
@@ -155,7 +155,7 @@ module _ (setup : Setup) (a : ℕ) (ctr : Ctr) (old mid new : Parts) (its_shape 
       all_fetched =
           record {
             on_path = omega arith;
-            cache = subst (λ e. IsPathFetched setup.shape (page_of a) old (with_engine mid e)) (sym unsealed.engine) did_fetch.cache;
+            cache = subst (λ (e : EngineState). IsPathFetched setup.shape (page_of a) old (record mid { engine = e })) (sym unsealed.engine) did_fetch.cache;
             lines = unsealed.lines ∙ did_fetch.work.lines;
             writes =
                 subst (λ n. RisesBy (length (path_spilled setup.shape old (page_of a))) old.device.writes n) (sym unsealed.writes)

@@ -1,5 +1,5 @@
 -- A call that ended: its engine is down where it was cut or shown.
-use Rattle.std.proofs.Common.{rules, ℕ, ◌≡◌, Bool, false, ◌||◌, List, [], Result, Ok, Err, sym, ap, subst}
+use Rattle.std.proofs.Common.{rules, ℕ, ◌≡◌, Bool, false, ◌||◌, List, [], Result, Ok, Err, refl, sym, ap, subst, ◌∙◌}
 use Rattle.pmem_base.specs.declared.lines.Line.{Line}
 use Rattle.pmem_base.specs.declared.answers.Mark.{Mark}
 use Rattle.pmem_base.specs.Shape.{Shape}
@@ -9,7 +9,7 @@ use Rattle.pmem_engine.specs.declared.fault.Fault.{Fault}
 use Rattle.pmem_engine.specs.declared.fault.Fault.TheVariants as Fail
 use Rattle.pmem_engine.specs.Engine.{EngineState}
 use Rattle.pmem_engine.specs.Parts.{Parts, parts_of}
-use Rattle.pmem_engine.specs.Outcomes.{Outcome, going, cut_short, shown, outcome_of, CallEffect, OneLossEffect}
+use Rattle.pmem_engine.specs.Outcomes.{Outcome, going, cut_short, shown, outcome_of, LeavesTrusted, LeavesSound, KeepsMetaWhere, HasSmallGroup, CallEffect, OneLossEffect}
 use Rattle.pmem_engine.specs.Calls.{IsDownAnswer, AnswersDown, TakesWithin, TakesWithinOfLive, Work, then_work, IsWork, fetch_work, unseal_work, IsPastFetch, IsReadWork, AnswersRead, HasReadLine, IsFetchedAsFar, HasFetchedSome}
 use Rattle.pmem_engine.specs.Inner.{ended_by, UpReadOutcome}
 
@@ -27,67 +27,52 @@ ended_going engine = ap (λ down. record { shape = engine.shape; cache = engine.
 pub ended_parts_going : (parts : Parts) → ended_parts parts going ≡ parts
 ended_parts_going parts = search rules
 
+-- a call's effect, where only the engine is another
+gone_with : (setup : Setup) (outcome : Outcome) (made : List Mark) (old new : Parts) (engine : EngineState)
+    → engine.shape ≡ new.engine.shape
+    → (LeavesTrusted setup outcome new → LeavesTrusted setup outcome (record new { engine = engine }))
+    → (LeavesSound setup outcome new → LeavesSound setup outcome (record new { engine = engine }))
+    → (KeepsMetaWhere setup outcome made old new → KeepsMetaWhere setup outcome made old (record new { engine = engine }))
+    → HasSmallGroup outcome (record new { engine = engine }) ≡ HasSmallGroup outcome new
+    → CallEffect setup outcome made old new → CallEffect setup outcome made old (record new { engine = engine })
+gone_with setup outcome made old new engine shape trusted sound metadata small it =
+    record {
+      shape = shape ∙ it.shape;
+      size = it.size;
+      told = it.told;
+      valid = it.valid;
+      group = it.group;
+      small_group = λ none. subst (λ (P : Type 0). P) (sym small) (it.small_group none);
+      power = it.power;
+      reads = it.reads;
+      tags = it.tags;
+      digests = it.digests;
+      marks = it.marks;
+      spare = it.spare;
+      true_lines = it.true_lines;
+      data_lines = it.data_lines;
+      exhibit = it.exhibit;
+      trusted = λ was. trusted (it.trusted was);
+      sound = λ was. sound (it.sound was);
+      places =
+          λ was.
+          record {
+            seals = (it.places was).seals;
+            data_lines = (it.places was).data_lines;
+            tag_slots = (it.places was).tag_slots;
+          };
+      metadata = λ was. metadata (it.metadata was);
+    }
+
 pub gone_ended : (setup : Setup) (outcome : Outcome) (made : List Mark) (old new : Parts) → CallEffect setup outcome made old new
     → CallEffect setup outcome made old (ended_parts new outcome)
 gone_ended setup going made old new it =
     subst (λ parts. CallEffect setup going made old parts) (sym (ended_parts_going new)) it
 gone_ended setup cut_short made old new it =
-    record {
-      shape = it.shape;
-      size = it.size;
-      told = it.told;
-      valid = it.valid;
-      group = it.group;
-      small_group = it.small_group;
-      power = it.power;
-      reads = it.reads;
-      tags = it.tags;
-      digests = it.digests;
-      marks = it.marks;
-      spare = it.spare;
-      true_lines = it.true_lines;
-      data_lines = it.data_lines;
-      exhibit = it.exhibit;
-      trusted = it.trusted;
-      sound = it.sound;
-      places =
-          λ was.
-          record {
-            seals = (it.places was).seals;
-            data_lines = (it.places was).data_lines;
-            tag_slots = (it.places was).tag_slots;
-          };
-      metadata = it.metadata;
-    }
+    gone_with setup cut_short made old new (ended_by new.engine cut_short) refl (λ t. t) (λ s. s) (λ m. m) refl it
 gone_ended setup shown made old new it =
-    record {
-      shape = it.shape;
-      size = it.size;
-      told = it.told;
-      valid = it.valid;
-      group = it.group;
-      small_group = it.small_group;
-      power = it.power;
-      reads = it.reads;
-      tags = it.tags;
-      digests = it.digests;
-      marks = it.marks;
-      spare = it.spare;
-      true_lines = it.true_lines;
-      data_lines = it.data_lines;
-      exhibit = it.exhibit;
-      trusted = it.trusted;
-      sound = it.sound;
-      places =
-          λ was.
-          record {
-            seals = (it.places was).seals;
-            data_lines = (it.places was).data_lines;
-            tag_slots = (it.places was).tag_slots;
-          };
-      metadata =
-          search rules;
-    }
+    gone_with setup shown made old new (ended_by new.engine shown) refl (λ t. t) (λ s. s)
+    (λ m. record { true_or_dirty = m.true_or_dirty; changed = m.changed; dirty = m.dirty }) refl it
 
 pub done_ended : (setup : Setup) (outcome : Outcome) (made : List Mark) (old new : Parts) → OneLossEffect setup outcome made old new
     → OneLossEffect setup outcome made old (ended_parts new outcome)

@@ -6,12 +6,12 @@ use Rattle.suite.specs.Setup.{Setup}
 use Rattle.plain_model.specs.Bounds.{path_length}
 use Rattle.pmem_engine.specs.declared.fault.Fault.{Fault}
 use Rattle.pmem_engine.specs.declared.fault.Fault.TheVariants as Fail
+use Rattle.pmem_engine.specs.Engine.{EngineState}
 use Rattle.pmem_engine.specs.Parts.{Parts}
 use Rattle.pmem_engine.specs.Outcomes.{Outcome}
 use Rattle.pmem_engine.specs.Calls.{KeepsShadow, HasFetchedLevels, IsPathFetched, IsRefusedAsFetched}
 use Rattle.pmem_engine.specs.Inner.{HasFetched}
 use Rattle.pmem_engine.specs.Writing.{IsAnswerOfPlain, IsAnswerOfFinish}
-use Rattle.pmem_engine.proofs.CallEnds.EndedEngines.{with_engine}
 use Rattle.pmem_engine.proofs.CallEnds.ShadowLines.{shadow_still, shadow_chained}
 use Rattle.pmem_engine.proofs.CheckedReads.ReadEnds.{ended_parts}
 
@@ -41,7 +41,7 @@ module _ (setup : Setup) (page : ℕ) (old : Parts) where
   still_fetched : (p1 new : Parts) → HasFetched setup page old p1 (Ok tt) → new.engine ≡ p1.engine
       → IsPathFetched setup.shape page old new
   still_fetched p1 new it same =
-      subst (λ engine. IsPathFetched setup.shape page old (with_engine p1 engine)) (sym same) (it.work refl).cache
+      subst (λ (e : EngineState). IsPathFetched setup.shape page old (record p1 { engine = e })) (sym same) (it.work refl).cache
 
   pub refused_plain : (p1 new : Parts) (fault : Fault) → HasFetched setup page old p1 (Ok tt) → new.engine ≡ p1.engine
       → new.device.lines ≡ p1.device.lines → IsAnswerOfPlain (Err fault)

@@ -59,8 +59,9 @@ module _ (g : Over) (c : After-ended g) where
 
   turned_at_end : HasTurned setup old new (turned_of c.reseal-answer.result)
   turned_at_end =
-      turned setup old mid c.reseal-answer.result c.ended.new.self c.in_ok-is_up.ensures.up some c.reseal-answer.ensures.resealed
-      c.ended.ensures.shape c.ended.ensures.cache c.ended.ensures.mirror c.ended.ensures.down
+      subst (λ engine. HasTurned setup old (record mid { engine = engine }) (turned_of c.reseal-answer.result))
+      (sym c.ended.ensures.engine)
+      (turned setup old mid c.reseal-answer.result c.in_ok-is_up.ensures.up some c.reseal-answer.ensures.resealed)
 
 pub returns-in_err-sealed-clause-turned : goal.returns-in_err-sealed-clause-turned
 returns-in_err-sealed-clause-turned g c =
