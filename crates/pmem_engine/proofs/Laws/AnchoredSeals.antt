@@ -12,6 +12,7 @@ use Rattle.pmem_base.specs.declared.lines.Ctr.{Ctr}
 use Rattle.pmem_base.specs.declared.registers.Progress.{Progress}
 use Rattle.pmem_base.specs.declared.registers.Regs.{Regs}
 use Rattle.pmem_base.specs.declared.answers.Mark.TheVariants.{Seal}
+use Rattle.pmem_base.specs.declared.answers.Mark.{Mark}
 use Rattle.pmem_base.specs.Shape.{Shape, is_loss}
 use Rattle.pmem_base.specs.Layout.{data_lines, device_lines, pages, page_of, index_in_page}
 use Rattle.pmem_base.specs.Lines.{IsCtr, line_at}
@@ -29,13 +30,13 @@ use Rattle.bonsai_tree.specs.Paths.{IsTreeWith, lines_with, root_with}
 use Rattle.bonsai_tree.proofs.Trees.{lines_with-IsTreeWith}
 use Rattle.page_reencrypt.specs.Registers.{counter_of, registers_with_done}
 use Rattle.page_reencrypt.proofs.Holding.{counter_of-other, counter_of-done, registers_with_done-IsProgress, registers_with_done-distinct, All-registers_with_done, old_major-same}
-use Rattle.seal_ledger.specs.Ledger.{LedgerState, IsMark, IsOfShape}
+use Rattle.seal_ledger.specs.Ledger.{LedgerState, IsMark}
 use Rattle.suite.specs.Setup.{Setup}
 use Rattle.plain_model.specs.View.{view_of, pages_with_done}
 use Rattle.plain_model.proofs.Views.{open_pages-sealed}
 use Rattle.pmem_engine.specs.Truth.{true_block, true_counter}
 use Rattle.pmem_engine.specs.Invariants.{IsSealTagged, IsHeldBack, register_page, IsAnchored}
-use Rattle.pmem_engine.specs.Sealed.{sealed_counter, sealed_block, IsSealed}
+use Rattle.pmem_engine.specs.Sealed.{sealed_counter, sealed_block, IsKept, IsSealed}
 use Rattle.pmem_engine.proofs.Laws.OpenPages.{pages_with_done-registers}
 
 -- ---- the true blocks
@@ -64,6 +65,31 @@ valid_regs-done g old new a progress loss group valid =
       each_page = subst (λ ps. All (IsProgress g) ps) (sym progress) (registers_with_done-IsProgress g old.progress.items a valid.each_page);
       distinct_pages = subst (λ ps. AllPairs (λ x y. x.page ≢ y.page) ps) (sym progress) (registers_with_done-distinct old.progress.items a valid.distinct_pages);
       known_loss = subst (λ n. IsTrue (is_loss n)) (sym loss) valid.known_loss;
+    }
+
+-- ---- one mark more, with a page's new tree: what is left to show
+
+pub anchored-marked : (setup : Setup) (mark : Mark) (page : ℕ) (block : Line) (old_regs new_regs : Regs) (old new : LedgerState) → IsAnchored setup old_regs old → IsKept setup old_regs new_regs old new → new.marks ≡ old.marks ++ mark ∷ [] → IsTreeWith setup.shape setup.formulas page block new_regs.root old.truth new.truth → IsMark setup.shape mark → IsSealTagged setup.formulas mark → IsFresh (old.marks ++ mark ∷ [])
+    → ((a : ℕ) → a < data_lines setup.shape → option_map (λ seal. seal.ctr) (last_seal new.marks a) ≡ Some (true_counter setup.shape new_regs.progress.items new.truth a))
+    → IsValidRegs setup.shape new_regs → All (IsHeldBack setup.shape new.truth) new_regs.progress.items → (view_of setup.shape new.marks).open_pages ≡ map register_page new_regs.progress.items → IsAnchored setup new_regs new
+anchored-marked setup mark page block old_regs new_regs old new anchored kept marks tree in_range tagged fresh counters valid held opened =
+    record {
+      of_shape =
+          record {
+            truth_count = tree.tree.whole;
+            truth_lines = tree.whole;
+            line_count = kept.data_lines ∙ anchored.of_shape.line_count;
+            marks_in_range = subst (λ ms. All (IsMark setup.shape) ms) (sym marks) (All-push (IsMark setup.shape) old.marks mark anchored.of_shape.marks_in_range in_range);
+          };
+      truth_is_tree = tree.tree;
+      root = tree.top;
+      last_counters = counters;
+      seals_tagged = subst (λ ms. All (IsSealTagged setup.formulas) ms) (sym marks) (All-push (IsSealTagged setup.formulas) old.marks mark anchored.seals_tagged tagged);
+      valid_regs = valid;
+      held_back = held;
+      fresh = subst IsFresh (sym marks) fresh;
+      open_pages = opened;
+      no_exhibit = subst IsNone (sym kept.exhibit) anchored.no_exhibit;
     }
 
 -- ---- the parts of a seal
@@ -133,22 +159,6 @@ module _ (setup : Setup) (a minor : ℕ) (cipher : Line) (tag : List ℕ) (old_r
             ∙ (anchored.last_counters b inside ∙ ap Some (sym (counter_other b apart)))
       ]
 
-  of_shape : IsOfShape geometry new
-  of_shape =
-      record {
-        truth_count = it.truth.tree.whole;
-        truth_lines = it.truth.whole;
-        line_count = it.kept.data_lines ∙ anchored.of_shape.line_count;
-        marks_in_range =
-            subst (λ ms. All (IsMark geometry) ms) (sym it.marks)
-            (All-push (IsMark geometry) old.marks (Seal a seal_counter cipher tag) anchored.of_shape.marks_in_range (it.its_line, counter_in_range, it.its_cipher, it.its_tag));
-      }
-
-  seals_tagged : All (IsSealTagged setup.formulas) new.marks
-  seals_tagged =
-      subst (λ ms. All (IsSealTagged setup.formulas) ms) (sym it.marks)
-      (All-push (IsSealTagged setup.formulas) old.marks (Seal a seal_counter cipher tag) anchored.seals_tagged it.tagged)
-
   valid_regs : IsValidRegs geometry new_regs
   valid_regs = valid_regs-done geometry old_regs new_regs a it.progress it.kept.loss it.kept.group anchored.valid_regs
 
@@ -191,14 +201,13 @@ module _ (setup : Setup) (a minor : ℕ) (cipher : Line) (tag : List ℕ) (old_r
       ])
       old_regs.progress.items anchored.held_back)
 
-  fresh : IsTrue (is_below (true_counter geometry old_regs.progress.items old.truth a) seal_counter) → IsFresh new.marks
+  fresh : IsTrue (is_below (true_counter geometry old_regs.progress.items old.truth a) seal_counter) → IsFresh (old.marks ++ Seal a seal_counter cipher tag ∷ [])
   fresh above =
-      subst IsFresh (sym it.marks)
-      (IsFresh-push old.marks (Seal a seal_counter cipher tag) anchored.fresh
+      IsFresh-push old.marks (Seal a seal_counter cipher tag) anchored.fresh
       (λ (last : SealOf) e.
       let same : last.ctr ≡ true_counter geometry old_regs.progress.items old.truth a =
       same_Some last.ctr (true_counter geometry old_regs.progress.items old.truth a) (sym (ap (option_map (λ seal. seal.ctr)) e) ∙ anchored.last_counters a it.its_line) in
-      subst (λ ctr. IsTrue (is_below ctr seal_counter)) (sym same) above))
+      subst (λ ctr. IsTrue (is_below ctr seal_counter)) (sym same) above)
 
   open_pages : (view_of geometry new.marks).open_pages ≡ map register_page new_regs.progress.items
   open_pages =
@@ -211,18 +220,8 @@ module _ (setup : Setup) (a minor : ℕ) (cipher : Line) (tag : List ℕ) (old_r
   -- a seal under a counter above the line's last one keeps all anchored
   pub anchored-sealed : IsTrue (is_below (true_counter geometry old_regs.progress.items old.truth a) seal_counter) → IsAnchored setup new_regs new
   anchored-sealed above =
-      record {
-        of_shape = of_shape;
-        truth_is_tree = it.truth.tree;
-        root = it.truth.top;
-        last_counters = last_counters;
-        seals_tagged = seals_tagged;
-        valid_regs = valid_regs;
-        held_back = held_back;
-        fresh = fresh above;
-        open_pages = open_pages;
-        no_exhibit = subst IsNone (sym it.kept.exhibit) anchored.no_exhibit;
-      }
+      anchored-marked setup (Seal a seal_counter cipher tag) sealed_page (packed (sealed_block geometry old.truth a minor)) old_regs new_regs old new anchored it.kept it.marks it.truth
+      (it.its_line, counter_in_range, it.its_cipher, it.its_tag) it.tagged (fresh above) last_counters valid_regs held_back open_pages
 
 -- the page's new path over an anchored ledger's lines gives a tree with its new block
 pub anchored-new_path : (setup : Setup) (regs : Regs) (ledger : LedgerState) (page : ℕ) (block : Block) (root : List ℕ) (truth : List Line) → AreInRange setup.formulas → IsAnchored setup regs ledger → page < pages setup.shape → truth ≡ lines_with setup.shape setup.formulas ledger.truth page (packed block) → root ≡ root_with setup.shape setup.formulas (line_at ledger.truth) page (packed block) → IsTreeWith setup.shape setup.formulas page (packed block) root ledger.truth truth
