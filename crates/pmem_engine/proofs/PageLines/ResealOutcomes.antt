@@ -276,7 +276,7 @@ module _ (setup : Setup) (n : ℕ) (engine : EngineState) (old : Device) (before
 
     -- ---- the group is cut before it was armed
 
-    pub cut_unarmed : (new : Device) (after : LedgerState) (tags_now digests_now : ℕ) → tags_now ≡ risen tags_mid
+    cut_unarmed : (new : Device) (after : LedgerState) (tags_now digests_now : ℕ) → tags_now ≡ risen tags_mid
         → digests_now ≡ digests_mid → IsCutUnarmed mid new ledger after
         → HasResealed setup n start (parts_of engine new after tags_now digests_now) (Err Fail.Cut)
     cut_unarmed new after tags_now digests_now more_tags same_digests was_cut =
@@ -371,7 +371,7 @@ module _ (setup : Setup) (n : ℕ) (engine : EngineState) (old : Device) (before
 
       -- ---- or while it was armed
 
-      pub cut_armed : IsDevice new → IsResealCutArmed setup.shape sealing mid new ledger after
+      cut_armed : IsDevice new → IsResealCutArmed setup.shape sealing mid new ledger after
           → HasResealed setup n start (parts_of engine new after tags_now digests_now) (Err Fail.Cut)
       cut_armed device_now was_cut =
           record {
@@ -422,15 +422,9 @@ module _ (setup : Setup) (n : ℕ) (engine : EngineState) (old : Device) (before
               → new.writes + new.latches < old.writes + old.latches + 4
           fewer one two = search rules
 
-      -- either
-      pub cut_resealing : IsDevice new → IsResealCut setup.shape sealing mid new ledger after
-          → HasResealed setup n start (parts_of engine new after tags_now digests_now) (Err Fail.Cut)
-      cut_resealing device_now (inl before_it) = cut_unarmed new after tags_now digests_now more_tags same_digests before_it
-      cut_resealing device_now (inr amid_it) = cut_armed device_now amid_it
-
       -- ---- the line is sealed anew
 
-      pub resealed : (answer : ℕ × ℕ) → answer.0 ≡ held.at → answer.1 + 1 ≡ length (not_done register)
+      resealed : (answer : ℕ × ℕ) → answer.0 ≡ held.at → answer.1 + 1 ≡ length (not_done register)
           → HasResealCommitted setup.shape sealing mid new ledger after
           → HasResealed setup n start (parts_of engine new after tags_now digests_now) (Ok answer)
       resealed answer at_is left_is committed =
@@ -493,3 +487,17 @@ module _ (setup : Setup) (n : ℕ) (engine : EngineState) (old : Device) (before
                 (ap₂ redone_told committed.device.no_group committed.device.lines
                 ∙ redone-nil (redone_told (entries_of setup.shape sealing) mid.lines));
           }
+
+      -- every exit
+      pub resealing_exits :
+          (IsDevice new → IsResealCut setup.shape sealing mid new ledger after → HasResealed setup n start final (Err Fail.Cut))
+          × ((answer : ℕ × ℕ) → answer.0 ≡ held.at → answer.1 + 1 ≡ length (not_done register)
+          → HasResealCommitted setup.shape sealing mid new ledger after → HasResealed setup n start final (Ok answer))
+      resealing_exits = (
+        λ device_now cut.
+            elim cut [
+              | inl was ↦ cut_unarmed new after tags_now digests_now more_tags same_digests was
+              | inr was ↦ cut_armed device_now was
+            ],
+        resealed,
+      )

@@ -223,14 +223,17 @@ module _ (setup : Setup) (page : ℕ) (engine engine_now : EngineState) (old new
         path_named : IsPathNamedInMirror setup.shape engine_now page
         path_named = kept_named setup.shape page true lines engine engine_now done.stored cached named
 
-  -- a cut, whenever it came
-  pub page_cut : IsDevice old → IsDevice new
-      → IsBeginCut setup.shape page register block lines root engine engine_now old new before after
-      → HasBegunPage setup page start final (Err Fail.Cut)
-  page_cut whole whole_now (inl was) = begin_undone was
-  page_cut whole whole_now (inr was) = begin_cut was.page_begun whole whole_now was.device
-
-  pub page_begun : IsDevice old
-      → HasBeginCommitted setup.shape page register block lines root engine engine_now old new before after
-      → HasBegunPage setup page start final (Ok tt)
-  page_begun whole was = begin_done was.page_begun whole was.device
+  -- both exits
+  pub page_exits : IsDevice old
+      → (IsDevice new → IsBeginCut setup.shape page register block lines root engine engine_now old new before after
+      → HasBegunPage setup page start final (Err Fail.Cut))
+      × (HasBeginCommitted setup.shape page register block lines root engine engine_now old new before after
+      → HasBegunPage setup page start final (Ok tt))
+  page_exits whole = (
+    λ whole_now cut.
+        elim cut [
+          | inl was ↦ begin_undone was
+          | inr was ↦ begin_cut was.page_begun whole whole_now was.device
+        ],
+    λ was. begin_done was.page_begun whole was.device,
+  )

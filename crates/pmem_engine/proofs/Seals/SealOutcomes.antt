@@ -344,12 +344,16 @@ module _ (setup : Setup) (at : ℕ) (plain tag_line : Line) (persisted : Bool) (
         block_written = λ trusted ok. absurd (true≢false (sym ok));
       }
 
-  pub seal_cuts : IsDevice new
-      → IsSealCut setup.shape next persisted block lines root engine engine_now mid new before after
-      → HasSealedNext setup at plain first final (Err Fail.Cut)
-  seal_cuts device_now (inl was) = seal_undone was
-  seal_cuts device_now (inr was) = seal_cut was.path_sealed device_now was.device
-
-  pub seal_goes : HasSealCommitted setup.shape next persisted block lines root engine engine_now mid new before after
-      → HasSealedNext setup at plain first final (Ok ctr)
-  seal_goes was = seal_done was.path_sealed was.device
+  -- both exits
+  pub seal_exits : (IsDevice new → IsSealCut setup.shape next persisted block lines root engine engine_now mid new before after
+      → HasSealedNext setup at plain first final (Err Fail.Cut))
+      × (HasSealCommitted setup.shape next persisted block lines root engine engine_now mid new before after
+      → HasSealedNext setup at plain first final (Ok ctr))
+  seal_exits = (
+    λ device_now cut.
+        elim cut [
+          | inl was ↦ seal_undone was
+          | inr was ↦ seal_cut was.path_sealed device_now was.device
+        ],
+    λ was. seal_done was.path_sealed was.device,
+  )
