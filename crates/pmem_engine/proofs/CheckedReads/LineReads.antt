@@ -20,7 +20,7 @@ use Rattle.pmem_engine.specs.declared.fault.Fault.TheVariants as Fail
 use Rattle.pmem_engine.specs.declared.reading.Unsealed.{Unsealed}
 use Rattle.pmem_engine.specs.Engine.{EngineState}
 use Rattle.pmem_engine.specs.Parts.{Parts, AreTrusted, AreSound}
-use Rattle.pmem_engine.specs.Outcomes.{Outcome, going, cut_short, shown, is_going, outcome_of, outcome_of_fault, OneLossEffect, TakesSteps, TakesAtMost}
+use Rattle.pmem_engine.specs.Outcomes.{Outcome, going, cut_short, shown, outcome_of, OneLossEffect, TakesSteps, TakesAtMost}
 use Rattle.pmem_engine.specs.Calls.{IsDownAnswer, IsUnrefused, TakesWithin, TakesWithinOfLive, IsMetaUncached, fetch_state, path_spilled, fetch_work, unseal_work, IsPathFetched, IsPastFetch, IsAnswerOfRead, IsReadWork, AnswersRead, IsReadOfCached, HasFetchedLevels, IsFetchedAsFar, IsCutWhereDue}
 use Rattle.pmem_engine.specs.Inner.{HasFetched, HasUnsealed, IsAnswerOfFetch, AnswersFetch, IsAnswerOfUnseal, UpReadOutcome, IsLastCounter, AnswersUnseal, StandsStill}
 use Rattle.pmem_engine.proofs.CallEnds.CallChains.{done_chained}
@@ -61,13 +61,7 @@ within_live_before outcome n old mid new unpowered live first second = (
 
 -- a cut is answered by Cut
 pub cut_answer : {T : Type 0} (answer : Result T Fault) → outcome_of answer ≡ cut_short → answer ≡ Err Fail.Cut
-cut_answer (Ok value) it = absurd (true≢false (ap is_going it))
-cut_answer (Err Fail.Cut) it = refl
-cut_answer (Err Fail.Down) it = absurd (true≢false (ap is_going it))
-cut_answer (Err (Fail.Meta x)) it = absurd (true≢false (ap is_going it))
-cut_answer (Err (Fail.Tag at)) it = absurd (true≢false (ap is_going it))
-cut_answer (Err (Fail.Spent page)) it = absurd (true≢false (ap is_going it))
-cut_answer (Err Fail.Shown) it = cc
+cut_answer answer it = search (rules, true≢false)
 
 -- ---- the read
 
@@ -322,31 +316,4 @@ module _ (setup : Setup) (a : ℕ) (old new : Parts) where
   unfetched_possible (Fail.Spent page) it = it
 
   pub read_unfetched : (fault : Fault) → HasFetched setup (page_of a) old new (Err fault) → UpReadOutcome setup a old new (Err fault)
-  read_unfetched fault it =
-      record {
-        done = it.done;
-        answered = λ trusted. unfetched_says fault (it.answered trusted);
-        unrefused = λ sound. unfetched_unrefused fault (it.unrefused sound);
-        not_down = λ is. it.not_down (unfetched_down fault is);
-        path_cached = λ ok. absurd (true≢false (sym ok));
-        path_fetched = λ past. it.path_fetched (past_fault Line Unit old new fault past);
-        possible = unfetched_possible fault it.possible;
-        meta_uncached = meta_fault Unit Line setup.shape (page_of a) old fault it.meta_uncached;
-        shadow = it.shadow;
-        work = λ ok. absurd (true≢false (sym ok));
-        fetched =
-            record {
-              levels = it.fetched.levels;
-              fetched = it.fetched.fetched;
-              as_far = as_far_fault Unit Line setup.shape old new fault it.fetched.levels it.fetched.as_far;
-              due = λ live. due_fault Unit Line setup.shape (page_of a) it.fetched.levels old fault (it.fetched.due live);
-            };
-        mirror = it.mirror;
-        down = it.down;
-        of_cached = λ was. absurd (true≢false (sym (it.still_cached was).0));
-        steps_of_path = (
-          most_of_within (outcome_of_fault fault) (path_length setup.shape) old new it.steps_of_path,
-          λ live. it.steps_of_path,
-        );
-        steps_of_dirty = it.steps_of_dirty;
-      }
+  read_unfetched fault it = search (rules, true≢false, most_of_within, past_fault, meta_fault, as_far_fault, due_fault, unfetched_says, unfetched_unrefused, unfetched_down, unfetched_possible)

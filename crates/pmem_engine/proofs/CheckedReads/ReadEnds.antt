@@ -1,16 +1,15 @@
 -- A call that ended: its engine is down where it was cut or shown.
-use Rattle.std.proofs.Common.{rules, ℕ, ◌≡◌, Bool, false, ◌||◌, List, [], Result, Ok, Err, refl, sym, ap, subst, ◌∙◌}
+use Rattle.std.proofs.Common.{rules, ℕ, ◌≡◌, Bool, false, ◌||◌, List, [], Result, refl, sym, ap, subst, ◌∙◌}
 use Rattle.pmem_base.specs.declared.lines.Line.{Line}
 use Rattle.pmem_base.specs.declared.answers.Mark.{Mark}
 use Rattle.pmem_base.specs.Shape.{Shape}
 use Rattle.pmem_base.specs.Layout.{page_of}
 use Rattle.suite.specs.Setup.{Setup}
 use Rattle.pmem_engine.specs.declared.fault.Fault.{Fault}
-use Rattle.pmem_engine.specs.declared.fault.Fault.TheVariants as Fail
 use Rattle.pmem_engine.specs.Engine.{EngineState}
 use Rattle.pmem_engine.specs.Parts.{Parts, parts_of}
 use Rattle.pmem_engine.specs.Outcomes.{Outcome, going, cut_short, shown, outcome_of, LeavesTrusted, LeavesSound, KeepsMetaWhere, HasSmallGroup, CallEffect, OneLossEffect}
-use Rattle.pmem_engine.specs.Calls.{IsDownAnswer, AnswersDown, TakesWithin, TakesWithinOfLive, Work, then_work, IsWork, fetch_work, unseal_work, IsPastFetch, IsReadWork, AnswersRead, HasReadLine, IsFetchedAsFar, HasFetchedSome}
+use Rattle.pmem_engine.specs.Calls.{IsDownAnswer, AnswersDown, TakesWithin, TakesWithinOfLive, Work, IsWork, IsPastFetch, IsReadWork, AnswersRead, HasReadLine, HasFetchedSome}
 use Rattle.pmem_engine.specs.Inner.{ended_by, UpReadOutcome}
 
 -- the parts afterwards
@@ -76,12 +75,7 @@ gone_ended setup shown made old new it =
 
 pub done_ended : (setup : Setup) (outcome : Outcome) (made : List Mark) (old new : Parts) → OneLossEffect setup outcome made old new
     → OneLossEffect setup outcome made old (ended_parts new outcome)
-done_ended setup going made old new it =
-    subst (λ parts. OneLossEffect setup going made old parts) (sym (ended_parts_going new)) it
-done_ended setup cut_short made old new it =
-    record { gone = gone_ended setup cut_short made old new it.gone; loss = it.loss; counters = it.counters }
-done_ended setup shown made old new it =
-    record { gone = gone_ended setup shown made old new it.gone; loss = it.loss; counters = it.counters }
+done_ended setup outcome made old new it = search (rules, gone_ended)
 
 -- an engine that isn't down answers Down nowhere
 pub answers_down : {T : Type 0} (answer : Result T Fault) (old new : Parts) → old.engine.down ≡ false
@@ -122,40 +116,11 @@ work_ended work old new end it =
 
 read_work_ended : (g : Shape) (a : ℕ) (old new : Parts) (end : Outcome) → IsReadWork g a old new
     → IsReadWork g a old (ended_parts new end)
-read_work_ended g a old new end it =
-    record {
-      cache = it.cache;
-      lines = it.lines;
-      work = work_ended (then_work (fetch_work g old (page_of a)) (unseal_work 1)) old new end it.work;
-    }
-
-as_far_ended : {T : Type 0} (g : Shape) (old new : Parts) (answer : Result T Fault) (end : Outcome) (levels : ℕ)
-    → IsFetchedAsFar g old new answer levels → IsFetchedAsFar g old (ended_parts new end) answer levels
-as_far_ended g old new (Ok value) end levels it = it
-as_far_ended g old new (Err Fail.Cut) end levels it = it
-as_far_ended g old new (Err Fail.Down) end levels it = it
-as_far_ended g old new (Err Fail.Shown) end levels it = it
-as_far_ended g old new (Err (Fail.Meta x)) end levels it = it
-as_far_ended g old new (Err (Fail.Tag b)) end levels it = it
-as_far_ended g old new (Err (Fail.Spent page)) end levels it = it
+read_work_ended g a old new end it = search (rules, work_ended)
 
 pub fetched_ended : {T : Type 0} (g : Shape) (page : ℕ) (old new : Parts) (answer : Result T Fault) (end : Outcome)
     → HasFetchedSome g page old new answer → HasFetchedSome g page old (ended_parts new end) answer
-fetched_ended g page old new answer end it =
-    record {
-      levels = it.levels;
-      fetched =
-          record {
-            on_path = it.fetched.on_path;
-            cache = it.fetched.cache;
-            lines = it.fetched.lines;
-            writes = it.fetched.writes;
-            latches = it.fetched.latches;
-            regs = it.fetched.regs;
-          };
-      as_far = as_far_ended g old new answer end it.levels it.as_far;
-      due = it.due;
-    }
+fetched_ended g page old new answer end it = search rules
 
 answers_read_ended : (setup : Setup) (a : ℕ) (old new : Parts) (answer : Result Line Fault) (outcome : Outcome)
     → AnswersRead setup a old new answer → AnswersRead setup a old (ended_parts new outcome) answer

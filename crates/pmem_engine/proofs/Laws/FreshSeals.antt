@@ -68,10 +68,7 @@ module _ (setup : Setup) (regs : Regs) (ledger : LedgerState) (a : ℕ) (registe
 
   -- each seal under the true major comes above
   pub held-below : (minor : ℕ) → IsTrue (is_below (true_counter setup.shape regs.progress.items ledger.truth a) (sealed_counter setup.shape ledger.truth a minor))
-  held-below minor =
-      subst (λ ctr. IsTrue (is_below ctr (sealed_counter setup.shape ledger.truth a minor))) (sym held-true_counter)
-      (below_next_major (block_counter (unpacked register.old) (index_in_page a)) (sealed_counter setup.shape ledger.truth a minor)
-      (ap (λ n. n + 1) (sym (old_major-unpacked register)) ∙ held-next_major))
+  held-below minor = search (rules, old_major-unpacked, below_next_major, held-true_counter, held-next_major)
 
 -- a turn's reseal of it, under the next major and 0: the truth stays
 pub anchored-resealed : (setup : Setup) (a : ℕ) (register : Progress) (cipher : Line) (tag : List ℕ) (old_regs new_regs : Regs) (old new : LedgerState) → IsAnchored setup old_regs old → register_held old_regs.progress.items a ≡ Some register → IsResealed setup a cipher tag old_regs new_regs old new → IsAnchored setup new_regs new

@@ -1,5 +1,5 @@
 -- What a refused write leaves of the cache and the device: what its fetch made of them.
-use Rattle.std.proofs.Common.{ℕ, ◌≡◌, Result, Ok, Err, refl, sym, subst}
+use Rattle.std.proofs.Common.{rules, ℕ, ◌≡◌, Result, Ok, Err, refl, sym, subst}
 use Rattle.pmem_base.specs.declared.lines.Ctr.{Ctr}
 use Rattle.pmem_base.specs.Shape.{Shape}
 use Rattle.suite.specs.Setup.{Setup}
@@ -93,10 +93,4 @@ shadow_ended g old new end it = record { mirror = it.mirror; lines = it.lines }
 
 pub refused_ended : (g : Shape) (page : ℕ) (old new : Parts) (answer : Result Ctr Fault) (end : Outcome)
     → IsRefusedAsFetched g page old new answer → IsRefusedAsFetched g page old (ended_parts new end) answer
-refused_ended g page old new (Ok ctr) end it = tt
-refused_ended g page old new (Err Fail.Cut) end it = tt
-refused_ended g page old new (Err Fail.Down) end it = tt
-refused_ended g page old new (Err Fail.Shown) end it = shadow_ended g old new end it
-refused_ended g page old new (Err (Fail.Meta x)) end it = (levels_ended g page _ old new end it.0, shadow_ended g old new end it.1)
-refused_ended g page old new (Err (Fail.Tag b)) end it = (it.0, shadow_ended g old new end it.1)
-refused_ended g page old new (Err (Fail.Spent spent)) end it = (levels_ended g page _ old new end it.0, shadow_ended g old new end it.1)
+refused_ended g page old new answer end it = search (rules, levels_ended, shadow_ended)

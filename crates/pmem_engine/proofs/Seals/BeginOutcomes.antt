@@ -101,16 +101,7 @@ module _ (setup : Setup) (page : ℕ) (engine engine_now : EngineState) (old new
 
   module _ (done : HasPageBegun setup.shape page register block lines root engine engine_now old.regs new.regs before after) where
     is_beginning : IsDevice old → IsBeginning setup page lines root engine old
-    is_beginning whole =
-        record {
-          path = record { few = few; in_range = in_range; inside = inside; cached = cached; named = named; renewed = renewed };
-          closed = closed;
-          major = major;
-          valid = valid;
-          unarmed = unarmed;
-          whole = whole;
-          size = usable.ready.its_size;
-        }
+    is_beginning whole = search (rules, unarmed)
 
     commit : IsDevice old → IsCommit setup (begin_group setup.shape page block) (Begin page) page true block start final
     commit whole =
@@ -229,11 +220,4 @@ module _ (setup : Setup) (page : ℕ) (engine engine_now : EngineState) (old new
       → HasBegunPage setup page start final (Err Fail.Cut))
       × (HasBeginCommitted setup.shape page register block lines root engine engine_now old new before after
       → HasBegunPage setup page start final (Ok tt))
-  page_exits whole = (
-    λ whole_now cut.
-        elim cut [
-          | inl was ↦ begin_undone was
-          | inr was ↦ begin_cut was.page_begun whole whole_now was.device
-        ],
-    λ was. begin_done was.page_begun whole was.device,
-  )
+  page_exits whole = search (rules, begin_undone, begin_cut, begin_done)
