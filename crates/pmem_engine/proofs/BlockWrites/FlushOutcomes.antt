@@ -1,11 +1,11 @@
 -- A flush: the oldest dirty block is written back, where one is dirty.
 use Rattle.std.proofs.lemmas.Grind.{common_steps}
-use Rattle.std.proofs.Common.{ℕ, ◌≡◌, ◌<◌, ◌≤◌, true, false, [], Option, Some, None, Result, Ok, Err, refl, sym, ap, ap₂, subst, subst₂, ◌∙◌, arith}
+use Rattle.std.proofs.Common.{rules, ℕ, ◌≡◌, ◌<◌, ◌≤◌, true, false, [], Option, Some, None, Result, Ok, Err, refl, sym, ap, ap₂, subst, subst₂, ◌∙◌, arith}
 use Rattle.std.specs.Prelude.{option_map, is_some, IfOk}
 use Rattle.std.proofs.lemmas.Bool.{true≢false}
 use Rattle.pmem_base.specs.declared.faults.Cut.{Cut}
 use Rattle.pmem_base.specs.Shape.{Shape}
-use Rattle.pmem_base.specs.Layout.{device_lines, meta_lines, meta_line, shadow_lines, shadow_line}
+use Rattle.pmem_base.specs.Layout.{device_lines, meta_lines, shadow_lines, shadow_line}
 use Rattle.bonsai_tree.specs.Positions.{level_of}
 use Rattle.board.specs.Device.{Device, IsDevice}
 use Rattle.seal_ledger.specs.Ledger.{LedgerState}
@@ -14,7 +14,7 @@ use Rattle.board.specs.Steps.{WasCut}
 use Rattle.meta_cache.specs.Banks.{set_index, is_cached, is_cached_dirty}
 use Rattle.meta_cache.specs.State.{CacheState, IsCacheOf, oldest_dirty}
 use Rattle.meta_cache.proofs.DirtyLemmas.{oldest_cached, cache_clean}
-use Rattle.meta_path.specs.Blocks.{line_in, AreInTheirBanks}
+use Rattle.meta_path.specs.Blocks.{AreInTheirBanks}
 use Rattle.meta_path.specs.Work.{told_line}
 use Rattle.meta_path.specs.Storing.{IsCleaned, IsOneWrittenBack}
 use Rattle.meta_path.proofs.PathFacts.{its_bank_of}
@@ -45,16 +45,7 @@ module _ (old new : EngineState) (before after : Device) (mirror : new.mirror �
 
   pub written_block : (bank x : ℕ) → bank ≤ old.shape.levels → is_cached_dirty old.shape old.cache bank x ≡ true
       → IsCleaned old.shape bank x (cache_of old) (cache_of new) before after → HasWrittenBack bank x old new before after
-  written_block bank x low dirty cleaned =
-      record {
-        its_bank = low;
-        its_level = dirty_level bank x dirty;
-        on_tree = dirty_on_tree old.shape old.cache bank x its_banks dirty;
-        was_dirty = dirty;
-        cleaned = cleaned;
-        mirror = mirror;
-        down = down;
-      }
+  written_block bank x low dirty cleaned = search (rules, dirty_on_tree, dirty_level)
 
   pub oldest_written : (found : Option (ℕ × ℕ)) → oldest_dirty old.cache ≡ found
       → IsOneWrittenBack old.shape found (cache_of old) (cache_of new) before after
@@ -154,13 +145,7 @@ module _ (setup : Setup) (old new : EngineState) (before after : Device) (ledger
   flush_lines : (answer : Result (Option ℕ) Cut) → HasWrittenOldest old new before after answer
       → (n : ℕ) → n < shadow_lines setup.shape
       → told_line after.lines (shadow_line setup.shape n) ≡ told_line before.lines (shadow_line setup.shape n)
-  flush_lines (Ok None) it n within = ap (λ (d : Device). told_line d.lines (shadow_line setup.shape n)) it.1
-  flush_lines (Ok (Some x)) it n within =
-      ap (λ told. told_line told (shadow_line setup.shape n)) it.cleaned.board.lines
-      ∙ told_set_other before.lines (meta_line old.shape x) (line_in old.shape old.cache (level_of x) x) (shadow_line setup.shape n)
-      (λ same. meta_apart setup.shape n x (subst (λ g. x < meta_lines g) its_shape it.on_tree)
-      (same ∙ ap (λ g. meta_line g x) its_shape))
-  flush_lines (Err cut) it n within = ap (λ told. told_line told (shadow_line setup.shape n)) it.1.lines
+  flush_lines answer it n within = search (rules, told_set_other, meta_apart)
 
   flush_regs : (answer : Result (Option ℕ) Cut) → HasWrittenOldest old new before after answer → after.regs ≡ before.regs
   flush_regs (Ok None) it = ap (λ (d : Device). d.regs) it.1

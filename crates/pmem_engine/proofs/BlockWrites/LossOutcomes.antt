@@ -1,7 +1,7 @@
 -- The stop-loss number is changed: what the call keeps, and what its answers say.
 use Rattle.std.proofs.lemmas.Grind.{common_steps}
-use Rattle.std.proofs.Common.{rules, ℕ, ◌≡◌, ◌≢◌, ◌<◌, ◌≤◌, ◌*◌, ◌⊎◌, inl, inr, true, false, List, [], Option, Some, None, Result, Ok, Err, refl, sym, ap, ap₂, subst, subst₂, ◌∙◌, arith}
-use Rattle.std.specs.Prelude.{IfSome, is_some, IsTrue, IsOk}
+use Rattle.std.proofs.Common.{rules, ℕ, ◌≡◌, ◌≢◌, ◌<◌, ◌≤◌, ◌*◌, ◌⊎◌, inl, inr, true, false, List, [], Result, Ok, Err, refl, sym, ap, ap₂, subst, subst₂, ◌∙◌, arith}
+use Rattle.std.specs.Prelude.{is_some, IsTrue, IsOk}
 use Rattle.std.proofs.lemmas.Bool.{true≢false, cases_lt}
 use Rattle.std.proofs.lemmas.List.{append-nil}
 use Rattle.std.proofs.lemmas.Option.{same_Some}
@@ -35,7 +35,7 @@ use Rattle.pmem_engine.specs.Flushed.{HasWrittenBlocks, HasMadeWay, HasChangedLo
 use Rattle.pmem_engine.proofs.CallEnds.ErrorAnswers.{cut_not_down}
 use Rattle.pmem_engine.proofs.CallEnds.ToldLines.{told_surely}
 use Rattle.pmem_engine.proofs.Laws.CounterBlocks.{IsCounterStored-true}
-use Rattle.pmem_engine.proofs.Laws.GroupLaws.{IsMendable-unarmed}
+use Rattle.pmem_engine.proofs.Laws.MendableLaws.{IsMendable-no_group}
 use Rattle.pmem_engine.proofs.Laws.CacheLaws.{IsTrueOrDirty-sound}
 use Rattle.pmem_engine.proofs.Laws.LossLaws.{IsTrusted-loss_set, IsSound-loss_set, IsCounterStored-loss_raised}
 use Rattle.pmem_engine.proofs.CallEnds.CallChains.{gone_chained}
@@ -100,13 +100,7 @@ module _ (setup : Setup) (n : ℕ) (engine : EngineState) (mid after : Device) (
   same_group = ap (λ regs. regs.group) it.regs ∙ ap (λ items. record { items = items }) (sym no_group)
 
   set : HasLossSet mid.regs after.regs
-  set =
-      record {
-        same_root = ap (λ regs. regs.root) it.regs;
-        same_group = ap (λ group. group.items) same_group;
-        same_progress = ap (λ regs. regs.progress.items) it.regs;
-        known_loss = subst (λ loss. IsTrue (is_loss loss)) (sym its_loss) known;
-      }
+  set = search (rules, its_loss, same_group)
 
   redone_same : lines_redone finish ≡ lines_redone start
   redone_same = ap₂ (λ group lines. redone_told group.items lines) same_group it.lines
@@ -123,7 +117,7 @@ module _ (setup : Setup) (n : ℕ) (engine : EngineState) (mid after : Device) (
       (serves lines page within
       (IsTrueOrDirty-sound setup engine lines mid.regs ledger (counter_position setup.shape page) had
       (counter_position-lt setup.shape page within))
-      ((IsMendable-unarmed setup lines mid.regs ledger had.durable had.trusted.no_group).counters_stored page within)))))
+      ((IsMendable-no_group setup lines mid.regs ledger had.trusted.no_group had.durable).counters_stored page within)))))
       sound
 
   places : KeepsPlaces setup [] start finish
@@ -133,43 +127,12 @@ module _ (setup : Setup) (n : ℕ) (engine : EngineState) (mid after : Device) (
   metadata = grind (arith, common_steps)
 
   pub latch_gone : CallEffect setup going [] start finish
-  latch_gone =
-      record {
-        shape = refl;
-        size = it.size;
-        told = ap is_some it.lines;
-        valid =
-            search rules;
-        group = λ uncut. same_group;
-        small_group = λ none. tt;
-        power = (it.steady, it.live, it.cuts);
-        reads = omega (arith, it.reads);
-        tags = λ within. (omega arith, within);
-        digests = λ within. (omega arith, within);
-        marks = sym (append-nil ledger.marks);
-        spare = omega arith;
-        true_lines = refl;
-        data_lines = refl;
-        exhibit = λ unshown. refl;
-        trusted = λ was. IsTrusted-loss_set setup engine mid.regs after.regs ledger was set;
-        sound = sound_after;
-        places = λ was. places;
-        metadata = λ was. metadata;
-      }
+  latch_gone = search (rules, append-nil, IsTrusted-loss_set, same_group, set, sound_after, places, metadata)
 
   pub latch_counters : (page : ℕ) → page < layout.pages setup.shape
       → HoldsMeta setup.shape start (counter_position setup.shape page) → HoldsCounters setup start page
       → HoldsCounters setup finish page
-  latch_counters page within meta counters =
-      subst₂ (λ o loss. IfSome o (λ lines. IsCounterStored setup lines loss ledger.truth page)) (sym redone_same) (sym its_loss)
-      (both (lines_redone start) meta counters)
-    where
-      both : (o : Option (List Line))
-          → IfSome o (λ lines. IsTrueOrDirty setup.shape engine.cache lines ledger.truth (counter_position setup.shape page))
-          → IfSome o (λ lines. IsCounterStored setup lines mid.regs.loss ledger.truth page)
-          → IfSome o (λ lines. IsCounterStored setup lines n ledger.truth page)
-      both None m k = tt
-      both (Some lines) m k = serves lines page within m k
+  latch_counters page within meta counters = search (rules, its_loss, redone_same)
 
 -- ---- the call
 
@@ -331,18 +294,12 @@ module _ (setup : Setup) (n : ℕ) (old new : EngineState) (before after : Devic
 
   loss_shadow : (answer : Result ℕ Cut) → HasChangedLoss n old new before after answer
       → KeepsShadow setup.shape call_start call_finish
-  loss_shadow (Ok steps) (inl it) = shadow_still setup.shape call_start call_finish it.2 (ap (λ (d : Device). d.lines) it.3)
-  loss_shadow (Ok steps) (inr it) = blocks_shadow it.1.count it.1.mid it.1.way.written it.1.latched.lines
-  loss_shadow (Err cut) it = blocks_shadow it.1.count it.1.mid it.1.written it.1.cut.lines
+  loss_shadow answer it = search (rules, shadow_still, blocks_shadow)
 
   -- marks alone change, and what they say was written stands in its place
   loss_marks : (answer : Result ℕ Cut) → HasChangedLoss n old new before after answer
       → KeepsButMarks setup.shape old.cache new.cache
-  loss_marks (Ok steps) (inl it) =
-      subst (λ (e : EngineState). KeepsButMarks setup.shape old.cache e.cache) (sym it.2) (marks_none setup.shape old.cache)
-  loss_marks (Ok steps) (inr it) =
-      subst (λ (g : Shape). KeepsButMarks g old.cache new.cache) its_shape it.1.way.written.marks
-  loss_marks (Err cut) it = subst (λ (g : Shape). KeepsButMarks g old.cache new.cache) its_shape it.1.written.marks
+  loss_marks answer it = search (rules, marks_none)
 
   blocks_lines : (count : ℕ) (mid : Device) → HasWrittenBlocks count old new before mid → after.lines ≡ mid.lines
       → HasWrittenCleaned setup.shape old.cache new.cache before after
@@ -362,25 +319,11 @@ module _ (setup : Setup) (n : ℕ) (old new : EngineState) (before after : Devic
 
   loss_lines : (answer : Result ℕ Cut) → HasChangedLoss n old new before after answer
       → HasWrittenCleaned setup.shape old.cache new.cache before after
-  loss_lines (Ok steps) (inl it) =
-      subst₂ (λ (e : EngineState) (d : Device). HasWrittenCleaned setup.shape old.cache e.cache before d) (sym it.2) (sym it.3)
-      (cleaned_none setup.shape old.cache before)
-  loss_lines (Ok steps) (inr it) = blocks_lines it.1.count it.1.mid it.1.way.written it.1.latched.lines
-  loss_lines (Err cut) it = blocks_lines it.1.count it.1.mid it.1.written it.1.cut.lines
+  loss_lines answer it = search (rules, cleaned_none, blocks_lines)
 
   loss_in_order : (answer : Result ℕ Cut) → HasChangedLoss n old new before after answer
       → HasWrittenInOrder setup.shape old.cache new.cache before after
-  loss_in_order (Ok steps) (inl it) =
-      subst₂ (λ (e : EngineState) (d : Device). HasWrittenInOrder setup.shape old.cache e.cache before d) (sym it.2) (sym it.3)
-      (in_order_none setup.shape old.cache before)
-  loss_in_order (Ok steps) (inr it) =
-      in_order_still setup.shape old.cache new.cache before it.1.mid after
-      (subst (λ (g : Shape). HasWrittenInOrder g old.cache new.cache before it.1.mid) its_shape it.1.way.written.in_order)
-      it.1.latched.writes
-  loss_in_order (Err cut) it =
-      in_order_still setup.shape old.cache new.cache before it.1.mid after
-      (subst (λ (g : Shape). HasWrittenInOrder g old.cache new.cache before it.1.mid) its_shape it.1.written.in_order)
-      it.1.cut.writes
+  loss_in_order answer it = search (rules, in_order_none, in_order_still)
 
   loss_regs : (answer : Result ℕ Cut) → HasChangedLoss n old new before after answer
       → record after.regs { loss = n } ≡ record before.regs { loss = n }
@@ -416,23 +359,4 @@ module _ (setup : Setup) (n : ℕ) (old new : EngineState) (before after : Devic
 -- ---- the engine is down
 
 pub set_down : (setup : Setup) (n : ℕ) (parts : Parts) → parts.engine.down ≡ true → HasSetLoss setup n parts parts (Err Fail.Down)
-set_down setup n parts down =
-    record {
-      down =
-          search rules;
-      gone = λ up. absurd (true≢false (sym down ∙ up));
-      answered = λ up. absurd (true≢false (sym down ∙ up));
-      counters = λ up trusted page within meta held. absurd (true≢false (sym down ∙ up));
-      smaller = λ less ok. absurd (true≢false (sym ok));
-      greater = λ least. refl;
-      marks = marks_none setup.shape parts.engine.cache;
-      lines = cleaned_none setup.shape parts.engine.cache parts.device;
-      in_order = in_order_none setup.shape parts.engine.cache parts.device;
-      regs = refl;
-      shadow = shadow_still setup.shape parts parts refl refl;
-      same_ledger = refl;
-      same_reads = refl;
-      tags = refl;
-      digests = refl;
-      cached = λ bank x. refl;
-    }
+set_down setup n parts down = search (rules, true≢false, shadow_still, marks_none, cleaned_none, in_order_none)

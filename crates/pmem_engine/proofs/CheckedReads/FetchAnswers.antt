@@ -1,11 +1,10 @@
 -- What a fetch answers, by its end.
 use Rattle.std.proofs.Common.{rules, ℕ, ◌≡◌, ◌<◌, ◌≤◌, ◌+◌, true, false, [], length, Option, Some, None, Ok, Err, refl, sym, ap, ap₂, subst, subst₂, ◌∙◌, arith}
-use Rattle.std.specs.Prelude.{option_map, is_some}
+use Rattle.std.specs.Prelude.{is_some}
 use Rattle.std.proofs.lemmas.Bool.{true≢false, cond-true}
 use Rattle.pmem_base.specs.declared.lines.Line.{Line}
 use Rattle.pmem_base.specs.declared.answers.Exhibit.{Exhibit}
 use Rattle.pmem_base.specs.declared.answers.Exhibit.TheVariants.{Clash}
-use Rattle.pmem_base.specs.declared.registers.Regs.{Regs}
 use Rattle.pmem_base.specs.Layout as layout
 use Rattle.pmem_base.specs.Lines.{line_at, zero_line}
 use Rattle.pmem_base.specs.Counts.{risen_times}
@@ -27,7 +26,7 @@ use Rattle.meta_path.specs.declared.faults.PathFault.TheVariants as Path
 use Rattle.suite.specs.Setup.{Setup}
 use Rattle.pmem_engine.specs.Engine.{EngineState}
 use Rattle.pmem_engine.specs.declared.fault.Fault.TheVariants as Fail
-use Rattle.pmem_engine.specs.Invariants.{IsSound, stored_meta}
+use Rattle.pmem_engine.specs.Invariants.{IsSound}
 use Rattle.pmem_engine.specs.Parts.{Parts, parts_of, AreTrusted, AreSound, meta_line_in}
 use Rattle.pmem_engine.specs.Faults.{IsFetchedLine, IsClashShown}
 use Rattle.pmem_engine.specs.Calls.{KeepsShadow, IsForgedExhibit, IsPastFetch}
@@ -72,12 +71,7 @@ module _ (setup : Setup) (page : ℕ) (old new : EngineState) (ledger noted : Le
   block = counter_position setup.shape page
 
   block_kept : before.regs.group.items ≡ [] → meta_line_in setup.shape finish block ≡ meta_line_in setup.shape start block
-  block_kept no_group =
-      ap (λ (regs : Regs). option_map (λ lines. stored_meta setup.shape lines block) (redone_told regs.group.items after.lines))
-      over.regs
-      ∙ ap (option_map (λ lines. stored_meta setup.shape lines block)) (unarmed before.regs.group.items after.lines no_group)
-      ∙ block_line
-      ∙ ap (option_map (λ lines. stored_meta setup.shape lines block)) (sym (unarmed before.regs.group.items before.lines no_group))
+  block_kept no_group = search (rules, unarmed)
 
   -- the path was fetched
   pub fetched_ok : IsPathCached setup.shape new.cache page → noted ≡ ledger
@@ -226,10 +220,7 @@ module _ (setup : Setup) (page : ℕ) (old new : EngineState) (ledger noted : Le
   absent_before : (n : ℕ) → n ≤ setup.shape.levels
       → is_cached setup.shape old.cache n (path_at setup.shape page n) ≡ false
       → is_cached setup.shape old.cache (level_of (path_at setup.shape page n)) (path_at setup.shape page n) ≡ false
-  absent_before n within absent =
-      ap (λ bank. is_cached setup.shape old.cache bank (path_at setup.shape page n))
-      (path_at-level setup.shape page n its_page few_levels within)
-      ∙ absent
+  absent_before n within absent = search (rules, path_at-level)
 
   -- the line read at this level was read, and wasn't cached before
   fetched_line : AreTrusted setup start → (n : ℕ) (line : Line) → n ≤ setup.shape.levels

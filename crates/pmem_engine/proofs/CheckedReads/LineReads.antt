@@ -21,13 +21,13 @@ use Rattle.pmem_engine.specs.declared.fault.Fault.{Fault}
 use Rattle.pmem_engine.specs.declared.fault.LineFault.{LineFault}
 use Rattle.pmem_engine.specs.declared.fault.LineFault.TheVariants as AtLine
 use Rattle.pmem_engine.specs.declared.reading.Unsealed.{Unsealed}
+use Rattle.pmem_engine.specs.Engine.{EngineState}
 use Rattle.pmem_engine.specs.Parts.{Parts, AreTrusted, AreSound}
-use Rattle.pmem_engine.specs.Outcomes.{fault_of_path, fault_of_line, of_line, Outcome, going, cut_short, shown, is_going, outcome_of, outcome_of_fault, OneLossEffect, TakesSteps, TakesAtMost}
+use Rattle.pmem_engine.specs.Outcomes.{fault_of_path, fault_of_line, of_line, Outcome, going, cut_short, shown, outcome_of, OneLossEffect, TakesSteps, TakesAtMost}
 use Rattle.pmem_engine.specs.Calls.{IsDownAnswer, IsUnrefused, TakesWithin, TakesWithinOfLive, IsMetaUncached, fetch_state, path_spilled, fetch_work, unseal_work, IsPathFetched, IsPastFetch, IsAnswerOfRead, IsReadWork, AnswersRead, IsReadOfCached, HasFetchedLevels, IsFetchedAsFar, IsCutWhereDue, HasFetchedSome}
 use Rattle.pmem_engine.specs.Inner.{HasFetched, HasUnsealed, AnswersFetch, UpReadOutcome, IsLastCounter, AnswersUnseal, StandsStill}
 use Rattle.pmem_engine.proofs.CallEnds.CallChains.{done_chained}
 use Rattle.pmem_engine.proofs.CallEnds.ErrorAnswers.{path_not_down, path_unrefused}
-use Rattle.pmem_engine.proofs.CallEnds.EndedEngines.{with_engine}
 use Rattle.pmem_engine.proofs.CallEnds.ExactWork.{work_then, fetch_worked, unseal_worked}
 use Rattle.pmem_engine.proofs.CallEnds.ShadowLines.{shadow_chained, shadow_still}
 use Rattle.pmem_engine.proofs.CallEnds.StillParts.{sound_trusted}
@@ -65,10 +65,7 @@ within_live_before outcome n old mid new unpowered live first second = (
 
 -- a cut is answered by Cut
 cut_answer : (answer : Result Unsealed LineFault) → outcome_of (plain_answer answer) ≡ cut_short → answer ≡ Err AtLine.Cut
-cut_answer (Ok value) it = absurd (true≢false (ap is_going it))
-cut_answer (Err AtLine.Cut) it = refl
-cut_answer (Err (AtLine.Tag at)) it = absurd (true≢false (ap is_going it))
-cut_answer (Err AtLine.Shown) it = cc
+cut_answer answer it = search (rules, true≢false)
 
 -- ---- the read
 
@@ -144,7 +141,7 @@ module _ (setup : Setup) (a : ℕ) (ctr : Ctr) (old mid new : Parts) (its_shape 
       all_fetched =
           record {
             on_path = omega arith;
-            cache = subst (λ e. IsPathFetched setup.shape (page_of a) old (with_engine mid e)) (sym unsealed.engine) did_fetch.cache;
+            cache = subst (λ (e : EngineState). IsPathFetched setup.shape (page_of a) old (record mid { engine = e })) (sym unsealed.engine) did_fetch.cache;
             lines = unsealed.lines ∙ did_fetch.work.lines;
             writes =
                 subst (λ n. RisesBy (length (path_spilled setup.shape old (page_of a))) old.device.writes n) (sym unsealed.writes)
@@ -273,25 +270,4 @@ module _ (setup : Setup) (a : ℕ) (old new : Parts) where
 
   pub read_unfetched : (fault : PathFault) → HasFetched setup (page_of a) old new (Err fault)
       → UpReadOutcome setup a old new (Err (fault_of_path fault))
-  read_unfetched fault it =
-      record {
-        done = it.done;
-        answered = λ trusted. unfetched_says fault (it.answered trusted);
-        unrefused = λ sound. path_unrefused Unit Line fault (it.unrefused sound);
-        not_down = path_not_down Line fault;
-        path_cached = λ ok. absurd (true≢false (sym ok));
-        path_fetched = λ past. it.path_fetched (past_fault Line old new fault past);
-        possible = unfetched_possible fault;
-        meta_uncached = meta_fault Line setup.shape (page_of a) old fault it.meta_uncached;
-        shadow = it.shadow;
-        work = λ ok. absurd (true≢false (sym ok));
-        fetched = some_fault Line setup.shape (page_of a) old new fault it.fetched;
-        mirror = it.mirror;
-        down = it.down;
-        of_cached = λ was. absurd (true≢false (sym (it.still_cached was).0));
-        steps_of_path = (
-          most_of_within (outcome_of_fault (fault_of_path fault)) (path_length setup.shape) old new it.steps_of_path,
-          λ live. it.steps_of_path,
-        );
-        steps_of_dirty = it.steps_of_dirty;
-      }
+  read_unfetched fault it = search (rules, true≢false, most_of_within, past_fault, meta_fault, some_fault, unfetched_says, unfetched_possible, path_unrefused, path_not_down)

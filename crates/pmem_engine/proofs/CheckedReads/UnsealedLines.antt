@@ -1,5 +1,5 @@
 -- A data line and its tag line are read, and the line is unsealed or refused.
-use Rattle.std.proofs.Common.{rules, ℕ, ◌≡◌, ◌≢◌, ◌<◌, Bool, true, false, List, [], Option, Some, None, Ok, Err, refl, sym, ap, ap₂, subst, ◌∙◌, arith}
+use Rattle.std.proofs.Common.{rules, ℕ, ◌≡◌, ◌≢◌, ◌<◌, true, false, List, [], Option, Some, None, Ok, Err, refl, sym, ap, ap₂, subst, ◌∙◌, arith}
 use Rattle.std.specs.Prelude.{MatchOption, IfSome, IsSome, option_map, All}
 use Rattle.std.proofs.lemmas.Bool.{true≢false, cond-false}
 use Rattle.std.proofs.lemmas.Option.{none-some, same_Some}
@@ -8,7 +8,7 @@ use Rattle.pmem_base.specs.declared.lines.Ctr.{Ctr}
 use Rattle.pmem_base.specs.declared.answers.Mark.{Mark}
 use Rattle.pmem_base.specs.declared.answers.Exhibit.TheVariants.{Forged}
 use Rattle.pmem_base.specs.Counts.{risen}
-use Rattle.pmem_base.specs.Lines.{tag_slot, same_bytes, xor_lines}
+use Rattle.pmem_base.specs.Lines.{tag_slot}
 use Rattle.pmem_base.specs.Layout as layout
 use Rattle.pmem_base.specs.Marks.{SealOf, last_seal}
 use Rattle.suite.specs.Formulas.{Formulas}
@@ -84,14 +84,7 @@ tag_of_read setup parts a ctr cipher tag tagged counter it =
 -- a line that was unsealed has its right tag
 pub right_tag : (f : Formulas) (a : ℕ) (ctr : Ctr) (cipher : Line) (tag slot : List ℕ) (plain : Line) → tag ≡ slot
     → unsealed f a ctr cipher tag ≡ Some plain → (f.tag_of a ctr cipher ≡ slot) × (unsealed f a ctr cipher slot ≡ Some plain)
-right_tag f a ctr cipher tag slot plain same it =
-    (go (same_bytes (f.tag_of a ctr cipher) tag) refl, subst (λ z. unsealed f a ctr cipher z ≡ Some plain) same it)
-  where
-    go : (b : Bool) → same_bytes (f.tag_of a ctr cipher) tag ≡ b → f.tag_of a ctr cipher ≡ slot
-    go true equal = same_bytes-true (f.tag_of a ctr cipher) tag equal ∙ same
-    go false other =
-        absurd (none-some plain
-        (sym (cond-false (same_bytes (f.tag_of a ctr cipher) tag) (Some (xor_lines cipher (f.pad_of a ctr))) None other) ∙ it))
+right_tag f a ctr cipher tag slot plain same it = search (rules, cond-false, none-some, same_bytes-true)
 
 module _ (setup : Setup) (engine : EngineState) (ledger : LedgerState) (a : ℕ) (ctr : Ctr) (cipher tag_line : Line)
     (old new : Device) (tags digests tags_now digests_now : ℕ)

@@ -26,9 +26,8 @@ none_most n old new it = more_most 0 n old new (omega arith) (steps_most 0 old n
 
 -- a line that isn't sealed takes four steps at most
 four_most : (fault : LineFault) (old new : Parts) → CountsReseal old new (Err fault) → TakesAtMost 4 old.device new.device
-four_most AtLine.Cut old new it = fewer_most 4 old.device new.device it
-four_most (AtLine.Tag b) old new it = none_most 4 old.device new.device it
-four_most AtLine.Shown old new it = none_most 4 old.device new.device it
+four_most fault old new it = search (rules, fewer_most, none_most)
+
 
 module _ (setup : Setup) (n number : ℕ) (old mid new : Parts) (valid : IsValidRegs setup.shape (regs_of old))
     (inside : n < length (regs_of old).progress.items) (first : HasResealedFirst setup n number old mid)
@@ -107,19 +106,11 @@ module _ (setup : Setup) (n number : ℕ) (old mid new : Parts) (valid : IsValid
 
   made_number : AreTrusted setup old → (memory : Memory) → IsMemory setup memory old → it.made ≡ []
       → number ≡ length (first.made ++ it.made)
-  made_number trusted memory was none =
-      let both = length-append first.made it.made in
-      let before = ap length (first.marks trusted memory was) ∙ length-map first.sealed (asked_of setup n old memory) in
-      let count = first.count in
-      let zero_more : length it.made ≡ 0 = ap length none in
-      omega (arith, both, before, count, zero_more)
+  made_number trusted memory was none = search (rules, length-append, length-map, asked_of)
 
   steps_so : AreTrusted setup old → (memory : Memory) → IsMemory setup memory old → it.made ≡ []
       → TakesSteps 0 mid.device new.device → TakesSteps (4 * length (first.made ++ it.made)) old.device new.device
-  steps_so trusted memory was none steps =
-      subst (λ k. TakesSteps k old.device new.device)
-      (let same = made_number trusted memory was none in omega (arith, same))
-      (steps_more (4 * number) 0 old.device mid.device new.device first.steps steps)
+  steps_so trusted memory was none steps = search (rules, steps_more, made_number)
 
   counts_so : (f : LineFault) → AreTrusted setup old → (memory : Memory) → IsMemory setup memory old
       → HasResealMarks setup.formulas (moment_in setup memory mid) (register_in mid n).page it.place it.made (Err f)

@@ -1,6 +1,6 @@
 -- The exits of a turn: the engine is down, no page is open, or the oldest page's lowest line was to be sealed anew.
 use Rattle.std.proofs.Common.{rules, ℕ, ◌≡◌, ◌<◌, ◌+◌, ◌*◌, inl, inr, true, false, List, [], ◌∷◌, length, map, get_or, Option, Some, None, Ok, Err, refl, sym, ap, subst, ◌∙◌, arith}
-use Rattle.std.specs.Prelude.{Result, is_some, option_map, MatchOption, IfOk, IsOk, IsSome, not, ◌||◌}
+use Rattle.std.specs.Prelude.{Result, is_some, option_map, MatchOption, IfOk, IsOk, IsSome}
 use Rattle.std.specs.Option.{option_and_then}
 use Rattle.std.proofs.lemmas.Bool.{true≢false}
 use Rattle.pmem_base.specs.declared.registers.Progress.{Progress}
@@ -14,15 +14,14 @@ use Rattle.pmem_engine.specs.declared.fault.Fault.{Fault}
 use Rattle.pmem_engine.specs.declared.fault.Fault.TheVariants as Fail
 use Rattle.pmem_engine.specs.declared.fault.LineFault.{LineFault}
 use Rattle.pmem_engine.specs.declared.fault.LineFault.TheVariants as AtLine
-use Rattle.pmem_engine.specs.Engine.{EngineState}
 use Rattle.pmem_engine.specs.Invariants.{register_page}
 use Rattle.pmem_engine.specs.Parts.{Parts, regs_of, AreTrusted}
-use Rattle.pmem_engine.specs.Outcomes.{fault_of_line, of_line, going, outcome_of, is_going, OneLossEffect}
+use Rattle.pmem_engine.specs.Outcomes.{fault_of_line, of_line, outcome_of, OneLossEffect}
 use Rattle.pmem_engine.specs.Faults.{IsTagRefused, IsForgedShown}
 use Rattle.pmem_engine.specs.Calls.{IsUnrefused, IsLeftAlone, moment_in, AreMarksOfTurn, IsAnswerOfTurn, AnswersTurn, IsTurnWork, CountsTurn, HasTurned}
 use Rattle.pmem_engine.specs.Resealing.{HasResealMarks, HasSealedHeld, CountsReseal, AnswersReseal, HasResealed, register_in, line_of_page}
-use Rattle.pmem_engine.proofs.CallEnds.EndedEngines.{with_engine, done_ended}
 use Rattle.pmem_engine.proofs.CallEnds.ShadowLines.{shadow_still}
+use Rattle.pmem_engine.proofs.CheckedReads.ReadEnds.{ended_parts, done_ended}
 
 left_alone : (parts : Parts) → IsLeftAlone parts parts
 left_alone parts = record { engine = refl; device = refl; ledger = refl; tags = refl; digests = refl }
@@ -102,18 +101,13 @@ first_is : (registers : List Progress) → 0 < length registers
 first_is [] some = absurd (omega (arith, some))
 first_is (first ∷ registers) some = refl
 
-module _ (setup : Setup) (old mid : Parts) (answer : Result (ℕ × ℕ) LineFault) (engine : EngineState) (up : old.engine.down ≡ false)
-    (some : 0 < length (regs_of old).progress.items) (it : HasResealed setup 0 old mid answer)
-    (shape : engine.shape ≡ mid.engine.shape) (cache : engine.cache ≡ mid.engine.cache) (mirror : engine.mirror ≡ mid.engine.mirror)
-    (down : engine.down ≡ (mid.engine.down || not (is_going (outcome_of (of_line answer))))) where
+module _ (setup : Setup) (old mid : Parts) (answer : Result (ℕ × ℕ) LineFault) (up : old.engine.down ≡ false)
+    (some : 0 < length (regs_of old).progress.items) (it : HasResealed setup 0 old mid answer) where
   abbrev new : Parts
-  new = with_engine mid engine
+  new = ended_parts mid (outcome_of (of_line answer))
 
   abbrev register : Progress
   register = register_in old 0
-
-  same_engine : outcome_of (of_line answer) ≡ going → engine ≡ mid.engine
-  same_engine goes = search rules
 
   -- the oldest page, and the mark that is asked
   oldest : AreTrusted setup old → (memory : Memory) → oldest_page (moment_in setup memory old) ≡ Some (register_page register)
@@ -203,7 +197,7 @@ module _ (setup : Setup) (old mid : Parts) (answer : Result (ℕ × ℕ) LineFau
         done =
             λ is_up.
             subst (λ outcome. OneLossEffect setup outcome it.made old new) (sym (same_outcome answer))
-            (done_ended setup (outcome_of (of_line answer)) it.made old mid engine shape cache same_engine it.done);
+            (done_ended setup (outcome_of (of_line answer)) it.made old mid it.done);
         marks =
             λ is_up trusted memory was.
             turn_marks answer trusted memory (it.marks trusted memory was) it.line_sealed (it.answered trusted);
@@ -216,7 +210,7 @@ module _ (setup : Setup) (old mid : Parts) (answer : Result (ℕ × ℕ) LineFau
         counts = λ is_up. turn_counts answer it.counts;
         work = turn_work answer it.work;
         possible = turn_possible answer;
-        shadow = record { mirror = mirror ∙ it.shadow.mirror; lines = it.shadow.lines };
-        cache = cache ∙ ap (λ e. e.cache) it.engine;
+        shadow = record { mirror = it.shadow.mirror; lines = it.shadow.lines };
+        cache = ap (λ e. e.cache) it.engine;
         digests = it.digests;
       }

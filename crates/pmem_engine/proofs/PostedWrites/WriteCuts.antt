@@ -1,5 +1,5 @@
 -- Where a write was cut: in its fetch, or once its path was fetched.
-use Rattle.std.proofs.Common.{◌≡◌, inl, inr, List, [], Result, Ok, Err, refl}
+use Rattle.std.proofs.Common.{rules, ◌≡◌, inl, inr, List, [], Result, Ok, Err, refl}
 use Rattle.std.specs.Prelude.{IsSome}
 use Rattle.pmem_base.specs.declared.lines.Ctr.{Ctr}
 use Rattle.pmem_base.specs.declared.commands.Posted.{Posted}
@@ -60,17 +60,4 @@ module _ (setup : Setup) (write : Posted) (made : List Mark) (old : Parts) where
   -- it doesn't depend on whether the engine is down afterwards
   pub cut_ended : (new : Parts) (answer : Result Ctr Fault) (end : Outcome) → IsCutOfWrite setup write made old new answer
       → IsCutOfWrite setup write made old (ended_parts new end) answer
-  cut_ended new (Err Fail.Cut) end (inl it) =
-      inl (record {
-        none_made = it.none_made;
-        some = fetched_ended setup.shape (page_of write.at) old new (Err Fail.Cut) end it.some;
-        shadow = shadow_ended setup.shape old new end it.shadow;
-      })
-  cut_ended new (Err Fail.Cut) end (inr it) =
-      inr (record { fetched = it.fetched; path_fetched = it.path_fetched; kept = it.kept; unspent = it.unspent })
-  cut_ended new (Ok ctr) end it = tt
-  cut_ended new (Err Fail.Down) end it = tt
-  cut_ended new (Err Fail.Shown) end it = tt
-  cut_ended new (Err (Fail.Meta x)) end it = tt
-  cut_ended new (Err (Fail.Tag b)) end it = tt
-  cut_ended new (Err (Fail.Spent page)) end it = tt
+  cut_ended new answer end it = search (rules, fetched_ended, shadow_ended)

@@ -1,25 +1,21 @@
 -- What a write answers where a part ended it, by the part's answer.
 use Rattle.std.proofs.lemmas.Grind.{common_steps}
-use Rattle.std.proofs.Common.{rules, ℕ, ◌≡◌, ◌<◌, ◌≤◌, ◌+◌, ◌-◌, ◌*◌, ◌^◌, ◌++◌, inl, inr, Bool, true, false, cond, List, [], ◌∷◌, length, IsTrue, Option, Some, None, Err, refl, sym, ap, subst, ◌∙◌, arith}
-use Rattle.std.specs.Prelude.{◌==◌, ◌||◌, nat_lt, unwrap_or, is_none, IsSome}
+use Rattle.std.proofs.Common.{rules, ℕ, ◌≡◌, ◌<◌, ◌≤◌, ◌+◌, ◌-◌, ◌*◌, ◌++◌, inl, inr, true, List, [], ◌∷◌, length, IsTrue, Option, Some, None, Err, refl, sym, ap, subst, ◌∙◌, arith}
+use Rattle.std.specs.Prelude.{◌||◌, nat_lt, unwrap_or, is_none, IsSome}
 use Rattle.std.proofs.lemmas.Bool.{true≢false, cond-false, lt-ltb}
 use Rattle.std.proofs.lemmas.List.{append_assoc, append-nil, length-append}
 use Rattle.std.proofs.lemmas.List.Elements.{All-nil}
 use Rattle.pmem_base.specs.declared.lines.Ctr.{Ctr}
 use Rattle.pmem_base.specs.declared.commands.Posted.{Posted}
 use Rattle.pmem_base.specs.declared.answers.Mark.{Mark}
-use Rattle.pmem_base.specs.declared.answers.Mark.TheVariants.{Begin}
 use Rattle.pmem_base.specs.Layout.{page_of}
 use Rattle.meta_path.specs.declared.faults.PathFault.{PathFault}
 use Rattle.suite.specs.Setup.{Setup}
 use Rattle.suite.specs.Formulas.{Formulas}
 use Rattle.pmem_base.specs.Shape.{Shape}
 use Rattle.meta_path.specs.Blocks.{IsPathCached, dirty_count}
-use Rattle.pmem_base.specs.Lines.{line_at}
-use Rattle.pmem_base.specs.WaitingWrites.{put_write}
 use Rattle.plain_model.specs.State.{Memory, memory_with}
-use Rattle.plain_model.specs.View.{counter_at, open_page, is_left}
-use Rattle.plain_model.specs.Asked.{Moment, seal_mark, next_major, page_to_finish, finishing_marks_of, marks_of_write}
+use Rattle.plain_model.specs.Asked.{Moment, marks_of_write}
 use Rattle.plain_model.specs.Bounds.{path_length, seal_count}
 use Rattle.plain_model.specs.Fits.{IsResealOf}
 use Rattle.pmem_engine.specs.declared.fault.Fault.{Fault}
@@ -27,7 +23,7 @@ use Rattle.pmem_engine.specs.declared.fault.LineFault.{LineFault}
 use Rattle.pmem_engine.specs.declared.fault.LineFault.TheVariants as AtLine
 use Rattle.pmem_engine.specs.Parts.{Parts, AreTrusted, AreSound}
 use Rattle.pmem_engine.specs.Outcomes.{fault_of_path, fault_of_line, outcome_of_fault, is_seal_of, is_sealed_by, TakesAtMost}
-use Rattle.pmem_engine.specs.Calls.{IsMemory, IsDownAnswer, IsUnrefused, TakesWithin, TakesWithinOfLive, moment_in, IsPartOf, IsRefusedLine, AreMarksOfWrite, AnswersWrite, write_bound, TakesSpent, TakesOfWrite, IsMetaUncached, IsPastFetch, HasNamedSome, IsRefusedAsFetched, IsCutOfWrite, IsUnderMinorZero, AreUnderMinorZero, IsOwnSeal, AreInWriteOrder}
+use Rattle.pmem_engine.specs.Calls.{IsMemory, IsDownAnswer, IsUnrefused, TakesWithin, TakesWithinOfLive, moment_in, IsPartOf, IsRefusedLine, AreMarksOfWrite, AnswersWrite, write_bound, TakesSpent, TakesOfWrite, IsMetaUncached, IsPastFetch, HasNamedSome, IsRefusedAsFetched, IsCutOfWrite, IsUnderMinorZero, AreUnderMinorZero, AreInWriteOrder}
 use Rattle.pmem_engine.specs.Inner.{AnswersFetch, HasFetched}
 use Rattle.pmem_engine.specs.Writing.{AnswersPlain, IsFrontOf, IsStoppedAt, HasFinishMarks, AnswersFinish, CountsFinish, UpWriteOutcome}
 use Rattle.pmem_engine.proofs.CallEnds.ErrorAnswers.{path_not_down, path_unrefused}
@@ -50,29 +46,11 @@ abbrev pub IsSomeAsked : Option (List Mark) → Type 0
 IsSomeAsked asked = IsTrue (is_none asked || nat_lt 0 (length (unwrap_or asked [])))
 
 pub some_asked : (f : Formulas) (now : Moment) (write : Posted) → IsSomeAsked (marks_of_write f now write)
-some_asked f now write =
-    let last = counter_at now.view write.at in
-    let plain = put_write (line_at now.memory write.at) write in
-    of_cases (is_left now.view write.at) (nat_lt last.minor 127) (last.major == 2 ^ 64 - 1)
-    (seal_mark f write.at (next_major last 1) plain) (seal_mark f write.at (record last { minor = last.minor + 1 }) plain)
-    (finishing_marks_of f now (page_to_finish now.view (open_page now.view (page_of write.at)))) (Begin (page_of write.at))
-    (seal_mark f write.at (next_major last 1) plain ∷ [])
-  where
-    of_cases : (a b c : Bool) (held first : Mark) (front : List Mark) (mark : Mark) (rest : List Mark)
-        → IsSomeAsked (cond a (Some (held ∷ [])) (cond b (Some (first ∷ [])) (cond c None (Some (front ++ mark ∷ rest)))))
-    of_cases true b c held first front mark rest = refl
-    of_cases false true c held first front mark rest = refl
-    of_cases false false true held first front mark rest = refl
-    of_cases false false false held first front mark rest = some_after front mark rest
+some_asked f now write = search (rules, some_after)
 
 -- a front of the front, with something after it
 pub part_of_front : (front rest made : List Mark) → 0 < length rest → IsFrontOf front made → IsPartOf (Some (front ++ rest)) made
-part_of_front front rest made some it =
-    record {
-      left = it.left ++ rest;
-      front = ap (λ ms. ms ++ rest) it.front ∙ append_assoc made it.left rest;
-      not_all = lt-ltb 0 (length (it.left ++ rest)) (omega (arith, some, length-append it.left rest));
-    }
+part_of_front front rest made some it = search (rules, lt-ltb, append_assoc, length-append)
 
 -- all of the front
 pub unnamed_front : (front made : List Mark) → made ≡ front → IsFrontOf front (made ++ [])
@@ -109,16 +87,7 @@ pub record IsExit (setup : Setup) (write : Posted) (old new : Parts) (made : Lis
 
 -- no own seal yet
 pub unsealed_order : (at : ℕ) (made : List Mark) → length made ≤ 65 → AreUnderMinorZero made → AreInWriteOrder at made
-unsealed_order at made few minors =
-    record {
-      before = made;
-      own = [];
-      both = sym (append-nil made);
-      few_before = few;
-      minors = minors;
-      one_own = omega arith;
-      its_seal = All-nil (IsOwnSeal at);
-    }
+unsealed_order at made few minors = search (rules, append-nil, All-nil)
 
 pub none_order : (at : ℕ) → AreInWriteOrder at []
 none_order at = unsealed_order at [] (omega arith) (All-nil IsUnderMinorZero)

@@ -1,5 +1,5 @@
 -- A whole write, one law an exit: each takes the parts so far, in the order in which a write does them.
-use Rattle.std.proofs.Common.{rules, ℕ, ◌≡◌, ◌<◌, ◌+◌, ◌*◌, ◌++◌, inr, Bool, true, false, List, [], ◌∷◌, length, Option, Some, None, Result, Ok, Err, refl, sym, ap, ap₂, subst, ◌∙◌, arith}
+use Rattle.std.proofs.Common.{rules, ℕ, ◌≡◌, ◌<◌, ◌+◌, ◌*◌, ◌++◌, inr, Bool, true, List, [], ◌∷◌, length, Option, Some, None, Result, Ok, Err, refl, sym, ap, ap₂, subst, ◌∙◌, arith}
 use Rattle.std.specs.Prelude.{is_some, IsSome}
 use Rattle.std.proofs.lemmas.Bool.{true≢false}
 use Rattle.std.proofs.lemmas.List.{append-nil, append_assoc, length-append}
@@ -25,7 +25,7 @@ use Rattle.pmem_engine.specs.declared.fault.LineFault.{LineFault}
 use Rattle.pmem_engine.specs.Parts.{Parts, regs_of, AreTrusted}
 use Rattle.pmem_engine.specs.Outcomes.{fault_of_line, of_cut, going, cut_short, is_going, outcome_of_fault, TakesSteps, TakesAtMost}
 use Rattle.pmem_engine.specs.Calls.{IsMemory, IsPathNamedInMirror, moment_in, AreMarksOfWrite, AnswersWrite, write_bound, TakesSpent, TakesOfWrite, KeepsShadow, KeepsButPath, IsUnderMinorZero}
-use Rattle.pmem_engine.specs.Inner.{cached_block, StandsStill, HasFetched, HasNamedAll, HasNamedPath}
+use Rattle.pmem_engine.specs.Inner.{cached_block, HasFetched, HasNamedAll, HasNamedPath}
 use Rattle.pmem_engine.specs.Sealing.{next_counter_of, HasSealedNext}
 use Rattle.pmem_engine.specs.Writing.{overflow_of, HasFinishMarks, HasMadePlain, HasFinishedFor, HasBegunFor, UpWriteOutcome}
 use Rattle.pmem_engine.proofs.PostedWrites.WriteAsks.{asked_seal, asked_begin, asked_none, free_at_overflow, overflow_fault}
@@ -103,12 +103,7 @@ module _ (setup : Setup) (write : Posted) (within : write.at < layout.data_lines
     module _ (overflows : Bool)
         (over : overflow_of (cached_block setup.shape p1.engine page) page (index_in_page write.at) ≡ Ok overflows) where
       unspent : AreTrusted setup old → (memory : Memory) → IsSome (asked memory old)
-      unspent trusted memory = ap is_some (asked_same memory old p1 ledger1) ∙ go overflows over
-        where
-          go : (b : Bool) → overflow_of (cached_block setup.shape p1.engine page) page (index_in_page write.at) ≡ Ok b
-              → IsSome (asked memory p1)
-          go true is = ap is_some (asked_begin setup memory write p1 within (trusted1 trusted) cached1 is)
-          go false is = ap is_some (asked_seal setup memory write p1 within (trusted1 trusted) cached1 is)
+      unspent trusted memory = search (rules, asked_seal, asked_begin, asked_same, trusted1, cached1, ledger1)
 
       spent_not : (T : Type 0) → AreTrusted setup old → (memory : Memory) → asked memory old ≡ None → T
       spent_not T trusted memory none = absurd (true≢false (sym (unspent trusted memory) ∙ ap is_some none))
@@ -188,16 +183,7 @@ module _ (setup : Setup) (write : Posted) (within : write.at < layout.data_lines
         rest memory = begin_asked overflows page ++ own memory ∷ []
 
         asked2 : AreTrusted setup old → (memory : Memory) → asked memory old ≡ Some (front memory ++ rest memory)
-        asked2 trusted memory = asked_same memory old p2 ledger2 ∙ go overflows over2
-          where
-            go : (b : Bool) → overflow_of (cached_block setup.shape p2.engine page) page (index_in_page write.at) ≡ Ok b
-                → asked memory p2
-                ≡ Some
-                (finish_asked b setup page p2 memory
-                ++ (begin_asked b page
-                ++ seal_mark setup.formulas write.at (begin_counter b setup write.at p2) (put_write (line_at memory write.at) write) ∷ []))
-            go true is = asked_begin setup memory write p2 within (trusted2 trusted) cached2 is
-            go false is = asked_seal setup memory write p2 within (trusted2 trusted) cached2 is
+        asked2 trusted memory = search (rules, asked_seal, asked_begin, finish_asked, begin_asked, begin_counter, asked_same, trusted2, cached2, ledger2, over2)
 
         rest_some : (memory : Memory) → 0 < length (rest memory)
         rest_some memory = omega (arith, length-append (begin_asked overflows page) (own memory ∷ []))
@@ -440,33 +426,12 @@ module _ (setup : Setup) (write : Posted) (within : write.at < layout.data_lines
               -- the marks asked are those made before, and the seal
               whole : AreTrusted setup old → (memory : Memory) → IsMemory setup memory old
                   → before ++ seal ∷ [] ≡ front memory ++ rest memory
-              whole trusted memory was =
-                  append_assoc some3.made some5.made (seal ∷ [])
-                  ∙ ap₂ (λ marks begin. marks ++ (begin ++ seal ∷ [])) (all3 trusted memory was) some5.marks
-                  ∙ ap (λ mark. front memory ++ (begin_asked overflows page ++ mark ∷ [])) (seal_is trusted memory was)
+              whole trusted memory was = search (rules, append_assoc, begin_asked, some3, all3, some5, seal_is)
 
               -- nothing but the seal takes steps where the path was cached and named, and no mark comes before it
               alone : (new : Parts) → IsPathCached setup.shape old.engine.cache page → IsPathNamedInMirror setup.shape old.engine page
                   → length before ≡ 0 → (n : ℕ) → TakesSteps n p5.device new.device → TakesSteps n old.device new.device
-              alone new cached was_named none n steps = by overflows finished begun some5.marks
-                where
-                  still1 : StandsStill old.device p1.device
-                  still1 = (fetched.still_cached cached).1
-
-                  named3 : IsPathNamedInMirror setup.shape p3.engine page
-                  named3 =
-                      subst (λ engine. IsPathNamedInMirror setup.shape engine page) (sym (some3.engine ∙ made_plain.engine))
-                      (fetched.still_named cached was_named)
-
-                  still4 : StandsStill p3.device p4.device
-                  still4 = (named.still_named named3).1
-
-                  by : (b : Bool) → HasFinishedFor b setup page p2 p3 (Ok tt) → HasBegunFor b setup page p4 p5 (Ok tt)
-                      → some5.made ≡ begin_asked b page → TakesSteps n old.device new.device
-                  by true third fifth begins = absurd (omega (arith, none, length-append some3.made some5.made, ap length begins))
-                  by false third fifth begins =
-                      only_last n old.device p1.device p2.device p3.device p4.device p5.device new.device still1 made_plain.no_steps
-                      third.alone.device still4 fifth.alone.device steps
+              alone new cached was_named none n steps = search (rules, length-append, only_last, begin_asked, some3, some5)
 
               pub written_sealed : (new : Parts) (answer : Result Ctr Cut) → HasSealedNext setup write.at plain p5 new answer
                   → UpWriteOutcome setup write old new (of_cut answer)

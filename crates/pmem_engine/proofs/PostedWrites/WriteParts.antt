@@ -146,22 +146,4 @@ name_part setup at old new answer inside it = grind (arith, common_steps)
 
 pub begin_part : (setup : Setup) (at : ℕ) (old new : Parts) (answer : Result Unit Fault)
     → (it : HasBegunPage setup (page_of at) old new answer) → IsWritePart setup at (outcome_of answer) it.made old new
-begin_part setup at old new answer it =
-    record {
-      done = it.done;
-      memory_kept =
-          λ trusted memory was a within.
-          ap (λ ms. plain_line setup.formulas ms a) it.done.gone.marks
-          ∙ plain_line-unsealed setup old.ledger.marks it.made a (unsealed a)
-          ∙ was a within;
-      sealed_before = λ trusted a within sealed. absurd (true≢false (sym sealed ∙ unsealed a));
-      not_own = λ trusted memory was. unsealed at;
-      block_kept = λ no_group none. it.block_kept (unbegun none);
-      down = it.down;
-    }
-  where
-    unsealed : (a : ℕ) → is_sealed_by it.made a ≡ false
-    unsealed a = search rules
-
-    unbegun : list_any (is_persisting (regs_of old).loss at) it.made ≡ false → it.made ≡ []
-    unbegun none = search rules
+begin_part setup at old new answer it = search (rules, true≢false, plain_line-unsealed)

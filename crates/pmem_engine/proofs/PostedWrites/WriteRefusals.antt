@@ -1,5 +1,5 @@
 -- What a refused write leaves of the cache and the device: what its fetch made of them.
-use Rattle.std.proofs.Common.{ℕ, ◌≡◌, Result, Ok, Err, refl, sym, subst}
+use Rattle.std.proofs.Common.{rules, ℕ, ◌≡◌, Result, Ok, Err, refl, sym, subst}
 use Rattle.pmem_base.specs.declared.lines.Ctr.{Ctr}
 use Rattle.pmem_base.specs.Shape.{Shape}
 use Rattle.meta_path.specs.declared.faults.PathFault.{PathFault}
@@ -10,11 +10,11 @@ use Rattle.pmem_engine.specs.declared.fault.Fault.{Fault}
 use Rattle.pmem_engine.specs.declared.fault.Fault.TheVariants as Fail
 use Rattle.pmem_engine.specs.declared.fault.LineFault.{LineFault}
 use Rattle.pmem_engine.specs.declared.fault.LineFault.TheVariants as AtLine
+use Rattle.pmem_engine.specs.Engine.{EngineState}
 use Rattle.pmem_engine.specs.Parts.{Parts}
 use Rattle.pmem_engine.specs.Outcomes.{fault_of_path, fault_of_line, Outcome}
 use Rattle.pmem_engine.specs.Calls.{KeepsShadow, HasFetchedLevels, IsPathFetched, IsRefusedAsFetched}
 use Rattle.pmem_engine.specs.Inner.{HasFetched}
-use Rattle.pmem_engine.proofs.CallEnds.EndedEngines.{with_engine}
 use Rattle.pmem_engine.proofs.CheckedReads.ReadEnds.{ended_parts}
 
 module _ (setup : Setup) (page : ℕ) (old : Parts) where
@@ -40,7 +40,7 @@ module _ (setup : Setup) (page : ℕ) (old : Parts) where
   still_fetched : (p1 new : Parts) → HasFetched setup page old p1 (Ok tt) → new.engine ≡ p1.engine
       → IsPathFetched setup.shape page old new
   still_fetched p1 new it same =
-      subst (λ engine. IsPathFetched setup.shape page old (with_engine p1 engine)) (sym same) (it.work refl).cache
+      subst (λ (e : EngineState). IsPathFetched setup.shape page old (record p1 { engine = e })) (sym same) (it.work refl).cache
 
   pub refused_line : (p1 new : Parts) (fault : LineFault) → HasFetched setup page old p1 (Ok tt) → new.engine ≡ p1.engine
       → KeepsShadow setup.shape old new → IsRefusedAsFetched setup.shape page old new (Err (fault_of_line fault))
@@ -66,10 +66,4 @@ shadow_ended g old new end it = record { mirror = it.mirror; lines = it.lines }
 
 pub refused_ended : (g : Shape) (page : ℕ) (old new : Parts) (answer : Result Ctr Fault) (end : Outcome)
     → IsRefusedAsFetched g page old new answer → IsRefusedAsFetched g page old (ended_parts new end) answer
-refused_ended g page old new (Ok ctr) end it = tt
-refused_ended g page old new (Err Fail.Cut) end it = tt
-refused_ended g page old new (Err Fail.Down) end it = tt
-refused_ended g page old new (Err Fail.Shown) end it = shadow_ended g old new end it
-refused_ended g page old new (Err (Fail.Meta x)) end it = (levels_ended g page _ old new end it.0, shadow_ended g old new end it.1)
-refused_ended g page old new (Err (Fail.Tag b)) end it = (it.0, shadow_ended g old new end it.1)
-refused_ended g page old new (Err (Fail.Spent spent)) end it = (levels_ended g page _ old new end it.0, shadow_ended g old new end it.1)
+refused_ended g page old new answer end it = search (rules, levels_ended, shadow_ended)

@@ -1,7 +1,7 @@
 -- A write's own seal, after the parts before it: its marks, memory, steps and counter block.
 use Rattle.std.proofs.Common.{rules, ℕ, ◌≡◌, ◌≢◌, ◌<◌, ◌≤◌, ◌+◌, ◌%◌, ◌++◌, ◌⊎◌, inl, inr, Bool, true, false, cond, List, [], ◌∷◌, length, IsTrue, Option, Some, Result, Ok, Err, refl, sym, ap, ap₂, subst, ◌∙◌, arith}
-use Rattle.std.specs.Prelude.{◌==◌, ◌||◌, ◌*◌, All, option_map, is_some, IsOk, IfOk}
-use Rattle.plain_model.specs.Bounds.{path_length, is_seal, seal_count}
+use Rattle.std.specs.Prelude.{◌==◌, ◌||◌, ◌*◌, option_map, is_some, IsOk, IfOk}
+use Rattle.plain_model.specs.Bounds.{path_length, seal_count}
 use Rattle.pmem_engine.proofs.PathNaming.ShadowNames.{named_then}
 use Rattle.std.specs.List.{list_any}
 use Rattle.std.proofs.lemmas.List.Elements.{All-nil, All-cons}
@@ -30,7 +30,7 @@ use Rattle.plain_model.specs.View.{plain_line}
 use Rattle.plain_model.specs.Asked.{seal_mark, marks_of_write}
 use Rattle.pmem_engine.specs.Parts.{Parts, regs_of, AreTrusted, HoldsSeal, meta_line_in}
 use Rattle.pmem_engine.specs.Outcomes.{of_cut, fault_of_cut, going, outcome_of, is_seal_of, is_sealed_by, TakesSteps, TakesAtMost}
-use Rattle.pmem_engine.specs.Calls.{IsMemory, IsPathNamedInMirror, IsBlockTrue, moment_in, memory_after, is_persisting, AreMarksOfWrite, AnswersWrite, write_bound, TakesOfWrite, IsMetaUncached, IsPastFetch, AreUnderMinorZero, IsOwnSeal, AreInWriteOrder, then_work, IsWork, begin_work, seal_work, KeepsButPath, KeepsOtherMeta, write_work, IsWriteWork, IsRefusedAsFetched}
+use Rattle.pmem_engine.specs.Calls.{IsMemory, IsPathNamedInMirror, IsBlockTrue, moment_in, memory_after, is_persisting, AreMarksOfWrite, AnswersWrite, write_bound, TakesOfWrite, IsMetaUncached, IsPastFetch, AreUnderMinorZero, AreInWriteOrder, then_work, IsWork, seal_work, KeepsButPath, KeepsOtherMeta, write_work, IsWriteWork, IsRefusedAsFetched}
 use Rattle.pmem_engine.specs.Sealing.{next_counter_of, seal_steps, HasNextMarks, TakesSealSteps, HasSealedNext}
 use Rattle.pmem_engine.specs.Writing.{UpWriteOutcome}
 use Rattle.pmem_engine.proofs.CallEnds.CallChains.{done_chained, still_unarmed}
@@ -221,14 +221,7 @@ module _ (setup : Setup) (write : Posted) (within : write.at < layout.data_lines
   kept_before : (regs_of old).group.items ≡ [] → list_any (is_persisting (regs_of old).loss write.at) (before ++ it.made) ≡ false
       → meta_line_in setup.shape new (counter_position setup.shape page)
       ≡ meta_line_in setup.shape old (counter_position setup.shape page)
-  kept_before no_group none =
-      let apart =
-      or_parts (list_any (is_persisting (regs_of old).loss write.at) before)
-      (list_any (is_persisting (regs_of old).loss write.at) it.made)
-      (sym (list_any-append (is_persisting (regs_of old).loss write.at) before it.made) ∙ none) in
-      it.block_kept (still_unarmed setup before old p5 part5.done.gone no_group)
-      (ap (λ loss. list_any (is_persisting loss write.at) it.made) part5.done.loss ∙ apart.1)
-      ∙ part5.block_kept no_group apart.0
+  kept_before no_group none = search (rules, or_parts, list_any-append, still_unarmed)
 
   written_by : (reply : Result Ctr Cut) → HasNextMarks setup.formulas write.at next plain it.made reply
       → (IsOk reply → (next.minor % (regs_of p5).loss == 0) ≡ true → IsBlockTrue setup new page)
@@ -263,55 +256,20 @@ module _ (setup : Setup) (write : Posted) (within : write.at < layout.data_lines
   seal_refused v0 = search rules
 
   order : AreInWriteOrder write.at (before ++ it.made)
-  order =
-      record {
-        before = before;
-        own = it.made;
-        both = refl;
-        few_before = few_before;
-        minors = minors_before;
-        one_own =
-            elim made_is [
-              | inl none ↦ let long : length it.made ≡ 0 = ap length none in omega (arith, long)
-              | inr one ↦ let long : length it.made ≡ 1 = ap length one in omega (arith, long)
-            ];
-        its_seal =
-            elim made_is [
-              | inl none ↦ subst (λ marks. All (IsOwnSeal write.at) marks) (sym none) (All-nil (IsOwnSeal write.at))
-              | inr one ↦
-                  subst (λ marks. All (IsOwnSeal write.at) marks) (sym one)
-                  (All-cons (IsOwnSeal write.at) seal [] (refl, omega arith) (All-nil (IsOwnSeal write.at)))
-            ];
-      }
+  order = search (rules, All-nil, All-cons, made_is)
 
   own_seal : (reply : Result Ctr Cut) → HasNextMarks setup.formulas write.at next plain it.made reply
       → IsOk (of_cut reply) → is_sealed_by (before ++ it.made) write.at ≡ true
-  own_seal (Ok ctr) marks ok =
-      list_any-append (is_seal_of write.at) before it.made
-      ∙ ap (λ b. is_sealed_by before write.at || b) (one_sealed marks.1)
-      ∙ any_or_true (is_sealed_by before write.at)
-    where
-      any_or_true : (b : Bool) → (b || true) ≡ true
-      any_or_true true = refl
-      any_or_true false = refl
-  own_seal (Err fault) marks ok = absurd (true≢false (sym ok))
+  own_seal reply marks ok = search (rules, true≢false, list_any-append, one_sealed)
 
   five_most : (reply : Result Ctr Cut) → TakesSealSteps (seal_steps (regs_of p5).loss next) p5 new reply
       → TakesAtMost 5 p5.device new.device
-  five_most (Ok ctr) steps =
-      more_most (seal_steps (regs_of p5).loss next) 5 p5.device new.device (few_steps (regs_of p5).loss next)
-      (steps_most (seal_steps (regs_of p5).loss next) p5.device new.device steps)
-  five_most (Err fault) steps =
-      more_most (seal_steps (regs_of p5).loss next) 5 p5.device new.device (few_steps (regs_of p5).loss next)
-      (fewer_most (seal_steps (regs_of p5).loss next) p5.device new.device steps)
+  five_most reply steps = search (rules, steps_most, fewer_most, more_most, few_steps)
 
   -- ---- the work
 
   seals_now : it.made ≡ seal ∷ [] → seal_count (before ++ it.made) ≡ seal_count before + 1
-  seals_now one =
-      ap (λ ms. seal_count (before ++ ms)) one
-      ∙ sum_by-append (λ m. cond (is_seal m) 1 0) before (seal ∷ [])
-      ∙ ap (λ n. seal_count before + n) (sum_by-cons (λ m. cond (is_seal m) 1 0) seal [])
+  seals_now one = search (rules, sum_by-append, sum_by-cons)
 
   marks_now : it.made ≡ seal ∷ [] → length (before ++ it.made) ≡ length before + 1
   marks_now one = length-append before it.made ∙ ap (λ ms. length before + length ms) one
@@ -319,14 +277,7 @@ module _ (setup : Setup) (write : Posted) (within : write.at < layout.data_lines
   same_work : (ctr : Ctr) → it.made ≡ seal ∷ []
       → then_work (work_before setup.shape write before old work5.fetched) (seal_work setup.shape (regs_of old).loss ctr)
       ≡ write_work setup.shape write ctr (before ++ it.made) old work5.fetched
-  same_work ctr one =
-      let seals = seals_now one in
-      let marks = marks_now one in
-      let few = work5.few_seals in
-      ap₂ (λ resealed begun.
-      then_work (then_work (named_work setup.shape write resealed old work5.fetched) (begin_work setup.shape begun))
-      (seal_work setup.shape (regs_of old).loss ctr))
-      (omega (arith, seals)) (omega (arith, seals, marks, few))
+  same_work ctr one = search (rules, named_work, seals_now, marks_now)
 
   whole_work : (reply : Result Ctr Cut) → HasNextMarks setup.formulas write.at next plain it.made reply
       → IfOk reply (λ ctr. IsWork (seal_work setup.shape (regs_of p5).loss ctr) p5 new)

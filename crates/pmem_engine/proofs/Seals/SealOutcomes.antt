@@ -19,7 +19,7 @@ use Rattle.split_counters.specs.Blocks.{packed, minor_of}
 use Rattle.bonsai_tree.specs.Positions.{counter_position}
 use Rattle.board.specs.Counts.{RisesBy}
 use Rattle.board.specs.Device.{Device, IsDevice}
-use Rattle.board.specs.Steps.{HasRead, WasCut, Tells}
+use Rattle.board.specs.Steps.{HasRead, WasCut}
 use Rattle.commit_regs.specs.Groups.{redone_told}
 use Rattle.seal_ledger.specs.Ledger.{LedgerState}
 use Rattle.meta_path.specs.Blocks.{IsPathCached, AreCachedTrue}
@@ -168,35 +168,11 @@ module _ (setup : Setup) (at : ℕ) (plain tag_line : Line) (persisted : Bool) (
   plain_after : after.marks ≡ before.marks ++ mark ∷ [] → (a : ℕ)
       → plain_line setup.formulas after.marks a
       ≡ (if is_sealed_by (mark ∷ []) a then Some plain else plain_line setup.formulas before.marks a)
-  plain_after marks a = ap (λ ms. plain_line setup.formulas ms a) marks ∙ go (is_sealed_by (mark ∷ []) a) refl
-    where
-      go : (b : Bool) → is_sealed_by (mark ∷ []) a ≡ b
-          → plain_line setup.formulas (before.marks ++ mark ∷ []) a
-          ≡ cond (is_sealed_by (mark ∷ []) a) (Some plain) (plain_line setup.formulas before.marks a)
-      go true is =
-          subst (λ b. plain_line setup.formulas (before.marks ++ mark ∷ []) b ≡ Some plain)
-          (sym (sealed_here at a next.ctr next.cipher next.tag is))
-          (plain_line-sealed setup.formulas before.marks at ctr plain next.tag in_range is_ctr whole)
-          ∙ sym (cond-true (is_sealed_by (mark ∷ []) a) (Some plain) (plain_line setup.formulas before.marks a) is)
-      go false is =
-          plain_line-other setup.formulas before.marks at ctr next.cipher next.tag a
-          (unsealed_other at a next.ctr next.cipher next.tag is)
-          ∙ sym (cond-false (is_sealed_by (mark ∷ []) a) (Some plain) (plain_line setup.formulas before.marks a) is)
+  plain_after marks a = search (rules, cond-true, cond-false, plain_line-sealed, plain_line-other, sealed_here, unsealed_other)
 
   module _ (done : HasPathSealed setup.shape next persisted block lines root engine engine_now mid.regs new.regs before after) where
     is_sealing : IsPathSealing setup at tag_line persisted lines root engine mid
-    is_sealing =
-        record {
-          path = record { few = few; in_range = in_range; inside = omega (arith, inside); cached = cached; named = named; renewed = renewed };
-          its_line = inside;
-          low = minor_low;
-          tag_line_read = subst (λ o. Tells o (layout.tag_line setup.shape at) tag_line) (sym read.lines) read.tells;
-          rest =
-              search rules;
-          unarmed = mid_unarmed;
-          whole = device;
-          size = mid_size;
-        }
+    is_sealing = search (rules, mid_unarmed, mid_size)
 
     commit : IsCommit setup group mark (page_of at) persisted block middle final
     commit =
@@ -344,12 +320,16 @@ module _ (setup : Setup) (at : ℕ) (plain tag_line : Line) (persisted : Bool) (
         block_written = λ trusted ok. absurd (true≢false (sym ok));
       }
 
-  pub seal_cuts : (cut : Cut) → IsDevice new
-      → IsSealCut setup.shape next persisted block lines root engine engine_now mid new before after
-      → HasSealedNext setup at plain first final (Err cut)
-  seal_cuts cut device_now (inl was) = seal_undone cut was
-  seal_cuts cut device_now (inr was) = seal_cut was.path_sealed cut device_now was.device
-
-  pub seal_goes : HasSealCommitted setup.shape next persisted block lines root engine engine_now mid new before after
-      → HasSealedNext setup at plain first final (Ok ctr)
-  seal_goes was = seal_done was.path_sealed was.device
+  -- both exits
+  pub seal_exits : ((e : Cut) → IsDevice new → IsSealCut setup.shape next persisted block lines root engine engine_now mid new before after
+      → HasSealedNext setup at plain first final (Err e))
+      × (HasSealCommitted setup.shape next persisted block lines root engine engine_now mid new before after
+      → HasSealedNext setup at plain first final (Ok ctr))
+  seal_exits = (
+    λ e device_now cut.
+        elim cut [
+          | inl was ↦ seal_undone e was
+          | inr was ↦ seal_cut was.path_sealed e device_now was.device
+        ],
+    λ was. seal_done was.path_sealed was.device,
+  )
