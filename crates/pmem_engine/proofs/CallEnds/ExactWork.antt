@@ -3,7 +3,7 @@ use Rattle.std.proofs.Common.{rules, ℕ, ◌≡◌, ◌+◌, ◌*◌, Ok, ap, a
 use Rattle.pmem_base.specs.declared.lines.Ctr.{Ctr}
 use Rattle.board.specs.Counts.{RisesBy}
 use Rattle.board.proofs.CountLemmas.{RisesBy-then}
-use Rattle.meta_path.proofs.WorkLemmas.{risen_times-add}
+use Rattle.pmem_base.proofs.CountLemmas.{risen_times-add}
 use Rattle.suite.specs.Setup.{Setup}
 use Rattle.pmem_engine.specs.declared.reading.Unsealed.{Unsealed}
 use Rattle.pmem_engine.specs.Parts.{Parts}

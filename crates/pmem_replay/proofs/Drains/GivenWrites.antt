@@ -38,9 +38,13 @@ use Rattle.pmem_replay.proofs.Steps.EngineCalls.{EngineCall, setup_at, old_world
 use Rattle.pmem_replay.proofs.Steps.CallSurroundings.{state_called, state_cut_with}
 use Rattle.plain_model.proofs.PlainMemory.{memory_is}
 use Rattle.pmem_replay.proofs.Drains.DrainChain.{IsDrainedTo, drained_none, ok_sealed}
-use Rattle.pmem_replay.proofs.Drains.WriteLaws.{meta-unsealed, tag-unsealed, spent-unsealed}
+use Rattle.pmem_replay.proofs.Drains.WriteLaws.{meta-made, tag-unsealed, spent_marks}
 use Rattle.pmem_replay.proofs.Drains.WriteReplies.{drain_is_writing}
 use Rattle.pmem_replay.proofs.Drains.WriteWorlds.{front_on_memory, put_memory, dropped_memory, put-world, dropped-world, kept-world, lost-world}
+
+-- no mark is no seal
+no_seal : (made : List Mark) (at : ℕ) → made ≡ [] → is_sealed_by made at ≡ false
+no_seal made at none = ap (λ marks. is_sealed_by marks at) none
 
 module _ (s : EngineCall) (port : ℕ) (small : port < 8) (write : Posted) (later : List Posted) (waits : queue_of s.parts.queues port ≡ write ∷ later)
     (answer : Result Ctr Fault) where
@@ -428,7 +432,7 @@ module _ (s : EngineCall) (port : ℕ) (small : port < 8) (write : Posted) (late
     given_as (Err (Fail.Meta x)) gave written quiet goes_is is =
         subst (λ g. HasGiven its_setup first port g its_new) (sym is)
         (as_on (Err (Fail.Meta x)) false written refl goes_is
-        (meta-unsealed its_setup first first its_new (Do.Drain port) None port 0 [] 0 (drain_is_writing its_setup first port) drained s.served.going.whole small write later waits s.engine s.after s.taken its_call x written))
+        (no_seal written.made write.at (meta-made its_setup first first its_new (Do.Drain port) None port 0 [] 0 (drain_is_writing its_setup first port) drained s.served.going.whole small write later waits s.engine s.after s.taken its_call x written)))
     given_as (Err (Fail.Tag at)) gave written quiet goes_is is =
         subst (λ g. HasGiven its_setup first port g its_new) (sym is)
         (as_on (Err (Fail.Tag at)) false written refl goes_is
@@ -436,7 +440,7 @@ module _ (s : EngineCall) (port : ℕ) (small : port < 8) (write : Posted) (late
     given_as (Err (Fail.Spent page)) gave written quiet goes_is is =
         subst (λ g. HasGiven its_setup first port g its_new) (sym is)
         (as_on (Err (Fail.Spent page)) false written refl goes_is
-        (spent-unsealed its_setup first first its_new (Do.Drain port) None port 0 [] 0 (drain_is_writing its_setup first port) drained s.served.going.whole small write later waits s.engine s.after s.taken its_call page written))
+        (no_seal written.made write.at (spent_marks its_setup first first its_new (Do.Drain port) None port 0 [] 0 (drain_is_writing its_setup first port) drained s.served.going.whole small write later waits s.engine s.after s.taken its_call page written).1))
     given_as (Err Fail.Cut) gave written quiet goes_is is =
         as_cut put gave written goes_is refl is
     given_as (Err Fail.Down) gave written quiet goes_is is = absurd is
