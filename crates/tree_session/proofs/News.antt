@@ -1,10 +1,10 @@
 -- A formatted device begins a session.
 use Rattle.std.proofs.Common.{ℕ, zero, suc, ◌≡◌, ◌<◌, true, false, List, ◌∷◌, length, Some, None, refl, sym, ap, subst, ◌∙◌, arith, zero-add, lit<}
-use Rattle.std.specs.Prelude.{All, is_none, map, replicate, slice_set}
+use Rattle.std.specs.Prelude.{All, is_none, is_some, map, replicate, slice_set}
 use Rattle.std.specs.List.{range_with_len}
 use Rattle.std.proofs.lemmas.List.{ext_get_or, length-replicate, map-set}
 use Rattle.std.proofs.lemmas.List.FromFn.{length-map-range_with_len, get_or-map-range_with_len}
-use Rattle.std.proofs.lemmas.Bool.{cases_eq, and_parts, and_from}
+use Rattle.std.proofs.lemmas.Bool.{cases_eq, and_parts, and_from, not-true}
 use Rattle.pmem_base.specs.Lines.{IsLine, zero_line}
 use Rattle.pmem_base.specs.Shape.{IsShape}
 use Rattle.pmem_base.specs.Layout.{meta_lines}
@@ -153,7 +153,7 @@ module _ (setup : Setup) (keys : List ℕ) (engine : TreeState) (board : BoardMe
         lines = it.device.lines;
         regs = it.device.regs;
         power = lit.0;
-        fuse = none_is board.fuse lit.1;
+        fuse = none_is board.fuse (not-true (is_some board.fuse) lit.1);
         snapshot = snapshot;
         reads = it.device.reads;
         writes = it.device.writes;

@@ -28,7 +28,7 @@ use Rattle.std.proofs.lemmas.List.Elements.{All-append}
 use Rattle.watched_board.specs.declared.taken.Taken.{Taken}
 use Rattle.watched_board.specs.Watching.{steps_in, step_limit, device_during, none_taken, IsWatched}
 use Rattle.wear_session.specs.Answered.{Writing}
-use Rattle.wear_session.proofs.Worlds.{at_most, fewer}
+use Rattle.watched_board.proofs.StepLaws.{at_most, fewer}
 use Rattle.wear_session.proofs.Seen.{setup_under}
 use Rattle.wear_session.proofs.WriteLaws.{whole_places}
 use Rattle.wear_session.proofs.EngineWrites.{moment_now, AreDone, AreCut}
@@ -268,14 +268,14 @@ module _ (c : CommitCall) where
       pub goes_stuck : GoesToTxnState (record (after_commit old c.entries writing) { stuck = page }) (steps_in c.taken) limit old (txn_of setup (left (Some c.after)))
       goes_stuck =
           goes_to setup p (left (Some c.after)) c.taken c.watched (record (after_commit old c.entries writing) { stuck = page }) limit done.live
-          (at_most c.before.board c.board c.taken limit c.watched.follows.few done.takes) becomes
+          (at_most c.taken limit c.watched.follows.few done.takes.sum) becomes
 
     -- where it isn't stuck
     pub goes : (limit : ℕ) (writes : List Posted) (done : AreDone setup from writes made limit to) → c.after.stuck ≡ old.stuck
         → GoesToTxnState (after_commit old c.entries writing) (steps_in c.taken) limit old (txn_of setup (left (Some c.after)))
     goes limit writes done its_page =
         goes_to setup p (left (Some c.after)) c.taken c.watched (after_commit old c.entries writing) limit done.live
-        (at_most c.before.board c.board c.taken limit c.watched.follows.few done.takes)
+        (at_most c.taken limit c.watched.follows.few done.takes.sum)
         (subst (λ e. IsTxnButForSteps (record e { marks = old.marks ++ made })
         (txn_of setup (left (Some c.after)))) (sym (with_commit_is old c.entries k))
         (record {
@@ -298,7 +298,7 @@ module _ (c : CommitCall) where
       pub cuts : limit ≤ step_limit → IsTxnCutOff (after_commit old c.entries writing) (steps_in c.taken) limit old (txn_of setup (left None))
       cuts small =
           cut_off setup p (left None) c.taken c.watched (after_commit old c.entries writing) limit cut.dark
-          (fewer c.before.board c.board c.taken limit c.watched.follows.few cut.takes) small
+          (fewer c.taken limit c.watched.follows.few cut.takes.sum) small
           (subst (λ e. IsTxnButForSteps (record e { marks = old.marks ++ made; stuck = None; txn = None; power = false; fuse = None })
           (txn_of setup (left None))) (sym (with_commit_is old c.entries k))
           (record {

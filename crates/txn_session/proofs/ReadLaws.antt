@@ -26,7 +26,7 @@ use Rattle.line_txn.specs.Store.{IsServedAs, logged_lines}
 use Rattle.watched_board.specs.declared.taken.Taken.{Taken}
 use Rattle.watched_board.specs.Watching.{steps_in, device_during, none_taken, IsWatched}
 use Rattle.wear_session.specs.Answered.{read_steps}
-use Rattle.wear_session.proofs.Worlds.{at_most, fewer}
+use Rattle.watched_board.proofs.StepLaws.{at_most, fewer}
 use Rattle.wear_session.proofs.WriteLaws.{whole_places}
 use Rattle.wear_session.proofs.Seen.{setup_under}
 use Rattle.txn_session.specs.declared.commands.TxnCommand.TheVariants as Do
@@ -192,7 +192,7 @@ module _ (c : ReadTxnCall) where
         (read_undecided old c.at on.powered (let n = n_is in let low = c.within in omega (arith, n, low)) c.unheld) (
           shown line is,
           goes_to setup p (left (Some c.after) p.txn) c.taken c.watched old (read_steps c.geometry) powered
-              (at_most p.board c.board c.taken (path_length c.geometry) c.watched.follows.few (it.steps_of_path on.running).0)
+              (at_most c.taken (path_length c.geometry) c.watched.follows.few (it.steps_of_path on.running).0.sum)
               (record {
                 shape = refl;
                 keys = refl;
@@ -239,7 +239,7 @@ module _ (c : ReadTxnCall) where
         (served setup old (txn_of setup (left None None)) (Do.Read c.at) (Say.Cut (steps_in c.taken))
         (read_undecided old c.at on.powered (let n = n_is in let low = c.within in omega (arith, n, low)) c.unheld)
         (cut_off setup p (left None None) c.taken c.watched old (read_steps c.geometry) off
-        (fewer p.board c.board c.taken (path_length c.geometry) c.watched.follows.few ((cut.steps_of_path on.running).1 on.powered))
+        (fewer c.taken (path_length c.geometry) c.watched.follows.few ((cut.steps_of_path on.running).1 on.powered).sum)
         (omega (arith, levels))
         (record {
           shape = refl;
