@@ -28,7 +28,6 @@ none_most n old new it = more_most 0 n old new (omega arith) (steps_most 0 old n
 four_most : (fault : LineFault) (old new : Parts) → CountsReseal old new (Err fault) → TakesAtMost 4 old.device new.device
 four_most fault old new it = search (rules, fewer_most, none_most)
 
-
 module _ (setup : Setup) (n number : ℕ) (old mid new : Parts) (valid : IsValidRegs setup.shape (regs_of old))
     (inside : n < length (regs_of old).progress.items) (first : HasResealedFirst setup n number old mid)
     (some : number < length (not_done (register_in old n))) (fault : LineFault) (it : HasResealed setup n mid new (Err fault)) where
