@@ -4,7 +4,6 @@ pub mod StillParts
 pub mod ToldLines
 pub mod ShadowLines
 pub mod ErrorAnswers
-pub mod EndedEngines
 pub mod ExactWork
 pub mod MetaLines
 pub mod UsableParts

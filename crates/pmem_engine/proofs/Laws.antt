@@ -10,7 +10,6 @@ pub mod AskedCounters
 pub mod AnchoredFormats
 pub mod DeviceRegions
 pub mod CounterBlocks
-pub mod GroupLaws
 pub mod DeviceSteps
 pub mod TruthSteps
 pub mod NameLaws

@@ -1,5 +1,6 @@
 -- Dirty blocks are written to their places, and another stop-loss number is latched.
 use Rattle.std.specs.Prelude.{ℕ, ◌≡◌, ◌≢◌, ◌<◌, ◌≤◌, ◌+◌, ◌⊎◌, true, false, [], Option, Some, None, Result, Ok, Err}
+use Rattle.pmem_base.specs.declared.faults.Cut.{Cut}
 use Rattle.pmem_base.specs.declared.registers.Regs.{Regs}
 use Rattle.pmem_base.specs.Registers.{without_group}
 use Rattle.pmem_base.specs.Layout.{meta_lines, shadow_lines, shadow_line}
@@ -14,8 +15,6 @@ use Rattle.meta_path.specs.Blocks.{bank_dirty_count}
 use Rattle.meta_path.specs.Storing.{IsCleaned}
 use Rattle.meta_path.specs.Work.{told_line}
 use Rattle.suite.specs.Setup.{Setup}
-use Rattle.pmem_engine.specs.declared.fault.Fault.{Fault}
-use Rattle.pmem_engine.specs.declared.fault.Fault.TheVariants as Fail
 use Rattle.pmem_engine.specs.Engine.{EngineState}
 use Rattle.pmem_engine.specs.Parts.{parts_of}
 use Rattle.pmem_engine.specs.Outcomes.{going, OneLossEffect}
@@ -40,14 +39,13 @@ abbrev pub IsBankClean : EngineState → ℕ → Type 0
 IsBankClean engine bank = (x : ℕ) → is_cached_dirty engine.shape engine.cache bank x ≡ false
 
 -- the oldest dirty block was written back, where one is dirty
-abbrev pub HasWrittenOldest : EngineState → EngineState → Device → Device → Result (Option ℕ) Fault → Type 0
+abbrev pub HasWrittenOldest : EngineState → EngineState → Device → Device → Result (Option ℕ) Cut → Type 0
 HasWrittenOldest old new before after (Ok None) =
     (new ≡ old) × (after ≡ before) × ((bank : ℕ) → IsBankClean old bank)
 HasWrittenOldest old new before after (Ok (Some x)) = HasWrittenBack (level_of x) x old new before after
-HasWrittenOldest old new before after (Err Fail.Cut) =
+HasWrittenOldest old new before after (Err cut) =
     (new ≡ old) × WasCut before after
     × ((bank : ℕ) × (x : ℕ) × (is_cached_dirty old.shape old.cache bank x ≡ true))
-HasWrittenOldest old new before after (Err fault) = ⊥
 
 -- ---- the stop-loss number
 
@@ -107,10 +105,9 @@ pub record IsLossLatched (n steps : ℕ) (old new : EngineState) (before after :
   pub way : HasMadeWay n count old new before mid
   pub latched : HasLatched mid (with_loss mid.regs n) after
 
-abbrev pub HasChangedLoss : ℕ → EngineState → EngineState → Device → Device → Result ℕ Fault → Type 0
+abbrev pub HasChangedLoss : ℕ → EngineState → EngineState → Device → Device → Result ℕ Cut → Type 0
 HasChangedLoss n old new before after (Ok steps) =
     ((n ≡ before.regs.loss) × (steps ≡ 0) × (new ≡ old) × (after ≡ before))
     ⊎ ((n ≢ before.regs.loss) × IsLossLatched n steps old new before after)
-HasChangedLoss n old new before after (Err Fail.Cut) =
+HasChangedLoss n old new before after (Err cut) =
     (n ≢ before.regs.loss) × IsCutInBlocks n old new before after
-HasChangedLoss n old new before after (Err fault) = ⊥

@@ -1,5 +1,6 @@
 -- What the parts of the engine's calls do: a path is fetched, a line is unsealed, a path is named.
 use Rattle.std.specs.Prelude.{ℕ, ◌≡◌, ◌<◌, false, not, ◌||◌, [], length, Some, option_map, IsOk, Result, Ok, Err, ⊤}
+use Rattle.pmem_base.specs.declared.faults.Cut.{Cut}
 use Rattle.pmem_base.specs.declared.lines.Line.{Line}
 use Rattle.pmem_base.specs.declared.lines.Ctr.{Ctr}
 use Rattle.pmem_base.specs.Counts.{risen}
@@ -16,14 +17,17 @@ use Rattle.split_counters.specs.Blocks.{unpacked}
 use Rattle.meta_path.specs.Blocks.{line_in, IsPathCached, dirty_count}
 use Rattle.meta_path.specs.Fetching.{IsFetchedTo}
 use Rattle.meta_path.specs.Naming.{naming_writes}
+use Rattle.meta_path.specs.declared.faults.PathFault.{PathFault}
+use Rattle.meta_path.specs.declared.faults.PathFault.TheVariants as Path
 use Rattle.suite.specs.Setup.{Setup}
 use Rattle.plain_model.specs.View.{plain_line}
 use Rattle.plain_model.specs.Bounds.{path_length}
 use Rattle.pmem_engine.specs.declared.fault.Fault.{Fault}
-use Rattle.pmem_engine.specs.declared.fault.Fault.TheVariants as Fail
+use Rattle.pmem_engine.specs.declared.fault.LineFault.{LineFault}
+use Rattle.pmem_engine.specs.declared.fault.LineFault.TheVariants as AtLine
 use Rattle.pmem_engine.specs.declared.reading.Unsealed.{Unsealed}
 use Rattle.pmem_engine.specs.Parts.{Parts, regs_of, AreTrusted, AreSound, HoldsSeal, meta_line_in}
-use Rattle.pmem_engine.specs.Outcomes.{Outcome, shown, outcome_of, is_going, OneLossEffect, TakesSteps}
+use Rattle.pmem_engine.specs.Outcomes.{of_path, of_line, of_cut, Outcome, shown, outcome_of, is_going, OneLossEffect, TakesSteps}
 use Rattle.pmem_engine.specs.Faults.{IsMetaRefused, IsClashShown, IsTagRefused, IsForgedShown}
 use Rattle.pmem_engine.specs.Engine.{EngineState}
 use Rattle.pmem_engine.specs.Calls.{IsPathNamedInMirror, IsDownAnswer, IsUnrefused, TakesWithin, TakesWithinOfLive, KeepsShadow, IsMetaUncached, IsPastFetch, fetch_state, IsWork, naming_work, KeepsMetaLines, IsAnswerOfRead, IsReadWork, HasNamedSome, AnswersRead, IsReadOfCached, HasFetchedSome}
@@ -49,42 +53,30 @@ ended_by engine outcome =
 -- ---- a fetch
 
 -- what a fetch's answer says, from a trusted chip on
-abbrev pub AnswersFetch : Setup → ℕ → Parts → Parts → Result Unit Fault → Type 0
+abbrev pub AnswersFetch : Setup → ℕ → Parts → Parts → Result Unit PathFault → Type 0
 AnswersFetch setup page old new (Ok value) = ⊤
-AnswersFetch setup page old new (Err Fail.Cut) = ⊤
-AnswersFetch setup page old new (Err (Fail.Meta x)) = IsMetaRefused setup page x old new
-AnswersFetch setup page old new (Err Fail.Shown) = IsClashShown setup page old new
-AnswersFetch setup page old new (Err (Fail.Tag at)) = ⊥
-AnswersFetch setup page old new (Err (Fail.Spent spent)) = ⊥
-AnswersFetch setup page old new (Err Fail.Down) = ⊥
+AnswersFetch setup page old new (Err Path.Cut) = ⊤
+AnswersFetch setup page old new (Err (Path.Meta x)) = IsMetaRefused setup page x old new
+AnswersFetch setup page old new (Err Path.Shown) = IsClashShown setup page old new
 
--- the answers that a fetch may give, whatever the chip is
-abbrev pub IsAnswerOfFetch : Result Unit Fault → Type 0
-IsAnswerOfFetch (Err (Fail.Tag at)) = ⊥
-IsAnswerOfFetch (Err (Fail.Spent spent)) = ⊥
-IsAnswerOfFetch (Err Fail.Down) = ⊥
-IsAnswerOfFetch answer = ⊤
-
-pub record HasFetched (setup : Setup) (page : ℕ) (old new : Parts) (answer : Result Unit Fault) : Type 0 where
-  pub done : OneLossEffect setup (outcome_of answer) [] old new
+pub record HasFetched (setup : Setup) (page : ℕ) (old new : Parts) (answer : Result Unit PathFault) : Type 0 where
+  pub done : OneLossEffect setup (outcome_of (of_path answer)) [] old new
   pub answered : AreTrusted setup old → AnswersFetch setup page old new answer
-  pub unrefused : AreSound setup old → IsUnrefused answer
-  pub not_down : IsDownAnswer answer → ⊥
+  pub unrefused : AreSound setup old → IsUnrefused (of_path answer)
   pub path_cached : IsOk answer → IsPathCached setup.shape new.engine.cache page
-  pub path_fetched : IsPastFetch old new answer → IsPathCached setup.shape new.engine.cache page
-  pub possible : IsAnswerOfFetch answer
-  pub meta_uncached : IsMetaUncached setup.shape page old answer
+  pub path_fetched : IsPastFetch old new (of_path answer) → IsPathCached setup.shape new.engine.cache page
+  pub meta_uncached : IsMetaUncached setup.shape page old (of_path answer)
   pub shadow : KeepsShadow setup.shape old new
   pub work :
       IsOk answer
       → IsFetchedTo setup.shape setup.formulas old.ledger.truth page (path_length setup.shape)
       (fetch_state setup.shape old) (fetch_state setup.shape new)
-  pub fetched : HasFetchedSome setup.shape page old new answer
+  pub fetched : HasFetchedSome setup.shape page old new (of_path answer)
   pub mirror : new.engine.mirror ≡ old.engine.mirror
   pub down : new.engine.down ≡ old.engine.down
   pub regs : regs_of new ≡ regs_of old
   pub tags : new.tags ≡ old.tags
-  pub same_ledger : (outcome_of answer ≡ shown → ⊥) → new.ledger ≡ old.ledger
+  pub same_ledger : (outcome_of (of_path answer) ≡ shown → ⊥) → new.ledger ≡ old.ledger
   -- where the path is cached already, nothing is read, digested or written
   pub still_cached :
       IsPathCached setup.shape old.engine.cache page
@@ -98,59 +90,47 @@ pub record HasFetched (setup : Setup) (page : ℕ) (old new : Parts) (answer : R
       → meta_line_in setup.shape new (counter_position setup.shape page)
       ≡ meta_line_in setup.shape old (counter_position setup.shape page)
   pub latches : new.device.latches ≡ old.device.latches
-  pub steps_of_path : TakesWithin (outcome_of answer) (path_length setup.shape) old new
+  pub steps_of_path : TakesWithin (outcome_of (of_path answer)) (path_length setup.shape) old new
   pub steps_of_dirty :
-      TakesWithinOfLive (outcome_of answer) (dirty_count setup.shape old.engine.cache) old new
+      TakesWithinOfLive (outcome_of (of_path answer)) (dirty_count setup.shape old.engine.cache) old new
 
 -- ---- a line unsealed
 
 -- what the answer says, from a trusted chip on, where the counter is that of the line's last seal
-abbrev pub AnswersUnseal : Setup → ℕ → Parts → Parts → Result Unsealed Fault → Type 0
+abbrev pub AnswersUnseal : Setup → ℕ → Parts → Parts → Result Unsealed LineFault → Type 0
 AnswersUnseal setup a old new (Ok unsealed) =
     (plain_line setup.formulas old.ledger.marks a ≡ Some unsealed.plain) × HoldsSeal setup.shape new a
-AnswersUnseal setup a old new (Err Fail.Cut) = ⊤
-AnswersUnseal setup a old new (Err (Fail.Tag b)) = (b ≡ a) × IsTagRefused setup a new
-AnswersUnseal setup a old new (Err Fail.Shown) = IsForgedShown setup a new
-AnswersUnseal setup a old new (Err (Fail.Meta x)) = ⊥
-AnswersUnseal setup a old new (Err (Fail.Spent page)) = ⊥
-AnswersUnseal setup a old new (Err Fail.Down) = ⊥
+AnswersUnseal setup a old new (Err AtLine.Cut) = ⊤
+AnswersUnseal setup a old new (Err (AtLine.Tag b)) = (b ≡ a) × IsTagRefused setup a new
+AnswersUnseal setup a old new (Err AtLine.Shown) = IsForgedShown setup a new
 
 -- this is the counter of the line's last seal
 abbrev pub IsLastCounter : Parts → ℕ → Ctr → Type 0
 IsLastCounter parts a ctr = option_map (λ seal. seal.ctr) (last_seal parts.ledger.marks a) ≡ Some ctr
 
 -- the tag line that was read, where the board tells its lines
-abbrev pub TellsTagLine : Setup → ℕ → Parts → Result Unsealed Fault → Type 0
+abbrev pub TellsTagLine : Setup → ℕ → Parts → Result Unsealed LineFault → Type 0
 TellsTagLine setup a new (Ok unsealed) =
     Tells new.device.lines (layout.tag_line setup.shape a) unsealed.tag_line
 TellsTagLine setup a new (Err fault) = ⊤
 
--- the answers that an unsealing may give, whatever the chip is
-abbrev pub IsAnswerOfUnseal : Result Unsealed Fault → Type 0
-IsAnswerOfUnseal (Err (Fail.Meta x)) = ⊥
-IsAnswerOfUnseal (Err (Fail.Spent page)) = ⊥
-IsAnswerOfUnseal (Err Fail.Down) = ⊥
-IsAnswerOfUnseal answer = ⊤
-
-pub record HasUnsealed (setup : Setup) (a : ℕ) (ctr : Ctr) (old new : Parts) (answer : Result Unsealed Fault) :
+pub record HasUnsealed (setup : Setup) (a : ℕ) (ctr : Ctr) (old new : Parts) (answer : Result Unsealed LineFault) :
     Type 0 where
-  pub done : OneLossEffect setup (outcome_of answer) [] old new
+  pub done : OneLossEffect setup (outcome_of (of_line answer)) [] old new
   pub answered : AreTrusted setup old → IsLastCounter old a ctr → AnswersUnseal setup a old new answer
-  pub unrefused : AreSound setup old → IsLastCounter old a ctr → IsUnrefused answer
+  pub unrefused : AreSound setup old → IsLastCounter old a ctr → IsUnrefused (of_line answer)
   pub engine : new.engine ≡ old.engine
   pub lines : new.device.lines ≡ old.device.lines
   pub regs : regs_of new ≡ regs_of old
   pub digests : new.digests ≡ old.digests
-  pub same_ledger : (outcome_of answer ≡ shown → ⊥) → new.ledger ≡ old.ledger
+  pub same_ledger : (outcome_of (of_line answer) ≡ shown → ⊥) → new.ledger ≡ old.ledger
   pub tells_tag_line : TellsTagLine setup a new answer
-  pub possible : IsAnswerOfUnseal answer
   pub writes : new.device.writes ≡ old.device.writes
   pub latches : new.device.latches ≡ old.device.latches
   pub no_steps : TakesSteps 0 old.device new.device
   pub two_reads : IsOk answer → RisesBy 2 old.device.reads new.device.reads
   pub one_tag : IsOk answer → new.tags ≡ risen old.tags
-  pub cut_unpowered : answer ≡ Err Fail.Cut → old.device.live ≡ false
-  pub not_down : IsDownAnswer answer → ⊥
+  pub cut_unpowered : answer ≡ Err AtLine.Cut → old.device.live ≡ false
 
 -- ---- a line read
 
@@ -186,11 +166,8 @@ pub record HasNamedAll (g : Shape) (page : ℕ) (old new : Parts) : Type 0 where
   pub some : HasNamedSome g page old new
   pub all : some.written ≡ some.named
 
-pub record HasNamedPath (setup : Setup) (page : ℕ) (old new : Parts) (answer : Result Unit Fault) :
-    Type 0 where
-  pub done : OneLossEffect setup (outcome_of answer) [] old new
-  pub cut_alone : IsUnrefused answer
-  pub not_spent : (spent : ℕ) → answer ≡ Err (Fail.Spent spent) → ⊥
+pub record HasNamedPath (setup : Setup) (page : ℕ) (old new : Parts) (answer : Result Unit Cut) : Type 0 where
+  pub done : OneLossEffect setup (outcome_of (of_cut answer)) [] old new
   pub path_named : IsOk answer → IsPathNamedInMirror setup.shape new.engine page
   pub names : HasNamedSome setup.shape page old new
   pub work :
@@ -211,5 +188,5 @@ pub record HasNamedPath (setup : Setup) (page : ℕ) (old new : Parts) (answer :
   pub metadata :
       (regs_of old).group.items ≡ [] → (x : ℕ) → x < layout.meta_lines setup.shape
       → meta_line_in setup.shape new x ≡ meta_line_in setup.shape old x
-  pub steps : TakesWithin (outcome_of answer) (path_length setup.shape) old new
+  pub steps : TakesWithin (outcome_of (of_cut answer)) (path_length setup.shape) old new
   pub still_named : IsPathNamedInMirror setup.shape old.engine page → IsOk answer × StandsStill old.device new.device

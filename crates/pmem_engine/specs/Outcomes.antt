@@ -2,6 +2,7 @@
 use Rattle.std.specs.Prelude.{ℕ, ◌≡◌, ◌≢◌, ◌<◌, ◌≤◌, ◌+◌, ◌==◌, ◌⊎◌, Bool, true, false, ◌&&◌, nat_lt, List, [], ◌++◌, length, is_some, IsTrue, Result, Ok, Err, ⊤}
 use Rattle.std.specs.List.{list_any}
 use Rattle.pmem_base.specs.declared.answers.Mark.{Mark}
+use Rattle.pmem_base.specs.declared.faults.Cut.{Cut}
 use Rattle.pmem_base.specs.declared.answers.Mark.TheVariants.{Begin, Seal}
 use Rattle.pmem_base.specs.Shape.{Shape}
 use Rattle.pmem_base.specs.Layout as layout
@@ -17,14 +18,38 @@ use Rattle.meta_path.specs.declared.faults.PathFault.TheVariants as Path
 use Rattle.suite.specs.Setup.{Setup}
 use Rattle.pmem_engine.specs.declared.fault.Fault.{Fault}
 use Rattle.pmem_engine.specs.declared.fault.Fault.TheVariants as Fail
+use Rattle.pmem_engine.specs.declared.fault.LineFault.{LineFault}
+use Rattle.pmem_engine.specs.declared.fault.LineFault.TheVariants as AtLine
 use Rattle.pmem_engine.specs.Invariants.{IsAnchored}
 use Rattle.pmem_engine.specs.Parts.{Parts, regs_of, AreTrusted, AreSound, AreDurable, HoldsSeal, HoldsCounters, HoldsMeta, data_line_in, tag_slot_in, meta_line_in}
 
--- a fetch's fault as the engine's
+-- a part's fault as the engine's
+abbrev pub fault_of_cut : Cut → Fault
+fault_of_cut cut = Fail.Cut
+
 abbrev pub fault_of_path : PathFault → Fault
 fault_of_path Path.Cut = Fail.Cut
 fault_of_path (Path.Meta x) = Fail.Meta x
 fault_of_path Path.Shown = Fail.Shown
+
+abbrev pub fault_of_line : LineFault → Fault
+fault_of_line AtLine.Cut = Fail.Cut
+fault_of_line (AtLine.Tag at) = Fail.Tag at
+fault_of_line AtLine.Shown = Fail.Shown
+
+-- a part's answer as the engine's
+abbrev pub faulted : {T E : Type 0} → (E → Fault) → Result T E → Result T Fault
+faulted its_fault (Ok value) = Ok value
+faulted its_fault (Err fault) = Err (its_fault fault)
+
+abbrev pub of_cut : {T : Type 0} → Result T Cut → Result T Fault
+of_cut answer = faulted fault_of_cut answer
+
+abbrev pub of_path : {T : Type 0} → Result T PathFault → Result T Fault
+of_path answer = faulted fault_of_path answer
+
+abbrev pub of_line : {T : Type 0} → Result T LineFault → Result T Fault
+of_line answer = faulted fault_of_line answer
 
 -- the engine goes on, or a cut or an exhibit ended it
 pub data Outcome : Type 0 where

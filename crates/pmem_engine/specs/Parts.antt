@@ -6,9 +6,12 @@ use Rattle.pmem_base.specs.Shape.{Shape}
 use Rattle.pmem_base.specs.Layout as layout
 use Rattle.pmem_base.specs.Lines.{line_at, tag_slot}
 use Rattle.board.specs.Device.{Device}
+use Rattle.board.specs.declared.device.Board.{Ghosts as BoardOf}
 use Rattle.commit_regs.specs.Groups.{redone_told}
 use Rattle.seal_ledger.specs.Ledger.{LedgerState}
+use Rattle.seal_ledger.specs.declared.Audit.{Ghosts as AuditOf}
 use Rattle.suite.specs.Setup.{Setup}
+use Rattle.suite.specs.declared.Suite.{Ghosts as SuiteOf}
 use Rattle.pmem_engine.specs.Engine.{EngineState}
 use Rattle.pmem_engine.specs.Recached.{IsTrueOrDirty}
 use Rattle.pmem_engine.specs.Invariants.{stored_meta, IsTrusted, IsSound, IsDurable, IsSealStored, IsCounterStored}
@@ -24,6 +27,14 @@ pub record Parts : Type 0 where
 abbrev pub parts_of : EngineState → Device → LedgerState → ℕ → ℕ → Parts
 parts_of engine device ledger tags digests =
     record { engine = engine; device = device; ledger = ledger; tags = tags; digests = digests }
+
+-- what a call sees of the engine, the board, the suite and the audit at a moment: the parts, and the setup
+module _ {B S A : Type 0} (board : BoardOf B) (suite : SuiteOf S) (audit : AuditOf A) where
+  abbrev pub parts_at : EngineState → B → S → A → Parts
+  parts_at engine b s a = parts_of engine (board.device b) (audit.ledger a) (suite.tags s) (suite.digests s)
+
+abbrev pub setup_at : {S : Type 0} → SuiteOf S → EngineState → S → Setup
+setup_at suite engine s = record { shape = engine.shape; formulas = suite.formulas_of (suite.keys s) }
 
 -- the registers
 abbrev pub regs_of : Parts → Regs

@@ -18,14 +18,14 @@ use Rattle.suite.specs.Setup.{Setup}
 use Rattle.plain_model.specs.State.{Memory}
 use Rattle.plain_model.specs.Bounds.{seal_count}
 use Rattle.plain_model.specs.Asked.{Moment, reseal_mark}
-use Rattle.pmem_engine.specs.declared.fault.Fault.{Fault}
-use Rattle.pmem_engine.specs.declared.fault.Fault.TheVariants as Fail
+use Rattle.pmem_engine.specs.declared.fault.LineFault.{LineFault}
+use Rattle.pmem_engine.specs.declared.fault.LineFault.TheVariants as AtLine
 use Rattle.pmem_engine.specs.declared.resealing.HeldLine.{HeldLine}
 use Rattle.pmem_engine.specs.declared.resealing.NextSeal.{NextSeal}
 use Rattle.pmem_engine.specs.Parts.{Parts, regs_of, AreTrusted, AreSound, HoldsSeal, meta_line_in}
-use Rattle.pmem_engine.specs.Outcomes.{shown, outcome_of, is_sealed_by, OneLossEffect, TakesSteps, TakesFewer}
+use Rattle.pmem_engine.specs.Outcomes.{of_line, shown, outcome_of, is_sealed_by, OneLossEffect, TakesSteps, TakesFewer}
 use Rattle.pmem_engine.specs.Faults.{IsTagRefused, IsForgedShown}
-use Rattle.pmem_engine.specs.Calls.{IsMemory, IsDownAnswer, IsUnrefused, KeepsShadow, IsTurnWork, AreUnderMinorZero, KeepsMetaLines, moment_in}
+use Rattle.pmem_engine.specs.Calls.{IsMemory, IsUnrefused, KeepsShadow, IsTurnWork, AreUnderMinorZero, KeepsMetaLines, moment_in}
 use Rattle.pmem_engine.specs.Committing.{entries_of, HasLineDone, HasCommitted, IsCutArmed}
 
 -- ---- a held line
@@ -80,14 +80,11 @@ IsResealCut g next old new before after =
 -- ---- the whole
 
 -- the marks, where the line at place i of the page was to be sealed
-abbrev pub HasResealMarks : Formulas → Moment → ℕ → ℕ → List Mark → Result (ℕ × ℕ) Fault → Type 0
+abbrev pub HasResealMarks : Formulas → Moment → ℕ → ℕ → List Mark → Result (ℕ × ℕ) LineFault → Type 0
 HasResealMarks f now page i made (Ok sealed) = made ≡ reseal_mark f now page i ∷ []
-HasResealMarks f now page i made (Err Fail.Cut) = (made ≡ []) ⊎ (made ≡ reseal_mark f now page i ∷ [])
-HasResealMarks f now page i made (Err (Fail.Tag b)) = made ≡ []
-HasResealMarks f now page i made (Err Fail.Shown) = made ≡ []
-HasResealMarks f now page i made (Err (Fail.Meta x)) = ⊥
-HasResealMarks f now page i made (Err (Fail.Spent spent)) = ⊥
-HasResealMarks f now page i made (Err Fail.Down) = ⊥
+HasResealMarks f now page i made (Err AtLine.Cut) = (made ≡ []) ⊎ (made ≡ reseal_mark f now page i ∷ [])
+HasResealMarks f now page i made (Err (AtLine.Tag b)) = made ≡ []
+HasResealMarks f now page i made (Err AtLine.Shown) = made ≡ []
 
 -- a line was sealed: which one, how many are left, and the registers with it done
 pub record HasSealedHeld (a number : ℕ) (old new : Parts) (sealed : ℕ × ℕ) : Type 0 where
@@ -96,34 +93,27 @@ pub record HasSealedHeld (a number : ℕ) (old new : Parts) (sealed : ℕ × ℕ
   pub line_done : HasLineDone a (regs_of old) (regs_of new)
 
 -- what a refusal and an exhibit say, from a trusted chip on
-abbrev pub AnswersReseal : Setup → ℕ → Parts → Parts → Result (ℕ × ℕ) Fault → Type 0
-AnswersReseal setup a old new (Err (Fail.Tag b)) = (b ≡ a) × IsTagRefused setup b new
-AnswersReseal setup a old new (Err Fail.Shown) = IsForgedShown setup a new
+abbrev pub AnswersReseal : Setup → ℕ → Parts → Parts → Result (ℕ × ℕ) LineFault → Type 0
+AnswersReseal setup a old new (Err (AtLine.Tag b)) = (b ≡ a) × IsTagRefused setup b new
+AnswersReseal setup a old new (Err AtLine.Shown) = IsForgedShown setup a new
 AnswersReseal setup a old new answer = ⊤
 
 -- steps, reads and tags
-abbrev pub CountsReseal : Parts → Parts → Result (ℕ × ℕ) Fault → Type 0
+abbrev pub CountsReseal : Parts → Parts → Result (ℕ × ℕ) LineFault → Type 0
 CountsReseal old new (Ok sealed) =
     TakesSteps 4 old.device new.device × RisesBy 2 old.device.reads new.device.reads
     × (new.tags ≡ risen (risen old.tags))
-CountsReseal old new (Err Fail.Cut) = TakesFewer 4 old.device new.device
+CountsReseal old new (Err AtLine.Cut) = TakesFewer 4 old.device new.device
 CountsReseal old new (Err fault) = TakesSteps 0 old.device new.device
-
--- the answers that sealing a held line anew may give, whatever the chip is
-abbrev pub IsAnswerOfReseal : Result (ℕ × ℕ) Fault → Type 0
-IsAnswerOfReseal (Err (Fail.Meta x)) = ⊥
-IsAnswerOfReseal (Err (Fail.Spent page)) = ⊥
-IsAnswerOfReseal (Err Fail.Down) = ⊥
-IsAnswerOfReseal answer = ⊤
 
 -- the lowest line not done of register n's page was sealed anew, under the page's new major and 0, or
 -- the answer says why not
-pub record HasResealed (setup : Setup) (n : ℕ) (old new : Parts) (answer : Result (ℕ × ℕ) Fault) : Type 0 where
+pub record HasResealed (setup : Setup) (n : ℕ) (old new : Parts) (answer : Result (ℕ × ℕ) LineFault) : Type 0 where
   pub place : ℕ
   pub lowest : slice_get (not_done (register_in old n)) 0 ≡ Some place
   pub made : List Mark
   pub few : length made ≤ 1
-  pub done : OneLossEffect setup (outcome_of answer) made old new
+  pub done : OneLossEffect setup (outcome_of (of_line answer)) made old new
   pub marks :
       AreTrusted setup old → (memory : Memory) → IsMemory setup memory old
       → HasResealMarks setup.formulas (moment_in setup memory old) (register_in old n).page place made answer
@@ -132,8 +122,7 @@ pub record HasResealed (setup : Setup) (n : ℕ) (old new : Parts) (answer : Res
       IfOk answer
       (HasSealedHeld (line_of_page (register_in old n) place) (length (not_done (register_in old n))) old new)
   pub answered : AreTrusted setup old → AnswersReseal setup (line_of_page (register_in old n) place) old new answer
-  pub unrefused : AreSound setup old → IsUnrefused answer
-  pub not_down : IsDownAnswer answer → ⊥
+  pub unrefused : AreSound setup old → IsUnrefused (of_line answer)
   pub sealed_before :
       AreTrusted setup old → (a : ℕ) → a < layout.data_lines setup.shape → IsTrue (is_sealed_by made a)
       → HoldsSeal setup.shape old a
@@ -141,11 +130,10 @@ pub record HasResealed (setup : Setup) (n : ℕ) (old new : Parts) (answer : Res
   pub one_seal : IsOk answer → (length made ≡ 1) × (seal_count made ≡ 1)
   pub work : IsOk answer → IsTurnWork old new
   pub meta_lines : IsOk answer → KeepsMetaLines setup.shape old.device.lines new.device.lines
-  pub possible : IsAnswerOfReseal answer
   pub minors : AreUnderMinorZero made
   pub shadow : KeepsShadow setup.shape old new
   pub engine : new.engine ≡ old.engine
-  pub truth : (outcome_of answer ≡ shown → ⊥) → new.ledger.truth ≡ old.ledger.truth
+  pub truth : (outcome_of (of_line answer) ≡ shown → ⊥) → new.ledger.truth ≡ old.ledger.truth
   pub root : (regs_of new).root ≡ (regs_of old).root
   pub digests : new.digests ≡ old.digests
   pub metadata :

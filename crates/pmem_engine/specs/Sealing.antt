@@ -1,6 +1,7 @@
 -- What a commit with a page's new path makes: a seal of a line under its next counter, and a page's begin.
-use Rattle.std.specs.Prelude.{ℕ, ◌≡◌, ◌≢◌, ◌≤◌, ◌+◌, ◌%◌, ◌==◌, ◌⊎◌, Bool, true, false, List, [], ◌∷◌, ◌++◌, length, if◌then◌else◌, Some, IfOk, IsOk, Result, Ok, Err}
+use Rattle.std.specs.Prelude.{ℕ, ◌≡◌, ◌≢◌, ◌≤◌, ◌+◌, ◌%◌, ◌==◌, ◌⊎◌, Bool, true, false, List, [], ◌∷◌, ◌++◌, length, if◌then◌else◌, Some, IfOk, IsOk, IsErr, Result, Ok, Err}
 use Rattle.std.specs.List.{list_any}
+use Rattle.pmem_base.specs.declared.faults.Cut.{Cut}
 use Rattle.pmem_base.specs.declared.lines.Line.{Line}
 use Rattle.pmem_base.specs.declared.lines.Ctr.{Ctr}
 use Rattle.pmem_base.specs.declared.registers.Progress.{Progress}
@@ -33,7 +34,7 @@ use Rattle.pmem_engine.specs.declared.resealing.NextSeal.{NextSeal}
 use Rattle.pmem_engine.specs.Engine.{EngineState}
 use Rattle.pmem_engine.specs.Steps.{block_entry}
 use Rattle.pmem_engine.specs.Parts.{Parts, regs_of, AreTrusted, meta_line_in}
-use Rattle.pmem_engine.specs.Outcomes.{outcome_of, is_sealed_by, OneLossEffect, TakesSteps, TakesFewer}
+use Rattle.pmem_engine.specs.Outcomes.{of_cut, outcome_of, is_sealed_by, OneLossEffect, TakesSteps, TakesFewer}
 use Rattle.pmem_engine.specs.Calls.{IsPathNamedInMirror, IsBlockTrue, is_persisting, KeepsShadow, IsWork, begin_work, seal_work, KeepsButPath, KeepsOtherMeta}
 use Rattle.pmem_engine.specs.Inner.{cached_block}
 use Rattle.pmem_engine.specs.Committing.{entries_of, HasCommitted, IsCutArmed}
@@ -166,20 +167,19 @@ abbrev pub seal_steps : ℕ → Ctr → ℕ
 seal_steps loss ctr = if ctr.minor % loss == 0 then 5 else 4
 
 -- the marks of a seal of a plain line, by its answer
-abbrev pub HasNextMarks : Formulas → ℕ → Ctr → Line → List Mark → Result Ctr Fault → Type 0
+abbrev pub HasNextMarks : Formulas → ℕ → Ctr → Line → List Mark → Result Ctr Cut → Type 0
 HasNextMarks f at next plain made (Ok ctr) = (ctr ≡ next) × (made ≡ seal_mark f at next plain ∷ [])
-HasNextMarks f at next plain made (Err Fail.Cut) = (made ≡ []) ⊎ (made ≡ seal_mark f at next plain ∷ [])
-HasNextMarks f at next plain made (Err fault) = ⊥
+HasNextMarks f at next plain made (Err cut) = (made ≡ []) ⊎ (made ≡ seal_mark f at next plain ∷ [])
 
-abbrev pub TakesSealSteps : ℕ → Parts → Parts → Result Ctr Fault → Type 0
+abbrev pub TakesSealSteps : ℕ → Parts → Parts → Result Ctr Cut → Type 0
 TakesSealSteps n old new (Ok ctr) = TakesSteps n old.device new.device
-TakesSealSteps n old new (Err fault) = TakesFewer n old.device new.device
+TakesSealSteps n old new (Err cut) = TakesFewer n old.device new.device
 
 -- a plain line was sealed under its line's next counter, or cut
-pub record HasSealedNext (setup : Setup) (at : ℕ) (plain : Line) (old new : Parts) (answer : Result Ctr Fault) :
+pub record HasSealedNext (setup : Setup) (at : ℕ) (plain : Line) (old new : Parts) (answer : Result Ctr Cut) :
     Type 0 where
   pub made : List Mark
-  pub done : OneLossEffect setup (outcome_of answer) made old new
+  pub done : OneLossEffect setup (outcome_of (of_cut answer)) made old new
   pub marks : HasNextMarks setup.formulas at (next_counter_of setup.shape old.engine at) plain made answer
   -- what was sealed is the plain line, and every other one is as it was
   pub plain_now :
@@ -196,7 +196,7 @@ pub record HasSealedNext (setup : Setup) (at : ℕ) (plain : Line) (old new : Pa
   pub work : IfOk answer (λ ctr. IsWork (seal_work setup.shape (regs_of old).loss ctr) old new)
   pub cache : KeepsButPath setup.shape (page_of at) old.engine.cache new.engine.cache
   -- a cut leaves the group armed where the mark was made
-  pub armed : answer ≡ Err Fail.Cut → (made ≡ []) ⊎ ((regs_of new).group.items ≢ [])
+  pub armed : IsErr answer → (made ≡ []) ⊎ ((regs_of new).group.items ≢ [])
   pub meta_lines : IsOk answer → KeepsOtherMeta setup.shape (page_of at) old.device.lines new.device.lines
   pub block_kept :
       (regs_of old).group.items ≡ [] → list_any (is_persisting (regs_of old).loss at) made ≡ false

@@ -23,8 +23,10 @@ use Rattle.plain_model.specs.Bounds.{path_length, seal_count}
 use Rattle.plain_model.specs.Asked.{Moment, reseal_mark, marks_of_write}
 use Rattle.pmem_engine.specs.declared.fault.Fault.{Fault}
 use Rattle.pmem_engine.specs.declared.fault.Fault.TheVariants as Fail
+use Rattle.pmem_engine.specs.declared.fault.LineFault.{LineFault}
+use Rattle.pmem_engine.specs.declared.fault.LineFault.TheVariants as AtLine
 use Rattle.pmem_engine.specs.Parts.{Parts, regs_of, AreTrusted, AreSound, HoldsSeal, meta_line_in}
-use Rattle.pmem_engine.specs.Outcomes.{shown, outcome_of, is_sealed_by, OneLossEffect, TakesSteps, TakesAtMost, TakesFewer, is_seal_of}
+use Rattle.pmem_engine.specs.Outcomes.{of_line, shown, outcome_of, is_sealed_by, OneLossEffect, TakesSteps, TakesAtMost, TakesFewer, is_seal_of}
 use Rattle.pmem_engine.specs.Faults.{IsTagRefused, IsForgedShown}
 use Rattle.pmem_engine.specs.Calls.{IsMemory, IsDownAnswer, IsUnrefused, IsLeftAlone, moment_in, AreMarksOfWrite, memory_after, AnswersWrite, TakesSpent, IsPathNamedInMirror, TakesOfWrite, is_persisting, IsBlockTrue, KeepsShadow, IsMetaUncached, IsPastFetch, HasNamedSome, AreUnderMinorZero, AreInWriteOrder, IsWork, unseal_work, reseal_work, unsealed_count, KeepsMetaLines, IsWriteWork, IsRefusedAsFetched, IsCutOfWrite}
 use Rattle.pmem_engine.specs.Resealing.{register_in}
@@ -37,7 +39,7 @@ overflow_of block page i =
     else if block.major == 2 ^ 64 - 1 then Err (Fail.Spent page) else Ok true
 
 -- a part that was left out: nothing was done
-pub record HasLeftOut (old new : Parts) (answer : Result Unit Fault) : Type 0 where
+pub record HasLeftOut {E : Type 0} (old new : Parts) (answer : Result Unit E) : Type 0 where
   pub answered : answer ≡ Ok tt
   pub alone : IsLeftAlone old new
 
@@ -45,45 +47,34 @@ pub record HasLeftOut (old new : Parts) (answer : Result Unit Fault) : Type 0 wh
 
 -- what the answer says, from a trusted chip with the path cached on: the line's plain line with the
 -- write's bytes in it; a refusal or an exhibit only where the write is shorter than a line
-abbrev pub AnswersPlain : Setup → Posted → Parts → Parts → Result Line Fault → Type 0
+abbrev pub AnswersPlain : Setup → Posted → Parts → Parts → Result Line LineFault → Type 0
 AnswersPlain setup write old new (Ok plain) =
     IfSome (plain_line setup.formulas old.ledger.marks write.at) (λ line. plain ≡ put_write line write)
     × (write.len < 64 → HoldsSeal setup.shape new write.at)
-AnswersPlain setup write old new (Err Fail.Cut) = write.len < 64
-AnswersPlain setup write old new (Err (Fail.Tag b)) =
+AnswersPlain setup write old new (Err AtLine.Cut) = write.len < 64
+AnswersPlain setup write old new (Err (AtLine.Tag b)) =
     (write.len < 64) × (b ≡ write.at) × IsTagRefused setup write.at new
-AnswersPlain setup write old new (Err Fail.Shown) = (write.len < 64) × IsForgedShown setup write.at new
-AnswersPlain setup write old new (Err (Fail.Meta x)) = ⊥
-AnswersPlain setup write old new (Err (Fail.Spent page)) = ⊥
-AnswersPlain setup write old new (Err Fail.Down) = ⊥
-
--- the answers that making the plain line may give, whatever the chip is
-abbrev pub IsAnswerOfPlain : Result Line Fault → Type 0
-IsAnswerOfPlain (Err (Fail.Meta x)) = ⊥
-IsAnswerOfPlain (Err (Fail.Spent page)) = ⊥
-IsAnswerOfPlain (Err Fail.Down) = ⊥
-IsAnswerOfPlain answer = ⊤
+AnswersPlain setup write old new (Err AtLine.Shown) = (write.len < 64) × IsForgedShown setup write.at new
 
 -- the plain line of a write whose page's path is cached
-pub record HasMadePlain (setup : Setup) (write : Posted) (old new : Parts) (answer : Result Line Fault) :
+pub record HasMadePlain (setup : Setup) (write : Posted) (old new : Parts) (answer : Result Line LineFault) :
     Type 0 where
-  pub done : OneLossEffect setup (outcome_of answer) [] old new
+  pub done : OneLossEffect setup (outcome_of (of_line answer)) [] old new
   pub answered :
       AreTrusted setup old → IsPathCached setup.shape old.engine.cache (page_of write.at)
       → AnswersPlain setup write old new answer
   pub unrefused :
-      AreSound setup old → IsPathCached setup.shape old.engine.cache (page_of write.at) → IsUnrefused answer
-  pub not_down : IsDownAnswer answer → ⊥
+      AreSound setup old → IsPathCached setup.shape old.engine.cache (page_of write.at)
+      → IsUnrefused (of_line answer)
   pub whole : write.len ≡ 64 → (answer ≡ Ok write.line) × IsLeftAlone old new
   pub engine : new.engine ≡ old.engine
   pub lines : new.device.lines ≡ old.device.lines
   pub regs : regs_of new ≡ regs_of old
   pub digests : new.digests ≡ old.digests
-  pub possible : IsAnswerOfPlain answer
-  pub same_ledger : (outcome_of answer ≡ shown → ⊥) → new.ledger ≡ old.ledger
+  pub same_ledger : (outcome_of (of_line answer) ≡ shown → ⊥) → new.ledger ≡ old.ledger
   pub no_steps : TakesSteps 0 old.device new.device
   pub work : IsOk answer → IsWork (unseal_work (unsealed_count write)) old new
-  pub cut_unpowered : answer ≡ Err Fail.Cut → old.device.live ≡ false
+  pub cut_unpowered : answer ≡ Err AtLine.Cut → old.device.live ≡ false
 
 -- ---- a page finished
 
@@ -104,14 +95,11 @@ pub record IsStoppedAt (asked made : List Mark) (b : ℕ) : Type 0 where
   pub its_line : is_seal_of b next ≡ true
 
 -- the marks, by the answer: all that are asked, or a front of them
-abbrev pub HasFinishMarks : List Mark → List Mark → Result Unit Fault → Type 0
+abbrev pub HasFinishMarks : List Mark → List Mark → Result Unit LineFault → Type 0
 HasFinishMarks asked made (Ok value) = made ≡ asked
-HasFinishMarks asked made (Err Fail.Cut) = IsFrontOf asked made
-HasFinishMarks asked made (Err (Fail.Tag b)) = IsStoppedAt asked made b
-HasFinishMarks asked made (Err Fail.Shown) = (b : ℕ) × IsStoppedAt asked made b
-HasFinishMarks asked made (Err (Fail.Meta x)) = ⊥
-HasFinishMarks asked made (Err (Fail.Spent page)) = ⊥
-HasFinishMarks asked made (Err Fail.Down) = ⊥
+HasFinishMarks asked made (Err AtLine.Cut) = IsFrontOf asked made
+HasFinishMarks asked made (Err (AtLine.Tag b)) = IsStoppedAt asked made b
+HasFinishMarks asked made (Err AtLine.Shown) = (b : ℕ) × IsStoppedAt asked made b
 
 -- an exhibit is a forged seal of the line that was to be sealed next
 pub record IsForgedInFinish (setup : Setup) (asked made : List Mark) (new : Parts) : Type 0 where
@@ -119,36 +107,28 @@ pub record IsForgedInFinish (setup : Setup) (asked made : List Mark) (new : Part
   pub stopped : IsStoppedAt asked made at
   pub forged : IsForgedShown setup at new
 
-abbrev pub AnswersFinish : Setup → List Mark → List Mark → Parts → Result Unit Fault → Type 0
-AnswersFinish setup asked made new (Err (Fail.Tag b)) = IsTagRefused setup b new
-AnswersFinish setup asked made new (Err Fail.Shown) = IsForgedInFinish setup asked made new
+abbrev pub AnswersFinish : Setup → List Mark → List Mark → Parts → Result Unit LineFault → Type 0
+AnswersFinish setup asked made new (Err (AtLine.Tag b)) = IsTagRefused setup b new
+AnswersFinish setup asked made new (Err AtLine.Shown) = IsForgedInFinish setup asked made new
 AnswersFinish setup asked made new answer = ⊤
 
 -- four steps for each line sealed; a cut comes before the last of them
-abbrev pub CountsFinish : ℕ → List Mark → Parts → Parts → Result Unit Fault → Type 0
-CountsFinish number made old new (Err Fail.Cut) = TakesFewer (4 * number) old.device new.device
+abbrev pub CountsFinish : ℕ → List Mark → Parts → Parts → Result Unit LineFault → Type 0
+CountsFinish number made old new (Err AtLine.Cut) = TakesFewer (4 * number) old.device new.device
 CountsFinish number made old new answer = TakesSteps (4 * length made) old.device new.device
-
--- the answers that finishing a page may give, whatever the chip is
-abbrev pub IsAnswerOfFinish : Result Unit Fault → Type 0
-IsAnswerOfFinish (Err (Fail.Meta x)) = ⊥
-IsAnswerOfFinish (Err (Fail.Spent page)) = ⊥
-IsAnswerOfFinish (Err Fail.Down) = ⊥
-IsAnswerOfFinish answer = ⊤
 
 -- every line not done of register n's page was sealed anew, upwards, and its register is gone; or the
 -- answer says why not
-pub record HasFinishedPage (setup : Setup) (n : ℕ) (old new : Parts) (answer : Result Unit Fault) : Type 0 where
+pub record HasFinishedPage (setup : Setup) (n : ℕ) (old new : Parts) (answer : Result Unit LineFault) : Type 0 where
   pub made : List Mark
   pub few : length made ≤ length (not_done (register_in old n))
   pub minors : AreUnderMinorZero made
   pub seals : IsOk answer → seal_count made ≡ length made
   pub work : IsOk answer → IsWork (reseal_work (length made)) old new
   pub meta_lines : IsOk answer → KeepsMetaLines setup.shape old.device.lines new.device.lines
-  pub possible : IsAnswerOfFinish answer
   pub shadow : KeepsShadow setup.shape old new
   pub few_steps : TakesAtMost (4 * length (not_done (register_in old n))) old.device new.device
-  pub done : OneLossEffect setup (outcome_of answer) made old new
+  pub done : OneLossEffect setup (outcome_of (of_line answer)) made old new
   pub marks :
       AreTrusted setup old → (memory : Memory) → IsMemory setup memory old
       → HasFinishMarks (reseals_of setup.formulas (moment_in setup memory old) (register_in old n)) made answer
@@ -157,8 +137,7 @@ pub record HasFinishedPage (setup : Setup) (n : ℕ) (old new : Parts) (answer :
       AreTrusted setup old → (memory : Memory) → IsMemory setup memory old
       → AnswersFinish setup (reseals_of setup.formulas (moment_in setup memory old) (register_in old n)) made
       new answer
-  pub unrefused : AreSound setup old → IsUnrefused answer
-  pub not_down : IsDownAnswer answer → ⊥
+  pub unrefused : AreSound setup old → IsUnrefused (of_line answer)
   pub sealed_before :
       AreTrusted setup old → (a : ℕ) → a < layout.data_lines setup.shape → IsTrue (is_sealed_by made a)
       → HoldsSeal setup.shape old a
@@ -171,7 +150,7 @@ pub record HasFinishedPage (setup : Setup) (n : ℕ) (old new : Parts) (answer :
       AreTrusted setup old → (memory : Memory) → IsMemory setup memory old
       → CountsFinish (length (not_done (register_in old n))) made old new answer
   pub engine : new.engine ≡ old.engine
-  pub truth : (outcome_of answer ≡ shown → ⊥) → new.ledger.truth ≡ old.ledger.truth
+  pub truth : (outcome_of (of_line answer) ≡ shown → ⊥) → new.ledger.truth ≡ old.ledger.truth
   pub root : (regs_of new).root ≡ (regs_of old).root
   pub digests : new.digests ≡ old.digests
   pub metadata :
@@ -189,12 +168,12 @@ abbrev pub register_to_finish : List Progress → ℕ → Option ℕ
 register_to_finish registers page =
     register_found (position (λ register. register.page == page) registers) (length registers)
 
-abbrev pub HasFinishedWhere : Setup → Option ℕ → Parts → Parts → Result Unit Fault → Type 0
+abbrev pub HasFinishedWhere : Setup → Option ℕ → Parts → Parts → Result Unit LineFault → Type 0
 HasFinishedWhere setup None old new answer = HasLeftOut old new answer
 HasFinishedWhere setup (Some n) old new answer = HasFinishedPage setup n old new answer
 
 -- a page was finished where the write's page has to be re-encrypted
-abbrev pub HasFinishedFor : Bool → Setup → ℕ → Parts → Parts → Result Unit Fault → Type 0
+abbrev pub HasFinishedFor : Bool → Setup → ℕ → Parts → Parts → Result Unit LineFault → Type 0
 HasFinishedFor true setup page old new answer =
     HasFinishedWhere setup (register_to_finish (regs_of old).progress.items page) old new answer
 HasFinishedFor false setup page old new answer = HasLeftOut old new answer

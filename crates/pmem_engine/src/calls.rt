@@ -7,14 +7,14 @@ ghost use Rattle.suite.specs.Setup.{Setup};
 ghost use Rattle.seal_ledger.specs.Ledger.{LedgerState};
 ghost use Rattle.pmem_engine.specs.declared.fault.Fault.TheVariants as Fail;
 ghost use Rattle.pmem_engine.specs.Parts.{parts_of};
-ghost use Rattle.pmem_engine.specs.Outcomes.{outcome_of, is_going};
+ghost use Rattle.pmem_engine.specs.Outcomes.{of_cut, outcome_of, is_going};
 ghost use Rattle.pmem_engine.specs.Inner.{ended_by};
 ghost use Rattle.pmem_engine.specs.Calls.{IsReady, IsUsable, whole_write, HasReadLine, HasWrittenLine, HasTurned, HasFlushed, HasSetLoss};
 
 use crate::engine::Engine;
-use crate::fault::Fault;
+use crate::fault::{Fault, line_answer};
 use board::Board;
-use pmem_base::{Ctr, Line, Posted};
+use pmem_base::{Ctr, Cut, Line, Posted};
 use seal_ledger::Audit;
 use suite::Suite;
 
@@ -118,7 +118,7 @@ impl Engine {
             return Ok(None);
         }
         let answer = self.reseal(board, suite, audit, 0);
-        let sealed = self.ended(answer)?;
+        let sealed = self.ended(line_answer(answer))?;
         Ok(Some(sealed))
     }
 
@@ -134,7 +134,7 @@ impl Engine {
     {
         self.is_up()?;
         let answer = self.write_back(board);
-        self.ended(answer)
+        self.ended_or_cut(answer)
     }
 
     /// Sets the stop-loss number, which is 1, 2, 4, 8 or 16, and answers the persist steps taken. A
@@ -152,7 +152,7 @@ impl Engine {
         self.has_shape();
         self.is_up()?;
         let answer = self.latch_loss(board, n);
-        self.ended(answer)
+        self.ended_or_cut(answer)
     }
 
     // Whether no earlier call was cut or stopped.
@@ -181,5 +181,16 @@ impl Engine {
             self.down = true;
         }
         answer
+    }
+
+    // The same of a call that nothing but a cut ends.
+    fn ended_or_cut<T>(&mut self, answer: Result<T, Cut>) -> Result<T, Fault>
+        ensures answer { result ≡ of_cut answer }
+        ensures engine { self.new ≡ ended_by self.old (outcome_of (of_cut answer)) }
+    {
+        match answer {
+            Ok(value) => Ok(value),
+            Err(cut) => self.ended(Err(Fault::from(cut))),
+        }
     }
 }

@@ -1,5 +1,6 @@
 //! How a call of the engine fails.
 ghost use Rattle.std.specs.Prelude.{◌≡◌};
+ghost use Rattle.pmem_engine.specs.Outcomes.{of_line};
 
 use meta_path::PathFault;
 use pmem_base::{Cut, Spent};
@@ -20,6 +21,41 @@ pub enum Fault {
     Spent { page: u32 },
     /// The audit stopped the engine: it has an exhibit.
     Shown,
+}
+
+/// Why a line isn't unsealed, or not sealed anew.
+#[derive(Clone, Copy, Debug, PartialEq, Eq)]
+pub(crate) enum LineFault {
+    /// Power was cut.
+    Cut,
+    /// The tag of data line `at` isn't that of the cipher read.
+    Tag { at: u32 },
+    /// The audit shows a cipher with its right tag that isn't the last one.
+    Shown,
+}
+
+impl From<Cut> for LineFault {
+    ghost use Rattle.pmem_engine.specs.declared.fault.LineFault.TheVariants as AtLine;
+
+    ghost from_gives = { λ _ fault. fault ≡ AtLine.Cut };
+
+    fn from(_: Cut) -> Self {
+        LineFault::Cut
+    }
+}
+
+impl From<LineFault> for Fault {
+    ghost use Rattle.pmem_engine.specs.Outcomes.{fault_of_line};
+
+    ghost from_gives = { λ fault result. result ≡ fault_of_line fault };
+
+    fn from(fault: LineFault) -> Self {
+        match fault {
+            LineFault::Cut => Fault::Cut,
+            LineFault::Tag { at } => Fault::Tag { at },
+            LineFault::Shown => Fault::Shown,
+        }
+    }
 }
 
 impl From<Cut> for Fault {
@@ -53,5 +89,15 @@ impl From<PathFault> for Fault {
             PathFault::Meta { x } => Fault::Meta { x },
             PathFault::Shown => Fault::Shown,
         }
+    }
+}
+
+// A line's answer as the engine's.
+pub(crate) fn line_answer<T>(answer: Result<T, LineFault>) -> Result<T, Fault>
+    ensures { result ≡ of_line answer }
+{
+    match answer {
+        Ok(value) => Ok(value),
+        Err(fault) => Err(Fault::from(fault)),
     }
 }

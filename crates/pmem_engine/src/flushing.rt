@@ -10,14 +10,13 @@ ghost use Rattle.pmem_engine.specs.DirtyOrder.{dirty_order};
 ghost use Rattle.pmem_engine.specs.Flushed.{HasWrittenBack, HasWrittenOldest, HasWrittenBlocks, HasMadeWay, IsCutInBlocks, HasChangedLoss, with_loss, IsBankClean};
 
 use crate::engine::Engine;
-use crate::fault::Fault;
 use board::Board;
 use meta_path::write_back_one;
 use pmem_base::{Cut, Line, Regs};
 
 impl Engine {
     // Writes the oldest dirty block to its place.
-    pub(crate) fn write_back<B: Board>(&mut self, board: &mut B) -> Result<Option<u32>, Fault>
+    pub(crate) fn write_back<B: Board>(&mut self, board: &mut B) -> Result<Option<u32>, Cut>
         requires size { (B.device board.old).size ≡ device_lines self.old.shape }
         ensures written { HasWrittenOldest self.old self.new (B.device board.old) (B.device board.new) result }
         ensures oldest { IfOk result (λ found. found ≡ option_map (λ block. block.1) (oldest_dirty self.old.cache)) }
@@ -31,7 +30,7 @@ impl Engine {
 
     // Latches another stop-loss number, and answers the persist steps taken. A smaller number comes
     // after every dirty counter block is written to its place.
-    pub(crate) fn latch_loss<B: Board>(&mut self, board: &mut B, n: u8) -> Result<u32, Fault>
+    pub(crate) fn latch_loss<B: Board>(&mut self, board: &mut B, n: u8) -> Result<u32, Cut>
         requires number { IsTrue (is_loss n) }
         requires size { (B.device board.old).size ≡ device_lines self.old.shape }
         ensures changed { HasChangedLoss n self.old self.new (B.device board.old) (B.device board.new) result }

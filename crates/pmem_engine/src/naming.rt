@@ -8,13 +8,13 @@ ghost use Rattle.pmem_engine.specs.Parts.{parts_of};
 ghost use Rattle.pmem_engine.specs.Inner.{HasNamedPath};
 
 use crate::engine::Engine;
-use crate::fault::Fault;
 use board::Board;
 use meta_path::make_dirty;
+use pmem_base::Cut;
 
 impl Engine {
     // Writes the shadow entries that don't name the path's blocks yet. The path is cached.
-    pub(crate) fn name_path<B: Board>(&mut self, board: &mut B, page: u32) -> Result<(), Fault>
+    pub(crate) fn name_path<B: Board>(&mut self, board: &mut B, page: u32) -> Result<(), Cut>
         requires page { page < pages self.old.shape }
         requires size { (B.device board.old).size ≡ device_lines self.old.shape }
         requires cached { IsPathCached self.old.shape self.old.cache page }

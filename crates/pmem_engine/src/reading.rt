@@ -10,15 +10,15 @@ ghost use Rattle.seal_ledger.specs.Ledger.{LedgerState};
 ghost use Rattle.meta_path.specs.Blocks.{IsPathCached};
 ghost use Rattle.suite.specs.Setup.{Setup};
 ghost use Rattle.pmem_engine.specs.Invariants.{IsTrusted};
-ghost use Rattle.pmem_engine.specs.Parts.{parts_of};
+ghost use Rattle.pmem_engine.specs.Parts.{parts_at, setup_at};
 ghost use Rattle.pmem_engine.specs.Calls.{IsUsable};
 ghost use Rattle.pmem_engine.specs.Inner.{cached_block, HasFetched, HasUnsealed, UpReadOutcome};
 
 use crate::engine::Engine;
-use crate::fault::Fault;
+use crate::fault::{Fault, LineFault};
 use board::Board;
 use line_seal::{tag_at, unseal};
-use meta_path::fetch_path;
+use meta_path::{PathFault, fetch_path};
 use page_reencrypt::{ctr_of, is_left};
 use pmem_base::{Ctr, Line};
 use seal_ledger::{Audit, Go};
@@ -43,9 +43,9 @@ impl Engine {
     ) -> Result<Line, Fault>
         requires line { at < data_lines self.old.shape }
         requires usable { IsUsable self.old.shape self.old (B.device board.old) (A.ledger audit.old) }
-        ensures read { UpReadOutcome (record { shape = self.old.shape; formulas = S.formulas_of (S.keys suite.old) }) at
-            (parts_of self.old (B.device board.old) (A.ledger audit.old) (S.tags suite.old) (S.digests suite.old))
-            (parts_of self.new (B.device board.new) (A.ledger audit.new) (S.tags suite.new) (S.digests suite.new)) result }
+        ensures read { UpReadOutcome (setup_at S.Suite self.old suite.old) at
+            (parts_at B.Board S.Suite A.Audit self.old board.old suite.old audit.old)
+            (parts_at B.Board S.Suite A.Audit self.new board.new suite.new audit.new) result }
         ensures keys { S.keys suite.new ≡ S.keys suite.old }
     {
         self.fetch(board, suite, audit, at / 64)?;
@@ -61,13 +61,13 @@ impl Engine {
         suite: &mut S,
         audit: &mut A,
         page: u32,
-    ) -> Result<(), Fault>
+    ) -> Result<(), PathFault>
         requires page { page < pages self.old.shape }
         requires size { (B.device board.old).size ≡ device_lines self.old.shape }
         requires truth { length (A.ledger audit.old).truth ≡ meta_lines self.old.shape }
-        ensures fetched { HasFetched (record { shape = self.old.shape; formulas = S.formulas_of (S.keys suite.old) }) page
-            (parts_of self.old (B.device board.old) (A.ledger audit.old) (S.tags suite.old) (S.digests suite.old))
-            (parts_of self.new (B.device board.new) (A.ledger audit.new) (S.tags suite.new) (S.digests suite.new)) result }
+        ensures fetched { HasFetched (setup_at S.Suite self.old suite.old) page
+            (parts_at B.Board S.Suite A.Audit self.old board.old suite.old audit.old)
+            (parts_at B.Board S.Suite A.Audit self.new board.new suite.new audit.new) result }
         ensures keys { S.keys suite.new ≡ S.keys suite.old }
     {
         self.cache.are_banks();
@@ -139,23 +139,23 @@ impl Engine {
         audit: &mut A,
         at: u32,
         ctr: Ctr,
-    ) -> Result<Unsealed, Fault>
+    ) -> Result<Unsealed, LineFault>
         requires line { at < data_lines self.now.shape }
         requires size { (B.device board.old).size ≡ device_lines self.now.shape }
         requires lines { (A.ledger audit.old).data_lines ≡ data_lines self.now.shape }
         requires sealed { IsSome (last_seal (A.ledger audit.old).marks at) }
-        ensures unsealed { HasUnsealed (record { shape = self.now.shape; formulas = S.formulas_of (S.keys suite.old) }) at ctr
-            (parts_of self.now (B.device board.old) (A.ledger audit.old) (S.tags suite.old) (S.digests suite.old))
-            (parts_of self.now (B.device board.new) (A.ledger audit.new) (S.tags suite.new) (S.digests suite.new)) result }
+        ensures unsealed { HasUnsealed (setup_at S.Suite self.now suite.old) at ctr
+            (parts_at B.Board S.Suite A.Audit self.now board.old suite.old audit.old)
+            (parts_at B.Board S.Suite A.Audit self.now board.new suite.new audit.new) result }
         ensures keys { S.keys suite.new ≡ S.keys suite.old }
     {
         let cipher = board.read_line(at)?;
         let tag_line = board.read_line(self.geo.tag_line(at))?;
         let tag = tag_at(&tag_line, at);
         match unseal(suite, at, ctr, &cipher, &tag) {
-            None => Err(Fault::Tag { at }),
+            None => Err(LineFault::Tag { at }),
             Some(plain) => match audit.note_unseal(at, ctr, &cipher, &tag) {
-                Go::Stop => Err(Fault::Shown),
+                Go::Stop => Err(LineFault::Shown),
                 Go::On => Ok(Unsealed { plain, tag_line }),
             },
         }

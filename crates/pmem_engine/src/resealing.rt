@@ -6,12 +6,12 @@ ghost use Rattle.pmem_base.specs.Lines.{IsLine};
 ghost use Rattle.pmem_base.specs.Registers.{not_done, old_major, IsGroup, IsValidRegs};
 ghost use Rattle.page_reencrypt.specs.Registers.{registers_with_done};
 ghost use Rattle.pmem_engine.specs.Committing.{next_seal_of, entries_of, HasLineDone};
-ghost use Rattle.pmem_engine.specs.Parts.{parts_of};
+ghost use Rattle.pmem_engine.specs.Parts.{parts_at, setup_at};
 ghost use Rattle.pmem_engine.specs.Calls.{IsUsable};
 ghost use Rattle.pmem_engine.specs.Resealing.{IsNextHeld, HasResealCommitted, IsResealCut, HasResealed};
 
 use crate::engine::Engine;
-use crate::fault::Fault;
+use crate::fault::LineFault;
 use board::Board;
 use commit_regs::{arm, finish_armed};
 use line_seal::{put_tag, seal};
@@ -117,14 +117,14 @@ impl Engine {
         suite: &mut S,
         audit: &mut A,
         n: usize,
-    ) -> Result<(u32, u8), Fault>
+    ) -> Result<(u32, u8), LineFault>
         requires usable { IsUsable self.now.shape self.now (B.device board.old) (A.ledger audit.old) }
         requires up { self.now.down ≡ false }
         requires room { 1 ≤ (A.ledger audit.old).spare }
         requires register { n < length (B.device board.old).regs.progress.items }
-        ensures resealed { HasResealed (record { shape = self.now.shape; formulas = S.formulas_of (S.keys suite.old) }) n
-            (parts_of self.now (B.device board.old) (A.ledger audit.old) (S.tags suite.old) (S.digests suite.old))
-            (parts_of self.now (B.device board.new) (A.ledger audit.new) (S.tags suite.new) (S.digests suite.new)) result }
+        ensures resealed { HasResealed (setup_at S.Suite self.now suite.old) n
+            (parts_at B.Board S.Suite A.Audit self.now board.old suite.old audit.old)
+            (parts_at B.Board S.Suite A.Audit self.now board.new suite.new audit.new) result }
         ensures keys { S.keys suite.new ≡ S.keys suite.old }
     {
         self.has_shape();

@@ -9,7 +9,7 @@ ghost use Rattle.meta_path.specs.Blocks.{IsPathCached};
 ghost use Rattle.meta_path.specs.Storing.{IsPathOf, AreTold};
 ghost use Rattle.page_reencrypt.specs.Registers.{registers_with_done, register_of};
 ghost use Rattle.split_counters.specs.Blocks.{packed, minor_of, next_block};
-ghost use Rattle.pmem_engine.specs.Parts.{parts_of};
+ghost use Rattle.pmem_engine.specs.Parts.{parts_at, setup_at};
 ghost use Rattle.pmem_engine.specs.Calls.{IsUsable, IsPathNamedInMirror};
 ghost use Rattle.pmem_engine.specs.Inner.{cached_block};
 ghost use Rattle.pmem_engine.specs.Sealing.{next_counter_of, raised_block, HasSealedNext, HasBegunPage, HasStoredPath, seal_group, begin_group, HasSealCommitted, IsSealCut, HasBeginCommitted, IsBeginCut};
@@ -37,7 +37,7 @@ impl Engine {
         audit: &mut A,
         at: u32,
         plain: &Line,
-    ) -> Result<Ctr, Fault>
+    ) -> Result<Ctr, Cut>
         requires line { at < data_lines self.old.shape }
         requires usable { IsUsable self.old.shape self.old (B.device board.old) (A.ledger audit.old) }
         requires up { self.old.down ≡ false }
@@ -45,9 +45,9 @@ impl Engine {
         requires cached { IsPathCached self.old.shape self.old.cache (page_of at) }
         requires named { IsPathNamedInMirror self.old.shape self.old (page_of at) }
         requires minor { minor_of (cached_block self.old.shape self.old (page_of at)) (index_in_page at) < 127 }
-        ensures sealed { HasSealedNext (record { shape = self.old.shape; formulas = S.formulas_of (S.keys suite.old) }) at plain.now
-            (parts_of self.old (B.device board.old) (A.ledger audit.old) (S.tags suite.old) (S.digests suite.old))
-            (parts_of self.new (B.device board.new) (A.ledger audit.new) (S.tags suite.new) (S.digests suite.new)) result }
+        ensures sealed { HasSealedNext (setup_at S.Suite self.old suite.old) at plain.now
+            (parts_at B.Board S.Suite A.Audit self.old board.old suite.old audit.old)
+            (parts_at B.Board S.Suite A.Audit self.new board.new suite.new audit.new) result }
         ensures keys { S.keys suite.new ≡ S.keys suite.old }
     {
         plain.is_whole();
@@ -96,9 +96,9 @@ impl Engine {
         requires closed { register_of (B.device board.old).regs.progress.items page ≡ None }
         requires not_full { length (B.device board.old).regs.progress.items < 4 }
         requires major { (cached_block self.old.shape self.old page).major < 2 ^ 64 - 1 }
-        ensures begun { HasBegunPage (record { shape = self.old.shape; formulas = S.formulas_of (S.keys suite.old) }) page
-            (parts_of self.old (B.device board.old) (A.ledger audit.old) (S.tags suite.old) (S.digests suite.old))
-            (parts_of self.new (B.device board.new) (A.ledger audit.new) (S.tags suite.new) (S.digests suite.new)) result }
+        ensures begun { HasBegunPage (setup_at S.Suite self.old suite.old) page
+            (parts_at B.Board S.Suite A.Audit self.old board.old suite.old audit.old)
+            (parts_at B.Board S.Suite A.Audit self.new board.new suite.new audit.new) result }
         ensures rolled { OnOk result (cached_block self.old.shape self.new page ≡ next_block (cached_block self.old.shape self.old page)) }
         ensures keys { S.keys suite.new ≡ S.keys suite.old }
     {

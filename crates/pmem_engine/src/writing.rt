@@ -6,13 +6,13 @@ ghost use Rattle.pmem_base.specs.WaitingWrites.{put_write};
 ghost use Rattle.split_counters.specs.Blocks.{next_block};
 ghost use Rattle.page_reencrypt.specs.Registers.{register_of};
 ghost use Rattle.meta_path.specs.Blocks.{IsPathCached};
-ghost use Rattle.pmem_engine.specs.Parts.{parts_of};
+ghost use Rattle.pmem_engine.specs.Parts.{parts_at, setup_at};
 ghost use Rattle.pmem_engine.specs.Calls.{IsUsable, IsPathNamedInMirror};
 ghost use Rattle.pmem_engine.specs.Inner.{cached_block};
 ghost use Rattle.pmem_engine.specs.Writing.{overflow_of, HasMadePlain, register_to_finish, HasFinishedPage, HasFinishedFor, HasBegunFor, UpWriteOutcome};
 
 use crate::engine::Engine;
-use crate::fault::Fault;
+use crate::fault::{Fault, LineFault};
 use arrayvec::ArrayVec;
 use board::Board;
 use page_reencrypt::{find_open, left};
@@ -35,9 +35,9 @@ impl Engine {
         requires usable { IsUsable self.old.shape self.old (B.device board.old) (A.ledger audit.old) }
         requires up { self.old.down ≡ false }
         requires room { 66 ≤ (A.ledger audit.old).spare }
-        ensures written { UpWriteOutcome (record { shape = self.old.shape; formulas = S.formulas_of (S.keys suite.old) }) write.now
-            (parts_of self.old (B.device board.old) (A.ledger audit.old) (S.tags suite.old) (S.digests suite.old))
-            (parts_of self.new (B.device board.new) (A.ledger audit.new) (S.tags suite.new) (S.digests suite.new)) result }
+        ensures written { UpWriteOutcome (setup_at S.Suite self.old suite.old) write.now
+            (parts_at B.Board S.Suite A.Audit self.old board.old suite.old audit.old)
+            (parts_at B.Board S.Suite A.Audit self.new board.new suite.new audit.new) result }
         ensures keys { S.keys suite.new ≡ S.keys suite.old }
     {
         let page = write.at / 64;
@@ -47,7 +47,8 @@ impl Engine {
         self.finish_for(board, suite, audit, page, overflows)?;
         self.name_path(board, page)?;
         self.begin_for(board, suite, audit, page, overflows)?;
-        self.seal_next(board, suite, audit, write.at, &plain)
+        let ctr = self.seal_next(board, suite, audit, write.at, &plain)?;
+        Ok(ctr)
     }
 
     // Whether the line's minor in its page's counter block stands at its end. Spent where the major
@@ -74,13 +75,13 @@ impl Engine {
         suite: &mut S,
         audit: &mut A,
         write: &Posted,
-    ) -> Result<Line, Fault>
+    ) -> Result<Line, LineFault>
         requires line { write.now.at < data_lines self.now.shape }
         requires posted { IsPosted write.now }
         requires usable { IsUsable self.now.shape self.now (B.device board.old) (A.ledger audit.old) }
-        ensures made { HasMadePlain (record { shape = self.now.shape; formulas = S.formulas_of (S.keys suite.old) }) write.now
-            (parts_of self.now (B.device board.old) (A.ledger audit.old) (S.tags suite.old) (S.digests suite.old))
-            (parts_of self.now (B.device board.new) (A.ledger audit.new) (S.tags suite.new) (S.digests suite.new)) result }
+        ensures made { HasMadePlain (setup_at S.Suite self.now suite.old) write.now
+            (parts_at B.Board S.Suite A.Audit self.now board.old suite.old audit.old)
+            (parts_at B.Board S.Suite A.Audit self.now board.new suite.new audit.new) result }
         ensures keys { S.keys suite.new ≡ S.keys suite.old }
     {
         if write.len == 64 {
@@ -99,13 +100,13 @@ impl Engine {
         audit: &mut A,
         page: u32,
         overflows: bool,
-    ) -> Result<(), Fault>
+    ) -> Result<(), LineFault>
         requires usable { IsUsable self.now.shape self.now (B.device board.old) (A.ledger audit.old) }
         requires up { self.now.down ≡ false }
         requires room { 64 ≤ (A.ledger audit.old).spare }
-        ensures finished { HasFinishedFor overflows (record { shape = self.now.shape; formulas = S.formulas_of (S.keys suite.old) }) page
-            (parts_of self.now (B.device board.old) (A.ledger audit.old) (S.tags suite.old) (S.digests suite.old))
-            (parts_of self.now (B.device board.new) (A.ledger audit.new) (S.tags suite.new) (S.digests suite.new)) result }
+        ensures finished { HasFinishedFor overflows (setup_at S.Suite self.now suite.old) page
+            (parts_at B.Board S.Suite A.Audit self.now board.old suite.old audit.old)
+            (parts_at B.Board S.Suite A.Audit self.now board.new suite.new audit.new) result }
         ensures closed { OnOk result (overflows ≡ true → register_of (B.device board.new).regs.progress.items page ≡ None) }
         ensures not_full { OnOk result (overflows ≡ true → length (B.device board.new).regs.progress.items < 4) }
         ensures keys { S.keys suite.new ≡ S.keys suite.old }
@@ -126,14 +127,14 @@ impl Engine {
         suite: &mut S,
         audit: &mut A,
         n: usize,
-    ) -> Result<(), Fault>
+    ) -> Result<(), LineFault>
         requires usable { IsUsable self.now.shape self.now (B.device board.old) (A.ledger audit.old) }
         requires up { self.now.down ≡ false }
         requires room { 64 ≤ (A.ledger audit.old).spare }
         requires register { n < length (B.device board.old).regs.progress.items }
-        ensures finished { HasFinishedPage (record { shape = self.now.shape; formulas = S.formulas_of (S.keys suite.old) }) n
-            (parts_of self.now (B.device board.old) (A.ledger audit.old) (S.tags suite.old) (S.digests suite.old))
-            (parts_of self.now (B.device board.new) (A.ledger audit.new) (S.tags suite.new) (S.digests suite.new)) result }
+        ensures finished { HasFinishedPage (setup_at S.Suite self.now suite.old) n
+            (parts_at B.Board S.Suite A.Audit self.now board.old suite.old audit.old)
+            (parts_at B.Board S.Suite A.Audit self.now board.new suite.new audit.new) result }
         ensures keys { S.keys suite.new ≡ S.keys suite.old }
     {
         let lines = left(&board.regs().progress[n]);
@@ -161,9 +162,9 @@ impl Engine {
         requires closed { overflows ≡ true → register_of (B.device board.old).regs.progress.items page ≡ None }
         requires not_full { overflows ≡ true → length (B.device board.old).regs.progress.items < 4 }
         requires major { overflows ≡ true → (cached_block self.old.shape self.old page).major < 2 ^ 64 - 1 }
-        ensures begun { HasBegunFor overflows (record { shape = self.old.shape; formulas = S.formulas_of (S.keys suite.old) }) page
-            (parts_of self.old (B.device board.old) (A.ledger audit.old) (S.tags suite.old) (S.digests suite.old))
-            (parts_of self.new (B.device board.new) (A.ledger audit.new) (S.tags suite.new) (S.digests suite.new)) result }
+        ensures begun { HasBegunFor overflows (setup_at S.Suite self.old suite.old) page
+            (parts_at B.Board S.Suite A.Audit self.old board.old suite.old audit.old)
+            (parts_at B.Board S.Suite A.Audit self.new board.new suite.new audit.new) result }
         ensures rolled { OnOk result (overflows ≡ true → cached_block self.old.shape self.new page ≡ next_block (cached_block self.old.shape self.old page)) }
         ensures keys { S.keys suite.new ≡ S.keys suite.old }
     {

@@ -1,5 +1,5 @@
 -- How many blocks of a bank are dirty.
-use Rattle.std.proofs.Common.{ℕ, zero, suc, ◌≡◌, ◌≤◌, ◌+◌, ◌*◌, Bool, true, false, cond, List, [], ◌∷◌, refl, sym, ap, subst, ◌∙◌, arith, mod-lt}
+use Rattle.std.proofs.Common.{rules, ℕ, zero, suc, ◌≡◌, ◌≤◌, ◌+◌, ◌*◌, Bool, true, false, cond, List, [], ◌∷◌, refl, sym, ap, subst, ◌∙◌, arith, mod-lt}
 use Rattle.std.specs.Prelude.{All, Contains}
 use Rattle.std.proofs.lemmas.Bool.{true≢false}
 use Rattle.std.proofs.lemmas.List.Sums.{count_by-le-length, sum_by-cons}
@@ -34,14 +34,7 @@ sum_below-few f few (suc n) = omega (arith, sum_below-few f few n, few n)
 -- at most 64 sets of 8 ways
 pub dirty_in_bank-few : (g : Shape) (banks : Banks) (bank : ℕ) → AreSets g banks → g.sets ≤ 64 → g.ways ≤ 8
     → bank_dirty_count g banks bank ≤ 512
-dirty_in_bank-few g banks bank sets few_sets few_ways =
-    let all : bank_dirty_count g banks bank ≤ g.sets * 8 =
-    sum_below-few (λ set. dirty_in (set_of banks bank set)) few g.sets in
-    omega (arith, all, few_sets)
-  where
-    few : (set : ℕ) → dirty_in (set_of banks bank set) ≤ 8
-    few set =
-        omega (arith, few_ways, (sets.each bank set).room, count_by-le-length (λ (s : Slot). s.dirty) (set_of banks bank set))
+dirty_in_bank-few g banks bank sets few_sets few_ways = search (rules, count_by-le-length, sum_below-few)
 
 -- none where no position is dirty
 abbrev marks : Slot → ℕ

@@ -1,10 +1,11 @@
 -- A flush: the oldest dirty block is written back, where one is dirty.
 use Rattle.std.proofs.lemmas.Grind.{common_steps}
-use Rattle.std.proofs.Common.{ℕ, ◌≡◌, ◌<◌, ◌≤◌, true, false, [], Option, Some, None, Result, Ok, Err, refl, sym, ap, ap₂, subst, subst₂, ◌∙◌, arith}
+use Rattle.std.proofs.Common.{rules, ℕ, ◌≡◌, ◌<◌, ◌≤◌, true, false, [], Option, Some, None, Result, Ok, Err, refl, sym, ap, ap₂, subst, subst₂, ◌∙◌, arith}
 use Rattle.std.specs.Prelude.{option_map, is_some, IfOk}
 use Rattle.std.proofs.lemmas.Bool.{true≢false}
+use Rattle.pmem_base.specs.declared.faults.Cut.{Cut}
 use Rattle.pmem_base.specs.Shape.{Shape}
-use Rattle.pmem_base.specs.Layout.{device_lines, meta_lines, meta_line, shadow_lines, shadow_line}
+use Rattle.pmem_base.specs.Layout.{device_lines, meta_lines, shadow_lines, shadow_line}
 use Rattle.bonsai_tree.specs.Positions.{level_of}
 use Rattle.board.specs.Device.{Device, IsDevice}
 use Rattle.seal_ledger.specs.Ledger.{LedgerState}
@@ -13,18 +14,17 @@ use Rattle.board.specs.Steps.{WasCut}
 use Rattle.meta_cache.specs.Banks.{set_index, is_cached, is_cached_dirty}
 use Rattle.meta_cache.specs.State.{CacheState, IsCacheOf, oldest_dirty}
 use Rattle.meta_cache.proofs.DirtyLemmas.{oldest_cached, cache_clean}
-use Rattle.meta_path.specs.Blocks.{line_in, AreInTheirBanks}
+use Rattle.meta_path.specs.Blocks.{AreInTheirBanks}
 use Rattle.meta_path.specs.Work.{told_line}
 use Rattle.meta_path.specs.Storing.{IsCleaned, IsOneWrittenBack}
 use Rattle.meta_path.proofs.PathFacts.{its_bank_of}
 use Rattle.meta_path.proofs.WriteLemmas.{dirty_at, dirty_on_tree}
-use Rattle.pmem_engine.specs.declared.fault.Fault.{Fault}
-use Rattle.pmem_engine.specs.declared.fault.Fault.TheVariants as Fail
 use Rattle.pmem_engine.specs.Engine.{EngineState}
 use Rattle.pmem_engine.specs.Parts.{Parts, parts_of}
-use Rattle.pmem_engine.specs.Outcomes.{going, cut_short, outcome_of, OneLossEffect, TakesSteps}
-use Rattle.pmem_engine.specs.Calls.{IsDownAnswer, AnswersFlush, IsFlushWork, HasFlushed}
+use Rattle.pmem_engine.specs.Outcomes.{of_cut, fault_of_cut, going, cut_short, outcome_of, OneLossEffect, TakesSteps}
+use Rattle.pmem_engine.specs.Calls.{AnswersFlush, IsFlushWork, HasFlushed}
 use Rattle.pmem_engine.specs.Flushed.{cache_of, HasWrittenBack, HasWrittenOldest}
+use Rattle.pmem_engine.proofs.CallEnds.ErrorAnswers.{ok_faulted, cut_not_down}
 use Rattle.pmem_engine.proofs.CheckedReads.ReadEnds.{ended_parts, ended_going, done_ended, answers_down}
 use Rattle.pmem_engine.proofs.CallEnds.ShadowLines.{told_set_other, meta_apart}
 use Rattle.pmem_engine.proofs.BlockWrites.WrittenBlocks.{written_back, clean_after, cached_after}
@@ -45,16 +45,7 @@ module _ (old new : EngineState) (before after : Device) (mirror : new.mirror �
 
   pub written_block : (bank x : ℕ) → bank ≤ old.shape.levels → is_cached_dirty old.shape old.cache bank x ≡ true
       → IsCleaned old.shape bank x (cache_of old) (cache_of new) before after → HasWrittenBack bank x old new before after
-  written_block bank x low dirty cleaned =
-      record {
-        its_bank = low;
-        its_level = dirty_level bank x dirty;
-        on_tree = dirty_on_tree old.shape old.cache bank x its_banks dirty;
-        was_dirty = dirty;
-        cleaned = cleaned;
-        mirror = mirror;
-        down = down;
-      }
+  written_block bank x low dirty cleaned = search (rules, dirty_on_tree, dirty_level)
 
   pub oldest_written : (found : Option (ℕ × ℕ)) → oldest_dirty old.cache ≡ found
       → IsOneWrittenBack old.shape found (cache_of old) (cache_of new) before after
@@ -67,9 +58,9 @@ module _ (old new : EngineState) (before after : Device) (mirror : new.mirror �
       subst (λ bank. HasWrittenBack bank found.1 old new before after) (sym block.its_level) block
 
   pub oldest_cut : (found : Option (ℕ × ℕ)) → oldest_dirty old.cache ≡ found → cache_of new ≡ cache_of old
-      → WasCut before after → is_some found ≡ true → HasWrittenOldest old new before after (Err Fail.Cut)
-  oldest_cut None is same was_cut some = absurd (true≢false (sym some))
-  oldest_cut (Some found) is same was_cut some = (
+      → WasCut before after → is_some found ≡ true → (cut : Cut) → HasWrittenOldest old new before after (Err cut)
+  oldest_cut None is same was_cut some cut = absurd (true≢false (sym some))
+  oldest_cut (Some found) is same was_cut some cut = (
     same_engine old new same mirror down,
     was_cut,
     (found.0, found.1, (oldest_cached old.shape old.cache found form is).1),
@@ -102,42 +93,29 @@ module _ (setup : Setup) (old new : EngineState) (before after : Device) (ledger
   abbrev finish : Parts
   finish = parts_of new after ledger tags digests
 
-  flush_done : (answer : Result (Option ℕ) Fault) → HasWrittenOldest old new before after answer
-      → OneLossEffect setup (outcome_of answer) [] start finish
+  flush_done : (answer : Result (Option ℕ) Cut) → HasWrittenOldest old new before after answer
+      → OneLossEffect setup (outcome_of (of_cut answer)) [] start finish
   flush_done (Ok None) it =
       subst₂ (λ e d. OneLossEffect setup going [] start (parts_of e d ledger tags digests)) (sym it.0) (sym it.1) (nothing_done setup start)
   flush_done (Ok (Some x)) it =
       written_back setup (level_of x) x old new before after ledger tags digests its_shape its_size whole it
-  flush_done (Err Fail.Cut) it =
+  flush_done (Err cut) it =
       subst (λ e. OneLossEffect setup cut_short [] start (parts_of e after ledger tags digests)) (sym it.0)
       (cut_still setup old before after ledger tags digests it.1)
-  flush_done (Err Fail.Down) it = absurd it
-  flush_done (Err (Fail.Meta x)) it = absurd it
-  flush_done (Err (Fail.Tag a)) it = absurd it
-  flush_done (Err (Fail.Spent page)) it = absurd it
-  flush_done (Err Fail.Shown) it = absurd it
 
-  flush_down : (answer : Result (Option ℕ) Fault) → HasWrittenOldest old new before after answer → new.down ≡ old.down
+  flush_down : (answer : Result (Option ℕ) Cut) → HasWrittenOldest old new before after answer → new.down ≡ old.down
   flush_down v0 it = grind (arith, common_steps)
 
-  flush_not_down : (answer : Result (Option ℕ) Fault) → HasWrittenOldest old new before after answer → IsDownAnswer answer → ⊥
-  flush_not_down v0 it down = grind (arith, common_steps)
-
-  flush_cached : (answer : Result (Option ℕ) Fault) → HasWrittenOldest old new before after answer
+  flush_cached : (answer : Result (Option ℕ) Cut) → HasWrittenOldest old new before after answer
       → (bank x : ℕ) → is_cached setup.shape new.cache bank x ≡ is_cached setup.shape old.cache bank x
   flush_cached (Ok None) it bank x = ap (λ e. is_cached setup.shape e.cache bank x) it.0
   flush_cached (Ok (Some y)) it bank x =
       subst (λ g. is_cached g new.cache bank x ≡ is_cached g old.cache bank x) its_shape
       (cached_after (level_of y) y old new before after it bank x)
-  flush_cached (Err Fail.Cut) it bank x = ap (λ e. is_cached setup.shape e.cache bank x) it.0
-  flush_cached (Err Fail.Down) it bank x = absurd it
-  flush_cached (Err (Fail.Meta y)) it bank x = absurd it
-  flush_cached (Err (Fail.Tag a)) it bank x = absurd it
-  flush_cached (Err (Fail.Spent page)) it bank x = absurd it
-  flush_cached (Err Fail.Shown) it bank x = absurd it
+  flush_cached (Err cut) it bank x = ap (λ e. is_cached setup.shape e.cache bank x) it.0
 
-  flush_answer : (answer : Result (Option ℕ) Fault) → HasWrittenOldest old new before after answer
-      → AnswersFlush setup.shape start (ended_parts finish (outcome_of answer)) answer
+  flush_answer : (answer : Result (Option ℕ) Cut) → HasWrittenOldest old new before after answer
+      → AnswersFlush setup.shape start (ended_parts finish (outcome_of (of_cut answer))) (of_cut answer)
   flush_answer (Ok None) it = (
     record {
       engine = ended_going new ∙ it.0;
@@ -159,44 +137,23 @@ module _ (setup : Setup) (old new : EngineState) (before after : Device) (ledger
       sum = λ writes latches. omega (arith, it.cleaned.board.writes.exact writes, it.cleaned.board.latches);
     },
   )
-  flush_answer (Err Fail.Cut) it = (
+  flush_answer (Err cut) it = (
     (it.2.0, it.2.1, ap (λ g. is_cached_dirty g old.cache it.2.0 it.2.1) (sym its_shape) ∙ it.2.2),
     no_steps_of before after it.1.writes it.1.latches,
   )
-  flush_answer (Err Fail.Down) it = it
-  flush_answer (Err (Fail.Meta x)) it = it
-  flush_answer (Err (Fail.Tag a)) it = it
-  flush_answer (Err (Fail.Spent page)) it = it
-  flush_answer (Err Fail.Shown) it = it
 
-  flush_lines : (answer : Result (Option ℕ) Fault) → HasWrittenOldest old new before after answer
+  flush_lines : (answer : Result (Option ℕ) Cut) → HasWrittenOldest old new before after answer
       → (n : ℕ) → n < shadow_lines setup.shape
       → told_line after.lines (shadow_line setup.shape n) ≡ told_line before.lines (shadow_line setup.shape n)
-  flush_lines (Ok None) it n within = ap (λ (d : Device). told_line d.lines (shadow_line setup.shape n)) it.1
-  flush_lines (Ok (Some x)) it n within =
-      ap (λ told. told_line told (shadow_line setup.shape n)) it.cleaned.board.lines
-      ∙ told_set_other before.lines (meta_line old.shape x) (line_in old.shape old.cache (level_of x) x) (shadow_line setup.shape n)
-      (λ same. meta_apart setup.shape n x (subst (λ g. x < meta_lines g) its_shape it.on_tree)
-      (same ∙ ap (λ g. meta_line g x) its_shape))
-  flush_lines (Err Fail.Cut) it n within = ap (λ told. told_line told (shadow_line setup.shape n)) it.1.lines
-  flush_lines (Err Fail.Down) it n within = absurd it
-  flush_lines (Err (Fail.Meta y)) it n within = absurd it
-  flush_lines (Err (Fail.Tag a)) it n within = absurd it
-  flush_lines (Err (Fail.Spent page)) it n within = absurd it
-  flush_lines (Err Fail.Shown) it n within = absurd it
+  flush_lines answer it n within = search (rules, told_set_other, meta_apart)
 
-  flush_regs : (answer : Result (Option ℕ) Fault) → HasWrittenOldest old new before after answer → after.regs ≡ before.regs
+  flush_regs : (answer : Result (Option ℕ) Cut) → HasWrittenOldest old new before after answer → after.regs ≡ before.regs
   flush_regs (Ok None) it = ap (λ (d : Device). d.regs) it.1
   flush_regs (Ok (Some x)) it = it.cleaned.board.regs
-  flush_regs (Err Fail.Cut) it = it.1.regs
-  flush_regs (Err Fail.Down) it = absurd it
-  flush_regs (Err (Fail.Meta y)) it = absurd it
-  flush_regs (Err (Fail.Tag a)) it = absurd it
-  flush_regs (Err (Fail.Spent page)) it = absurd it
-  flush_regs (Err Fail.Shown) it = absurd it
+  flush_regs (Err cut) it = it.1.regs
 
-  flush_work : (answer : Result (Option ℕ) Fault) → HasWrittenOldest old new before after answer
-      → IfOk answer (λ found. IsFlushWork setup.shape found start (ended_parts finish (outcome_of answer)))
+  flush_work : (answer : Result (Option ℕ) Cut) → HasWrittenOldest old new before after answer
+      → IfOk (of_cut answer) (λ found. IsFlushWork setup.shape found start (ended_parts finish (outcome_of (of_cut answer))))
   flush_work (Ok None) it = ap (λ (e : EngineState). e.cache) it.0
   flush_work (Ok (Some x)) it =
       subst
@@ -209,16 +166,16 @@ module _ (setup : Setup) (old new : EngineState) (before after : Device) (ledger
       it.cleaned.cache.shape it.cleaned)
   flush_work (Err fault) it = tt
 
-  pub flushed : (answer : Result (Option ℕ) Fault) → old.down ≡ false → after.reads ≡ before.reads → new.mirror ≡ old.mirror
+  pub flushed : (answer : Result (Option ℕ) Cut) → old.down ≡ false → after.reads ≡ before.reads → new.mirror ≡ old.mirror
       → IfOk answer (λ found. found ≡ option_map (λ block. block.1) (oldest_dirty old.cache))
       → HasWrittenOldest old new before after answer
-      → HasFlushed setup start (ended_parts finish (outcome_of answer)) answer
+      → HasFlushed setup start (ended_parts finish (outcome_of (of_cut answer))) (of_cut answer)
   flushed answer was reads mirror oldest it =
       record {
-        down = answers_down answer start finish was (flush_down answer it) (flush_not_down answer it);
-        done = λ up. done_ended setup (outcome_of answer) [] start finish (flush_done answer it);
+        down = answers_down (of_cut answer) start finish was (flush_down answer it) (cut_not_down answer);
+        done = λ up. done_ended setup (outcome_of (of_cut answer)) [] start finish (flush_done answer it);
         answered = λ up. flush_answer answer it;
-        oldest = λ up. oldest;
+        oldest = λ up. ok_faulted fault_of_cut answer _ oldest;
         mirror = mirror;
         shadow = record { mirror = mirror; lines = flush_lines answer it };
         regs = flush_regs answer it;

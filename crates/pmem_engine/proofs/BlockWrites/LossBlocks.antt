@@ -1,5 +1,5 @@
 -- A new stop-loss number: the dirty counter blocks are written first where it is smaller, and the latch comes last.
-use Rattle.std.proofs.Common.{ℕ, ◌≡◌, ◌<◌, ◌+◌, false, [], ◌∷◌, refl, sym, ap, subst, ◌∙◌, arith}
+use Rattle.std.proofs.Common.{rules, ℕ, ◌≡◌, ◌<◌, ◌+◌, false, [], ◌∷◌, sym, ap, subst, ◌∙◌, arith}
 use Rattle.pmem_base.specs.Shape.{Shape}
 use Rattle.pmem_base.specs.Layout.{device_lines, meta_lines, meta_line, shadow_line}
 use Rattle.board.specs.Device.{Device, IsDevice}
@@ -32,35 +32,11 @@ pub cleaned_block : (g : Shape) (old new : CacheState) (bank x : ℕ) (before af
     → ChangesSet old new bank (set_index old.shape x) (with_mark (slots_of old bank x) x false)
     → HasWritten before (meta_line g x) (line_in g old.banks bank x) after
     → IsCleaned g bank x (record { shape = g; banks = old.banks }) (record { shape = g; banks = new.banks }) before after
-cleaned_block g old new bank x before after same changes board =
-    record {
-      cache =
-          of_states g old new (λ was now. ChangesSet was now bank (set_index was.shape x) (with_mark (slots_of was bank x) x false))
-          same (changes.shape ∙ same) changes;
-      board = board;
-    }
+cleaned_block g old new bank x before after same changes board = search (rules, of_states)
 
 -- no block was written yet
 pub blocks_none : (engine : EngineState) (device : Device) → HasWrittenBlocks 0 engine engine device device
-blocks_none engine device =
-    record {
-      shape = refl;
-      mirror = refl;
-      down = refl;
-      dirty = omega arith;
-      cached = λ bank x. refl;
-      size = refl;
-      regs = refl;
-      reads = refl;
-      latches = refl;
-      writes = record { never_falls = omega arith; exact = λ below. omega arith };
-      none = λ zero. refl;
-      marks = marks_none engine.shape engine.cache;
-      lines = cleaned_none engine.shape engine.cache device;
-      in_order = in_order_none engine.shape engine.cache device;
-      shadow = λ n within. refl;
-      done = λ setup ledger tags digests same. nothing_done setup (parts_of engine device ledger tags digests);
-    }
+blocks_none engine device = search (rules, marks_none, cleaned_none, in_order_none, nothing_done)
 
 -- one block more
 pub blocks_more : (count x : ℕ) (old mid new : EngineState) (before middle after : Device)

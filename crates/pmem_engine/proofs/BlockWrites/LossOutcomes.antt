@@ -1,11 +1,12 @@
 -- The stop-loss number is changed: what the call keeps, and what its answers say.
 use Rattle.std.proofs.lemmas.Grind.{common_steps}
-use Rattle.std.proofs.Common.{rules, ℕ, ◌≡◌, ◌≢◌, ◌<◌, ◌≤◌, ◌*◌, ◌⊎◌, inl, inr, true, false, List, [], Option, Some, None, Result, Ok, Err, refl, sym, ap, ap₂, subst, subst₂, ◌∙◌, arith}
-use Rattle.std.specs.Prelude.{IfSome, is_some, IsTrue, IsOk}
+use Rattle.std.proofs.Common.{rules, ℕ, ◌≡◌, ◌≢◌, ◌<◌, ◌≤◌, ◌*◌, ◌⊎◌, inl, inr, true, false, List, [], Result, Ok, Err, refl, sym, ap, ap₂, subst, subst₂, ◌∙◌, arith}
+use Rattle.std.specs.Prelude.{is_some, IsTrue, IsOk}
 use Rattle.std.proofs.lemmas.Bool.{true≢false, cases_lt}
 use Rattle.std.proofs.lemmas.List.{append-nil}
 use Rattle.std.proofs.lemmas.Option.{same_Some}
 use Rattle.pmem_base.specs.declared.lines.Line.{Line}
+use Rattle.pmem_base.specs.declared.faults.Cut.{Cut}
 use Rattle.pmem_base.specs.declared.registers.Regs.{Regs}
 use Rattle.pmem_base.specs.Shape.{Shape, is_loss}
 use Rattle.pmem_base.specs.Layout as layout
@@ -22,19 +23,19 @@ use Rattle.meta_path.specs.Blocks.{line_in, bank_dirty_count}
 use Rattle.meta_path.specs.Work.{told_line}
 use Rattle.stop_loss.proofs.Windows.{is_loss_cases}
 use Rattle.suite.specs.Setup.{Setup}
-use Rattle.pmem_engine.specs.declared.fault.Fault.{Fault}
 use Rattle.pmem_engine.specs.declared.fault.Fault.TheVariants as Fail
 use Rattle.pmem_engine.specs.Engine.{EngineState}
 use Rattle.pmem_engine.specs.Invariants.{IsSound, IsCounterStored, stored_meta}
 use Rattle.pmem_engine.specs.Steps.{HasLossSet}
 use Rattle.pmem_engine.specs.Recached.{IsTrueOrDirty}
 use Rattle.pmem_engine.specs.Parts.{Parts, parts_of, AreTrusted, AreSound, HoldsCounters, HoldsMeta, lines_redone}
-use Rattle.pmem_engine.specs.Outcomes.{going, cut_short, outcome_of, KeepsPlaces, KeepsMeta, CallEffect, TakesSteps}
-use Rattle.pmem_engine.specs.Calls.{IsDownAnswer, KeepsShadow, AnswersLoss, KeepsButMarks, HasWrittenCleaned, HasWrittenInOrder, HasSetLoss}
+use Rattle.pmem_engine.specs.Outcomes.{of_cut, going, cut_short, outcome_of, KeepsPlaces, KeepsMeta, CallEffect, TakesSteps}
+use Rattle.pmem_engine.specs.Calls.{KeepsShadow, AnswersLoss, KeepsButMarks, HasWrittenCleaned, HasWrittenInOrder, HasSetLoss}
 use Rattle.pmem_engine.specs.Flushed.{HasWrittenBlocks, HasMadeWay, HasChangedLoss, with_loss, IsBankClean}
+use Rattle.pmem_engine.proofs.CallEnds.ErrorAnswers.{cut_not_down}
 use Rattle.pmem_engine.proofs.CallEnds.ToldLines.{told_surely}
 use Rattle.pmem_engine.proofs.Laws.CounterBlocks.{IsCounterStored-true}
-use Rattle.pmem_engine.proofs.Laws.GroupLaws.{IsMendable-unarmed}
+use Rattle.pmem_engine.proofs.Laws.MendableLaws.{IsMendable-no_group}
 use Rattle.pmem_engine.proofs.Laws.CacheLaws.{IsTrueOrDirty-sound}
 use Rattle.pmem_engine.proofs.Laws.LossLaws.{IsTrusted-loss_set, IsSound-loss_set, IsCounterStored-loss_raised}
 use Rattle.pmem_engine.proofs.CallEnds.CallChains.{gone_chained}
@@ -99,13 +100,7 @@ module _ (setup : Setup) (n : ℕ) (engine : EngineState) (mid after : Device) (
   same_group = ap (λ regs. regs.group) it.regs ∙ ap (λ items. record { items = items }) (sym no_group)
 
   set : HasLossSet mid.regs after.regs
-  set =
-      record {
-        same_root = ap (λ regs. regs.root) it.regs;
-        same_group = ap (λ group. group.items) same_group;
-        same_progress = ap (λ regs. regs.progress.items) it.regs;
-        known_loss = subst (λ loss. IsTrue (is_loss loss)) (sym its_loss) known;
-      }
+  set = search (rules, its_loss, same_group)
 
   redone_same : lines_redone finish ≡ lines_redone start
   redone_same = ap₂ (λ group lines. redone_told group.items lines) same_group it.lines
@@ -122,7 +117,7 @@ module _ (setup : Setup) (n : ℕ) (engine : EngineState) (mid after : Device) (
       (serves lines page within
       (IsTrueOrDirty-sound setup engine lines mid.regs ledger (counter_position setup.shape page) had
       (counter_position-lt setup.shape page within))
-      ((IsMendable-unarmed setup lines mid.regs ledger had.durable had.trusted.no_group).counters_stored page within)))))
+      ((IsMendable-no_group setup lines mid.regs ledger had.trusted.no_group had.durable).counters_stored page within)))))
       sound
 
   places : KeepsPlaces setup [] start finish
@@ -132,43 +127,12 @@ module _ (setup : Setup) (n : ℕ) (engine : EngineState) (mid after : Device) (
   metadata = grind (arith, common_steps)
 
   pub latch_gone : CallEffect setup going [] start finish
-  latch_gone =
-      record {
-        shape = refl;
-        size = it.size;
-        told = ap is_some it.lines;
-        valid =
-            search rules;
-        group = λ uncut. same_group;
-        small_group = λ none. tt;
-        power = (it.steady, it.live, it.cuts);
-        reads = omega (arith, it.reads);
-        tags = λ within. (omega arith, within);
-        digests = λ within. (omega arith, within);
-        marks = sym (append-nil ledger.marks);
-        spare = omega arith;
-        true_lines = refl;
-        data_lines = refl;
-        exhibit = λ unshown. refl;
-        trusted = λ was. IsTrusted-loss_set setup engine mid.regs after.regs ledger was set;
-        sound = sound_after;
-        places = λ was. places;
-        metadata = λ was. metadata;
-      }
+  latch_gone = search (rules, append-nil, IsTrusted-loss_set, same_group, set, sound_after, places, metadata)
 
   pub latch_counters : (page : ℕ) → page < layout.pages setup.shape
       → HoldsMeta setup.shape start (counter_position setup.shape page) → HoldsCounters setup start page
       → HoldsCounters setup finish page
-  latch_counters page within meta counters =
-      subst₂ (λ o loss. IfSome o (λ lines. IsCounterStored setup lines loss ledger.truth page)) (sym redone_same) (sym its_loss)
-      (both (lines_redone start) meta counters)
-    where
-      both : (o : Option (List Line))
-          → IfSome o (λ lines. IsTrueOrDirty setup.shape engine.cache lines ledger.truth (counter_position setup.shape page))
-          → IfSome o (λ lines. IsCounterStored setup lines mid.regs.loss ledger.truth page)
-          → IfSome o (λ lines. IsCounterStored setup lines n ledger.truth page)
-      both None m k = tt
-      both (Some lines) m k = serves lines page within m k
+  latch_counters page within meta counters = search (rules, its_loss, redone_same)
 
 -- ---- the call
 
@@ -221,8 +185,8 @@ module _ (setup : Setup) (n : ℕ) (old new : EngineState) (before after : Devic
   group_kept : (count : ℕ) (mid : Device) → HasWrittenBlocks count old new before mid → mid.regs.group.items ≡ []
   group_kept count mid written = ap (λ regs. regs.group.items) written.regs ∙ no_group
 
-  loss_gone : (answer : Result ℕ Fault) → HasChangedLoss n old new before after answer
-      → CallEffect setup (outcome_of answer) [] call_start call_finish
+  loss_gone : (answer : Result ℕ Cut) → HasChangedLoss n old new before after answer
+      → CallEffect setup (outcome_of (of_cut answer)) [] call_start call_finish
   loss_gone (Ok steps) (inl it) =
       subst₂ (λ e d. CallEffect setup going [] call_start (parts_of e d ledger tags digests)) (sym it.2) (sym it.3)
       (nothing_done setup call_start).gone
@@ -231,17 +195,12 @@ module _ (setup : Setup) (n : ℕ) (old new : EngineState) (before after : Devic
       (it.1.way.written.done setup ledger tags digests (sym its_shape)).gone
       (latch_gone setup n new it.1.mid after ledger tags digests known (group_kept it.1.count it.1.mid it.1.way.written) it.1.latched
       (way_serves it.1.count it.1.mid it.1.way it.0))
-  loss_gone (Err Fail.Cut) it =
+  loss_gone (Err cut) it =
       gone_chained setup cut_short [] [] call_start (parts_of new it.1.mid ledger tags digests) call_finish
       (it.1.written.done setup ledger tags digests (sym its_shape)).gone
       (cut_still setup new it.1.mid after ledger tags digests it.1.cut).gone
-  loss_gone (Err Fail.Down) it = absurd it
-  loss_gone (Err (Fail.Meta x)) it = absurd it
-  loss_gone (Err (Fail.Tag a)) it = absurd it
-  loss_gone (Err (Fail.Spent page)) it = absurd it
-  loss_gone (Err Fail.Shown) it = absurd it
 
-  loss_counters : (answer : Result ℕ Fault) → HasChangedLoss n old new before after answer → AreTrusted setup call_start
+  loss_counters : (answer : Result ℕ Cut) → HasChangedLoss n old new before after answer → AreTrusted setup call_start
       → (page : ℕ) → page < layout.pages setup.shape
       → HoldsMeta setup.shape call_start (counter_position setup.shape page) → HoldsCounters setup call_start page
       → HoldsCounters setup call_finish page
@@ -253,23 +212,18 @@ module _ (setup : Setup) (n : ℕ) (old new : EngineState) (before after : Devic
       (way_serves it.1.count it.1.mid it.1.way it.0) page within
       ((first.gone.metadata trusted).true_or_dirty (counter_position setup.shape page) (counter_position-lt setup.shape page within) meta)
       (first.counters trusted page within held)
-  loss_counters (Err Fail.Cut) it trusted page within meta held =
+  loss_counters (Err cut) it trusted page within meta held =
       let first = it.1.written.done setup ledger tags digests (sym its_shape) in
       let last = cut_still setup new it.1.mid after ledger tags digests it.1.cut in
       last.counters (first.gone.trusted trusted) page within (first.counters trusted page within held)
-  loss_counters (Err Fail.Down) it trusted page within meta held = absurd it
-  loss_counters (Err (Fail.Meta x)) it trusted page within meta held = absurd it
-  loss_counters (Err (Fail.Tag a)) it trusted page within meta held = absurd it
-  loss_counters (Err (Fail.Spent spent)) it trusted page within meta held = absurd it
-  loss_counters (Err Fail.Shown) it trusted page within meta held = absurd it
 
   -- ---- steps
 
   abbrev dirty : ℕ
   dirty = bank_dirty_count setup.shape old.cache setup.shape.levels
 
-  loss_answer : (answer : Result ℕ Fault) → HasChangedLoss n old new before after answer
-      → AnswersLoss setup.shape n call_start (ended_parts call_finish (outcome_of answer)) answer
+  loss_answer : (answer : Result ℕ Cut) → HasChangedLoss n old new before after answer
+      → AnswersLoss setup.shape n call_start (ended_parts call_finish (outcome_of (of_cut answer))) (of_cut answer)
   loss_answer (Ok steps) (inl it) = (
     same_steps dirty before.regs.loss n steps it.0 it.1,
     subst₂ (λ k d. TakesSteps k before d) (sym it.1) (sym it.3) (no_steps_of before before refl refl),
@@ -283,8 +237,8 @@ module _ (setup : Setup) (n : ℕ) (old new : EngineState) (before after : Devic
         it.1.latched.writes),
     ap (λ regs. regs.loss) it.1.latched.regs,
   )
-  loss_answer (Err Fail.Cut) it = (
-    cut_steps dirty before.regs.loss n it.1.count call_start (ended_parts call_finish (outcome_of {T = ℕ} (Err Fail.Cut))) it.1.mid
+  loss_answer (Err cut) it = (
+    cut_steps dirty before.regs.loss n it.1.count call_start (ended_parts call_finish cut_short) it.1.mid
         it.0 it.1.greater (few it.1.count it.1.mid it.1.written) it.1.written.writes it.1.written.latches it.1.cut.latches
         it.1.cut.writes,
     ap (λ regs. regs.loss) (it.1.cut.regs ∙ it.1.written.regs),
@@ -296,33 +250,19 @@ module _ (setup : Setup) (n : ℕ) (old new : EngineState) (before after : Devic
           ap (λ (g : Shape). bank_dirty_count g old.cache g.levels) its_shape in
           let both = written.dirty in
           omega (arith, of_old, both)
-  loss_answer (Err Fail.Down) it = it
-  loss_answer (Err (Fail.Meta x)) it = it
-  loss_answer (Err (Fail.Tag a)) it = it
-  loss_answer (Err (Fail.Spent page)) it = it
-  loss_answer (Err Fail.Shown) it = it
 
-  loss_not_down : (answer : Result ℕ Fault) → HasChangedLoss n old new before after answer → IsDownAnswer answer → ⊥
-  loss_not_down (Ok steps) it down = down
-  loss_not_down (Err Fail.Cut) it down = down
-  loss_not_down (Err Fail.Down) it down = it
-  loss_not_down (Err (Fail.Meta x)) it down = it
-  loss_not_down (Err (Fail.Tag a)) it down = it
-  loss_not_down (Err (Fail.Spent page)) it down = it
-  loss_not_down (Err Fail.Shown) it down = it
-
-  loss_down : (answer : Result ℕ Fault) → HasChangedLoss n old new before after answer → new.down ≡ old.down
+  loss_down : (answer : Result ℕ Cut) → HasChangedLoss n old new before after answer → new.down ≡ old.down
   loss_down v0 v1 = grind (arith, common_steps)
 
-  loss_reads : (answer : Result ℕ Fault) → HasChangedLoss n old new before after answer → after.reads ≡ before.reads
+  loss_reads : (answer : Result ℕ Cut) → HasChangedLoss n old new before after answer → after.reads ≡ before.reads
   loss_reads v0 v1 = grind (arith, common_steps)
 
-  loss_cached : (answer : Result ℕ Fault) → HasChangedLoss n old new before after answer → (bank x : ℕ)
+  loss_cached : (answer : Result ℕ Cut) → HasChangedLoss n old new before after answer → (bank x : ℕ)
       → is_cached setup.shape new.cache bank x ≡ is_cached setup.shape old.cache bank x
   loss_cached v0 v1 bank x = grind (arith, common_steps)
 
   -- a smaller number that is set leaves no counter block dirty
-  loss_smaller : (answer : Result ℕ Fault) → HasChangedLoss n old new before after answer → n < before.regs.loss → IsOk answer
+  loss_smaller : (answer : Result ℕ Cut) → HasChangedLoss n old new before after answer → n < before.regs.loss → IsOk (of_cut answer)
       → (x : ℕ) → is_cached_dirty setup.shape new.cache setup.shape.levels x ≡ false
   loss_smaller (Ok steps) (inl it) less ok x = absurd (omega (arith, it.0, less))
   loss_smaller (Ok steps) (inr it) less ok x =
@@ -331,17 +271,12 @@ module _ (setup : Setup) (n : ℕ) (old new : EngineState) (before after : Devic
   loss_smaller (Err fault) it less ok x = absurd (true≢false (sym ok))
 
   -- one that isn't smaller leaves the cache
-  loss_greater : (answer : Result ℕ Fault) → HasChangedLoss n old new before after answer → before.regs.loss ≤ n
+  loss_greater : (answer : Result ℕ Cut) → HasChangedLoss n old new before after answer → before.regs.loss ≤ n
       → new.cache ≡ old.cache
   loss_greater (Ok steps) (inl it) least = ap (λ (e : EngineState). e.cache) it.2
   loss_greater (Ok steps) (inr it) least =
       it.1.way.written.none (it.1.way.greater (let other = it.0 in omega (arith, least, other)))
-  loss_greater (Err Fail.Cut) it least = it.1.written.none (it.1.greater (let other = it.0 in omega (arith, least, other)))
-  loss_greater (Err Fail.Down) it least = absurd it
-  loss_greater (Err (Fail.Meta x)) it least = absurd it
-  loss_greater (Err (Fail.Tag a)) it least = absurd it
-  loss_greater (Err (Fail.Spent page)) it least = absurd it
-  loss_greater (Err Fail.Shown) it least = absurd it
+  loss_greater (Err cut) it least = it.1.written.none (it.1.greater (let other = it.0 in omega (arith, least, other)))
 
   blocks_shadow : (count : ℕ) (mid : Device) → HasWrittenBlocks count old new before mid → after.lines ≡ mid.lines
       → KeepsShadow setup.shape call_start call_finish
@@ -357,30 +292,14 @@ module _ (setup : Setup) (n : ℕ) (old new : EngineState) (before after : Devic
             its_shape (λ below. written.shadow k below) within;
       }
 
-  loss_shadow : (answer : Result ℕ Fault) → HasChangedLoss n old new before after answer
+  loss_shadow : (answer : Result ℕ Cut) → HasChangedLoss n old new before after answer
       → KeepsShadow setup.shape call_start call_finish
-  loss_shadow (Ok steps) (inl it) = shadow_still setup.shape call_start call_finish it.2 (ap (λ (d : Device). d.lines) it.3)
-  loss_shadow (Ok steps) (inr it) = blocks_shadow it.1.count it.1.mid it.1.way.written it.1.latched.lines
-  loss_shadow (Err Fail.Cut) it = blocks_shadow it.1.count it.1.mid it.1.written it.1.cut.lines
-  loss_shadow (Err Fail.Down) it = absurd it
-  loss_shadow (Err (Fail.Meta x)) it = absurd it
-  loss_shadow (Err (Fail.Tag a)) it = absurd it
-  loss_shadow (Err (Fail.Spent page)) it = absurd it
-  loss_shadow (Err Fail.Shown) it = absurd it
+  loss_shadow answer it = search (rules, shadow_still, blocks_shadow)
 
   -- marks alone change, and what they say was written stands in its place
-  loss_marks : (answer : Result ℕ Fault) → HasChangedLoss n old new before after answer
+  loss_marks : (answer : Result ℕ Cut) → HasChangedLoss n old new before after answer
       → KeepsButMarks setup.shape old.cache new.cache
-  loss_marks (Ok steps) (inl it) =
-      subst (λ (e : EngineState). KeepsButMarks setup.shape old.cache e.cache) (sym it.2) (marks_none setup.shape old.cache)
-  loss_marks (Ok steps) (inr it) =
-      subst (λ (g : Shape). KeepsButMarks g old.cache new.cache) its_shape it.1.way.written.marks
-  loss_marks (Err Fail.Cut) it = subst (λ (g : Shape). KeepsButMarks g old.cache new.cache) its_shape it.1.written.marks
-  loss_marks (Err Fail.Down) it = absurd it
-  loss_marks (Err (Fail.Meta x)) it = absurd it
-  loss_marks (Err (Fail.Tag a)) it = absurd it
-  loss_marks (Err (Fail.Spent page)) it = absurd it
-  loss_marks (Err Fail.Shown) it = absurd it
+  loss_marks answer it = search (rules, marks_none)
 
   blocks_lines : (count : ℕ) (mid : Device) → HasWrittenBlocks count old new before mid → after.lines ≡ mid.lines
       → HasWrittenCleaned setup.shape old.cache new.cache before after
@@ -398,58 +317,29 @@ module _ (setup : Setup) (n : ℕ) (old new : EngineState) (before after : Devic
             others = λ at none. ap (λ told. told_line told at) same ∙ it.others at none;
           }
 
-  loss_lines : (answer : Result ℕ Fault) → HasChangedLoss n old new before after answer
+  loss_lines : (answer : Result ℕ Cut) → HasChangedLoss n old new before after answer
       → HasWrittenCleaned setup.shape old.cache new.cache before after
-  loss_lines (Ok steps) (inl it) =
-      subst₂ (λ (e : EngineState) (d : Device). HasWrittenCleaned setup.shape old.cache e.cache before d) (sym it.2) (sym it.3)
-      (cleaned_none setup.shape old.cache before)
-  loss_lines (Ok steps) (inr it) = blocks_lines it.1.count it.1.mid it.1.way.written it.1.latched.lines
-  loss_lines (Err Fail.Cut) it = blocks_lines it.1.count it.1.mid it.1.written it.1.cut.lines
-  loss_lines (Err Fail.Down) it = absurd it
-  loss_lines (Err (Fail.Meta x)) it = absurd it
-  loss_lines (Err (Fail.Tag a)) it = absurd it
-  loss_lines (Err (Fail.Spent page)) it = absurd it
-  loss_lines (Err Fail.Shown) it = absurd it
+  loss_lines answer it = search (rules, cleaned_none, blocks_lines)
 
-  loss_in_order : (answer : Result ℕ Fault) → HasChangedLoss n old new before after answer
+  loss_in_order : (answer : Result ℕ Cut) → HasChangedLoss n old new before after answer
       → HasWrittenInOrder setup.shape old.cache new.cache before after
-  loss_in_order (Ok steps) (inl it) =
-      subst₂ (λ (e : EngineState) (d : Device). HasWrittenInOrder setup.shape old.cache e.cache before d) (sym it.2) (sym it.3)
-      (in_order_none setup.shape old.cache before)
-  loss_in_order (Ok steps) (inr it) =
-      in_order_still setup.shape old.cache new.cache before it.1.mid after
-      (subst (λ (g : Shape). HasWrittenInOrder g old.cache new.cache before it.1.mid) its_shape it.1.way.written.in_order)
-      it.1.latched.writes
-  loss_in_order (Err Fail.Cut) it =
-      in_order_still setup.shape old.cache new.cache before it.1.mid after
-      (subst (λ (g : Shape). HasWrittenInOrder g old.cache new.cache before it.1.mid) its_shape it.1.written.in_order)
-      it.1.cut.writes
-  loss_in_order (Err Fail.Down) it = absurd it
-  loss_in_order (Err (Fail.Meta x)) it = absurd it
-  loss_in_order (Err (Fail.Tag a)) it = absurd it
-  loss_in_order (Err (Fail.Spent page)) it = absurd it
-  loss_in_order (Err Fail.Shown) it = absurd it
+  loss_in_order answer it = search (rules, in_order_none, in_order_still)
 
-  loss_regs : (answer : Result ℕ Fault) → HasChangedLoss n old new before after answer
+  loss_regs : (answer : Result ℕ Cut) → HasChangedLoss n old new before after answer
       → record after.regs { loss = n } ≡ record before.regs { loss = n }
   loss_regs (Ok steps) (inl it) = ap (λ (d : Device). record d.regs { loss = n }) it.3
   loss_regs (Ok steps) (inr it) =
       ap (λ (regs : Regs). record regs { loss = n }) it.1.latched.regs
       ∙ ap (λ (regs : Regs). record (with_loss regs n) { loss = n }) it.1.way.written.regs
       ∙ ap (λ items. record before.regs { group = record { items = items }; loss = n }) (sym no_group)
-  loss_regs (Err Fail.Cut) it = ap (λ (regs : Regs). record regs { loss = n }) (it.1.cut.regs ∙ it.1.written.regs)
-  loss_regs (Err Fail.Down) it = absurd it
-  loss_regs (Err (Fail.Meta x)) it = absurd it
-  loss_regs (Err (Fail.Tag a)) it = absurd it
-  loss_regs (Err (Fail.Spent page)) it = absurd it
-  loss_regs (Err Fail.Shown) it = absurd it
+  loss_regs (Err cut) it = ap (λ (regs : Regs). record regs { loss = n }) (it.1.cut.regs ∙ it.1.written.regs)
 
-  pub loss_set : (answer : Result ℕ Fault) → old.down ≡ false → HasChangedLoss n old new before after answer
-      → HasSetLoss setup n call_start (ended_parts call_finish (outcome_of answer)) answer
+  pub loss_set : (answer : Result ℕ Cut) → old.down ≡ false → HasChangedLoss n old new before after answer
+      → HasSetLoss setup n call_start (ended_parts call_finish (outcome_of (of_cut answer))) (of_cut answer)
   loss_set answer was it =
       record {
-        down = answers_down answer call_start call_finish was (loss_down answer it) (loss_not_down answer it);
-        gone = λ up. gone_ended setup (outcome_of answer) [] call_start call_finish (loss_gone answer it);
+        down = answers_down (of_cut answer) call_start call_finish was (loss_down answer it) (cut_not_down answer);
+        gone = λ up. gone_ended setup (outcome_of (of_cut answer)) [] call_start call_finish (loss_gone answer it);
         answered = λ up. loss_answer answer it;
         counters = λ up trusted page within meta held. loss_counters answer it trusted page within meta held;
         smaller = λ less ok. loss_smaller answer it less ok;
@@ -469,23 +359,4 @@ module _ (setup : Setup) (n : ℕ) (old new : EngineState) (before after : Devic
 -- ---- the engine is down
 
 pub set_down : (setup : Setup) (n : ℕ) (parts : Parts) → parts.engine.down ≡ true → HasSetLoss setup n parts parts (Err Fail.Down)
-set_down setup n parts down =
-    record {
-      down =
-          search rules;
-      gone = λ up. absurd (true≢false (sym down ∙ up));
-      answered = λ up. absurd (true≢false (sym down ∙ up));
-      counters = λ up trusted page within meta held. absurd (true≢false (sym down ∙ up));
-      smaller = λ less ok. absurd (true≢false (sym ok));
-      greater = λ least. refl;
-      marks = marks_none setup.shape parts.engine.cache;
-      lines = cleaned_none setup.shape parts.engine.cache parts.device;
-      in_order = in_order_none setup.shape parts.engine.cache parts.device;
-      regs = refl;
-      shadow = shadow_still setup.shape parts parts refl refl;
-      same_ledger = refl;
-      same_reads = refl;
-      tags = refl;
-      digests = refl;
-      cached = λ bank x. refl;
-    }
+set_down setup n parts down = search (rules, true≢false, shadow_still, marks_none, cleaned_none, in_order_none)

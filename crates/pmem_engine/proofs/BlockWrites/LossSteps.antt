@@ -1,5 +1,5 @@
 -- How many steps a new stop-loss number takes: by the numbers, and by how many blocks were written.
-use Rattle.std.proofs.Common.{ℕ, ◌≡◌, ◌≢◌, ◌<◌, ◌≤◌, ◌+◌, ◌⊎◌, inl, inr, sym, subst, arith}
+use Rattle.std.proofs.Common.{rules, ℕ, ◌≡◌, ◌≢◌, ◌<◌, ◌≤◌, ◌+◌, sym, subst, arith}
 use Rattle.std.specs.Prelude.{MatchBool, nat_lt, ◌==◌}
 use Rattle.std.proofs.lemmas.Bool.{cases_lt, eq-eqb, ne_eqb, lt-ltb, le-ltb}
 use Rattle.board.specs.Counts.{RisesBy}
@@ -17,14 +17,7 @@ same_steps dirty old_loss n steps same none =
 -- a greater one, or a smaller one
 by_number : (old_loss n : ℕ) (Same Greater Smaller : Type 0) → n ≢ old_loss → (old_loss < n → Greater) → (n < old_loss → Smaller)
     → MatchBool (n == old_loss) Same (MatchBool (nat_lt old_loss n) Greater Smaller)
-by_number old_loss n Same Greater Smaller other greater smaller =
-    subst (λ b. MatchBool b Same (MatchBool (nat_lt old_loss n) Greater Smaller)) (sym (ne_eqb n old_loss other))
-    (go (cases_lt old_loss n))
-  where
-    go : (old_loss < n) ⊎ (n ≤ old_loss) → MatchBool (nat_lt old_loss n) Greater Smaller
-    go (inl above) = subst (λ b. MatchBool b Greater Smaller) (sym (lt-ltb old_loss n above)) (greater above)
-    go (inr below) =
-        subst (λ b. MatchBool b Greater Smaller) (sym (le-ltb old_loss n below)) (smaller (omega (arith, below, other)))
+by_number old_loss n Same Greater Smaller other greater smaller = search (rules, cases_lt, ne_eqb, lt-ltb, le-ltb)
 
 pub other_steps : (dirty old_loss n steps count : ℕ) → n ≢ old_loss → steps ≡ count + 1 → (old_loss < n → count ≡ 0)
     → (n < old_loss → count ≡ dirty) → AreStepsOfLoss dirty old_loss n steps

@@ -1,6 +1,6 @@
 -- What the cache and the device hold once dirty blocks of one bank were written back: their marks alone are others,
 -- and each of them stands in its place.
-use Rattle.std.proofs.Common.{ℕ, ◌≡◌, ◌≢◌, ◌<◌, ◌+◌, ◌⊎◌, inl, inr, Bool, true, false, cond, List, [], ◌∷◌, length, map, Option, Some, None, refl, sym, ap, ap₂, subst, ◌∙◌, arith}
+use Rattle.std.proofs.Common.{rules, ℕ, ◌≡◌, ◌≢◌, ◌+◌, ◌⊎◌, inl, inr, Bool, true, false, cond, List, [], ◌∷◌, length, map, Some, refl, sym, ap, ap₂, subst, ◌∙◌, arith}
 use Rattle.std.specs.Prelude.{option_map, unwrap_or, ◌==◌, ◌&&◌, ◌||◌, ◌*◌}
 use Rattle.std.specs.List.{list_any}
 use Rattle.std.proofs.lemmas.Bool.{cases_Bool, cases_eq, cond-true, cond-false, eqb-true, ne_eqb, true≢false}
@@ -10,7 +10,7 @@ use Rattle.pmem_base.specs.Layout as layout
 use Rattle.pmem_base.specs.Lines.{zero_line}
 use Rattle.pmem_base.proofs.LineSets.{line_at-set_same}
 use Rattle.board.specs.Device.{Device}
-use Rattle.board.specs.Steps.{Tells, with_line}
+use Rattle.board.specs.Steps.{Tells}
 use Rattle.meta_cache.specs.declared.slot.Slot.{Slot}
 use Rattle.meta_cache.specs.Banks.{Banks, set_of, set_index, is_cached_dirty}
 use Rattle.meta_cache.specs.Sets.{slot_with, slot_marked, with_mark}
@@ -85,66 +85,18 @@ module _ (bank x : ℕ) (old new : EngineState) (before after : Device) (it : Ha
   here = set_index old.shape x
 
   slots_after : (b set : ℕ) → map unmarked (set_of new.cache b set) ≡ map unmarked (set_of old.cache b set)
-  slots_after b set = by (cases_eq b bank) (cases_eq set here)
-    where
-      by : (b ≡ bank) ⊎ (b ≡ bank → ⊥) → (set ≡ here) ⊎ (set ≡ here → ⊥)
-          → map unmarked (set_of new.cache b set) ≡ map unmarked (set_of old.cache b set)
-      by (inl its) (inl there) =
-          ap (map unmarked) (ap₂ (set_of new.cache) its there ∙ it.cleaned.cache.here)
-          ∙ unmarked_marked (set_of old.cache bank here) x
-          ∙ ap (map unmarked) (sym (ap₂ (set_of old.cache) its there))
-      by (inl its) (inr other) = ap (map unmarked) (it.cleaned.cache.elsewhere b set (λ e. other e.1))
-      by (inr other) which = ap (map unmarked) (it.cleaned.cache.elsewhere b set (λ e. other e.0))
+  slots_after b set = search (rules, cases_eq, unmarked_marked)
 
   dirty_other : (b y : ℕ) → ((b ≡ bank) × (y ≡ x) → ⊥)
       → is_cached_dirty old.shape new.cache b y ≡ is_cached_dirty old.shape old.cache b y
-  dirty_other b y apart = by (cases_eq b bank) (cases_eq (set_index old.shape y) here)
-    where
-      seen : (b' set : ℕ) → set_of new.cache b' set ≡ set_of old.cache b' set
-          → list_any (λ (s : Slot). s.position == y && s.dirty) (set_of new.cache b' set)
-          ≡ list_any (λ (s : Slot). s.position == y && s.dirty) (set_of old.cache b' set)
-      seen b' set same = ap (λ slots. list_any (λ (s : Slot). s.position == y && s.dirty) slots) same
-
-      by : (b ≡ bank) ⊎ (b ≡ bank → ⊥) → (set_index old.shape y ≡ here) ⊎ (set_index old.shape y ≡ here → ⊥)
-          → is_cached_dirty old.shape new.cache b y ≡ is_cached_dirty old.shape old.cache b y
-      by (inl its) (inl there) =
-          ap (λ slots. list_any (λ (s : Slot). s.position == y && s.dirty) slots)
-          (ap₂ (set_of new.cache) its there ∙ it.cleaned.cache.here)
-          ∙ marked_other (set_of old.cache bank here) x y (λ same. apart (its, same))
-          ∙ ap (λ slots. list_any (λ (s : Slot). s.position == y && s.dirty) slots)
-          (sym (ap₂ (set_of old.cache) its there))
-      by (inl its) (inr other) =
-          seen b (set_index old.shape y) (it.cleaned.cache.elsewhere b (set_index old.shape y) (λ e. other e.1))
-      by (inr other) which =
-          seen b (set_index old.shape y) (it.cleaned.cache.elsewhere b (set_index old.shape y) (λ e. other e.0))
+  dirty_other b y apart = search (rules, cases_eq, marked_other)
 
   dirty_before : (b y : ℕ) → is_cached_dirty old.shape new.cache b y ≡ true → is_cached_dirty old.shape old.cache b y ≡ true
-  dirty_before b y now = by (cases_eq b bank) (cases_eq y x)
-    where
-      by : (b ≡ bank) ⊎ (b ≡ bank → ⊥) → (y ≡ x) ⊎ (y ≡ x → ⊥) → is_cached_dirty old.shape old.cache b y ≡ true
-      by (inl its) (inl same) =
-          absurd (true≢false
-          (sym now ∙ ap₂ (is_cached_dirty old.shape new.cache) its same ∙ clean_after bank x old new before after it))
-      by (inl its) (inr other) = sym (dirty_other b y (λ e. other e.1)) ∙ now
-      by (inr other) which = sym (dirty_other b y (λ e. other e.0)) ∙ now
+  dirty_before b y now = search (rules, cases_eq, true≢false, clean_after, dirty_other)
 
   own_line : ((lines : List Line) → before.lines ≡ Some lines → length lines ≡ layout.device_lines old.shape)
       → Tells after.lines (layout.meta_line old.shape x) (line_in old.shape old.cache bank x)
-  own_line long =
-      subst (λ told. Tells told (layout.meta_line old.shape x) (line_in old.shape old.cache bank x))
-      (sym it.cleaned.board.lines) (put before.lines refl)
-    where
-      meta_within : (a b c d : ℕ) → b < c → a + b < a + c + d
-      meta_within a b c d less = omega (arith, less)
-
-      put : (told : Option (List Line)) → before.lines ≡ told
-          → Tells (with_line told (layout.meta_line old.shape x) (line_in old.shape old.cache bank x))
-          (layout.meta_line old.shape x) (line_in old.shape old.cache bank x)
-      put None is = tt
-      put (Some lines) is =
-          sym (line_at-set_same lines (layout.meta_line old.shape x) (line_in old.shape old.cache bank x)
-          (subst (λ size. layout.meta_line old.shape x < size) (sym (long lines is))
-          (meta_within (80 * layout.pages old.shape) x (layout.meta_lines old.shape) (layout.shadow_lines old.shape) it.on_tree)))
+  own_line long = search (rules, line_at-set_same)
 
   other_line : (at : ℕ) → at ≢ layout.meta_line old.shape x → told_line after.lines at ≡ told_line before.lines at
   other_line at apart =

@@ -1,15 +1,13 @@
 -- A dirty block is written to its place, and is clean afterwards: what it keeps, whatever the device holds.
-use Rattle.std.proofs.Common.{rules, ℕ, ◌≡◌, ◌≢◌, ◌<◌, ◌⊎◌, inl, inr, Bool, true, false, cond, List, [], ◌∷◌, length, Some, refl, sym, ap, ap₂, subst, subst₂, ◌∙◌, arith}
-use Rattle.std.specs.Prelude.{IfSome, option_map, is_some, slice_set, ◌==◌, ◌&&◌, ◌||◌}
+use Rattle.std.proofs.Common.{rules, ℕ, ◌≡◌, ◌≢◌, ◌<◌, ◌⊎◌, inl, inr, Bool, true, false, cond, List, [], ◌∷◌, length, Some, refl, sym, ap, ap₂, subst, subst₂, ◌∙◌}
+use Rattle.std.specs.Prelude.{IfSome, option_map, is_some, ◌==◌, ◌&&◌, ◌||◌}
 use Rattle.std.specs.List.{Contains, list_any}
 use Rattle.std.proofs.lemmas.Bool.{cases_eq}
 use Rattle.std.proofs.lemmas.List.{append-nil}
 use Rattle.pmem_base.specs.declared.lines.Line.{Line}
-use Rattle.pmem_base.specs.Registers.{IsValidRegs}
 use Rattle.pmem_base.specs.Layout as layout
 use Rattle.pmem_base.specs.Lines.{line_at}
 use Rattle.board.specs.Device.{Device, IsDevice}
-use Rattle.board.specs.Steps.{with_line}
 use Rattle.seal_ledger.specs.Ledger.{LedgerState}
 use Rattle.meta_cache.specs.declared.slot.Slot.{Slot}
 use Rattle.meta_cache.specs.Banks.{set_of, set_index, is_cached, is_cached_dirty}
@@ -142,17 +140,7 @@ module _ (setup : Setup) (bank x : ℕ) (old new : EngineState) (before after : 
   -- the lines with the written one are those with the true one, of a trusted chip
   lines_now : AreTrusted setup start → (lines lines' : List Line) → before.lines ≡ Some lines → after.lines ≡ Some lines'
       → lines' ≡ with_true_line setup.shape lines ledger.truth x
-  lines_now trusted lines lines' was now =
-      same_lines (sym now ∙ it.cleaned.board.lines ∙ ap (λ o. with_line o (layout.meta_line old.shape x) (line_in old.shape old.cache bank x)) was)
-      ∙ ap₂ (λ g line. slice_set lines (layout.meta_line g x) line) its_shape true_line
-    where
-      same_lines : {a b : List Line} → Some a ≡ Some b → a ≡ b
-      same_lines e = cc
-
-      true_line : line_in old.shape old.cache bank x ≡ line_at ledger.truth x
-      true_line =
-          line_in-true old.shape old.cache ledger.truth bank x (cached_true setup old before.regs ledger trusted)
-          (dirty_is_cached old.shape old.cache bank x it.was_dirty)
+  lines_now trusted lines lines' was now = search (rules, line_in-true, dirty_is_cached, cached_true, shape)
 
   count : (lines : List Line) → before.lines ≡ Some lines → length lines ≡ layout.device_lines setup.shape
   count lines was = (whole_lines before.size before.lines lines whole was).count ∙ its_size
@@ -205,12 +193,7 @@ module _ (setup : Setup) (bank x : ℕ) (old new : EngineState) (before after : 
   places trusted = search rules
 
   held_after : AreTrusted setup start → (y : ℕ) → HoldsMeta setup.shape start y → HoldsMeta setup.shape finish y
-  held_after trusted y held =
-      holds_now trusted (λ lines. IsTrueOrDirty setup.shape old.cache lines ledger.truth y)
-      (λ lines. IsTrueOrDirty setup.shape new.cache lines ledger.truth y)
-      (λ lines size had.
-      IsTrueOrDirty-cleaned setup.shape old.cache new.cache lines ledger.truth x y size on_tree (λ away. kept_dirty y away) had)
-      held
+  held_after trusted y held = search (rules, IsTrueOrDirty-cleaned, on_tree, kept_dirty, holds_now)
 
   -- the block itself is true on the device then
   own_true : AreTrusted setup start → HoldsMeta setup.shape finish x
@@ -247,30 +230,4 @@ module _ (setup : Setup) (bank x : ℕ) (old new : EngineState) (before after : 
       (λ lines size had. IsCounterStored-written_back setup lines before.regs.loss ledger.truth page x size on_tree had) held)
 
   pub written_back : OneLossEffect setup going [] start finish
-  written_back =
-      record {
-        gone =
-            record {
-              shape = shape;
-              size = it.cleaned.board.size;
-              told = told;
-              valid = λ was. subst (λ regs. IsValidRegs setup.shape regs) (sym it.cleaned.board.regs) was;
-              group = λ uncut. same_group;
-              small_group = λ none. tt;
-              power = (it.cleaned.board.steady, it.cleaned.board.live, it.cleaned.board.cuts);
-              reads = omega (arith, it.cleaned.board.reads);
-              tags = λ within. (omega arith, within);
-              digests = λ within. (omega arith, within);
-              marks = sym (append-nil ledger.marks);
-              spare = omega arith;
-              true_lines = refl;
-              data_lines = refl;
-              exhibit = λ unshown. refl;
-              trusted = trusted_after;
-              sound = sound_after;
-              places = places;
-              metadata = metadata;
-            };
-        loss = ap (λ regs. regs.loss) it.cleaned.board.regs;
-        counters = λ trusted page within held. counters_after trusted page held;
-      }
+  written_back = search (rules, append-nil, shape, told, same_group, trusted_after, sound_after, places, metadata, counters_after)

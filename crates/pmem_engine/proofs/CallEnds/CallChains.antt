@@ -31,11 +31,7 @@ metadata_chained setup made more old mid new first second = grind (arith, common
 metadata_where : (setup : Setup) (outcome : Outcome) (made more : List Mark) (old mid new : Parts)
     → KeepsMeta setup made old mid → KeepsMetaWhere setup outcome more mid new
     → KeepsMetaWhere setup outcome (made ++ more) old new
-metadata_where setup going made more old mid new first second =
-    metadata_chained setup made more old mid new first second
-metadata_where setup cut_short made more old mid new first second = second
-metadata_where setup shown made more old mid new first second =
-    metadata_chained setup made more old mid new first second
+metadata_where setup outcome made more old mid new first second = search (rules, metadata_chained)
 
 pub power_chained : (outcome : Outcome) (old mid new : Device) → HasPower going old mid → HasPower outcome mid new
     → HasPower outcome old new
@@ -65,32 +61,7 @@ never_falls old mid new first second within = search rules
 pub gone_chained : (setup : Setup) (outcome : Outcome) (made more : List Mark) (old mid new : Parts)
     → CallEffect setup going made old mid → CallEffect setup outcome more mid new
     → CallEffect setup outcome (made ++ more) old new
-gone_chained setup outcome made more old mid new first second =
-    record {
-      shape = second.shape ∙ first.shape;
-      size = second.size ∙ first.size;
-      told = second.told ∙ first.told;
-      valid = λ was. second.valid (first.valid was);
-      group = λ uncut. second.group uncut ∙ first.group going_uncut;
-      small_group = λ none. second.small_group (ap (λ group. group.items) (first.group going_uncut) ∙ none);
-      power = power_chained outcome old.device mid.device new.device first.power second.power;
-      reads = omega (arith, first.reads, second.reads);
-      tags = never_falls old.tags mid.tags new.tags first.tags second.tags;
-      digests = never_falls old.digests mid.digests new.digests first.digests second.digests;
-      marks = second.marks ∙ ap (λ marks. marks ++ more) first.marks ∙ append_assoc old.ledger.marks made more;
-      spare =
-          ap (λ n. new.ledger.spare + n) (length-append made more)
-          ∙ omega (arith, first.spare, second.spare);
-      true_lines = second.true_lines ∙ first.true_lines;
-      data_lines = second.data_lines ∙ first.data_lines;
-      exhibit = λ unshown. second.exhibit unshown ∙ first.exhibit going_unshown;
-      trusted = λ was. second.trusted (first.trusted was);
-      sound = λ was. second.sound (first.sound was);
-      places =
-          λ was. places_chained setup made more old mid new (first.places was) (second.places (first.trusted was));
-      metadata =
-          λ was. metadata_where setup outcome made more old mid new (first.metadata was) (second.metadata (first.trusted was));
-    }
+gone_chained setup outcome made more old mid new first second = search (rules, append_assoc, length-append, places_chained, metadata_where, power_chained, going_uncut, going_unshown, never_falls)
 
 counters_chained : (setup : Setup) (old mid new : Parts)
     → KeepsCounters setup old mid → KeepsCounters setup mid new → KeepsCounters setup old new

@@ -1,6 +1,6 @@
 -- The metadata lines that a part of a call leaves on the device: a seal's or a begin's group writes none but the page's
 -- counter block.
-use Rattle.std.proofs.Common.{ℕ, ◌≡◌, ◌≢◌, ◌<◌, ◌+◌, ◌*◌, inl, inr, Bool, true, false, List, Option, Some, None, refl, ap, ◌∙◌, arith}
+use Rattle.std.proofs.Common.{rules, ℕ, ◌≡◌, ◌≢◌, ◌<◌, ◌+◌, ◌*◌, inl, inr, Bool, List, Option, Some, None, refl, ap, ◌∙◌, arith}
 use Rattle.pmem_base.specs.declared.lines.Line.{Line}
 use Rattle.pmem_base.specs.Shape.{Shape}
 use Rattle.pmem_base.specs.Layout as layout
@@ -33,12 +33,7 @@ begin_off_meta g page block x apart (inr none) = none
 
 pub seal_off_meta : (g : Shape) (next : NextSeal) (persisted : Bool) (block : Line) (x : ℕ) → next.at < layout.data_lines g
     → x ≢ counter_position g (page_of next.at) → Writes (layout.meta_line g x) (seal_group g next persisted block) → ⊥
-seal_off_meta g next false block x within apart it = meta_off g next x within it
-seal_off_meta g next true block x within apart (inl same) = omega (arith, within, same)
-seal_off_meta g next true block x within apart (inr (inl same)) = omega (arith, within, same)
-seal_off_meta g next true block x within apart (inr (inr (inl same))) =
-    apart_at (80 * layout.pages g) x (counter_position g (page_of next.at)) apart same
-seal_off_meta g next true block x within apart (inr (inr (inr none))) = none
+seal_off_meta g next persisted block x within apart it = search (rules, meta_off, apart_at)
 
 -- names are written to shadow lines alone
 pub named_off_meta : (g : Shape) (cache : Banks) (page : ℕ) (mirror : List Line) (n : ℕ) (told : Option (List Line))

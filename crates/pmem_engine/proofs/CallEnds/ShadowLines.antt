@@ -1,6 +1,6 @@
 -- The shadow lines that a part of a call leaves: on the device none is written by what reads, by what writes a
 -- metadata line, or by a seal's or a begin's group.
-use Rattle.std.proofs.Common.{ℕ, ◌≡◌, ◌≢◌, ◌<◌, inl, inr, Bool, true, false, List, [], ◌∷◌, Option, Some, None, refl, sym, ap, ◌∙◌, arith}
+use Rattle.std.proofs.Common.{rules, ℕ, ◌≡◌, ◌≢◌, ◌<◌, inl, inr, Bool, true, false, List, [], ◌∷◌, Option, Some, None, refl, ap, ◌∙◌, arith}
 use Rattle.std.proofs.lemmas.Bool.{true≢false}
 use Rattle.pmem_base.specs.declared.lines.Line.{Line}
 use Rattle.pmem_base.specs.Shape.{Shape}
@@ -73,10 +73,7 @@ committed_off g group old new off it n =
 
 pub armed_off : (g : Shape) (group : List (ℕ × Line)) (old new : Device) → IsOffShadow g group → IsCutArmed group old new
     → (n : ℕ) → told_line new.lines (layout.shadow_line g n) ≡ told_line old.lines (layout.shadow_line g n)
-armed_off g group old new off it n =
-    sym (told_off group new.lines (layout.shadow_line g n) (off n))
-    ∙ ap (λ told. told_line told (layout.shadow_line g n)) it.again
-    ∙ told_off group old.lines (layout.shadow_line g n) (off n)
+armed_off g group old new off it n = search (rules, told_off)
 
 -- a metadata line's place is no shadow line's
 pub meta_apart : (g : Shape) (n x : ℕ) → x < layout.meta_lines g → layout.shadow_line g n ≡ layout.meta_line g x → ⊥

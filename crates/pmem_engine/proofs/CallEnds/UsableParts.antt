@@ -1,5 +1,5 @@
 -- After a call the parts are usable again, whatever it answered.
-use Rattle.std.proofs.Common.{rules, ℕ, ◌≡◌, ◌++◌, ◌||◌, Bool, true, false, not, List, [], ◌∷◌, Option, None, Result, refl, sym, subst, ◌∙◌}
+use Rattle.std.proofs.Common.{rules, ℕ, ◌≡◌, ◌++◌, ◌||◌, true, false, not, List, [], ◌∷◌, Option, None, Result, refl, sym}
 use Rattle.std.specs.Prelude.{is_some, IsSome}
 use Rattle.std.proofs.lemmas.Bool.{true≢false}
 use Rattle.pmem_base.specs.declared.answers.Mark.{Mark}
@@ -46,16 +46,7 @@ ready_after setup outcome made old new gone down ready = search rules
 pub usable_after : (setup : Setup) (outcome : Outcome) (made : List Mark) (old new : Parts)
     → CallEffect setup outcome made old new → new.engine.down ≡ (old.engine.down || not (is_going outcome))
     → IsUsable setup.shape old.engine old.device old.ledger → IsUsable setup.shape new.engine new.device new.ledger
-usable_after setup outcome made old new gone down usable =
-    record {
-      ready = ready_after setup outcome made old new gone down usable.ready;
-      true_lines = gone.true_lines ∙ usable.true_lines;
-      line_count = gone.data_lines ∙ usable.line_count;
-      each_sealed =
-          λ a within.
-          subst (λ marks. IsSome (last_seal marks a)) (sym gone.marks)
-          (still_sealed old.ledger.marks made a (usable.each_sealed a within));
-    }
+usable_after setup outcome made old new gone down usable = search (rules, still_sealed, ready_after)
 
 -- ---- a public call
 
@@ -68,13 +59,7 @@ module _ {T : Type 0} (setup : Setup) (made : List Mark) (old new : Parts) (answ
     (gone : old.engine.down ≡ false → CallEffect setup (outcome_of answer) made old new) where
   pub usable_call : IsUsable setup.shape old.engine old.device old.ledger
       → IsUsable setup.shape new.engine new.device new.ledger
-  usable_call usable = go old.engine.down refl
-    where
-      go : (was : Bool) → old.engine.down ≡ was → IsUsable setup.shape new.engine new.device new.ledger
-      go true is_down =
-          same_parts (λ engine device ledger. IsUsable setup.shape engine device ledger) old new
-          (down.still (down.exactly.1 is_down)) usable
-      go false is_up = usable_after setup (outcome_of answer) made old new (gone is_up) down.after usable
+  usable_call usable = search (rules, usable_after, same_parts)
 
   pub ready_call : IsReady setup.shape old.engine old.device → IsReady setup.shape new.engine new.device
   ready_call ready = search rules

@@ -1,11 +1,10 @@
 -- What a fetch answers, by its end.
 use Rattle.std.proofs.Common.{rules, ℕ, ◌≡◌, ◌<◌, ◌≤◌, ◌+◌, true, false, [], length, Option, Some, None, Ok, Err, refl, sym, ap, ap₂, subst, subst₂, ◌∙◌, arith}
-use Rattle.std.specs.Prelude.{option_map, is_some}
+use Rattle.std.specs.Prelude.{is_some}
 use Rattle.std.proofs.lemmas.Bool.{true≢false, cond-true}
 use Rattle.pmem_base.specs.declared.lines.Line.{Line}
 use Rattle.pmem_base.specs.declared.answers.Exhibit.{Exhibit}
 use Rattle.pmem_base.specs.declared.answers.Exhibit.TheVariants.{Clash}
-use Rattle.pmem_base.specs.declared.registers.Regs.{Regs}
 use Rattle.pmem_base.specs.Layout as layout
 use Rattle.pmem_base.specs.Lines.{line_at, zero_line}
 use Rattle.pmem_base.specs.Counts.{risen_times}
@@ -23,10 +22,11 @@ use Rattle.meta_path.specs.Work.{told_line}
 use Rattle.meta_path.specs.Fetching.{spilled, IsFetchedTo, IsCutAt, IsRefusedAt, IsShownAt}
 use Rattle.meta_path.specs.Keeping.{KeepsBlocks, IsTrueTree, HasFalseDigest, HasClash}
 use Rattle.meta_path.proofs.PathFacts.{path_at-level, path_at-lt}
+use Rattle.meta_path.specs.declared.faults.PathFault.TheVariants as Path
 use Rattle.suite.specs.Setup.{Setup}
 use Rattle.pmem_engine.specs.Engine.{EngineState}
 use Rattle.pmem_engine.specs.declared.fault.Fault.TheVariants as Fail
-use Rattle.pmem_engine.specs.Invariants.{IsSound, stored_meta}
+use Rattle.pmem_engine.specs.Invariants.{IsSound}
 use Rattle.pmem_engine.specs.Parts.{Parts, parts_of, AreTrusted, AreSound, meta_line_in}
 use Rattle.pmem_engine.specs.Faults.{IsFetchedLine, IsClashShown}
 use Rattle.pmem_engine.specs.Calls.{KeepsShadow, IsForgedExhibit, IsPastFetch}
@@ -71,12 +71,7 @@ module _ (setup : Setup) (page : ℕ) (old new : EngineState) (ledger noted : Le
   block = counter_position setup.shape page
 
   block_kept : before.regs.group.items ≡ [] → meta_line_in setup.shape finish block ≡ meta_line_in setup.shape start block
-  block_kept no_group =
-      ap (λ (regs : Regs). option_map (λ lines. stored_meta setup.shape lines block) (redone_told regs.group.items after.lines))
-      over.regs
-      ∙ ap (option_map (λ lines. stored_meta setup.shape lines block)) (unarmed before.regs.group.items after.lines no_group)
-      ∙ block_line
-      ∙ ap (option_map (λ lines. stored_meta setup.shape lines block)) (sym (unarmed before.regs.group.items before.lines no_group))
+  block_kept no_group = search (rules, unarmed)
 
   -- the path was fetched
   pub fetched_ok : IsPathCached setup.shape new.cache page → noted ≡ ledger
@@ -91,10 +86,8 @@ module _ (setup : Setup) (page : ℕ) (old new : EngineState) (ledger noted : Le
             same_tags over keeps same fetched.work.steady fetched.work.live fetched.work.cuts;
         answered = λ trusted. tt;
         unrefused = λ sound. tt;
-        not_down = λ it. it;
         path_cached = λ ok. cached;
         path_fetched = λ past. cached;
-        possible = tt;
         meta_uncached = tt;
         shadow = shadow;
         work = λ ok. fetched;
@@ -168,7 +161,7 @@ module _ (setup : Setup) (page : ℕ) (old new : EngineState) (ledger noted : Le
       (record { cache = record { shape = setup.shape; banks = old.cache }; device = before; digests = digests })
       (record { cache = record { shape = setup.shape; banks = new.cache }; device = after; digests = digests_now })
       → (before.live ≡ true → 1 ≤ dirty_count setup.shape new.cache)
-      → HasFetched setup page start finish (Err Fail.Cut)
+      → HasFetched setup page start finish (Err Path.Cut)
   fetched_cut uncached same it left =
       record {
         done =
@@ -176,10 +169,8 @@ module _ (setup : Setup) (page : ℕ) (old new : EngineState) (ledger noted : Le
             same_tags over keeps same it.unsteady it.off it.rose;
         answered = λ trusted. tt;
         unrefused = λ sound. tt;
-        not_down = λ it. it;
         path_cached = λ ok. no_answer ok;
         path_fetched = λ past. absurd past;
-        possible = tt;
         meta_uncached = tt;
         shadow = shadow;
         work = λ ok. no_answer ok;
@@ -229,10 +220,7 @@ module _ (setup : Setup) (page : ℕ) (old new : EngineState) (ledger noted : Le
   absent_before : (n : ℕ) → n ≤ setup.shape.levels
       → is_cached setup.shape old.cache n (path_at setup.shape page n) ≡ false
       → is_cached setup.shape old.cache (level_of (path_at setup.shape page n)) (path_at setup.shape page n) ≡ false
-  absent_before n within absent =
-      ap (λ bank. is_cached setup.shape old.cache bank (path_at setup.shape page n))
-      (path_at-level setup.shape page n its_page few_levels within)
-      ∙ absent
+  absent_before n within absent = search (rules, path_at-level)
 
   -- the line read at this level was read, and wasn't cached before
   fetched_line : AreTrusted setup start → (n : ℕ) (line : Line) → n ≤ setup.shape.levels
@@ -264,7 +252,7 @@ module _ (setup : Setup) (page : ℕ) (old new : EngineState) (ledger noted : Le
       (record { cache = record { shape = setup.shape; banks = new.cache }; device = after; digests = digests_now })
       → (IsTrueTree setup.shape setup.formulas ledger.truth before.regs.root → AreCachedTrue old.cache ledger.truth
       → HasFalseDigest setup.shape setup.formulas ledger.truth x after.lines)
-      → HasFetched setup page start finish (Err (Fail.Meta x))
+      → HasFetched setup page start finish (Err (Path.Meta x))
   fetched_meta uncached same x it cause =
       record {
         done =
@@ -286,10 +274,8 @@ module _ (setup : Setup) (page : ℕ) (old new : EngineState) (ledger noted : Le
             (read_is_true setup page old new ledger noted before after tags digests tags_now digests_now its_size shape mirror down
             same_tags over keeps sound x false_digest.line false_digest.on_tree
             (at_line (sound_trusted sound) false_digest.line false_digest.tells).uncached false_digest.tells));
-        not_down = λ it. it;
         path_cached = λ ok. no_answer ok;
         path_fetched = λ past. absurd past;
-        possible = tt;
         meta_uncached = (
           ap (is_on_path setup.shape page) (it.position ∙ path_of-at setup.shape page it.n it.read.on_path)
               ∙ path_position-on_path setup.shape page it.n it.read.on_path,
@@ -353,7 +339,7 @@ module _ (setup : Setup) (page : ℕ) (old new : EngineState) (ledger noted : Le
       (record { cache = record { shape = setup.shape; banks = new.cache }; device = after; digests = digests_now }) ledger noted
       → (IsTrueTree setup.shape setup.formulas ledger.truth before.regs.root → AreCachedTrue old.cache ledger.truth
       → HasClash setup.shape setup.formulas after.lines ledger noted)
-      → HasFetched setup page start finish (Err Fail.Shown)
+      → HasFetched setup page start finish (Err Path.Shown)
   fetched_shown uncached it cause =
       record {
         done =
@@ -361,10 +347,8 @@ module _ (setup : Setup) (page : ℕ) (old new : EngineState) (ledger noted : Le
             same_tags over keeps never it.read.work.steady it.read.work.live it.read.work.cuts;
         answered = λ trusted. clash trusted;
         unrefused = never;
-        not_down = λ it. it;
         path_cached = λ ok. no_answer ok;
         path_fetched = λ past. absurd (never_past past);
-        possible = tt;
         meta_uncached = tt;
         shadow = shadow;
         work = λ ok. no_answer ok;

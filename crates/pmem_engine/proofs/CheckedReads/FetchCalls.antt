@@ -23,7 +23,7 @@ use Rattle.meta_path.specs.Fetching.{absent_count, IsFetchedTo, IsPathFault}
 use Rattle.meta_path.specs.Keeping.{KeepsBlocks, HasGivenWay, WasWrittenBack, IsTrueTree, IsFaultCaused}
 use Rattle.suite.specs.Setup.{Setup}
 use Rattle.pmem_engine.specs.Engine.{EngineState}
-use Rattle.pmem_engine.specs.Outcomes.{NeverFalls, fault_of_path}
+use Rattle.pmem_engine.specs.Outcomes.{NeverFalls}
 use Rattle.pmem_engine.specs.Parts.{parts_of}
 use Rattle.pmem_engine.specs.Calls.{KeepsShadow}
 use Rattle.pmem_engine.specs.Inner.{HasFetched}
@@ -69,18 +69,7 @@ module _ (setup : Setup) (page : ℕ) (old new : EngineState) (ledger noted : Le
 
   -- a line written back is a metadata line
   shadow : KeepsShadow setup.shape (parts_of old before ledger tags digests) (parts_of new after noted tags_now digests_now)
-  shadow = record { mirror = mirror; lines = λ n within. same n (keeps.line_writes (layout.shadow_line setup.shape n)) }
-    where
-      same : (n : ℕ)
-          → (told_line after.lines (layout.shadow_line setup.shape n) ≡ told_line before.lines (layout.shadow_line setup.shape n))
-          ⊎ WasWrittenBack setup.shape old.cache new.cache after.lines (layout.shadow_line setup.shape n)
-          → told_line after.lines (layout.shadow_line setup.shape n) ≡ told_line before.lines (layout.shadow_line setup.shape n)
-      same n (inl it) = it
-      same n (inr back) =
-          absurd (meta_apart setup.shape n back.slot.position
-          (All-stands (IsOfItsBank setup.shape back.bank) (set_of old.cache back.bank back.set) back.slot
-          (in_banks.each back.bank back.set) back.was_cached).on_tree
-          back.place)
+  shadow = search (rules, All-stands, meta_apart)
 
   -- the counter block's own line isn't written: it never gives way to itself
   abbrev block : ℕ
@@ -140,12 +129,7 @@ module _ (setup : Setup) (page : ℕ) (old new : EngineState) (ledger noted : Le
   pub fetch_ok : IsPathCached setup.shape new.cache page → noted ≡ ledger
       → IsFetchedTo setup.shape setup.formulas ledger.truth page (setup.shape.levels + 1) state_before state_after
       → HasFetched setup page (parts_of old before ledger tags digests) (parts_of new after noted tags_now digests_now) (Ok tt)
-  fetch_ok cached same fetched =
-      fetched_ok setup page old new ledger noted before after tags digests tags_now digests_now its_page few_levels its_size
-      shape mirror down same_tags
-      (over same fetched.work.reads.never_falls
-      (rising (absent_count setup.shape old.cache page (setup.shape.levels + 1)) fetched.digests))
-      keeps shadow block_line cached same fetched
+  fetch_ok cached same fetched = search (rules, fetched_ok, rising, over, shadow, block_line)
 
   -- it wasn't
   pub fetch_err : (fault : PathFault) → (IsPathCached setup.shape old.cache page → ⊥)
@@ -154,7 +138,7 @@ module _ (setup : Setup) (page : ℕ) (old new : EngineState) (ledger noted : Le
       → IsFaultCaused setup.shape setup.formulas after.lines ledger noted fault)
       → (fault ≡ Path.Cut → before.live ≡ true → 1 ≤ dirty_count setup.shape new.cache)
       → HasFetched setup page (parts_of old before ledger tags digests) (parts_of new after noted tags_now digests_now)
-      (Err (fault_of_path fault))
+      (Err fault)
   fetch_err Path.Cut uncached it cause left =
       fetched_cut setup page old new ledger noted before after tags digests tags_now digests_now its_page few_levels its_size
       shape mirror down same_tags

@@ -70,11 +70,7 @@ module _ (setup : Setup) (page : ℕ) (old new : EngineState) (ledger noted : Le
       (whole_now now told_now) over.regs it) sound
 
   still_durable : AreSound setup parts_old → MatchOption after.lines ⊥ (λ lines. IsDurable setup lines after.regs ledger)
-  still_durable sound =
-      told_surely (λ lines. IsSound setup new lines after.regs ledger) (λ lines. IsDurable setup lines after.regs ledger)
-      after.lines after.lines refl
-      (λ lines now told told_now it. subst (λ z. IsDurable setup z after.regs ledger) (same_Some lines now (sym told ∙ told_now)) it.durable)
-      (still_sound sound)
+  still_durable sound = search (rules, same_Some, told_surely, still_sound)
 
   pub gone : (outcome : Outcome) → HasPower outcome before after
       → (outcome ≢ shown → noted.exhibit ≡ ledger.exhibit)
@@ -165,16 +161,7 @@ module _ (setup : Setup) (page : ℕ) (old new : EngineState) (ledger noted : Le
 
   not_dirty : (x : ℕ) → is_cached setup.shape old.cache (level_of x) x ≡ false
       → is_cached_dirty setup.shape old.cache (level_of x) x ≡ false
-  not_dirty x absent = go (cases_Bool (is_cached_dirty setup.shape old.cache (level_of x) x))
-    where
-      go : (is_cached_dirty setup.shape old.cache (level_of x) x ≡ true) ⊎ (is_cached_dirty setup.shape old.cache (level_of x) x ≡ false)
-          → is_cached_dirty setup.shape old.cache (level_of x) x ≡ false
-      go (inr clean) = clean
-      go (inl dirty) =
-          let slot = dirty_slot setup.shape old.cache (level_of x) x dirty in
-          absurd (true≢false
-          (sym (list_any_at (λ s. s.position == x) (set_of old.cache (level_of x) (set_index setup.shape x)) slot.1.0 slot.0
-          slot.1.1 (ap (λ s. s.position == x) slot.1.2 ∙ eq-eqb slot.0.position x slot.2)) ∙ absent))
+  not_dirty x absent = search (rules, true≢false, cases_Bool, eq-eqb, list_any_at, dirty_slot)
 
   -- it stood there before the call: what a fetch writes back was cached
   pub read_was_there : AreTrusted setup parts_old → (x : ℕ) (line : Line)

@@ -5,8 +5,8 @@ use Rattle.std.specs.List.{Contains}
 use Rattle.std.proofs.lemmas.Bool.{true≢false, false≢true, cases_Bool}
 use Rattle.pmem_base.specs.declared.lines.Line.{Line}
 use Rattle.pmem_base.specs.Layout as layout
-use Rattle.pmem_base.specs.Lines.{line_at, tag_slot}
-use Rattle.bonsai_tree.specs.Positions.{level_of, counter_position}
+use Rattle.pmem_base.specs.Lines.{line_at}
+use Rattle.bonsai_tree.specs.Positions.{level_of}
 use Rattle.board.specs.Device.{Device, AreLinesOf}
 use Rattle.board.specs.Steps.{Tells}
 use Rattle.seal_ledger.specs.Ledger.{LedgerState}
@@ -18,15 +18,14 @@ use Rattle.meta_path.specs.Keeping.{KeepsBlocks, HasGivenWay, WasWrittenBack}
 use Rattle.meta_path.specs.Keeping as path
 use Rattle.suite.specs.Setup.{Setup}
 use Rattle.pmem_engine.specs.Engine.{EngineState}
-use Rattle.pmem_engine.specs.Invariants.{IsTrueSlot, IsTrusted, IsSound, IsSealStored, IsCounterStored, stored_meta}
+use Rattle.pmem_engine.specs.Invariants.{IsTrueSlot, IsTrusted, IsSound, stored_meta}
 use Rattle.pmem_engine.specs.Recached.{IsRecached, IsNewlyCached, IsTrueOrDirty, WasCleaned}
 use Rattle.pmem_engine.specs.Parts.{Parts, parts_of, lines_redone, meta_line_in, HoldsCounters, HoldsMeta}
 use Rattle.pmem_engine.specs.Outcomes.{KeepsPlaces, KeepsMeta}
 use Rattle.pmem_engine.proofs.CallEnds.ToldLines.{unarmed}
 use Rattle.pmem_engine.proofs.Laws.CounterBlocks.{IsCounterStored-same, IsCounterStored-true}
-use Rattle.pmem_engine.proofs.Laws.GroupLaws.{IsMendable-unarmed, IsDurable-unarmed}
+use Rattle.pmem_engine.proofs.Laws.MendableLaws.{IsMendable-no_group, IsDurable-no_group, IsMendingOf, IsMendable-mending, shadow_of-same, IsSealStored-same}
 use Rattle.pmem_engine.proofs.Laws.CacheLaws.{IsTrusted-recached, IsSound-recached}
-use Rattle.pmem_engine.proofs.Laws.MendableLaws.{IsMendingOf, IsMendable-mending, shadow_of-same, IsSealStored-same}
 
 -- what a fetch is seen to keep, over a trusted chip
 module _ (setup : Setup) (page : ℕ) (old new : EngineState) (ledger : LedgerState) (before after : Device)
@@ -88,24 +87,11 @@ module _ (setup : Setup) (page : ℕ) (old new : EngineState) (ledger : LedgerSt
     -- each metadata line is as it was, or true
     pub meta_same_or_true : (x : ℕ) → (stored_meta setup.shape lines_now x ≡ stored_meta setup.shape lines x)
         ⊎ (stored_meta setup.shape lines_now x ≡ line_at ledger.truth x)
-    meta_same_or_true x =
-        elim (same_or_true (layout.meta_line setup.shape x)) [
-          | inl same ↦ inl same
-          | inr true_now ↦
-              let one : x ≡ true_now.0 = omega (arith, true_now.2) in
-              inr (true_now.3 ∙ ap (line_at ledger.truth) (sym one))
-        ]
+    meta_same_or_true x = search (rules, same_or_true)
 
     mending : length lines ≡ layout.device_lines setup.shape → length lines_now ≡ layout.device_lines setup.shape
         → IsMendingOf setup lines lines_now ledger
-    mending count count_now =
-        record {
-          same_data = λ n within. same_unless_meta n (λ x here e. omega (arith, within, e));
-          same_or_true = λ x within. meta_same_or_true x;
-          same_names_or_true =
-              inl (shadow_of-same setup.shape lines lines_now (count_now ∙ sym count)
-              (λ n past. same_unless_meta n (λ x here e. omega (arith, past, e, here))));
-        }
+    mending count count_now = search (rules, shadow_of-same, same_or_true, same_unless_meta, meta_same_or_true)
 
     -- ---- sound
 
@@ -140,16 +126,7 @@ module _ (setup : Setup) (page : ℕ) (old new : EngineState) (ledger : LedgerSt
     -- a metadata line that was true or dirty still is
     true_or_dirty : (x : ℕ) → x < layout.meta_lines setup.shape → IsTrueOrDirty setup.shape old.cache lines ledger.truth x
         → IsTrueOrDirty setup.shape new.cache lines_now ledger.truth x
-    true_or_dirty x within (inl stored) =
-        elim (meta_same_or_true x) [
-          | inl same ↦ inl (same ∙ stored)
-          | inr true_now ↦ inl true_now
-        ]
-    true_or_dirty x within (inr dirty) =
-        elim (cases_Bool (is_cached_dirty setup.shape new.cache (level_of x) x)) [
-          | inl still ↦ inr still
-          | inr clean ↦ inl (cleaned_true x within (dirty, clean))
-        ]
+    true_or_dirty x within was = search (rules, cases_Bool, meta_same_or_true, cleaned_true)
 
     pub sound_lines : AreLinesOf (layout.device_lines setup.shape) lines_now → after.regs ≡ before.regs
         → IsSound setup old lines before.regs ledger → IsSound setup new lines_now after.regs ledger
@@ -166,9 +143,9 @@ module _ (setup : Setup) (page : ℕ) (old new : EngineState) (ledger : LedgerSt
             record {
               trusted = trusted;
               durable =
-                  IsDurable-unarmed setup lines_now before.regs ledger whole trusted.no_group
+                  IsDurable-no_group setup lines_now before.regs ledger trusted.no_group whole
                   (IsMendable-mending setup lines lines_now before.regs ledger is_mending
-                  (IsMendable-unarmed setup lines before.regs ledger sound.durable trusted.no_group));
+                  (IsMendable-no_group setup lines before.regs ledger trusted.no_group sound.durable));
               true_unless_dirty =
                   λ x within clean.
                   elim (meta_same_or_true x) [
@@ -214,41 +191,10 @@ module _ (setup : Setup) (page : ℕ) (old new : EngineState) (ledger : LedgerSt
     same_view f give = search rules
 
     pub places : KeepsPlaces setup [] parts_before parts_after
-    places =
-        record {
-          seals =
-              λ a within it.
-              elim it [
-                | inl held ↦
-                    from_lines (λ lines. IsSealStored setup.shape lines ledger.marks a) (λ lines. IsSealStored setup.shape lines noted.marks a)
-                    (λ lines lines_now told told_now stored.
-                    subst (λ z. IsSealStored setup.shape lines_now z a) (sym marks)
-                    (IsSealStored-same setup.shape lines lines_now ledger.marks a within
-                    (λ n low. same_unless_meta lines lines_now told told_now n (λ x here e. omega (arith, low, e))) stored)) held
-                | inr sealed ↦ absurd (true≢false (sym sealed))
-              ];
-          data_lines =
-              search rules;
-          tag_slots =
-              λ a within unsealed.
-              same_view (λ lines. tag_slot (line_at lines (layout.tag_line setup.shape a)) a)
-              (λ lines lines_now told told_now.
-              ap (λ line. tag_slot line a)
-              (same_unless_meta lines lines_now told told_now (layout.tag_line setup.shape a) (λ x here e. omega (arith, within, e))));
-        }
+    places = search (rules, true≢false, IsSealStored-same, same_unless_meta, from_lines, same_view)
 
     pub counters : (block : ℕ) → block < layout.pages setup.shape → HoldsCounters setup parts_before block → HoldsCounters setup parts_after block
-    counters block within it =
-        subst₂ (λ loss truth. IfSome (lines_redone parts_after) (λ lines. IsCounterStored setup lines loss truth block))
-        (sym (ap (λ regs. regs.loss) same_regs)) (sym truth)
-        (from_lines (λ lines. IsCounterStored setup lines before.regs.loss ledger.truth block)
-        (λ lines. IsCounterStored setup lines before.regs.loss ledger.truth block)
-        (λ lines lines_now told told_now stored.
-        elim (meta_same_or_true lines lines_now told told_now (counter_position setup.shape block)) [
-          | inl same ↦
-              IsCounterStored-same setup lines lines_now before.regs.loss ledger.truth ledger.truth block same refl stored
-          | inr true_now ↦ IsCounterStored-true setup lines_now before.regs.loss ledger.truth block true_now
-        ]) it)
+    counters block within it = search (rules, IsCounterStored-same, IsCounterStored-true, meta_same_or_true, from_lines)
 
     pub metadata : KeepsMeta setup [] parts_before parts_after
     metadata =

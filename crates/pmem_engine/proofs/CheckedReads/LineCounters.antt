@@ -1,17 +1,14 @@
 -- The counter of a line whose page's path is cached.
-use Rattle.std.proofs.Common.{rules, ℕ, ◌≡◌, ◌<◌, true, Some, sym, ap, subst, ◌∙◌, arith}
+use Rattle.std.proofs.Common.{rules, ℕ, ◌≡◌, ◌<◌, Some}
 use Rattle.std.specs.Prelude.{option_map}
 use Rattle.pmem_base.specs.declared.registers.Regs.{Regs}
 use Rattle.pmem_base.specs.Layout as layout
 use Rattle.pmem_base.specs.Layout.{page_of}
 use Rattle.pmem_base.specs.Marks.{last_seal}
-use Rattle.split_counters.specs.Blocks.{unpacked}
 use Rattle.page_reencrypt.specs.Registers.{counter_of}
-use Rattle.bonsai_tree.specs.Positions.{counter_position}
 use Rattle.bonsai_tree.proofs.PathPositions.{path_of-block}
 use Rattle.seal_ledger.specs.Ledger.{LedgerState}
-use Rattle.meta_cache.specs.Banks.{is_cached}
-use Rattle.meta_path.specs.Blocks.{line_in, IsPathCached, AreCachedTrue}
+use Rattle.meta_path.specs.Blocks.{IsPathCached, AreCachedTrue}
 use Rattle.meta_path.proofs.KeepLaws.{line_in-true}
 use Rattle.suite.specs.Setup.{Setup}
 use Rattle.pmem_engine.specs.Engine.{EngineState}
@@ -27,13 +24,7 @@ cached_true setup engine regs ledger trusted = search rules
 pub cached_block-true : (setup : Setup) (engine : EngineState) (regs : Regs) (ledger : LedgerState) (page : ℕ)
     → IsTrusted setup engine regs ledger → IsPathCached setup.shape engine.cache page
     → cached_block engine.shape engine page ≡ true_block setup.shape ledger.truth page
-cached_block-true setup engine regs ledger page trusted cached =
-    ap (λ g. unpacked (line_in g engine.cache g.levels (counter_position g page))) trusted.its_shape
-    ∙ ap unpacked
-    (line_in-true setup.shape engine.cache ledger.truth setup.shape.levels (counter_position setup.shape page)
-    (cached_true setup engine regs ledger trusted)
-    (subst (λ x. is_cached setup.shape engine.cache setup.shape.levels x ≡ true) (path_of-block setup.shape page)
-    (cached.each setup.shape.levels (omega arith))))
+cached_block-true setup engine regs ledger page trusted cached = search (rules, path_of-block, line_in-true, cached_true)
 
 -- the counter under it and the registers is that of the line's last seal
 pub counter-last : (setup : Setup) (engine : EngineState) (regs : Regs) (ledger : LedgerState) (a : ℕ)
@@ -41,7 +32,4 @@ pub counter-last : (setup : Setup) (engine : EngineState) (regs : Regs) (ledger 
     → IsPathCached setup.shape engine.cache (page_of a)
     → option_map (λ seal. seal.ctr) (last_seal ledger.marks a)
     ≡ Some (counter_of regs.progress.items (cached_block engine.shape engine (page_of a)) a)
-counter-last setup engine regs ledger a within trusted cached =
-    trusted.anchored.last_counters a within
-    ∙ ap (λ block. Some (counter_of regs.progress.items block a))
-    (sym (cached_block-true setup engine regs ledger (page_of a) trusted cached))
+counter-last setup engine regs ledger a within trusted cached = search (rules, cached_block-true)

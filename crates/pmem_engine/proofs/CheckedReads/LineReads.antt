@@ -10,28 +10,32 @@ use Rattle.pmem_base.specs.Counts.{risen}
 use Rattle.pmem_base.specs.Shape.{Shape}
 use Rattle.board.specs.Counts.{RisesBy}
 use Rattle.board.specs.Device.{Device}
+use Rattle.meta_path.specs.declared.faults.PathFault.{PathFault}
+use Rattle.meta_path.specs.declared.faults.PathFault.TheVariants as Path
 use Rattle.suite.specs.Setup.{Setup}
 use Rattle.suite.specs.Formulas.{Formulas}
 use Rattle.plain_model.specs.Bounds.{path_length}
 use Rattle.meta_path.specs.Blocks.{IsPathCached, dirty_count}
 use Rattle.meta_path.specs.Fetching.{IsFetchedTo}
 use Rattle.pmem_engine.specs.declared.fault.Fault.{Fault}
-use Rattle.pmem_engine.specs.declared.fault.Fault.TheVariants as Fail
+use Rattle.pmem_engine.specs.declared.fault.LineFault.{LineFault}
+use Rattle.pmem_engine.specs.declared.fault.LineFault.TheVariants as AtLine
 use Rattle.pmem_engine.specs.declared.reading.Unsealed.{Unsealed}
+use Rattle.pmem_engine.specs.Engine.{EngineState}
 use Rattle.pmem_engine.specs.Parts.{Parts, AreTrusted, AreSound}
-use Rattle.pmem_engine.specs.Outcomes.{Outcome, going, cut_short, shown, is_going, outcome_of, outcome_of_fault, OneLossEffect, TakesSteps, TakesAtMost}
-use Rattle.pmem_engine.specs.Calls.{IsDownAnswer, IsUnrefused, TakesWithin, TakesWithinOfLive, IsMetaUncached, fetch_state, path_spilled, fetch_work, unseal_work, IsPathFetched, IsPastFetch, IsAnswerOfRead, IsReadWork, AnswersRead, IsReadOfCached, HasFetchedLevels, IsFetchedAsFar, IsCutWhereDue}
-use Rattle.pmem_engine.specs.Inner.{HasFetched, HasUnsealed, IsAnswerOfFetch, AnswersFetch, IsAnswerOfUnseal, UpReadOutcome, IsLastCounter, AnswersUnseal, StandsStill}
+use Rattle.pmem_engine.specs.Outcomes.{fault_of_path, fault_of_line, of_line, Outcome, going, cut_short, shown, outcome_of, OneLossEffect, TakesSteps, TakesAtMost}
+use Rattle.pmem_engine.specs.Calls.{IsDownAnswer, IsUnrefused, TakesWithin, TakesWithinOfLive, IsMetaUncached, fetch_state, path_spilled, fetch_work, unseal_work, IsPathFetched, IsPastFetch, IsAnswerOfRead, IsReadWork, AnswersRead, IsReadOfCached, HasFetchedLevels, IsFetchedAsFar, IsCutWhereDue, HasFetchedSome}
+use Rattle.pmem_engine.specs.Inner.{HasFetched, HasUnsealed, AnswersFetch, UpReadOutcome, IsLastCounter, AnswersUnseal, StandsStill}
 use Rattle.pmem_engine.proofs.CallEnds.CallChains.{done_chained}
-use Rattle.pmem_engine.proofs.CallEnds.EndedEngines.{with_engine}
+use Rattle.pmem_engine.proofs.CallEnds.ErrorAnswers.{path_not_down, path_unrefused}
 use Rattle.pmem_engine.proofs.CallEnds.ExactWork.{work_then, fetch_worked, unseal_worked}
 use Rattle.pmem_engine.proofs.CallEnds.ShadowLines.{shadow_chained, shadow_still}
 use Rattle.pmem_engine.proofs.CallEnds.StillParts.{sound_trusted}
 
 -- the plain line of a line unsealed
-abbrev pub plain_answer : Result Unsealed Fault → Result Line Fault
+abbrev pub plain_answer : Result Unsealed LineFault → Result Line Fault
 plain_answer (Ok unsealed) = Ok unsealed.plain
-plain_answer (Err fault) = Err fault
+plain_answer (Err fault) = Err (fault_of_line fault)
 
 -- ---- steps of both parts, where the second takes none
 
@@ -60,50 +64,33 @@ within_live_before outcome n old mid new unpowered live first second = (
 )
 
 -- a cut is answered by Cut
-pub cut_answer : {T : Type 0} (answer : Result T Fault) → outcome_of answer ≡ cut_short → answer ≡ Err Fail.Cut
-cut_answer (Ok value) it = absurd (true≢false (ap is_going it))
-cut_answer (Err Fail.Cut) it = refl
-cut_answer (Err Fail.Down) it = absurd (true≢false (ap is_going it))
-cut_answer (Err (Fail.Meta x)) it = absurd (true≢false (ap is_going it))
-cut_answer (Err (Fail.Tag at)) it = absurd (true≢false (ap is_going it))
-cut_answer (Err (Fail.Spent page)) it = absurd (true≢false (ap is_going it))
-cut_answer (Err Fail.Shown) it = cc
+cut_answer : (answer : Result Unsealed LineFault) → outcome_of (plain_answer answer) ≡ cut_short → answer ≡ Err AtLine.Cut
+cut_answer answer it = search (rules, true≢false)
 
 -- ---- the read
 
-same_outcome : (answer : Result Unsealed Fault) → outcome_of (plain_answer answer) ≡ outcome_of answer
-same_outcome (Ok unsealed) = refl
-same_outcome (Err fault) = refl
+same_outcome : (answer : Result Unsealed LineFault) → outcome_of (plain_answer answer) ≡ outcome_of (of_line answer)
+same_outcome v0 = search rules
 
-still_unrefused : (answer : Result Unsealed Fault) → IsUnrefused answer → IsUnrefused (plain_answer answer)
-still_unrefused (Ok unsealed) it = tt
-still_unrefused (Err Fail.Cut) it = tt
-still_unrefused (Err Fail.Down) it = it
-still_unrefused (Err (Fail.Meta x)) it = it
-still_unrefused (Err (Fail.Tag at)) it = it
-still_unrefused (Err (Fail.Spent page)) it = tt
-still_unrefused (Err Fail.Shown) it = it
+still_unrefused : (answer : Result Unsealed LineFault) → IsUnrefused (of_line answer) → IsUnrefused (plain_answer answer)
+still_unrefused v0 it = search rules
 
-down_before : (answer : Result Unsealed Fault) → IsDownAnswer (plain_answer answer) → IsDownAnswer answer
-down_before (Ok unsealed) it = it
-down_before (Err fault) it = go fault it
-  where
-    go : (fault : Fault) → IsDownAnswer {T = Line} (Err fault) → IsDownAnswer {T = Unsealed} (Err fault)
-    go v0 it = search rules
+never_down : (answer : Result Unsealed LineFault) → IsDownAnswer (plain_answer answer) → ⊥
+never_down v0 it = search rules
 
 module _ (setup : Setup) (a : ℕ) (ctr : Ctr) (old mid new : Parts) (its_shape : old.engine.shape ≡ setup.shape)
     (fetched : HasFetched setup (page_of a) old mid (Ok tt)) where
-  answers_read : (answer : Result Unsealed Fault) → AnswersUnseal setup a mid new answer
+  answers_read : (answer : Result Unsealed LineFault) → AnswersUnseal setup a mid new answer
       → AnswersRead setup a old new (plain_answer answer)
   answers_read v0 it = grind (arith, common_steps)
 
-  pub read_after : (answer : Result Unsealed Fault) → HasUnsealed setup a ctr mid new answer
+  pub read_after : (answer : Result Unsealed LineFault) → HasUnsealed setup a ctr mid new answer
       → (AreTrusted setup mid → IsLastCounter mid a ctr) → UpReadOutcome setup a old new (plain_answer answer)
   read_after answer unsealed last =
       record {
         done =
             subst (λ outcome. OneLossEffect setup outcome [] old new) (sym (same_outcome answer))
-            (done_chained setup (outcome_of answer) [] [] old mid new fetched.done unsealed.done);
+            (done_chained setup (outcome_of (of_line answer)) [] [] old mid new fetched.done unsealed.done);
         answered =
             λ was.
             let now : AreTrusted setup mid = fetched.done.gone.trusted was in
@@ -112,15 +99,15 @@ module _ (setup : Setup) (a : ℕ) (ctr : Ctr) (old mid new : Parts) (its_shape 
             λ was.
             let now : AreSound setup mid = fetched.done.gone.sound was in
             still_unrefused answer (unsealed.unrefused now (last (sound_trusted setup mid now)));
-        not_down = λ it. unsealed.not_down (down_before answer it);
+        not_down = never_down answer;
         path_cached =
             λ ok.
             subst (λ engine. IsPathCached setup.shape engine.cache (page_of a)) (sym unsealed.engine) (fetched.path_cached refl);
         path_fetched =
             λ past.
             subst (λ engine. IsPathCached setup.shape engine.cache (page_of a)) (sym unsealed.engine) (fetched.path_cached refl);
-        possible = possible_after answer unsealed.possible;
-        meta_uncached = never_meta answer unsealed.possible;
+        possible = possible_after answer;
+        meta_uncached = never_meta answer;
         shadow =
             shadow_chained setup.shape old mid new fetched.shadow
             (shadow_still setup.shape mid new unsealed.engine unsealed.lines);
@@ -129,7 +116,7 @@ module _ (setup : Setup) (a : ℕ) (ctr : Ctr) (old mid new : Parts) (its_shape 
             record {
               levels = path_length setup.shape;
               fetched = all_fetched;
-              as_far = as_far answer unsealed.possible;
+              as_far = as_far answer;
               due = due answer unsealed;
             };
         mirror = ap (λ engine. engine.mirror) unsealed.engine ∙ fetched.mirror;
@@ -139,12 +126,11 @@ module _ (setup : Setup) (a : ℕ) (ctr : Ctr) (old mid new : Parts) (its_shape 
         steps_of_dirty = steps (dirty_count setup.shape old.engine.cache) fetched.steps_of_dirty.0;
       }
     where
-      possible_after : (answer : Result Unsealed Fault) → IsAnswerOfUnseal answer → IsAnswerOfRead (plain_answer answer)
-      possible_after v0 it = search rules
+      possible_after : (reply : Result Unsealed LineFault) → IsAnswerOfRead (plain_answer reply)
+      possible_after v0 = search rules
 
-      never_meta : (answer : Result Unsealed Fault) → IsAnswerOfUnseal answer
-          → IsMetaUncached setup.shape (page_of a) old (plain_answer answer)
-      never_meta v0 it = search rules
+      never_meta : (reply : Result Unsealed LineFault) → IsMetaUncached setup.shape (page_of a) old (plain_answer reply)
+      never_meta v0 = search rules
 
       did_fetch : IsFetchedTo setup.shape setup.formulas old.ledger.truth (page_of a) (path_length setup.shape)
           (fetch_state setup.shape old) (fetch_state setup.shape mid)
@@ -155,7 +141,7 @@ module _ (setup : Setup) (a : ℕ) (ctr : Ctr) (old mid new : Parts) (its_shape 
       all_fetched =
           record {
             on_path = omega arith;
-            cache = subst (λ e. IsPathFetched setup.shape (page_of a) old (with_engine mid e)) (sym unsealed.engine) did_fetch.cache;
+            cache = subst (λ (e : EngineState). IsPathFetched setup.shape (page_of a) old (record mid { engine = e })) (sym unsealed.engine) did_fetch.cache;
             lines = unsealed.lines ∙ did_fetch.work.lines;
             writes =
                 subst (λ n. RisesBy (length (path_spilled setup.shape old (page_of a))) old.device.writes n) (sym unsealed.writes)
@@ -165,7 +151,7 @@ module _ (setup : Setup) (a : ℕ) (ctr : Ctr) (old mid new : Parts) (its_shape 
           }
 
       -- the fetch's work, and the reads and the tag of the unsealing
-      work : (reply : Result Unsealed Fault) → HasUnsealed setup a ctr mid new reply → IsOk (plain_answer reply)
+      work : (reply : Result Unsealed LineFault) → HasUnsealed setup a ctr mid new reply → IsOk (plain_answer reply)
           → IsReadWork setup.shape a old new
       work (Err fault) it ok = absurd (true≢false (sym ok))
       work (Ok opened) it ok =
@@ -177,33 +163,27 @@ module _ (setup : Setup) (a : ℕ) (ctr : Ctr) (old mid new : Parts) (its_shape 
                 (fetch_worked setup (page_of a) old mid fetched) (unseal_worked setup a ctr mid new opened it);
           }
 
-      as_far : (reply : Result Unsealed Fault) → IsAnswerOfUnseal reply
+      as_far : (reply : Result Unsealed LineFault)
           → IsFetchedAsFar setup.shape old new (plain_answer reply) (path_length setup.shape)
-      as_far (Ok opened) it = λ past. refl
-      as_far (Err Fail.Cut) it = λ past. refl
-      as_far (Err Fail.Down) it = λ past. refl
-      as_far (Err (Fail.Meta x)) it = absurd it
-      as_far (Err (Fail.Tag b)) it = λ past. refl
-      as_far (Err (Fail.Spent page)) it = λ past. refl
-      as_far (Err Fail.Shown) it = λ past. refl
+      as_far (Ok opened) = λ past. refl
+      as_far (Err AtLine.Cut) = λ past. refl
+      as_far (Err (AtLine.Tag b)) = λ past. refl
+      as_far (Err AtLine.Shown) = λ past. refl
 
       -- a live board isn't cut at the unsealing's reads
-      due : (reply : Result Unsealed Fault) → HasUnsealed setup a ctr mid new reply → old.device.live ≡ true
+      due : (reply : Result Unsealed LineFault) → HasUnsealed setup a ctr mid new reply → old.device.live ≡ true
           → IsCutWhereDue setup.shape (page_of a) (path_length setup.shape) old (plain_answer reply)
       due (Ok opened) it live = tt
-      due (Err Fail.Cut) it live = absurd (true≢false (sym (fetched.done.gone.power.1 live) ∙ it.cut_unpowered refl))
-      due (Err Fail.Down) it live = tt
-      due (Err (Fail.Meta x)) it live = tt
-      due (Err (Fail.Tag b)) it live = tt
-      due (Err (Fail.Spent page)) it live = tt
-      due (Err Fail.Shown) it live = tt
+      due (Err AtLine.Cut) it live = absurd (true≢false (sym (fetched.done.gone.power.1 live) ∙ it.cut_unpowered refl))
+      due (Err (AtLine.Tag b)) it live = tt
+      due (Err AtLine.Shown) it live = tt
 
-      ok_before : (reply : Result Unsealed Fault) → IsOk (plain_answer reply) → IsOk reply
+      ok_before : (reply : Result Unsealed LineFault) → IsOk (plain_answer reply) → IsOk reply
       ok_before (Ok opened) ok = ok
       ok_before (Err fault) ok = ok
 
       unpowered : outcome_of (plain_answer answer) ≡ cut_short → mid.device.live ≡ false
-      unpowered it = unsealed.cut_unpowered (cut_answer answer (sym (same_outcome answer) ∙ it))
+      unpowered it = unsealed.cut_unpowered (cut_answer answer it)
 
       steps : (n : ℕ) → TakesAtMost n old.device mid.device → TakesWithinOfLive (outcome_of (plain_answer answer)) n old new
       steps n first =
@@ -229,7 +209,7 @@ module _ (setup : Setup) (a : ℕ) (ctr : Ctr) (old mid new : Parts) (its_shape 
           }
 
   -- the same of the formulas and the shape as they are afterwards
-  pub read_after_fetch : (formulas : Formulas) → formulas ≡ setup.formulas → (answer : Result Unsealed Fault)
+  pub read_after_fetch : (formulas : Formulas) → formulas ≡ setup.formulas → (answer : Result Unsealed LineFault)
       → HasUnsealed (record { shape = mid.engine.shape; formulas = formulas }) a ctr mid new answer
       → (AreTrusted setup mid → IsPathCached setup.shape mid.engine.cache (page_of a) → IsLastCounter mid a ctr)
       → UpReadOutcome setup a old new (plain_answer answer)
@@ -252,101 +232,42 @@ most_of_within cut_short n old new it =
 most_of_within shown n old new it = it
 
 -- another answer's fault was decided as early, and names the same position
-pub past_fault : (T U : Type 0) (old new : Parts) (fault : Fault) → IsPastFetch {T = T} old new (Err fault)
-    → IsPastFetch {T = U} old new (Err fault)
-past_fault T U old new Fail.Cut it = it
-past_fault T U old new Fail.Down it = it
-past_fault T U old new Fail.Shown it = it
-past_fault T U old new (Fail.Meta x) it = it
-past_fault T U old new (Fail.Tag b) it = it
-past_fault T U old new (Fail.Spent page) it = it
+pub past_fault : (T : Type 0) (old new : Parts) (fault : PathFault) → IsPastFetch {T = T} old new (Err (fault_of_path fault))
+    → IsPastFetch {T = Unit} old new (Err (fault_of_path fault))
+past_fault T old new v3 it = search rules
 
-pub meta_fault : (T U : Type 0) (g : Shape) (page : ℕ) (old : Parts) (fault : Fault)
-    → IsMetaUncached {T = T} g page old (Err fault) → IsMetaUncached {T = U} g page old (Err fault)
-meta_fault T U g page old Fail.Cut it = tt
-meta_fault T U g page old Fail.Down it = tt
-meta_fault T U g page old Fail.Shown it = tt
-meta_fault T U g page old (Fail.Meta x) it = it
-meta_fault T U g page old (Fail.Tag b) it = tt
-meta_fault T U g page old (Fail.Spent spent) it = tt
+pub meta_fault : (T : Type 0) (g : Shape) (page : ℕ) (old : Parts) (fault : PathFault)
+    → IsMetaUncached {T = Unit} g page old (Err (fault_of_path fault)) → IsMetaUncached {T = T} g page old (Err (fault_of_path fault))
+meta_fault T g page old v4 it = search rules
 
-pub as_far_fault : (T U : Type 0) (g : Shape) (old new : Parts) (fault : Fault) (levels : ℕ)
-    → IsFetchedAsFar {T = T} g old new (Err fault) levels → IsFetchedAsFar {T = U} g old new (Err fault) levels
-as_far_fault T U g old new Fail.Cut levels it = λ past. absurd past
-as_far_fault T U g old new Fail.Down levels it = λ past. absurd past
-as_far_fault T U g old new Fail.Shown levels it = it
-as_far_fault T U g old new (Fail.Meta x) levels it = it
-as_far_fault T U g old new (Fail.Tag b) levels it = it
-as_far_fault T U g old new (Fail.Spent page) levels it = it
+-- so far was the path fetched, and a cut came where a write back was due
+pub some_fault : (T : Type 0) (g : Shape) (page : ℕ) (old new : Parts) (fault : PathFault)
+    → HasFetchedSome {T = Unit} g page old new (Err (fault_of_path fault)) → HasFetchedSome {T = T} g page old new (Err (fault_of_path fault))
+some_fault T g page old new fault it =
+    record { levels = it.levels; fetched = it.fetched; as_far = as_far fault it.as_far; due = λ live. due fault (it.due live) }
+  where
+    as_far : (f : PathFault) → IsFetchedAsFar {T = Unit} g old new (Err (fault_of_path f)) it.levels
+        → IsFetchedAsFar {T = T} g old new (Err (fault_of_path f)) it.levels
+    as_far Path.Cut far = far
+    as_far (Path.Meta x) far = far
+    as_far Path.Shown far = far
 
-pub due_fault : (T U : Type 0) (g : Shape) (page levels : ℕ) (old : Parts) (fault : Fault)
-    → IsCutWhereDue {T = T} g page levels old (Err fault) → IsCutWhereDue {T = U} g page levels old (Err fault)
-due_fault T U g page levels old Fail.Cut it = it
-due_fault T U g page levels old Fail.Down it = tt
-due_fault T U g page levels old Fail.Shown it = tt
-due_fault T U g page levels old (Fail.Meta x) it = tt
-due_fault T U g page levels old (Fail.Tag b) it = tt
-due_fault T U g page levels old (Fail.Spent spent) it = tt
+    due : (f : PathFault) → IsCutWhereDue {T = Unit} g page it.levels old (Err (fault_of_path f))
+        → IsCutWhereDue {T = T} g page it.levels old (Err (fault_of_path f))
+    due Path.Cut was = was
+    due (Path.Meta x) was = tt
+    due Path.Shown was = tt
 
 module _ (setup : Setup) (a : ℕ) (old new : Parts) where
-  unfetched_says : (fault : Fault) → AnswersFetch setup (page_of a) old new (Err fault) → AnswersRead setup a old new (Err fault)
-  unfetched_says Fail.Cut it = tt
-  unfetched_says Fail.Down it = it
-  unfetched_says Fail.Shown it = inl it
-  unfetched_says (Fail.Meta x) it = it
-  unfetched_says (Fail.Tag b) it = absurd it
-  unfetched_says (Fail.Spent page) it = it
+  unfetched_says : (fault : PathFault) → AnswersFetch setup (page_of a) old new (Err fault)
+      → AnswersRead setup a old new (Err (fault_of_path fault))
+  unfetched_says Path.Cut it = tt
+  unfetched_says Path.Shown it = inl it
+  unfetched_says (Path.Meta x) it = it
 
-  unfetched_unrefused : (fault : Fault) → IsUnrefused {T = Unit} (Err fault) → IsUnrefused {T = Line} (Err fault)
-  unfetched_unrefused Fail.Cut it = tt
-  unfetched_unrefused Fail.Down it = it
-  unfetched_unrefused Fail.Shown it = it
-  unfetched_unrefused (Fail.Meta x) it = it
-  unfetched_unrefused (Fail.Tag b) it = it
-  unfetched_unrefused (Fail.Spent page) it = tt
+  unfetched_possible : (fault : PathFault) → IsAnswerOfRead (Err (fault_of_path fault))
+  unfetched_possible v0 = search rules
 
-  unfetched_down : (fault : Fault) → IsDownAnswer {T = Line} (Err fault) → IsDownAnswer {T = Unit} (Err fault)
-  unfetched_down Fail.Cut it = it
-  unfetched_down Fail.Down it = tt
-  unfetched_down Fail.Shown it = it
-  unfetched_down (Fail.Meta x) it = it
-  unfetched_down (Fail.Tag b) it = it
-  unfetched_down (Fail.Spent page) it = it
-
-  unfetched_possible : (fault : Fault) → IsAnswerOfFetch (Err fault) → IsAnswerOfRead (Err fault)
-  unfetched_possible Fail.Cut it = tt
-  unfetched_possible Fail.Down it = tt
-  unfetched_possible Fail.Shown it = tt
-  unfetched_possible (Fail.Meta x) it = tt
-  unfetched_possible (Fail.Tag b) it = tt
-  unfetched_possible (Fail.Spent page) it = it
-
-  pub read_unfetched : (fault : Fault) → HasFetched setup (page_of a) old new (Err fault) → UpReadOutcome setup a old new (Err fault)
-  read_unfetched fault it =
-      record {
-        done = it.done;
-        answered = λ trusted. unfetched_says fault (it.answered trusted);
-        unrefused = λ sound. unfetched_unrefused fault (it.unrefused sound);
-        not_down = λ is. it.not_down (unfetched_down fault is);
-        path_cached = λ ok. absurd (true≢false (sym ok));
-        path_fetched = λ past. it.path_fetched (past_fault Line Unit old new fault past);
-        possible = unfetched_possible fault it.possible;
-        meta_uncached = meta_fault Unit Line setup.shape (page_of a) old fault it.meta_uncached;
-        shadow = it.shadow;
-        work = λ ok. absurd (true≢false (sym ok));
-        fetched =
-            record {
-              levels = it.fetched.levels;
-              fetched = it.fetched.fetched;
-              as_far = as_far_fault Unit Line setup.shape old new fault it.fetched.levels it.fetched.as_far;
-              due = λ live. due_fault Unit Line setup.shape (page_of a) it.fetched.levels old fault (it.fetched.due live);
-            };
-        mirror = it.mirror;
-        down = it.down;
-        of_cached = λ was. absurd (true≢false (sym (it.still_cached was).0));
-        steps_of_path = (
-          most_of_within (outcome_of_fault fault) (path_length setup.shape) old new it.steps_of_path,
-          λ live. it.steps_of_path,
-        );
-        steps_of_dirty = it.steps_of_dirty;
-      }
+  pub read_unfetched : (fault : PathFault) → HasFetched setup (page_of a) old new (Err fault)
+      → UpReadOutcome setup a old new (Err (fault_of_path fault))
+  read_unfetched fault it = search (rules, true≢false, most_of_within, past_fault, meta_fault, some_fault, unfetched_says, unfetched_possible, path_unrefused, path_not_down)

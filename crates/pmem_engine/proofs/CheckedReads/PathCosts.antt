@@ -1,6 +1,6 @@
 -- What it takes to fetch a path, and what a path that is cached already keeps.
-use Rattle.std.proofs.Common.{ℕ, zero, suc, ◌≡◌, ◌≤◌, ◌+◌, ◌++◌, Bool, true, false, List, [], ◌∷◌, length, Option, Some, None, refl, sym, ap, ap₂, subst, ◌∙◌, arith}
-use Rattle.std.specs.Prelude.{option_map, unwrap_or, ◌*◌}
+use Rattle.std.proofs.Common.{rules, ℕ, zero, suc, ◌≡◌, ◌≤◌, ◌+◌, ◌++◌, Bool, true, false, List, [], ◌∷◌, length, Option, Some, None, refl, ap, ap₂, arith}
+use Rattle.std.specs.Prelude.{option_map, unwrap_or}
 use Rattle.std.proofs.lemmas.Bool.{cond-true, cond-false}
 use Rattle.std.proofs.lemmas.List.{length-append}
 use Rattle.std.proofs.lemmas.Option.{none-some, same_Some}
@@ -8,8 +8,8 @@ use Rattle.pmem_base.specs.declared.lines.Line.{Line}
 use Rattle.pmem_base.specs.Shape.{Shape}
 use Rattle.pmem_base.specs.Layout as layout
 use Rattle.meta_cache.specs.declared.slot.Slot.{Slot}
-use Rattle.meta_cache.specs.Banks.{Banks, is_cached, set_index, slot_number}
-use Rattle.meta_cache.specs.Sets.{holds, slot_with, touched, victim_of}
+use Rattle.meta_cache.specs.Banks.{Banks, is_cached, slot_number}
+use Rattle.meta_cache.specs.Sets.{touched, victim_of}
 use Rattle.meta_cache.proofs.WayLemmas.{KeepsWays-touched}
 use Rattle.meta_path.specs.Blocks.{path_at, slots_at, number_in, IsPathCached}
 use Rattle.meta_path.specs.Levels.{victim_write, room_write, level_write}
@@ -79,15 +79,9 @@ length_spilled g banks page (suc n) =
 number_of_way : (g : Shape) (set : ℕ) (before after : Option Slot)
     → option_map (λ slot. slot.way) after ≡ option_map (λ slot. slot.way) before
     → unwrap_or (option_map (slot_number g set) after) 0 ≡ unwrap_or (option_map (slot_number g set) before) 0
-number_of_way g set None None same = refl
-number_of_way g set None (Some now) same = absurd (none-some now.way (sym same))
-number_of_way g set (Some slot) None same = absurd (none-some slot.way same)
-number_of_way g set (Some slot) (Some now) same = ap (λ way. set * g.ways + way) (same_Some now.way slot.way same)
+number_of_way g set before after same = search (rules, none-some, same_Some)
 
 -- a cached block's slot keeps its number while it is used
 pub same_number : (g : Shape) (old new : Banks) (bank x : ℕ) → is_cached g old bank x ≡ true → is_cached g new bank x ≡ true
     → slots_at g new bank x ≡ touched (slots_at g old bank x) x → number_in g new bank x ≡ number_in g old bank x
-same_number g old new bank x cached still used =
-    ap (λ slots. unwrap_or (option_map (slot_number g (set_index g x)) (slot_with slots x)) 0) used
-    ∙ number_of_way g (set_index g x) (slot_with (slots_at g old bank x) x) (slot_with (touched (slots_at g old bank x) x) x)
-    (KeepsWays-touched (slots_at g old bank x) x x cached (subst (λ slots. holds slots x ≡ true) used still))
+same_number g old new bank x cached still used = search (rules, KeepsWays-touched, number_of_way)

@@ -1,16 +1,15 @@
 -- A call that ended: its engine is down where it was cut or shown.
-use Rattle.std.proofs.Common.{rules, ℕ, ◌≡◌, Bool, false, ◌||◌, List, [], Result, Ok, Err, sym, ap, subst}
+use Rattle.std.proofs.Common.{rules, ℕ, ◌≡◌, Bool, false, ◌||◌, List, [], Result, refl, sym, ap, subst, ◌∙◌}
 use Rattle.pmem_base.specs.declared.lines.Line.{Line}
 use Rattle.pmem_base.specs.declared.answers.Mark.{Mark}
 use Rattle.pmem_base.specs.Shape.{Shape}
 use Rattle.pmem_base.specs.Layout.{page_of}
 use Rattle.suite.specs.Setup.{Setup}
 use Rattle.pmem_engine.specs.declared.fault.Fault.{Fault}
-use Rattle.pmem_engine.specs.declared.fault.Fault.TheVariants as Fail
 use Rattle.pmem_engine.specs.Engine.{EngineState}
 use Rattle.pmem_engine.specs.Parts.{Parts, parts_of}
-use Rattle.pmem_engine.specs.Outcomes.{Outcome, going, cut_short, shown, outcome_of, CallEffect, OneLossEffect}
-use Rattle.pmem_engine.specs.Calls.{IsDownAnswer, AnswersDown, TakesWithin, TakesWithinOfLive, Work, then_work, IsWork, fetch_work, unseal_work, IsPastFetch, IsReadWork, AnswersRead, HasReadLine, IsFetchedAsFar, HasFetchedSome}
+use Rattle.pmem_engine.specs.Outcomes.{Outcome, going, cut_short, shown, outcome_of, LeavesTrusted, LeavesSound, KeepsMetaWhere, HasSmallGroup, CallEffect, OneLossEffect}
+use Rattle.pmem_engine.specs.Calls.{IsDownAnswer, AnswersDown, TakesWithin, TakesWithinOfLive, Work, IsWork, IsPastFetch, IsReadWork, AnswersRead, HasReadLine, HasFetchedSome}
 use Rattle.pmem_engine.specs.Inner.{ended_by, UpReadOutcome}
 
 -- the parts afterwards
@@ -27,76 +26,56 @@ ended_going engine = ap (λ down. record { shape = engine.shape; cache = engine.
 pub ended_parts_going : (parts : Parts) → ended_parts parts going ≡ parts
 ended_parts_going parts = search rules
 
+-- a call's effect, where only the engine is another
+gone_with : (setup : Setup) (outcome : Outcome) (made : List Mark) (old new : Parts) (engine : EngineState)
+    → engine.shape ≡ new.engine.shape
+    → (LeavesTrusted setup outcome new → LeavesTrusted setup outcome (record new { engine = engine }))
+    → (LeavesSound setup outcome new → LeavesSound setup outcome (record new { engine = engine }))
+    → (KeepsMetaWhere setup outcome made old new → KeepsMetaWhere setup outcome made old (record new { engine = engine }))
+    → HasSmallGroup outcome (record new { engine = engine }) ≡ HasSmallGroup outcome new
+    → CallEffect setup outcome made old new → CallEffect setup outcome made old (record new { engine = engine })
+gone_with setup outcome made old new engine shape trusted sound metadata small it =
+    record {
+      shape = shape ∙ it.shape;
+      size = it.size;
+      told = it.told;
+      valid = it.valid;
+      group = it.group;
+      small_group = λ none. subst (λ (P : Type 0). P) (sym small) (it.small_group none);
+      power = it.power;
+      reads = it.reads;
+      tags = it.tags;
+      digests = it.digests;
+      marks = it.marks;
+      spare = it.spare;
+      true_lines = it.true_lines;
+      data_lines = it.data_lines;
+      exhibit = it.exhibit;
+      trusted = λ was. trusted (it.trusted was);
+      sound = λ was. sound (it.sound was);
+      places =
+          λ was.
+          record {
+            seals = (it.places was).seals;
+            data_lines = (it.places was).data_lines;
+            tag_slots = (it.places was).tag_slots;
+          };
+      metadata = λ was. metadata (it.metadata was);
+    }
+
 pub gone_ended : (setup : Setup) (outcome : Outcome) (made : List Mark) (old new : Parts) → CallEffect setup outcome made old new
     → CallEffect setup outcome made old (ended_parts new outcome)
 gone_ended setup going made old new it =
     subst (λ parts. CallEffect setup going made old parts) (sym (ended_parts_going new)) it
 gone_ended setup cut_short made old new it =
-    record {
-      shape = it.shape;
-      size = it.size;
-      told = it.told;
-      valid = it.valid;
-      group = it.group;
-      small_group = it.small_group;
-      power = it.power;
-      reads = it.reads;
-      tags = it.tags;
-      digests = it.digests;
-      marks = it.marks;
-      spare = it.spare;
-      true_lines = it.true_lines;
-      data_lines = it.data_lines;
-      exhibit = it.exhibit;
-      trusted = it.trusted;
-      sound = it.sound;
-      places =
-          λ was.
-          record {
-            seals = (it.places was).seals;
-            data_lines = (it.places was).data_lines;
-            tag_slots = (it.places was).tag_slots;
-          };
-      metadata = it.metadata;
-    }
+    gone_with setup cut_short made old new (ended_by new.engine cut_short) refl (λ t. t) (λ s. s) (λ m. m) refl it
 gone_ended setup shown made old new it =
-    record {
-      shape = it.shape;
-      size = it.size;
-      told = it.told;
-      valid = it.valid;
-      group = it.group;
-      small_group = it.small_group;
-      power = it.power;
-      reads = it.reads;
-      tags = it.tags;
-      digests = it.digests;
-      marks = it.marks;
-      spare = it.spare;
-      true_lines = it.true_lines;
-      data_lines = it.data_lines;
-      exhibit = it.exhibit;
-      trusted = it.trusted;
-      sound = it.sound;
-      places =
-          λ was.
-          record {
-            seals = (it.places was).seals;
-            data_lines = (it.places was).data_lines;
-            tag_slots = (it.places was).tag_slots;
-          };
-      metadata =
-          search rules;
-    }
+    gone_with setup shown made old new (ended_by new.engine shown) refl (λ t. t) (λ s. s)
+    (λ m. record { true_or_dirty = m.true_or_dirty; changed = m.changed; dirty = m.dirty }) refl it
 
 pub done_ended : (setup : Setup) (outcome : Outcome) (made : List Mark) (old new : Parts) → OneLossEffect setup outcome made old new
     → OneLossEffect setup outcome made old (ended_parts new outcome)
-done_ended setup going made old new it =
-    subst (λ parts. OneLossEffect setup going made old parts) (sym (ended_parts_going new)) it
-done_ended setup cut_short made old new it =
-    record { gone = gone_ended setup cut_short made old new it.gone; loss = it.loss; counters = it.counters }
-done_ended setup shown made old new it =
-    record { gone = gone_ended setup shown made old new it.gone; loss = it.loss; counters = it.counters }
+done_ended setup outcome made old new it = search (rules, gone_ended)
 
 -- an engine that isn't down answers Down nowhere
 pub answers_down : {T : Type 0} (answer : Result T Fault) (old new : Parts) → old.engine.down ≡ false
@@ -137,40 +116,11 @@ work_ended work old new end it =
 
 read_work_ended : (g : Shape) (a : ℕ) (old new : Parts) (end : Outcome) → IsReadWork g a old new
     → IsReadWork g a old (ended_parts new end)
-read_work_ended g a old new end it =
-    record {
-      cache = it.cache;
-      lines = it.lines;
-      work = work_ended (then_work (fetch_work g old (page_of a)) (unseal_work 1)) old new end it.work;
-    }
-
-as_far_ended : {T : Type 0} (g : Shape) (old new : Parts) (answer : Result T Fault) (end : Outcome) (levels : ℕ)
-    → IsFetchedAsFar g old new answer levels → IsFetchedAsFar g old (ended_parts new end) answer levels
-as_far_ended g old new (Ok value) end levels it = it
-as_far_ended g old new (Err Fail.Cut) end levels it = it
-as_far_ended g old new (Err Fail.Down) end levels it = it
-as_far_ended g old new (Err Fail.Shown) end levels it = it
-as_far_ended g old new (Err (Fail.Meta x)) end levels it = it
-as_far_ended g old new (Err (Fail.Tag b)) end levels it = it
-as_far_ended g old new (Err (Fail.Spent page)) end levels it = it
+read_work_ended g a old new end it = search (rules, work_ended)
 
 pub fetched_ended : {T : Type 0} (g : Shape) (page : ℕ) (old new : Parts) (answer : Result T Fault) (end : Outcome)
     → HasFetchedSome g page old new answer → HasFetchedSome g page old (ended_parts new end) answer
-fetched_ended g page old new answer end it =
-    record {
-      levels = it.levels;
-      fetched =
-          record {
-            on_path = it.fetched.on_path;
-            cache = it.fetched.cache;
-            lines = it.fetched.lines;
-            writes = it.fetched.writes;
-            latches = it.fetched.latches;
-            regs = it.fetched.regs;
-          };
-      as_far = as_far_ended g old new answer end it.levels it.as_far;
-      due = it.due;
-    }
+fetched_ended g page old new answer end it = search rules
 
 answers_read_ended : (setup : Setup) (a : ℕ) (old new : Parts) (answer : Result Line Fault) (outcome : Outcome)
     → AnswersRead setup a old new answer → AnswersRead setup a old (ended_parts new outcome) answer

@@ -1,5 +1,5 @@
 -- A data line and its tag line are read, and the line is unsealed or refused.
-use Rattle.std.proofs.Common.{rules, ℕ, ◌≡◌, ◌≢◌, ◌<◌, Bool, true, false, List, [], Option, Some, None, Ok, Err, refl, sym, ap, ap₂, subst, ◌∙◌, arith}
+use Rattle.std.proofs.Common.{rules, ℕ, ◌≡◌, ◌≢◌, ◌<◌, true, false, List, [], Option, Some, None, Ok, Err, refl, sym, ap, ap₂, subst, ◌∙◌, arith}
 use Rattle.std.specs.Prelude.{MatchOption, IfSome, IsSome, option_map, All}
 use Rattle.std.proofs.lemmas.Bool.{true≢false, cond-false}
 use Rattle.std.proofs.lemmas.Option.{none-some, same_Some}
@@ -8,7 +8,7 @@ use Rattle.pmem_base.specs.declared.lines.Ctr.{Ctr}
 use Rattle.pmem_base.specs.declared.answers.Mark.{Mark}
 use Rattle.pmem_base.specs.declared.answers.Exhibit.TheVariants.{Forged}
 use Rattle.pmem_base.specs.Counts.{risen}
-use Rattle.pmem_base.specs.Lines.{tag_slot, same_bytes, xor_lines}
+use Rattle.pmem_base.specs.Lines.{tag_slot}
 use Rattle.pmem_base.specs.Layout as layout
 use Rattle.pmem_base.specs.Marks.{SealOf, last_seal}
 use Rattle.suite.specs.Formulas.{Formulas}
@@ -22,7 +22,7 @@ use Rattle.seal_ledger.specs.Notes.{HasExhibit}
 use Rattle.seal_ledger.proofs.MarkLemmas.{last_seal_has}
 use Rattle.line_seal.specs.Seals.{unsealed}
 use Rattle.plain_model.specs.View.{plain_line}
-use Rattle.pmem_engine.specs.declared.fault.Fault.TheVariants as Fail
+use Rattle.pmem_engine.specs.declared.fault.LineFault.TheVariants as AtLine
 use Rattle.pmem_engine.specs.Engine.{EngineState}
 use Rattle.pmem_engine.specs.Invariants.{IsSound, IsSealStored, IsSealTagged}
 use Rattle.pmem_engine.specs.Parts.{Parts, parts_of, AreTrusted, AreSound, HoldsSeal}
@@ -84,14 +84,7 @@ tag_of_read setup parts a ctr cipher tag tagged counter it =
 -- a line that was unsealed has its right tag
 pub right_tag : (f : Formulas) (a : ℕ) (ctr : Ctr) (cipher : Line) (tag slot : List ℕ) (plain : Line) → tag ≡ slot
     → unsealed f a ctr cipher tag ≡ Some plain → (f.tag_of a ctr cipher ≡ slot) × (unsealed f a ctr cipher slot ≡ Some plain)
-right_tag f a ctr cipher tag slot plain same it =
-    (go (same_bytes (f.tag_of a ctr cipher) tag) refl, subst (λ z. unsealed f a ctr cipher z ≡ Some plain) same it)
-  where
-    go : (b : Bool) → same_bytes (f.tag_of a ctr cipher) tag ≡ b → f.tag_of a ctr cipher ≡ slot
-    go true equal = same_bytes-true (f.tag_of a ctr cipher) tag equal ∙ same
-    go false other =
-        absurd (none-some plain
-        (sym (cond-false (same_bytes (f.tag_of a ctr cipher) tag) (Some (xor_lines cipher (f.pad_of a ctr))) None other) ∙ it))
+right_tag f a ctr cipher tag slot plain same it = search (rules, cond-false, none-some, same_bytes-true)
 
 module _ (setup : Setup) (engine : EngineState) (ledger : LedgerState) (a : ℕ) (ctr : Ctr) (cipher tag_line : Line)
     (old new : Device) (tags digests tags_now digests_now : ℕ)
@@ -114,7 +107,7 @@ module _ (setup : Setup) (engine : EngineState) (ledger : LedgerState) (a : ℕ)
 
   -- the tag isn't the one in its slot
   pub refused : a < layout.data_lines setup.shape → setup.formulas.tag_of a ctr cipher ≢ tag_slot tag_line a
-      → HasUnsealed setup a ctr before (after ledger) (Err (Fail.Tag a))
+      → HasUnsealed setup a ctr before (after ledger) (Err (AtLine.Tag a))
   refused within other =
       record {
         done = done_reading setup before (after ledger) only_read;
@@ -129,14 +122,12 @@ module _ (setup : Setup) (engine : EngineState) (ledger : LedgerState) (a : ℕ)
         digests = same;
         same_ledger = λ unshown. refl;
         tells_tag_line = tt;
-        possible = tt;
         writes = both.writes;
         latches = both.latches;
         no_steps = no_steps;
         two_reads = λ ok. no_answer ok;
         one_tag = λ ok. no_answer ok;
         cut_unpowered = λ is_cut. cc;
-        not_down = λ it. it;
       }
     where
       sound_tagged : AreSound setup before → All (IsSealTagged setup.formulas) ledger.marks
@@ -152,7 +143,7 @@ module _ (setup : Setup) (engine : EngineState) (ledger : LedgerState) (a : ℕ)
       → setup.formulas.tag_of a ctr cipher ≡ tag_slot tag_line a
       → IfSome (last_seal ledger.marks a) (λ seal. cipher ≢ seal.cipher)
       → HasExhibit ledger noted (Forged a ctr cipher (tag_slot tag_line a))
-      → HasUnsealed setup a ctr before (after noted) (Err Fail.Shown)
+      → HasUnsealed setup a ctr before (after noted) (Err AtLine.Shown)
   stopped noted within known right other shows = search rules
 
   -- the line is unsealed, and it is the last seal's
@@ -172,14 +163,12 @@ module _ (setup : Setup) (engine : EngineState) (ledger : LedgerState) (a : ℕ)
         digests = same;
         same_ledger = λ unshown. refl;
         tells_tag_line = both.tells_tag_line;
-        possible = tt;
         writes = both.writes;
         latches = both.latches;
         no_steps = no_steps;
         two_reads = λ ok. both.reads;
         one_tag = λ ok. one_tag;
         cut_unpowered = λ is_cut. cc;
-        not_down = λ it. it;
       }
     where
       seal_read : IsLastCounter before a ctr → (seal : SealOf) × (last_seal ledger.marks a ≡ Some seal) × (seal.ctr ≡ ctr) × (cipher ≡ seal.cipher)

@@ -1,7 +1,7 @@
 -- One seal keeps the registers and the ledger anchored.
-use Rattle.std.proofs.Common.{rules, ℕ, ◌≡◌, ◌≢◌, ◌<◌, ◌+◌, cond, List, [], ◌∷◌, ◌++◌, get_or, map, Some, inl, inr, refl, sym, ap, subst, ◌∙◌, arith}
+use Rattle.std.proofs.Common.{rules, ℕ, ◌≡◌, ◌≢◌, ◌<◌, ◌+◌, cond, List, [], ◌∷◌, ◌++◌, get_or, map, Some, inl, inr, refl, sym, ap, subst, ◌∙◌}
 use Rattle.std.specs.Prelude.{not, ◌==◌, IsTrue, IsNone, slice_index}
-use Rattle.std.specs.List.{All, AllPairs, filter}
+use Rattle.std.specs.List.{All, filter}
 use Rattle.std.specs.Option.{option_map}
 use Rattle.std.proofs.lemmas.Option.{same_Some}
 use Rattle.std.proofs.lemmas.Bool.{cases_Bool, cases_eq, eqb-true, eqb-false, not-true, eqb-false}
@@ -12,11 +12,12 @@ use Rattle.pmem_base.specs.declared.lines.Ctr.{Ctr}
 use Rattle.pmem_base.specs.declared.registers.Progress.{Progress}
 use Rattle.pmem_base.specs.declared.registers.Regs.{Regs}
 use Rattle.pmem_base.specs.declared.answers.Mark.TheVariants.{Seal}
-use Rattle.pmem_base.specs.Shape.{Shape, is_loss}
+use Rattle.pmem_base.specs.declared.answers.Mark.{Mark}
+use Rattle.pmem_base.specs.Shape.{Shape}
 use Rattle.pmem_base.specs.Layout.{data_lines, device_lines, pages, page_of, index_in_page}
 use Rattle.pmem_base.specs.Lines.{IsCtr, line_at}
-use Rattle.pmem_base.specs.Marks.{SealOf, last_seal, is_below, IsFresh}
-use Rattle.pmem_base.specs.Registers.{IsGroup, not_done, with_done, IsValidRegs, IsProgress}
+use Rattle.pmem_base.specs.Marks.{last_seal, is_below, IsFresh}
+use Rattle.pmem_base.specs.Registers.{IsGroup, not_done, with_done, IsValidRegs}
 use Rattle.pmem_base.proofs.LineLemmas.{IsLine-line_at}
 use Rattle.seal_ledger.proofs.MarkLemmas.{last_seal-sealed, last_seal-other, IsFresh-push}
 use Rattle.page_reencrypt.proofs.DoneBits.{not_done-with_done}
@@ -29,13 +30,13 @@ use Rattle.bonsai_tree.specs.Paths.{IsTreeWith, lines_with, root_with}
 use Rattle.bonsai_tree.proofs.Trees.{lines_with-IsTreeWith}
 use Rattle.page_reencrypt.specs.Registers.{counter_of, registers_with_done}
 use Rattle.page_reencrypt.proofs.Holding.{counter_of-other, counter_of-done, registers_with_done-IsProgress, registers_with_done-distinct, All-registers_with_done, old_major-same}
-use Rattle.seal_ledger.specs.Ledger.{LedgerState, IsMark, IsOfShape}
+use Rattle.seal_ledger.specs.Ledger.{LedgerState, IsMark}
 use Rattle.suite.specs.Setup.{Setup}
-use Rattle.plain_model.specs.View.{view_of, pages_with_done}
+use Rattle.plain_model.specs.View.{view_of}
 use Rattle.plain_model.proofs.Views.{open_pages-sealed}
 use Rattle.pmem_engine.specs.Truth.{true_block, true_counter}
 use Rattle.pmem_engine.specs.Invariants.{IsSealTagged, IsHeldBack, register_page, IsAnchored}
-use Rattle.pmem_engine.specs.Sealed.{sealed_counter, sealed_block, IsSealed}
+use Rattle.pmem_engine.specs.Sealed.{sealed_counter, sealed_block, IsKept, IsSealed}
 use Rattle.pmem_engine.proofs.Laws.OpenPages.{pages_with_done-registers}
 
 -- ---- the true blocks
@@ -58,12 +59,31 @@ counter_of-block registers a b line same = search rules
 
 -- the registers with a line done
 pub valid_regs-done : (g : Shape) (old new : Regs) (a : ℕ) → new.progress.items ≡ registers_with_done old.progress.items a → new.loss ≡ old.loss → IsGroup (device_lines g) new.group.items → IsValidRegs g old → IsValidRegs g new
-valid_regs-done g old new a progress loss group valid =
+valid_regs-done g old new a progress loss group valid = search (rules, registers_with_done-IsProgress, registers_with_done-distinct)
+
+-- ---- one mark more, with a page's new tree: what is left to show
+
+pub anchored-marked : (setup : Setup) (mark : Mark) (page : ℕ) (block : Line) (old_regs new_regs : Regs) (old new : LedgerState) → IsAnchored setup old_regs old → IsKept setup old_regs new_regs old new → new.marks ≡ old.marks ++ mark ∷ [] → IsTreeWith setup.shape setup.formulas page block new_regs.root old.truth new.truth → IsMark setup.shape mark → IsSealTagged setup.formulas mark → IsFresh (old.marks ++ mark ∷ [])
+    → ((a : ℕ) → a < data_lines setup.shape → option_map (λ seal. seal.ctr) (last_seal new.marks a) ≡ Some (true_counter setup.shape new_regs.progress.items new.truth a))
+    → IsValidRegs setup.shape new_regs → All (IsHeldBack setup.shape new.truth) new_regs.progress.items → (view_of setup.shape new.marks).open_pages ≡ map register_page new_regs.progress.items → IsAnchored setup new_regs new
+anchored-marked setup mark page block old_regs new_regs old new anchored kept marks tree in_range tagged fresh counters valid held opened =
     record {
-      group = group;
-      each_page = subst (λ ps. All (IsProgress g) ps) (sym progress) (registers_with_done-IsProgress g old.progress.items a valid.each_page);
-      distinct_pages = subst (λ ps. AllPairs (λ x y. x.page ≢ y.page) ps) (sym progress) (registers_with_done-distinct old.progress.items a valid.distinct_pages);
-      known_loss = subst (λ n. IsTrue (is_loss n)) (sym loss) valid.known_loss;
+      of_shape =
+          record {
+            truth_count = tree.tree.whole;
+            truth_lines = tree.whole;
+            line_count = kept.data_lines ∙ anchored.of_shape.line_count;
+            marks_in_range = subst (λ ms. All (IsMark setup.shape) ms) (sym marks) (All-push (IsMark setup.shape) old.marks mark anchored.of_shape.marks_in_range in_range);
+          };
+      truth_is_tree = tree.tree;
+      root = tree.top;
+      last_counters = counters;
+      seals_tagged = subst (λ ms. All (IsSealTagged setup.formulas) ms) (sym marks) (All-push (IsSealTagged setup.formulas) old.marks mark anchored.seals_tagged tagged);
+      valid_regs = valid;
+      held_back = held;
+      fresh = subst IsFresh (sym marks) fresh;
+      open_pages = opened;
+      no_exhibit = subst IsNone (sym kept.exhibit) anchored.no_exhibit;
     }
 
 -- ---- the parts of a seal
@@ -96,58 +116,14 @@ module _ (setup : Setup) (a minor : ℕ) (cipher : Line) (tag : List ℕ) (old_r
 
   -- the sealed line has the seal's counter
   counter_here : true_counter geometry new_regs.progress.items new.truth a ≡ seal_counter
-  counter_here =
-      ap (λ ps. true_counter geometry ps new.truth a) it.progress
-      ∙ (counter_of-done old_regs.progress.items (true_block geometry new.truth sealed_page) a
-      ∙ (ap (λ b. block_counter b (index_in_page a)) block_new
-      ∙ with_minor-same old_block (index_in_page a) minor (true_block-IsBlock setup old_regs old sealed_page anchored) (omega arith)))
+  counter_here = search (rules, with_minor-same, counter_of-done, true_block-IsBlock, block_new)
 
   -- and every other line its old one
   counter_other : (b : ℕ) → b ≢ a → true_counter geometry new_regs.progress.items new.truth b ≡ true_counter geometry old_regs.progress.items old.truth b
-  counter_other b apart =
-      ap (λ ps. true_counter geometry ps new.truth b) it.progress
-      ∙ (counter_of-other old_regs.progress.items (true_block geometry new.truth (page_of b)) a b apart
-      ∙ elim (cases_eq (page_of b) sealed_page) [
-        | inl same ↦
-            let place : index_in_page b ≢ index_in_page a = λ e. apart (omega (arith, same, e)) in
-            let blocks : block_counter (true_block geometry new.truth (page_of b)) (index_in_page b) ≡ block_counter (true_block geometry old.truth (page_of b)) (index_in_page b) =
-            ap (λ p. block_counter (true_block geometry new.truth p) (index_in_page b)) same
-            ∙ (ap (λ block. block_counter block (index_in_page b)) block_new
-            ∙ (with_minor-other old_block (index_in_page a) (index_in_page b) minor place
-            ∙ ap (λ p. block_counter (true_block geometry old.truth p) (index_in_page b)) (sym same))) in
-            counter_of-block old_regs.progress.items (true_block geometry new.truth (page_of b)) (true_block geometry old.truth (page_of b)) b blocks
-        | inr other ↦ ap (λ block. counter_of old_regs.progress.items block b) (block_other (page_of b) other)
-      ])
+  counter_other b apart = search (rules, cases_eq, with_minor-other, counter_of-other, counter_of-block, block_new, block_other)
 
   last_counters : (b : ℕ) → b < data_lines geometry → option_map (λ seal. seal.ctr) (last_seal new.marks b) ≡ Some (true_counter geometry new_regs.progress.items new.truth b)
-  last_counters b inside =
-      ap (λ ms. option_map (λ seal. seal.ctr) (last_seal ms b)) it.marks
-      ∙ elim (cases_eq b a) [
-        | inl same ↦
-            ap (λ z. option_map (λ seal. seal.ctr) (last_seal (old.marks ++ Seal a seal_counter cipher tag ∷ []) z)) same
-            ∙ (ap (option_map (λ seal. seal.ctr)) (last_seal-sealed old.marks a seal_counter cipher tag)
-            ∙ (ap Some (sym counter_here)
-            ∙ ap (λ z. Some (true_counter geometry new_regs.progress.items new.truth z)) (sym same)))
-        | inr apart ↦
-            ap (option_map (λ seal. seal.ctr)) (last_seal-other old.marks a seal_counter cipher tag b apart)
-            ∙ (anchored.last_counters b inside ∙ ap Some (sym (counter_other b apart)))
-      ]
-
-  of_shape : IsOfShape geometry new
-  of_shape =
-      record {
-        truth_count = it.truth.tree.whole;
-        truth_lines = it.truth.whole;
-        line_count = it.kept.data_lines ∙ anchored.of_shape.line_count;
-        marks_in_range =
-            subst (λ ms. All (IsMark geometry) ms) (sym it.marks)
-            (All-push (IsMark geometry) old.marks (Seal a seal_counter cipher tag) anchored.of_shape.marks_in_range (it.its_line, counter_in_range, it.its_cipher, it.its_tag));
-      }
-
-  seals_tagged : All (IsSealTagged setup.formulas) new.marks
-  seals_tagged =
-      subst (λ ms. All (IsSealTagged setup.formulas) ms) (sym it.marks)
-      (All-push (IsSealTagged setup.formulas) old.marks (Seal a seal_counter cipher tag) anchored.seals_tagged it.tagged)
+  last_counters b inside = search (rules, cases_eq, last_seal-sealed, last_seal-other, counter_here, counter_other)
 
   valid_regs : IsValidRegs geometry new_regs
   valid_regs = valid_regs-done geometry old_regs new_regs a it.progress it.kept.loss it.kept.group anchored.valid_regs
@@ -191,38 +167,17 @@ module _ (setup : Setup) (a minor : ℕ) (cipher : Line) (tag : List ℕ) (old_r
       ])
       old_regs.progress.items anchored.held_back)
 
-  fresh : IsTrue (is_below (true_counter geometry old_regs.progress.items old.truth a) seal_counter) → IsFresh new.marks
-  fresh above =
-      subst IsFresh (sym it.marks)
-      (IsFresh-push old.marks (Seal a seal_counter cipher tag) anchored.fresh
-      (λ (last : SealOf) e.
-      let same : last.ctr ≡ true_counter geometry old_regs.progress.items old.truth a =
-      same_Some last.ctr (true_counter geometry old_regs.progress.items old.truth a) (sym (ap (option_map (λ seal. seal.ctr)) e) ∙ anchored.last_counters a it.its_line) in
-      subst (λ ctr. IsTrue (is_below ctr seal_counter)) (sym same) above))
+  fresh : IsTrue (is_below (true_counter geometry old_regs.progress.items old.truth a) seal_counter) → IsFresh (old.marks ++ Seal a seal_counter cipher tag ∷ [])
+  fresh above = search (rules, same_Some, IsFresh-push, last_counters)
 
   open_pages : (view_of geometry new.marks).open_pages ≡ map register_page new_regs.progress.items
-  open_pages =
-      ap (λ ms. (view_of geometry ms).open_pages) it.marks
-      ∙ (open_pages-sealed geometry old.marks a seal_counter cipher tag
-      ∙ (ap (λ pages. pages_with_done pages a) anchored.open_pages
-      ∙ (pages_with_done-registers old_regs.progress.items a
-      ∙ ap (map register_page) (sym it.progress))))
+  open_pages = search (rules, open_pages-sealed, pages_with_done-registers)
 
   -- a seal under a counter above the line's last one keeps all anchored
   pub anchored-sealed : IsTrue (is_below (true_counter geometry old_regs.progress.items old.truth a) seal_counter) → IsAnchored setup new_regs new
   anchored-sealed above =
-      record {
-        of_shape = of_shape;
-        truth_is_tree = it.truth.tree;
-        root = it.truth.top;
-        last_counters = last_counters;
-        seals_tagged = seals_tagged;
-        valid_regs = valid_regs;
-        held_back = held_back;
-        fresh = fresh above;
-        open_pages = open_pages;
-        no_exhibit = subst IsNone (sym it.kept.exhibit) anchored.no_exhibit;
-      }
+      anchored-marked setup (Seal a seal_counter cipher tag) sealed_page (packed (sealed_block geometry old.truth a minor)) old_regs new_regs old new anchored it.kept it.marks it.truth
+      (it.its_line, counter_in_range, it.its_cipher, it.its_tag) it.tagged (fresh above) last_counters valid_regs held_back open_pages
 
 -- the page's new path over an anchored ledger's lines gives a tree with its new block
 pub anchored-new_path : (setup : Setup) (regs : Regs) (ledger : LedgerState) (page : ℕ) (block : Block) (root : List ℕ) (truth : List Line) → AreInRange setup.formulas → IsAnchored setup regs ledger → page < pages setup.shape → truth ≡ lines_with setup.shape setup.formulas ledger.truth page (packed block) → root ≡ root_with setup.shape setup.formulas (line_at ledger.truth) page (packed block) → IsTreeWith setup.shape setup.formulas page (packed block) root ledger.truth truth

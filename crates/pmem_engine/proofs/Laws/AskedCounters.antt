@@ -1,6 +1,6 @@
 -- The counters and lines that the view asks for are those of the registers and the true blocks.
-use Rattle.std.proofs.Common.{rules, ℕ, ◌≡◌, ◌<◌, ◌+◌, Bool, false, cond, List, [], ◌∷◌, length, map, Some, None, refl, sym, ap, ◌∙◌, arith}
-use Rattle.std.specs.Prelude.{not, ◌==◌, ◌&&◌, ◌||◌}
+use Rattle.std.proofs.Common.{rules, ℕ, ◌≡◌, ◌<◌, ◌+◌, false, cond, List, [], ◌∷◌, length, map, Some, None, refl, sym, ap, ◌∙◌}
+use Rattle.std.specs.Prelude.{◌==◌, ◌||◌}
 use Rattle.std.specs.List.{list_any, slice_get}
 use Rattle.std.specs.Option.{option_map, is_some}
 use Rattle.std.proofs.lemmas.List.{length-map}
@@ -8,7 +8,6 @@ use Rattle.pmem_base.specs.declared.lines.Ctr.{Ctr}
 use Rattle.pmem_base.specs.declared.registers.Progress.{Progress}
 use Rattle.pmem_base.specs.declared.registers.Regs.{Regs}
 use Rattle.pmem_base.specs.Layout.{data_lines, page_of, index_in_page}
-use Rattle.pmem_base.specs.Registers.{is_done}
 use Rattle.page_reencrypt.proofs.DoneBits.{is_left-not_done}
 use Rattle.split_counters.specs.Blocks.{block_counter}
 use Rattle.page_reencrypt.specs.Registers.{is_holding, register_held}
@@ -24,12 +23,7 @@ use Rattle.pmem_engine.proofs.Laws.FreshSeals.{free-true_counter, held-true_coun
 use Rattle.pmem_engine.proofs.Laws.TrueLines.{view-counter}
 
 left_register : (a : ℕ) (register : Progress) → cond (register.page == page_of a) (is_left_in (register_page register) (index_in_page a)) false ≡ is_holding register a
-left_register a register =
-    ap (λ t. cond (register.page == page_of a) t false) (is_left-not_done register (index_in_page a) (omega arith))
-    ∙ cond_and (register.page == page_of a) (not (is_done register (index_in_page a)))
-  where
-    cond_and : (s t : Bool) → cond s t false ≡ (s && t)
-    cond_and v0 v1 = search rules
+left_register a register = search (rules, is_left-not_done)
 
 left_registers : (registers : List Progress) (a : ℕ) → list_any (λ opened. cond (opened.page == page_of a) (is_left_in opened (index_in_page a)) false) (map register_page registers) ≡ list_any (λ register. is_holding register a) registers
 left_registers [] a = refl

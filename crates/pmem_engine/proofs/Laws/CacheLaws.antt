@@ -26,7 +26,7 @@ use Rattle.pmem_engine.specs.Steps.{with_true_line}
 use Rattle.pmem_engine.specs.Recached.{IsTrueOrDirty, WasCleaned, IsNewlyCached, IsRecached}
 use Rattle.pmem_engine.proofs.Laws.DeviceRegions.{is_named-set_meta, IsSealStored-set_meta}
 use Rattle.pmem_engine.proofs.Laws.CounterBlocks.{IsCounterStored-written_back}
-use Rattle.pmem_engine.proofs.Laws.GroupLaws.{IsMendable-unarmed, IsDurable-unarmed}
+use Rattle.pmem_engine.proofs.Laws.MendableLaws.{IsMendable-no_group, IsDurable-no_group}
 
 -- ---- a true line is written to its place
 
@@ -73,12 +73,7 @@ IsLine-true setup regs ledger x anchored = IsLine-line_at ledger.truth x anchore
 pub IsDurable-written_back : (setup : Setup) (lines : List Line) (regs : Regs) (ledger : LedgerState) (x : ℕ)
     → IsDurable setup lines regs ledger → regs.group.items ≡ [] → x < meta_lines setup.shape
     → IsDurable setup (with_true_line setup.shape lines ledger.truth x) regs ledger
-IsDurable-written_back setup lines regs ledger x durable empty h =
-    let mendable = IsMendable-unarmed setup lines regs ledger durable empty in
-    IsDurable-unarmed setup (with_true_line setup.shape lines ledger.truth x) regs ledger
-    (AreLinesOf-set (device_lines setup.shape) lines (meta_line setup.shape x) (line_at ledger.truth x)
-    durable.device_whole (IsLine-true setup regs ledger x mendable.anchored))
-    empty (IsMendable-true_line_written setup lines regs ledger x durable.device_whole.count h mendable)
+IsDurable-written_back setup lines regs ledger x durable empty h = search (rules, AreLinesOf-set, IsMendable-no_group, IsDurable-no_group, IsMendable-true_line_written, IsLine-true)
 
 -- .. and so does Sound, of the engine as it is.
 pub IsSound-written_back : (setup : Setup) (engine : EngineState) (lines : List Line) (regs : Regs)
@@ -179,13 +174,7 @@ pub not_cleaned_other : (setup : Setup) (old new : EngineState) (x y : ℕ) → 
     → ((bank set : ℕ) (slot : Slot) → Contains (set_of old.cache bank set) slot → slot.dirty ≡ true
     → slot.position ≢ x → IsStillDirty (set_of new.cache bank set) slot)
     → ¬ WasCleaned setup.shape old.cache new.cache y
-not_cleaned_other setup old new x y apart still cleaned =
-    false≢true
-    (sym cleaned.1
-    ∙ is_cached_dirty_still setup.shape old.cache new.cache (level_of y) y
-    (λ slot stands dirty here.
-    still (level_of y) (set_index setup.shape y) slot stands dirty (λ e. apart (sym here ∙ e)))
-    cleaned.0)
+not_cleaned_other setup old new x y apart still cleaned = search (rules, false≢true, is_cached_dirty_still)
 
 -- ---- each metadata line by itself: true on the device or cached dirty, over any lines
 

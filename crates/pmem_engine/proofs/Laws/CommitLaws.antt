@@ -1,6 +1,6 @@
 -- One commit, from its device step and its truth step: what is stored and held over the lines that it comes to, and
 -- the device mendable, durable while the group is armed, the engine sound and trusted once it is emptied.
-use Rattle.std.proofs.Common.{ℕ, ◌≡◌, ◌<◌, ◌++◌, Bool, true, false, List, [], ◌∷◌, IsTrue, sym, ap, subst, ◌∙◌, ◌⊎◌, inl, inr}
+use Rattle.std.proofs.Common.{rules, ℕ, ◌≡◌, ◌<◌, ◌++◌, Bool, true, false, List, [], ◌∷◌, IsTrue, sym, ap, subst, ◌∙◌, ◌⊎◌, inl, inr}
 use Rattle.std.specs.List.{All}
 use Rattle.std.proofs.lemmas.Bool.{cases_Bool, false≢true}
 use Rattle.pmem_base.specs.declared.lines.Line.{Line}
@@ -14,7 +14,7 @@ use Rattle.board.specs.Device.{AreLinesOf}
 use Rattle.commit_regs.specs.Groups.{redone}
 use Rattle.seal_ledger.specs.Ledger.{LedgerState}
 use Rattle.shadow_tables.specs.Entries.{is_named_in, shadow_of}
-use Rattle.meta_cache.specs.Banks.{set_of, is_cached_dirty}
+use Rattle.meta_cache.specs.Banks.{set_of}
 use Rattle.suite.specs.Setup.{Setup}
 use Rattle.pmem_engine.specs.Truth.{true_block}
 use Rattle.pmem_engine.specs.Engine.{EngineState}
@@ -24,7 +24,7 @@ use Rattle.pmem_engine.specs.Recached.{IsTrueOrDirty}
 use Rattle.pmem_engine.specs.Outcomes.{is_sealed_by}
 use Rattle.pmem_engine.proofs.Laws.DeviceRegions.{IsSealStored-kept}
 use Rattle.pmem_engine.proofs.Laws.CounterBlocks.{IsCounterStored-true}
-use Rattle.pmem_engine.proofs.Laws.GroupLaws.{IsMendable-unarmed, IsDurable-unarmed}
+use Rattle.pmem_engine.proofs.Laws.MendableLaws.{IsMendable-no_group, IsDurable-no_group}
 use Rattle.pmem_engine.proofs.Laws.CacheLaws.{IsTrueOrDirty-sound}
 use Rattle.pmem_engine.proofs.Laws.NameLaws.{dirty_is_named}
 use Rattle.pmem_engine.proofs.Laws.PlainLines.{last_seal-unsealed}
@@ -76,17 +76,7 @@ module _ (setup : Setup) (mark : Mark) (page : ℕ) (written : Bool) (block : Li
   seals_kept : (a : ℕ) → a < data_lines setup.shape
       → IsSealStored setup.shape lines before.marks a ⊎ IsTrue (is_sealed_by (mark ∷ []) a)
       → IsSealStored setup.shape lines' after.marks a
-  seals_kept a within held =
-      subst (λ ms. IsSealStored setup.shape lines' ms a) (sym marks) (by (cases_Bool (is_sealed_by (mark ∷ []) a)) held)
-    where
-      by : (is_sealed_by (mark ∷ []) a ≡ true) ⊎ (is_sealed_by (mark ∷ []) a ≡ false)
-          → IsSealStored setup.shape lines before.marks a ⊎ IsTrue (is_sealed_by (mark ∷ []) a)
-          → IsSealStored setup.shape lines' (before.marks ++ mark ∷ []) a
-      by (inl made) held = device.own a within made
-      by (inr un) (inl stored) =
-          IsSealStored-kept setup.shape lines lines' before.marks (before.marks ++ mark ∷ []) a
-          (last_seal-unsealed before.marks (mark ∷ []) a un) (device.places a within un) stored
-      by (inr un) (inr made) = absurd (false≢true (sym un ∙ made))
+  seals_kept a within held = search (rules, cases_Bool, false≢true, IsSealStored-kept, last_seal-unsealed)
 
   -- the written block is the true one
   block_true : (x : ℕ) → writes_block setup.shape page written x ≡ true → stored_meta setup.shape lines' x ≡ line_at after.truth x
@@ -95,28 +85,12 @@ module _ (setup : Setup) (mark : Mark) (page : ℕ) (written : Bool) (block : Li
   -- each metadata line is true or dirty
   true_or_dirty : (x : ℕ) → x < meta_lines setup.shape → IsTrueOrDirty setup.shape old.cache lines before.truth x
       → IsTrueOrDirty setup.shape new.cache lines' after.truth x
-  true_or_dirty x within was = by (cases_Bool (writes_block setup.shape page written x))
-    where
-      by : (writes_block setup.shape page written x ≡ true) ⊎ (writes_block setup.shape page written x ≡ false)
-          → IsTrueOrDirty setup.shape new.cache lines' after.truth x
-      by (inl is) = inl (block_true x is)
-      by (inr un) = other (truth.others x within un) was
-        where
-          other : IsDirtyIn setup.shape new.cache x ⊎ IsStill setup.shape old.cache new.cache before.truth after.truth x
-              → IsTrueOrDirty setup.shape old.cache lines before.truth x
-              → IsTrueOrDirty setup.shape new.cache lines' after.truth x
-          other (inl dirty) was = inr dirty.1
-          other (inr still) (inl stored) = inl (device.others x un ∙ stored ∙ sym still.0)
-          other (inr still) (inr dirty) = inr (still.1 dirty)
+  true_or_dirty x within was = search (rules, cases_Bool, writes_block, IsDirtyIn, IsStill, block_true)
 
   -- one that was changed is
   changed_true : (x : ℕ) → (stored_meta setup.shape lines' x ≡ stored_meta setup.shape lines x)
       ⊎ IsTrueOrDirty setup.shape new.cache lines' after.truth x
-  changed_true x =
-      elim (cases_Bool (writes_block setup.shape page written x)) [
-        | inl is ↦ inr (inl (block_true x is))
-        | inr un ↦ inl (device.others x un)
-      ]
+  changed_true x = search (rules, cases_Bool, writes_block, block_true)
 
   -- what is stored of each counter block
   counters_kept : (other : ℕ) → IsCounterStored setup lines regs.loss before.truth other
@@ -132,14 +106,7 @@ module _ (setup : Setup) (mark : Mark) (page : ℕ) (written : Bool) (block : Li
       ]
 
   pub kept_over : KeepsOver setup mark regs.loss old new before after lines lines'
-  kept_over =
-      record {
-        seals = seals_kept;
-        places = device.places;
-        held = true_or_dirty;
-        changed = changed_true;
-        counters = counters_kept;
-      }
+  kept_over = search (rules, seals_kept, true_or_dirty, changed_true, counters_kept)
 
   module _ (sound : IsSound setup old lines regs before) where
     mirror_now : new.mirror ≡ shadow_of setup.shape lines'
@@ -159,7 +126,7 @@ module _ (setup : Setup) (mark : Mark) (page : ℕ) (written : Bool) (block : Li
         by (inl is) = inl (block_true x is)
         by (inr un) =
             other (truth.others x within un)
-            ((IsMendable-unarmed setup lines regs before sound.durable sound.trusted.no_group).true_or_named x within)
+            ((IsMendable-no_group setup lines regs before sound.trusted.no_group sound.durable).true_or_named x within)
           where
             other : IsDirtyIn setup.shape new.cache x ⊎ IsStill setup.shape old.cache new.cache before.truth after.truth x
                 → (stored_meta setup.shape lines x ≡ line_at before.truth x) ⊎ IsTrue (is_named setup.shape lines x)
@@ -176,46 +143,14 @@ module _ (setup : Setup) (mark : Mark) (page : ℕ) (written : Bool) (block : Li
 
     -- recovery can rest on the lines that the group comes to
     mendable : (final : Regs) → final.loss ≡ regs.loss → IsAnchored setup final after → IsMendable setup lines' final after
-    mendable final loss anchored =
-        record {
-          anchored = anchored;
-          seals_stored = λ a within. seals_kept a within (inl (before_it.seals_stored a within));
-          true_or_named = true_or_named;
-          counters_stored =
-              λ other within.
-              subst (λ n. IsCounterStored setup lines' n after.truth other) (sym loss)
-              (counters_kept other (before_it.counters_stored other within));
-        }
-      where
-        before_it : IsMendable setup lines regs before
-        before_it = IsMendable-unarmed setup lines regs before sound.durable sound.trusted.no_group
+    mendable final loss anchored = search (rules, IsMendable-no_group, seals_kept, counters_kept, true_or_named)
 
     -- the group is armed
     pub durable_while_armed : (group : List (ℕ × Line)) (armed : Regs) → lines' ≡ redone group lines → armed.group.items ≡ group
         → armed.loss ≡ regs.loss → IsAnchored setup armed after → IsDurable setup lines armed after
-    durable_while_armed group armed comes arming loss anchored =
-        record {
-          device_whole = sound.durable.device_whole;
-          mendable =
-              subst (λ ls. IsMendable setup ls armed after) (comes ∙ ap (λ items. redone items lines) (sym arming))
-              (mendable armed loss anchored);
-        }
+    durable_while_armed group armed comes arming loss anchored = search (rules, mendable)
 
     -- it is written whole, and emptied
     pub sound_after : (final : Regs) → AreLinesOf (device_lines setup.shape) lines' → final.group.items ≡ []
         → final.loss ≡ regs.loss → IsAnchored setup final after → IsSound setup new lines' final after
-    sound_after final whole none loss anchored =
-        record {
-          trusted =
-              trusted_after setup mark page written block old new regs before after truth final sound.trusted anchored none;
-          durable = IsDurable-unarmed setup lines' final after whole none (mendable final loss anchored);
-          true_unless_dirty =
-              λ x within clean. by x clean (true_or_dirty x within (IsTrueOrDirty-sound setup old lines regs before x sound within));
-          dirty_named = dirty_named;
-          mirror_true = mirror_now;
-        }
-      where
-        by : (x : ℕ) → is_cached_dirty setup.shape new.cache (level_of x) x ≡ false
-            → IsTrueOrDirty setup.shape new.cache lines' after.truth x → stored_meta setup.shape lines' x ≡ line_at after.truth x
-        by x clean (inl same) = same
-        by x clean (inr dirty) = absurd (false≢true (sym clean ∙ dirty))
+    sound_after final whole none loss anchored = search (rules, false≢true, IsDurable-no_group, IsTrueOrDirty-sound, trusted_after, true_or_dirty, mirror_now, dirty_named, mendable)

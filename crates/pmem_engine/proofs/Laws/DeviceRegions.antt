@@ -1,7 +1,7 @@
 -- What the parts of the device show after a write to one of its regions: metadata lines, names, data
 -- lines and tags, each by itself and over any lines.
 use Rattle.std.proofs.lemmas.Grind.{common_steps}
-use Rattle.std.proofs.Common.{rules, ◌≡◌, ◌≢◌, ℕ, ◌<◌, List, length, Some, refl, sym, ap, ◌∙◌, ◌⊎◌, inl, inr, arith}
+use Rattle.std.proofs.Common.{rules, ◌≡◌, ◌≢◌, ℕ, ◌<◌, List, length, Some, refl, ap, ◌∙◌, arith}
 use Rattle.std.specs.Prelude.{slice_set}
 use Rattle.std.proofs.lemmas.Bool.{cases_eq}
 use Rattle.pmem_base.specs.declared.lines.Line.{Line}
@@ -9,7 +9,7 @@ use Rattle.pmem_base.specs.declared.answers.Mark.{Mark}
 use Rattle.pmem_base.specs.Shape.{Shape}
 use Rattle.pmem_base.specs.Layout as layout
 use Rattle.pmem_base.specs.Layout.{device_lines, data_lines, meta_lines, tag_line, meta_line, shadow_line}
-use Rattle.pmem_base.specs.Lines.{line_at, tag_slot}
+use Rattle.pmem_base.specs.Lines.{line_at}
 use Rattle.pmem_base.specs.Marks.{SealOf, last_seal}
 use Rattle.pmem_base.proofs.LineSets.{line_at-set_same}
 use Rattle.pmem_base.proofs.Regions.{tag_line≢data, tag_on_device, data_before_shadow, tag_before_shadow, meta_before_shadow}
@@ -119,25 +119,7 @@ IsSealStored-sealed_here g lines marks a seal it here = grind (arith, common_ste
 -- every other line's data line and tag slot are as they were
 pub IsPlaceKept-sealed : (g : Shape) (lines : List Line) (a : ℕ) (seal : SealOf) (b : ℕ) → IsSealable g lines a seal
     → b < data_lines g → b ≢ a → IsPlaceKept g lines (sealed_lines g lines a seal) b
-IsPlaceKept-sealed g lines a seal b it hb other =
-    record {
-      its_line = line_at-sealed_lines_other g lines a seal b other (tag_line≢data g b a hb);
-      slot = slot_of_other (cases_eq (tag_line g b) (tag_line g a));
-    }
-  where
-    slot_of_other : (tag_line g b ≡ tag_line g a) ⊎ (tag_line g b ≡ tag_line g a → ⊥)
-        → tag_slot (line_at (sealed_lines g lines a seal) (tag_line g b)) b
-        ≡ tag_slot (line_at lines (tag_line g b)) b
-    slot_of_other (inl one_line) =
-        ap (λ d. tag_slot (line_at (sealed_lines g lines a seal) d) b) one_line
-        ∙ ap (λ l. tag_slot l b) (line_at-sealed_lines_tag g lines a seal (tag_within g lines a seal it))
-        ∙ tag_slot-with_other (line_at lines (tag_line g a)) a b seal.tag (tag_line_long g lines a seal it) it.its_tag
-        (λ e. other (omega (arith, e, one_line)))
-        ∙ ap (λ d. tag_slot (line_at lines d) b) (sym one_line)
-    slot_of_other (inr apart) =
-        ap (λ l. tag_slot l b)
-        (line_at-sealed_lines_other g lines a seal (tag_line g b)
-        (λ e. tag_line≢data g a b it.its_line (sym e)) apart)
+IsPlaceKept-sealed g lines a seal b it hb other = search (rules, cases_eq, tag_line≢data, tag_slot-with_other, line_at-sealed_lines_tag, line_at-sealed_lines_other, tag_within, tag_line_long)
 
 pub stored_meta-sealed_lines : (g : Shape) (lines : List Line) (a : ℕ) (seal : SealOf) (x : ℕ) → a < data_lines g
     → stored_meta g (sealed_lines g lines a seal) x ≡ stored_meta g lines x

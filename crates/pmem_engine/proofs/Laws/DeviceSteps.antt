@@ -73,14 +73,7 @@ seal_step g marks at ctr cipher tag page block lines it =
 -- a begin of a page, before its block is written
 begin_step : (g : Shape) (marks : List Mark) (page : ℕ) (block : Line) (lines : List Line)
     → IsDeviceStep g (Begin page) marks page false block lines lines
-begin_step g marks page block lines =
-    record {
-      own = λ a within none. absurd (true≢false (sym none));
-      places = λ a within un. IsPlaceKept-same g lines a;
-      shadow = refl;
-      its_block = λ x none. absurd (true≢false (sym none));
-      others = λ x un. refl;
-    }
+begin_step g marks page block lines = search (rules, true≢false, IsPlaceKept-same)
 
 -- then the page's counter block
 with_block : (g : Shape) (mark : Mark) (marks : List Mark) (page : ℕ) (block : Line) (lines mid : List Line) → page < pages g

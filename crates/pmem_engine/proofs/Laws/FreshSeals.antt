@@ -41,15 +41,6 @@ below_next_major a b next = grind (arith, nat_tests)
 pub free-true_counter : (g : Shape) (registers : List Progress) (truth : List Line) (a : ℕ) → register_held registers a ≡ None → true_counter g registers truth a ≡ block_counter (true_block g truth (page_of a)) (index_in_page a)
 free-true_counter g registers truth a free = counter_of-free registers (true_block g truth (page_of a)) a free
 
--- a write of it, under its bumped counter
-pub anchored-written : (setup : Setup) (a : ℕ) (cipher : Line) (tag : List ℕ) (old_regs new_regs : Regs) (old new : LedgerState) → IsAnchored setup old_regs old → register_held old_regs.progress.items a ≡ None → IsSealed setup a (minor_of (true_block setup.shape old.truth (page_of a)) (index_in_page a) + 1) cipher tag old_regs new_regs old new → IsAnchored setup new_regs new
-anchored-written setup a cipher tag old_regs new_regs old new anchored free it =
-    let block = true_block setup.shape old.truth (page_of a) in
-    let minor = minor_of block (index_in_page a) + 1 in
-    let above : IsTrue (is_below (block_counter block (index_in_page a)) (sealed_counter setup.shape old.truth a minor)) = below_next_minor block (index_in_page a) minor (omega arith) in
-    anchored-sealed setup a minor cipher tag old_regs new_regs old new anchored it
-    (subst (λ ctr. IsTrue (is_below ctr (sealed_counter setup.shape old.truth a minor))) (sym (free-true_counter setup.shape old_regs.progress.items old.truth a free)) above)
-
 -- ---- a line that a register holds
 
 module _ (setup : Setup) (regs : Regs) (ledger : LedgerState) (a : ℕ) (register : Progress) (anchored : IsAnchored setup regs ledger) (held : register_held regs.progress.items a ≡ Some register) where
@@ -77,15 +68,7 @@ module _ (setup : Setup) (regs : Regs) (ledger : LedgerState) (a : ℕ) (registe
 
   -- each seal under the true major comes above
   pub held-below : (minor : ℕ) → IsTrue (is_below (true_counter setup.shape regs.progress.items ledger.truth a) (sealed_counter setup.shape ledger.truth a minor))
-  held-below minor =
-      subst (λ ctr. IsTrue (is_below ctr (sealed_counter setup.shape ledger.truth a minor))) (sym held-true_counter)
-      (below_next_major (block_counter (unpacked register.old) (index_in_page a)) (sealed_counter setup.shape ledger.truth a minor)
-      (ap (λ n. n + 1) (sym (old_major-unpacked register)) ∙ held-next_major))
-
--- a write of it, under the next major and 1
-pub anchored-written_held : (setup : Setup) (a : ℕ) (register : Progress) (cipher : Line) (tag : List ℕ) (old_regs new_regs : Regs) (old new : LedgerState) → IsAnchored setup old_regs old → register_held old_regs.progress.items a ≡ Some register → IsSealed setup a 1 cipher tag old_regs new_regs old new → IsAnchored setup new_regs new
-anchored-written_held setup a register cipher tag old_regs new_regs old new anchored held it =
-    anchored-sealed setup a 1 cipher tag old_regs new_regs old new anchored it (held-below setup old_regs old a register anchored held 1)
+  held-below minor = search (rules, old_major-unpacked, below_next_major, held-true_counter, held-next_major)
 
 -- a turn's reseal of it, under the next major and 0: the truth stays
 pub anchored-resealed : (setup : Setup) (a : ℕ) (register : Progress) (cipher : Line) (tag : List ℕ) (old_regs new_regs : Regs) (old new : LedgerState) → IsAnchored setup old_regs old → register_held old_regs.progress.items a ≡ Some register → IsResealed setup a cipher tag old_regs new_regs old new → IsAnchored setup new_regs new
@@ -117,16 +100,16 @@ anchored-resealed setup a register cipher tag old_regs new_regs old new anchored
     })
     (held-below setup old_regs old a register anchored held 0)
 
--- a write of it, held or free: the true minor of a held line is 0
+-- a write of a line, held or free, under its page's major and its next minor
 pub anchored-raised : (setup : Setup) (a minor : ℕ) (cipher : Line) (tag : List ℕ) (old_regs new_regs : Regs) (old new : LedgerState) → IsAnchored setup old_regs old → minor ≡ minor_of (true_block setup.shape old.truth (page_of a)) (index_in_page a) + 1 → IsSealed setup a minor cipher tag old_regs new_regs old new → IsAnchored setup new_regs new
 anchored-raised setup a minor cipher tag old_regs new_regs old new anchored raised it =
-    by_register (register_held old_regs.progress.items a) refl
+    anchored-sealed setup a minor cipher tag old_regs new_regs old new anchored it (by_register (register_held old_regs.progress.items a) refl)
   where
-    by_register : (held : Option Progress) → register_held old_regs.progress.items a ≡ held → IsAnchored setup new_regs new
+    block : Block
+    block = true_block setup.shape old.truth (page_of a)
+
+    by_register : (held : Option Progress) → register_held old_regs.progress.items a ≡ held → IsTrue (is_below (true_counter setup.shape old_regs.progress.items old.truth a) (sealed_counter setup.shape old.truth a minor))
     by_register None free =
-        anchored-written setup a cipher tag old_regs new_regs old new anchored free
-        (subst (λ m. IsSealed setup a m cipher tag old_regs new_regs old new) raised it)
-    by_register (Some register) held =
-        anchored-written_held setup a register cipher tag old_regs new_regs old new anchored held
-        (subst (λ m. IsSealed setup a m cipher tag old_regs new_regs old new)
-        (raised ∙ ap (λ n. n + 1) (held-minor setup old_regs old a register anchored held)) it)
+        subst (λ ctr. IsTrue (is_below ctr (sealed_counter setup.shape old.truth a minor))) (sym (free-true_counter setup.shape old_regs.progress.items old.truth a free))
+        (below_next_minor block (index_in_page a) minor (omega (arith, raised)))
+    by_register (Some register) held = held-below setup old_regs old a register anchored held minor

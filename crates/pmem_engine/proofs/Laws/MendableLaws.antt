@@ -1,6 +1,6 @@
 -- Laws of a device that can be mended: what redoing the group gives, and which line writes keep it.
 use Rattle.std.proofs.lemmas.Grind.{common_steps}
-use Rattle.std.proofs.Common.{rules, ℕ, ◌≡◌, ◌<◌, ◌≤◌, ◌+◌, ◌-◌, ◌*◌, false, List, [], length, take, drop, replicate, ap, sym, ◌∙◌, subst, inl, inr, ◌⊎◌, IsTrue, arith}
+use Rattle.std.proofs.Common.{rules, ℕ, ◌≡◌, ◌<◌, ◌≤◌, ◌+◌, ◌-◌, ◌*◌, false, List, [], length, take, drop, replicate, ap, sym, ◌∙◌, subst, ◌⊎◌, IsTrue, arith}
 use Rattle.std.proofs.lemmas.Bool.{cases_lt}
 use Rattle.std.proofs.lemmas.List.{get_or-drop, length-take, length-drop, length-replicate, get_or-replicate, ext_get_or}
 use Rattle.pmem_base.specs.declared.lines.Line.{Line}
@@ -93,11 +93,7 @@ line_at-shadow_past : (g : Shape) (lines : List Line) (n : ℕ) → layout.shado
 line_at-shadow_past g lines n h = grind (arith, common_steps)
 
 pub AreAllZero-shadow_of : (setup : Setup) (lines : List Line) → IsShadowZero setup lines → AreAllZero (shadow_of setup.shape lines)
-AreAllZero-shadow_of setup lines z = record { zero_lines = λ n. at n (cases_lt n (layout.shadow_lines setup.shape)) }
-  where
-    at : (n : ℕ) → (n < layout.shadow_lines setup.shape) ⊎ (layout.shadow_lines setup.shape ≤ n) → line_at (shadow_of setup.shape lines) n ≡ zero_line
-    at n (inl h) = line_at-shadow_of setup.shape lines n h ∙ z.zero_lines n h
-    at n (inr h) = line_at-shadow_past setup.shape lines n h
+AreAllZero-shadow_of setup lines z = search (rules, cases_lt, line_at-shadow_of, line_at-shadow_past)
 
 -- zero shadow lines name nothing
 pub is_named-zero : (setup : Setup) (lines : List Line) (x : ℕ) → IsShadowZero setup lines → is_named setup.shape lines x ≡ false
@@ -142,10 +138,7 @@ IsMendable-emptied setup lines old new ledger e d = search rules
 
 -- so a durable device whose group is redone and emptied is durable, with its lines as they are
 pub IsDurable-emptied : (setup : Setup) (lines : List Line) (old new : Regs) (ledger : LedgerState) → IsEmptied old new → IsDurable setup lines old ledger → IsDurable setup (redone old.group.items lines) new ledger
-IsDurable-emptied setup lines old new ledger e d =
-    IsDurable-no_group setup (redone old.group.items lines) new ledger e.no_group
-    (AreLinesOf-redone (layout.device_lines setup.shape) old.group.items lines d.mendable.anchored.valid_regs.group.lines_range d.device_whole)
-    (IsMendable-emptied setup (redone old.group.items lines) old new ledger e d.mendable)
+IsDurable-emptied setup lines old new ledger e d = search (rules, AreLinesOf-redone, IsDurable-no_group, IsMendable-emptied)
 
 -- ---- the writes of recovery, where no group is armed
 

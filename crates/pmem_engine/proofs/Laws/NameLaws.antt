@@ -17,7 +17,7 @@ use Rattle.shadow_tables.specs.Naming.{Names}
 use Rattle.shadow_tables.proofs.EntryLemmas.{is_named_in-slot}
 use Rattle.shadow_tables.proofs.ShadowLines.{shadow_of-set}
 use Rattle.meta_cache.specs.declared.slot.Slot.{Slot}
-use Rattle.meta_cache.specs.Banks.{Banks, set_of, set_index, slot_number, is_cached_dirty, IsInPlace, IsBanksOf}
+use Rattle.meta_cache.specs.Banks.{Banks, set_of, slot_number, is_cached_dirty, IsInPlace, IsBanksOf}
 use Rattle.meta_cache.proofs.SlotLemmas.{All-stands, All-from_stands, dirty_slot, same_slot, in_place_of, slot_number_within}
 use Rattle.suite.specs.Setup.{Setup}
 use Rattle.pmem_engine.specs.Engine.{EngineState}
@@ -25,7 +25,7 @@ use Rattle.pmem_engine.specs.Invariants.{IsTrusted, stored_meta, is_named, IsMen
 use Rattle.pmem_engine.specs.Recached.{IsMirrorWritten}
 use Rattle.pmem_engine.specs.Named.{named_slot_line, IsSlotInShadow}
 use Rattle.pmem_engine.proofs.Laws.DeviceRegions.{stored_meta-set_shadow}
-use Rattle.pmem_engine.proofs.Laws.GroupLaws.{IsMendable-unarmed, IsDurable-unarmed}
+use Rattle.pmem_engine.proofs.Laws.MendableLaws.{IsMendable-no_group, IsDurable-no_group}
 
 -- ---- a slot whose entry names it
 
@@ -33,24 +33,13 @@ use Rattle.pmem_engine.proofs.Laws.GroupLaws.{IsMendable-unarmed, IsDurable-unar
 pub is_named-slot : (g : Shape) (cache : Banks) (shadow : List Line) (bank set : ℕ) (slot : Slot)
     → IsBanksOf g cache → Contains (set_of cache bank set) slot → IsSlotInShadow g shadow bank set slot
     → is_named_in g shadow bank slot.position ≡ true
-is_named-slot g cache shadow bank set slot form stands named =
-    let place : IsInPlace g bank set slot = in_place_of g cache bank set slot form stands in
-    is_named_in-slot g shadow bank (slot_number g set slot) slot.position place.its_bank
-    (slot_number_within g set slot place.its_set place.its_way) named
+is_named-slot g cache shadow bank set slot form stands named = search (rules, is_named_in-slot, in_place_of, slot_number_within)
 
 -- a position that is cached dirty is named, where each dirty slot is
 pub dirty_is_named : (g : Shape) (cache : Banks) (lines : List Line) (x : ℕ) → IsBanksOf g cache
     → ((bank set : ℕ) → All (IsDirtyNamed g (shadow_of g lines) bank set) (set_of cache bank set))
     → is_cached_dirty g cache (level_of x) x ≡ true → IsTrue (is_named g lines x)
-dirty_is_named g cache lines x form named dirty = by_slot (dirty_slot g cache (level_of x) x dirty)
-  where
-    by_slot : ((slot : Slot) × Contains (set_of cache (level_of x) (set_index g x)) slot × (slot.position ≡ x)
-        × (slot.dirty ≡ true)) → is_named g lines x ≡ true
-    by_slot s =
-        ap (is_named_in g (shadow_of g lines) (level_of x)) (sym s.2)
-        ∙ is_named-slot g cache (shadow_of g lines) (level_of x) (set_index g x) s.0 form s.1
-        (All-stands (IsDirtyNamed g (shadow_of g lines) (level_of x) (set_index g x))
-        (set_of cache (level_of x) (set_index g x)) s.0 (named (level_of x) (set_index g x)) s.1 s.3)
+dirty_is_named g cache lines x form named dirty = search (rules, All-stands, dirty_slot, is_named-slot)
 
 -- a block that isn't true on the device is cached dirty, and so named
 pub true_or_named_from_sound : (g : Shape) (cache : Banks) (lines truth : List Line) → IsBanksOf g cache
@@ -59,11 +48,7 @@ pub true_or_named_from_sound : (g : Shape) (cache : Banks) (lines truth : List L
     → ((bank set : ℕ) → All (IsDirtyNamed g (shadow_of g lines) bank set) (set_of cache bank set))
     → (x : ℕ) → x < meta_lines g
     → (stored_meta g lines x ≡ line_at truth x) ⊎ IsTrue (is_named g lines x)
-true_or_named_from_sound g cache lines truth form stored named x h =
-    elim (cases_Bool (is_cached_dirty g cache (level_of x) x)) [
-      | inl dirty ↦ inr (dirty_is_named g cache lines x form named dirty)
-      | inr clean ↦ inl (stored x h clean)
-    ]
+true_or_named_from_sound g cache lines truth form stored named x h = search (rules, cases_Bool, dirty_is_named)
 
 -- ---- a slot's entry comes to name its position
 
@@ -131,13 +116,12 @@ IsSound-named setup old new lines regs ledger bank set slot line sound form stan
     record {
       trusted = IsTrusted-named setup old new regs ledger (named_slot_line setup.shape bank set slot) line written sound.trusted;
       durable =
-          IsDurable-unarmed setup after regs ledger
+          IsDurable-no_group setup after regs ledger sound.trusted.no_group
           (AreLinesOf-set (device_lines setup.shape) lines
           (shadow_line setup.shape (named_slot_line setup.shape bank set slot)) line sound.durable.device_whole good)
-          sound.trusted.no_group
           (IsMendable-set_shadow setup lines (named_slot_line setup.shape bank set slot) line regs ledger
           (true_or_named_from_sound setup.shape old.cache after ledger.truth form stored named_on_board)
-          (IsMendable-unarmed setup lines regs ledger sound.durable sound.trusted.no_group));
+          (IsMendable-no_group setup lines regs ledger sound.trusted.no_group sound.durable));
       true_unless_dirty =
           search rules;
       dirty_named =

@@ -1,10 +1,10 @@
 -- The open pages of the view are the registers, also once a line is done or a page begins.
-use Rattle.std.proofs.Common.{rules, ℕ, ◌≡◌, ◌+◌, Bool, cond, List, [], ◌∷◌, length, map, inl, inr, refl, sym, ap, ◌∙◌}
+use Rattle.std.proofs.Common.{rules, ℕ, ◌≡◌, ◌+◌, Bool, cond, List, [], ◌∷◌, length, map, refl, ap, ◌∙◌}
 use Rattle.std.specs.Prelude.{not, ◌==◌, nat_lt}
 use Rattle.std.specs.List.{filter}
 use Rattle.std.proofs.lemmas.Bool.{cases_Bool}
 use Rattle.pmem_base.specs.declared.registers.Progress.{Progress}
-use Rattle.pmem_base.specs.Layout.{page_of, index_in_page}
+use Rattle.pmem_base.specs.Layout.{index_in_page}
 use Rattle.pmem_base.specs.Registers.{not_done, with_done, old_major}
 use Rattle.page_reencrypt.proofs.DoneBits.{not_done-with_done}
 use Rattle.page_reencrypt.specs.Registers.{register_with_done, registers_with_done}
@@ -18,16 +18,7 @@ page-with_done a register =
     ∙ ap (λ (xs : List ℕ). record { page = register.page; major = old_major register + 1; left = xs }) (not_done-with_done register (index_in_page a))
 
 page_with_done-register : (a : ℕ) (register : Progress) → page_with_done a (register_page register) ≡ register_page (register_with_done a register)
-page_with_done-register a register =
-    elim (cases_Bool (register.page == page_of a)) [
-      | inl its ↦
-          ap (λ t. cond t (record (register_page register) { left = filter (λ i. not (i == index_in_page a)) (not_done register) }) (register_page register)) its
-          ∙ (sym (page-with_done a register)
-          ∙ ap (λ t. register_page (cond t (with_done register (index_in_page a)) register)) (sym its))
-      | inr other ↦
-          ap (λ t. cond t (record (register_page register) { left = filter (λ i. not (i == index_in_page a)) (not_done register) }) (register_page register)) other
-          ∙ ap (λ t. register_page (cond t (with_done register (index_in_page a)) register)) (sym other)
-    ]
+page_with_done-register a register = search (rules, cases_Bool, page-with_done)
 
 map_cond : (t : Bool) (register : Progress) (rest : List Progress) → cond t (register_page register ∷ map register_page rest) (map register_page rest) ≡ map register_page (cond t (register ∷ rest) rest)
 map_cond v0 register rest = search rules

@@ -1,5 +1,5 @@
 -- What is known of a page's path level by level, as the laws ask for it: cached, dirty, named.
-use Rattle.std.proofs.Common.{◌≡◌, ℕ, ◌+◌, ◌<◌, ◌≤◌, true, List, sym, ap, subst, ◌∙◌}
+use Rattle.std.proofs.Common.{rules, ◌≡◌, ℕ, ◌+◌, ◌<◌, ◌≤◌, true, List, sym, ap, subst, ◌∙◌}
 use Rattle.std.specs.Prelude.{slice_index, option_map, unwrap_or}
 use Rattle.std.specs.List.{Contains}
 use Rattle.pmem_base.specs.declared.lines.Line.{Line}
@@ -28,10 +28,7 @@ slot_number_at g cache bank x =
 pub slot_number_at-own : (g : Shape) (cache : Banks) (bank set : ℕ) (slot : Slot) → IsBanksOf g cache
     → set_index g slot.position ≡ set → Contains (set_of cache bank set) slot
     → slot_number_at g cache bank slot.position ≡ slot_number g set slot
-slot_number_at-own g cache bank set slot form its_set stands =
-    ap (λ n. unwrap_or (option_map (slot_number g n) (slot_with (set_of cache bank n) slot.position)) 0) its_set
-    ∙ ap (λ found. unwrap_or (option_map (slot_number g set) found) 0)
-    (slot_with-is (set_of cache bank set) slot (form.distinct_positions bank set) stands)
+slot_number_at-own g cache bank set slot form its_set stands = search (rules, slot_with-is)
 
 -- each level's slot is named: then each slot of the cache that holds a block of the path is
 pub ArePathSlotsNamed-levels : (setup : Setup) (engine : EngineState) (regs : Regs) (ledger : LedgerState)

@@ -1,5 +1,5 @@
 -- What one mark more makes of the lines that were sealed.
-use Rattle.std.proofs.Common.{ℕ, ◌≡◌, ◌≢◌, List, [], ◌∷◌, ◌++◌, false, Some, inl, inr, sym, ap, subst, ◌∙◌}
+use Rattle.std.proofs.Common.{rules, ℕ, ◌≡◌, ◌≢◌, List, [], ◌∷◌, ◌++◌, false, Some, sym, ap, ◌∙◌}
 use Rattle.std.specs.Option.{option_map}
 use Rattle.std.proofs.lemmas.Bool.{true≢false, cases_eq, or_parts, eq-eqb}
 use Rattle.std.proofs.lemmas.List.{append-nil, append_assoc}
@@ -50,12 +50,4 @@ plain_line-sealed f marks at ctr plain tag in_range is_ctr is_line =
 pub plain_line-resealed : (f : Formulas) (marks : List Mark) (at : ℕ) (ctr : Ctr) (plain : Line) (tag : List ℕ)
     → AreInRange f → IsCtr ctr → IsLine plain → plain_line f marks at ≡ Some plain → (a : ℕ)
     → plain_line f (marks ++ Seal at ctr (cipher_of f at ctr plain) tag ∷ []) a ≡ plain_line f marks a
-plain_line-resealed f marks at ctr plain tag in_range is_ctr is_line before a =
-    elim (cases_eq a at) [
-      | inl same ↦
-          subst
-          (λ z. plain_line f (marks ++ Seal at ctr (cipher_of f at ctr plain) tag ∷ []) z ≡ plain_line f marks z)
-          (sym same)
-          (plain_line-sealed f marks at ctr plain tag in_range is_ctr is_line ∙ sym before)
-      | inr apart ↦ plain_line-other f marks at ctr (cipher_of f at ctr plain) tag a apart
-    ]
+plain_line-resealed f marks at ctr plain tag in_range is_ctr is_line before a = search (rules, cases_eq, plain_line-other, plain_line-sealed)

@@ -70,13 +70,7 @@ module _ (setup : Setup) (regs : Regs) (ledger : LedgerState) (anchored : IsAnch
 
   -- the counter of a line that isn't held
   free_counter : (page i : ℕ) → page < pages geometry → i < 64 → register_held registers_now (64 * page + i) ≡ None → counter_at view_now (64 * page + i) ≡ block_counter (true_block geometry ledger.truth page) i
-  free_counter page i inside small free =
-      let its = page_of_place page i small in
-      let place = place_in_page page i small in
-      view-counter (64 * page + i) (omega (arith, inside, small))
-      ∙ (counter_of-free registers_now (true_block geometry ledger.truth (page_of (64 * page + i))) (64 * page + i) free
-      ∙ (ap (λ p. block_counter (true_block geometry ledger.truth p) (index_in_page (64 * page + i))) its
-      ∙ ap (λ j. block_counter (true_block geometry ledger.truth page) j) place))
+  free_counter page i inside small free = search (rules, counter_of-free, page_of_place, place_in_page, view-counter)
 
   -- 64 minors that are the true ones
   minors_of_page : (page : ℕ) (minor : ℕ → ℕ) → ((i : ℕ) → i < 64 → minor i ≡ slice_index (true_block geometry ledger.truth page).minors i) → map minor places_of_page ≡ (true_block geometry ledger.truth page).minors
@@ -132,12 +126,7 @@ module _ (setup : Setup) (regs : Regs) (ledger : LedgerState) (anchored : IsAnch
 
   -- the view's counter block of a page is the true one
   pub view-block : (page : ℕ) → page < pages geometry → counter_block_of view_now page ≡ true_block geometry ledger.truth page
-  view-block page inside =
-      ap (block_under view_now page) (view-open_page page) ∙ by_register (register_of registers_now page) refl
-    where
-      by_register : (found : Option Progress) → register_of registers_now page ≡ found → block_under view_now page (option_map register_page found) ≡ true_block geometry ledger.truth page
-      by_register None none = block_closed page inside none
-      by_register (Some register) found = block_open page register inside found
+  view-block page inside = search (rules, view-open_page, block_closed, block_open)
 
   -- and so is every line, up from the blocks
   true_line_above-is : (k j x : ℕ) → k + j ≡ geometry.levels → IsAtLevel k x → true_line_above setup view_now j x ≡ line_at ledger.truth x

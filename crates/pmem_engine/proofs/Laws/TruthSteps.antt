@@ -1,5 +1,5 @@
 -- What one commit makes of the engine and the true lines, whatever the device is.
-use Rattle.std.proofs.Common.{ℕ, ◌≡◌, ◌<◌, ◌⊎◌, inl, inr, Bool, true, false, List, [], ◌∷◌, refl, sym}
+use Rattle.std.proofs.Common.{rules, ℕ, ◌≡◌, ◌<◌, ◌⊎◌, Bool, true, false, List, [], ◌∷◌}
 use Rattle.std.specs.List.{All}
 use Rattle.std.proofs.lemmas.Bool.{true≢false}
 use Rattle.pmem_base.specs.declared.lines.Line.{Line}
@@ -57,15 +57,4 @@ pub record IsTruthStep (setup : Setup) (mark : Mark) (page : ℕ) (written : Boo
 pub truth_stays : (setup : Setup) (mark : Mark) (page : ℕ) (block : Line) (loss : ℕ) (engine : EngineState) (regs : Regs)
     (ledger : LedgerState) → IsTrusted setup engine regs ledger
     → IsTruthStep setup mark page false block loss engine engine ledger.truth ledger.truth
-truth_stays setup mark page block loss engine regs ledger trusted =
-    record {
-      shape = refl;
-      mirror = refl;
-      down = refl;
-      true_slots = trusted.cached_true;
-      named = λ named. named;
-      touched = λ bank x dirty. inl dirty;
-      its_block = λ x none. absurd (true≢false (sym none));
-      others = λ x within un. inr (refl, λ dirty. dirty);
-      counters = λ other un stored is. is;
-    }
+truth_stays setup mark page block loss engine regs ledger trusted = search (rules, true≢false)

@@ -8,16 +8,16 @@ use Rattle.page_reencrypt.specs.Registers.{register_of}
 use Rattle.page_reencrypt.proofs.Holding.{registered-All}
 use Rattle.page_reencrypt.proofs.Places.{register_at}
 use Rattle.suite.specs.Setup.{Setup}
-use Rattle.pmem_engine.specs.declared.fault.Fault.{Fault}
+use Rattle.pmem_engine.specs.declared.fault.LineFault.{LineFault}
 use Rattle.pmem_engine.specs.Parts.{Parts, regs_of}
 use Rattle.pmem_engine.specs.Resealing.{register_in}
 use Rattle.pmem_engine.specs.Writing.{register_found, register_to_finish, HasFinishedPage}
 
 -- what holds of an answer that is Ok
-pub on_ok : {P : Type 0} (answer : Result Unit Fault) → (IsOk answer → P) → OnOk answer P
+pub on_ok : {P : Type 0} (answer : Result Unit LineFault) → (IsOk answer → P) → OnOk answer P
 on_ok v0 it = search rules
 
-module _ (setup : Setup) (n page : ℕ) (old new : Parts) (answer : Result Unit Fault)
+module _ (setup : Setup) (n page : ℕ) (old new : Parts) (answer : Result Unit LineFault)
     (inside : n < length (regs_of old).progress.items)
     (found : register_to_finish (regs_of old).progress.items page ≡ Some n)
     (it : HasFinishedPage setup n old new answer) where

@@ -110,11 +110,7 @@ module _ (items : List Progress) (n i : ℕ) (before after : List ℕ) (apart : 
   place_of_line = let small = place_small in omega (arith, small)
 
   pub line_held : register_held items (line_of_page at_place i) ≡ Some at_place
-  line_held =
-      register_held-at items (line_of_page at_place i) n empty_progress apart inside
-      (and_from (at_place.page == page_of (line_of_page at_place i)) (not (is_done at_place (index_in_page (line_of_page at_place i))))
-      (eq-eqb at_place.page (page_of (line_of_page at_place i)) (sym page_of_line))
-      (ap (λ k. not (is_done at_place k)) place_of_line ∙ ap not not_yet))
+  line_held = search (rules, eq-eqb, and_from, register_held-at, not_yet, page_of_line, place_of_line)
 
 -- ---- the registers with the lowest line of one of them done
 

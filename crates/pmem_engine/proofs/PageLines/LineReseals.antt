@@ -1,5 +1,5 @@
 -- A held line sealed anew is one commit.
-use Rattle.std.proofs.Common.{ℕ, ◌≡◌, ◌<◌, ◌+◌, ◌++◌, false, [], ◌∷◌, length, Some, refl, sym, ap, subst, ◌∙◌, arith}
+use Rattle.std.proofs.Common.{rules, ℕ, ◌≡◌, ◌<◌, ◌+◌, false, [], length, Some, refl, sym, ap, subst, ◌∙◌, arith}
 use Rattle.pmem_base.specs.declared.lines.Line.{Line}
 use Rattle.pmem_base.specs.declared.registers.Progress.{Progress}
 use Rattle.pmem_base.specs.declared.answers.Mark.{Mark}
@@ -17,7 +17,7 @@ use Rattle.suite.specs.Setup.{Setup}
 use Rattle.pmem_engine.specs.declared.resealing.NextSeal.{NextSeal}
 use Rattle.pmem_engine.specs.Engine.{EngineState}
 use Rattle.pmem_engine.specs.Invariants.{IsTrusted}
-use Rattle.pmem_engine.specs.Sealed.{sealed_counter, IsResealed}
+use Rattle.pmem_engine.specs.Sealed.{IsResealed}
 use Rattle.pmem_engine.specs.Parts.{parts_of}
 use Rattle.pmem_engine.specs.Outcomes.{NeverFalls}
 use Rattle.pmem_engine.specs.Committing.{entries_of}
@@ -49,24 +49,7 @@ module _ (setup : Setup) (next : NextSeal) (register : Progress) (engine : Engin
 
   is_resealed : IsTrusted setup engine old.regs before → IsGroup (layout.device_lines setup.shape) new.regs.group.items
       → IsResealed setup next.at next.cipher next.tag old.regs new.regs before after
-  is_resealed trusted group =
-      record {
-        kept = record { data_lines = done.mark.data_lines; exhibit = done.mark.exhibit; loss = done.line_done.loss; group = group };
-        its_line = it.its_line;
-        its_cipher = done.fits.cipher_line;
-        its_tag = done.fits.its_tag;
-        tagged = ap (λ ctr. setup.formulas.tag_of next.at ctr next.cipher) (sym true_counter) ∙ it.tagged;
-        marks = done.mark.marks ∙ ap (λ ctr. before.marks ++ Seal next.at ctr next.cipher next.tag ∷ []) true_counter;
-        truth = done.mark.truth;
-        root = done.line_done.root;
-        progress = done.line_done.progress;
-      }
-    where
-      true_counter : next.ctr ≡ sealed_counter setup.shape before.truth next.at 0
-      true_counter =
-          it.its_counter
-          ∙ ap (λ major. record { major = major; minor = 0 })
-          (held-next_major setup old.regs before next.at register trusted.anchored it.held)
+  is_resealed trusted group = search (rules, held-next_major)
 
   -- it is one commit, which writes no counter block
   pub resealing : NeverFalls tags tags_now → NeverFalls digests digests_now

@@ -15,7 +15,7 @@ use Rattle.suite.specs.Setup.{Setup}
 use Rattle.plain_model.specs.State.{Memory}
 use Rattle.plain_model.specs.Bounds.{is_seal}
 use Rattle.plain_model.specs.Asked.{reseal_mark, seal_mark}
-use Rattle.pmem_engine.specs.declared.fault.Fault.{Fault}
+use Rattle.pmem_engine.specs.declared.fault.LineFault.{LineFault}
 use Rattle.pmem_engine.specs.Sealed.{sealed_counter}
 use Rattle.pmem_engine.specs.Parts.{Parts, regs_of, AreTrusted, HoldsSeal}
 use Rattle.pmem_engine.specs.Outcomes.{going, is_sealed_by, OneLossEffect, TakesSteps}
@@ -125,10 +125,7 @@ module _ (setup : Setup) (n number : ℕ) (old mid : Parts) (valid : IsValidRegs
     (inside : n < length (regs_of old).progress.items) (first : HasResealedFirst setup n number old mid)
     (some : number < length (not_done (register_in old n))) where
   total : length first.left + number ≡ length (not_done (register_in old n))
-  total =
-      let all = ap length first.places ∙ length-append first.sealed first.left in
-      let count = first.count in
-      omega (arith, all, count)
+  total = search (rules, length-append)
 
   open_by : (left : List ℕ) → 0 < length left → HasLeft old mid n left → IsStillOpen old mid n left
   open_by v0 more it = search rules
@@ -143,7 +140,7 @@ module _ (setup : Setup) (n number : ℕ) (old mid : Parts) (valid : IsValidRegs
   valid_now = first.done.gone.valid valid
 
   -- the next one was done or not
-  module _ (new : Parts) (answer : Result (ℕ × ℕ) Fault) (it : HasResealed setup n mid new answer) where
+  module _ (new : Parts) (answer : Result (ℕ × ℕ) LineFault) (it : HasResealed setup n mid new answer) where
     abbrev next_left : (rest : List ℕ) × (first.left ≡ it.place ∷ rest)
     next_left = first_and_rest first.left it.place (ap (λ places. slice_get places 0) (sym still_open.places) ∙ it.lowest)
 
@@ -167,10 +164,7 @@ module _ (setup : Setup) (n number : ℕ) (old mid : Parts) (valid : IsValidRegs
     at_is = ap (λ p. 64 * p + it.place) still_open.same_page
 
     within : line_of_page (register_in old n) it.place < layout.data_lines setup.shape
-    within =
-        let page = (valid.each_page n empty_progress inside).its_page in
-        let below = small in
-        omega (arith, page, below)
+    within = search (rules, small)
 
     pub same_mark : AreTrusted setup old → (memory : Memory)
         → reseal_mark setup.formulas (moment_in setup memory mid) (register_in mid n).page it.place ≡ asked_of setup n old memory it.place
@@ -183,24 +177,14 @@ module _ (setup : Setup) (n number : ℕ) (old mid : Parts) (valid : IsValidRegs
     pub all_asked : AreTrusted setup old → (memory : Memory) → IsMemory setup memory old
         → reseals_of setup.formulas (moment_in setup memory old) (register_in old n)
         ≡ first.made ++ asked_of setup n old memory it.place ∷ map (asked_of setup n old memory) rest
-    all_asked trusted memory was =
-        ap (map (asked_of setup n old memory)) places_before
-        ∙ map-append (asked_of setup n old memory) first.sealed (it.place ∷ rest)
-        ∙ ap (λ ms. ms ++ asked_of setup n old memory it.place ∷ map (asked_of setup n old memory) rest) (sym (first.marks trusted memory was))
+    all_asked trusted memory was = search (rules, map-append, places_before)
 
     pub sealed_of_both : AreTrusted setup old → (a : ℕ) → a < layout.data_lines setup.shape
         → IsTrue (is_sealed_by (first.made ++ it.made) a) → HoldsSeal setup.shape old a
-    sealed_of_both trusted a below by =
-        sealed_before_both setup first.made it.made old mid first.done trusted a below
-        (λ sealed. first.sealed_before trusted a below sealed)
-        (λ sealed. it.sealed_before (first.done.gone.trusted trusted) a below sealed) by
+    sealed_of_both trusted a below by = search (rules, sealed_before_both)
 
     pub few_of_both : length (first.made ++ it.made) ≤ number + 1
-    few_of_both =
-        let both = length-append first.made it.made in
-        let one = first.as_many in
-        let two = it.few in
-        omega (arith, both, one, two)
+    few_of_both = search (rules, length-append, as_many)
 
 -- the parts are usable still
 pub still_usable : (setup : Setup) (n number : ℕ) (old mid : Parts) → HasResealedFirst setup n number old mid
@@ -337,7 +321,6 @@ finished setup n number old new first whole =
       seals = λ ok. first.seals ∙ sym first.as_many;
       work = λ ok. subst (λ k. IsWork (reseal_work k) old new) (sym first.as_many) first.work;
       meta_lines = λ ok. first.meta_lines;
-      possible = tt;
       shadow = first.shadow;
       few_steps =
           more_most (4 * number) (4 * length (not_done (register_in old n))) old.device new.device
@@ -352,7 +335,6 @@ finished setup n number old new first whole =
       memory_kept = first.memory_kept;
       answered = λ trusted memory was. tt;
       unrefused = λ sound. tt;
-      not_down = λ it. it;
       sealed_before = first.sealed_before;
       closed = λ ok. closed.gone;
       one_less = λ ok. closed.one_less;

@@ -1,6 +1,5 @@
 -- The exits of a reseal: its line isn't unsealed, its group is cut, or the line is sealed anew.
-use Rattle.std.proofs.Common.{rules, ℕ, ◌≡◌, ◌<◌, ◌≤◌, ◌+◌, ◌++◌, inl, inr, true, false, cond, [], ◌∷◌, length, get_or, Some, Ok, Err, refl, sym, ap, ap₂, subst, subst₂, ◌∙◌, arith}
-use Rattle.std.specs.Prelude.{◌==◌, not, IfSome, option_map}
+use Rattle.std.proofs.Common.{rules, ℕ, ◌≡◌, ◌<◌, ◌+◌, ◌++◌, inl, inr, true, false, cond, [], ◌∷◌, length, get_or, Some, Ok, Err, refl, sym, ap, ap₂, subst, ◌∙◌, arith}
 use Rattle.std.proofs.lemmas.Bool.{true≢false, eq-eqb, and_from}
 use Rattle.std.proofs.lemmas.Option.{same_Some, get_or_from_slice_get}
 use Rattle.std.proofs.lemmas.List.Elements.{All-nil, All-cons}
@@ -17,12 +16,11 @@ use Rattle.pmem_base.specs.Lines.{IsLine, line_at, zero_line}
 use Rattle.pmem_base.specs.Registers.{IsProgress, is_done, not_done, empty_progress}
 use Rattle.suite.specs.Formulas.{AreInRange}
 use Rattle.suite.specs.Setup.{Setup}
-use Rattle.split_counters.specs.Blocks.{unpacked, block_counter}
 use Rattle.board.specs.Counts.{RisesBy}
 use Rattle.board.specs.Device.{Device, IsDevice}
 use Rattle.meta_path.specs.Work.{told_line}
 use Rattle.commit_regs.specs.Groups.{redone_told}
-use Rattle.page_reencrypt.specs.Registers.{register_held, counter_under}
+use Rattle.page_reencrypt.specs.Registers.{register_held}
 use Rattle.page_reencrypt.proofs.DoneBits.{not_done-not_done}
 use Rattle.page_reencrypt.proofs.Holding.{old_major-unpacked}
 use Rattle.page_reencrypt.proofs.AtPlace.{register_held-at}
@@ -30,30 +28,28 @@ use Rattle.seal_ledger.specs.Ledger.{LedgerState, IsSealValue}
 use Rattle.plain_model.specs.State.{Memory}
 use Rattle.plain_model.specs.Bounds.{is_seal}
 use Rattle.plain_model.specs.View.{view_of, counter_at, plain_line}
-use Rattle.plain_model.specs.Asked.{reseal_mark, next_major, seal_mark}
+use Rattle.plain_model.specs.Asked.{reseal_mark, next_major}
 use Rattle.plain_model.proofs.Views.{counter_at-last}
-use Rattle.pmem_engine.specs.declared.fault.Fault.{Fault}
-use Rattle.pmem_engine.specs.declared.fault.Fault.TheVariants as Fail
+use Rattle.pmem_engine.specs.declared.fault.LineFault.{LineFault}
+use Rattle.pmem_engine.specs.declared.fault.LineFault.TheVariants as AtLine
 use Rattle.pmem_engine.specs.declared.reading.Unsealed.{Unsealed}
 use Rattle.pmem_engine.specs.declared.resealing.HeldLine.{HeldLine}
 use Rattle.pmem_engine.specs.declared.resealing.NextSeal.{NextSeal}
 use Rattle.pmem_engine.specs.Engine.{EngineState}
-use Rattle.pmem_engine.specs.Truth.{true_block}
-use Rattle.pmem_engine.specs.Invariants.{IsSealStored, stored_meta}
 use Rattle.commit_regs.proofs.GroupLemmas.{redone-nil}
-use Rattle.pmem_engine.specs.Parts.{Parts, parts_of, regs_of, lines_redone, AreTrusted, AreSound, HoldsSeal, meta_line_in}
+use Rattle.pmem_engine.specs.Parts.{Parts, parts_of, regs_of, lines_redone, AreTrusted, HoldsSeal, meta_line_in}
 use Rattle.pmem_engine.specs.Outcomes.{going, cut_short, is_going, is_sealed_by, NeverFalls, TakesSteps, TakesFewer}
-use Rattle.pmem_engine.specs.Calls.{IsUsable, IsMemory, IsDownAnswer, IsUnrefused, moment_in, IsUnderMinorZero}
-use Rattle.pmem_engine.specs.Inner.{HasUnsealed, IsAnswerOfUnseal, IsLastCounter}
+use Rattle.pmem_engine.specs.Calls.{IsUsable, IsMemory, moment_in, IsUnderMinorZero}
+use Rattle.pmem_engine.specs.Inner.{HasUnsealed, IsLastCounter}
 use Rattle.pmem_engine.specs.Committing.{next_seal_of, entries_of}
-use Rattle.pmem_engine.specs.Resealing.{IsNextHeld, HasLineSealed, HasResealCommitted, IsCutUnarmed, IsResealCutArmed, IsResealCut, line_of_page, HasResealMarks, AnswersReseal, CountsReseal, IsAnswerOfReseal, HasResealed}
+use Rattle.pmem_engine.specs.Resealing.{IsNextHeld, HasLineSealed, HasResealCommitted, IsCutUnarmed, IsResealCutArmed, IsResealCut, line_of_page, HasResealMarks, AnswersReseal, CountsReseal, HasResealed}
+use Rattle.pmem_engine.proofs.CallEnds.ErrorAnswers.{line_unrefused}
 use Rattle.pmem_engine.proofs.CallEnds.StillParts.{sound_trusted}
 use Rattle.pmem_engine.proofs.CallEnds.CallChains.{done_chained}
 use Rattle.pmem_engine.proofs.CallEnds.MetaLines.{committed_at}
 use Rattle.pmem_engine.proofs.CallEnds.ShadowLines.{shadow_still, committed_off, armed_off, entries_off, told_off, meta_off}
 use Rattle.pmem_engine.proofs.Laws.PlainLines.{plain_line-resealed}
 use Rattle.pmem_engine.proofs.CheckedReads.UnsealedLines.{risen_never_falls, same_never_falls}
-use Rattle.pmem_engine.specs.Faults.{IsTagRefused, IsForgedShown}
 use Rattle.pmem_engine.proofs.Laws.DeviceSteps.{sealed_here}
 use Rattle.pmem_engine.proofs.Seals.GroupCommits.{IsCommit, done_committed, done_cut}
 use Rattle.pmem_engine.proofs.PageLines.LineReseals.{IsResealing, resealing}
@@ -96,81 +92,35 @@ module _ (setup : Setup) (n : ℕ) (engine : EngineState) (old : Device) (before
 
   -- its page's register holds it
   holds : register_held old.regs.progress.items held.at ≡ Some register
-  holds =
-      register_held-at old.regs.progress.items held.at n empty_progress usable.ready.valid_regs.distinct_pages inside
-      (and_from (register.page == page_of held.at) (not (is_done register (index_in_page held.at)))
-      (eq-eqb register.page (page_of held.at) (sym its_page))
-      (ap (λ i. not (is_done register i)) its_place ∙ ap not not_yet))
+  holds = search (rules, eq-eqb, and_from, register_held-at, its_page, its_place, not_yet)
 
   -- so its last counter is the old one
   last_counter : AreTrusted setup start → IsLastCounter start held.at held.now
-  last_counter trusted =
-      trusted.anchored.last_counters held.at held_in_range
-      ∙ ap Some
-      (ap (λ r. counter_under r (true_block setup.shape before.truth (page_of held.at)) held.at) holds
-      ∙ ap (block_counter (unpacked register.old)) its_place ∙ sym next.now)
+  last_counter trusted = search (rules, held_in_range, its_place, holds)
 
   -- ---- the line isn't unsealed
 
-  not_made : (new : Parts) (fault : Fault) → HasUnsealed setup held.at held.now start new (Err fault)
-      → AreTrusted setup start → (memory : Memory)
+  not_made : (new : Parts) (fault : LineFault) → AreTrusted setup start → (memory : Memory)
       → HasResealMarks setup.formulas (moment_in setup memory start) register.page next.place [] (Err fault)
-  not_made new Fail.Cut it trusted memory = inl refl
-  not_made new (Fail.Tag b) it trusted memory = refl
-  not_made new Fail.Shown it trusted memory = refl
-  not_made new (Fail.Meta x) it trusted memory = it.answered trusted (last_counter trusted)
-  not_made new (Fail.Spent page) it trusted memory = it.answered trusted (last_counter trusted)
-  not_made new Fail.Down it trusted memory = it.answered trusted (last_counter trusted)
+  not_made new fault trusted memory = search rules
 
-  says : (new : Parts) (fault : Fault) → HasUnsealed setup held.at held.now start new (Err fault) → AreTrusted setup start
+  says : (new : Parts) (fault : LineFault) → HasUnsealed setup held.at held.now start new (Err fault) → AreTrusted setup start
       → AnswersReseal setup (line_of_page register next.place) start new (Err fault)
-  says new Fail.Cut it trusted = tt
-  says new (Fail.Tag b) it trusted =
-      let said = it.answered trusted (last_counter trusted) in
-      (said.0 ∙ next.its_line, subst (λ a. IsTagRefused setup a new) (sym said.0) said.1)
-  says new Fail.Shown it trusted =
-      subst (λ a. IsForgedShown setup a new) next.its_line (it.answered trusted (last_counter trusted))
-  says new (Fail.Meta x) it trusted = tt
-  says new (Fail.Spent page) it trusted = tt
-  says new Fail.Down it trusted = tt
+  says new fault it trusted = search (rules, last_counter)
 
-  unrefused_by : (new : Parts) (fault : Fault) → HasUnsealed setup held.at held.now start new (Err fault)
-      → AreSound setup start → IsUnrefused {T = ℕ × ℕ} (Err fault)
-  unrefused_by new Fail.Cut it sound = tt
-  unrefused_by new (Fail.Spent page) it sound = tt
-  unrefused_by new (Fail.Tag b) it sound = it.unrefused sound (last_counter (sound_trusted setup start sound))
-  unrefused_by new Fail.Shown it sound = it.unrefused sound (last_counter (sound_trusted setup start sound))
-  unrefused_by new (Fail.Meta x) it sound = it.unrefused sound (last_counter (sound_trusted setup start sound))
-  unrefused_by new Fail.Down it sound = it.unrefused sound (last_counter (sound_trusted setup start sound))
-
-  not_down_by : (new : Parts) (fault : Fault) → HasUnsealed setup held.at held.now start new (Err fault)
-      → IsDownAnswer {T = ℕ × ℕ} (Err fault) → ⊥
-  not_down_by new v1 it down = search rules
-
-  possible_by : (fault : Fault) → IsAnswerOfUnseal (Err fault) → IsAnswerOfReseal (Err fault)
-  possible_by Fail.Cut it = tt
-  possible_by Fail.Down it = it
-  possible_by Fail.Shown it = tt
-  possible_by (Fail.Meta x) it = it
-  possible_by (Fail.Tag b) it = tt
-  possible_by (Fail.Spent page) it = it
-
-  counted_none : (new : Parts) (fault : Fault) → TakesSteps 0 old new.device → CountsReseal start new (Err fault)
-  counted_none new Fail.Cut none = fewer none
+  counted_none : (new : Parts) (fault : LineFault) → TakesSteps 0 old new.device → CountsReseal start new (Err fault)
+  counted_none new AtLine.Cut none = fewer none
     where
       fewer : TakesSteps 0 old new.device → TakesFewer 4 old new.device
       fewer none = search rules
-  counted_none new (Fail.Tag b) none = none
-  counted_none new Fail.Shown none = none
-  counted_none new (Fail.Meta x) none = none
-  counted_none new (Fail.Spent page) none = none
-  counted_none new Fail.Down none = none
+  counted_none new (AtLine.Tag b) none = none
+  counted_none new AtLine.Shown none = none
 
-  kept_memory : (new : Parts) (fault : Fault) → HasUnsealed setup held.at held.now start new (Err fault)
+  kept_memory : (new : Parts) (fault : LineFault) → HasUnsealed setup held.at held.now start new (Err fault)
       → (memory : Memory) → IsMemory setup memory start → IsMemory setup memory new
   kept_memory new fault it memory was a within = search rules
 
-  pub not_unsealed : (new : Device) (after : LedgerState) (tags_now digests_now : ℕ) (fault : Fault)
+  pub not_unsealed : (new : Device) (after : LedgerState) (tags_now digests_now : ℕ) (fault : LineFault)
       → HasUnsealed setup held.at held.now start (parts_of engine new after tags_now digests_now) (Err fault)
       → HasResealed setup n start (parts_of engine new after tags_now digests_now) (Err fault)
   not_unsealed new after tags_now digests_now fault it =
@@ -179,19 +129,19 @@ module _ (setup : Setup) (n : ℕ) (engine : EngineState) (old : Device) (before
         lowest = next.lowest;
         made = [];
         done = it.done;
-        marks = λ trusted memory was. not_made final fault it trusted memory;
+        marks = λ trusted memory was. not_made final fault trusted memory;
         memory_kept = λ trusted memory was. kept_memory final fault it memory was;
         line_sealed = tt;
         answered = λ trusted. says final fault it trusted;
-        unrefused = λ sound. unrefused_by final fault it sound;
-        not_down = λ down. not_down_by final fault it down;
+        unrefused =
+            λ sound.
+            line_unrefused Unsealed (ℕ × ℕ) fault (it.unrefused sound (last_counter (sound_trusted setup start sound)));
         few = omega arith;
         sealed_before = λ trusted a within made. absurd (true≢false (sym made));
         counts = counted_none final fault it.no_steps;
         one_seal = λ ok. absurd (true≢false (sym ok));
         work = λ ok. absurd (true≢false (sym ok));
         meta_lines = λ ok. absurd (true≢false (sym ok));
-        possible = possible_by fault it.possible;
         minors = All-nil IsUnderMinorZero;
         shadow = shadow_still setup.shape start final refl it.lines;
         engine = refl;
@@ -231,42 +181,22 @@ module _ (setup : Setup) (n : ℕ) (engine : EngineState) (old : Device) (before
     plain_before trusted = (it.answered trusted (last_counter trusted)).0
 
     stored_before : AreTrusted setup start → HoldsSeal setup.shape start held.at
-    stored_before trusted =
-        subst₂ (λ told seals. IfSome told (λ lines. IsSealStored setup.shape lines seals.marks held.at))
-        (ap₂ (λ regs lines. redone_told regs.group.items lines) it.regs it.lines) same_ledger
-        (it.answered trusted (last_counter trusted)).1
+    stored_before trusted = search (rules, last_counter, same_ledger)
 
     -- the mark is the one that is asked
     next_is : AreTrusted setup start
         → held.next ≡ next_major (counter_at (view_of setup.shape before.marks) held.at) 0
-    next_is trusted =
-        next.next
-        ∙ ap (λ n. record { major = n + 1; minor = 0 })
-        (old_major-unpacked register
-        ∙ sym (ap (λ ctr. ctr.major) (counter_at-last setup.shape before.marks held.at held.now held_in_range (last_counter trusted) ∙ next.now)))
+    next_is trusted = search (rules, old_major-unpacked, counter_at-last, held_in_range, last_counter)
 
     mark_is : AreTrusted setup start → (memory : Memory) → IsMemory setup memory start
         → mark ≡ reseal_mark setup.formulas (moment_in setup memory start) register.page next.place
-    mark_is trusted memory was =
-        ap₂ (λ ctr plain. seal_mark setup.formulas held.at ctr plain) (next_is trusted)
-        (same_Some unsealed.plain (line_at memory held.at) (sym (plain_before trusted) ∙ was held.at held_in_range))
-        ∙ ap
-        (λ a. seal_mark setup.formulas a (next_major (counter_at (view_of setup.shape before.marks) a) 0) (line_at memory a))
-        next.its_line
+    mark_is trusted memory was = search (rules, same_Some, held_in_range, plain_before, next_is)
 
     -- every line keeps its plain line
     memory_now : AreInRange setup.formulas → IsLine unsealed.plain → (after : LedgerState) → IsSealValue sealing.ctr sealing.cipher sealing.tag
         → after.marks ≡ ledger.marks ++ mark ∷ [] → AreTrusted setup start → (memory : Memory) → IsMemory setup memory start
         → (a : ℕ) → a < layout.data_lines setup.shape → plain_line setup.formulas after.marks a ≡ Some (line_at memory a)
-    memory_now in_range whole after fits marks trusted memory was a within =
-        ap (λ marks. plain_line setup.formulas marks a)
-        (marks ∙ ap (λ seals. seals.marks ++ mark ∷ []) same_ledger)
-        ∙ plain_line-resealed setup.formulas before.marks held.at held.next unsealed.plain sealing.tag in_range
-        (record { major = fits.major; minor = minor_small }) whole (plain_before trusted) a
-        ∙ was a within
-      where
-        minor_small : held.next.minor ≤ 127
-        minor_small = subst (λ ctr. ctr.minor ≤ 127) (sym next.next) (omega arith)
+    memory_now in_range whole after fits marks trusted memory was a within = search (rules, plain_line-resealed, same_ledger, plain_before)
 
     -- the line alone was sealed
     stored_sealed : AreTrusted setup start → (a : ℕ) → is_sealed_by (mark ∷ []) a ≡ true → HoldsSeal setup.shape start a
@@ -276,9 +206,9 @@ module _ (setup : Setup) (n : ℕ) (engine : EngineState) (old : Device) (before
 
     -- ---- the group is cut before it was armed
 
-    pub cut_unarmed : (new : Device) (after : LedgerState) (tags_now digests_now : ℕ) → tags_now ≡ risen tags_mid
+    cut_unarmed : (new : Device) (after : LedgerState) (tags_now digests_now : ℕ) → tags_now ≡ risen tags_mid
         → digests_now ≡ digests_mid → IsCutUnarmed mid new ledger after
-        → HasResealed setup n start (parts_of engine new after tags_now digests_now) (Err Fail.Cut)
+        → HasResealed setup n start (parts_of engine new after tags_now digests_now) (Err AtLine.Cut)
     cut_unarmed new after tags_now digests_now more_tags same_digests was_cut =
         record {
           place = next.place;
@@ -293,7 +223,6 @@ module _ (setup : Setup) (n : ℕ) (engine : EngineState) (old : Device) (before
           line_sealed = tt;
           answered = λ trusted. tt;
           unrefused = λ sound. tt;
-          not_down = λ it. it;
           few = omega arith;
           sealed_before = λ trusted a within made. absurd (true≢false (sym made));
           counts =
@@ -301,7 +230,6 @@ module _ (setup : Setup) (n : ℕ) (engine : EngineState) (old : Device) (before
           one_seal = λ ok. absurd (true≢false (sym ok));
           work = λ ok. absurd (true≢false (sym ok));
           meta_lines = λ ok. absurd (true≢false (sym ok));
-          possible = tt;
           minors = All-nil IsUnderMinorZero;
           shadow = shadow_still setup.shape start final refl (was_cut.device.lines ∙ it.lines);
           engine = refl;
@@ -332,19 +260,7 @@ module _ (setup : Setup) (n : ℕ) (engine : EngineState) (old : Device) (before
       never_digests = same_never_falls digests_mid digests_now same_digests
 
       held_sealing : IsResealing setup sealing register mid
-      held_sealing =
-          record {
-            its_line = held_in_range;
-            held = ap (λ regs. register_held regs.progress.items held.at) it.regs ∙ holds;
-            its_counter = next.next;
-            tagged = refl;
-            tags = unsealed.tag_line;
-            tags_read = it.tells_tag_line;
-            tag_line = refl;
-            unarmed = still_unarmed;
-            whole = device;
-            size = mid_size;
-          }
+      held_sealing = search (rules, unarmed, held_in_range, holds, still_unarmed, mid_size)
 
       commit : HasLineSealed setup.shape sealing mid new ledger after
           → IsCommit setup (entries_of setup.shape sealing) mark (page_of sealing.at) false zero_line middle final
@@ -362,17 +278,12 @@ module _ (setup : Setup) (n : ℕ) (engine : EngineState) (old : Device) (before
       kept_meta : (x : ℕ) → HasLineSealed setup.shape sealing mid new ledger after
           → lines_redone final ≡ redone_told (entries_of setup.shape sealing) mid.lines
           → meta_line_in setup.shape final x ≡ meta_line_in setup.shape start x
-      kept_meta x done comes =
-          ap (option_map (λ lines. stored_meta setup.shape lines x)) comes
-          ∙ told_off (entries_of setup.shape sealing) mid.lines (layout.meta_line setup.shape x)
-          (meta_off setup.shape sealing x held_in_range)
-          ∙ ap (option_map (λ lines. stored_meta setup.shape lines x))
-          (it.lines ∙ sym (ap (λ items. redone_told items old.lines) unarmed ∙ redone-nil old.lines))
+      kept_meta x done comes = search (rules, redone-nil, told_off, meta_off, unarmed, held_in_range)
 
       -- ---- or while it was armed
 
-      pub cut_armed : IsDevice new → IsResealCutArmed setup.shape sealing mid new ledger after
-          → HasResealed setup n start (parts_of engine new after tags_now digests_now) (Err Fail.Cut)
+      cut_armed : IsDevice new → IsResealCutArmed setup.shape sealing mid new ledger after
+          → HasResealed setup n start (parts_of engine new after tags_now digests_now) (Err AtLine.Cut)
       cut_armed device_now was_cut =
           record {
             place = next.place;
@@ -389,7 +300,6 @@ module _ (setup : Setup) (n : ℕ) (engine : EngineState) (old : Device) (before
             line_sealed = tt;
             answered = λ trusted. tt;
             unrefused = λ sound. tt;
-            not_down = λ it. it;
             few = omega arith;
             sealed_before = λ trusted a within made. stored_sealed trusted a made;
             counts =
@@ -397,7 +307,6 @@ module _ (setup : Setup) (n : ℕ) (engine : EngineState) (old : Device) (before
             one_seal = λ ok. absurd (true≢false (sym ok));
             work = λ ok. absurd (true≢false (sym ok));
             meta_lines = λ ok. absurd (true≢false (sym ok));
-            possible = tt;
             minors = All-cons IsUnderMinorZero mark [] (ap (λ (ctr : Ctr). ctr.minor) next.next) (All-nil IsUnderMinorZero);
             shadow =
                 record {
@@ -422,15 +331,9 @@ module _ (setup : Setup) (n : ℕ) (engine : EngineState) (old : Device) (before
               → new.writes + new.latches < old.writes + old.latches + 4
           fewer one two = search rules
 
-      -- either
-      pub cut_resealing : IsDevice new → IsResealCut setup.shape sealing mid new ledger after
-          → HasResealed setup n start (parts_of engine new after tags_now digests_now) (Err Fail.Cut)
-      cut_resealing device_now (inl before_it) = cut_unarmed new after tags_now digests_now more_tags same_digests before_it
-      cut_resealing device_now (inr amid_it) = cut_armed device_now amid_it
-
       -- ---- the line is sealed anew
 
-      pub resealed : (answer : ℕ × ℕ) → answer.0 ≡ held.at → answer.1 + 1 ≡ length (not_done register)
+      resealed : (answer : ℕ × ℕ) → answer.0 ≡ held.at → answer.1 + 1 ≡ length (not_done register)
           → HasResealCommitted setup.shape sealing mid new ledger after
           → HasResealed setup n start (parts_of engine new after tags_now digests_now) (Ok answer)
       resealed answer at_is left_is committed =
@@ -450,7 +353,6 @@ module _ (setup : Setup) (n : ℕ) (engine : EngineState) (old : Device) (before
                 search rules;
             answered = λ trusted. tt;
             unrefused = λ sound. tt;
-            not_down = λ it. it;
             few = omega arith;
             sealed_before = λ trusted a within made. stored_sealed trusted a made;
             counts = search rules;
@@ -472,7 +374,6 @@ module _ (setup : Setup) (n : ℕ) (engine : EngineState) (old : Device) (before
                 committed_at (entries_of setup.shape sealing) mid new (layout.meta_line setup.shape x)
                 (meta_off setup.shape sealing x held_in_range) committed.device
                 ∙ ap (λ told. told_line told (layout.meta_line setup.shape x)) it.lines;
-            possible = tt;
             minors = All-cons IsUnderMinorZero mark [] (ap (λ (ctr : Ctr). ctr.minor) next.next) (All-nil IsUnderMinorZero);
             shadow =
                 record {
@@ -493,3 +394,17 @@ module _ (setup : Setup) (n : ℕ) (engine : EngineState) (old : Device) (before
                 (ap₂ redone_told committed.device.no_group committed.device.lines
                 ∙ redone-nil (redone_told (entries_of setup.shape sealing) mid.lines));
           }
+
+      -- every exit
+      pub resealing_exits :
+          (IsDevice new → IsResealCut setup.shape sealing mid new ledger after → HasResealed setup n start final (Err AtLine.Cut))
+          × ((answer : ℕ × ℕ) → answer.0 ≡ held.at → answer.1 + 1 ≡ length (not_done register)
+          → HasResealCommitted setup.shape sealing mid new ledger after → HasResealed setup n start final (Ok answer))
+      resealing_exits = (
+        λ device_now cut.
+            elim cut [
+              | inl was ↦ cut_unarmed new after tags_now digests_now more_tags same_digests was
+              | inr was ↦ cut_armed device_now was
+            ],
+        resealed,
+      )

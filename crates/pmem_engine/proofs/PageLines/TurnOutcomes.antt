@@ -1,26 +1,27 @@
 -- The exits of a turn: the engine is down, no page is open, or the oldest page's lowest line was to be sealed anew.
-use Rattle.std.proofs.lemmas.Grind.{common_steps}
-use Rattle.std.proofs.Common.{rules, ℕ, ◌≡◌, ◌<◌, ◌+◌, ◌*◌, true, false, List, [], ◌∷◌, length, map, get_or, Option, Some, None, Ok, Err, refl, sym, ap, subst, ◌∙◌, arith}
-use Rattle.std.specs.Prelude.{Result, MatchOption, IfOk, IsOk, IsSome, not, ◌||◌}
+use Rattle.std.proofs.Common.{rules, ℕ, ◌≡◌, ◌<◌, ◌+◌, ◌*◌, inl, inr, true, false, List, [], ◌∷◌, length, map, get_or, Option, Some, None, Ok, Err, refl, sym, ap, subst, ◌∙◌, arith}
+use Rattle.std.specs.Prelude.{Result, is_some, option_map, MatchOption, IfOk, IsOk, IsSome}
+use Rattle.std.specs.Option.{option_and_then}
 use Rattle.std.proofs.lemmas.Bool.{true≢false}
 use Rattle.pmem_base.specs.declared.registers.Progress.{Progress}
 use Rattle.pmem_base.specs.declared.answers.Place.{Place}
 use Rattle.pmem_base.specs.Registers.{not_done, empty_progress}
 use Rattle.suite.specs.Setup.{Setup}
 use Rattle.plain_model.specs.State.{Memory}
-use Rattle.plain_model.specs.Asked.{first_of}
-use Rattle.plain_model.specs.Fits.{IsLowestLeft, oldest_page}
+use Rattle.plain_model.specs.Asked.{first_of, reseal_mark, mark_of_page_turn}
+use Rattle.plain_model.specs.Fits.{IsLeftAfterTurn, IsLowestLeft, IsTurnMark, oldest_page}
 use Rattle.pmem_engine.specs.declared.fault.Fault.{Fault}
 use Rattle.pmem_engine.specs.declared.fault.Fault.TheVariants as Fail
-use Rattle.pmem_engine.specs.Engine.{EngineState}
+use Rattle.pmem_engine.specs.declared.fault.LineFault.{LineFault}
+use Rattle.pmem_engine.specs.declared.fault.LineFault.TheVariants as AtLine
 use Rattle.pmem_engine.specs.Invariants.{register_page}
 use Rattle.pmem_engine.specs.Parts.{Parts, regs_of, AreTrusted}
-use Rattle.pmem_engine.specs.Outcomes.{going, outcome_of, is_going, OneLossEffect}
+use Rattle.pmem_engine.specs.Outcomes.{fault_of_line, of_line, outcome_of, OneLossEffect}
 use Rattle.pmem_engine.specs.Faults.{IsTagRefused, IsForgedShown}
 use Rattle.pmem_engine.specs.Calls.{IsUnrefused, IsLeftAlone, moment_in, AreMarksOfTurn, IsAnswerOfTurn, AnswersTurn, IsTurnWork, CountsTurn, HasTurned}
-use Rattle.pmem_engine.specs.Resealing.{HasResealMarks, HasSealedHeld, CountsReseal, AnswersReseal, IsAnswerOfReseal, HasResealed, register_in, line_of_page}
-use Rattle.pmem_engine.proofs.CallEnds.EndedEngines.{with_engine, done_ended}
+use Rattle.pmem_engine.specs.Resealing.{HasResealMarks, HasSealedHeld, CountsReseal, AnswersReseal, HasResealed, register_in, line_of_page}
 use Rattle.pmem_engine.proofs.CallEnds.ShadowLines.{shadow_still}
+use Rattle.pmem_engine.proofs.CheckedReads.ReadEnds.{ended_parts, done_ended}
 
 left_alone : (parts : Parts) → IsLeftAlone parts parts
 left_alone parts = record { engine = refl; device = refl; ledger = refl; tags = refl; digests = refl }
@@ -76,12 +77,19 @@ turned_idle setup parts up none =
 -- ---- a line was to be sealed
 
 -- a reseal's answer as a turn's
-abbrev pub turned_of : Result (ℕ × ℕ) Fault → Result (Option (ℕ × ℕ)) Fault
+abbrev pub turned_of : Result (ℕ × ℕ) LineFault → Result (Option (ℕ × ℕ)) Fault
 turned_of (Ok sealed) = Ok (Some sealed)
-turned_of (Err fault) = Err fault
+turned_of (Err fault) = Err (fault_of_line fault)
 
-same_outcome : (answer : Result (ℕ × ℕ) Fault) → outcome_of (turned_of answer) ≡ outcome_of answer
+same_outcome : (answer : Result (ℕ × ℕ) LineFault) → outcome_of (turned_of answer) ≡ outcome_of (of_line answer)
 same_outcome v0 = search rules
+
+-- by the answer as the engine's
+pub turned_by_seal : (answer : Result (ℕ × ℕ) LineFault) (sealed : ℕ × ℕ) → of_line answer ≡ Ok sealed → turned_of answer ≡ Ok (Some sealed)
+turned_by_seal v0 sealed it = search rules
+
+pub turned_by_fault : (answer : Result (ℕ × ℕ) LineFault) (fault : Fault) → of_line answer ≡ Err fault → turned_of answer ≡ Err fault
+turned_by_fault v0 fault it = search rules
 
 -- no element
 pub none_from_length : {X : Type 0} (xs : List X) → length xs ≡ 0 → xs ≡ []
@@ -93,22 +101,27 @@ first_is : (registers : List Progress) → 0 < length registers
 first_is [] some = absurd (omega (arith, some))
 first_is (first ∷ registers) some = refl
 
-module _ (setup : Setup) (old mid : Parts) (answer : Result (ℕ × ℕ) Fault) (engine : EngineState) (up : old.engine.down ≡ false)
-    (some : 0 < length (regs_of old).progress.items) (it : HasResealed setup 0 old mid answer)
-    (shape : engine.shape ≡ mid.engine.shape) (cache : engine.cache ≡ mid.engine.cache) (mirror : engine.mirror ≡ mid.engine.mirror)
-    (down : engine.down ≡ (mid.engine.down || not (is_going (outcome_of answer)))) where
+module _ (setup : Setup) (old mid : Parts) (answer : Result (ℕ × ℕ) LineFault) (up : old.engine.down ≡ false)
+    (some : 0 < length (regs_of old).progress.items) (it : HasResealed setup 0 old mid answer) where
   abbrev new : Parts
-  new = with_engine mid engine
+  new = ended_parts mid (outcome_of (of_line answer))
 
   abbrev register : Progress
   register = register_in old 0
 
-  same_engine : outcome_of answer ≡ going → engine ≡ mid.engine
-  same_engine goes = search rules
-
   -- the oldest page, and the mark that is asked
   oldest : AreTrusted setup old → (memory : Memory) → oldest_page (moment_in setup memory old) ≡ Some (register_page register)
   oldest trusted memory = ap first_of trusted.anchored.open_pages ∙ first_is (regs_of old).progress.items some
+
+  is_mark : AreTrusted setup old → (memory : Memory)
+      → it.made ≡ reseal_mark setup.formulas (moment_in setup memory old) register.page it.place ∷ []
+      → IsTurnMark setup.formulas (moment_in setup memory old) it.made
+  is_mark trusted memory made =
+      subst (λ o. MatchOption o ⊥ (λ mark. it.made ≡ mark ∷ []))
+      (sym
+      (ap (option_and_then (mark_of_page_turn setup.formulas (moment_in setup memory old))) (oldest trusted memory)
+      ∙ ap (option_map (reseal_mark setup.formulas (moment_in setup memory old) register.page)) it.lowest))
+      made
 
   is_lowest : AreTrusted setup old → (memory : Memory) (b : ℕ) → b ≡ line_of_page register it.place
       → IsLowestLeft (oldest_page (moment_in setup memory old)) (Place.Line b)
@@ -116,12 +129,20 @@ module _ (setup : Setup) (old mid : Parts) (answer : Result (ℕ × ℕ) Fault) 
       subst (λ o. IsLowestLeft o (Place.Line b)) (sym (oldest trusted memory))
       (subst (λ o. MatchOption o ⊥ (λ i. b ≡ 64 * register.page + i)) (sym it.lowest) same)
 
-  turn_marks : (reply : Result (ℕ × ℕ) Fault) → AreTrusted setup old → (memory : Memory)
+  turn_marks : (reply : Result (ℕ × ℕ) LineFault) → AreTrusted setup old → (memory : Memory)
       → HasResealMarks setup.formulas (moment_in setup memory old) register.page it.place it.made reply
       → IfOk reply (HasSealedHeld (line_of_page register it.place) (length (not_done register)) old mid)
       → AnswersReseal setup (line_of_page register it.place) old mid reply
       → AreMarksOfTurn setup.formulas (moment_in setup memory old) it.made (turned_of reply)
-  turn_marks v0 trusted memory made line says = grind (arith, common_steps)
+  turn_marks (Ok sealed) trusted memory made line says = (
+    is_mark trusted memory made,
+    is_lowest trusted memory sealed.0 line.at,
+    subst (λ o. IsLeftAfterTurn o sealed.1) (sym (oldest trusted memory)) (sym line.left),
+  )
+  turn_marks (Err AtLine.Cut) trusted memory (inl none) line says = (ap is_some (oldest trusted memory), inl none)
+  turn_marks (Err AtLine.Cut) trusted memory (inr made) line says = (ap is_some (oldest trusted memory), inr (is_mark trusted memory made))
+  turn_marks (Err (AtLine.Tag b)) trusted memory made line says = (made, is_lowest trusted memory b says.0)
+  turn_marks (Err AtLine.Shown) trusted memory made line says = (made, ap is_some (oldest trusted memory))
 
   refused_line : (a : ℕ) → IsTagRefused setup a mid → IsTagRefused setup a new
   refused_line a said = search rules
@@ -129,28 +150,25 @@ module _ (setup : Setup) (old mid : Parts) (answer : Result (ℕ × ℕ) Fault) 
   forged_line : (a : ℕ) → IsForgedShown setup a mid → IsForgedShown setup a new
   forged_line a said = search rules
 
-  turn_answered : (reply : Result (ℕ × ℕ) Fault) → AreTrusted setup old
+  turn_answered : (reply : Result (ℕ × ℕ) LineFault) → AreTrusted setup old
       → AnswersReseal setup (line_of_page register it.place) old mid reply → AnswersTurn setup old new (turned_of reply)
   turn_answered (Ok sealed) trusted says = tt
-  turn_answered (Err Fail.Cut) trusted says = tt
-  turn_answered (Err (Fail.Tag b)) trusted says = refused_line b says.1
-  turn_answered (Err Fail.Shown) trusted says =
+  turn_answered (Err AtLine.Cut) trusted says = tt
+  turn_answered (Err (AtLine.Tag b)) trusted says = refused_line b says.1
+  turn_answered (Err AtLine.Shown) trusted says =
       record {
         at = line_of_page register it.place;
         lowest = is_lowest trusted [] (line_of_page register it.place) refl;
         forged = forged_line (line_of_page register it.place) says;
       }
-  turn_answered (Err (Fail.Meta x)) trusted says = tt
-  turn_answered (Err (Fail.Spent page)) trusted says = tt
-  turn_answered (Err Fail.Down) trusted says = tt
 
-  turn_unrefused : (reply : Result (ℕ × ℕ) Fault) → IsUnrefused reply → IsUnrefused (turned_of reply)
+  turn_unrefused : (reply : Result (ℕ × ℕ) LineFault) → IsUnrefused (of_line reply) → IsUnrefused (turned_of reply)
   turn_unrefused v0 it = search rules
 
-  turn_counts : (reply : Result (ℕ × ℕ) Fault) → CountsReseal old mid reply → CountsTurn old new (turned_of reply)
+  turn_counts : (reply : Result (ℕ × ℕ) LineFault) → CountsReseal old mid reply → CountsTurn old new (turned_of reply)
   turn_counts v0 it = search rules
 
-  turn_work : (reply : Result (ℕ × ℕ) Fault) → (IsOk reply → IsTurnWork old mid)
+  turn_work : (reply : Result (ℕ × ℕ) LineFault) → (IsOk reply → IsTurnWork old mid)
       → IfOk (turned_of reply) (λ turned. IsSome turned → IsTurnWork old new)
   turn_work (Ok sealed) given =
       λ some.
@@ -167,14 +185,8 @@ module _ (setup : Setup) (old mid : Parts) (answer : Result (ℕ × ℕ) Fault) 
       }
   turn_work (Err fault) given = tt
 
-  turn_possible : (reply : Result (ℕ × ℕ) Fault) → IsAnswerOfReseal reply → IsAnswerOfTurn (turned_of reply)
-  turn_possible (Ok sealed) it = tt
-  turn_possible (Err Fail.Cut) it = tt
-  turn_possible (Err Fail.Down) it = tt
-  turn_possible (Err Fail.Shown) it = tt
-  turn_possible (Err (Fail.Meta x)) it = it
-  turn_possible (Err (Fail.Tag b)) it = tt
-  turn_possible (Err (Fail.Spent page)) it = it
+  turn_possible : (reply : Result (ℕ × ℕ) LineFault) → IsAnswerOfTurn (turned_of reply)
+  turn_possible v0 = search rules
 
   pub turned : HasTurned setup old new (turned_of answer)
   turned =
@@ -185,7 +197,7 @@ module _ (setup : Setup) (old mid : Parts) (answer : Result (ℕ × ℕ) Fault) 
         done =
             λ is_up.
             subst (λ outcome. OneLossEffect setup outcome it.made old new) (sym (same_outcome answer))
-            (done_ended setup (outcome_of answer) it.made old mid engine shape cache same_engine it.done);
+            (done_ended setup (outcome_of (of_line answer)) it.made old mid it.done);
         marks =
             λ is_up trusted memory was.
             turn_marks answer trusted memory (it.marks trusted memory was) it.line_sealed (it.answered trusted);
@@ -197,8 +209,8 @@ module _ (setup : Setup) (old mid : Parts) (answer : Result (ℕ × ℕ) Fault) 
         sealed_before = it.sealed_before;
         counts = λ is_up. turn_counts answer it.counts;
         work = turn_work answer it.work;
-        possible = turn_possible answer it.possible;
-        shadow = record { mirror = mirror ∙ it.shadow.mirror; lines = it.shadow.lines };
-        cache = cache ∙ ap (λ e. e.cache) it.engine;
+        possible = turn_possible answer;
+        shadow = record { mirror = it.shadow.mirror; lines = it.shadow.lines };
+        cache = ap (λ e. e.cache) it.engine;
         digests = it.digests;
       }

@@ -1,32 +1,29 @@
 -- A path was named, or a cut came before one of its entries was written: what the call keeps.
-use Rattle.std.proofs.Common.{rules, ℕ, ◌≡◌, ◌<◌, ◌≤◌, ◌+◌, ◌⊎◌, inl, inr, true, false, List, [], length, Option, Some, None, Ok, Err, refl, sym, ap, ap₂, subst, ◌∙◌, arith}
-use Rattle.std.specs.Prelude.{MatchOption, IfSome, option_map, is_ok, Result}
+use Rattle.std.proofs.Common.{rules, ℕ, ◌≡◌, ◌<◌, ◌≤◌, ◌+◌, inl, inr, true, false, List, [], length, Some, Ok, Err, refl, sym, ap, ap₂, subst, ◌∙◌, arith}
+use Rattle.std.specs.Prelude.{MatchOption, IfSome, option_map}
 use Rattle.std.proofs.lemmas.Bool.{true≢false}
+use Rattle.pmem_base.specs.declared.faults.Cut.{Cut}
 use Rattle.pmem_base.specs.declared.lines.Line.{Line}
-use Rattle.pmem_base.specs.declared.registers.Regs.{Regs}
 use Rattle.pmem_base.specs.Counts.{HasRisen}
 use Rattle.pmem_base.specs.Layout as layout
 use Rattle.pmem_base.specs.Lines.{line_at, tag_slot, put_lines}
-use Rattle.bonsai_tree.specs.Positions.{level_of, counter_position}
+use Rattle.bonsai_tree.specs.Positions.{counter_position}
 use Rattle.bonsai_tree.proofs.Levels.{counter_position-lt}
 use Rattle.board.specs.Device.{Device, IsDevice}
 use Rattle.commit_regs.specs.Groups.{redone_told}
 use Rattle.seal_ledger.specs.Ledger.{LedgerState}
 use Rattle.shadow_tables.specs.Entries.{slot_entry}
-use Rattle.meta_cache.specs.Banks.{is_cached_dirty, IsBanksOf}
+use Rattle.meta_cache.specs.Banks.{IsBanksOf}
 use Rattle.meta_cache.specs.State.{IsCacheOf}
 use Rattle.meta_path.specs.Blocks.{path_at, IsPathCached}
 use Rattle.meta_path.specs.Work.{told_line}
 use Rattle.meta_path.specs.Naming.{path_number, named_path, naming_writes, IsNamedTo, IsNamingCut}
 use Rattle.meta_path.proofs.NameLemmas.{length-naming_writes}
 use Rattle.suite.specs.Setup.{Setup}
-use Rattle.pmem_engine.specs.declared.fault.Fault.{Fault}
-use Rattle.pmem_engine.specs.declared.fault.Fault.TheVariants as Fail
 use Rattle.pmem_engine.specs.Engine.{EngineState}
-use Rattle.pmem_engine.specs.Invariants.{IsSound, IsDurable, IsSealStored, IsCounterStored, stored_meta}
-use Rattle.pmem_engine.specs.Recached.{IsTrueOrDirty}
+use Rattle.pmem_engine.specs.Invariants.{IsSound, IsDurable, IsSealStored, IsCounterStored}
 use Rattle.pmem_engine.specs.Parts.{Parts, parts_of, AreTrusted, AreSound, HoldsCounters, lines_redone, meta_line_in}
-use Rattle.pmem_engine.specs.Outcomes.{Outcome, going, cut_short, is_going, outcome_of, KeepsPlaces, KeepsMeta, CallEffect, OneLossEffect, HasPower, HasSmallGroup, LeavesTrusted, LeavesSound, KeepsMetaWhere}
+use Rattle.pmem_engine.specs.Outcomes.{Outcome, going, cut_short, KeepsPlaces, KeepsMeta, CallEffect, OneLossEffect, HasPower, HasSmallGroup, LeavesTrusted, LeavesSound, KeepsMetaWhere}
 use Rattle.pmem_engine.specs.Inner.{HasNamedAll, HasNamedPath}
 use Rattle.pmem_engine.proofs.CallEnds.ToldLines.{unarmed, whole_lines}
 use Rattle.pmem_engine.proofs.CallEnds.ExactWork.{still_rise}
@@ -60,18 +57,7 @@ module _ (setup : Setup) (page n : ℕ) (old new : EngineState) (before after : 
 
   pub meta_same : before.regs.group.items ≡ [] → (x : ℕ) → x < layout.meta_lines setup.shape
       → meta_line_in setup.shape finish x ≡ meta_line_in setup.shape start x
-  meta_same no_group x within =
-      ap (λ (regs : Regs). option_map (λ lines. stored_meta setup.shape lines x) (redone_told regs.group.items after.lines)) same_regs
-      ∙ ap (option_map (λ lines. stored_meta setup.shape lines x)) (unarmed before.regs.group.items after.lines no_group ∙ lines)
-      ∙ told before.lines
-      ∙ ap (option_map (λ lines. stored_meta setup.shape lines x)) (sym (unarmed before.regs.group.items before.lines no_group))
-    where
-      told : (o : Option (List Line))
-          → option_map (λ lines. stored_meta setup.shape lines x)
-          (redone_told (naming_writes setup.shape old.cache page old.mirror n) o)
-          ≡ option_map (λ lines. stored_meta setup.shape lines x) o
-      told None = refl
-      told (Some were) = ap Some (meta_kept setup.shape old.cache page old.mirror were n x within)
+  meta_same no_group x within = search (rules, unarmed, meta_kept)
 
   places : AreTrusted setup start → KeepsPlaces setup [] start finish
   places trusted =
@@ -99,24 +85,7 @@ module _ (setup : Setup) (page n : ℕ) (old new : EngineState) (before after : 
       }
 
   metadata : AreTrusted setup start → KeepsMeta setup [] start finish
-  metadata trusted =
-      record {
-        true_or_dirty =
-            λ x within held.
-            subst (λ banks. IfSome (lines_redone finish) (λ lines. IsTrueOrDirty setup.shape banks lines ledger.truth x)) (sym cache)
-            (holds_now trusted (λ lines. IsTrueOrDirty setup.shape old.cache lines ledger.truth x)
-            (λ lines. IsTrueOrDirty setup.shape old.cache lines ledger.truth x)
-            (λ were had. still x within were had) held);
-        changed = λ x within. inl (meta_same trusted.no_group x within);
-        dirty = λ bank x now. inl (subst (λ banks. is_cached_dirty setup.shape banks bank x ≡ true) cache now);
-      }
-    where
-      still : (x : ℕ) → x < layout.meta_lines setup.shape → (were : List Line)
-          → (stored_meta setup.shape were x ≡ line_at ledger.truth x) ⊎ (is_cached_dirty setup.shape old.cache (level_of x) x ≡ true)
-          → (stored_meta setup.shape (now_of were) x ≡ line_at ledger.truth x)
-          ⊎ (is_cached_dirty setup.shape old.cache (level_of x) x ≡ true)
-      still x within were (inl stored) = inl (meta_kept setup.shape old.cache page old.mirror were n x within ∙ stored)
-      still x within were (inr dirty) = inr dirty
+  metadata trusted = search (rules, meta_kept, holds_now, meta_same)
 
   counters_kept : AreTrusted setup start → (p : ℕ) → p < layout.pages setup.shape → HoldsCounters setup start p
       → HoldsCounters setup finish p
@@ -153,35 +122,12 @@ module _ (setup : Setup) (page n : ℕ) (old new : EngineState) (before after : 
       → after.cuts ≡ before.cuts
       → ((were : List Line) → IsSound setup old were before.regs ledger → IsSound setup new (now_of were) before.regs ledger)
       → OneLossEffect setup going [] start finish
-  named_going steady live cuts sound =
-      record {
-        gone =
-            gone going (steady, live, cuts) trusted_after
-            (λ was.
-            sound_gives (λ lines. IsSound setup new lines after.regs ledger)
-            (λ were had. subst (λ regs. IsSound setup new (now_of were) regs ledger) (sym same_regs) (sound were had)) was)
-            places metadata (λ none. tt);
-        loss = ap (λ regs. regs.loss) same_regs;
-        counters = λ trusted p within held. counters_kept trusted p within held;
-      }
+  named_going steady live cuts sound = search (rules, places, metadata, counters_kept, trusted_after, sound_gives, gone)
 
   pub named_cut : before.steady ≡ false → after.live ≡ false → HasRisen before.cuts after.cuts
       → ((were : List Line) → IsSound setup old were before.regs ledger → IsDurable setup (now_of were) before.regs ledger)
       → OneLossEffect setup cut_short [] start finish
-  named_cut unsteady off rose durable =
-      record {
-        gone =
-            gone cut_short (unsteady, off, rose) (λ was. (trusted_after was).anchored)
-            (λ was.
-            sound_gives (λ lines. IsDurable setup lines after.regs ledger)
-            (λ were had. subst (λ regs. IsDurable setup (now_of were) regs ledger) (sym same_regs) (durable were had)) was)
-            places (λ was. tt)
-            (λ none.
-            let few : length after.regs.group.items ≡ 0 = ap (λ regs. length regs.group.items) same_regs ∙ ap length none in
-            omega (arith, few));
-        loss = ap (λ regs. regs.loss) same_regs;
-        counters = λ trusted p within held. counters_kept trusted p within held;
-      }
+  named_cut unsteady off rose durable = search (rules, places, counters_kept, trusted_after, sound_gives, gone)
 
 -- ---- the call
 
@@ -210,8 +156,6 @@ module _ (setup : Setup) (page : ℕ) (old new : EngineState) (before after : De
             (sym same_engine)
             (sound_at setup page old were before.regs ledger its_page few_levels some_sets cache_form form cached its_mirror sound
             (levels + 1) (omega arith)));
-        cut_alone = tt;
-        not_spent = λ spent e. absurd (true≢false (ap (λ (a : Result Unit Fault). is_ok a) e));
         path_named =
             λ ok.
             record {
@@ -297,9 +241,9 @@ module _ (setup : Setup) (page : ℕ) (old new : EngineState) (before after : De
             down = d;
           }) down
 
-  pub path_cut : IsNamingCut setup.shape old.cache page old.mirror new.mirror before after
-      → HasNamedPath setup page (parts_of old before ledger tags digests) (parts_of new after ledger tags digests) (Err Fail.Cut)
-  path_cut it =
+  pub path_cut : (cut : Cut) → IsNamingCut setup.shape old.cache page old.mirror new.mirror before after
+      → HasNamedPath setup page (parts_of old before ledger tags digests) (parts_of new after ledger tags digests) (Err cut)
+  path_cut cut it =
       record {
         done =
             named_cut setup page it.n old new before after ledger tags digests its_shape shape cache down it.lines it.regs it.size
@@ -307,8 +251,6 @@ module _ (setup : Setup) (page : ℕ) (old new : EngineState) (before after : De
             (λ were sound.
             (sound_at setup page old were before.regs ledger its_page few_levels some_sets cache_form form cached its_mirror sound
             it.n (omega (arith, it.on_path))).durable);
-        cut_alone = tt;
-        not_spent = λ spent e. absurd (true≢false (sym (ap (λ (a : Result Unit Fault). is_going (outcome_of a)) e)));
         path_named = λ ok. absurd (true≢false (sym ok));
         names =
             names_written setup.shape page (parts_of old before ledger tags digests) (parts_of new after ledger tags digests)

@@ -1,6 +1,6 @@
 -- Which shadow lines a write leaves on the device and in the engine's copy: those with the names of its path so far.
-use Rattle.std.proofs.Common.{ℕ, zero, suc, ◌≡◌, ◌<◌, ◌≤◌, ◌+◌, ◌⊎◌, inl, inr, List, [], ◌∷◌, length, Option, Some, None, refl, sym, ap, ap₂, subst, ◌∙◌, arith, true}
-use Rattle.std.specs.Prelude.{slice_set, ◌*◌}
+use Rattle.std.proofs.Common.{rules, ℕ, zero, suc, ◌≡◌, ◌<◌, ◌≤◌, ◌+◌, ◌⊎◌, inl, inr, List, [], ◌∷◌, length, Option, Some, None, refl, sym, ap, ap₂, subst, ◌∙◌, arith, true}
+use Rattle.std.specs.Prelude.{slice_set}
 use Rattle.std.proofs.lemmas.Bool.{cases_eq}
 use Rattle.std.proofs.lemmas.Option.{none-some, same_Some}
 use Rattle.pmem_base.specs.declared.lines.Line.{Line}
@@ -15,7 +15,7 @@ use Rattle.shadow_tables.specs.Naming.{entry_line, naming_line}
 use Rattle.meta_cache.specs.Banks.{Banks}
 use Rattle.meta_path.specs.Blocks.{path_at}
 use Rattle.meta_path.specs.Work.{told_line}
-use Rattle.meta_path.specs.Naming.{path_number, named_slot, naming_write, named_path, naming_writes, ArePathEntries}
+use Rattle.meta_path.specs.Naming.{path_number, named_slot, named_path, naming_writes, ArePathEntries}
 use Rattle.plain_model.specs.Bounds.{path_length}
 use Rattle.pmem_engine.specs.Parts.{Parts}
 use Rattle.pmem_engine.specs.Calls.{KeepsShadow, IsLineUnnamed, IsLineNamed, HasNamedSome}
@@ -194,40 +194,11 @@ module _ (g : Shape) (cache : Banks) (page : ℕ) (mirror : List Line) (its_mirr
 
     written : (k ≡ here) ⊎ (k ≡ here → ⊥)
         → IsNamedIn lines (slice_set shadow here line) (put_lines ((layout.shadow_line g here, line) ∷ []) were) k
-    written (inl same) =
-        inr
-        (ap (line_at (slice_set shadow here line)) same
-        ∙ line_at-set_same shadow here line (below k here (layout.shadow_lines g) (length shadow) within same its_long)
-        ∙ sym
-        (ap (λ i. line_at (slice_set were (layout.shadow_line g here) line) (layout.shadow_line g i)) same
-        ∙ line_at-set_same were (layout.shadow_line g here) line
-        (subst (λ size. layout.shadow_line g here < size) (sym as_long)
-        (add_below (80 * layout.pages g + layout.meta_lines g) here (layout.shadow_lines g)
-        (below k here (layout.shadow_lines g) (layout.shadow_lines g) within same refl)))))
-    written (inr apart) = other before
-      where
-        on_board : line_at (slice_set were (layout.shadow_line g here) line) (layout.shadow_line g k)
-            ≡ line_at were (layout.shadow_line g k)
-        on_board =
-            line_at-set_other were (layout.shadow_line g here) (layout.shadow_line g k) line
-            (λ same. apart (add_same (80 * layout.pages g + layout.meta_lines g) k here same))
-
-        in_copy : line_at (slice_set shadow here line) k ≡ line_at shadow k
-        in_copy = line_at-set_other shadow here k line apart
-
-        other : IsNamedIn lines shadow were k
-            → IsNamedIn lines (slice_set shadow here line) (put_lines ((layout.shadow_line g here, line) ∷ []) were) k
-        other (inl it) = inl (on_board ∙ it.0, in_copy ∙ it.1)
-        other (inr it) = inr (in_copy ∙ it ∙ sym on_board)
+    written which = search (rules, line_at-set_same, line_at-set_other, below, add_below, add_same, as_long, its_long)
 
     pub one_more : IsNamedIn lines (named_path g cache page mirror (suc n))
         (put_lines (naming_writes g cache page mirror (suc n)) lines) k
-    one_more =
-        subst (λ now. IsNamedIn lines (named_path g cache page mirror (suc n)) now k)
-        (sym (put_lines-append (naming_writes g cache page mirror n)
-        (naming_write g shadow n (path_number g cache page n) (path_at g page n)) lines))
-        (write_cases g shadow n (path_number g cache page n) (path_at g page n)
-        (λ writes copy. IsNamedIn lines copy (put_lines writes were) k) (λ is. before) (λ is. written (cases_eq k here)))
+    one_more = search (rules, cases_eq, put_lines-append, write_cases, written)
 
   lines_named : (n : ℕ) (lines : List Line) → length lines ≡ layout.device_lines g → (k : ℕ) → k < layout.shadow_lines g
       → IsNamedIn lines (named_path g cache page mirror n) (put_lines (naming_writes g cache page mirror n) lines) k
@@ -240,18 +211,7 @@ module _ (g : Shape) (cache : Banks) (page : ℕ) (mirror : List Line) (its_mirr
       → ((told_line after (layout.shadow_line g k) ≡ told_line before (layout.shadow_line g k))
       × (line_at (named_path g cache page mirror n) k ≡ line_at mirror k))
       ⊎ Tells after (layout.shadow_line g k) (line_at (named_path g cache page mirror n) k)
-  told_named n None after same long k within =
-      inr
-      (subst (λ told. Tells told (layout.shadow_line g k) (line_at (named_path g cache page mirror n) k)) (sym same) tt)
-  told_named n (Some lines) after same long k within = by (lines_named n lines (long lines refl) k within)
-    where
-      by : IsNamedIn lines (named_path g cache page mirror n) (put_lines (naming_writes g cache page mirror n) lines) k
-          → ((told_line after (layout.shadow_line g k) ≡ told_line (Some lines) (layout.shadow_line g k))
-          × (line_at (named_path g cache page mirror n) k ≡ line_at mirror k))
-          ⊎ Tells after (layout.shadow_line g k) (line_at (named_path g cache page mirror n) k)
-      by (inl it) = inl (ap (λ told. told_line told (layout.shadow_line g k)) same ∙ ap Some it.0, it.1)
-      by (inr it) =
-          inr (subst (λ told. Tells told (layout.shadow_line g k) (line_at (named_path g cache page mirror n) k)) (sym same) it)
+  told_named n before after same long k within = search (rules, lines_named)
 
 -- so many names were written, and the copy has as many or one more
 module _ (g : Shape) (page : ℕ) (old new : Parts) (its_mirror : IsMirror g old.engine.mirror)

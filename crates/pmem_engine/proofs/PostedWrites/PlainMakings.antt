@@ -1,5 +1,5 @@
 -- A write's plain line: its own where it is a whole line, else the unsealed one with its bytes.
-use Rattle.std.proofs.Common.{rules, ℕ, ◌≡◌, ◌<◌, ◌≤◌, ◌+◌, ◌-◌, ◌++◌, List, [], ◌∷◌, length, take, drop, Option, Some, None, Result, Ok, Err, refl, sym, ap, subst, ◌∙◌, arith}
+use Rattle.std.proofs.Common.{rules, ℕ, ◌≡◌, ◌<◌, ◌≤◌, ◌+◌, ◌-◌, ◌++◌, List, [], ◌∷◌, length, take, drop, Option, Some, None, Result, Ok, Err, refl, ap, ◌∙◌, arith}
 use Rattle.std.specs.Prelude.{◌*◌, nat_lt, slice_range, option_map, IfSome, IsOk, is_ok}
 use Rattle.std.proofs.lemmas.Bool.{true≢false, cond-true, cond-false, lt-ltb}
 use Rattle.std.proofs.lemmas.List.{take_all, drop_all, length-drop, append-nil}
@@ -8,7 +8,7 @@ use Rattle.pmem_base.specs.declared.lines.Ctr.{Ctr}
 use Rattle.pmem_base.specs.declared.commands.Posted.{Posted}
 use Rattle.pmem_base.specs.declared.answers.Mark.TheVariants.{Seal}
 use Rattle.pmem_base.specs.Layout.{page_of}
-use Rattle.pmem_base.specs.Lines.{xor_bytes, line_of}
+use Rattle.pmem_base.specs.Lines.{xor_bytes}
 use Rattle.pmem_base.specs.Marks.{SealOf, last_seal}
 use Rattle.pmem_base.specs.Ranges.{IsPosted}
 use Rattle.pmem_base.specs.WaitingWrites.{put_write}
@@ -17,7 +17,7 @@ use Rattle.seal_ledger.proofs.MarkLemmas.{last_seal_has}
 use Rattle.suite.specs.Setup.{Setup}
 use Rattle.meta_path.specs.Blocks.{IsPathCached}
 use Rattle.plain_model.specs.View.{plain_of_seal}
-use Rattle.pmem_engine.specs.declared.fault.Fault.{Fault}
+use Rattle.pmem_engine.specs.declared.fault.LineFault.{LineFault}
 use Rattle.pmem_engine.specs.declared.reading.Unsealed.{Unsealed}
 use Rattle.pmem_engine.specs.Parts.{Parts, AreTrusted}
 use Rattle.pmem_engine.specs.Calls.{IsWork, unseal_work, unsealed_count}
@@ -45,19 +45,11 @@ module _ (n : ℕ) (xs ys : List ℕ) (from len : ℕ) (front : from ≡ 0) (who
       ∙ ap (λ k. drop k ys) front
 
   put_all : take from xs ++ put ++ drop (from + length put) xs ≡ ys
-  put_all =
-      ap (λ zs. zs ++ put ++ drop (from + length put) xs) (ap (λ k. take k xs) front)
-      ∙ ap (λ zs. put ++ zs) (drop_all (from + length put) xs (let its = ap length put_is in omega (arith, its, short, long)))
-      ∙ append-nil put
-      ∙ put_is
+  put_all = search (rules, drop_all, append-nil, put_is)
 
 pub put_whole : (line : Line) (write : Posted) → length line.0 ≤ 64 → IsPosted write → write.len ≡ 64
     → write.line ≡ put_write line write
-put_whole line write short posted whole =
-    sym
-    (ap line_of
-    (put_all 64 line.0 write.line.0 write.from write.len (let inside = posted.inside in omega (arith, inside, whole)) whole short
-    posted.line_range.long))
+put_whole line write short posted whole = search (rules, put_all)
 
 whole_answer : (setup : Setup) (write : Posted) (parts : Parts) → IsPosted write → write.len ≡ 64 → AreTrusted setup parts
     → (last : Option SealOf) → last_seal parts.ledger.marks write.at ≡ last
@@ -90,8 +82,6 @@ plain_whole setup write parts posted whole =
             λ shorter. absurd (omega (arith, shorter, whole)),
           );
       unrefused = λ sound cached. tt;
-      not_down = λ it. it;
-      possible = tt;
       whole = λ is. (refl, record { engine = refl; device = refl; ledger = refl; tags = refl; digests = refl });
       engine = refl;
       lines = refl;
@@ -109,19 +99,16 @@ plain_whole setup write parts posted whole =
 -- ---- a shorter one
 
 -- the plain line with the write's bytes of a line unsealed
-abbrev pub made_of : Posted → Result Unsealed Fault → Result Line Fault
+abbrev pub made_of : Posted → Result Unsealed LineFault → Result Line LineFault
 made_of write (Ok unsealed) = Ok (put_write unsealed.plain write)
 made_of write (Err fault) = Err fault
 
 module _ (setup : Setup) (write : Posted) (ctr : Ctr) (old new : Parts) (shorter : write.len < 64)
     (last : AreTrusted setup old → IsPathCached setup.shape old.engine.cache (page_of write.at) → IsLastCounter old write.at ctr) where
-  worked : (answer : Result Unsealed Fault) → HasUnsealed setup write.at ctr old new answer → IsOk (made_of write answer)
+  worked : (answer : Result Unsealed LineFault) → HasUnsealed setup write.at ctr old new answer → IsOk (made_of write answer)
       → IsWork (unseal_work (unsealed_count write)) old new
-  worked (Ok unsealed) it ok =
-      subst (λ n. IsWork (unseal_work n) old new) (sym (cond-true (nat_lt write.len 64) 1 0 (lt-ltb write.len 64 shorter)))
-      (unseal_worked setup write.at ctr old new unsealed it)
-  worked (Err fault) it ok = absurd (true≢false (sym ok))
+  worked answer it ok = search (rules, true≢false, cond-true, lt-ltb, unseal_worked)
 
-  pub plain_unsealed : (answer : Result Unsealed Fault) → HasUnsealed setup write.at ctr old new answer
+  pub plain_unsealed : (answer : Result Unsealed LineFault) → HasUnsealed setup write.at ctr old new answer
       → HasMadePlain setup write old new (made_of write answer)
   plain_unsealed answer it = let did = worked answer it in search rules

@@ -1,7 +1,6 @@
 -- Which marks a write asks for, from its page's counter block and the registers.
-use Rattle.std.proofs.Common.{rules, ℕ, ◌≡◌, ◌<◌, ◌≤◌, ◌+◌, ◌-◌, ◌^◌, ◌++◌, inl, inr, Bool, true, false, cond, List, [], ◌∷◌, length, Option, Some, None, Result, Ok, Err, refl, sym, ap, ap₂, ◌∙◌, arith}
+use Rattle.std.proofs.Common.{rules, ℕ, ◌≡◌, ◌<◌, ◌≤◌, ◌+◌, ◌-◌, ◌^◌, ◌++◌, Bool, true, false, cond, List, [], ◌∷◌, length, Option, Some, None, Result, Ok, Err, refl, sym, ap, ap₂, ◌∙◌, arith}
 use Rattle.std.specs.Prelude.{◌==◌, nat_lt, nat_le, option_map, slice_get, slice_index_or, position, is_some}
-use Rattle.std.specs.List.{position_or_len}
 use Rattle.std.proofs.lemmas.Bool.{true≢false, cond-true, cond-false, lt-ltb}
 use Rattle.std.proofs.lemmas.Option.{slice_get-get_or, slice_get_cases}
 use Rattle.std.proofs.lemmas.List.Folds.{find_at}
@@ -45,24 +44,7 @@ use Rattle.pmem_engine.proofs.Laws.FreshSeals.{held-minor}
 register_at_place : (registers : List Progress) (page : ℕ)
     → option_map register_page (register_of registers page)
     ≡ option_map (λ n. register_page (slice_index_or registers n empty_progress)) (position (λ register. register.page == page) registers)
-register_at_place registers page =
-    ap (option_map register_page) (find_at (λ register. register.page == page) registers)
-    ∙ go registers (position_or_len (λ register. register.page == page) registers)
-  where
-    go : (rs : List Progress) (n : ℕ)
-        → option_map register_page (slice_get rs n)
-        ≡ option_map (λ k. register_page (slice_index_or rs k empty_progress)) (cond (nat_lt n (length rs)) (Some n) None)
-    go rs n =
-        elim (slice_get_cases rs n).1 [
-          | inl found ↦
-              ap (option_map register_page) (slice_get-get_or rs n empty_progress found.1)
-              ∙ ap (option_map (λ k. register_page (slice_index_or rs k empty_progress)))
-              (sym (cond-true (nat_lt n (length rs)) (Some n) None (lt-ltb n (length rs) found.1)))
-          | inr past ↦
-              ap (option_map register_page) past.1
-              ∙ ap (option_map (λ k. register_page (slice_index_or rs k empty_progress)))
-              (sym (cond-false (nat_lt n (length rs)) (Some n) None (grind (arith, past.0))))
-        ]
+register_at_place registers page = search (rules, cond-true, cond-false, lt-ltb, slice_get-get_or, slice_get_cases, find_at)
 
 first_at_place : (registers : List Progress) → 4 ≤ length registers
     → option_map register_page (slice_get registers 0) ≡ Some (register_page (slice_index_or registers 0 empty_progress))
@@ -155,13 +137,7 @@ module _ (setup : Setup) (memory : Memory) (write : Posted) (parts : Parts) (wit
 
   finish_marks : finishing_marks_of setup.formulas now (page_to_finish now.view (open_page now.view page))
       ≡ marks_of_finish setup memory parts (register_to_finish registers page)
-  finish_marks = ap (finishing_marks_of setup.formulas now) finish_is ∙ go (register_to_finish registers page)
-    where
-      go : (found : Option ℕ)
-          → finishing_marks_of setup.formulas now (option_map (λ n. register_page (register_in parts n)) found)
-          ≡ marks_of_finish setup memory parts found
-      go None = refl
-      go (Some n) = refl
+  finish_marks = search (rules, finish_is)
 
   abbrev asked_by : Bool → Bool → Bool → Option (List Mark)
   asked_by left small full =
@@ -185,10 +161,7 @@ module _ (setup : Setup) (memory : Memory) (write : Posted) (parts : Parts) (wit
       ∙ ap (λ b. minor_of b (index_in_page write.at)) (sym block_true))))
 
   held_low : (register : Progress) → register_held registers write.at ≡ Some register → low ≡ true
-  held_low register held =
-      ap (λ n. nat_lt n 127)
-      (ap (λ b. minor_of b (index_in_page write.at)) block_true
-      ∙ held-minor setup (regs_of parts) parts.ledger write.at register trusted.anchored held)
+  held_low register held = search (rules, held-minor, block_true)
 
   -- a line that none holds has the counter of its page's block
   free_last : register_held registers write.at ≡ None → last ≡ block_counter block (index_in_page write.at)
@@ -197,10 +170,7 @@ module _ (setup : Setup) (memory : Memory) (write : Posted) (parts : Parts) (wit
       ∙ ap (λ b. block_counter b (index_in_page write.at)) (sym block_true)
 
   free_asked : register_held registers write.at ≡ None → asked ≡ asked_by false low used
-  free_asked free =
-      cond-false (is_left now.view write.at) _ _ (left_is ∙ ap is_some free)
-      ∙ ap₂ (λ small full. asked_by false small full)
-      (ap (λ ctr. nat_lt ctr.minor 127) (free_last free)) (ap (λ ctr. ctr.major == 2 ^ 64 - 1) (free_last free))
+  free_asked free = search (rules, cond-false, left_is, free_last)
 
   -- one seal
   pub asked_seal : overflow_of block page (index_in_page write.at) ≡ Ok false

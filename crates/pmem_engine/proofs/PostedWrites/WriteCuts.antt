@@ -1,46 +1,39 @@
 -- Where a write was cut: in its fetch, or once its path was fetched.
-use Rattle.std.proofs.Common.{◌≡◌, inl, inr, List, [], Result, Ok, Err, refl}
+use Rattle.std.proofs.Common.{rules, ◌≡◌, inl, inr, List, [], Result, Ok, Err, refl}
 use Rattle.std.specs.Prelude.{IsSome}
 use Rattle.pmem_base.specs.declared.lines.Ctr.{Ctr}
 use Rattle.pmem_base.specs.declared.commands.Posted.{Posted}
 use Rattle.pmem_base.specs.declared.answers.Mark.{Mark}
 use Rattle.pmem_base.specs.Layout.{page_of}
 use Rattle.meta_cache.specs.Banks.{Banks}
+use Rattle.meta_path.specs.declared.faults.PathFault.{PathFault}
+use Rattle.meta_path.specs.declared.faults.PathFault.TheVariants as Path
 use Rattle.suite.specs.Setup.{Setup}
 use Rattle.plain_model.specs.State.{Memory}
 use Rattle.plain_model.specs.Asked.{marks_of_write}
 use Rattle.pmem_engine.specs.declared.fault.Fault.{Fault}
 use Rattle.pmem_engine.specs.declared.fault.Fault.TheVariants as Fail
 use Rattle.pmem_engine.specs.Parts.{Parts, AreTrusted}
-use Rattle.pmem_engine.specs.Outcomes.{Outcome}
+use Rattle.pmem_engine.specs.Outcomes.{fault_of_path, Outcome}
 use Rattle.pmem_engine.specs.Calls.{moment_in, IsPathFetchedInto, KeepsButPath, IsCutOfWrite}
 use Rattle.pmem_engine.specs.Inner.{HasFetched}
-use Rattle.pmem_engine.proofs.CheckedReads.LineReads.{as_far_fault, due_fault}
+use Rattle.pmem_engine.proofs.CheckedReads.LineReads.{some_fault}
 use Rattle.pmem_engine.proofs.CheckedReads.ReadEnds.{ended_parts, fetched_ended}
 use Rattle.pmem_engine.proofs.Seals.KeptSlots.{kept_same}
 use Rattle.pmem_engine.proofs.PostedWrites.WriteRefusals.{shadow_ended}
 
 module _ (setup : Setup) (write : Posted) (made : List Mark) (old : Parts) where
   -- in the fetch
-  pub cut_in_fetch : (new : Parts) (fault : Fault) → made ≡ [] → HasFetched setup (page_of write.at) old new (Err fault)
-      → IsCutOfWrite setup write made old new (Err fault)
-  cut_in_fetch new Fail.Cut none it =
+  pub cut_in_fetch : (new : Parts) (fault : PathFault) → made ≡ [] → HasFetched setup (page_of write.at) old new (Err fault)
+      → IsCutOfWrite setup write made old new (Err (fault_of_path fault))
+  cut_in_fetch new Path.Cut none it =
       inl (record {
         none_made = none;
-        some =
-            record {
-              levels = it.fetched.levels;
-              fetched = it.fetched.fetched;
-              as_far = as_far_fault Unit Ctr setup.shape old new Fail.Cut it.fetched.levels it.fetched.as_far;
-              due = λ live. due_fault Unit Ctr setup.shape (page_of write.at) it.fetched.levels old Fail.Cut (it.fetched.due live);
-            };
+        some = some_fault Ctr setup.shape (page_of write.at) old new Path.Cut it.fetched;
         shadow = it.shadow;
       })
-  cut_in_fetch new Fail.Down none it = tt
-  cut_in_fetch new Fail.Shown none it = tt
-  cut_in_fetch new (Fail.Meta x) none it = tt
-  cut_in_fetch new (Fail.Tag b) none it = tt
-  cut_in_fetch new (Fail.Spent page) none it = tt
+  cut_in_fetch new (Path.Meta x) none it = tt
+  cut_in_fetch new Path.Shown none it = tt
 
   -- once the path was fetched, and the cache was changed at the path's blocks alone
   pub cut_past : (new : Parts) (fetched : Banks) → IsPathFetchedInto setup.shape (page_of write.at) old fetched
@@ -67,17 +60,4 @@ module _ (setup : Setup) (write : Posted) (made : List Mark) (old : Parts) where
   -- it doesn't depend on whether the engine is down afterwards
   pub cut_ended : (new : Parts) (answer : Result Ctr Fault) (end : Outcome) → IsCutOfWrite setup write made old new answer
       → IsCutOfWrite setup write made old (ended_parts new end) answer
-  cut_ended new (Err Fail.Cut) end (inl it) =
-      inl (record {
-        none_made = it.none_made;
-        some = fetched_ended setup.shape (page_of write.at) old new (Err Fail.Cut) end it.some;
-        shadow = shadow_ended setup.shape old new end it.shadow;
-      })
-  cut_ended new (Err Fail.Cut) end (inr it) =
-      inr (record { fetched = it.fetched; path_fetched = it.path_fetched; kept = it.kept; unspent = it.unspent })
-  cut_ended new (Ok ctr) end it = tt
-  cut_ended new (Err Fail.Down) end it = tt
-  cut_ended new (Err Fail.Shown) end it = tt
-  cut_ended new (Err (Fail.Meta x)) end it = tt
-  cut_ended new (Err (Fail.Tag b)) end it = tt
-  cut_ended new (Err (Fail.Spent page)) end it = tt
+  cut_ended new answer end it = search (rules, fetched_ended, shadow_ended)

@@ -1,5 +1,5 @@
 -- A write as a call: of an engine that is down, or of one that is up and then down where it was cut or stopped.
-use Rattle.std.proofs.Common.{rules, ℕ, ◌≡◌, ◌≤◌, ◌+◌, ◌%◌, true, false, List, [], Option, Result, Ok, Err, length, refl, sym, ap, ◌∙◌, arith}
+use Rattle.std.proofs.Common.{rules, ℕ, ◌≡◌, ◌≤◌, ◌%◌, true, false, List, [], Option, Result, Err, length, refl, sym, ◌∙◌, arith}
 use Rattle.std.specs.Prelude.{IfOk}
 use Rattle.std.proofs.lemmas.Bool.{true≢false}
 use Rattle.std.proofs.lemmas.List.{drop_all, length-append}
@@ -16,7 +16,7 @@ use Rattle.pmem_engine.specs.declared.fault.Fault.{Fault}
 use Rattle.pmem_engine.specs.declared.fault.Fault.TheVariants as Fail
 use Rattle.pmem_engine.specs.Parts.{Parts, regs_of}
 use Rattle.pmem_engine.specs.Outcomes.{Outcome, outcome_of}
-use Rattle.pmem_engine.specs.Calls.{IsBlockTrue, AnswersWrite, TakesSpent, TakesOfWrite, whole_write, HasWrittenLine, HasNamedSome, AreInWriteOrder, write_work, IsWriteWork}
+use Rattle.pmem_engine.specs.Calls.{IsBlockTrue, AnswersWrite, TakesSpent, TakesOfWrite, whole_write, HasWrittenLine, HasNamedSome, AreInWriteOrder, IsWriteWork}
 use Rattle.pmem_engine.specs.Writing.{UpWriteOutcome}
 use Rattle.pmem_engine.proofs.CheckedReads.ReadEnds.{ended_parts, done_ended, answers_down, past_ended, work_ended}
 use Rattle.pmem_engine.proofs.CallEnds.ShadowLines.{shadow_still}
@@ -27,15 +27,7 @@ use Rattle.pmem_engine.proofs.PostedWrites.WriteExits.{none_order}
 
 -- a whole line is posted
 pub whole_posted : (at : ℕ) (line : Line) → IsU32 at → IsLine line → IsPosted (whole_write at line)
-whole_posted at line range whole =
-    record {
-      at_range = range;
-      some_bytes = omega arith;
-      inside = omega arith;
-      line_range = whole;
-      zero_before = refl;
-      zero_after = drop_all 64 line.0 (omega (arith, whole.long));
-    }
+whole_posted at line range whole = search (rules, drop_all)
 
 -- ---- the engine is down
 
@@ -110,22 +102,10 @@ names_ended g page old new end it =
 write_work_ended : (g : Shape) (write : Posted) (made : List Mark) (old new : Parts) (answer : Result Ctr Fault) (end : Outcome)
     → IfOk answer (λ ctr. IsWriteWork g write ctr made old new)
     → IfOk answer (λ ctr. IsWriteWork g write ctr made old (ended_parts new end))
-write_work_ended g write made old new (Ok ctr) end it =
-    record {
-      fetched = it.fetched;
-      path_fetched = it.path_fetched;
-      cache = it.cache;
-      lines = it.lines;
-      work = work_ended (write_work g write ctr made old it.fetched) old new end it.work;
-    }
-write_work_ended g write made old new (Err fault) end it = tt
+write_work_ended g write made old new answer end it = search (rules, work_ended)
 
 few_in_order : (at : ℕ) (made : List Mark) → AreInWriteOrder at made → length made ≤ 66
-few_in_order at made it =
-    let all : length made ≡ length it.before + length it.own = ap length it.both ∙ length-append it.before it.own in
-    let few = it.few_before in
-    let one = it.one_own in
-    omega (arith, all, few, one)
+few_in_order at made it = search (rules, length-append)
 
 pub written_ended : (setup : Setup) (write : Posted) (old new : Parts) (answer : Result Ctr Fault) → old.engine.down ≡ false
     → (regs_of old).group.items ≡ [] → UpWriteOutcome setup write old new answer → HasWrittenLine setup write old (ended_parts new (outcome_of answer)) answer

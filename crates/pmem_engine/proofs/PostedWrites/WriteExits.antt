@@ -1,33 +1,32 @@
 -- What a write answers where a part ended it, by the part's answer.
 use Rattle.std.proofs.lemmas.Grind.{common_steps}
-use Rattle.std.proofs.Common.{rules, ℕ, ◌≡◌, ◌<◌, ◌≤◌, ◌+◌, ◌-◌, ◌*◌, ◌^◌, ◌++◌, inl, inr, Bool, true, false, cond, List, [], ◌∷◌, length, IsTrue, Option, Some, None, Err, refl, sym, ap, subst, ◌∙◌, arith}
-use Rattle.std.specs.Prelude.{◌==◌, ◌||◌, nat_lt, unwrap_or, is_none, IsSome}
+use Rattle.std.proofs.Common.{rules, ℕ, ◌≡◌, ◌<◌, ◌≤◌, ◌+◌, ◌-◌, ◌*◌, ◌++◌, inl, inr, true, List, [], ◌∷◌, length, IsTrue, Option, Some, None, Err, refl, sym, ap, subst, ◌∙◌, arith}
+use Rattle.std.specs.Prelude.{◌||◌, nat_lt, unwrap_or, is_none, IsSome}
 use Rattle.std.proofs.lemmas.Bool.{true≢false, cond-false, lt-ltb}
 use Rattle.std.proofs.lemmas.List.{append_assoc, append-nil, length-append}
 use Rattle.std.proofs.lemmas.List.Elements.{All-nil}
 use Rattle.pmem_base.specs.declared.lines.Ctr.{Ctr}
 use Rattle.pmem_base.specs.declared.commands.Posted.{Posted}
 use Rattle.pmem_base.specs.declared.answers.Mark.{Mark}
-use Rattle.pmem_base.specs.declared.answers.Mark.TheVariants.{Begin}
 use Rattle.pmem_base.specs.Layout.{page_of}
+use Rattle.meta_path.specs.declared.faults.PathFault.{PathFault}
 use Rattle.suite.specs.Setup.{Setup}
 use Rattle.suite.specs.Formulas.{Formulas}
 use Rattle.pmem_base.specs.Shape.{Shape}
 use Rattle.meta_path.specs.Blocks.{IsPathCached, dirty_count}
-use Rattle.pmem_base.specs.Lines.{line_at}
-use Rattle.pmem_base.specs.WaitingWrites.{put_write}
 use Rattle.plain_model.specs.State.{Memory, memory_with}
-use Rattle.plain_model.specs.View.{counter_at, open_page, is_left}
-use Rattle.plain_model.specs.Asked.{Moment, seal_mark, next_major, page_to_finish, finishing_marks_of, marks_of_write}
+use Rattle.plain_model.specs.Asked.{Moment, marks_of_write}
 use Rattle.plain_model.specs.Bounds.{path_length, seal_count}
 use Rattle.plain_model.specs.Fits.{IsResealOf}
 use Rattle.pmem_engine.specs.declared.fault.Fault.{Fault}
-use Rattle.pmem_engine.specs.declared.fault.Fault.TheVariants as Fail
+use Rattle.pmem_engine.specs.declared.fault.LineFault.{LineFault}
+use Rattle.pmem_engine.specs.declared.fault.LineFault.TheVariants as AtLine
 use Rattle.pmem_engine.specs.Parts.{Parts, AreTrusted, AreSound}
-use Rattle.pmem_engine.specs.Outcomes.{outcome_of_fault, is_seal_of, is_sealed_by, TakesAtMost}
-use Rattle.pmem_engine.specs.Calls.{IsMemory, IsDownAnswer, IsUnrefused, TakesWithin, TakesWithinOfLive, moment_in, IsPartOf, IsRefusedLine, AreMarksOfWrite, AnswersWrite, write_bound, TakesSpent, TakesOfWrite, IsMetaUncached, IsPastFetch, HasNamedSome, IsRefusedAsFetched, IsCutOfWrite, IsUnderMinorZero, AreUnderMinorZero, IsOwnSeal, AreInWriteOrder}
+use Rattle.pmem_engine.specs.Outcomes.{fault_of_path, fault_of_line, outcome_of_fault, is_seal_of, is_sealed_by, TakesAtMost}
+use Rattle.pmem_engine.specs.Calls.{IsMemory, IsDownAnswer, IsUnrefused, TakesWithin, TakesWithinOfLive, moment_in, IsPartOf, IsRefusedLine, AreMarksOfWrite, AnswersWrite, write_bound, TakesSpent, TakesOfWrite, IsMetaUncached, IsPastFetch, HasNamedSome, IsRefusedAsFetched, IsCutOfWrite, IsUnderMinorZero, AreUnderMinorZero, AreInWriteOrder}
 use Rattle.pmem_engine.specs.Inner.{AnswersFetch, HasFetched}
-use Rattle.pmem_engine.specs.Writing.{IsAnswerOfPlain, IsAnswerOfFinish, AnswersPlain, IsFrontOf, IsStoppedAt, HasFinishMarks, AnswersFinish, CountsFinish, UpWriteOutcome}
+use Rattle.pmem_engine.specs.Writing.{AnswersPlain, IsFrontOf, IsStoppedAt, HasFinishMarks, AnswersFinish, CountsFinish, UpWriteOutcome}
+use Rattle.pmem_engine.proofs.CallEnds.ErrorAnswers.{path_not_down, path_unrefused}
 use Rattle.pmem_engine.proofs.CheckedReads.LineReads.{past_fault, meta_fault, most_of_within}
 use Rattle.pmem_engine.proofs.PathNaming.ShadowNames.{none_named}
 use Rattle.pmem_engine.proofs.PostedWrites.WriteParts.{IsWritePart, fetch_part}
@@ -47,29 +46,11 @@ abbrev pub IsSomeAsked : Option (List Mark) → Type 0
 IsSomeAsked asked = IsTrue (is_none asked || nat_lt 0 (length (unwrap_or asked [])))
 
 pub some_asked : (f : Formulas) (now : Moment) (write : Posted) → IsSomeAsked (marks_of_write f now write)
-some_asked f now write =
-    let last = counter_at now.view write.at in
-    let plain = put_write (line_at now.memory write.at) write in
-    of_cases (is_left now.view write.at) (nat_lt last.minor 127) (last.major == 2 ^ 64 - 1)
-    (seal_mark f write.at (next_major last 1) plain) (seal_mark f write.at (record last { minor = last.minor + 1 }) plain)
-    (finishing_marks_of f now (page_to_finish now.view (open_page now.view (page_of write.at)))) (Begin (page_of write.at))
-    (seal_mark f write.at (next_major last 1) plain ∷ [])
-  where
-    of_cases : (a b c : Bool) (held first : Mark) (front : List Mark) (mark : Mark) (rest : List Mark)
-        → IsSomeAsked (cond a (Some (held ∷ [])) (cond b (Some (first ∷ [])) (cond c None (Some (front ++ mark ∷ rest)))))
-    of_cases true b c held first front mark rest = refl
-    of_cases false true c held first front mark rest = refl
-    of_cases false false true held first front mark rest = refl
-    of_cases false false false held first front mark rest = some_after front mark rest
+some_asked f now write = search (rules, some_after)
 
 -- a front of the front, with something after it
 pub part_of_front : (front rest made : List Mark) → 0 < length rest → IsFrontOf front made → IsPartOf (Some (front ++ rest)) made
-part_of_front front rest made some it =
-    record {
-      left = it.left ++ rest;
-      front = ap (λ ms. ms ++ rest) it.front ∙ append_assoc made it.left rest;
-      not_all = lt-ltb 0 (length (it.left ++ rest)) (omega (arith, some, length-append it.left rest));
-    }
+part_of_front front rest made some it = search (rules, lt-ltb, append_assoc, length-append)
 
 -- all of the front
 pub unnamed_front : (front made : List Mark) → made ≡ front → IsFrontOf front (made ++ [])
@@ -106,38 +87,14 @@ pub record IsExit (setup : Setup) (write : Posted) (old new : Parts) (made : Lis
 
 -- no own seal yet
 pub unsealed_order : (at : ℕ) (made : List Mark) → length made ≤ 65 → AreUnderMinorZero made → AreInWriteOrder at made
-unsealed_order at made few minors =
-    record {
-      before = made;
-      own = [];
-      both = sym (append-nil made);
-      few_before = few;
-      minors = minors;
-      one_own = omega arith;
-      its_seal = All-nil (IsOwnSeal at);
-    }
+unsealed_order at made few minors = search (rules, append-nil, All-nil)
 
 pub none_order : (at : ℕ) → AreInWriteOrder at []
 none_order at = unsealed_order at [] (omega arith) (All-nil IsUnderMinorZero)
 
--- a fault that isn't of the path
-pub plain_meta : (g : Shape) (page : ℕ) (old : Parts) (fault : Fault) → IsAnswerOfPlain (Err fault)
-    → IsMetaUncached {T = Ctr} g page old (Err fault)
-plain_meta g page old Fail.Cut it = tt
-plain_meta g page old Fail.Down it = tt
-plain_meta g page old Fail.Shown it = tt
-plain_meta g page old (Fail.Meta x) it = absurd it
-plain_meta g page old (Fail.Tag b) it = tt
-plain_meta g page old (Fail.Spent spent) it = tt
-
-pub finish_meta : (g : Shape) (page : ℕ) (old : Parts) (fault : Fault) → IsAnswerOfFinish (Err fault)
-    → IsMetaUncached {T = Ctr} g page old (Err fault)
-finish_meta g page old Fail.Cut it = tt
-finish_meta g page old Fail.Down it = tt
-finish_meta g page old Fail.Shown it = tt
-finish_meta g page old (Fail.Meta x) it = absurd it
-finish_meta g page old (Fail.Tag b) it = tt
-finish_meta g page old (Fail.Spent spent) it = tt
+-- a line's fault isn't of the path
+pub line_meta : (g : Shape) (page : ℕ) (old : Parts) (fault : LineFault) → IsMetaUncached {T = Ctr} g page old (Err (fault_of_line fault))
+line_meta g page old v3 = search rules
 
 pub stopped : (setup : Setup) (write : Posted) (old new : Parts) (made : List Mark) (fault : Fault)
     → IsWritePart setup write.at (outcome_of_fault fault) made old new
@@ -188,51 +145,44 @@ stopped setup write old new made fault part exit marks answered unrefused not_do
       block_written = λ trusted. tt;
     }
 
--- another answer's fault is no better and no worse
-pub fault_unrefused : (T U : Type 0) (fault : Fault) → IsUnrefused {T = T} (Err fault) → IsUnrefused {T = U} (Err fault)
-fault_unrefused v0 v1 v2 it = search rules
-
-pub fault_down : (T U : Type 0) (fault : Fault) → IsDownAnswer {T = T} (Err fault) → IsDownAnswer {T = U} (Err fault)
-fault_down v0 v1 v2 it = search rules
-
 -- ---- in the fetch
 
-unfetched_marks : (setup : Setup) (write : Posted) (old new : Parts) (asked : Option (List Mark)) (fault : Fault) → IsSomeAsked asked
-    → AnswersFetch setup (page_of write.at) old new (Err fault) → AreMarksOfWrite asked [] write (Err fault)
+unfetched_marks : (setup : Setup) (write : Posted) (old new : Parts) (asked : Option (List Mark)) (fault : PathFault) → IsSomeAsked asked
+    → AnswersFetch setup (page_of write.at) old new (Err fault) → AreMarksOfWrite asked [] write (Err (fault_of_path fault))
 unfetched_marks setup write old new asked v5 some it = search rules
 
-unfetched_answers : (setup : Setup) (write : Posted) (old new : Parts) (asked : Option (List Mark)) (fault : Fault)
-    → AnswersFetch setup (page_of write.at) old new (Err fault) → AnswersWrite setup asked [] write old new (Err fault)
+unfetched_answers : (setup : Setup) (write : Posted) (old new : Parts) (asked : Option (List Mark)) (fault : PathFault)
+    → AnswersFetch setup (page_of write.at) old new (Err fault) → AnswersWrite setup asked [] write old new (Err (fault_of_path fault))
 unfetched_answers setup write old new asked v5 it = search rules
 
-unfetched_steps : (setup : Setup) (write : Posted) (old new : Parts) (asked : Option (List Mark)) (fault : Fault)
+unfetched_steps : (setup : Setup) (write : Posted) (old new : Parts) (asked : Option (List Mark)) (fault : PathFault)
     → AnswersFetch setup (page_of write.at) old new (Err fault)
-    → TakesWithin (outcome_of_fault fault) (path_length setup.shape) old new
-    → TakesWithinOfLive (outcome_of_fault fault) (dirty_count setup.shape old.engine.cache) old new
-    → TakesOfWrite setup.shape asked [] old new (Err fault)
+    → TakesWithin (outcome_of_fault (fault_of_path fault)) (path_length setup.shape) old new
+    → TakesWithinOfLive (outcome_of_fault (fault_of_path fault)) (dirty_count setup.shape old.engine.cache) old new
+    → TakesOfWrite setup.shape asked [] old new (Err (fault_of_path fault))
 unfetched_steps setup write old new v4 v5 says path dirty = search rules
 
-pub written_unfetched : (setup : Setup) (write : Posted) (old new : Parts) (fault : Fault)
-    → HasFetched setup (page_of write.at) old new (Err fault) → UpWriteOutcome setup write old new (Err fault)
+pub written_unfetched : (setup : Setup) (write : Posted) (old new : Parts) (fault : PathFault)
+    → HasFetched setup (page_of write.at) old new (Err fault) → UpWriteOutcome setup write old new (Err (fault_of_path fault))
 written_unfetched setup write old new fault it =
-    stopped setup write old new [] fault (fetch_part setup write.at old new (Err fault) it)
+    stopped setup write old new [] (fault_of_path fault) (fetch_part setup write.at old new (Err fault) it)
     (record {
-      path_fetched = λ past. it.path_fetched (past_fault Ctr Unit old new fault past);
-      meta_uncached = meta_fault Unit Ctr setup.shape (page_of write.at) old fault it.meta_uncached;
+      path_fetched = λ past. it.path_fetched (past_fault Ctr old new fault past);
+      meta_uncached = meta_fault Ctr setup.shape (page_of write.at) old fault it.meta_uncached;
       names = none_named setup.shape (page_of write.at) old new it.shadow;
       refused = refused_in_fetch setup (page_of write.at) old new fault it;
       cut = cut_in_fetch setup write [] old new fault refl it;
       order = none_order write.at;
       few_steps =
           more_most (path_length setup.shape) (2 * path_length setup.shape + 264) old.device new.device (omega arith)
-          (most_of_within (outcome_of_fault fault) (path_length setup.shape) old new it.steps_of_path);
+          (most_of_within (outcome_of_fault (fault_of_path fault)) (path_length setup.shape) old new it.steps_of_path);
     })
     (λ trusted memory was.
     unfetched_marks setup write old new (asked memory) fault
     (some_asked setup.formulas (moment_in setup memory old) write) (it.answered trusted))
     (λ trusted memory was. unfetched_answers setup write old new (asked memory) fault (it.answered trusted))
-    (λ sound. fault_unrefused Unit Ctr fault (it.unrefused sound))
-    (λ is. it.not_down (fault_down Ctr Unit fault is))
+    (λ sound. path_unrefused Unit Ctr fault (it.unrefused sound))
+    (path_not_down Ctr fault)
     (λ trusted memory was.
     unfetched_steps setup write old new (asked memory) fault (it.answered trusted) it.steps_of_path it.steps_of_dirty)
     (λ trusted memory was none. (it.steps_of_path, it.steps_of_dirty))
@@ -242,46 +192,40 @@ written_unfetched setup write old new fault it =
 
 -- ---- in the plain line; the counter isn't used up
 
-pub unplain_marks : (setup : Setup) (write : Posted) (old new : Parts) (asked : Option (List Mark)) (fault : Fault) → IsSomeAsked asked
-    → IsSome asked → AnswersPlain setup write old new (Err fault) → AreMarksOfWrite asked [] write (Err fault)
+pub unplain_marks : (setup : Setup) (write : Posted) (old new : Parts) (asked : Option (List Mark)) (fault : LineFault) → IsSomeAsked asked
+    → IsSome asked → AnswersPlain setup write old new (Err fault) → AreMarksOfWrite asked [] write (Err (fault_of_line fault))
 unplain_marks setup write old new asked v5 some unspent it = search rules
 
-pub unplain_answers : (setup : Setup) (write : Posted) (old mid new : Parts) (asked : Option (List Mark)) (fault : Fault)
-    → IsSome asked → AnswersPlain setup write mid new (Err fault) → AnswersWrite setup asked [] write old new (Err fault)
+pub unplain_answers : (setup : Setup) (write : Posted) (old mid new : Parts) (asked : Option (List Mark)) (fault : LineFault)
+    → IsSome asked → AnswersPlain setup write mid new (Err fault) → AnswersWrite setup asked [] write old new (Err (fault_of_line fault))
 unplain_answers setup write old mid new asked v6 unspent it = search rules
 
-pub unplain_steps : (setup : Setup) (write : Posted) (old mid new : Parts) (asked : Option (List Mark)) (fault : Fault)
+pub unplain_steps : (setup : Setup) (write : Posted) (old mid new : Parts) (asked : Option (List Mark)) (fault : LineFault)
     → IsSome asked → AnswersPlain setup write mid new (Err fault)
-    → TakesAtMost (path_length setup.shape) old.device new.device → TakesOfWrite setup.shape asked [] old new (Err fault)
+    → TakesAtMost (path_length setup.shape) old.device new.device → TakesOfWrite setup.shape asked [] old new (Err (fault_of_line fault))
 unplain_steps setup write old mid new v5 fault unspent says path = search rules
 
 -- ---- in the finishing: the marks asked are those of the finishing, and more
 
-pub unfinished_marks : (write : Posted) (front rest made : List Mark) (fault : Fault) → 0 < length rest
-    → HasFinishMarks front made (Err fault) → AreMarksOfWrite (Some (front ++ rest)) made write (Err fault)
-unfinished_marks write front rest made Fail.Cut some it = inr (part_of_front front rest made some it)
-unfinished_marks write front rest made (Fail.Tag b) some it = refused_at front rest made write b some it
-unfinished_marks write front rest made Fail.Shown some it =
-    part_of_front front rest made some (finish_front front made (Err Fail.Shown) it)
-unfinished_marks write front rest made (Fail.Meta x) some it = absurd it
-unfinished_marks write front rest made (Fail.Spent page) some it = absurd it
-unfinished_marks write front rest made Fail.Down some it = absurd it
+pub unfinished_marks : (write : Posted) (front rest made : List Mark) (fault : LineFault) → 0 < length rest
+    → HasFinishMarks front made (Err fault) → AreMarksOfWrite (Some (front ++ rest)) made write (Err (fault_of_line fault))
+unfinished_marks write front rest made AtLine.Cut some it = inr (part_of_front front rest made some it)
+unfinished_marks write front rest made (AtLine.Tag b) some it = refused_at front rest made write b some it
+unfinished_marks write front rest made AtLine.Shown some it =
+    part_of_front front rest made some (finish_front front made (Err AtLine.Shown) it)
 
-pub unfinished_answers : (setup : Setup) (write : Posted) (old new : Parts) (front rest made : List Mark) (fault : Fault) → 0 < length rest
+pub unfinished_answers : (setup : Setup) (write : Posted) (old new : Parts) (front rest made : List Mark) (fault : LineFault) → 0 < length rest
     → HasFinishMarks front made (Err fault) → AnswersFinish setup front made new (Err fault)
-    → AnswersWrite setup (Some (front ++ rest)) made write old new (Err fault)
-unfinished_answers setup write old new front rest made Fail.Cut some marks it = tt
-unfinished_answers setup write old new front rest made (Fail.Tag b) some marks it = it
-unfinished_answers setup write old new front rest made Fail.Shown some marks it =
+    → AnswersWrite setup (Some (front ++ rest)) made write old new (Err (fault_of_line fault))
+unfinished_answers setup write old new front rest made AtLine.Cut some marks it = tt
+unfinished_answers setup write old new front rest made (AtLine.Tag b) some marks it = it
+unfinished_answers setup write old new front rest made AtLine.Shown some marks it =
     inr (record { at = it.at; refusable = refused_at front rest made write it.at some it.stopped; forged = it.forged })
-unfinished_answers setup write old new front rest made (Fail.Meta x) some marks it = absurd marks
-unfinished_answers setup write old new front rest made (Fail.Spent page) some marks it = tt
-unfinished_answers setup write old new front rest made Fail.Down some marks it = tt
 
-pub unfinished_steps : (setup : Setup) (old mid new : Parts) (front rest made : List Mark) (fault : Fault)
+pub unfinished_steps : (setup : Setup) (old mid new : Parts) (front rest made : List Mark) (fault : LineFault)
     → seal_count front ≡ length front
     → 2 * path_length setup.shape + 1 + 4 * length front ≤ write_bound setup.shape (front ++ rest)
     → HasFinishMarks front made (Err fault)
     → TakesAtMost (path_length setup.shape) old.device mid.device → CountsFinish (length front) made mid new (Err fault)
-    → TakesOfWrite setup.shape (Some (front ++ rest)) made old new (Err fault)
+    → TakesOfWrite setup.shape (Some (front ++ rest)) made old new (Err (fault_of_line fault))
 unfinished_steps setup old mid new front rest made v7 seals bound marks path it = grind (arith, common_steps)

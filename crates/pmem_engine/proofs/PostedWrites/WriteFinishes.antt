@@ -22,12 +22,12 @@ use Rattle.suite.specs.Setup.{Setup}
 use Rattle.plain_model.specs.State.{Memory}
 use Rattle.plain_model.specs.Asked.{Moment, reseal_mark}
 use Rattle.plain_model.specs.Bounds.{is_seal, seal_count}
-use Rattle.pmem_engine.specs.declared.fault.Fault.{Fault}
+use Rattle.pmem_engine.specs.declared.fault.LineFault.{LineFault}
 use Rattle.pmem_engine.specs.Parts.{Parts, regs_of, AreTrusted, AreSound}
-use Rattle.pmem_engine.specs.Outcomes.{outcome_of, is_seal_of, is_sealed_by, TakesSteps, TakesAtMost}
-use Rattle.pmem_engine.specs.Calls.{IsMemory, IsDownAnswer, IsUnrefused, moment_in, KeepsShadow, IsWork, reseal_work, KeepsMetaLines, IsUnderMinorZero, AreUnderMinorZero}
+use Rattle.pmem_engine.specs.Outcomes.{of_line, outcome_of, is_seal_of, is_sealed_by, TakesSteps, TakesAtMost}
+use Rattle.pmem_engine.specs.Calls.{IsMemory, IsUnrefused, moment_in, KeepsShadow, IsWork, reseal_work, KeepsMetaLines, IsUnderMinorZero, AreUnderMinorZero}
 use Rattle.pmem_engine.specs.Resealing.{register_in}
-use Rattle.pmem_engine.specs.Writing.{HasLeftOut, reseals_of, IsFrontOf, HasFinishMarks, AnswersFinish, CountsFinish, IsAnswerOfFinish, HasFinishedPage, HasFinishedWhere, HasFinishedFor, register_to_finish}
+use Rattle.pmem_engine.specs.Writing.{HasLeftOut, reseals_of, IsFrontOf, HasFinishMarks, AnswersFinish, CountsFinish, HasFinishedPage, HasFinishedWhere, HasFinishedFor, register_to_finish}
 use Rattle.pmem_engine.proofs.PostedWrites.WriteAsks.{marks_of_finish}
 use Rattle.pmem_engine.proofs.PostedWrites.WriteParts.{IsWritePart, alone_part}
 use Rattle.pmem_engine.proofs.PostedWrites.WritePremises.{few_left}
@@ -81,7 +81,7 @@ seals_counted f now page (i ∷ places) =
 
 -- ---- the marks made are a front
 
-pub finish_front : (asked made : List Mark) (answer : Result Unit Fault) → HasFinishMarks asked made answer → IsFrontOf asked made
+pub finish_front : (asked made : List Mark) (answer : Result Unit LineFault) → HasFinishMarks asked made answer → IsFrontOf asked made
 finish_front asked made v2 it = search rules
 
 -- ---- the register is one of them
@@ -97,17 +97,16 @@ finish_asked true setup page old memory =
     marks_of_finish setup memory old (register_to_finish (regs_of old).progress.items page)
 finish_asked false setup page old memory = []
 
-pub record HasFinishedSome (setup : Setup) (at : ℕ) (asked : Memory → List Mark) (old new : Parts) (answer : Result Unit Fault) :
+pub record HasFinishedSome (setup : Setup) (at : ℕ) (asked : Memory → List Mark) (old new : Parts) (answer : Result Unit LineFault) :
     Type 0 where
   pub made : List Mark
-  pub part : IsWritePart setup at (outcome_of answer) made old new
+  pub part : IsWritePart setup at (outcome_of (of_line answer)) made old new
   pub marks :
       AreTrusted setup old → (memory : Memory) → IsMemory setup memory old → HasFinishMarks (asked memory) made answer
   pub answered :
       AreTrusted setup old → (memory : Memory) → IsMemory setup memory old
       → AnswersFinish setup (asked memory) made new answer
-  pub unrefused : AreSound setup old → IsUnrefused answer
-  pub not_down : IsDownAnswer answer → ⊥
+  pub unrefused : AreSound setup old → IsUnrefused (of_line answer)
   pub counts :
       AreTrusted setup old → (memory : Memory) → IsMemory setup memory old
       → CountsFinish (length (asked memory)) made old new answer
@@ -117,15 +116,14 @@ pub record HasFinishedSome (setup : Setup) (at : ℕ) (asked : Memory → List M
   pub made_seals : IsOk answer → seal_count made ≡ length made
   pub work : IsOk answer → IsWork (reseal_work (length made)) old new
   pub meta_lines : IsOk answer → KeepsMetaLines setup.shape old.device.lines new.device.lines
-  pub possible : IsAnswerOfFinish answer
   pub shadow : KeepsShadow setup.shape old new
   pub few_steps : TakesAtMost 256 old.device new.device
   pub engine : new.engine ≡ old.engine
 
-module _ (setup : Setup) (at : ℕ) (old new : Parts) (answer : Result Unit Fault) (within : at < layout.data_lines setup.shape) where
+module _ (setup : Setup) (at : ℕ) (old new : Parts) (answer : Result Unit LineFault) (within : at < layout.data_lines setup.shape) where
   finish_part : (n : ℕ) → n < length (regs_of old).progress.items
       → (AreTrusted setup old → register_held (regs_of old).progress.items at ≡ None)
-      → (it : HasFinishedPage setup n old new answer) → IsWritePart setup at (outcome_of answer) it.made old new
+      → (it : HasFinishedPage setup n old new answer) → IsWritePart setup at (outcome_of (of_line answer)) it.made old new
   finish_part n inside free it =
       record {
         done = it.done;
@@ -158,7 +156,6 @@ module _ (setup : Setup) (at : ℕ) (old new : Parts) (answer : Result Unit Faul
         marks = λ trusted memory was. refl;
         answered = λ trusted memory was. tt;
         unrefused = λ sound. tt;
-        not_down = λ is. is;
         counts = λ trusted memory was. none;
         seals = λ memory. refl;
         few = omega arith;
@@ -168,7 +165,6 @@ module _ (setup : Setup) (at : ℕ) (old new : Parts) (answer : Result Unit Faul
         meta_lines =
             λ ok x within.
             ap (λ (d : Device). told_line d.lines (layout.meta_line setup.shape x)) it.alone.device;
-        possible = tt;
         shadow = shadow_still setup.shape old new it.alone.engine (ap (λ (d : Device). d.lines) it.alone.device);
         few_steps = more_most 0 256 old.device new.device (omega arith) (steps_most 0 old.device new.device none);
         engine = it.alone.engine;
@@ -188,7 +184,6 @@ module _ (setup : Setup) (at : ℕ) (old new : Parts) (answer : Result Unit Faul
         marks = it.marks;
         answered = it.answered;
         unrefused = it.unrefused;
-        not_down = it.not_down;
         counts =
             λ trusted memory was.
             subst (λ number. CountsFinish number it.made old new answer)
@@ -203,7 +198,6 @@ module _ (setup : Setup) (at : ℕ) (old new : Parts) (answer : Result Unit Faul
         made_seals = it.seals;
         work = it.work;
         meta_lines = it.meta_lines;
-        possible = it.possible;
         shadow = it.shadow;
         few_steps =
             more_most (4 * length (not_done (register_in old n))) 256 old.device new.device

@@ -1,9 +1,10 @@
 -- A whole write, one law an exit: each takes the parts so far, in the order in which a write does them.
-use Rattle.std.proofs.Common.{rules, ℕ, ◌≡◌, ◌<◌, ◌+◌, ◌*◌, ◌++◌, inr, Bool, true, false, List, [], ◌∷◌, length, Option, Some, None, Result, Ok, Err, refl, sym, ap, ap₂, subst, ◌∙◌, arith}
+use Rattle.std.proofs.Common.{rules, ℕ, ◌≡◌, ◌<◌, ◌+◌, ◌*◌, ◌++◌, inr, Bool, true, List, [], ◌∷◌, length, Option, Some, None, Result, Ok, Err, refl, sym, ap, ap₂, subst, ◌∙◌, arith}
 use Rattle.std.specs.Prelude.{is_some, IsSome}
 use Rattle.std.proofs.lemmas.Bool.{true≢false}
 use Rattle.std.proofs.lemmas.List.{append-nil, append_assoc, length-append}
 use Rattle.std.proofs.lemmas.List.Elements.{All-nil, All-append}
+use Rattle.pmem_base.specs.declared.faults.Cut.{Cut}
 use Rattle.pmem_base.specs.declared.lines.Line.{Line}
 use Rattle.pmem_base.specs.declared.lines.Ctr.{Ctr}
 use Rattle.pmem_base.specs.declared.commands.Posted.{Posted}
@@ -20,10 +21,11 @@ use Rattle.plain_model.specs.Asked.{seal_mark, marks_of_write}
 use Rattle.plain_model.specs.Bounds.{path_length, seal_count}
 use Rattle.pmem_engine.specs.declared.fault.Fault.{Fault}
 use Rattle.pmem_engine.specs.declared.fault.Fault.TheVariants as Fail
+use Rattle.pmem_engine.specs.declared.fault.LineFault.{LineFault}
 use Rattle.pmem_engine.specs.Parts.{Parts, regs_of, AreTrusted}
-use Rattle.pmem_engine.specs.Outcomes.{going, cut_short, is_going, outcome_of_fault, TakesSteps, TakesAtMost}
+use Rattle.pmem_engine.specs.Outcomes.{fault_of_line, of_cut, going, cut_short, is_going, outcome_of_fault, TakesSteps, TakesAtMost}
 use Rattle.pmem_engine.specs.Calls.{IsMemory, IsPathNamedInMirror, moment_in, AreMarksOfWrite, AnswersWrite, write_bound, TakesSpent, TakesOfWrite, KeepsShadow, KeepsButPath, IsUnderMinorZero}
-use Rattle.pmem_engine.specs.Inner.{cached_block, StandsStill, HasFetched, HasNamedAll, HasNamedPath}
+use Rattle.pmem_engine.specs.Inner.{cached_block, HasFetched, HasNamedAll, HasNamedPath}
 use Rattle.pmem_engine.specs.Sealing.{next_counter_of, HasSealedNext}
 use Rattle.pmem_engine.specs.Writing.{overflow_of, HasFinishMarks, HasMadePlain, HasFinishedFor, HasBegunFor, UpWriteOutcome}
 use Rattle.pmem_engine.proofs.PostedWrites.WriteAsks.{asked_seal, asked_begin, asked_none, free_at_overflow, overflow_fault}
@@ -31,13 +33,14 @@ use Rattle.pmem_engine.proofs.PostedWrites.WriteParts.{IsWritePart, held_back, p
 use Rattle.pmem_engine.proofs.PostedWrites.WriteFinishes.{HasFinishedSome, finish_asked, finished_for}
 use Rattle.pmem_engine.proofs.PostedWrites.WriteWorks.{IsWriteWorkBefore, worked_before}
 use Rattle.pmem_engine.proofs.PostedWrites.WriteSeals.{written_with_seal}
+use Rattle.pmem_engine.proofs.CallEnds.ErrorAnswers.{line_not_down, line_unrefused}
 use Rattle.pmem_engine.proofs.CallEnds.ShadowLines.{shadow_still, shadow_chained}
 use Rattle.pmem_engine.proofs.PathNaming.ShadowNames.{none_named, then_named, then_all, named_then}
 use Rattle.pmem_engine.proofs.PostedWrites.WriteSteps.{only_last, most_then, fewer_most, more_most, fewer_then, steps_most, more_fewer, begin_asked, bound_whole}
 use Rattle.pmem_engine.proofs.PostedWrites.WriteBegins.{HasBegunSome, begin_counter, begun_for}
-use Rattle.pmem_engine.proofs.PostedWrites.WriteRefusals.{all_fetched, refused_plain, refused_finish}
+use Rattle.pmem_engine.proofs.PostedWrites.WriteRefusals.{all_fetched, refused_line}
 use Rattle.pmem_engine.proofs.PostedWrites.WriteCuts.{cut_past, cut_still}
-use Rattle.pmem_engine.proofs.PostedWrites.WriteExits.{none_order, unsealed_order, plain_meta, finish_meta, some_after, some_asked, part_of_front, unnamed_front, stopped, fault_unrefused, fault_down, unplain_marks, unplain_answers, unplain_steps, unfinished_marks, unfinished_answers, unfinished_steps}
+use Rattle.pmem_engine.proofs.PostedWrites.WriteExits.{none_order, unsealed_order, line_meta, some_after, some_asked, part_of_front, unnamed_front, stopped, unplain_marks, unplain_answers, unplain_steps, unfinished_marks, unfinished_answers, unfinished_steps}
 
 module _ (setup : Setup) (write : Posted) (within : write.at < layout.data_lines setup.shape) (old : Parts) where
   abbrev page : ℕ
@@ -100,12 +103,7 @@ module _ (setup : Setup) (write : Posted) (within : write.at < layout.data_lines
     module _ (overflows : Bool)
         (over : overflow_of (cached_block setup.shape p1.engine page) page (index_in_page write.at) ≡ Ok overflows) where
       unspent : AreTrusted setup old → (memory : Memory) → IsSome (asked memory old)
-      unspent trusted memory = ap is_some (asked_same memory old p1 ledger1) ∙ go overflows over
-        where
-          go : (b : Bool) → overflow_of (cached_block setup.shape p1.engine page) page (index_in_page write.at) ≡ Ok b
-              → IsSome (asked memory p1)
-          go true is = ap is_some (asked_begin setup memory write p1 within (trusted1 trusted) cached1 is)
-          go false is = ap is_some (asked_seal setup memory write p1 within (trusted1 trusted) cached1 is)
+      unspent trusted memory = search (rules, asked_seal, asked_begin, asked_same, trusted1, cached1, ledger1)
 
       spent_not : (T : Type 0) → AreTrusted setup old → (memory : Memory) → asked memory old ≡ None → T
       spent_not T trusted memory none = absurd (true≢false (sym (unspent trusted memory) ∙ ap is_some none))
@@ -116,20 +114,19 @@ module _ (setup : Setup) (write : Posted) (within : write.at < layout.data_lines
 
       -- ---- its line isn't unsealed
 
-      pub written_unplain : (new : Parts) (fault : Fault) → HasMadePlain setup write p1 new (Err fault)
-          → UpWriteOutcome setup write old new (Err fault)
+      pub written_unplain : (new : Parts) (fault : LineFault) → HasMadePlain setup write p1 new (Err fault)
+          → UpWriteOutcome setup write old new (Err (fault_of_line fault))
       written_unplain new fault it =
-          stopped setup write old new [] fault
-          (part_chained setup write.at (outcome_of_fault fault) [] [] old p1 new part1
+          stopped setup write old new [] (fault_of_line fault)
+          (part_chained setup write.at (outcome_of_fault (fault_of_line fault)) [] [] old p1 new part1
           (plain_part setup write p1 new (Err fault) it))
           (record {
             path_fetched = λ past. subst (λ engine. IsPathCached setup.shape engine.cache page) (sym it.engine) cached1;
-            meta_uncached = plain_meta setup.shape page old fault it.possible;
-            names =
-                none_named setup.shape page old new
-                (shadow_chained setup.shape old p1 new fetched.shadow (shadow_still setup.shape p1 new it.engine it.lines));
-            refused = refused_plain setup page old p1 new fault fetched it.engine it.lines it.possible;
-            cut = cut_still setup write [] old p1 new fetched (ap (λ engine. engine.cache) it.engine) unspent (Err fault);
+            meta_uncached = line_meta setup.shape page old fault;
+            names = none_named setup.shape page old new shadow;
+            refused = refused_line setup page old p1 new fault fetched it.engine shadow;
+            cut = cut_still setup write [] old p1 new fetched (ap (λ engine. engine.cache) it.engine) unspent
+                (Err (fault_of_line fault));
             order = none_order write.at;
             few_steps = more_most path (2 * path + 264) old.device new.device (omega arith) (path_alone new it.no_steps);
           })
@@ -139,12 +136,16 @@ module _ (setup : Setup) (write : Posted) (within : write.at < layout.data_lines
           (λ trusted memory was.
           unplain_answers setup write old p1 new (asked memory old) fault (unspent trusted memory)
           (it.answered (trusted1 trusted) cached1))
-          (λ sound. fault_unrefused Line Ctr fault (it.unrefused (fetched.done.gone.sound sound) cached1))
-          (λ is. it.not_down (fault_down Ctr Line fault is))
+          (λ sound. line_unrefused Line Ctr fault (it.unrefused (fetched.done.gone.sound sound) cached1))
+          (line_not_down Ctr fault)
           (λ trusted memory was.
           unplain_steps setup write old p1 new (asked memory old) fault (unspent trusted memory)
           (it.answered (trusted1 trusted) cached1) (path_alone new it.no_steps))
-          (λ trusted memory was none. spent_not (TakesSpent setup.shape (outcome_of_fault fault) old new) trusted memory none)
+          (λ trusted memory was none. spent_not (TakesSpent setup.shape (outcome_of_fault (fault_of_line fault)) old new) trusted memory none)
+        where
+          shadow : KeepsShadow setup.shape old new
+          shadow =
+              shadow_chained setup.shape old p1 new fetched.shadow (shadow_still setup.shape p1 new it.engine it.lines)
 
       module _ (p2 : Parts) (plain : Line) (made_plain : HasMadePlain setup write p1 p2 (Ok plain)) where
         trusted2 : AreTrusted setup old → AreTrusted setup p2
@@ -182,16 +183,7 @@ module _ (setup : Setup) (write : Posted) (within : write.at < layout.data_lines
         rest memory = begin_asked overflows page ++ own memory ∷ []
 
         asked2 : AreTrusted setup old → (memory : Memory) → asked memory old ≡ Some (front memory ++ rest memory)
-        asked2 trusted memory = asked_same memory old p2 ledger2 ∙ go overflows over2
-          where
-            go : (b : Bool) → overflow_of (cached_block setup.shape p2.engine page) page (index_in_page write.at) ≡ Ok b
-                → asked memory p2
-                ≡ Some
-                (finish_asked b setup page p2 memory
-                ++ (begin_asked b page
-                ++ seal_mark setup.formulas write.at (begin_counter b setup write.at p2) (put_write (line_at memory write.at) write) ∷ []))
-            go true is = asked_begin setup memory write p2 within (trusted2 trusted) cached2 is
-            go false is = asked_seal setup memory write p2 within (trusted2 trusted) cached2 is
+        asked2 trusted memory = search (rules, asked_seal, asked_begin, finish_asked, begin_asked, begin_counter, asked_same, trusted2, cached2, ledger2, over2)
 
         rest_some : (memory : Memory) → 0 < length (rest memory)
         rest_some memory = omega (arith, length-append (begin_asked overflows page) (own memory ∷ []))
@@ -206,39 +198,39 @@ module _ (setup : Setup) (write : Posted) (within : write.at < layout.data_lines
 
         -- ---- the page isn't finished
 
-        pub written_unfinished : (new : Parts) (fault : Fault) → HasFinishedFor overflows setup page p2 new (Err fault)
-            → UpWriteOutcome setup write old new (Err fault)
+        pub written_unfinished : (new : Parts) (fault : LineFault) → HasFinishedFor overflows setup page p2 new (Err fault)
+            → UpWriteOutcome setup write old new (Err (fault_of_line fault))
         written_unfinished new fault finished =
-            stopped setup write old new it.made fault
-            (part_chained setup write.at (outcome_of_fault fault) [] it.made old p2 new part2 it.part)
+            stopped setup write old new it.made (fault_of_line fault)
+            (part_chained setup write.at (outcome_of_fault (fault_of_line fault)) [] it.made old p2 new part2 it.part)
             (record {
               path_fetched = λ past. subst (λ engine. IsPathCached setup.shape engine.cache page) (sym it.engine) cached2;
-              meta_uncached = finish_meta setup.shape page old fault it.possible;
-              names = none_named setup.shape page old new (shadow_chained setup.shape old p2 new shadow2 it.shadow);
-              refused = refused_finish setup page old p1 p2 new fault fetched (it.engine ∙ made_plain.engine) shadow2 it.shadow it.possible;
+              meta_uncached = line_meta setup.shape page old fault;
+              names = none_named setup.shape page old new shadow;
+              refused = refused_line setup page old p1 new fault fetched (it.engine ∙ made_plain.engine) shadow;
               cut =
                   cut_still setup write it.made old p1 new fetched (ap (λ engine. engine.cache) (it.engine ∙ made_plain.engine)) unspent
-                  (Err fault);
+                  (Err (fault_of_line fault));
               order = unsealed_order write.at it.made (let few = it.few in omega (arith, few)) it.minors;
               few_steps =
                   more_most (path + 256) (2 * path + 264) old.device new.device (omega arith)
                   (most_then path 256 old.device p2.device new.device steps2 it.few_steps);
             })
             (λ trusted memory was.
-            subst (λ marks. AreMarksOfWrite marks it.made write (Err fault)) (sym (asked2 trusted memory))
+            subst (λ marks. AreMarksOfWrite marks it.made write (Err (fault_of_line fault))) (sym (asked2 trusted memory))
             (unfinished_marks write (front memory) (rest memory) it.made fault (rest_some memory) (marks trusted memory was)))
             (λ trusted memory was.
-            subst (λ marks. AnswersWrite setup marks it.made write old new (Err fault)) (sym (asked2 trusted memory))
+            subst (λ marks. AnswersWrite setup marks it.made write old new (Err (fault_of_line fault))) (sym (asked2 trusted memory))
             (unfinished_answers setup write old new (front memory) (rest memory) it.made fault (rest_some memory)
             (marks trusted memory was) (it.answered (trusted2 trusted) memory (part2.memory_kept trusted memory was))))
-            (λ sound. fault_unrefused Unit Ctr fault (it.unrefused (part2.done.gone.sound sound)))
-            (λ is. it.not_down (fault_down Ctr Unit fault is))
+            (λ sound. line_unrefused Unit Ctr fault (it.unrefused (part2.done.gone.sound sound)))
+            (line_not_down Ctr fault)
             (λ trusted memory was.
-            subst (λ marks. TakesOfWrite setup.shape marks it.made old new (Err fault)) (sym (asked2 trusted memory))
+            subst (λ marks. TakesOfWrite setup.shape marks it.made old new (Err (fault_of_line fault))) (sym (asked2 trusted memory))
             (unfinished_steps setup old p2 new (front memory) (rest memory) it.made fault (it.seals memory)
             (omega (arith, bound memory (it.seals memory))) (marks trusted memory was) steps2
             (it.counts (trusted2 trusted) memory (part2.memory_kept trusted memory was))))
-            (λ trusted memory was none. spent_not (TakesSpent setup.shape (outcome_of_fault fault) old new) trusted memory none)
+            (λ trusted memory was none. spent_not (TakesSpent setup.shape (outcome_of_fault (fault_of_line fault)) old new) trusted memory none)
           where
             it : HasFinishedSome setup write.at front p2 new (Err fault)
             it = finished_for setup write.at p2 new (Err fault) within overflows free finished
@@ -246,6 +238,9 @@ module _ (setup : Setup) (write : Posted) (within : write.at < layout.data_lines
             marks : (trusted : AreTrusted setup old) (memory : Memory) → IsMemory setup memory old
                 → HasFinishMarks (front memory) it.made (Err fault)
             marks trusted memory was = it.marks (trusted2 trusted) memory (part2.memory_kept trusted memory was)
+
+            shadow : KeepsShadow setup.shape old new
+            shadow = shadow_chained setup.shape old p2 new shadow2 it.shadow
 
         module _ (p3 : Parts) (finished : HasFinishedFor overflows setup page p2 p3 (Ok tt)) where
           some3 : HasFinishedSome setup write.at front p2 p3 (Ok tt)
@@ -276,11 +271,12 @@ module _ (setup : Setup) (write : Posted) (within : write.at < layout.data_lines
 
           -- ---- the path isn't named
 
-          unnamed : (new : Parts) → HasNamedPath setup page p3 new (Err Fail.Cut) → UpWriteOutcome setup write old new (Err Fail.Cut)
-          unnamed new it =
+          pub written_unnamed : (new : Parts) (cut : Cut) → HasNamedPath setup page p3 new (Err cut)
+              → UpWriteOutcome setup write old new (Err Fail.Cut)
+          written_unnamed new cut it =
               stopped setup write old new (some3.made ++ []) Fail.Cut
               (part_chained setup write.at (outcome_of_fault Fail.Cut) some3.made [] old p3 new part3
-              (name_part setup write.at p3 new (Err Fail.Cut) within it))
+              (name_part setup write.at p3 new (Err cut) within it))
               (record {
                 path_fetched = λ past. absurd past;
                 meta_uncached = tt;
@@ -307,15 +303,6 @@ module _ (setup : Setup) (write : Posted) (within : write.at < layout.data_lines
               (omega (arith, bound memory (some3.seals memory)))
               (fewer_then (path + 4 * length (front memory)) path old.device p3.device new.device (steps3 trusted memory was) it.steps)))
               (λ trusted memory was none. spent_not (TakesSpent setup.shape cut_short old new) trusted memory none)
-
-          pub written_unnamed : (new : Parts) (fault : Fault) → HasNamedPath setup page p3 new (Err fault)
-              → UpWriteOutcome setup write old new (Err fault)
-          written_unnamed new Fail.Cut it = unnamed new it
-          written_unnamed new Fail.Down it = absurd it.cut_alone
-          written_unnamed new Fail.Shown it = absurd it.cut_alone
-          written_unnamed new (Fail.Meta x) it = absurd it.cut_alone
-          written_unnamed new (Fail.Tag b) it = absurd it.cut_alone
-          written_unnamed new (Fail.Spent spent) it = absurd (it.not_spent spent refl)
 
           module _ (p4 : Parts) (named : HasNamedPath setup page p3 p4 (Ok tt)) where
             part4 : IsWritePart setup write.at going some3.made old p4
@@ -439,36 +426,15 @@ module _ (setup : Setup) (write : Posted) (within : write.at < layout.data_lines
               -- the marks asked are those made before, and the seal
               whole : AreTrusted setup old → (memory : Memory) → IsMemory setup memory old
                   → before ++ seal ∷ [] ≡ front memory ++ rest memory
-              whole trusted memory was =
-                  append_assoc some3.made some5.made (seal ∷ [])
-                  ∙ ap₂ (λ marks begin. marks ++ (begin ++ seal ∷ [])) (all3 trusted memory was) some5.marks
-                  ∙ ap (λ mark. front memory ++ (begin_asked overflows page ++ mark ∷ [])) (seal_is trusted memory was)
+              whole trusted memory was = search (rules, append_assoc, begin_asked, some3, all3, some5, seal_is)
 
               -- nothing but the seal takes steps where the path was cached and named, and no mark comes before it
               alone : (new : Parts) → IsPathCached setup.shape old.engine.cache page → IsPathNamedInMirror setup.shape old.engine page
                   → length before ≡ 0 → (n : ℕ) → TakesSteps n p5.device new.device → TakesSteps n old.device new.device
-              alone new cached was_named none n steps = by overflows finished begun some5.marks
-                where
-                  still1 : StandsStill old.device p1.device
-                  still1 = (fetched.still_cached cached).1
+              alone new cached was_named none n steps = search (rules, length-append, only_last, begin_asked, some3, some5)
 
-                  named3 : IsPathNamedInMirror setup.shape p3.engine page
-                  named3 =
-                      subst (λ engine. IsPathNamedInMirror setup.shape engine page) (sym (some3.engine ∙ made_plain.engine))
-                      (fetched.still_named cached was_named)
-
-                  still4 : StandsStill p3.device p4.device
-                  still4 = (named.still_named named3).1
-
-                  by : (b : Bool) → HasFinishedFor b setup page p2 p3 (Ok tt) → HasBegunFor b setup page p4 p5 (Ok tt)
-                      → some5.made ≡ begin_asked b page → TakesSteps n old.device new.device
-                  by true third fifth begins = absurd (omega (arith, none, length-append some3.made some5.made, ap length begins))
-                  by false third fifth begins =
-                      only_last n old.device p1.device p2.device p3.device p4.device p5.device new.device still1 made_plain.no_steps
-                      third.alone.device still4 fifth.alone.device steps
-
-              pub written_sealed : (new : Parts) (answer : Result Ctr Fault) → HasSealedNext setup write.at plain p5 new answer
-                  → UpWriteOutcome setup write old new answer
+              pub written_sealed : (new : Parts) (answer : Result Ctr Cut) → HasSealedNext setup write.at plain p5 new answer
+                  → UpWriteOutcome setup write old new (of_cut answer)
               written_sealed new answer it =
                   written_with_seal setup write within old p5 new plain before part5 (λ memory. front memory ++ rest memory)
                   (λ memory. path + 4 * length (front memory) + path + 3 * length (begin_asked overflows page)) asked2 plain_is whole steps5

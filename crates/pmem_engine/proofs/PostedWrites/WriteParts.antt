@@ -5,6 +5,7 @@ use Rattle.std.specs.Prelude.{◌||◌, option_map}
 use Rattle.std.specs.List.{list_any}
 use Rattle.std.proofs.lemmas.Bool.{true≢false, or_parts}
 use Rattle.std.proofs.lemmas.List.Folds.{list_any-append}
+use Rattle.pmem_base.specs.declared.faults.Cut.{Cut}
 use Rattle.pmem_base.specs.declared.lines.Line.{Line}
 use Rattle.pmem_base.specs.declared.answers.Mark.{Mark}
 use Rattle.pmem_base.specs.declared.commands.Posted.{Posted}
@@ -13,13 +14,15 @@ use Rattle.pmem_base.specs.Layout.{page_of}
 use Rattle.pmem_base.specs.Lines.{line_at, tag_slot}
 use Rattle.pmem_base.specs.Marks.{SealOf, last_seal}
 use Rattle.bonsai_tree.specs.Positions.{counter_position}
+use Rattle.meta_path.specs.declared.faults.PathFault.{PathFault}
 use Rattle.suite.specs.Setup.{Setup}
 use Rattle.plain_model.specs.State.{Memory}
 use Rattle.plain_model.specs.View.{plain_line, plain_of_seal}
 use Rattle.pmem_engine.specs.declared.fault.Fault.{Fault}
+use Rattle.pmem_engine.specs.declared.fault.LineFault.{LineFault}
 use Rattle.pmem_engine.specs.Invariants.{IsSealStored}
 use Rattle.pmem_engine.specs.Parts.{Parts, regs_of, lines_redone, AreTrusted, HoldsSeal, meta_line_in}
-use Rattle.pmem_engine.specs.Outcomes.{Outcome, going, outcome_of, is_seal_of, is_sealed_by, OneLossEffect}
+use Rattle.pmem_engine.specs.Outcomes.{of_path, of_line, of_cut, Outcome, going, outcome_of, is_seal_of, is_sealed_by, OneLossEffect}
 use Rattle.pmem_engine.specs.Calls.{IsMemory, IsLeftAlone, is_persisting}
 use Rattle.pmem_engine.specs.Inner.{HasFetched, HasNamedPath}
 use Rattle.pmem_engine.specs.Sealing.{HasBegunPage}
@@ -128,36 +131,19 @@ alone_done setup old new alone = search rules
 pub alone_part : (setup : Setup) (at : ℕ) (old new : Parts) → IsLeftAlone old new → IsWritePart setup at going [] old new
 alone_part setup at old new alone = search rules
 
-pub fetch_part : (setup : Setup) (at : ℕ) (old new : Parts) (answer : Result Unit Fault)
-    → HasFetched setup (page_of at) old new answer → IsWritePart setup at (outcome_of answer) [] old new
+pub fetch_part : (setup : Setup) (at : ℕ) (old new : Parts) (answer : Result Unit PathFault)
+    → HasFetched setup (page_of at) old new answer → IsWritePart setup at (outcome_of (of_path answer)) [] old new
 fetch_part setup at old new answer it = search rules
 
-pub plain_part : (setup : Setup) (write : Posted) (old new : Parts) (answer : Result Line Fault)
-    → HasMadePlain setup write old new answer → IsWritePart setup write.at (outcome_of answer) [] old new
+pub plain_part : (setup : Setup) (write : Posted) (old new : Parts) (answer : Result Line LineFault)
+    → HasMadePlain setup write old new answer → IsWritePart setup write.at (outcome_of (of_line answer)) [] old new
 plain_part setup write old new answer it = search rules
 
-pub name_part : (setup : Setup) (at : ℕ) (old new : Parts) (answer : Result Unit Fault) → at < layout.data_lines setup.shape
-    → HasNamedPath setup (page_of at) old new answer → IsWritePart setup at (outcome_of answer) [] old new
+pub name_part : (setup : Setup) (at : ℕ) (old new : Parts) (answer : Result Unit Cut) → at < layout.data_lines setup.shape
+    → HasNamedPath setup (page_of at) old new answer
+    → IsWritePart setup at (outcome_of (of_cut answer)) [] old new
 name_part setup at old new answer inside it = grind (arith, common_steps)
 
 pub begin_part : (setup : Setup) (at : ℕ) (old new : Parts) (answer : Result Unit Fault)
     → (it : HasBegunPage setup (page_of at) old new answer) → IsWritePart setup at (outcome_of answer) it.made old new
-begin_part setup at old new answer it =
-    record {
-      done = it.done;
-      memory_kept =
-          λ trusted memory was a within.
-          ap (λ ms. plain_line setup.formulas ms a) it.done.gone.marks
-          ∙ plain_line-unsealed setup old.ledger.marks it.made a (unsealed a)
-          ∙ was a within;
-      sealed_before = λ trusted a within sealed. absurd (true≢false (sym sealed ∙ unsealed a));
-      not_own = λ trusted memory was. unsealed at;
-      block_kept = λ no_group none. it.block_kept (unbegun none);
-      down = it.down;
-    }
-  where
-    unsealed : (a : ℕ) → is_sealed_by it.made a ≡ false
-    unsealed a = search rules
-
-    unbegun : list_any (is_persisting (regs_of old).loss at) it.made ≡ false → it.made ≡ []
-    unbegun none = search rules
+begin_part setup at old new answer it = search (rules, true≢false, plain_line-unsealed)

@@ -1,24 +1,20 @@
 -- What each part of a write asks of the parts before it.
-use Rattle.std.proofs.Common.{rules, ℕ, ◌≡◌, ◌<◌, ◌≤◌, ◌+◌, ◌-◌, ◌^◌, ◌==◌, inl, inr, Bool, true, false, ◌||◌, List, [], length, cond, Option, Some, None, Result, Ok, Err, refl, sym, ap, subst, ◌∙◌, arith}
-use Rattle.std.specs.Prelude.{nat_lt, not}
+use Rattle.std.proofs.Common.{rules, ℕ, ◌≡◌, ◌<◌, ◌≤◌, ◌+◌, ◌-◌, Bool, true, false, ◌||◌, List, [], length, Option, Some, None, Ok, refl, sym, ap, subst, ◌∙◌, arith}
+use Rattle.std.specs.Prelude.{not}
 use Rattle.std.proofs.lemmas.Bool.{cases_Bool, cond-false, true≢false, ltb-true}
 use Rattle.std.proofs.lemmas.List.Filters.{length-filter_both}
 use Rattle.pmem_base.specs.declared.registers.Progress.{Progress}
 use Rattle.pmem_base.specs.declared.answers.Mark.{Mark}
 use Rattle.pmem_base.specs.Registers.{places_of_page, is_done, not_done}
 use Rattle.page_reencrypt.proofs.DoneBits.{length-places}
-use Rattle.seal_ledger.specs.Ledger.{LedgerState}
 use Rattle.meta_path.specs.Blocks.{IsPathCached}
 use Rattle.split_counters.specs.declared.Block.{Block}
 use Rattle.split_counters.specs.Blocks.{minor_of, next_block}
 use Rattle.split_counters.proofs.Packing.{zero_minors-zero}
 use Rattle.suite.specs.Setup.{Setup}
-use Rattle.pmem_engine.specs.declared.fault.Fault.{Fault}
-use Rattle.pmem_engine.specs.declared.fault.Fault.TheVariants as Fail
 use Rattle.pmem_engine.specs.Parts.{Parts, regs_of}
 use Rattle.pmem_engine.specs.Outcomes.{going, OneLossEffect}
 use Rattle.pmem_engine.specs.Calls.{IsUsable, IsPathNamedInMirror}
-use Rattle.pmem_engine.specs.Resealing.{register_in}
 use Rattle.pmem_engine.specs.Writing.{overflow_of, register_to_finish, HasFinishedWhere, HasFinishedFor, HasBegunFor}
 use Rattle.pmem_engine.proofs.CallEnds.UsableParts.{usable_after}
 use Rattle.pmem_engine.proofs.PostedWrites.WriteParts.{alone_done}
@@ -48,23 +44,7 @@ usable_here setup now it = subst (λ g. IsUsable g now.engine now.device now.led
 -- the line's minor isn't used up once its page is begun where it was
 pub minor_below : (old new : Block) (page i : ℕ) (overflows : Bool) → i < 64 → overflow_of old page i ≡ Ok overflows
     → (overflows ≡ true → new ≡ next_block old) → (overflows ≡ false → new ≡ old) → minor_of new i < 127
-minor_below old new page i true small over begun same =
-    let zero : minor_of new i ≡ 0 = ap (λ block. minor_of block i) (begun refl) ∙ zero_minors-zero i small in
-    omega (arith, zero)
-minor_below old new page i false small over begun same =
-    elim (cases_Bool (nat_lt (minor_of old i) 127)) [
-      | inl below ↦ subst (λ block. minor_of block i < 127) (sym (same refl)) (ltb-true (minor_of old i) 127 below)
-      | inr past ↦ absurd (past_end (old.major == 2 ^ 64 - 1) (sym (cond-false (nat_lt (minor_of old i) 127) (Ok false) _ past) ∙ over))
-    ]
-  where
-    is_false : Result Bool Fault → Bool
-    is_false (Ok false) = true
-    is_false (Ok true) = false
-    is_false (Err fault) = false
-
-    past_end : (b : Bool) → cond b (Err (Fail.Spent page)) (Ok true) ≡ Ok false → ⊥
-    past_end true is = true≢false (sym (ap is_false is))
-    past_end false is = true≢false (sym (ap is_false is))
+minor_below old new page i overflows small over begun same = search (rules, cases_Bool, cond-false, true≢false, ltb-true, zero_minors-zero)
 
 -- ---- the page that was finished
 
@@ -87,12 +67,7 @@ module _ (setup : Setup) (page : ℕ) (old new : Parts) where
 
   room_where : (place : Option ℕ) (m : ℕ) → m + 64 ≤ old.ledger.spare → HasFinishedWhere setup place old new (Ok tt)
       → m ≤ new.ledger.spare
-  room_where None m room it = let same = ap (λ (l : LedgerState). l.spare) it.alone.ledger in omega (arith, same, room)
-  room_where (Some n) m room it =
-      let used = it.done.gone.spare in
-      let few = it.few in
-      let all = few_left (register_in old n) in
-      omega (arith, room, used, few, all)
+  room_where place m room it = search (rules, few_left)
 
   pub room_finished : (overflows : Bool) (m : ℕ) → m + 64 ≤ old.ledger.spare → HasFinishedFor overflows setup page old new (Ok tt)
       → m ≤ new.ledger.spare

@@ -1,18 +1,20 @@
 -- What a refused write leaves of the cache and the device: what its fetch made of them.
-use Rattle.std.proofs.Common.{ℕ, ◌≡◌, Result, Ok, Err, refl, sym, subst}
+use Rattle.std.proofs.Common.{rules, ℕ, ◌≡◌, Result, Ok, Err, refl, sym, subst}
 use Rattle.pmem_base.specs.declared.lines.Ctr.{Ctr}
 use Rattle.pmem_base.specs.Shape.{Shape}
+use Rattle.meta_path.specs.declared.faults.PathFault.{PathFault}
+use Rattle.meta_path.specs.declared.faults.PathFault.TheVariants as Path
 use Rattle.suite.specs.Setup.{Setup}
 use Rattle.plain_model.specs.Bounds.{path_length}
 use Rattle.pmem_engine.specs.declared.fault.Fault.{Fault}
 use Rattle.pmem_engine.specs.declared.fault.Fault.TheVariants as Fail
+use Rattle.pmem_engine.specs.declared.fault.LineFault.{LineFault}
+use Rattle.pmem_engine.specs.declared.fault.LineFault.TheVariants as AtLine
+use Rattle.pmem_engine.specs.Engine.{EngineState}
 use Rattle.pmem_engine.specs.Parts.{Parts}
-use Rattle.pmem_engine.specs.Outcomes.{Outcome}
+use Rattle.pmem_engine.specs.Outcomes.{fault_of_path, fault_of_line, Outcome}
 use Rattle.pmem_engine.specs.Calls.{KeepsShadow, HasFetchedLevels, IsPathFetched, IsRefusedAsFetched}
 use Rattle.pmem_engine.specs.Inner.{HasFetched}
-use Rattle.pmem_engine.specs.Writing.{IsAnswerOfPlain, IsAnswerOfFinish}
-use Rattle.pmem_engine.proofs.CallEnds.EndedEngines.{with_engine}
-use Rattle.pmem_engine.proofs.CallEnds.ShadowLines.{shadow_still, shadow_chained}
 use Rattle.pmem_engine.proofs.CheckedReads.ReadEnds.{ended_parts}
 
 module _ (setup : Setup) (page : ℕ) (old : Parts) where
@@ -25,55 +27,26 @@ module _ (setup : Setup) (page : ℕ) (old : Parts) where
   )
 
   -- a part of it
-  pub refused_in_fetch : (new : Parts) (fault : Fault) → HasFetched setup page old new (Err fault)
-      → IsRefusedAsFetched setup.shape page old new (Err fault)
-  refused_in_fetch new Fail.Cut it = tt
-  refused_in_fetch new Fail.Down it = tt
-  refused_in_fetch new Fail.Shown it = it.shadow
-  refused_in_fetch new (Fail.Meta x) it = (
+  pub refused_in_fetch : (new : Parts) (fault : PathFault) → HasFetched setup page old new (Err fault)
+      → IsRefusedAsFetched setup.shape page old new (Err (fault_of_path fault))
+  refused_in_fetch new Path.Cut it = tt
+  refused_in_fetch new Path.Shown it = it.shadow
+  refused_in_fetch new (Path.Meta x) it = (
     subst (λ levels. HasFetchedLevels setup.shape page levels old new) it.fetched.as_far it.fetched.fetched,
     it.shadow,
   )
-  refused_in_fetch new (Fail.Tag b) it = absurd it.possible
-  refused_in_fetch new (Fail.Spent spent) it = absurd it.possible
 
   -- the cache is the fetch's, since neither an unsealing nor a reseal changes it
   still_fetched : (p1 new : Parts) → HasFetched setup page old p1 (Ok tt) → new.engine ≡ p1.engine
       → IsPathFetched setup.shape page old new
   still_fetched p1 new it same =
-      subst (λ engine. IsPathFetched setup.shape page old (with_engine p1 engine)) (sym same) (it.work refl).cache
+      subst (λ (e : EngineState). IsPathFetched setup.shape page old (record p1 { engine = e })) (sym same) (it.work refl).cache
 
-  pub refused_plain : (p1 new : Parts) (fault : Fault) → HasFetched setup page old p1 (Ok tt) → new.engine ≡ p1.engine
-      → new.device.lines ≡ p1.device.lines → IsAnswerOfPlain (Err fault)
-      → IsRefusedAsFetched setup.shape page old new (Err fault)
-  refused_plain p1 new fault it same lines possible = by fault possible
-    where
-      shadow : KeepsShadow setup.shape old new
-      shadow = shadow_chained setup.shape old p1 new it.shadow (shadow_still setup.shape p1 new same lines)
-
-      by : (f : Fault) → IsAnswerOfPlain (Err f) → IsRefusedAsFetched setup.shape page old new (Err f)
-      by Fail.Cut of_plain = tt
-      by Fail.Down of_plain = tt
-      by Fail.Shown of_plain = shadow
-      by (Fail.Meta x) of_plain = absurd of_plain
-      by (Fail.Tag b) of_plain = (still_fetched p1 new it same, shadow)
-      by (Fail.Spent spent) of_plain = absurd of_plain
-
-  pub refused_finish : (p1 p2 new : Parts) (fault : Fault) → HasFetched setup page old p1 (Ok tt) → new.engine ≡ p1.engine
-      → KeepsShadow setup.shape old p2 → KeepsShadow setup.shape p2 new → IsAnswerOfFinish (Err fault)
-      → IsRefusedAsFetched setup.shape page old new (Err fault)
-  refused_finish p1 p2 new fault it same first second possible = by fault possible
-    where
-      shadow : KeepsShadow setup.shape old new
-      shadow = shadow_chained setup.shape old p2 new first second
-
-      by : (f : Fault) → IsAnswerOfFinish (Err f) → IsRefusedAsFetched setup.shape page old new (Err f)
-      by Fail.Cut of_finish = tt
-      by Fail.Down of_finish = tt
-      by Fail.Shown of_finish = shadow
-      by (Fail.Meta x) of_finish = absurd of_finish
-      by (Fail.Tag b) of_finish = (still_fetched p1 new it same, shadow)
-      by (Fail.Spent spent) of_finish = absurd of_finish
+  pub refused_line : (p1 new : Parts) (fault : LineFault) → HasFetched setup page old p1 (Ok tt) → new.engine ≡ p1.engine
+      → KeepsShadow setup.shape old new → IsRefusedAsFetched setup.shape page old new (Err (fault_of_line fault))
+  refused_line p1 new AtLine.Cut it same shadow = tt
+  refused_line p1 new (AtLine.Tag b) it same shadow = (still_fetched p1 new it same, shadow)
+  refused_line p1 new AtLine.Shown it same shadow = shadow
 
 -- what was seen doesn't depend on whether the engine is down afterwards
 levels_ended : (g : Shape) (page levels : ℕ) (old new : Parts) (end : Outcome) → HasFetchedLevels g page levels old new
@@ -93,10 +66,4 @@ shadow_ended g old new end it = record { mirror = it.mirror; lines = it.lines }
 
 pub refused_ended : (g : Shape) (page : ℕ) (old new : Parts) (answer : Result Ctr Fault) (end : Outcome)
     → IsRefusedAsFetched g page old new answer → IsRefusedAsFetched g page old (ended_parts new end) answer
-refused_ended g page old new (Ok ctr) end it = tt
-refused_ended g page old new (Err Fail.Cut) end it = tt
-refused_ended g page old new (Err Fail.Down) end it = tt
-refused_ended g page old new (Err Fail.Shown) end it = shadow_ended g old new end it
-refused_ended g page old new (Err (Fail.Meta x)) end it = (levels_ended g page _ old new end it.0, shadow_ended g old new end it.1)
-refused_ended g page old new (Err (Fail.Tag b)) end it = (it.0, shadow_ended g old new end it.1)
-refused_ended g page old new (Err (Fail.Spent spent)) end it = (levels_ended g page _ old new end it.0, shadow_ended g old new end it.1)
+refused_ended g page old new answer end it = search (rules, levels_ended, shadow_ended)

@@ -1,7 +1,7 @@
 -- A write's own seal, after the parts before it: its marks, memory, steps and counter block.
 use Rattle.std.proofs.Common.{rules, ℕ, ◌≡◌, ◌≢◌, ◌<◌, ◌≤◌, ◌+◌, ◌%◌, ◌++◌, ◌⊎◌, inl, inr, Bool, true, false, cond, List, [], ◌∷◌, length, IsTrue, Option, Some, Result, Ok, Err, refl, sym, ap, ap₂, subst, ◌∙◌, arith}
-use Rattle.std.specs.Prelude.{◌==◌, ◌||◌, ◌*◌, All, option_map, is_some, IsOk, IfOk}
-use Rattle.plain_model.specs.Bounds.{path_length, is_seal, seal_count}
+use Rattle.std.specs.Prelude.{◌==◌, ◌||◌, ◌*◌, option_map, is_some, IsOk, IfOk}
+use Rattle.plain_model.specs.Bounds.{path_length, seal_count}
 use Rattle.pmem_engine.proofs.PathNaming.ShadowNames.{named_then}
 use Rattle.std.specs.List.{list_any}
 use Rattle.std.proofs.lemmas.List.Elements.{All-nil, All-cons}
@@ -9,6 +9,7 @@ use Rattle.std.proofs.lemmas.List.Sums.{sum_by-append, sum_by-cons}
 use Rattle.std.proofs.lemmas.Bool.{true≢false, cond-true, cond-false, cases_eq, eq-eqb, or_parts}
 use Rattle.std.proofs.lemmas.List.{append-nil, length-append}
 use Rattle.std.proofs.lemmas.List.Folds.{list_any-append}
+use Rattle.pmem_base.specs.declared.faults.Cut.{Cut}
 use Rattle.pmem_base.specs.declared.lines.Line.{Line}
 use Rattle.pmem_base.specs.declared.lines.Ctr.{Ctr}
 use Rattle.pmem_base.specs.declared.commands.Posted.{Posted}
@@ -27,14 +28,13 @@ use Rattle.suite.specs.Setup.{Setup}
 use Rattle.plain_model.specs.State.{Memory, memory_with}
 use Rattle.plain_model.specs.View.{plain_line}
 use Rattle.plain_model.specs.Asked.{seal_mark, marks_of_write}
-use Rattle.pmem_engine.specs.declared.fault.Fault.{Fault}
-use Rattle.pmem_engine.specs.declared.fault.Fault.TheVariants as Fail
 use Rattle.pmem_engine.specs.Parts.{Parts, regs_of, AreTrusted, HoldsSeal, meta_line_in}
-use Rattle.pmem_engine.specs.Outcomes.{going, outcome_of, is_seal_of, is_sealed_by, TakesSteps, TakesAtMost}
-use Rattle.pmem_engine.specs.Calls.{IsMemory, IsDownAnswer, IsUnrefused, IsPathNamedInMirror, IsBlockTrue, moment_in, memory_after, is_persisting, AreMarksOfWrite, AnswersWrite, write_bound, TakesOfWrite, IsMetaUncached, IsPastFetch, AreUnderMinorZero, IsOwnSeal, AreInWriteOrder, then_work, IsWork, begin_work, seal_work, KeepsButPath, KeepsOtherMeta, write_work, IsWriteWork, IsRefusedAsFetched}
+use Rattle.pmem_engine.specs.Outcomes.{of_cut, fault_of_cut, going, outcome_of, is_seal_of, is_sealed_by, TakesSteps, TakesAtMost}
+use Rattle.pmem_engine.specs.Calls.{IsMemory, IsPathNamedInMirror, IsBlockTrue, moment_in, memory_after, is_persisting, AreMarksOfWrite, AnswersWrite, write_bound, TakesOfWrite, IsMetaUncached, IsPastFetch, AreUnderMinorZero, AreInWriteOrder, then_work, IsWork, seal_work, KeepsButPath, KeepsOtherMeta, write_work, IsWriteWork, IsRefusedAsFetched}
 use Rattle.pmem_engine.specs.Sealing.{next_counter_of, seal_steps, HasNextMarks, TakesSealSteps, HasSealedNext}
 use Rattle.pmem_engine.specs.Writing.{UpWriteOutcome}
 use Rattle.pmem_engine.proofs.CallEnds.CallChains.{done_chained, still_unarmed}
+use Rattle.pmem_engine.proofs.CallEnds.ErrorAnswers.{ok_before, err_before, cut_unrefused, cut_not_down}
 use Rattle.pmem_engine.proofs.CallEnds.ExactWork.{work_then}
 use Rattle.pmem_engine.specs.Inner.{HasNamedAll}
 use Rattle.pmem_engine.proofs.PostedWrites.WriteParts.{IsWritePart}
@@ -58,7 +58,7 @@ module _ (setup : Setup) (write : Posted) (within : write.at < layout.data_lines
     (names5 : HasNamedAll setup.shape (page_of write.at) old p5)
     (most5 : TakesAtMost (2 * path_length setup.shape + 259) old.device p5.device)
     (work5 : IsWriteWorkBefore setup write before old p5)
-    (answer : Result Ctr Fault) (it : HasSealedNext setup write.at plain p5 new answer) where
+    (answer : Result Ctr Cut) (it : HasSealedNext setup write.at plain p5 new answer) where
   abbrev page : ℕ
   page = page_of write.at
 
@@ -72,7 +72,7 @@ module _ (setup : Setup) (write : Posted) (within : write.at < layout.data_lines
   trusted5 trusted = part5.done.gone.trusted trusted
 
   -- made is the seal, or nothing
-  made_cases : (reply : Result Ctr Fault) → HasNextMarks setup.formulas write.at next plain it.made reply
+  made_cases : (reply : Result Ctr Cut) → HasNextMarks setup.formulas write.at next plain it.made reply
       → (it.made ≡ []) ⊎ (it.made ≡ seal ∷ [])
   made_cases v0 marks = search rules
 
@@ -94,12 +94,12 @@ module _ (setup : Setup) (write : Posted) (within : write.at < layout.data_lines
 
   -- ---- the marks
 
-  sealed_marks : AreTrusted setup old → (memory : Memory) → IsMemory setup memory old → (reply : Result Ctr Fault)
+  sealed_marks : AreTrusted setup old → (memory : Memory) → IsMemory setup memory old → (reply : Result Ctr Cut)
       → HasNextMarks setup.formulas write.at next plain it.made reply
-      → AreMarksOfWrite (Some (wanted memory)) (before ++ it.made) write reply
+      → AreMarksOfWrite (Some (wanted memory)) (before ++ it.made) write (of_cut reply)
   sealed_marks trusted memory was (Ok ctr) marks =
       ap Some (sym (whole trusted memory was) ∙ ap (λ ms. before ++ ms) (sym marks.1))
-  sealed_marks trusted memory was (Err Fail.Cut) (inl none) =
+  sealed_marks trusted memory was (Err cut) (inl none) =
       inr (record {
         left = seal ∷ [];
         front =
@@ -107,17 +107,12 @@ module _ (setup : Setup) (write : Posted) (within : write.at < layout.data_lines
             ∙ ap (λ ms. ms ++ seal ∷ []) (sym (append-nil before) ∙ ap (λ ms. before ++ ms) (sym none));
         not_all = some_after [] seal [];
       })
-  sealed_marks trusted memory was (Err Fail.Cut) (inr one) =
+  sealed_marks trusted memory was (Err cut) (inr one) =
       inl (ap Some (sym (whole trusted memory was) ∙ ap (λ ms. before ++ ms) (sym one)))
-  sealed_marks trusted memory was (Err Fail.Down) marks = absurd marks
-  sealed_marks trusted memory was (Err Fail.Shown) marks = absurd marks
-  sealed_marks trusted memory was (Err (Fail.Meta x)) marks = absurd marks
-  sealed_marks trusted memory was (Err (Fail.Tag b)) marks = absurd marks
-  sealed_marks trusted memory was (Err (Fail.Spent spent)) marks = absurd marks
 
   -- the counter answered is the last one
-  last_is : (reply : Result Ctr Fault) → HasNextMarks setup.formulas write.at next plain it.made reply
-      → (asks : Option (List Mark)) → AnswersWrite setup asks (before ++ it.made) write old new reply
+  last_is : (reply : Result Ctr Cut) → HasNextMarks setup.formulas write.at next plain it.made reply
+      → (asks : Option (List Mark)) → AnswersWrite setup asks (before ++ it.made) write old new (of_cut reply)
   last_is (Ok ctr) marks asks =
       ap (λ ms. option_map (λ (s : SealOf). s.ctr) (last_seal ms write.at))
       (it.done.gone.marks ∙ ap (λ ms. p5.ledger.marks ++ ms) marks.1)
@@ -125,20 +120,7 @@ module _ (setup : Setup) (write : Posted) (within : write.at < layout.data_lines
       (last_seal-sealed p5.ledger.marks write.at next (cipher_of setup.formulas write.at next plain)
       (setup.formulas.tag_of write.at next (cipher_of setup.formulas write.at next plain)))
       ∙ ap Some (sym marks.0)
-  last_is (Err Fail.Cut) marks asks = tt
-  last_is (Err Fail.Down) marks asks = absurd marks
-  last_is (Err Fail.Shown) marks asks = absurd marks
-  last_is (Err (Fail.Meta x)) marks asks = absurd marks
-  last_is (Err (Fail.Tag b)) marks asks = absurd marks
-  last_is (Err (Fail.Spent spent)) marks asks = absurd marks
-
-  sealed_unrefused : (reply : Result Ctr Fault) → HasNextMarks setup.formulas write.at next plain it.made reply
-      → IsUnrefused reply
-  sealed_unrefused v0 marks = search rules
-
-  sealed_not_down : (reply : Result Ctr Fault) → HasNextMarks setup.formulas write.at next plain it.made reply
-      → IsDownAnswer reply → ⊥
-  sealed_not_down v0 marks is = search rules
+  last_is (Err cut) marks asks = tt
 
   -- ---- memory
 
@@ -214,10 +196,10 @@ module _ (setup : Setup) (write : Posted) (within : write.at < layout.data_lines
   few_steps : (loss : ℕ) (ctr : Ctr) → seal_steps loss ctr ≤ 5
   few_steps loss ctr = search rules
 
-  sealed_steps : AreTrusted setup old → (memory : Memory) → IsMemory setup memory old → (reply : Result Ctr Fault)
+  sealed_steps : AreTrusted setup old → (memory : Memory) → IsMemory setup memory old → (reply : Result Ctr Cut)
       → HasNextMarks setup.formulas write.at next plain it.made reply
       → TakesSealSteps (seal_steps (regs_of p5).loss next) p5 new reply
-      → TakesOfWrite setup.shape (Some (wanted memory)) (before ++ it.made) old new reply
+      → TakesOfWrite setup.shape (Some (wanted memory)) (before ++ it.made) old new (of_cut reply)
   sealed_steps trusted memory was (Ok ctr) marks steps =
       subst (λ ms. TakesAtMost (write_bound setup.shape ms) old.device new.device)
       (sym (whole trusted memory was) ∙ ap (λ ms. before ++ ms) (sym marks.1))
@@ -227,44 +209,32 @@ module _ (setup : Setup) (write : Posted) (within : write.at < layout.data_lines
       (omega (arith, bound memory, few_steps (regs_of p5).loss next))
       (most_then (most memory) (seal_steps (regs_of p5).loss next) old.device p5.device new.device (steps5 trusted memory was)
       (steps_most (seal_steps (regs_of p5).loss next) p5.device new.device steps)))
-  sealed_steps trusted memory was (Err Fail.Cut) marks steps =
+  sealed_steps trusted memory was (Err cut) marks steps =
       more_fewer
       (most memory + seal_steps (regs_of p5).loss next)
       (write_bound setup.shape (wanted memory)) old.device new.device
       (omega (arith, bound memory, few_steps (regs_of p5).loss next))
       (fewer_then (most memory) (seal_steps (regs_of p5).loss next) old.device p5.device new.device (steps5 trusted memory was) steps)
-  sealed_steps trusted memory was (Err Fail.Down) marks steps = absurd marks
-  sealed_steps trusted memory was (Err Fail.Shown) marks steps = absurd marks
-  sealed_steps trusted memory was (Err (Fail.Meta x)) marks steps = absurd marks
-  sealed_steps trusted memory was (Err (Fail.Tag b)) marks steps = absurd marks
-  sealed_steps trusted memory was (Err (Fail.Spent spent)) marks steps = absurd marks
 
   -- ---- the counter block
 
   kept_before : (regs_of old).group.items ≡ [] → list_any (is_persisting (regs_of old).loss write.at) (before ++ it.made) ≡ false
       → meta_line_in setup.shape new (counter_position setup.shape page)
       ≡ meta_line_in setup.shape old (counter_position setup.shape page)
-  kept_before no_group none =
-      let apart =
-      or_parts (list_any (is_persisting (regs_of old).loss write.at) before)
-      (list_any (is_persisting (regs_of old).loss write.at) it.made)
-      (sym (list_any-append (is_persisting (regs_of old).loss write.at) before it.made) ∙ none) in
-      it.block_kept (still_unarmed setup before old p5 part5.done.gone no_group)
-      (ap (λ loss. list_any (is_persisting loss write.at) it.made) part5.done.loss ∙ apart.1)
-      ∙ part5.block_kept no_group apart.0
+  kept_before no_group none = search (rules, or_parts, list_any-append, still_unarmed)
 
-  written_by : (reply : Result Ctr Fault) → HasNextMarks setup.formulas write.at next plain it.made reply
+  written_by : (reply : Result Ctr Cut) → HasNextMarks setup.formulas write.at next plain it.made reply
       → (IsOk reply → (next.minor % (regs_of p5).loss == 0) ≡ true → IsBlockTrue setup new page)
-      → IfOk reply (λ ctr. ctr.minor % (regs_of old).loss ≡ 0 → IsBlockTrue setup new page)
+      → IfOk (of_cut reply) (λ ctr. ctr.minor % (regs_of old).loss ≡ 0 → IsBlockTrue setup new page)
   written_by v0 marks block = search rules
 
   -- ---- one seal, where the path was cached and named
 
   named_steps : IsPathCached setup.shape old.engine.cache page → IsPathNamedInMirror setup.shape old.engine page
-      → length (before ++ it.made) ≡ 1 → (reply : Result Ctr Fault)
+      → length (before ++ it.made) ≡ 1 → (reply : Result Ctr Cut)
       → HasNextMarks setup.formulas write.at next plain it.made reply
       → TakesSealSteps (seal_steps (regs_of p5).loss next) p5 new reply
-      → IfOk reply (λ ctr. TakesSteps (seal_steps (regs_of old).loss ctr) old.device new.device)
+      → IfOk (of_cut reply) (λ ctr. TakesSteps (seal_steps (regs_of old).loss ctr) old.device new.device)
   named_steps cached was_named one (Err fault) marks steps = tt
   named_steps cached was_named one (Ok ctr) marks steps =
       subst (λ n. TakesSteps n old.device new.device)
@@ -273,87 +243,33 @@ module _ (setup : Setup) (write : Posted) (within : write.at < layout.data_lines
 
   -- ---- whatever the chip is
 
-  past_seal : (reply : Result Ctr Fault) → HasNextMarks setup.formulas write.at next plain it.made reply
-      → (IsOk reply → IsPathCached setup.shape new.engine.cache page) → IsPastFetch old new reply
+  past_seal : (reply : Result Ctr Cut) → HasNextMarks setup.formulas write.at next plain it.made reply
+      → (IsOk reply → IsPathCached setup.shape new.engine.cache page) → IsPastFetch old new (of_cut reply)
       → IsPathCached setup.shape new.engine.cache page
   past_seal (Ok ctr) marks cached past = cached refl
-  past_seal (Err Fail.Cut) marks cached past = absurd past
-  past_seal (Err Fail.Down) marks cached past = absurd marks
-  past_seal (Err Fail.Shown) marks cached past = absurd marks
-  past_seal (Err (Fail.Meta x)) marks cached past = absurd marks
-  past_seal (Err (Fail.Tag b)) marks cached past = absurd marks
-  past_seal (Err (Fail.Spent spent)) marks cached past = absurd marks
+  past_seal (Err cut) marks cached past = absurd past
 
-  seal_meta : (reply : Result Ctr Fault) → HasNextMarks setup.formulas write.at next plain it.made reply
-      → IsMetaUncached setup.shape page old reply
-  seal_meta (Ok ctr) marks = tt
-  seal_meta (Err Fail.Cut) marks = tt
-  seal_meta (Err Fail.Down) marks = tt
-  seal_meta (Err Fail.Shown) marks = tt
-  seal_meta (Err (Fail.Meta x)) marks = absurd marks
-  seal_meta (Err (Fail.Tag b)) marks = tt
-  seal_meta (Err (Fail.Spent spent)) marks = tt
+  seal_meta : (reply : Result Ctr Cut) → IsMetaUncached setup.shape page old (of_cut reply)
+  seal_meta v0 = search rules
 
-  seal_refused : (reply : Result Ctr Fault) → HasNextMarks setup.formulas write.at next plain it.made reply
-      → IsRefusedAsFetched setup.shape page old new reply
-  seal_refused (Ok ctr) marks = tt
-  seal_refused (Err Fail.Cut) marks = tt
-  seal_refused (Err Fail.Down) marks = tt
-  seal_refused (Err Fail.Shown) marks = absurd marks
-  seal_refused (Err (Fail.Meta x)) marks = absurd marks
-  seal_refused (Err (Fail.Tag b)) marks = absurd marks
-  seal_refused (Err (Fail.Spent spent)) marks = absurd marks
+  seal_refused : (reply : Result Ctr Cut) → IsRefusedAsFetched setup.shape page old new (of_cut reply)
+  seal_refused v0 = search rules
 
   order : AreInWriteOrder write.at (before ++ it.made)
-  order =
-      record {
-        before = before;
-        own = it.made;
-        both = refl;
-        few_before = few_before;
-        minors = minors_before;
-        one_own =
-            elim made_is [
-              | inl none ↦ let long : length it.made ≡ 0 = ap length none in omega (arith, long)
-              | inr one ↦ let long : length it.made ≡ 1 = ap length one in omega (arith, long)
-            ];
-        its_seal =
-            elim made_is [
-              | inl none ↦ subst (λ marks. All (IsOwnSeal write.at) marks) (sym none) (All-nil (IsOwnSeal write.at))
-              | inr one ↦
-                  subst (λ marks. All (IsOwnSeal write.at) marks) (sym one)
-                  (All-cons (IsOwnSeal write.at) seal [] (refl, omega arith) (All-nil (IsOwnSeal write.at)))
-            ];
-      }
+  order = search (rules, All-nil, All-cons, made_is)
 
-  own_seal : (reply : Result Ctr Fault) → HasNextMarks setup.formulas write.at next plain it.made reply → IsOk reply
-      → is_sealed_by (before ++ it.made) write.at ≡ true
-  own_seal (Ok ctr) marks ok =
-      list_any-append (is_seal_of write.at) before it.made
-      ∙ ap (λ b. is_sealed_by before write.at || b) (one_sealed marks.1)
-      ∙ any_or_true (is_sealed_by before write.at)
-    where
-      any_or_true : (b : Bool) → (b || true) ≡ true
-      any_or_true true = refl
-      any_or_true false = refl
-  own_seal (Err fault) marks ok = absurd (true≢false (sym ok))
+  own_seal : (reply : Result Ctr Cut) → HasNextMarks setup.formulas write.at next plain it.made reply
+      → IsOk (of_cut reply) → is_sealed_by (before ++ it.made) write.at ≡ true
+  own_seal reply marks ok = search (rules, true≢false, list_any-append, one_sealed)
 
-  five_most : (reply : Result Ctr Fault) → TakesSealSteps (seal_steps (regs_of p5).loss next) p5 new reply
+  five_most : (reply : Result Ctr Cut) → TakesSealSteps (seal_steps (regs_of p5).loss next) p5 new reply
       → TakesAtMost 5 p5.device new.device
-  five_most (Ok ctr) steps =
-      more_most (seal_steps (regs_of p5).loss next) 5 p5.device new.device (few_steps (regs_of p5).loss next)
-      (steps_most (seal_steps (regs_of p5).loss next) p5.device new.device steps)
-  five_most (Err fault) steps =
-      more_most (seal_steps (regs_of p5).loss next) 5 p5.device new.device (few_steps (regs_of p5).loss next)
-      (fewer_most (seal_steps (regs_of p5).loss next) p5.device new.device steps)
+  five_most reply steps = search (rules, steps_most, fewer_most, more_most, few_steps)
 
   -- ---- the work
 
   seals_now : it.made ≡ seal ∷ [] → seal_count (before ++ it.made) ≡ seal_count before + 1
-  seals_now one =
-      ap (λ ms. seal_count (before ++ ms)) one
-      ∙ sum_by-append (λ m. cond (is_seal m) 1 0) before (seal ∷ [])
-      ∙ ap (λ n. seal_count before + n) (sum_by-cons (λ m. cond (is_seal m) 1 0) seal [])
+  seals_now one = search (rules, sum_by-append, sum_by-cons)
 
   marks_now : it.made ≡ seal ∷ [] → length (before ++ it.made) ≡ length before + 1
   marks_now one = length-append before it.made ∙ ap (λ ms. length before + length ms) one
@@ -361,20 +277,13 @@ module _ (setup : Setup) (write : Posted) (within : write.at < layout.data_lines
   same_work : (ctr : Ctr) → it.made ≡ seal ∷ []
       → then_work (work_before setup.shape write before old work5.fetched) (seal_work setup.shape (regs_of old).loss ctr)
       ≡ write_work setup.shape write ctr (before ++ it.made) old work5.fetched
-  same_work ctr one =
-      let seals = seals_now one in
-      let marks = marks_now one in
-      let few = work5.few_seals in
-      ap₂ (λ resealed begun.
-      then_work (then_work (named_work setup.shape write resealed old work5.fetched) (begin_work setup.shape begun))
-      (seal_work setup.shape (regs_of old).loss ctr))
-      (omega (arith, seals)) (omega (arith, seals, marks, few))
+  same_work ctr one = search (rules, named_work, seals_now, marks_now)
 
-  whole_work : (reply : Result Ctr Fault) → HasNextMarks setup.formulas write.at next plain it.made reply
+  whole_work : (reply : Result Ctr Cut) → HasNextMarks setup.formulas write.at next plain it.made reply
       → IfOk reply (λ ctr. IsWork (seal_work setup.shape (regs_of p5).loss ctr) p5 new)
       → KeepsButPath setup.shape page p5.engine.cache new.engine.cache
       → (IsOk reply → KeepsOtherMeta setup.shape page p5.device.lines new.device.lines)
-      → IfOk reply (λ ctr. IsWriteWork setup.shape write ctr (before ++ it.made) old new)
+      → IfOk (of_cut reply) (λ ctr. IsWriteWork setup.shape write ctr (before ++ it.made) old new)
   whole_work (Ok ctr) marks did kept meta =
       record {
         fetched = work5.fetched;
@@ -388,34 +297,35 @@ module _ (setup : Setup) (write : Posted) (within : write.at < layout.data_lines
       }
   whole_work (Err fault) marks did kept meta = tt
 
-  pub written_with_seal : UpWriteOutcome setup write old new answer
+  pub written_with_seal : UpWriteOutcome setup write old new (of_cut answer)
   written_with_seal =
       record {
         made = before ++ it.made;
-        done = done_chained setup (outcome_of answer) before it.made old p5 new part5.done it.done;
+        done = done_chained setup (outcome_of (of_cut answer)) before it.made old p5 new part5.done it.done;
         marks =
             λ trusted memory was.
-            subst (λ marks. AreMarksOfWrite marks (before ++ it.made) write answer) (sym (asked_is trusted memory))
+            subst (λ marks. AreMarksOfWrite marks (before ++ it.made) write (of_cut answer)) (sym (asked_is trusted memory))
             (sealed_marks trusted memory was answer it.marks);
         memory = memory_now;
         answered = λ trusted memory was. last_is answer it.marks (marks_of_write setup.formulas (moment_in setup memory old) write);
-        unrefused = λ sound. sealed_unrefused answer it.marks;
-        not_down = sealed_not_down answer it.marks;
+        unrefused = λ sound. cut_unrefused answer;
+        not_down = cut_not_down answer;
         sealed_before =
             λ trusted a inside sealed other.
             stored_before trusted a inside sealed other (is_sealed_by before a) refl;
-        path_cached = it.path_cached;
-        path_named = it.path_named;
+        path_cached = λ ok. it.path_cached (ok_before fault_of_cut answer ok);
+        path_named = λ ok. it.path_named (ok_before fault_of_cut answer ok);
         path_fetched = past_seal answer it.marks it.path_cached;
-        meta_uncached = seal_meta answer it.marks;
+        meta_uncached = seal_meta answer;
         names = (named_then setup.shape page old p5 new names5 it.shadow it.numbers).some;
-        refused = seal_refused answer it.marks;
+        refused = seal_refused answer;
         cut =
             cut_past setup write (before ++ it.made) old new work5.fetched work5.path_fetched
-            (λ bank set. it.cache bank set ∙ work5.kept bank set) (λ trusted memory. ap is_some (asked_is trusted memory)) answer;
+            (λ bank set. it.cache bank set ∙ work5.kept bank set) (λ trusted memory. ap is_some (asked_is trusted memory))
+            (of_cut answer);
         own_armed =
             λ trusted memory was cut sealed.
-            elim (it.armed cut) [
+            elim (it.armed (err_before fault_of_cut answer cut)) [
               | inl none ↦ absurd (true≢false (sym sealed ∙ own_sealed trusted memory was ∙ none_sealed none write.at))
               | inr some ↦ some
             ];
@@ -428,7 +338,7 @@ module _ (setup : Setup) (write : Posted) (within : write.at < layout.data_lines
         down = it.down ∙ part5.down;
         steps =
             λ trusted memory was.
-            subst (λ marks. TakesOfWrite setup.shape marks (before ++ it.made) old new answer) (sym (asked_is trusted memory))
+            subst (λ marks. TakesOfWrite setup.shape marks (before ++ it.made) old new (of_cut answer)) (sym (asked_is trusted memory))
             (sealed_steps trusted memory was answer it.marks it.steps);
         steps_of_spent =
             λ trusted memory was none. (let some = asked_is trusted memory in absurd (cc));

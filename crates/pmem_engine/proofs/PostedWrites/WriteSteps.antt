@@ -1,5 +1,5 @@
 -- Steps of a write's parts together, and its bound.
-use Rattle.std.proofs.Common.{rules, ℕ, ◌≡◌, ◌≤◌, ◌+◌, ◌*◌, ◌++◌, Bool, true, false, cond, List, [], ◌∷◌, length, ap, arith}
+use Rattle.std.proofs.Common.{rules, ℕ, ◌≡◌, ◌≤◌, ◌+◌, ◌*◌, ◌++◌, Bool, true, false, List, [], ◌∷◌, length, ap, arith}
 use Rattle.std.proofs.lemmas.List.{length-append}
 use Rattle.std.proofs.lemmas.List.Sums.{sum_by-append}
 use Rattle.pmem_base.specs.declared.answers.Mark.{Mark}
@@ -45,18 +45,7 @@ pub bound_whole : (g : Shape) (front : List Mark) (overflows : Bool) (page : ℕ
     → is_seal own ≡ true
     → write_bound g (front ++ (begin_asked overflows page ++ own ∷ []))
     ≡ 2 * path_length g + 1 + 4 * (length front + 1) + 3 * length (begin_asked overflows page)
-bound_whole g front overflows page own all its =
-    omega (
-      arith,
-      all,
-      sum_by-append (λ m. cond (is_seal m) 1 0) front (begin_asked overflows page ++ own ∷ []),
-      length-append front (begin_asked overflows page ++ own ∷ []),
-      length-append (begin_asked overflows page) (own ∷ []),
-      rest overflows,
-    )
-  where
-    rest : (b : Bool) → seal_count (begin_asked b page ++ own ∷ []) ≡ 1
-    rest v0 = search rules
+bound_whole g front overflows page own all its = search (rules, length-append, sum_by-append)
 
 -- steps of the last part alone, where the parts before it stand still
 pub only_last : (n : ℕ) (d0 d1 d2 d3 d4 d5 new : Device) → StandsStill d0 d1 → TakesSteps 0 d1 d2 → d3 ≡ d2 → StandsStill d3 d4

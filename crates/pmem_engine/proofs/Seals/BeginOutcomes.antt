@@ -101,16 +101,7 @@ module _ (setup : Setup) (page : ℕ) (engine engine_now : EngineState) (old new
 
   module _ (done : HasPageBegun setup.shape page register block lines root engine engine_now old.regs new.regs before after) where
     is_beginning : IsDevice old → IsBeginning setup page lines root engine old
-    is_beginning whole =
-        record {
-          path = record { few = few; in_range = in_range; inside = inside; cached = cached; named = named; renewed = renewed };
-          closed = closed;
-          major = major;
-          valid = valid;
-          unarmed = unarmed;
-          whole = whole;
-          size = usable.ready.its_size;
-        }
+    is_beginning whole = search (rules, unarmed)
 
     commit : IsDevice old → IsCommit setup (begin_group setup.shape page block) (Begin page) page true block start final
     commit whole =
@@ -223,14 +214,10 @@ module _ (setup : Setup) (page : ℕ) (engine engine_now : EngineState) (old new
         path_named : IsPathNamedInMirror setup.shape engine_now page
         path_named = kept_named setup.shape page true lines engine engine_now done.stored cached named
 
-  -- a cut, whenever it came
-  pub page_cut : IsDevice old → IsDevice new
-      → IsBeginCut setup.shape page register block lines root engine engine_now old new before after
-      → HasBegunPage setup page start final (Err Fail.Cut)
-  page_cut whole whole_now (inl was) = begin_undone was
-  page_cut whole whole_now (inr was) = begin_cut was.page_begun whole whole_now was.device
-
-  pub page_begun : IsDevice old
-      → HasBeginCommitted setup.shape page register block lines root engine engine_now old new before after
-      → HasBegunPage setup page start final (Ok tt)
-  page_begun whole was = begin_done was.page_begun whole was.device
+  -- both exits
+  pub page_exits : IsDevice old
+      → (IsDevice new → IsBeginCut setup.shape page register block lines root engine engine_now old new before after
+      → HasBegunPage setup page start final (Err Fail.Cut))
+      × (HasBeginCommitted setup.shape page register block lines root engine engine_now old new before after
+      → HasBegunPage setup page start final (Ok tt))
+  page_exits whole = search (rules, begin_undone, begin_cut, begin_done)

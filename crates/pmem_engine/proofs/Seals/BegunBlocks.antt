@@ -1,5 +1,5 @@
 -- A begun page's counter block as it is cached: the one that follows, whether the cache is trusted or not.
-use Rattle.std.proofs.Common.{ℕ, zero, suc, ◌≡◌, ◌<◌, ◌-◌, ◌^◌, true, List, [], ◌∷◌, length, Bool, refl, sym, ap, ◌∙◌, arith}
+use Rattle.std.proofs.Common.{rules, ℕ, zero, suc, ◌≡◌, ◌<◌, ◌-◌, ◌^◌, true, List, [], ◌∷◌, length, Bool, refl, sym, ap, ◌∙◌, arith}
 use Rattle.std.specs.Prelude.{option_map, unwrap_or, Contains}
 use Rattle.std.proofs.lemmas.List.{length-append, get_or_at}
 use Rattle.pmem_base.specs.declared.lines.Line.{Line}
@@ -31,11 +31,7 @@ length-new_path f old (suc j) x line =
 
 -- the last line of a new path is the counter block's
 last_line : (f : Formulas) (old : ℕ → Line) (j x : ℕ) (line : Line) → new_line (new_path f old j x line) j ≡ line
-last_line f old zero x line = refl
-last_line f old (suc j) x line =
-    ap (λ entry. entry.1)
-    (get_or_at (new_path f old j (parent x) (node_above f old x line)) (x, line) [] (0, zero_line) (suc j)
-    (length-new_path f old j (parent x) (node_above f old x line)))
+last_line f old j x line = search (rules, get_or_at, length-new_path)
 
 path_last : (g : Shape) (f : Formulas) (old : ℕ → Line) (page : ℕ) (block : Line)
     → new_line (path_with g f old page block) g.levels ≡ block

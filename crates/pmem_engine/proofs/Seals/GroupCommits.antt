@@ -1,6 +1,6 @@
 -- A group of one mark that was armed, and finished or cut: what is left to show of the part of a call that commits it.
-use Rattle.std.proofs.Common.{rules, ℕ, ◌≡◌, ◌<◌, ◌≤◌, ◌⊎◌, Bool, true, List, [], ◌∷◌, length, Option, Some, None, refl, sym, ap, subst, ◌∙◌}
-use Rattle.std.specs.Prelude.{◌&&◌, ◌==◌, option_map}
+use Rattle.std.proofs.Common.{rules, ℕ, ◌≡◌, ◌<◌, ◌≤◌, ◌⊎◌, Bool, true, List, [], ◌∷◌, length, Some, refl, sym, ap, subst, ◌∙◌}
+use Rattle.std.specs.Prelude.{option_map}
 use Rattle.std.proofs.lemmas.Bool.{eq-eqb}
 use Rattle.pmem_base.specs.declared.lines.Line.{Line}
 use Rattle.pmem_base.specs.declared.answers.Mark.{Mark}
@@ -13,7 +13,7 @@ use Rattle.commit_regs.specs.Groups.{redone, redone_told}
 use Rattle.commit_regs.proofs.GroupLemmas.{redone-nil, AreLinesOf-redone}
 use Rattle.suite.specs.Setup.{Setup}
 use Rattle.bonsai_tree.specs.Positions.{counter_position}
-use Rattle.pmem_engine.specs.Invariants.{IsAnchored, IsSound, IsDurable, stored_meta}
+use Rattle.pmem_engine.specs.Invariants.{IsAnchored, IsSound, IsDurable}
 use Rattle.pmem_engine.specs.Parts.{Parts, regs_of, lines_redone, AreTrusted, AreSound, AreDurable, HoldsCounters, meta_line_in}
 use Rattle.pmem_engine.specs.Outcomes.{going, cut_short, IsTouchedBy, NeverFalls, KeepsPlaces, KeepsMeta, OneLossEffect}
 use Rattle.pmem_engine.specs.Committing.{HasCommitted, IsCutArmed}
@@ -100,19 +100,7 @@ module _ (setup : Setup) (group : List (ℕ × Line)) (mark : Mark) (page : ℕ)
     pub block_true : AreTrusted setup old → written ≡ true
         → meta_line_in setup.shape new (counter_position setup.shape page)
         ≡ option_map (λ lines. line_at new.ledger.truth (counter_position setup.shape page)) (lines_redone new)
-    block_true trusted is = subst (λ told. option_map (λ lines. stored_meta setup.shape lines x) told ≡ option_map (λ lines. line_at new.ledger.truth x) told) (sym comes) (at old.device.lines refl)
-      where
-        x : ℕ
-        x = counter_position setup.shape page
-
-        here : writes_block setup.shape page written x ≡ true
-        here = ap (λ b. b && (x == x)) is ∙ eq-eqb x x refl
-
-        at : (told : Option (List Line)) → old.device.lines ≡ told
-            → option_map (λ lines. stored_meta setup.shape lines x) (redone_told group told)
-            ≡ option_map (λ lines. line_at new.ledger.truth x) (redone_told group told)
-        at None told = refl
-        at (Some lines) told = ap Some ((step_over lines told).its_block x here ∙ sym ((it.truth trusted).its_block x here))
+    block_true trusted is = search (rules, eq-eqb, writes_block, step_over)
 
   -- ---- the part of a call
 

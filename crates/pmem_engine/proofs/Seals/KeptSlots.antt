@@ -1,16 +1,16 @@
 -- A page's new path stored in the cache: the slots and their order of use stay, and off the path the lines and marks.
-use Rattle.std.proofs.Common.{ℕ, ◌≡◌, ◌<◌, ◌≤◌, ◌+◌, ◌⊎◌, inl, inr, Bool, true, false, cond, List, [], ◌∷◌, map, refl, sym, ap, ap₂, subst, ◌∙◌, arith}
+use Rattle.std.proofs.Common.{rules, ℕ, ◌≡◌, ◌+◌, Bool, true, false, cond, List, [], ◌∷◌, map, refl, sym, ap, ap₂, subst, ◌∙◌}
 use Rattle.std.specs.Prelude.{◌==◌}
 use Rattle.std.proofs.lemmas.Bool.{cases_eq, cases_lt, cond-true, cond-false}
 use Rattle.pmem_base.specs.declared.lines.Line.{Line}
 use Rattle.pmem_base.specs.Lines.{zero_line}
 use Rattle.pmem_base.specs.Shape.{Shape}
 use Rattle.meta_cache.specs.declared.slot.Slot.{Slot}
-use Rattle.meta_cache.specs.Banks.{Banks, set_of, set_index, IsBanksOf}
+use Rattle.meta_cache.specs.Banks.{Banks, set_of, IsBanksOf}
 use Rattle.meta_cache.specs.Sets.{lined, slot_marked, with_slot_line, with_mark}
 use Rattle.meta_cache.specs.State.{CacheState}
-use Rattle.meta_path.specs.Blocks.{path_at, slots_at, IsPathCached}
-use Rattle.meta_path.specs.Storing.{new_line, stored_mark, stored_set, IsStoredTo, IsPathOf, KeepsSlots}
+use Rattle.meta_path.specs.Blocks.{path_at, IsPathCached}
+use Rattle.meta_path.specs.Storing.{stored_set, IsStoredTo, IsPathOf, KeepsSlots}
 use Rattle.pmem_engine.specs.Calls.{masked, KeepsButPath}
 use Rattle.pmem_engine.specs.Sealing.{HasStoredPath}
 
@@ -51,21 +51,7 @@ kept_same g page old new same bank set =
 
 pub kept_but_path : (g : Shape) (page : ℕ) (persisted : Bool) (lines : List (ℕ × Line)) (old new : CacheState)
     → IsStoredTo g page persisted lines (g.levels + 1) old new → KeepsButPath g page old.banks new.banks
-kept_but_path g page persisted lines old new it bank set =
-    by (cases_lt bank (g.levels + 1)) (cases_eq set (set_index g (path_at g page bank)))
-  where
-    by : (bank < g.levels + 1) ⊎ (g.levels + 1 ≤ bank)
-        → (set ≡ set_index g (path_at g page bank)) ⊎ (set ≡ set_index g (path_at g page bank) → ⊥)
-        → map (masked (path_at g page bank)) (set_of new.banks bank set) ≡ map (masked (path_at g page bank)) (set_of old.banks bank set)
-    by (inl on_path) (inl here) =
-        ap (λ s. map (masked (path_at g page bank)) (set_of new.banks bank s)) here
-        ∙ ap (map (masked (path_at g page bank))) (it.stored bank on_path)
-        ∙ masked_stored (slots_at g old.banks bank (path_at g page bank)) (path_at g page bank) (new_line lines bank)
-        (stored_mark g persisted bank)
-        ∙ sym (ap (λ s. map (masked (path_at g page bank)) (set_of old.banks bank s)) here)
-    by (inl on_path) (inr other) = ap (map (masked (path_at g page bank))) (it.elsewhere bank set (λ e. other e.1))
-    by (inr below) which =
-        ap (map (masked (path_at g page bank))) (it.elsewhere bank set (λ e. let less = e.0 in absurd (omega (arith, less, below))))
+kept_but_path g page persisted lines old new it bank set = search (rules, cases_eq, cases_lt, masked_stored)
 
 -- what storing a path makes of the cache, as the engine says it
 pub stored_path : (g : Shape) (page : ℕ) (persisted : Bool) (lines : List (ℕ × Line)) (old new : CacheState) (mirror : List Line)

@@ -1,5 +1,5 @@
 -- A line sealed under its next counter together with its page's new path is one commit.
-use Rattle.std.proofs.Common.{ℕ, ◌≡◌, ◌≢◌, ◌<◌, ◌≤◌, ◌+◌, ◌%◌, ◌++◌, Bool, true, false, List, [], ◌∷◌, length, IsTrue, refl, sym, ap, ap₂, subst, ◌∙◌, arith}
+use Rattle.std.proofs.Common.{rules, ℕ, ◌≡◌, ◌≢◌, ◌<◌, ◌≤◌, ◌+◌, ◌%◌, Bool, true, false, List, [], ◌∷◌, length, IsTrue, refl, sym, ap, ap₂, subst, ◌∙◌, arith}
 use Rattle.std.specs.Prelude.{◌&&◌, ◌||◌}
 use Rattle.std.specs.List.{list_any}
 use Rattle.std.proofs.lemmas.Bool.{eq-eqb, lt-ltb}
@@ -95,18 +95,7 @@ module _ (setup : Setup) (at : ℕ) (plain tag_line : Line) (persisted : Bool) (
 
     is_sealed : IsGroup (layout.device_lines setup.shape) new.regs.group.items
         → IsSealed setup at ctr.minor next.cipher next.tag old.regs new.regs before after
-    is_sealed group =
-        record {
-          kept = record { data_lines = done.noted.data_lines; exhibit = done.noted.exhibit; loss = done.loss; group = group };
-          its_line = it.its_line;
-          its_minor = omega (arith, it.low);
-          its_cipher = done.fits.cipher_line;
-          its_tag = done.fits.its_tag;
-          tagged = ap (λ c. setup.formulas.tag_of at c next.cipher) (sym counter_is);
-          marks = done.noted.marks ∙ ap (λ c. before.marks ++ Seal at c next.cipher next.tag ∷ []) counter_is;
-          truth = tree;
-          progress = done.progress;
-        }
+    is_sealed group = search (rules, counter_is, tree)
 
     -- without its block in the group, what is stored of that is so of the new one
     unwritten : persisted ≡ false → (stored : Block) → IsStoredBlock old.regs.loss stored true_before

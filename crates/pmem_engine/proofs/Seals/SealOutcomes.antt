@@ -3,6 +3,7 @@ use Rattle.std.proofs.Common.{rules, ℕ, ◌≡◌, ◌<◌, ◌≤◌, ◌+◌
 use Rattle.std.specs.Prelude.{option_map, ◌↔◌, ◌==◌, if◌then◌else◌}
 use Rattle.std.specs.List.{list_any}
 use Rattle.std.proofs.lemmas.Bool.{true≢false, cond-true, cond-false}
+use Rattle.pmem_base.specs.declared.faults.Cut.{Cut}
 use Rattle.pmem_base.specs.declared.lines.Line.{Line}
 use Rattle.pmem_base.specs.declared.lines.Ctr.{Ctr}
 use Rattle.pmem_base.specs.declared.answers.Mark.{Mark}
@@ -18,7 +19,7 @@ use Rattle.split_counters.specs.Blocks.{packed, minor_of}
 use Rattle.bonsai_tree.specs.Positions.{counter_position}
 use Rattle.board.specs.Counts.{RisesBy}
 use Rattle.board.specs.Device.{Device, IsDevice}
-use Rattle.board.specs.Steps.{HasRead, WasCut, Tells}
+use Rattle.board.specs.Steps.{HasRead, WasCut}
 use Rattle.commit_regs.specs.Groups.{redone_told}
 use Rattle.seal_ledger.specs.Ledger.{LedgerState}
 use Rattle.meta_path.specs.Blocks.{IsPathCached, AreCachedTrue}
@@ -27,12 +28,11 @@ use Rattle.meta_path.specs.Work.{told_line}
 use Rattle.meta_path.specs.Storing.{IsRenewed}
 use Rattle.plain_model.specs.View.{plain_line}
 use Rattle.plain_model.specs.Bounds.{path_length}
-use Rattle.pmem_engine.specs.declared.fault.Fault.TheVariants as Fail
 use Rattle.pmem_engine.specs.declared.resealing.NextSeal.{NextSeal}
 use Rattle.pmem_engine.specs.Engine.{EngineState}
 use Rattle.pmem_engine.specs.Invariants.{IsTrusted, stored_meta}
 use Rattle.pmem_engine.specs.Parts.{Parts, parts_of, lines_redone, AreTrusted, meta_line_in}
-use Rattle.pmem_engine.specs.Outcomes.{going, cut_short, is_going, outcome_of, is_sealed_by, NeverFalls, OneLossEffect}
+use Rattle.pmem_engine.specs.Outcomes.{going, cut_short, is_sealed_by, NeverFalls, OneLossEffect}
 use Rattle.pmem_engine.specs.Calls.{IsUsable, IsPathNamedInMirror, is_persisting}
 use Rattle.pmem_engine.specs.Committing.{next_seal_of, HasCommitted, IsCutArmed}
 use Rattle.pmem_engine.specs.Inner.{cached_block}
@@ -56,10 +56,10 @@ module _ (setup : Setup) (at : ℕ) (plain : Line) (engine : EngineState) (old :
   start = parts_of engine old before tags digests
 
   -- the board was cut, and nothing done
-  pub seal_unread : (new : Device) (tags_now digests_now : ℕ) → tags_now ≡ tags → NeverFalls digests digests_now → WasCut old new
+  pub seal_unread : (new : Device) (tags_now digests_now : ℕ) → tags_now ≡ tags → NeverFalls digests digests_now → (cut : Cut) → WasCut old new
       → 4 ≤ seal_steps old.regs.loss (next_counter_of setup.shape engine at)
-      → HasSealedNext setup at plain start (parts_of engine new before tags_now digests_now) (Err Fail.Cut)
-  seal_unread new tags_now digests_now same_tags never_digests was some =
+      → HasSealedNext setup at plain start (parts_of engine new before tags_now digests_now) (Err cut)
+  seal_unread new tags_now digests_now same_tags never_digests cut was some =
       record {
         made = [];
         done =
@@ -168,35 +168,11 @@ module _ (setup : Setup) (at : ℕ) (plain tag_line : Line) (persisted : Bool) (
   plain_after : after.marks ≡ before.marks ++ mark ∷ [] → (a : ℕ)
       → plain_line setup.formulas after.marks a
       ≡ (if is_sealed_by (mark ∷ []) a then Some plain else plain_line setup.formulas before.marks a)
-  plain_after marks a = ap (λ ms. plain_line setup.formulas ms a) marks ∙ go (is_sealed_by (mark ∷ []) a) refl
-    where
-      go : (b : Bool) → is_sealed_by (mark ∷ []) a ≡ b
-          → plain_line setup.formulas (before.marks ++ mark ∷ []) a
-          ≡ cond (is_sealed_by (mark ∷ []) a) (Some plain) (plain_line setup.formulas before.marks a)
-      go true is =
-          subst (λ b. plain_line setup.formulas (before.marks ++ mark ∷ []) b ≡ Some plain)
-          (sym (sealed_here at a next.ctr next.cipher next.tag is))
-          (plain_line-sealed setup.formulas before.marks at ctr plain next.tag in_range is_ctr whole)
-          ∙ sym (cond-true (is_sealed_by (mark ∷ []) a) (Some plain) (plain_line setup.formulas before.marks a) is)
-      go false is =
-          plain_line-other setup.formulas before.marks at ctr next.cipher next.tag a
-          (unsealed_other at a next.ctr next.cipher next.tag is)
-          ∙ sym (cond-false (is_sealed_by (mark ∷ []) a) (Some plain) (plain_line setup.formulas before.marks a) is)
+  plain_after marks a = search (rules, cond-true, cond-false, plain_line-sealed, plain_line-other, sealed_here, unsealed_other)
 
   module _ (done : HasPathSealed setup.shape next persisted block lines root engine engine_now mid.regs new.regs before after) where
     is_sealing : IsPathSealing setup at tag_line persisted lines root engine mid
-    is_sealing =
-        record {
-          path = record { few = few; in_range = in_range; inside = omega (arith, inside); cached = cached; named = named; renewed = renewed };
-          its_line = inside;
-          low = minor_low;
-          tag_line_read = subst (λ o. Tells o (layout.tag_line setup.shape at) tag_line) (sym read.lines) read.tells;
-          rest =
-              search rules;
-          unarmed = mid_unarmed;
-          whole = device;
-          size = mid_size;
-        }
+    is_sealing = search (rules, mid_unarmed, mid_size)
 
     commit : IsCommit setup group mark (page_of at) persisted block middle final
     commit =
@@ -218,8 +194,8 @@ module _ (setup : Setup) (at : ℕ) (plain tag_line : Line) (persisted : Bool) (
         (read.lines ∙ sym (ap (λ items. redone_told items old.lines) was_unarmed ∙ redone-nil old.lines))
 
     -- cut while its group was armed
-    pub seal_cut : IsDevice new → IsCutArmed group mid new → HasSealedNext setup at plain first final (Err Fail.Cut)
-    seal_cut device_now armed =
+    pub seal_cut : (cut : Cut) → IsDevice new → IsCutArmed group mid new → HasSealedNext setup at plain first final (Err cut)
+    seal_cut cut device_now armed =
         record {
           made = mark ∷ [];
           done =
@@ -292,7 +268,7 @@ module _ (setup : Setup) (at : ℕ) (plain tag_line : Line) (persisted : Bool) (
                 digests = more_digests;
               };
           cache = done.stored.kept;
-          armed = λ cut. absurd (true≢false (ap (λ reply. is_going (outcome_of reply)) cut));
+          armed = λ cut. absurd (true≢false (sym cut));
           meta_lines =
               λ ok x within apart.
               committed_at group mid new (layout.meta_line setup.shape x)
@@ -319,8 +295,8 @@ module _ (setup : Setup) (at : ℕ) (plain tag_line : Line) (persisted : Bool) (
         path_named = kept_named setup.shape (page_of at) persisted lines engine engine_now done.stored cached named
 
   -- a cut before its group was armed
-  pub seal_undone : IsNothingDone engine engine_now mid new before after → HasSealedNext setup at plain first final (Err Fail.Cut)
-  seal_undone was =
+  pub seal_undone : (cut : Cut) → IsNothingDone engine engine_now mid new before after → HasSealedNext setup at plain first final (Err cut)
+  seal_undone cut was =
       record {
         made = [];
         done =
@@ -344,12 +320,16 @@ module _ (setup : Setup) (at : ℕ) (plain tag_line : Line) (persisted : Bool) (
         block_written = λ trusted ok. absurd (true≢false (sym ok));
       }
 
-  pub seal_cuts : IsDevice new
-      → IsSealCut setup.shape next persisted block lines root engine engine_now mid new before after
-      → HasSealedNext setup at plain first final (Err Fail.Cut)
-  seal_cuts device_now (inl was) = seal_undone was
-  seal_cuts device_now (inr was) = seal_cut was.path_sealed device_now was.device
-
-  pub seal_goes : HasSealCommitted setup.shape next persisted block lines root engine engine_now mid new before after
-      → HasSealedNext setup at plain first final (Ok ctr)
-  seal_goes was = seal_done was.path_sealed was.device
+  -- both exits
+  pub seal_exits : ((e : Cut) → IsDevice new → IsSealCut setup.shape next persisted block lines root engine engine_now mid new before after
+      → HasSealedNext setup at plain first final (Err e))
+      × (HasSealCommitted setup.shape next persisted block lines root engine engine_now mid new before after
+      → HasSealedNext setup at plain first final (Ok ctr))
+  seal_exits = (
+    λ e device_now cut.
+        elim cut [
+          | inl was ↦ seal_undone e was
+          | inr was ↦ seal_cut was.path_sealed e device_now was.device
+        ],
+    λ was. seal_done was.path_sealed was.device,
+  )

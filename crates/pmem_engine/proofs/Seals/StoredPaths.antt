@@ -1,5 +1,5 @@
 -- A page's new path stored in the cache and noted: the truth step that it makes, and what stays of its slots.
-use Rattle.std.proofs.Common.{rules, ℕ, ◌≡◌, ◌<◌, ◌≤◌, ◌+◌, ◌*◌, inl, inr, Bool, true, false, List, [], ◌∷◌, length, IsTrue, refl, sym, ap, ap₂, subst, subst₂, ◌∙◌, arith}
+use Rattle.std.proofs.Common.{rules, ℕ, ◌≡◌, ◌<◌, ◌≤◌, ◌+◌, ◌*◌, inl, inr, Bool, true, false, List, [], ◌∷◌, IsTrue, refl, sym, ap, ap₂, subst, ◌∙◌, arith}
 use Rattle.std.specs.Prelude.{not, ◌||◌, ◌==◌, nat_lt, option_map, unwrap_or, All, Contains}
 use Rattle.std.specs.List.{list_any}
 use Rattle.std.proofs.lemmas.Bool.{cases_Bool, cases_eq, and_parts, eq-eqb, eqb-true, eqb-false, true≢false, false≢true, lt-ltb, le-ltb}
@@ -8,7 +8,7 @@ use Rattle.pmem_base.specs.declared.registers.Regs.{Regs}
 use Rattle.pmem_base.specs.declared.answers.Mark.{Mark}
 use Rattle.pmem_base.specs.Shape.{Shape}
 use Rattle.pmem_base.specs.Layout.{meta_lines, pages}
-use Rattle.pmem_base.specs.Lines.{line_at, zero_line, put_lines}
+use Rattle.pmem_base.specs.Lines.{line_at, put_lines}
 use Rattle.suite.specs.Formulas.{Formulas, AreInRange}
 use Rattle.suite.specs.Setup.{Setup}
 use Rattle.split_counters.specs.declared.Block.{Block}
@@ -20,7 +20,7 @@ use Rattle.bonsai_tree.proofs.PathPositions.{on_path-level, path_of-on_path, pat
 use Rattle.seal_ledger.specs.Ledger.{LedgerState}
 use Rattle.shadow_tables.specs.Entries.{slot_entry}
 use Rattle.meta_cache.specs.declared.slot.Slot.{Slot}
-use Rattle.meta_cache.specs.Banks.{Banks, set_of, set_index, slot_number, is_cached, is_cached_dirty, IsBanksOf}
+use Rattle.meta_cache.specs.Banks.{Banks, set_of, set_index, slot_number, is_cached_dirty, IsBanksOf}
 use Rattle.meta_cache.specs.Sets.{slot_with}
 use Rattle.meta_cache.proofs.SlotLemmas.{All-stands, All-from_stands, dirty_slot, cached_slot, is_cached_dirty_from, slot_with-is}
 use Rattle.meta_path.specs.Blocks.{path_at, number_in, line_in}
@@ -47,22 +47,7 @@ use Rattle.pmem_engine.proofs.Laws.TruthSteps.{IsTruthStep}
 pub cached_true_line : (g : Shape) (cache : Banks) (truth : List Line) (page : ℕ) → IsBanksOf g cache
     → ((bank set : ℕ) → All (IsTrueSlot g truth bank set) (set_of cache bank set)) → meta.IsPathCached g cache page
     → line_in g cache g.levels (counter_position g page) ≡ line_at truth (counter_position g page)
-cached_true_line g cache truth page form true_slots cached =
-    at (cached_slot g cache g.levels (counter_position g page)
-    (ap (is_cached g cache g.levels) (sym (path_of-block g page)) ∙ cached.each g.levels (omega arith)))
-  where
-    at : (slot : Slot) × Contains (set_of cache g.levels (set_index g (counter_position g page))) slot
-        × (slot.position ≡ counter_position g page)
-        → line_in g cache g.levels (counter_position g page) ≡ line_at truth (counter_position g page)
-    at (slot, stands, its) =
-        ap (λ found. unwrap_or (option_map (λ s. s.line) found) zero_line)
-        (ap (slot_with (set_of cache g.levels (set_index g (counter_position g page)))) (sym its)
-        ∙ slot_with-is (set_of cache g.levels (set_index g (counter_position g page))) slot
-        (form.distinct_positions g.levels (set_index g (counter_position g page))) stands)
-        ∙ (All-stands (IsTrueSlot g truth g.levels (set_index g (counter_position g page)))
-        (set_of cache g.levels (set_index g (counter_position g page))) slot
-        (true_slots g.levels (set_index g (counter_position g page))) stands).true_line
-        ∙ ap (line_at truth) its
+cached_true_line g cache truth page form true_slots cached = search (rules, path_of-block, All-stands, cached_slot, slot_with-is)
 
 -- every cached line is
 pub cached_lines_true : (g : Shape) (cache : Banks) (truth : List Line)
@@ -114,12 +99,7 @@ module _ (setup : Setup) (page : ℕ) (new_block : Block) (lines : List (ℕ × 
 
   -- each level's new line is the true one of its position
   line_is : (j : ℕ) → j ≤ setup.shape.levels → new_line lines j ≡ line_at after.truth (path_at setup.shape page j)
-  line_is j le =
-      let h : j < length lines = omega (arith, le, length-path_lines g page lines it.path) in
-      let entries : All (λ entry. line_at after.truth entry.0 ≡ entry.1) lines =
-      subst₂ (λ t xs. All (λ entry. line_at t entry.0 ≡ entry.1) xs) (sym truth_is) (sym renewed_here.lines)
-      (path_with-entries g setup.formulas before.truth page (packed new_block) trusted.anchored.of_shape.truth_count path.inside) in
-      sym (entries j (0, zero_line) h) ∙ ap (line_at after.truth) (position_of g page lines j (0, zero_line) it.path h)
+  line_is j le = search (rules, path_with-entries, length-path_lines, position_of, renewed_here, truth_is)
 
   -- a slot is in the bank of its level
   its_own : (bank set : ℕ) (slot : Slot) → Contains (set_of old.cache bank set) slot
@@ -306,14 +286,7 @@ module _ (setup : Setup) (page : ℕ) (new_block : Block) (lines : List (ℕ × 
   named_now : ((bank set : ℕ) → All (IsDirtyNamed setup.shape old.mirror bank set) (set_of old.cache bank set)) → (bank set : ℕ)
       (slot : Slot) → slot.dirty ≡ true → IsSlotOfStoredPath setup.shape after.truth page (set_of old.cache bank set) slot
       → IsSlotInShadow setup.shape old.mirror bank set slot
-  named_now named bank set slot dirty from =
-      subst₂ (λ way x. slot_entry g old.mirror bank (set * g.ways + way) ≡ x + 1) from.way from.position
-      (elim (cases_Bool (is_on_path g page slot.position)) [
-        | inl on ↦ slots_named.each bank set from.before from.stands (ap (is_on_path g page) from.position ∙ on)
-        | inr off ↦
-            All-stands (IsDirtyNamed g old.mirror bank set) (set_of old.cache bank set) from.before (named bank set) from.stands
-            ((from.off_path off).1 dirty)
-      ])
+  named_now named bank set slot dirty from = search (rules, cases_Bool, All-stands, slots_named)
 
   -- a mark that may leave the path dirty, whose seal without the block keeps what is stored of that
   pub new_path_step : (loss : ℕ) → IsTrue (list_any (is_touching page) (mark ∷ []))

@@ -2,7 +2,6 @@
 use Rattle.std.proofs.Common.{◌≡◌, ◌<◌, ◌+◌, ◌∙◌, Result, Ok, Err, refl, sym, ap, subst}
 use Rattle.std.specs.Prelude.{is_ok}
 use Rattle.std.proofs.lemmas.Bool.{false≢true}
-use Rattle.std.proofs.lemmas.Result.{err_from_is_err_and}
 use Rattle.pmem_base.specs.Layout.{pages, device_lines}
 use Rattle.pmem_base.specs.Geo.{shape_of}
 use Rattle.pmem_base.specs.Shape.{Shape}
@@ -11,11 +10,10 @@ use Rattle.board.specs.Device.{Device}
 use Rattle.meta_cache.specs.State.{CacheState, IsCacheOf}
 use Rattle.meta_path.specs.Fetching.{IsFetchedTo, IsPathFault}
 use Rattle.meta_path.specs.declared.faults.PathFault.{PathFault}
-use Rattle.pmem_engine.specs.declared.fault.Fault.{Fault}
 use Rattle.pmem_engine.specs.Engine.{EngineState}
 use Rattle.pmem_engine.specs.Parts.{parts_of}
-use Rattle.pmem_engine.specs.Outcomes.{fault_of_path}
 use Rattle.pmem_engine.specs.Inner.{HasFetched}
+use Rattle.pmem_engine.proofs.CallEnds.ErrorAnswers.{is_err_of}
 use Rattle.pmem_engine.proofs.CheckedReads.FetchCalls.{of_states, fetch_ok, fetch_err}
 use Rattle.pmem_engine.proofs.engine.Engine.fetch.Goals as goal
 
@@ -61,8 +59,7 @@ returns-in_err-fetch_path-clause-fetched g c =
     let its_size : before.size ≡ device_lines shape = c.requires.size ∙ ap (λ (e : EngineState). device_lines e.shape) (sym c.self.view_is) in
     let shapes : c.fetch_path.new.cache.shape ≡ shape = c.fetch_path.ensures.shape ∙ c.self.invariant.0 in
     let fault : PathFault = c.in_err-fetch_path.field-0.0 in
-    let answer = err_from_is_err_and c.from_residual.result c.from_residual.ensures.1 in
-    let same : c.from_residual.result ≡ Err (fault_of_path fault) = answer.1 ∙ ap (λ (f : Fault). Err f) answer.2 in
+    let same : c.from_residual.result ≡ Err fault = is_err_of c.from_residual.result fault c.from_residual.ensures.1 in
     subst
     (λ (e : EngineState). HasFetched (record { shape = e.shape; formulas = setup.formulas }) c.args.page
     (parts_of e before (g.A.Audit.ledger c.args.audit.now) (g.S.Suite.tags c.args.suite.now) (g.S.Suite.digests c.args.suite.now))
@@ -71,7 +68,7 @@ returns-in_err-fetch_path-clause-fetched g c =
     c.from_residual.result)
     c.self.view_is
     (subst
-    (λ (answer : Result Unit Fault). HasFetched setup c.args.page
+    (λ (answer : Result Unit PathFault). HasFetched setup c.args.page
     (parts_of old before (g.A.Audit.ledger c.args.audit.now) (g.S.Suite.tags c.args.suite.now) (g.S.Suite.digests c.args.suite.now))
     (parts_of new after (g.A.Audit.ledger c.fetch_path.new.audit) (g.S.Suite.tags c.fetch_path.new.suite)
     (g.S.Suite.digests c.fetch_path.new.suite))

@@ -4,7 +4,7 @@ use Rattle.std.proofs.lemmas.List.{get_or_default}
 use Rattle.pmem_base.specs.declared.registers.Progress.{Progress}
 use Rattle.pmem_base.specs.Registers.{not_done, empty_progress}
 use Rattle.suite.specs.Setup.{Setup}
-use Rattle.pmem_engine.specs.Parts.{Parts, parts_of}
+use Rattle.pmem_engine.specs.Parts.{Parts, parts_of, setup_at}
 use Rattle.pmem_engine.specs.Resealing.{register_in, HasResealed}
 use Rattle.pmem_engine.specs.Writing.{HasFinishedPage}
 use Rattle.pmem_engine.proofs.CallEnds.ErrorAnswers.{is_err_of}
@@ -22,7 +22,7 @@ no_register = record { page = 0; old = record { 0 = [] }; done = 0 }
 
 module _ (g : Over) (c : After-left-lines g) where
   abbrev setup : Setup
-  setup = record { shape = c.args.self.now.shape; formulas = g.S.Suite.formulas_of (g.S.Suite.keys c.args.suite.now) }
+  setup = setup_at g.S.Suite c.args.self.now c.args.suite.now
 
   -- the parts at a moment of the call
   abbrev at : g.row.B.Denot → g.row.S.Denot → g.row.A.Denot → Parts

@@ -14,7 +14,7 @@ returns-clause-flushed g c = λ setup ledger tags digests shape.
     (λ (engine : EngineState) (answer : Result (Option ℕ) Fault). HasFlushed setup
     (parts_of c.args.self.now (g.B.Board.device c.args.board.now) ledger tags digests)
     (parts_of engine (g.B.Board.device c.write_back-answer.new.board) ledger tags digests) answer)
-    (sym c.ended.ensures.engine) (sym c.ended.ensures.answer)
+    (sym c.ended_or_cut.ensures.engine) (sym c.ended_or_cut.ensures.answer)
     (flushed setup c.args.self.now c.write_back-answer.new.self (g.B.Board.device c.args.board.now)
     (g.B.Board.device c.write_back-answer.new.board) ledger tags digests (sym shape)
     (c.requires.ready.its_size ∙ ap device_lines (sym shape)) (g.met.B.Board.whole c.args.board.now)

@@ -1,7 +1,8 @@
 -- The path was named, or a cut came before one of its entries was written.
-use Rattle.std.proofs.Common.{◌≡◌, ◌<◌, ◌≤◌, ◌+◌, ◌∙◌, List, Result, Ok, Err, ℕ, refl, sym, ap, subst, subst₂}
+use Rattle.std.proofs.Common.{◌≡◌, ◌<◌, ◌≤◌, ◌+◌, ◌∙◌, List, Result, Ok, ℕ, refl, sym, ap, subst, subst₂}
 use Rattle.std.specs.Prelude.{All, length}
 use Rattle.std.proofs.lemmas.Result.{err_from_is_err_and}
+use Rattle.pmem_base.specs.declared.faults.Cut.{Cut}
 use Rattle.pmem_base.specs.declared.lines.Line.{Line}
 use Rattle.pmem_base.specs.Shape.{Shape}
 use Rattle.pmem_base.specs.Geo.{shape_of}
@@ -12,8 +13,6 @@ use Rattle.meta_cache.specs.Banks.{Banks, IsBanksOf}
 use Rattle.meta_cache.specs.State.{IsCacheOf}
 use Rattle.meta_path.specs.Blocks.{IsPathCached}
 use Rattle.meta_path.specs.Naming.{IsNamedTo, IsNamingCut, named_path}
-use Rattle.pmem_engine.specs.declared.fault.Fault.{Fault}
-use Rattle.pmem_engine.specs.declared.fault.Fault.TheVariants as Fail
 use Rattle.pmem_engine.specs.Engine.{EngineState}
 use Rattle.pmem_engine.specs.Parts.{parts_of}
 use Rattle.pmem_engine.specs.Inner.{HasNamedPath}
@@ -88,11 +87,10 @@ returns-in_err-make_dirty-clause-named g c = λ setup ledger tags digests same.
     subst₂ (λ (s : Shape) (banks : Banks). IsPathCached s banks c.args.page) (sym same)
     (ap (λ (e : EngineState). e.cache) (sym c.self.view_is)) c.requires.cached in
     let answer = err_from_is_err_and c.from_residual.result c.from_residual.ensures.1 in
-    let cut_is : c.from_residual.result ≡ Err Fail.Cut = answer.1 ∙ ap (λ (f : Fault). Err f) answer.2 in
     subst₂
-    (λ (e : EngineState) (answer : Result Unit Fault). HasNamedPath setup c.args.page (parts_of e before ledger tags digests)
+    (λ (e : EngineState) (answer : Result Unit Cut). HasNamedPath setup c.args.page (parts_of e before ledger tags digests)
     (parts_of new after ledger tags digests) answer)
-    c.self.view_is (sym cut_is)
+    c.self.view_is (sym answer.1)
     (path_cut setup c.args.page old new before after ledger tags digests its refl refl refl its_page
     (subst (λ (s : Shape). s.levels ≤ 6) its c.self.inside.geo.has_levels.1)
     (subst (λ (s : Shape). 1 ≤ s.sets) its c.self.inside.geo.has_sets.0)
@@ -100,6 +98,6 @@ returns-in_err-make_dirty-clause-named g c = λ setup ledger tags digests same.
     (subst (λ (s : Shape). IsBanksOf s old.cache) (c.self.invariant.0 ∙ its) c.are_banks.ensures.banks)
     cached
     (subst (λ (s : Shape). IsMirror s old.mirror) its (record { long = c.self.invariant.2; whole = c.self.invariant.3 }))
-    (c.requires.size ∙ ap (λ (s : Shape). device_lines s) (sym same)) (g.met.B.Board.whole c.args.board.now)
+    (c.requires.size ∙ ap (λ (s : Shape). device_lines s) (sym same)) (g.met.B.Board.whole c.args.board.now) answer.0
     (subst (λ (s : Shape). IsNamingCut s old.cache c.args.page old.mirror new.mirror before after) its
     c.in_err-make_dirty.ensures.cut))

@@ -2,8 +2,8 @@
 use Rattle.std.proofs.Common.{◌<◌, Result, Ok, Err, sym, subst, arith}
 use Rattle.pmem_base.specs.declared.lines.Line.{Line}
 use Rattle.suite.specs.Setup.{Setup}
-use Rattle.pmem_engine.specs.declared.fault.Fault.{Fault}
-use Rattle.pmem_engine.specs.Parts.{Parts, parts_of}
+use Rattle.pmem_engine.specs.declared.fault.LineFault.{LineFault}
+use Rattle.pmem_engine.specs.Parts.{Parts, parts_at, setup_at}
 use Rattle.pmem_engine.specs.Writing.{HasMadePlain}
 use Rattle.pmem_engine.proofs.CallEnds.ErrorAnswers.{is_err_of}
 use Rattle.pmem_engine.proofs.PostedWrites.PlainMakings.{plain_whole, plain_unsealed}
@@ -11,21 +11,15 @@ use Rattle.pmem_engine.proofs.engine.Engine.plain_after.Goals as goal
 
 pub returns-then-write-eq64-clause-made : goal.returns-then-write-eq64-clause-made
 returns-then-write-eq64-clause-made g c =
-    let setup : Setup = record { shape = c.args.self.now.shape; formulas = g.S.Suite.formulas_of (g.S.Suite.keys c.args.suite.now) } in
-    let old : Parts =
-    parts_of c.args.self.now (g.B.Board.device c.args.board.now) (g.A.Audit.ledger c.args.audit.now) (g.S.Suite.tags c.args.suite.now)
-    (g.S.Suite.digests c.args.suite.now) in
+    let setup : Setup = setup_at g.S.Suite c.args.self.now c.args.suite.now in
+    let old : Parts = parts_at g.B.Board g.S.Suite g.A.Audit c.args.self.now c.args.board.now c.args.suite.now c.args.audit.now in
     plain_whole setup c.args.write.now old c.requires.posted c.if-write-eq64.true
 
 pub returns-clause-made : goal.returns-clause-made
 returns-clause-made g c =
-    let setup : Setup = record { shape = c.args.self.now.shape; formulas = g.S.Suite.formulas_of (g.S.Suite.keys c.args.suite.now) } in
-    let old : Parts =
-    parts_of c.args.self.now (g.B.Board.device c.args.board.now) (g.A.Audit.ledger c.args.audit.now) (g.S.Suite.tags c.args.suite.now)
-    (g.S.Suite.digests c.args.suite.now) in
-    let new : Parts =
-    parts_of c.args.self.now (g.B.Board.device c.unseal_line.new.board) (g.A.Audit.ledger c.unseal_line.new.audit)
-    (g.S.Suite.tags c.unseal_line.new.suite) (g.S.Suite.digests c.unseal_line.new.suite) in
+    let setup : Setup = setup_at g.S.Suite c.args.self.now c.args.suite.now in
+    let old : Parts = parts_at g.B.Board g.S.Suite g.A.Audit c.args.self.now c.args.board.now c.args.suite.now c.args.audit.now in
+    let new : Parts = parts_at g.B.Board g.S.Suite g.A.Audit c.args.self.now c.unseal_line.new.board c.unseal_line.new.suite c.unseal_line.new.audit in
     let shorter : c.args.write.now.len < 64 =
     (let other = c.if-write-eq64.false in
     let inside = c.requires.posted.inside in
@@ -37,18 +31,14 @@ returns-clause-made g c =
 
 pub returns-in_err-unsealed-clause-made : goal.returns-in_err-unsealed-clause-made
 returns-in_err-unsealed-clause-made g c =
-    let setup : Setup = record { shape = c.args.self.now.shape; formulas = g.S.Suite.formulas_of (g.S.Suite.keys c.args.suite.now) } in
-    let old : Parts =
-    parts_of c.args.self.now (g.B.Board.device c.args.board.now) (g.A.Audit.ledger c.args.audit.now) (g.S.Suite.tags c.args.suite.now)
-    (g.S.Suite.digests c.args.suite.now) in
-    let new : Parts =
-    parts_of c.args.self.now (g.B.Board.device c.unseal_line.new.board) (g.A.Audit.ledger c.unseal_line.new.audit)
-    (g.S.Suite.tags c.unseal_line.new.suite) (g.S.Suite.digests c.unseal_line.new.suite) in
+    let setup : Setup = setup_at g.S.Suite c.args.self.now c.args.suite.now in
+    let old : Parts = parts_at g.B.Board g.S.Suite g.A.Audit c.args.self.now c.args.board.now c.args.suite.now c.args.audit.now in
+    let new : Parts = parts_at g.B.Board g.S.Suite g.A.Audit c.args.self.now c.unseal_line.new.board c.unseal_line.new.suite c.unseal_line.new.audit in
     let shorter : c.args.write.now.len < 64 =
     (let other = c.if-write-eq64.false in
     let inside = c.requires.posted.inside in
     omega (arith, other, inside)) in
-    subst (λ (answer : Result Line Fault). HasMadePlain setup c.args.write.now old new answer)
+    subst (λ (answer : Result Line LineFault). HasMadePlain setup c.args.write.now old new answer)
     (sym (is_err_of c.from_residual.result c.in_err-unsealed.field-0.0 c.from_residual.ensures.1))
     (plain_unsealed setup c.args.write.now c.counter-ctr.result old new shorter
     (λ trusted cached. c.counter-ctr.ensures.last setup (g.A.Audit.ledger c.args.audit.now) trusted cached)

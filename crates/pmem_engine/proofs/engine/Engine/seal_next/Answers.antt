@@ -1,29 +1,32 @@
 -- The tag line isn't read, or the seal is cut, or done.
-use Rattle.std.proofs.Common.{ℕ, ◌≡◌, ◌≤◌, ◌%◌, IsTrue, Ok, sym, ap, subst, subst₂, ◌∙◌}
+use Rattle.std.proofs.Common.{ℕ, ◌≡◌, ◌≤◌, ◌%◌, IsTrue, Ok, Err, sym, ap, subst, subst₂, ◌∙◌}
 use Rattle.std.specs.Prelude.{◌↔◌}
+use Rattle.pmem_base.specs.declared.lines.Line.{Line}
+use Rattle.pmem_base.specs.declared.faults.Cut.{Cut}
 use Rattle.pmem_base.specs.declared.lines.Ctr.{Ctr}
 use Rattle.pmem_base.specs.Counts.{risen, risen_times}
 use Rattle.pmem_base.specs.Layout as layout
 use Rattle.pmem_base.specs.Layout.{page_of}
 use Rattle.pmem_base.specs.Lines.{IsCtr}
 use Rattle.suite.specs.Setup.{Setup}
-use Rattle.board.specs.Device.{Device}
+use Rattle.board.specs.Device.{Device, IsDevice}
 use Rattle.board.specs.Steps.{HasRead}
 use Rattle.plain_model.specs.Bounds.{path_length}
 use Rattle.seal_ledger.specs.Ledger.{LedgerState}
 use Rattle.split_counters.specs.Blocks.{packed}
 use Rattle.meta_path.specs.Blocks.{AreCachedTrue}
 use Rattle.meta_path.specs.Storing.{IsRenewed}
-use Rattle.pmem_engine.specs.declared.fault.Fault.TheVariants as Fail
 use Rattle.pmem_engine.specs.declared.resealing.NextSeal.{NextSeal}
 use Rattle.pmem_engine.specs.Engine.{EngineState}
 use Rattle.pmem_engine.specs.Outcomes.{NeverFalls}
-use Rattle.pmem_engine.specs.Parts.{parts_of}
+use Rattle.pmem_engine.specs.Parts.{Parts, parts_of}
 use Rattle.pmem_engine.specs.Committing.{next_seal_of}
 use Rattle.pmem_engine.specs.Sealing.{next_counter_of, raised_block, HasSealCommitted, IsSealCut, HasSealedNext}
 use Rattle.pmem_engine.proofs.CallEnds.ErrorAnswers.{is_err_of}
 use Rattle.pmem_engine.proofs.Seals.NextPaths.{times_never_fall}
-use Rattle.pmem_engine.proofs.Seals.SealOutcomes.{seal_unread, some_steps, seal_cuts, seal_goes}
+use Rattle.pmem_engine.proofs.Seals.SealOutcomes.{seal_unread, some_steps, seal_exits}
+use Rattle.pmem_engine.proofs.engine.Engine.seal_next.Given.{Over}
+use Rattle.pmem_engine.proofs.engine.Engine.seal_next.Goals.{After-commit_seal}
 use Rattle.pmem_engine.proofs.engine.Engine.seal_next.Goals as goal
 
 pub returns-in_err-tag_line-clause-sealed : goal.returns-in_err-tag_line-clause-sealed
@@ -36,119 +39,112 @@ returns-in_err-tag_line-clause-sealed g c =
     (HasSealedNext setup c.args.at c.args.plain.now
     (parts_of c.args.self.now old before (g.S.Suite.tags c.args.suite.now) (g.S.Suite.digests c.args.suite.now))
     (parts_of c.args.self.now new before (g.S.Suite.tags c.next_path-path.new.suite) (g.S.Suite.digests c.next_path-path.new.suite)))
-    (sym (is_err_of c.from_residual.result Fail.Cut c.from_residual.ensures.1))
+    (sym (is_err_of c.from_residual.result c.in_err-tag_line.field-0.0 c.from_residual.ensures.1))
     (seal_unread setup c.args.at c.args.plain.now c.args.self.now old before (g.S.Suite.tags c.args.suite.now)
     (g.S.Suite.digests c.args.suite.now) c.requires.usable c.requires.up new (g.S.Suite.tags c.next_path-path.new.suite)
     (g.S.Suite.digests c.next_path-path.new.suite) c.next_path-path.ensures.tags
     (subst (λ (n : ℕ). NeverFalls (g.S.Suite.digests c.args.suite.now) n) (sym c.next_path-path.ensures.digests)
     (times_never_fall _ (g.S.Suite.digests c.args.suite.now)))
-    c.in_err-tag_line.ensures.cut
+    c.in_err-tag_line.field-0.0 c.in_err-tag_line.ensures.cut
     (some_steps old.regs.loss (next_counter_of setup.shape c.args.self.now c.args.at)))
+
+-- ---- after the commit
+
+module _ (g : Over) (c : After-commit_seal g) where
+  abbrev setup : Setup
+  setup = record { shape = c.args.self.now.shape; formulas = g.S.Suite.formulas_of (g.S.Suite.keys c.args.suite.now) }
+
+  abbrev old : Parts
+  old =
+      parts_of c.args.self.now (g.B.Board.device c.args.board.now) (g.A.Audit.ledger c.args.audit.now) (g.S.Suite.tags c.args.suite.now)
+      (g.S.Suite.digests c.args.suite.now)
+
+  abbrev mid : Device
+  mid = g.B.Board.device c.read_line.new.self
+
+  abbrev new : Parts
+  new =
+      parts_of c.commit_seal.new.self (g.B.Board.device c.commit_seal.new.board) (g.A.Audit.ledger c.commit_seal.new.audit)
+      (g.S.Suite.tags c.next_seal-next.new.suite) (g.S.Suite.digests c.next_seal-next.new.suite)
+
+  abbrev next : NextSeal
+  next =
+      next_seal_of setup.formulas c.args.at (next_counter_of setup.shape c.args.self.now c.args.at) c.args.plain.now
+      c.in_ok-tag_line.tag_line
+
+  abbrev block : Line
+  block = packed (raised_block setup.shape c.args.self.now c.args.at)
+
+  ctr : c.next_counter.result.0 ≡ next_counter_of setup.shape c.args.self.now c.args.at
+  ctr = c.next_counter.ensures.ctr
+
+  block_is : c.next_counter.result.1 ≡ packed (raised_block setup.shape c.args.self.now c.args.at)
+  block_is = c.next_counter.ensures.block
+
+  read : HasRead old.device (layout.tag_line setup.shape c.args.at) c.in_ok-tag_line.tag_line mid
+  read =
+      subst (λ n. HasRead old.device n c.in_ok-tag_line.tag_line mid)
+      (c.tag_line.ensures.value ∙ ap (λ (e : EngineState). layout.tag_line e.shape c.args.at) c.self.view_is) c.in_ok-tag_line.ensures.ok
+
+  sealing : c.next_seal-next.result ≡ next
+  sealing =
+      c.next_seal-next.ensures.seal
+      ∙ ap
+      (λ keys. next_seal_of (g.S.Suite.formulas_of keys) c.args.at c.next_counter.result.0 c.args.plain.now c.in_ok-tag_line.tag_line)
+      c.next_path-path.ensures.keys
+      ∙ ap (λ x. next_seal_of setup.formulas c.args.at x c.args.plain.now c.in_ok-tag_line.tag_line) ctr
+
+  due : IsTrue c.due-persisted.result ↔ ((next_counter_of setup.shape c.args.self.now c.args.at).minor % old.device.regs.loss ≡ 0)
+  due =
+      subst₂ (λ (x : Ctr) (n : ℕ). IsTrue c.due-persisted.result ↔ (x.minor % n ≡ 0)) ctr
+      (ap (λ regs. regs.loss) (c.regs.ensures ∙ read.regs)) c.due-persisted.ensures
+
+  exits : ((e : Cut) → IsDevice new.device → IsSealCut setup.shape next c.due-persisted.result block c.next_path-path.result.lines.items
+      c.next_path-path.result.root old.engine new.engine mid new.device old.ledger new.ledger
+      → HasSealedNext setup c.args.at c.args.plain.now old new (Err e))
+      × (HasSealCommitted setup.shape next c.due-persisted.result block c.next_path-path.result.lines.items
+      c.next_path-path.result.root old.engine new.engine mid new.device old.ledger new.ledger
+      → HasSealedNext setup c.args.at c.args.plain.now old new (Ok (next_counter_of setup.shape c.args.self.now c.args.at)))
+  exits =
+      seal_exits setup c.args.at c.args.plain.now c.in_ok-tag_line.tag_line c.due-persisted.result old.engine new.engine old.device mid
+      new.device old.ledger new.ledger old.tags old.digests new.tags new.digests c.next_path-path.result.lines.items
+      c.next_path-path.result.root c.requires.usable c.requires.up
+      (subst (λ (e : EngineState). e.shape.levels ≤ 6) c.self.view_is c.self.inside.geo.has_levels.1)
+      (g.met.S.Suite.in_range c.args.suite.now) c.requires.line c.is_whole.ensures c.requires.cached c.requires.named c.requires.minor
+      (subst IsCtr ctr c.next_counter.ensures.range)
+      (λ truth is.
+      subst
+      (λ line. IsRenewed setup.shape setup.formulas truth (page_of c.args.at) line c.next_path-path.result.lines.items
+      c.next_path-path.result.root)
+      block_is
+      (subst
+      (λ (e : EngineState). AreCachedTrue e.cache truth → IsRenewed e.shape setup.formulas truth (page_of c.args.at)
+      c.next_counter.result.1 c.next_path-path.result.lines.items c.next_path-path.result.root)
+      c.self.view_is (c.next_path-path.ensures.on_truth truth) is))
+      read due (c.next_seal-next.ensures.tags ∙ ap risen c.next_path-path.ensures.tags)
+      (c.next_seal-next.ensures.digests ∙ c.next_path-path.ensures.digests
+      ∙ ap (λ (e : EngineState). risen_times (path_length e.shape) (g.S.Suite.digests c.args.suite.now)) c.self.view_is)
+      (g.met.B.Board.whole c.read_line.new.self)
 
 pub returns-in_err-commit_seal-clause-sealed : goal.returns-in_err-commit_seal-clause-sealed
 returns-in_err-commit_seal-clause-sealed g c =
-    let setup : Setup = record { shape = c.args.self.now.shape; formulas = g.S.Suite.formulas_of (g.S.Suite.keys c.args.suite.now) } in
-    let old : Device = g.B.Board.device c.args.board.now in
-    let mid : Device = g.B.Board.device c.read_line.new.self in
-    let new : Device = g.B.Board.device c.commit_seal.new.board in
-    let before : LedgerState = g.A.Audit.ledger c.args.audit.now in
-    let after : LedgerState = g.A.Audit.ledger c.commit_seal.new.audit in
-    let ctr : c.next_counter.result.0 ≡ next_counter_of setup.shape c.args.self.now c.args.at = c.next_counter.ensures.ctr in
-    let block : c.next_counter.result.1 ≡ packed (raised_block setup.shape c.args.self.now c.args.at) = c.next_counter.ensures.block in
-    let read : HasRead old (layout.tag_line setup.shape c.args.at) c.in_ok-tag_line.tag_line mid =
-    subst (λ n. HasRead old n c.in_ok-tag_line.tag_line mid)
-    (c.tag_line.ensures.value ∙ ap (λ (e : EngineState). layout.tag_line e.shape c.args.at) c.self.view_is) c.in_ok-tag_line.ensures.ok in
-    let sealing : c.next_seal-next.result
-    ≡ next_seal_of setup.formulas c.args.at (next_counter_of setup.shape c.args.self.now c.args.at) c.args.plain.now
-    c.in_ok-tag_line.tag_line =
-    c.next_seal-next.ensures.seal
-    ∙ ap
-    (λ keys. next_seal_of (g.S.Suite.formulas_of keys) c.args.at c.next_counter.result.0 c.args.plain.now c.in_ok-tag_line.tag_line)
-    c.next_path-path.ensures.keys
-    ∙ ap (λ x. next_seal_of setup.formulas c.args.at x c.args.plain.now c.in_ok-tag_line.tag_line) ctr in
-    let due : IsTrue c.due-persisted.result ↔ ((next_counter_of setup.shape c.args.self.now c.args.at).minor % old.regs.loss ≡ 0) =
-    subst₂ (λ (x : Ctr) (n : ℕ). IsTrue c.due-persisted.result ↔ (x.minor % n ≡ 0)) ctr
-    (ap (λ regs. regs.loss) (c.regs.ensures ∙ read.regs)) c.due-persisted.ensures in
-    subst
-    (HasSealedNext setup c.args.at c.args.plain.now
-    (parts_of c.args.self.now old before (g.S.Suite.tags c.args.suite.now) (g.S.Suite.digests c.args.suite.now))
-    (parts_of c.commit_seal.new.self new after (g.S.Suite.tags c.next_seal-next.new.suite) (g.S.Suite.digests c.next_seal-next.new.suite)))
-    (sym (is_err_of c.from_residual-in_err-commit_seal.result Fail.Cut c.from_residual-in_err-commit_seal.ensures.1))
-    (seal_cuts setup c.args.at c.args.plain.now c.in_ok-tag_line.tag_line c.due-persisted.result c.args.self.now c.commit_seal.new.self old mid new
-    before after (g.S.Suite.tags c.args.suite.now) (g.S.Suite.digests c.args.suite.now) (g.S.Suite.tags c.next_seal-next.new.suite)
-    (g.S.Suite.digests c.next_seal-next.new.suite) c.next_path-path.result.lines.items c.next_path-path.result.root
-    c.requires.usable c.requires.up (subst (λ (e : EngineState). e.shape.levels ≤ 6) c.self.view_is c.self.inside.geo.has_levels.1)
-    (g.met.S.Suite.in_range c.args.suite.now) c.requires.line c.is_whole.ensures c.requires.cached c.requires.named c.requires.minor
-    (subst IsCtr ctr c.next_counter.ensures.range)
-    (λ truth is.
-    subst
-    (λ line. IsRenewed setup.shape setup.formulas truth (page_of c.args.at) line c.next_path-path.result.lines.items
-    c.next_path-path.result.root)
-    block
-    (subst
-    (λ (e : EngineState). AreCachedTrue e.cache truth → IsRenewed e.shape setup.formulas truth (page_of c.args.at)
-    c.next_counter.result.1 c.next_path-path.result.lines.items c.next_path-path.result.root)
-    c.self.view_is (c.next_path-path.ensures.on_truth truth) is))
-    read due (c.next_seal-next.ensures.tags ∙ ap risen c.next_path-path.ensures.tags)
-    (c.next_seal-next.ensures.digests ∙ c.next_path-path.ensures.digests
-    ∙ ap (λ (e : EngineState). risen_times (path_length e.shape) (g.S.Suite.digests c.args.suite.now)) c.self.view_is)
-    (g.met.B.Board.whole c.read_line.new.self)
-    (g.met.B.Board.whole c.commit_seal.new.board)
+    let end : After-commit_seal g = (goal.at.returns-in_err-commit_seal-clause-sealed g c).After-commit_seal in
+    subst (HasSealedNext (setup g end) c.args.at c.args.plain.now (old g end) (new g end))
+    (sym (is_err_of c.from_residual-in_err-commit_seal.result c.in_err-commit_seal.field-0.0 c.from_residual-in_err-commit_seal.ensures.1))
+    ((exits g end).0 c.in_err-commit_seal.field-0.0 (g.met.B.Board.whole c.commit_seal.new.board)
     (subst₂
-    (λ (next : NextSeal) line. IsSealCut setup.shape next c.due-persisted.result line c.next_path-path.result.lines.items
-    c.next_path-path.result.root c.args.self.now c.commit_seal.new.self mid new before after)
-    sealing block c.in_err-commit_seal.ensures.cut))
+    (λ (next : NextSeal) line. IsSealCut c.args.self.now.shape next c.due-persisted.result line c.next_path-path.result.lines.items
+    c.next_path-path.result.root c.args.self.now c.commit_seal.new.self (mid g end) (new g end).device (old g end).ledger
+    (new g end).ledger)
+    (sealing g end) (block_is g end) c.in_err-commit_seal.ensures.cut))
 
 pub returns-clause-sealed : goal.returns-clause-sealed
 returns-clause-sealed g c =
-    let setup : Setup = record { shape = c.args.self.now.shape; formulas = g.S.Suite.formulas_of (g.S.Suite.keys c.args.suite.now) } in
-    let old : Device = g.B.Board.device c.args.board.now in
-    let mid : Device = g.B.Board.device c.read_line.new.self in
-    let new : Device = g.B.Board.device c.commit_seal.new.board in
-    let before : LedgerState = g.A.Audit.ledger c.args.audit.now in
-    let after : LedgerState = g.A.Audit.ledger c.commit_seal.new.audit in
-    let ctr : c.next_counter.result.0 ≡ next_counter_of setup.shape c.args.self.now c.args.at = c.next_counter.ensures.ctr in
-    let block : c.next_counter.result.1 ≡ packed (raised_block setup.shape c.args.self.now c.args.at) = c.next_counter.ensures.block in
-    let read : HasRead old (layout.tag_line setup.shape c.args.at) c.in_ok-tag_line.tag_line mid =
-    subst (λ n. HasRead old n c.in_ok-tag_line.tag_line mid)
-    (c.tag_line.ensures.value ∙ ap (λ (e : EngineState). layout.tag_line e.shape c.args.at) c.self.view_is) c.in_ok-tag_line.ensures.ok in
-    let sealing : c.next_seal-next.result
-    ≡ next_seal_of setup.formulas c.args.at (next_counter_of setup.shape c.args.self.now c.args.at) c.args.plain.now
-    c.in_ok-tag_line.tag_line =
-    c.next_seal-next.ensures.seal
-    ∙ ap
-    (λ keys. next_seal_of (g.S.Suite.formulas_of keys) c.args.at c.next_counter.result.0 c.args.plain.now c.in_ok-tag_line.tag_line)
-    c.next_path-path.ensures.keys
-    ∙ ap (λ x. next_seal_of setup.formulas c.args.at x c.args.plain.now c.in_ok-tag_line.tag_line) ctr in
-    let due : IsTrue c.due-persisted.result ↔ ((next_counter_of setup.shape c.args.self.now c.args.at).minor % old.regs.loss ≡ 0) =
-    subst₂ (λ (x : Ctr) (n : ℕ). IsTrue c.due-persisted.result ↔ (x.minor % n ≡ 0)) ctr
-    (ap (λ regs. regs.loss) (c.regs.ensures ∙ read.regs)) c.due-persisted.ensures in
-    subst
-    (λ x. HasSealedNext setup c.args.at c.args.plain.now
-    (parts_of c.args.self.now old before (g.S.Suite.tags c.args.suite.now) (g.S.Suite.digests c.args.suite.now))
-    (parts_of c.commit_seal.new.self new after (g.S.Suite.tags c.next_seal-next.new.suite) (g.S.Suite.digests c.next_seal-next.new.suite))
-    (Ok x))
-    (sym ctr)
-    (seal_goes setup c.args.at c.args.plain.now c.in_ok-tag_line.tag_line c.due-persisted.result c.args.self.now c.commit_seal.new.self old mid new
-    before after (g.S.Suite.tags c.args.suite.now) (g.S.Suite.digests c.args.suite.now) (g.S.Suite.tags c.next_seal-next.new.suite)
-    (g.S.Suite.digests c.next_seal-next.new.suite) c.next_path-path.result.lines.items c.next_path-path.result.root
-    c.requires.usable c.requires.up (subst (λ (e : EngineState). e.shape.levels ≤ 6) c.self.view_is c.self.inside.geo.has_levels.1)
-    (g.met.S.Suite.in_range c.args.suite.now) c.requires.line c.is_whole.ensures c.requires.cached c.requires.named c.requires.minor
-    (subst IsCtr ctr c.next_counter.ensures.range)
-    (λ truth is.
-    subst
-    (λ line. IsRenewed setup.shape setup.formulas truth (page_of c.args.at) line c.next_path-path.result.lines.items
-    c.next_path-path.result.root)
-    block
-    (subst
-    (λ (e : EngineState). AreCachedTrue e.cache truth → IsRenewed e.shape setup.formulas truth (page_of c.args.at)
-    c.next_counter.result.1 c.next_path-path.result.lines.items c.next_path-path.result.root)
-    c.self.view_is (c.next_path-path.ensures.on_truth truth) is))
-    read due (c.next_seal-next.ensures.tags ∙ ap risen c.next_path-path.ensures.tags)
-    (c.next_seal-next.ensures.digests ∙ c.next_path-path.ensures.digests
-    ∙ ap (λ (e : EngineState). risen_times (path_length e.shape) (g.S.Suite.digests c.args.suite.now)) c.self.view_is)
-    (g.met.B.Board.whole c.read_line.new.self)
+    let end : After-commit_seal g = (goal.at.returns-clause-sealed g c).After-commit_seal in
+    subst (λ x. HasSealedNext (setup g end) c.args.at c.args.plain.now (old g end) (new g end) (Ok x)) (sym (ctr g end))
+    ((exits g end).1
     (subst₂
-    (λ (next : NextSeal) line. HasSealCommitted setup.shape next c.due-persisted.result line c.next_path-path.result.lines.items
-    c.next_path-path.result.root c.args.self.now c.commit_seal.new.self mid new before after)
-    sealing block c.in_ok-commit_seal.ensures.ok))
+    (λ (next : NextSeal) line. HasSealCommitted c.args.self.now.shape next c.due-persisted.result line
+    c.next_path-path.result.lines.items c.next_path-path.result.root c.args.self.now c.commit_seal.new.self (mid g end)
+    (new g end).device (old g end).ledger (new g end).ledger)
+    (sealing g end) (block_is g end) c.in_ok-commit_seal.ensures.ok))

@@ -17,7 +17,7 @@ returns-clause-set g c = λ setup ledger tags digests shape.
     (λ (engine : EngineState) (answer : Result ℕ Fault). HasSetLoss setup c.args.n
     (parts_of c.args.self.now (g.B.Board.device c.args.board.now) ledger tags digests)
     (parts_of engine (g.B.Board.device c.latch_loss-answer.new.board) ledger tags digests) answer)
-    (sym c.ended.ensures.engine) (sym c.ended.ensures.answer)
+    (sym c.ended_or_cut.ensures.engine) (sym c.ended_or_cut.ensures.answer)
     (loss_set setup c.args.n c.args.self.now c.latch_loss-answer.new.self (g.B.Board.device c.args.board.now)
     (g.B.Board.device c.latch_loss-answer.new.board) ledger tags digests (sym shape)
     (subst (λ (s : Shape). s.levels ≤ 6) (sym shape) c.has_shape.ensures.at_most_six_levels)
@@ -28,17 +28,17 @@ pub returns-clause-ready : goal.returns-clause-ready
 returns-clause-ready g c =
     let setup : Setup = some_setup c.args.self.now.shape in
     let old : Parts = parts_of c.args.self.now (g.B.Board.device c.args.board.now) some_ledger 0 0 in
-    let new : Parts = parts_of c.ended.new.self (g.B.Board.device c.latch_loss-answer.new.board) some_ledger 0 0 in
-    let set : HasSetLoss setup c.args.n old new c.ended.result = returns-clause-set g c setup some_ledger 0 0 refl in
-    ready_call setup [] old new c.ended.result set.down set.gone c.requires.ready
+    let new : Parts = parts_of c.ended_or_cut.new.self (g.B.Board.device c.latch_loss-answer.new.board) some_ledger 0 0 in
+    let set : HasSetLoss setup c.args.n old new c.ended_or_cut.result = returns-clause-set g c setup some_ledger 0 0 refl in
+    ready_call setup [] old new c.ended_or_cut.result set.down set.gone c.requires.ready
 
 pub returns-clause-shape : goal.returns-clause-shape
 returns-clause-shape g c =
     let setup : Setup = some_setup c.args.self.now.shape in
     let old : Parts = parts_of c.args.self.now (g.B.Board.device c.args.board.now) some_ledger 0 0 in
-    let new : Parts = parts_of c.ended.new.self (g.B.Board.device c.latch_loss-answer.new.board) some_ledger 0 0 in
-    let set : HasSetLoss setup c.args.n old new c.ended.result = returns-clause-set g c setup some_ledger 0 0 refl in
-    shape_call setup [] old new c.ended.result set.down set.gone
+    let new : Parts = parts_of c.ended_or_cut.new.self (g.B.Board.device c.latch_loss-answer.new.board) some_ledger 0 0 in
+    let set : HasSetLoss setup c.args.n old new c.ended_or_cut.result = returns-clause-set g c setup some_ledger 0 0 refl in
+    shape_call setup [] old new c.ended_or_cut.result set.down set.gone
 
 pub returns-in_err-is_up-clause-set : goal.returns-in_err-is_up-clause-set
 returns-in_err-is_up-clause-set g c = λ setup ledger tags digests shape.

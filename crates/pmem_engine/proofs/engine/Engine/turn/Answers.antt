@@ -3,26 +3,24 @@ use Rattle.std.proofs.Common.{◌<◌, length, Ok, Err, Some, sym, ap, subst, �
 use Rattle.std.proofs.lemmas.Bool.{eqb-true, eqb-false}
 use Rattle.suite.specs.Setup.{Setup}
 use Rattle.pmem_engine.specs.Engine.{EngineState}
-use Rattle.pmem_engine.specs.Parts.{Parts, parts_of}
+use Rattle.pmem_engine.specs.Parts.{Parts, parts_at, setup_at}
+use Rattle.pmem_engine.specs.Outcomes.{outcome_of}
 use Rattle.pmem_engine.specs.Calls.{HasTurned}
+use Rattle.pmem_engine.specs.Inner.{ended_by}
 use Rattle.pmem_engine.proofs.CallEnds.ErrorAnswers.{is_err_of}
-use Rattle.pmem_engine.proofs.PageLines.TurnOutcomes.{turned_of, turned_down, turned_idle, turned, none_from_length}
+use Rattle.pmem_engine.proofs.PageLines.TurnOutcomes.{turned_of, turned_by_fault, turned_by_seal, turned_down, turned_idle, turned, none_from_length}
 use Rattle.pmem_engine.proofs.CallEnds.UsableParts.{usable_call}
 use Rattle.pmem_engine.proofs.engine.Engine.turn.Given.{Over}
 use Rattle.pmem_engine.proofs.engine.Engine.turn.Goals.{After-ended}
 use Rattle.pmem_engine.proofs.engine.Engine.turn.Goals as goal
 
--- the formulas and the parts at a moment of the call
-abbrev setup_at : (g : Over) → EngineState → g.row.S.Denot → Setup
-setup_at g engine suite = record { shape = engine.shape; formulas = g.S.Suite.formulas_of (g.S.Suite.keys suite) }
-
+-- the parts at a moment of the call
 abbrev at : (g : Over) → EngineState → g.row.B.Denot → g.row.S.Denot → g.row.A.Denot → Parts
-at g engine board suite audit =
-    parts_of engine (g.B.Board.device board) (g.A.Audit.ledger audit) (g.S.Suite.tags suite) (g.S.Suite.digests suite)
+at g = parts_at g.B.Board g.S.Suite g.A.Audit
 
 pub returns-in_err-is_up-clause-turned : goal.returns-in_err-is_up-clause-turned
 returns-in_err-is_up-clause-turned g c =
-    let setup : Setup = setup_at g c.args.self.now c.args.suite.now in
+    let setup : Setup = setup_at g.S.Suite c.args.self.now c.args.suite.now in
     let old : Parts = at g c.args.self.now c.args.board.now c.args.suite.now c.args.audit.now in
     subst (HasTurned setup old old)
     (sym (is_err_of c.from_residual.result c.in_err-is_up.field-0.0 c.from_residual.ensures.1 ∙ ap Err c.in_err-is_up.ensures.fault))
@@ -30,7 +28,7 @@ returns-in_err-is_up-clause-turned g c =
 
 pub returns-then-is_empty-clause-turned : goal.returns-then-is_empty-clause-turned
 returns-then-is_empty-clause-turned g c =
-    turned_idle (setup_at g c.args.self.now c.args.suite.now) (at g c.args.self.now c.args.board.now c.args.suite.now c.args.audit.now)
+    turned_idle (setup_at g.S.Suite c.args.self.now c.args.suite.now) (at g c.args.self.now c.args.board.now c.args.suite.now c.args.audit.now)
     c.in_ok-is_up.ensures.up
     (ap (λ regs. regs.progress.items) (sym c.regs.ensures)
     ∙ none_from_length c.regs.result.now.progress.items
@@ -40,7 +38,7 @@ returns-then-is_empty-clause-turned g c =
 
 module _ (g : Over) (c : After-ended g) where
   abbrev setup : Setup
-  setup = setup_at g c.args.self.now c.args.suite.now
+  setup = setup_at g.S.Suite c.args.self.now c.args.suite.now
 
   abbrev old : Parts
   old = at g c.args.self.now c.args.board.now c.args.suite.now c.args.audit.now
@@ -59,21 +57,22 @@ module _ (g : Over) (c : After-ended g) where
 
   turned_at_end : HasTurned setup old new (turned_of c.reseal-answer.result)
   turned_at_end =
-      turned setup old mid c.reseal-answer.result c.ended.new.self c.in_ok-is_up.ensures.up some c.reseal-answer.ensures.resealed
-      c.ended.ensures.shape c.ended.ensures.cache c.ended.ensures.mirror c.ended.ensures.down
+      subst (λ engine. HasTurned setup old (record mid { engine = engine }) (turned_of c.reseal-answer.result))
+      (sym (c.ended.ensures.engine ∙ ap (λ answer. ended_by c.args.self.now (outcome_of answer)) c.line_answer.ensures))
+      (turned setup old mid c.reseal-answer.result c.in_ok-is_up.ensures.up some c.reseal-answer.ensures.resealed)
 
 pub returns-in_err-sealed-clause-turned : goal.returns-in_err-sealed-clause-turned
 returns-in_err-sealed-clause-turned g c =
     let end : After-ended g = (goal.at.returns-in_err-sealed-clause-turned g c).After-ended in
     subst (HasTurned (setup g end) (old g end) (new g end))
-    (ap turned_of (sym c.in_err-sealed.ensures.answer)
+    (turned_by_fault c.reseal-answer.result c.in_err-sealed.field-0.0 (sym c.line_answer.ensures ∙ sym c.in_err-sealed.ensures.answer)
     ∙ sym (is_err_of c.from_residual-in_err-sealed.result c.in_err-sealed.field-0.0 c.from_residual-in_err-sealed.ensures.1))
     (turned_at_end g end)
 
 pub returns-clause-turned : goal.returns-clause-turned
 returns-clause-turned g c =
     let end : After-ended g = (goal.at.returns-clause-turned g c).After-ended in
-    subst (HasTurned (setup g end) (old g end) (new g end)) (ap turned_of (sym c.in_ok-sealed.ensures.answer)) (turned_at_end g end)
+    subst (HasTurned (setup g end) (old g end) (new g end)) (turned_by_seal c.reseal-answer.result c.in_ok-sealed.sealed (sym c.line_answer.ensures ∙ sym c.in_ok-sealed.ensures.answer)) (turned_at_end g end)
 
 pub returns-in_err-sealed-clause-usable : goal.returns-in_err-sealed-clause-usable
 returns-in_err-sealed-clause-usable g c =

@@ -7,14 +7,14 @@ use Rattle.suite.specs.Setup.{Setup}
 use Rattle.board.specs.Device.{Device}
 use Rattle.board.specs.Steps.{HasRead}
 use Rattle.seal_ledger.specs.Notes.{HasExhibit}
-use Rattle.pmem_engine.specs.Parts.{parts_of}
+use Rattle.pmem_engine.specs.Parts.{parts_of, setup_at}
 use Rattle.pmem_engine.specs.Inner.{HasUnsealed}
 use Rattle.pmem_engine.proofs.CheckedReads.UnsealedLines.{read_both, refused, stopped, opened, right_tag}
 use Rattle.pmem_engine.proofs.engine.Engine.unseal_line.Goals as goal
 
 pub returns-in-None-clause-unsealed : goal.returns-in-None-clause-unsealed
 returns-in-None-clause-unsealed g c =
-    let setup : Setup = record { shape = c.args.self.now.shape; formulas = g.S.Suite.formulas_of (g.S.Suite.keys c.args.suite.now) } in
+    let setup : Setup = setup_at g.S.Suite c.args.self.now c.args.suite.now in
     let before : Device = g.B.Board.device c.args.board.now in
     let middle : Device = g.B.Board.device c.read_line.new.self in
     let after : Device = g.B.Board.device c.read_line-2.new.self in
@@ -31,7 +31,7 @@ returns-in-None-clause-unsealed g c =
 
 pub returns-in-Stop-clause-unsealed : goal.returns-in-Stop-clause-unsealed
 returns-in-Stop-clause-unsealed g c =
-    let setup : Setup = record { shape = c.args.self.now.shape; formulas = g.S.Suite.formulas_of (g.S.Suite.keys c.args.suite.now) } in
+    let setup : Setup = setup_at g.S.Suite c.args.self.now c.args.suite.now in
     let before : Device = g.B.Board.device c.args.board.now in
     let middle : Device = g.B.Board.device c.read_line.new.self in
     let after : Device = g.B.Board.device c.read_line-2.new.self in
@@ -55,7 +55,7 @@ returns-in-Stop-clause-unsealed g c =
 
 pub returns-in-On-clause-unsealed : goal.returns-in-On-clause-unsealed
 returns-in-On-clause-unsealed g c =
-    let setup : Setup = record { shape = c.args.self.now.shape; formulas = g.S.Suite.formulas_of (g.S.Suite.keys c.args.suite.now) } in
+    let setup : Setup = setup_at g.S.Suite c.args.self.now c.args.suite.now in
     let before : Device = g.B.Board.device c.args.board.now in
     let middle : Device = g.B.Board.device c.read_line.new.self in
     let after : Device = g.B.Board.device c.read_line-2.new.self in

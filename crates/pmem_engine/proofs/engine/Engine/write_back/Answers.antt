@@ -1,13 +1,12 @@
 -- The oldest dirty block was written back, or a cut came before its write.
-use Rattle.std.proofs.Common.{◌≡◌, ◌∙◌, Option, Result, Ok, Err, ℕ, refl, sym, ap, subst, subst₂}
+use Rattle.std.proofs.Common.{◌≡◌, ◌∙◌, Option, Result, Ok, ℕ, refl, sym, subst, subst₂}
 use Rattle.std.proofs.lemmas.Result.{err_from_is_err_and}
+use Rattle.pmem_base.specs.declared.faults.Cut.{Cut}
 use Rattle.pmem_base.specs.Shape.{Shape}
 use Rattle.pmem_base.specs.Geo.{shape_of}
 use Rattle.board.specs.Device.{Device}
 use Rattle.meta_cache.specs.State.{CacheState, IsCacheOf, oldest_dirty}
 use Rattle.meta_path.specs.Storing.{IsOneWrittenBack}
-use Rattle.pmem_engine.specs.declared.fault.Fault.{Fault}
-use Rattle.pmem_engine.specs.declared.fault.Fault.TheVariants as Fail
 use Rattle.pmem_engine.specs.Engine.{EngineState}
 use Rattle.pmem_engine.specs.Flushed.{HasWrittenOldest}
 use Rattle.pmem_engine.proofs.CheckedReads.FetchCalls.{of_states}
@@ -38,10 +37,9 @@ returns-in_err-x-clause-written g c =
     let after : Device = g.B.Board.device c.write_back_one.new.board in
     let form : IsCacheOf shape old.cache = subst (λ (s : Shape). IsCacheOf s old.cache) c.self.invariant.0 c.are_banks.ensures.cache in
     let answer = err_from_is_err_and c.from_residual.result c.from_residual.ensures.1 in
-    let same : c.from_residual.result ≡ Err Fail.Cut = answer.1 ∙ ap (λ (f : Fault). Err f) answer.2 in
-    subst₂ (λ (e : EngineState) (answer : Result (Option ℕ) Fault). HasWrittenOldest e new before after answer) c.self.view_is (sym same)
+    subst₂ (λ (e : EngineState) (answer : Result (Option ℕ) Cut). HasWrittenOldest e new before after answer) c.self.view_is (sym answer.1)
     (oldest_cut old new before after refl refl form c.self.invariant.1 (oldest_dirty old.cache) refl
     (of_states shape c.self.inside.cache c.write_back_one.new.cache
     (λ (was now : CacheState). now ≡ was)
     c.self.invariant.0 (c.write_back_one.ensures.shape ∙ c.self.invariant.0) c.in_err-x.ensures.same)
-    c.in_err-x.ensures.cut c.in_err-x.ensures.some_dirty)
+    c.in_err-x.ensures.cut c.in_err-x.ensures.some_dirty answer.0)
