@@ -21,7 +21,7 @@ returns-in_default g c =
 pub writes-preserved : goal.writes-preserved
 writes-preserved g c =
     fence_next g.S.Suite.formulas_of c.args.self.now c.writes.self c.give.new.self c.args.port c.args.count c.writes.done c.writes.steps
-    c.requires.port c.holds.ensures c.requires.count c.requires.most c.writes.invariant c.in-Put.steps c.in-Put.ensures c.writes-test.true
+    c.requires.port c.holds.ensures c.requires.count c.requires.most c.writes.invariant c.in-Drained.steps c.in-Drained.ensures c.writes-test.true
 
 pub returns : goal.returns
 returns g c =
