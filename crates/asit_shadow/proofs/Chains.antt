@@ -1,27 +1,16 @@
 -- One part of a call after another: what holds of both.
-use Rattle.std.proofs.Common.{rules, ℕ, ◌≡◌, ◌≢◌, ◌+◌, Bool, true, false, List, [], refl, sym, ap, subst, ◌∙◌, arith}
+use Rattle.std.proofs.Common.{ℕ, ◌≡◌, ◌≢◌, ◌+◌, Bool, true, false, List, [], sym, ap, subst, ◌∙◌, arith}
 use Rattle.std.specs.Prelude.{Option, Some, IfSome, is_some}
 use Rattle.std.proofs.lemmas.Bool.{true≢false}
 use Rattle.pmem_base.specs.declared.lines.Line.{Line}
-use Rattle.pmem_base.specs.Counts.{HasRisen}
 use Rattle.suite.specs.Setup.{Setup}
 use Rattle.board.specs.Device.{Device}
 use Rattle.board.proofs.CountLemmas.{RisesBy-then}
-use Rattle.pmem_engine.specs.Outcomes.{Outcome, going, cut_short, shown, is_going, HasPower}
+use Rattle.pmem_engine.specs.Outcomes.{Outcome, going, cut_short, shown, is_going}
+use Rattle.pmem_engine.proofs.CallEnds.CallChains.{power_chained}
 use Rattle.pmem_engine.proofs.CallEnds.ToldLines.{told_cases, unarmed}
 use Rattle.asit_shadow.specs.Parts.{TreeEngineParts, tree_lines_redone}
 use Rattle.asit_shadow.specs.Calls.{KeepsNodes, KeepsTreePlaces, TreeCallEffect, TakesWriteBacks}
-
-pub power-then : (outcome : Outcome) (old mid new : Device) → HasPower going old mid → HasPower outcome mid new → HasPower outcome old new
-power-then going old mid new first second =
-    (λ was. second.0 (first.0 was), λ was. second.1 (first.1 was), second.2 ∙ first.2)
-power-then shown old mid new first second =
-    (λ was. second.0 (first.0 was), λ was. second.1 (first.1 was), second.2 ∙ first.2)
-power-then cut_short old mid new first second =
-    (unsteady old.steady refl, second.1, subst (λ n. HasRisen n new.cuts) first.2 second.2)
-  where
-    unsteady : (b : Bool) → old.steady ≡ b → old.steady ≡ false
-    unsteady v0 it = search rules
 
 pub write_backs-then : (m n : ℕ) (outcome : Outcome) (old mid new : Device) → (old.live ≡ true → mid.live ≡ true) → TakesWriteBacks m going old mid → TakesWriteBacks n outcome mid new → TakesWriteBacks (m + n) outcome old new
 write_backs-then m n outcome old mid new live first second =
@@ -51,7 +40,7 @@ effect-then setup outcome old mid new first second =
     record {
       shape = second.shape ∙ first.shape;
       size = second.size ∙ first.size;
-      power = power-then outcome old.device mid.device new.device first.power second.power;
+      power = power_chained outcome old.device mid.device new.device first.power second.power;
       trusted = λ was. second.trusted (first.trusted was);
       sound = λ was. second.sound (first.sound was);
       places = λ was. places-then setup outcome old mid new (first.places was) (second.places (first.trusted was));
@@ -71,9 +60,6 @@ told-of P parts none it =
     subst (λ (o : Option (List Line)). IfSome o P) (unarmed parts.device.regs.group.items parts.device.lines none) it
 
 -- ---- two ends are two
-
-pub going-uncut : going ≢ cut_short
-going-uncut e = absurd (true≢false (ap is_going e))
 
 pub going-unshown : going ≢ shown
 going-unshown e = absurd (true≢false (ap is_going e))

@@ -11,6 +11,7 @@ use Rattle.board.specs.Steps.{Tells}
 use Rattle.bonsai_tree.specs.Positions.{level_of, parent, child_slot, path_of, counter_position}
 use Rattle.bonsai_tree.proofs.PathPositions.{on_path-level, path_of-top, path_of-block, path_of-parent}
 use Rattle.pmem_engine.specs.Outcomes.{going}
+use Rattle.pmem_engine.proofs.CallEnds.CallChains.{going_uncut}
 use Rattle.counter_tree.specs.declared.nodes.Node.{Node}
 use Rattle.counter_tree.specs.Nodes.{counter, total, node_read}
 use Rattle.counter_tree.specs.Layout.{tree_lines, tree_slots, tree_size, line_of_node}
@@ -24,7 +25,7 @@ use Rattle.asit_shadow.specs.Paths.{line_path}
 use Rattle.asit_shadow.specs.Calls.{TreeCallEffect, IsNodeRead, TakesWriteBacks}
 use Rattle.asit_shadow.specs.Fetching.{IsNodeFound, HasFetchedNode, KeepsPathLines, IsPathFetchedTo}
 use Rattle.asit_shadow.proofs.SlotPlaces.{slot_of-inside, page_of_line, on_path-inside, path_slots-apart}
-use Rattle.asit_shadow.proofs.Chains.{write_backs-then, effect-then, going-uncut}
+use Rattle.asit_shadow.proofs.Chains.{write_backs-then, effect-then}
 use Rattle.asit_shadow.proofs.LevelWork.{IsNextWork, next-on_path, next-level, at_level, up_to, is_cached-true, is_cached-false, levels-start, reads-start, levels-cached, reads-cached, levels-found, reads-found}
 use Rattle.asit_shadow.proofs.LevelSteps.{IsRoomStep, IsLevelReady, found-step, found-effect, found-path_lines}
 
@@ -73,7 +74,7 @@ no_write_backs n device =
     record {
       count = 0;
       at_most = omega arith;
-      fewer = λ cut live. absurd (going-uncut cut);
+      fewer = λ cut live. absurd (going_uncut cut);
       writes = record { never_falls = omega arith; exact = λ _. omega arith };
       latches = refl;
     }
@@ -218,7 +219,7 @@ next-cached setup a j x version node old now next in_slot =
           record {
             count = before.steps.count;
             at_most = omega (arith, before.steps.at_most);
-            fewer = λ cut live. absurd (going-uncut cut);
+            fewer = λ cut live. absurd (going_uncut cut);
             writes = before.steps.writes;
             latches = before.steps.latches;
           };
@@ -252,7 +253,7 @@ step_write_backs setup slot old new step =
     record {
       count = step.count;
       at_most = step.at_most;
-      fewer = λ cut live. absurd (going-uncut cut);
+      fewer = λ cut live. absurd (going_uncut cut);
       writes = step.writes;
       latches = step.latches;
     }

@@ -10,6 +10,7 @@ use Rattle.pmem_base.specs.Lines.{line_at, tag_slot}
 use Rattle.pmem_base.specs.Shape.{IsShape}
 use Rattle.pmem_base.specs.Layout.{meta_lines}
 use Rattle.pmem_base.proofs.LineSets.{line_at-set_same, line_at-set_other}
+use Rattle.pmem_base.proofs.LineLemmas.{lines-equal}
 use Rattle.suite.specs.Formulas.{AreInRange}
 use Rattle.suite.specs.Setup.{Setup}
 use Rattle.commit_regs.specs.Groups.{redone}
@@ -31,7 +32,7 @@ use Rattle.asit_shadow.specs.Steps.{IsTreeArmed, HasPathStored, IsFetched, Gives
 use Rattle.asit_shadow.proofs.SlotPlaces.{slot_of-inside, path_slot-from}
 use Rattle.asit_shadow.proofs.PutLaws.{IsGroupMade, tag_slot-tag_only}
 use Rattle.asit_shadow.proofs.ArmLaws.{armed-IsRaised, last_here, last_else, dirty-named, armed-made}
-use Rattle.asit_shadow.proofs.RecoverLaws.{slot-named, lines-equal, length-slots_read, line_at-slots_read}
+use Rattle.asit_shadow.proofs.RecoverLaws.{slot-named, length-slots_read, line_at-slots_read}
 
 -- ---- a write
 

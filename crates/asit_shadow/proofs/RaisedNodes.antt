@@ -12,6 +12,7 @@ use Rattle.counter_tree.specs.Layout.{tree_lines}
 use Rattle.counter_tree.specs.Shadow.{up}
 use Rattle.counter_tree.specs.Trees.{node_at, raised, with_raised, raised_up, raised_nodes, line_position}
 use Rattle.counter_tree.proofs.Positions.{parent-lt}
+use Rattle.counter_tree.proofs.ShadowLaws.{up-IsAtLevel}
 use Rattle.counter_tree.proofs.TreeLaws.{node_at-set_same, node_at-set_other, line_position-parent, line_position-IsAtLevel, raised_up-deep}
 use Rattle.asit_shadow.specs.Paths.{path_node}
 use Rattle.asit_shadow.specs.Writing.{position_below}
@@ -22,10 +23,6 @@ up-parent : (m y : ℕ) → up m (parent y) ≡ up (suc m) y
 up-parent zero y = refl
 up-parent (suc m) y = ap parent (up-parent m y)
 
-up-at : (m k y : ℕ) → IsAtLevel (m + k) y → IsAtLevel k (up m y)
-up-at zero k y at = subst (λ n. IsAtLevel n y) (omega arith) at
-up-at (suc m) k y at = parent-IsAtLevel k (up m y) (up-at m (suc k) y (subst (λ n. IsAtLevel n y) (omega arith) at))
-
 -- a node above y, which is j levels below the top
 raised_up-at : (j m d y : ℕ) (nodes : List Node) → m + suc d ≡ j → IsAtLevel j y → up (suc m) y < length nodes → parent y < length nodes → node_at (raised_up j y nodes) (up (suc m) y) ≡ raised (node_at nodes (up (suc m) y)) (child_slot (up m y))
 raised_up-at zero m d y nodes depth at inside near = absurd (omega (arith, depth))
@@ -34,7 +31,7 @@ raised_up-at (suc j) zero d y nodes depth at inside near =
     ∙ node_at-set_same nodes (parent y) (raised (node_at nodes (parent y)) (child_slot y)) near
 raised_up-at (suc j) (suc m) d y nodes depth at inside near =
     let above = parent-IsAtLevel j y at in
-    let here = up-at (suc m) d (parent y) (subst (λ n. IsAtLevel n (parent y)) (omega (arith, depth)) above) in
+    let here = up-IsAtLevel (suc m) d (parent y) (subst (λ n. IsAtLevel n (parent y)) (omega (arith, depth)) above) in
     let deep = level_start-le (suc d) j (omega (arith, depth)) in
     let apart : up (suc m) (parent y) ≢ parent y = λ e. omega (arith, here.below, above.from, deep, e) in
     let near_too : parent (parent y) < length nodes = omega (arith, near, parent-lt (parent y) (low j d (parent y) above (omega (arith, depth)))) in

@@ -20,6 +20,7 @@ use Rattle.bonsai_tree.specs.Positions.{child_slot, counter_position, parent}
 use Rattle.bonsai_tree.proofs.Levels.{level_start-suc, meta_lines-level}
 use Rattle.bonsai_tree.proofs.PathPositions.{on_path-level}
 use Rattle.pmem_engine.specs.Outcomes.{Outcome, going, cut_short, shown, HasPower}
+use Rattle.pmem_engine.proofs.CallEnds.CallChains.{power_chained, going_uncut}
 use Rattle.counter_tree.specs.declared.nodes.Node.{Node}
 use Rattle.counter_tree.specs.declared.watch.LineSeal.{LineSeal}
 use Rattle.counter_tree.specs.Accepted.{HasLineRead, IsCutReading, IsLineAccepted, IsLineUnaccepted, IsLineForged}
@@ -36,7 +37,7 @@ use Rattle.asit_shadow.specs.Calls.{IsPathAccepted, IsDataLineRead, TakesWriteBa
 use Rattle.asit_shadow.specs.Work.{absent_nodes, HasFetchedPath, IsCutInNodeFetch, IsLineShownAt}
 use Rattle.asit_shadow.specs.Fetching.{KeepsPathLines, IsPathFetchedTo}
 use Rattle.asit_shadow.proofs.SlotPlaces.{page_of_line}
-use Rattle.asit_shadow.proofs.Chains.{power-then, places-then, effect-then, going-uncut, going-unshown, cut-unshown}
+use Rattle.asit_shadow.proofs.Chains.{places-then, effect-then, going-unshown, cut-unshown}
 use Rattle.asit_shadow.proofs.ReadLaws.{read-plain, forged_line-holds, line-sound}
 use Rattle.asit_shadow.proofs.LevelSteps.{kept_lines}
 use Rattle.asit_shadow.proofs.PathSteps.{read-kept}
@@ -132,7 +133,7 @@ read-ok setup a count old mid new plain had it =
           (refused-effect setup mid new same (both-power setup a it.cipher it.tags mid.device new.device it.read) had.engine it.watch_kept);
       watch = kept-watch going old.watch new.watch going-unshown (it.watch_kept ∙ had.path.watch);
       regs = same.regs ∙ had.path.regs;
-      steps = steps-kept setup going old.device mid.device new.device same (λ e. absurd (going-uncut e)) had.path.effect.power had.path.steps;
+      steps = steps-kept setup going old.device mid.device new.device same (λ e. absurd (going_uncut e)) had.path.effect.power had.path.steps;
       work = path-through setup a it.cipher it.tags old mid new had.path (ap (λ (e : TreeState). e.cache) had.engine) it.read;
       answered =
           λ trusted. (
@@ -229,7 +230,7 @@ read-refused setup a count old mid new had it =
           (refused-effect setup mid new same (both-power setup a it.cipher it.tags mid.device new.device it.read) had.engine it.watch_kept);
       watch = kept-watch going old.watch new.watch going-unshown (it.watch_kept ∙ had.path.watch);
       regs = same.regs ∙ had.path.regs;
-      steps = steps-kept setup going old.device mid.device new.device same (λ e. absurd (going-uncut e)) had.path.effect.power had.path.steps;
+      steps = steps-kept setup going old.device mid.device new.device same (λ e. absurd (going_uncut e)) had.path.effect.power had.path.steps;
       work = path-through setup a it.cipher it.tags old mid new had.path (ap (λ (e : TreeState). e.cache) had.engine) it.read;
       answered =
           λ trusted. (
@@ -294,7 +295,7 @@ read-shown setup a count old mid new had sealed it =
             shape = ap (λ (e : TreeState). e.shape) had.engine ∙ had.path.effect.shape;
             size = same.size ∙ had.path.effect.size;
             power =
-                power-then shown old.device mid.device new.device had.path.effect.power
+                power_chained shown old.device mid.device new.device had.path.effect.power
                 (both-power setup a it.cipher it.tags mid.device new.device it.read);
             trusted =
                 λ trusted.

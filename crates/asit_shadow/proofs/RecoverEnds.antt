@@ -18,6 +18,7 @@ use Rattle.collision_witness.specs.Exhibits.{IsExhibit}
 use Rattle.commit_regs.specs.Groups.{redone_told, HasFinished}
 use Rattle.pmem_engine.specs.Outcomes.{going}
 use Rattle.pmem_engine.proofs.CallEnds.ToldLines.{unarmed}
+use Rattle.pmem_engine.proofs.CallEnds.CallChains.{power_chained, going_uncut}
 use Rattle.pmem_recovery.specs.declared.faults.Work.{Work}
 use Rattle.counter_tree.specs.Nodes.{node_line}
 use Rattle.counter_tree.specs.Layout.{tree_slots, line_of_slot}
@@ -25,7 +26,8 @@ use Rattle.counter_tree.specs.Trees.{node_at}
 use Rattle.counter_tree.specs.Slots.{slot_of, slot_line, slot_read}
 use Rattle.counter_tree.specs.Shadow.{ChipTree, shadow_height, root_of, shadow_root, shadow_digests}
 use Rattle.counter_tree.specs.Watch.{WatchState, HasShown, IsSlotClash}
-use Rattle.counter_tree.proofs.Positions.{meta_lines-most}
+use Rattle.pmem_base.proofs.LineLemmas.{lines-equal}
+use Rattle.pmem_base.proofs.LayoutLemmas.{meta_lines-most}
 use Rattle.counter_tree.proofs.SlotLaws.{slot_read-slot_line, slot_read-zero}
 use Rattle.counter_tree.proofs.TreeLaws.{tree-version, tree-IsNode}
 use Rattle.asit_shadow.specs.declared.recovery.TreeRec.TheVariants as Fail
@@ -39,8 +41,8 @@ use Rattle.asit_shadow.proofs.ArmLaws.{IsAnchored-emptied}
 use Rattle.asit_shadow.proofs.GroupLaws.{IsDurable-finished}
 use Rattle.asit_shadow.proofs.RegisterLaws.{finished-emptied}
 use Rattle.asit_shadow.proofs.PlaceLaws.{recovered-place}
-use Rattle.asit_shadow.proofs.RecoverLaws.{clash-holds, IsTrusted-recovered, slots-sound, IsSound-recovered, lines-equal, length-slots_read, line_at-slots_read}
-use Rattle.asit_shadow.proofs.Chains.{power-then, going-uncut, cut-unshown}
+use Rattle.asit_shadow.proofs.RecoverLaws.{clash-holds, IsTrusted-recovered, slots-sound, IsSound-recovered, length-slots_read, line_at-slots_read}
+use Rattle.asit_shadow.proofs.Chains.{cut-unshown}
 use Rattle.asit_shadow.proofs.FetchEnds.{some_map, first-none}
 
 -- ---- what a true slot line names can be cached
@@ -118,7 +120,7 @@ read_finished g old mid new first second =
             writes = subst (λ n. RisesBy (length old.regs.group.items) old.writes n) (sym second.writes) first.writes;
             latches = subst (λ n. RisesBy (Rattle.commit_regs.specs.Groups.finishing_latches old.regs.group.items) old.latches n) (sym second.latches) first.latches;
           };
-      power = power-then going old mid new (first.steady, first.live, first.cuts) second.power;
+      power = power_chained going old mid new (first.steady, first.live, first.cuts) second.power;
     }
 
 finished-redone : (old new : Rest) → new.device.regs ≡ without_group old.device.regs → new.device.lines ≡ redone_told old.device.regs.group.items old.device.lines → rest_redone new ≡ rest_redone old
@@ -175,7 +177,7 @@ refused_end setup kept found slots old new before after finished read is_kept is
       lines = lines;
       root = root;
       group = finished.group;
-      begun = λ is. absurd (going-uncut is);
+      begun = λ is. absurd (going_uncut is);
       work = record { reads = finished.reads; digests = counted };
       cached = tt;
       power = finished.power;
@@ -244,7 +246,7 @@ recovered_end setup slots engine work old new before after shape finished read i
       lines = lines;
       root = root;
       group = finished.group;
-      begun = λ is. absurd (going-uncut is);
+      begun = λ is. absurd (going_uncut is);
       work = record { reads = finished.reads; digests = worked.counted ∙ ap (λ n. risen_times n before) worked.digests };
       cached = λ anchored. subst (λ (ls : List Line). IsTreeRecovered setup ls engine) is_true (made anchored);
       power = finished.power;

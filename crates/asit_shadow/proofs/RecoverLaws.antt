@@ -1,6 +1,6 @@
 -- Recovery: with the right root the slot lines are the true ones or show a clash, and the true ones make
 -- a trusted engine, which over a durable device is sound.
-use Rattle.std.proofs.Common.{ℕ, suc, ◌≡◌, ◌<◌, ◌+◌, ◌-◌, List, [], ◌∷◌, length, drop, true, Some, None, refl, sym, ap, subst, inl, inr, ◌∙◌, arith}
+use Rattle.std.proofs.Common.{ℕ, ◌≡◌, ◌<◌, ◌+◌, ◌-◌, List, [], length, drop, true, Some, None, refl, sym, ap, subst, inl, inr, ◌∙◌, arith}
 use Rattle.std.specs.Prelude.{All}
 use Rattle.std.proofs.lemmas.Bool.{cases_lt}
 use Rattle.std.proofs.lemmas.List.{get_or_past, get_or-take, get_or-drop, length-drop, length-take-le}
@@ -11,6 +11,8 @@ use Rattle.pmem_base.specs.declared.answers.Exhibit.{Exhibit}
 use Rattle.pmem_base.specs.Lines.{IsLine, line_at, zero_line}
 use Rattle.pmem_base.specs.Shape.{Shape, IsShape}
 use Rattle.pmem_base.specs.Layout.{meta_lines}
+use Rattle.pmem_base.proofs.LayoutLemmas.{meta_lines-most}
+pub use Rattle.pmem_base.proofs.LineLemmas.{lines-equal}
 use Rattle.suite.specs.Formulas.{AreInRange}
 use Rattle.suite.specs.Setup.{Setup}
 use Rattle.collision_witness.specs.Exhibits.{IsExhibit}
@@ -24,23 +26,13 @@ use Rattle.counter_tree.proofs.HeightLemmas.{shadow_height-room}
 use Rattle.counter_tree.proofs.ShadowLaws.{shadow_clash}
 use Rattle.counter_tree.proofs.SlotLaws.{slot_read-slot_line, slot_read-zero}
 use Rattle.counter_tree.proofs.TreeLaws.{tree-IsNode}
-use Rattle.counter_tree.proofs.Positions.{meta_lines-most}
 use Rattle.asit_shadow.specs.State.{TreeState}
 use Rattle.asit_shadow.specs.declared.cache.CachedNode.{CachedNode}
 use Rattle.asit_shadow.specs.Invariants.{NamesTrueNode, IsTreeAnchored, IsTrueCached, IsTreeTrusted, IsTreeMendable, IsTreeDurable, IsTreeSound}
 use Rattle.asit_shadow.specs.Steps.{held_of, IsTreeRecovered, slots_read}
 use Rattle.asit_shadow.proofs.SlotPlaces.{slot_of-inside}
 
--- ---- lists of lines
-
-pub lines-equal : (a b : List Line) → length a ≡ length b → ((i : ℕ) → i < length a → line_at a i ≡ line_at b i) → a ≡ b
-lines-equal [] [] same each = refl
-lines-equal [] (y ∷ b) same each = absurd (omega (arith, same))
-lines-equal (x ∷ a) [] same each = absurd (omega (arith, same))
-lines-equal (x ∷ a) (y ∷ b) same each =
-    let first : x ≡ y = each 0 (omega arith) in
-    let rest : a ≡ b = lines-equal a b (omega (arith, same)) (λ i low. each (suc i) (omega (arith, low))) in
-    cc
+-- ---- the slot lines of a list
 
 pub length-slots_read : (g : Shape) (lines : List Line) → length lines ≡ tree_size g → length (slots_read g lines) ≡ tree_slots g
 length-slots_read g lines size =

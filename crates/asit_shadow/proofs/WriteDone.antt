@@ -19,6 +19,8 @@ use Rattle.commit_regs.specs.Groups.{HasFinished, IsInterrupted, RisesAtMost, re
 use Rattle.commit_regs.proofs.GroupLemmas.{redone-nil}
 use Rattle.pmem_engine.proofs.Laws.AnchoredLatches.{IsGroup-nil}
 use Rattle.pmem_engine.specs.Outcomes.{cut_short}
+use Rattle.pmem_engine.proofs.CallEnds.CallChains.{power_chained}
+use Rattle.pmem_engine.proofs.CallEnds.ToldLines.{any_told}
 use Rattle.counter_tree.specs.declared.nodes.Node.{Node}
 use Rattle.counter_tree.specs.declared.watch.LineSeal.{LineSeal}
 use Rattle.counter_tree.specs.Layout.{tree_lines, tree_slots, tree_size, line_of_node, line_of_slot}
@@ -43,7 +45,7 @@ use Rattle.asit_shadow.proofs.PairSets.{length-set_pairs, pairs-count}
 use Rattle.asit_shadow.proofs.SlotPlaces.{on_path-inside}
 use Rattle.asit_shadow.proofs.PlaceLaws.{armed-places, written-place}
 use Rattle.asit_shadow.proofs.ToldLemmas.{AreToldWith, told-as, told-match}
-use Rattle.asit_shadow.proofs.Chains.{power-then, told-of}
+use Rattle.asit_shadow.proofs.Chains.{told-of}
 use Rattle.asit_shadow.proofs.PathSteps.{same_lines}
 use Rattle.asit_shadow.proofs.ReadEnds.{path-accepted, sound-trusted}
 use Rattle.asit_shadow.proofs.ArmedWork.{IsArmedOver, armed-group, armed-path}
@@ -57,10 +59,6 @@ redone-if : (P Q : List Line → Type 0) (n : ℕ) (group : List (ℕ × Line)) 
 redone-if P Q n group None whole each was = tt
 redone-if P Q n group (Some lines) whole each was = each lines whole was
 
-any-told : (told : Option (List Line)) → IfSome told (λ lines. Unit {0})
-any-told None = tt
-any-told (Some lines) = tt
-
 -- the lines that a group makes of those before
 pub redone-over : (P Q : List Line → Type 0) (n : ℕ) (group : List (ℕ × Line)) (mid new : TreeEngineParts) → mid.device.regs.group.items ≡ [] → tree_lines_redone new ≡ redone_told group mid.device.lines → AreToldLines n mid.device.lines → ((lines : List Line) → AreLinesOf n lines → P lines → Q (redone group lines)) → IfSome (tree_lines_redone mid) P → IfSome (tree_lines_redone new) Q
 redone-over P Q n group mid new none made whole each was =
@@ -68,7 +66,7 @@ redone-over P Q n group mid new none made whole each was =
 
 pub redone-own : (Q : List Line → Type 0) (n : ℕ) (group : List (ℕ × Line)) (mid new : TreeEngineParts) → tree_lines_redone new ≡ redone_told group mid.device.lines → AreToldLines n mid.device.lines → ((lines : List Line) → AreLinesOf n lines → Q (redone group lines)) → IfSome (tree_lines_redone new) Q
 redone-own Q n group mid new made whole each =
-    subst (λ told. IfSome told Q) (sym made) (redone-if (λ lines. Unit {0}) Q n group mid.device.lines whole (λ lines are was. each lines are) (any-told mid.device.lines))
+    subst (λ told. IfSome told Q) (sym made) (redone-if (λ lines. Unit {0}) Q n group mid.device.lines whole (λ lines are was. each lines are) (any_told mid.device.lines))
 
 told-redone : (n : ℕ) (group : List (ℕ × Line)) (told new : Option (List Line)) → AreToldLines n told → new ≡ redone_told group told → AreToldWith (λ x y. (AreLinesOf n x) × (y ≡ redone group x)) told new
 told-redone n group told new whole same = subst (AreToldWith (λ x y. (AreLinesOf n x) × (y ≡ redone group x)) told) (sym same) (itself told whole)
@@ -234,7 +232,7 @@ write-kept setup a plain seal pairs regs old mid new armed it told_new cut =
             shape = it.made.shape ∙ path.effect.shape;
             size = cut.size ∙ (it.latched.size ∙ path.effect.size);
             power =
-                power-then cut_short old.device mid.device new.device path.effect.power (
+                power_chained cut_short old.device mid.device new.device path.effect.power (
                   false_from_ne_true mid.device.steady (λ was. true≢false (sym (it.latched.steady was) ∙ cut.unsteady)),
                   cut.off,
                   subst (λ c. HasRisen c new.device.cuts) it.latched.cuts cut.rose,

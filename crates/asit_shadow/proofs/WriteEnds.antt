@@ -12,6 +12,7 @@ use Rattle.board.specs.Device.{Device}
 use Rattle.board.specs.Steps.{WasCut}
 use Rattle.commit_regs.specs.Groups.{RisesAtMost}
 use Rattle.pmem_engine.specs.Outcomes.{going, cut_short, shown}
+use Rattle.pmem_engine.proofs.CallEnds.CallChains.{going_uncut}
 use Rattle.counter_tree.specs.declared.nodes.Node.{Node}
 use Rattle.counter_tree.specs.Layout.{tree_lines}
 use Rattle.asit_shadow.specs.declared.fault.TreeFault.{TreeFault}
@@ -23,7 +24,7 @@ use Rattle.asit_shadow.specs.Work.{absent_nodes, HasFetchedPath}
 use Rattle.asit_shadow.specs.Fetching.{IsFetchStopped, IsNodePathFetched, IsPathFetchedTo}
 use Rattle.asit_shadow.specs.Writing.{HasWrittenUp}
 use Rattle.asit_shadow.proofs.SlotPlaces.{page_of_line}
-use Rattle.asit_shadow.proofs.Chains.{going-uncut, going-unshown, cut-unshown, effect-then}
+use Rattle.asit_shadow.proofs.Chains.{going-unshown, cut-unshown, effect-then}
 use Rattle.asit_shadow.proofs.FetchEnds.{AreUnwritten, cut-effect, kept-watch, unwritten-levels}
 use Rattle.asit_shadow.proofs.CallEnds.{ready-kept, board-kept}
 
@@ -100,7 +101,7 @@ write-stopped setup a plain old new tags made Fail.Shown unspent it =
           record {
             count = it.steps.count;
             at_most = it.steps.at_most;
-            fewer = λ e. absurd (going-uncut e);
+            fewer = λ e. absurd (going_uncut e);
             writes = it.steps.writes;
             latches = it.steps.latches;
           };

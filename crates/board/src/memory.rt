@@ -240,7 +240,7 @@ impl Board for MemBoard {
         ensures cuts { (memory_of self.old).cuts ≤ (memory_of self.new).cuts }
     {
         self.step()?;
-        self.regs = regs.same();
+        self.regs.set(regs);
         self.latches = self.latches.saturating_add(1);
         Ok(())
     }

@@ -1,17 +1,17 @@
 -- Paths: one position a level from the top down to a page's counter block, and what two paths share.
 use Rattle.std.proofs.Common.{rules}
-use Rattle.std.proofs.Common.{ℕ, zero, suc, ◌≡◌, ◌≢◌, ◌<◌, ◌≤◌, ◌+◌, ◌-◌, ◌*◌, ◌/◌, ◌%◌, ◌^◌, true, false, List, [], ◌∷◌, ◌++◌, length, inl, inr, refl, sym, ap, subst, ◌∙◌, arith, length-append, add-one, lit<}
+use Rattle.std.proofs.Common.{ℕ, zero, suc, ◌≡◌, ◌<◌, ◌≤◌, ◌+◌, ◌-◌, ◌*◌, ◌/◌, ◌%◌, ◌^◌, true, false, List, [], ◌∷◌, ◌++◌, length, inl, inr, refl, sym, ap, subst, ◌∙◌, arith, length-append, add-one, lit<}
 use Rattle.std.specs.Prelude.{◌==◌, All, slice_index}
 use Rattle.std.specs.List.{list_any}
 use Rattle.std.proofs.Math.Nat.{pow-suc, div-one, div-eq_of_lt, div-div-eq-div-mul}
-use Rattle.std.proofs.lemmas.Bool.{cases_Bool, cases_eq, eqb-true, eq-eqb, or_cases, or_left, or_right, false≢true}
+use Rattle.std.proofs.lemmas.Bool.{cases_eq, eqb-true, eq-eqb, or_cases, or_left, or_right, false≢true}
 use Rattle.std.proofs.lemmas.List.{get_or_at, get_or_append_left}
 use Rattle.std.proofs.lemmas.List.Folds.{list_any-append, list_any_at}
 use Rattle.std.proofs.lemmas.List.Elements.{All-cons, All-nil, All-append, All-weaker}
 use Rattle.pmem_base.specs.Shape.{Shape}
 use Rattle.pmem_base.specs.Layout.{pages, meta_lines, level_start}
 use Rattle.bonsai_tree.specs.Positions.{parent, child_position, level_of, counter_position, path_down_to, path_of, is_on_path}
-use Rattle.bonsai_tree.proofs.Levels.{IsAtLevel, IsAtLevel-once, level_of-at, level_start-suc, level_start-le, parent-child, counter_position-IsAtLevel, counter_position-lt}
+use Rattle.bonsai_tree.proofs.Levels.{IsAtLevel, IsAtLevel-once, level_of-at, level_start-suc, level_start-le, parent-child, counter_position-lt}
 
 -- ---- the position of each level
 
@@ -213,24 +213,6 @@ on_path-at g page j x inside at on = go (on_path-position g page x on)
         is
         ∙ ap (path_position g page)
         (IsAtLevel-once i j x (subst (IsAtLevel i) (sym is) (path_position-IsAtLevel g page i inside within)) at)
-
--- the only counter block on a page's path is the page's own
-pub counter_position-on_path : (g : Shape) (page other : ℕ) → page < pages g → other < pages g → is_on_path g page (counter_position g other) ≡ true → other ≡ page
-counter_position-on_path g page other inside within on =
-    omega
-    (arith, on_path-at g page g.levels (counter_position g other) inside (counter_position-IsAtLevel g other within) on ∙ path_position-block g page)
-
-pub other_block_off_path : (g : Shape) (page other : ℕ) → page < pages g → other < pages g → other ≢ page → is_on_path g page (counter_position g other) ≡ false
-other_block_off_path g page other inside within apart =
-    elim (cases_Bool (is_on_path g page (counter_position g other))) [
-      | inl on ↦ absurd (apart (counter_position-on_path g page other inside within on))
-      | inr off ↦ off
-    ]
-
--- what isn't on the path isn't the page's counter block
-pub off_path-other_block : (g : Shape) (page x : ℕ) → is_on_path g page x ≡ false → x ≢ counter_position g page
-off_path-other_block g page x off same =
-    false≢true (sym off ∙ ap (is_on_path g page) same ∙ own_block_on_path g page)
 
 -- ---- positions of a path by their levels
 

@@ -1,5 +1,6 @@
 //! Bytes, numbers and hex digits appended to a text.
-ghost use Rattle.std.specs.Prelude.{◌≡◌, ◌+◌, ◌*◌, ◌≤◌, ◌∷◌, ◌++◌, length, map, decimal};
+ghost use Rattle.std.specs.Prelude.{◌≡◌, ◌+◌, ◌*◌, ◌<◌, ◌≤◌, ◌∷◌, ◌++◌, length, map, slice_index, decimal};
+ghost use Rattle.hex.specs.Hex.{lower_digits};
 ghost use Rattle.collision_witness.specs.Texts.{sentence, line_text, hex_text};
 
 use arrayvec::ArrayVec;
@@ -59,6 +60,29 @@ pub fn push_counts(text: &mut ArrayVec<u8, 512>, words: &[u8], numbers: &[u64])
     }
 }
 
+/// The digit of a value, in lower case.
+fn digit(value: u8) -> u8
+    requires { value < 16 }
+    ensures { result ≡ slice_index lower_digits value }
+{
+    if value < 10 {
+        b'0' + value
+    } else {
+        b'a' - 10 + value
+    }
+}
+
+/// Writes bytes in hex. With no table and no branch it goes over many bytes at a time.
+fn write_digits(bytes: &[u8], digits: &mut [u8])
+    requires { length digits.old ≡ 2 * length bytes.now }
+    ensures { digits.new ≡ hex_text bytes.now }
+{
+    'bytes: for i in 0..bytes.len() {
+        digits[2 * i] = digit(bytes[i] / 16);
+        digits[2 * i + 1] = digit(bytes[i] % 16);
+    }
+}
+
 /// Appends a line in hex.
 pub fn push_line(text: &mut ArrayVec<u8, 512>, line: &Line)
     requires { length text.old.items + 128 ≤ 512 }
@@ -66,7 +90,7 @@ pub fn push_line(text: &mut ArrayVec<u8, 512>, line: &Line)
     ensures length { length text.new.items ≡ length text.old.items + 128 }
 {
     let mut digits = [0; 128];
-    let _ = hex::encode_to_slice(line.0.as_slice(), &mut digits);
+    write_digits(&line.0, &mut digits);
     push_bytes(text, &digits);
 }
 
@@ -77,6 +101,6 @@ pub fn push_tag(text: &mut ArrayVec<u8, 512>, tag: &Tag)
     ensures length { length text.new.items ≡ length text.old.items + 32 }
 {
     let mut digits = [0; 32];
-    let _ = hex::encode_to_slice(tag.as_slice(), &mut digits);
+    write_digits(tag, &mut digits);
     push_bytes(text, &digits);
 }

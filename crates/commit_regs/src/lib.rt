@@ -2,7 +2,7 @@
 #![tactic(auto)]
 
 ghost use Rattle.std.specs.Prelude.{◌≡◌, ◌≢◌, ◌<◌, [], All, length, IsOk, OnOk, OnErr};
-ghost use Rattle.pmem_base.specs.Registers.{IsGroup};
+ghost use Rattle.pmem_base.specs.Registers.{IsGroup, without_group};
 ghost use Rattle.board.specs.Steps.{HasLatched, WasCut};
 ghost use Rattle.commit_regs.specs.Groups.{HasRedone, HasFinished, IsInterrupted};
 
@@ -31,12 +31,27 @@ pub fn finish<B: Board>(board: &mut B) -> Result<(), Cut>
         (IsInterrupted (B.device board.old).regs.group.items (B.device board.old) (B.device board.new)) }
     ensures empty { (B.device board.old).regs.group.items ≡ [] → IsOk result × (board.new ≡ board.old) }
 {
-    let regs = board.regs().same();
-    if regs.group.is_empty() {
+    if board.regs().group.is_empty() {
         return Ok(());
     }
-    write_all(board, regs.group.as_slice())?;
-    board.latch(&regs.emptied())
+    let mut armed = board.regs().same();
+    finish_armed(board, &mut armed)
+}
+
+/// Finishes an armed group as `finish` does, by the registers that it was armed with: their group is
+/// empty afterwards.
+pub fn finish_armed<B: Board>(board: &mut B, armed: &mut Regs) -> Result<(), Cut>
+    requires latched { (B.device board.old).regs ≡ armed.old }
+    requires armed { armed.old.group.items ≢ [] }
+    requires group { IsGroup (B.device board.old).size armed.old.group.items }
+    ensures ok { OnOk result (HasFinished (B.device board.old) (B.device board.new)) }
+    ensures cut { OnErr result (IsInterrupted armed.old.group.items (B.device board.old) (B.device board.new)) }
+    ensures emptied { armed.new ≡ without_group armed.old }
+{
+    let written = write_all(board, armed.group.as_slice());
+    armed.group.clear();
+    written?;
+    board.latch(armed)
 }
 
 /// Writes the lines of a group in order.

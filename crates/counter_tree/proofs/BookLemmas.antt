@@ -16,15 +16,11 @@ use Rattle.counter_tree.specs.Layout.{tree_lines, tree_slots}
 use Rattle.counter_tree.specs.Book.{IsBookOf}
 use Rattle.counter_tree.specs.Shadow.{shadow_tree_line, shadow_height, IsShadowTree, FirstDiffers, IsShadowDifference, IsTopDifference}
 use Rattle.counter_tree.specs.Watch.{WatchState, IsSlotClash}
-use Rattle.counter_tree.proofs.Positions.{meta_lines-most}
 use Rattle.counter_tree.proofs.HeightLemmas.{shadow_height-room}
 use Rattle.counter_tree.specs.Nodes.{IsNode, zero_node}
 use Rattle.counter_tree.proofs.NodeLaws.{IsNode-zero_node}
 use Rattle.pmem_base.proofs.LineLemmas.{All-zero_lines}
 use Rattle.counter_tree.proofs.DifferenceLemmas.{shadow_top}
-
-pub node-low : (g : Shape) → g.levels ≤ 6 → meta_lines g ≤ 5461
-node-low g few = meta_lines-most g few
 
 -- the counts of a new one
 pub new-counts : (g : Shape) (s n t : ℕ) (seals : List (Option LineSeal)) (nodes : List Node) (slots : List Line) (none : Option LineSeal) (node : Node) (line : Line)

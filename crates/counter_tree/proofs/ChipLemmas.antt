@@ -1,5 +1,5 @@
 -- The tree on the chip: how many lines it has, how it is made anew, and how a line is put into it.
-use Rattle.std.proofs.Common.{ℕ, zero, suc, ◌≡◌, ◌<◌, ◌≤◌, ◌+◌, ◌-◌, ◌*◌, ◌/◌, ◌^◌, List, [], ◌∷◌, length, sym, ap, subst, ◌∙◌, inl, inr, arith}
+use Rattle.std.proofs.Common.{ℕ, suc, ◌≡◌, ◌<◌, ◌≤◌, ◌+◌, ◌-◌, ◌*◌, ◌/◌, ◌^◌, List, [], ◌∷◌, length, sym, ap, subst, ◌∙◌, inl, inr, arith}
 use Rattle.std.specs.Prelude.{slice_set, All}
 use Rattle.std.proofs.Common.{replicate}
 use Rattle.std.proofs.lemmas.List.{length-replicate}
@@ -11,7 +11,6 @@ use Rattle.pmem_base.specs.Lines.{IsLine, line_at, put_lines, zero_line}
 use Rattle.pmem_base.proofs.LineSets.{put_lines-append, line_at-set_same, line_at-set_other}
 use Rattle.suite.specs.Formulas.{Formulas}
 use Rattle.bonsai_tree.specs.Positions.{parent, child_slot, child_position}
-use Rattle.pmem_base.specs.Counts.{risen, risen_times}
 use Rattle.bonsai_tree.specs.Nodes.{node_over}
 use Rattle.bonsai_tree.proofs.NodeLaws.{node_over-same}
 use Rattle.bonsai_tree.specs.Paths.{node_above, new_path, new_root, with_child_digest}
@@ -72,12 +71,6 @@ node-is f lines x slot above line old node digest up its from of is =
     ∙ (ap (λ s. with_child_digest (line_at lines (parent x)) s digest) its ∙ ap (with_child_digest (line_at lines (parent x)) (child_slot x)) of))
 
 -- ---- the tree made anew
-
-pub risen_times-add : (m n count : ℕ) → risen_times (m + n) count ≡ risen_times n (risen_times m count)
-risen_times-add m zero count = let none : m + 0 ≡ m = omega arith in ap (λ k. risen_times k count) none
-risen_times-add m (suc n) count =
-    let more : m + suc n ≡ suc (m + n) = omega arith in
-    ap (λ k. risen_times k count) more ∙ ap risen (risen_times-add m n count)
 
 -- one node more, above those made so far
 pub nodes-more : (f : Formulas) (lines new : List Line) (n x : ℕ) (node : Line)

@@ -1,5 +1,5 @@
 -- Where two lists of slot lines, and the lines of their shadow trees, differ.
-use Rattle.std.proofs.Common.{ℕ, suc, ◌≡◌, ◌≢◌, ◌<◌, ◌≤◌, ◌+◌, ◌-◌, ◌^◌, List, [], ◌∷◌, length, refl, sym, subst, ◌∙◌, inl, inr, arith}
+use Rattle.std.proofs.Common.{ℕ, suc, ◌≡◌, ◌≢◌, ◌<◌, ◌≤◌, ◌+◌, ◌-◌, ◌^◌, List, length, refl, sym, subst, ◌∙◌, inl, inr, arith}
 use Rattle.std.proofs.lemmas.Bool.{cases_eq}
 use Rattle.pmem_base.specs.declared.lines.Line.{Line}
 use Rattle.pmem_base.specs.Layout.{level_start}
@@ -18,16 +18,6 @@ same-more a b i here before j below =
       | inl last ↦ subst (λ k. line_at a k ≡ line_at b k) (sym last) here
       | inr other ↦ before j (omega (arith, below, other))
     ]
-
--- lists that are equal at each place
-pub same_lists : (a b : List Line) → length a ≡ length b → ((j : ℕ) → j < length a → line_at a j ≡ line_at b j) → a ≡ b
-same_lists [] [] same each = refl
-same_lists [] (y ∷ b) same each = absurd (omega (arith, same))
-same_lists (x ∷ a) [] same each = absurd (omega (arith, same))
-same_lists (x ∷ a) (y ∷ b) same each =
-    let first : x ≡ y = each 0 (omega arith) in
-    let rest : a ≡ b = same_lists a b (omega (arith, same)) (λ j below. each (suc j) (omega (arith, below))) in
-    cc
 
 -- ---- up from a leaf
 

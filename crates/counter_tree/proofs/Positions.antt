@@ -1,11 +1,9 @@
 -- More on positions, and nodes over whole lines.
-use Rattle.std.proofs.Common.{ℕ, ◌≡◌, ◌<◌, ◌≤◌, ◌+◌, ◌^◌, [], ◌++◌, length, refl, arith, length-append, lit<}
-use Rattle.std.proofs.Math.Nat.{pow-le-pow_right}
+use Rattle.std.proofs.Common.{ℕ, ◌≡◌, ◌<◌, ◌≤◌, ◌+◌, [], ◌++◌, length, refl, arith, length-append}
 use Rattle.std.proofs.lemmas.List.Elements.{All-append, All-nil}
 use Rattle.pmem_base.specs.declared.lines.Line.{Line}
 use Rattle.pmem_base.specs.Lines.{IsLine, IsTag}
-use Rattle.pmem_base.specs.Shape.{Shape}
-use Rattle.pmem_base.specs.Layout.{meta_lines}
+pub use Rattle.pmem_base.proofs.LayoutLemmas.{meta_lines-most}
 use Rattle.suite.specs.Formulas.{Formulas, AreInRange}
 use Rattle.bonsai_tree.specs.Positions.{parent, child_slot, child_position}
 use Rattle.bonsai_tree.specs.Nodes.{node_over, child_digest_over}
@@ -15,12 +13,6 @@ child_slot-child x i small = omega (arith, small)
 
 pub parent-lt : (x : ℕ) → 1 ≤ x → parent x < x
 parent-lt x below = omega (arith, below)
-
--- a tree has at most 5461 nodes
-pub meta_lines-most : (g : Shape) → g.levels ≤ 6 → meta_lines g ≤ 5461
-meta_lines-most g few =
-    let most : 4 ^ (g.levels + 1) ≤ 4 ^ 7 = pow-le-pow_right {n = 4} (lit< tt) {i = g.levels + 1} {j = 7} (omega (arith, few)) in
-    omega (arith, most)
 
 -- over whole lines a node is a whole line
 pub node_over-IsLine : (f : Formulas) (x : ℕ) (line : ℕ → Line) → AreInRange f → ((i : ℕ) → i < 4 → IsLine (line (child_position x i))) → IsLine (node_over f x line)

@@ -11,75 +11,16 @@ use Rattle.board.specs.declared.memory.MemBoard.{MemBoard}
 use Rattle.board.specs.MemBoard.{memory_of}
 use Rattle.pmem_base.specs.Shape.{Shape}
 use Rattle.pmem_engine.specs.Engine.{EngineState}
-use Rattle.pmem_engine.specs.Invariants.{IsAnchored, IsTrusted, IsMendable, IsDurable, IsSound}
+use Rattle.pmem_engine.specs.Invariants.{IsDurable, IsSound}
 use Rattle.pmem_engine.specs.Outcomes.{Outcome, going, cut_short, shown, LeavesSound}
 use Rattle.board.specs.Device.{Device}
 use Rattle.pmem_engine.specs.Parts.{parts_of}
 use Rattle.pmem_recovery.specs.declared.faults.RecFault.TheVariants.{Memory, Cut, NoCounter, Root, Twin}
 use Rattle.pmem_recovery.specs.Recovered.{Answer, IsMendedAs}
-use Rattle.pmem_replay.proofs.Steps.ReservedRoom.{with_spare, room_is}
+use Rattle.pmem_replay.proofs.Steps.ReservedRoom.{room_is, sound_spare}
 use Rattle.hostile.specs.Ends.{IsUnrefusedRecovery}
 
 -- what is sound stays so where room for marks is made
-anchored_spare : (setup : Setup) (regs : Regs) (ledger : LedgerState) (n : ℕ) → IsAnchored setup regs ledger → IsAnchored setup regs (with_spare ledger n)
-anchored_spare setup regs ledger n a =
-    record {
-      of_shape =
-          record {
-            truth_count = a.of_shape.truth_count;
-            truth_lines = a.of_shape.truth_lines;
-            line_count = a.of_shape.line_count;
-            marks_in_range = a.of_shape.marks_in_range;
-          };
-      truth_is_tree = a.truth_is_tree;
-      root = a.root;
-      last_counters = a.last_counters;
-      seals_tagged = a.seals_tagged;
-      valid_regs = a.valid_regs;
-      held_back = a.held_back;
-      fresh = a.fresh;
-      open_pages = a.open_pages;
-      no_exhibit = a.no_exhibit;
-    }
-
-trusted_spare : (setup : Setup) (engine : EngineState) (regs : Regs) (ledger : LedgerState) (n : ℕ)
-    → IsTrusted setup engine regs ledger → IsTrusted setup engine regs (with_spare ledger n)
-trusted_spare setup engine regs ledger n t =
-    record {
-      its_shape = t.its_shape;
-      anchored = anchored_spare setup regs ledger n t.anchored;
-      no_group = t.no_group;
-      not_down = t.not_down;
-      cached_true = t.cached_true;
-    }
-
-mendable_spare : (setup : Setup) (lines : List Line) (regs : Regs) (ledger : LedgerState) (n : ℕ)
-    → IsMendable setup lines regs ledger → IsMendable setup lines regs (with_spare ledger n)
-mendable_spare setup lines regs ledger n m =
-    record {
-      anchored = anchored_spare setup regs ledger n m.anchored;
-      seals_stored = m.seals_stored;
-      true_or_named = m.true_or_named;
-      counters_stored = m.counters_stored;
-    }
-
-durable_spare : (setup : Setup) (lines : List Line) (regs : Regs) (ledger : LedgerState) (n : ℕ)
-    → IsDurable setup lines regs ledger → IsDurable setup lines regs (with_spare ledger n)
-durable_spare setup lines regs ledger n d =
-    record { device_whole = d.device_whole; mendable = mendable_spare setup _ regs ledger n d.mendable }
-
-sound_spare : (setup : Setup) (engine : EngineState) (lines : List Line) (regs : Regs) (ledger : LedgerState) (n : ℕ)
-    → IsSound setup engine lines regs ledger → IsSound setup engine lines regs (with_spare ledger n)
-sound_spare setup engine lines regs ledger n s =
-    record {
-      trusted = trusted_spare setup engine regs ledger n s.trusted;
-      durable = durable_spare setup lines regs ledger n s.durable;
-      true_unless_dirty = s.true_unless_dirty;
-      dirty_named = s.dirty_named;
-      mirror_true = s.mirror_true;
-    }
-
--- the same for room that was made
 pub sound_room : (setup : Setup) (engine : EngineState) (lines : List Line) (regs : Regs) (old new : LedgerState) (n : ℕ)
     → IsSound setup engine lines regs old → HasRoom old new n → IsSound setup engine lines regs new
 sound_room setup engine lines regs old new n sound room =

@@ -16,10 +16,11 @@ use Rattle.pmem_engine.specs.declared.fault.Fault.{Fault}
 use Rattle.pmem_engine.specs.declared.fault.Fault.TheVariants as Fail
 use Rattle.pmem_engine.specs.Parts.{Parts, AreTrusted, AreSound}
 use Rattle.pmem_engine.specs.Outcomes.{outcome_of_fault, LeavesTrusted, LeavesSound}
-use Rattle.pmem_engine.specs.Calls.{IsUnrefused, whole_write, HasReadLine, HasWrittenLine}
+use Rattle.pmem_engine.specs.Calls.{whole_write, HasReadLine, HasWrittenLine}
 use Rattle.start_gap.specs.Gapped.{HasLines, IsCutOrSpent, done_as}
 use Rattle.start_gap.proofs.LevelledCalls.{setup_under}
 use Rattle.start_gap.proofs.EngineLines.{trusted_after_write, sound_after_write, trusted_after_read, sound_after_read, either_lines, written_lines, spent_lines, lines_after_read, line_read}
+use Rattle.start_gap.proofs.LevelledEnds.{unrefused_fault}
 use Rattle.line_txn.specs.declared.edits.Edit.{Edit}
 use Rattle.line_txn.specs.declared.edits.Edit.TheVariants as Make
 use Rattle.line_txn.specs.Edits.{HasLinePut, HasPutRead, HasEdited, CommitGoesOn, AreEdited, IsEditOf, edited, all_edited}
@@ -166,11 +167,6 @@ trusted_after_edit setup edit old new answer it trusted =
     (λ write here there ctr done. trusted_after_write setup write here there (Ok ctr) done)
     (λ write here there fault done. trusted_after_write setup write here there (Err fault) done)
     edit old new answer trusted it
-
-pub unrefused_fault : (T : Type 0) (fault : Fault) → IsUnrefused {T = T} (Err fault) → IsCutOrSpent fault
-unrefused_fault T Fail.Cut is = tt
-unrefused_fault T (Fail.Spent page) is = tt
-unrefused_fault T fault is = absurd is
 
 pub sound_after_edits : (setup : Setup) (edits : List Edit) (old new : Parts) (answer : Result (Unit {0}) Fault)
     → AreEdited setup edits old new answer → AreSound setup old → AfterEdits (AreSound setup) (CommitLeftSound setup) answer new

@@ -81,7 +81,7 @@ length-targets txn = length-map txn (λ e. Make.Put e.0 e.1)
 
 -- ---- changes with a last one
 
-all_edited-append : (edits more : List Edit) (lines : List Line) → all_edited (edits ++ more) lines ≡ all_edited more (all_edited edits lines)
+pub all_edited-append : (edits more : List Edit) (lines : List Line) → all_edited (edits ++ more) lines ≡ all_edited more (all_edited edits lines)
 all_edited-append [] more lines = refl
 all_edited-append (edit ∷ edits) more lines = all_edited-append edits more (edited edit lines)
 

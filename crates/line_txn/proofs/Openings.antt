@@ -15,6 +15,7 @@ use Rattle.pmem_engine.specs.Calls.{HasReadLine}
 use Rattle.start_gap.specs.Gapped.{HasLines, IsUnspent, IsCutOrSpent}
 use Rattle.start_gap.proofs.LevelledCalls.{least_lines}
 use Rattle.start_gap.proofs.EngineLines.{trusted_after_read, sound_after_read, lines_after_read, line_read}
+use Rattle.start_gap.proofs.LevelledEnds.{unrefused_fault}
 use Rattle.line_txn.specs.declared.store.Store.{Store}
 use Rattle.line_txn.specs.declared.store.Opened.{Opened}
 use Rattle.line_txn.specs.declared.store.TxnFault.{TxnFault}
@@ -25,7 +26,7 @@ use Rattle.line_txn.specs.Logged.{IsLogged, Opening, partly, through, lines_open
 use Rattle.line_txn.specs.Edits.{AreEdited, IsEditOf, edited, all_edited, copy_edits, redoing_edits}
 use Rattle.line_txn.specs.Store.{logged_lines, HasStoreOpened, HasStoreStarted, HasTargetsRedone, HasFailedRedo, HasFoundNone, IsOpenedBy, IsOpenedTo, HasOpenedLogged, LeavesOpenedTrusted, LeavesOpenedSound}
 use Rattle.line_txn.proofs.LoggedLaws.{kept_by_opening, zero_header}
-use Rattle.line_txn.proofs.EditLaws.{AfterEdits, CommitLeftTrusted, CommitLeftSound, trusted_after_edits, sound_after_edits, edits_leave, LeavesAll, unrefused_fault}
+use Rattle.line_txn.proofs.EditLaws.{AfterEdits, CommitLeftTrusted, CommitLeftSound, trusted_after_edits, sound_after_edits, edits_leave, LeavesAll}
 use Rattle.line_txn.proofs.EditStages.{after_copies, after_last, length-copy_edits, stops_by, redoing_fit}
 
 -- ---- the lines

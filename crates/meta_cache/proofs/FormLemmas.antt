@@ -17,7 +17,7 @@ use Rattle.pmem_base.specs.Shape.{Shape}
 use Rattle.meta_cache.specs.Alone.{IsAlone}
 use Rattle.meta_cache.specs.Banks.{Slot, set_index}
 use Rattle.meta_cache.specs.Sets.{holds, slot_with, touched, lined, slot_marked, with_slot_line, with_mark, free_way, next_way, placed, IsSetOf}
-use Rattle.meta_cache.proofs.SetLemmas.{blank, is_of, alone_at, touched_is, next_way-room, next_way-full}
+use Rattle.meta_cache.proofs.SetLemmas.{numbered, blank, is_of, alone_at, touched_is, next_way-room, next_way-full}
 
 -- ---- pairs
 
@@ -202,16 +202,13 @@ free_way_below ways slots room =
             room,
             ways_fit ways slots
                 (λ w h.
-                ap (λ k. list_any (λ (slot : Slot). slot.way == k) slots) (sym (numbered w h))
+                ap (λ k. list_any (λ (slot : Slot). slot.way == k) slots) (sym (numbered ways w h))
                 ∙ not_false (list_any (λ (slot : Slot). slot.way == get_or (range_with_len 0 ways) w 0) slots)
                 (fails_before_first (λ way. not (list_any (λ (slot : Slot). slot.way == way) slots)) (range_with_len 0 ways) w 0
                 (omega arith))),
           ))
     ]
   where
-    numbered : (k : ℕ) → k < ways → get_or (range_with_len 0 ways) k 0 ≡ k
-    numbered k l = omega (arith, get_or-range_with_len 0 ways k 0 l)
-
     not_false : (b : Bool) → not b ≡ false → b ≡ true
     not_false true h = refl
     not_false false h = absurd (false≢true (sym h))

@@ -110,6 +110,9 @@ with_mark_is slots x i dirty d alone = map_alone (is_of x) (λ slot. slot_marked
 
 -- ---- a free way, and the oldest dirty slot
 
+pub numbered : (ways k : ℕ) → k < ways → get_or (range_with_len 0 ways) k 0 ≡ k
+numbered ways k l = omega (arith, get_or-range_with_len 0 ways k 0 l)
+
 pub free_way_is : (ways w : ℕ) (slots : List Slot) → w ≤ ways
     → ((k : ℕ) → k < w → list_any (λ (slot : Slot). slot.way == k) slots ≡ true)
     → (w < ways → list_any (λ (slot : Slot). slot.way == w) slots ≡ false)
@@ -119,16 +122,13 @@ free_way_is ways w slots h used free =
     (position_or_len_is (λ way. not (uses way)) (range_with_len 0 ways) w 0
     (omega (arith, length-range_with_len 0 ways))
     (λ k l.
-    ap (λ way. not (uses way)) (numbered k (omega arith)) ∙ not_from_true (uses k) (used k l))
+    ap (λ way. not (uses way)) (numbered ways k (omega arith)) ∙ not_from_true (uses k) (used k l))
     (λ l.
     let less : w < ways = omega (arith, l, length-range_with_len 0 ways) in
-    ap (λ way. not (uses way)) (numbered w less) ∙ not_from_false (uses w) (free less)))
+    ap (λ way. not (uses way)) (numbered ways w less) ∙ not_from_false (uses w) (free less)))
   where
     uses : ℕ → Bool
     uses way = list_any (λ (slot : Slot). slot.way == way) slots
-
-    numbered : (k : ℕ) → k < ways → get_or (range_with_len 0 ways) k 0 ≡ k
-    numbered k l = omega (arith, get_or-range_with_len 0 ways k 0 l)
 
 pub next_way-room : (ways : ℕ) (slots : List Slot) → length slots < ways → next_way ways slots ≡ free_way ways slots
 unfolding next_way

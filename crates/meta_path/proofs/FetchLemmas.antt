@@ -26,7 +26,8 @@ use Rattle.meta_path.specs.Blocks.{path_at, slots_at, IsPathCached, AreInTheirBa
 use Rattle.meta_path.specs.Work.{HasWorked, FetchState}
 use Rattle.meta_path.specs.Levels.{expected_digest, HasParent, room_write, level_write, level_reads, fetched_set, HasDirtyVictim, IsLevelFetched, IsLevelRead, IsLevelCut, IsLevelFault}
 use Rattle.meta_path.specs.Fetching.{absent_count, spilled, HasFetchedSets, AreLevelsChecked, IsFetchedTo, IsReadAt, IsCutAt, IsPathFault}
-use Rattle.meta_path.proofs.WorkLemmas.{not_steady, HasWorked-then, risen_times-add}
+use Rattle.pmem_base.proofs.CountLemmas.{risen_times-add}
+use Rattle.meta_path.proofs.WorkLemmas.{not_steady, HasWorked-then}
 use Rattle.meta_path.proofs.PathFacts.{path_at-below, path_at-parent, Tells-before, AreSets, spilled-apart, holds-fetched_set}
 
 -- what a fetch of a page's path rests on

@@ -1,7 +1,8 @@
 -- A path is made anew over the cached lines, from the counter block up.
-use Rattle.std.proofs.Common.{◌≡◌, ℕ, suc, ◌+◌, ◌<◌, ◌≤◌, List, [], ◌∷◌, ◌++◌, length, map, true, sym, ap, ap₂, subst, ◌∙◌, arith}
+use Rattle.std.proofs.Common.{◌≡◌, ℕ, suc, ◌+◌, ◌<◌, ◌≤◌, List, [], ◌∷◌, ◌++◌, length, drop, map, reverse, true, sym, ap, ap₂, subst, ◌∙◌, arith}
 use Rattle.std.specs.Prelude.{All}
-use Rattle.std.proofs.lemmas.List.{append_assoc, append-nil}
+use Rattle.std.specs.List.{refill}
+use Rattle.std.proofs.lemmas.List.{append_assoc, append-nil, reverse-append, length-reverse, take_at}
 use Rattle.std.proofs.lemmas.List.Elements.{All-cons, All-nil}
 use Rattle.pmem_base.specs.declared.lines.Line.{Line}
 use Rattle.pmem_base.specs.Shape.{Shape}
@@ -17,6 +18,18 @@ use Rattle.meta_path.specs.Blocks.{path_at, line_in, cached_line, IsPathCached, 
 use Rattle.meta_path.specs.Storing.{IsPathOf, IsRenewed}
 use Rattle.meta_path.proofs.PathFacts.{path_at-level, path_at-parent}
 use Rattle.meta_path.proofs.KeepLaws.{line_in-true}
+
+-- a list read from its end, with one entry more
+pub reverse_pushed : {A : Type 0} (lines more : List A) (entry : A) → more ≡ lines ++ entry ∷ [] → reverse more ≡ entry ∷ reverse lines
+reverse_pushed {A} lines more entry put = ap (λ (xs : List A). reverse xs) put ∙ reverse-append lines (entry ∷ [])
+
+-- the list that is turned in its place, with one entry more
+pub turned_pushed : {A : Type 0} (lines more here turned : List A) (entry : A) → more ≡ lines ++ entry ∷ [] → here ≡ more
+    → turned ≡ reverse here → refill (length more) more turned ≡ entry ∷ reverse lines
+turned_pushed {A} lines more here turned entry put is after =
+    let long : length turned ≡ length more = ap (λ (xs : List A). length xs) after ∙ length-reverse here ∙ ap (λ (xs : List A). length xs) is in
+    take_at turned (drop (length turned) more) (length more) long ∙ after ∙ ap (λ (xs : List A). reverse xs) is
+    ∙ reverse_pushed lines more entry put
 
 -- i levels are made, and j are left: their lines stand behind those that the rest will make
 pub record IsRenewedTo (g : Shape) (f : Formulas) (old : ℕ → Line) (page : ℕ) (block : Line) (i j x : ℕ) (line : Line)

@@ -1,9 +1,8 @@
 -- Reads, line writes and digests, one call after another.
-use Rattle.std.proofs.Common.{rules, inl, inr, ◌≡◌, ℕ, zero, suc, ◌+◌, Bool, true, false, List, [], ◌∷◌, ◌++◌, length, refl, sym, ap, subst, ◌∙◌, arith, Option, Some, None}
+use Rattle.std.proofs.Common.{rules, inl, inr, ◌≡◌, ℕ, ◌+◌, Bool, true, false, List, [], ◌∷◌, ◌++◌, length, refl, sym, ap, subst, ◌∙◌, arith, Option, Some, None}
 use Rattle.std.proofs.lemmas.Bool.{cases_Bool, both_ways}
 use Rattle.std.proofs.lemmas.List.{length-append}
 use Rattle.pmem_base.specs.declared.lines.Line.{Line}
-use Rattle.pmem_base.specs.Counts.{risen, risen_times}
 use Rattle.pmem_base.proofs.LineSets.{put_lines-append}
 use Rattle.board.specs.Counts.{RisesBy}
 use Rattle.board.specs.Device.{Device}
@@ -41,12 +40,6 @@ HasWorked-then m n front back old mid new first second =
       steady = λ s. second.steady (first.steady s);
       live = λ l. second.live (first.live l);
     }
-
-pub risen_times-add : (m n count : ℕ) → risen_times (m + n) count ≡ risen_times n (risen_times m count)
-risen_times-add m zero count = let none : m + 0 ≡ m = omega arith in ap (λ k. risen_times k count) none
-risen_times-add m (suc n) count =
-    let more : m + suc n ≡ suc (m + n) = omega arith in
-    ap (λ k. risen_times k count) more ∙ ap risen (risen_times-add m n count)
 
 -- power that isn't steady now was not steady before
 pub not_steady : {a b : Bool} → (a ≡ true → b ≡ true) → b ≡ false → a ≡ false

@@ -56,11 +56,12 @@ pub fn next_path<S: Suite>(geo: &Geo, cache: &Cache, suite: &mut S, page: u32, b
     block.is_whole();
     let mut line = *block;
     'levels: for made in 0..geo.levels() {
-        lines.insert(0, (x, line));
+        lines.push((x, line));
         line = node_above(cache, suite, geo.levels() - 1 - made, x, &line);
         x = parent(x);
     }
-    lines.insert(0, (x, line));
+    lines.push((x, line));
+    lines.reverse();
     let root = suite.digest(x, &line);
     Path { lines, root }
 }

@@ -117,6 +117,7 @@ IsCaused setup state view command (Say.WrongRoot kept found steps) =
 IsCaused setup state view command (Say.LossSet steps) = IsLossSteps setup state command steps
 IsCaused setup state view command answer = ⊤
 
+-- the port whose writes the command drains: no other command drains one, and 0 stands for it
 abbrev pub port_drained : Command → ℕ
 port_drained (Do.Drain port) = port
 port_drained (Do.Fence port) = port

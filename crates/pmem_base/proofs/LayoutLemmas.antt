@@ -1,6 +1,8 @@
--- Bounds on the pages of a memory, and on the number of a slot.
+-- Bounds on the pages and the metadata lines of a memory, and on the number of a slot.
 use Rattle.std.proofs.Common.{ℕ, ◌≤◌, ◌<◌, ◌+◌, ◌*◌, ◌^◌, lit<, mul-le-mul_right, arith}
 use Rattle.std.proofs.Math.Nat.{pow-le-pow_right}
+use Rattle.pmem_base.specs.Shape.{Shape}
+use Rattle.pmem_base.specs.Layout.{meta_lines}
 
 -- a memory has 4 to 4096 pages
 pub pages-least : (levels : ℕ) → 1 ≤ levels → 4 ≤ 4 ^ levels
@@ -10,6 +12,12 @@ pub pages-most : (levels : ℕ) → levels ≤ 6 → 4 ^ levels ≤ 4096
 pages-most levels most = pow-le-pow_right {n = 4} (lit< tt) {i = levels} {j = 6} most
 
 pub ruleset page_bounds = (pages-least, pages-most)
+
+-- a memory has at most 5461 metadata lines
+pub meta_lines-most : (g : Shape) → g.levels ≤ 6 → meta_lines g ≤ 5461
+meta_lines-most g few =
+    let most : 4 ^ (g.levels + 1) ≤ 4 ^ 7 = pow-le-pow_right {n = 4} (lit< tt) {i = g.levels + 1} {j = 7} (omega (arith, few)) in
+    omega (arith, most)
 
 -- of the numbers of sets in order, each with as many ways
 pub number_low : (sets ways n way : ℕ) → n < sets → way < ways → n * ways + way < sets * ways

@@ -1,4 +1,5 @@
 pub mod LayoutLemmas
+pub mod CountLemmas
 pub mod LineLemmas
 pub mod LineSets
 pub mod Parts

@@ -1,8 +1,8 @@
--- Lines and lists of lines stay in range.
-use Rattle.std.proofs.Common.{ℕ, ◌<◌, List, length, replicate, refl, inl, inr, sym, subst, lit<}
+-- Lines and lists of lines stay in range, and when two lists of lines are equal.
+use Rattle.std.proofs.Common.{ℕ, ◌≡◌, ◌<◌, List, length, replicate, refl, inl, inr, sym, subst, ◌∙◌, lit<}
 use Rattle.std.specs.Prelude.{All, slice_set}
 use Rattle.std.proofs.lemmas.Bool.{cases_lt}
-use Rattle.std.proofs.lemmas.List.{get_or_past}
+use Rattle.std.proofs.lemmas.List.{get_or_past, get_or_default, same_lists}
 use Rattle.std.proofs.lemmas.List.Elements.{All-replicate, All-set, All-get_or}
 use Rattle.pmem_base.specs.declared.lines.Line.{Line}
 use Rattle.pmem_base.specs.Lines.{IsLine, zero_line, line_at}
@@ -28,3 +28,11 @@ IsLine-line_at lines n each =
       | inl inside ↦ All-get_or IsLine lines n zero_line inside each
       | inr past ↦ subst IsLine (sym (get_or_past lines n zero_line past)) IsLine-zero_line
     ]
+
+-- lists with the same line at each place are equal
+pub lines-equal : (a b : List Line) → length a ≡ length b → ((i : ℕ) → i < length a → line_at a i ≡ line_at b i) → a ≡ b
+lines-equal a b same each =
+    same_lists a b same
+    (λ k d inside.
+    get_or_default a k d zero_line inside
+    ∙ (each k inside ∙ get_or_default b k zero_line d (subst (λ n. k < n) same inside)))

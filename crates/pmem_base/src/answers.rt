@@ -1,8 +1,9 @@
 //! Marks, exhibits and the answers to commands.
-use crate::{Ctr, Line, Tag};
+use crate::{Ctr, GhostLine, Line, Tag};
 
-/// A mark: the begin of a page's re-encryption, or one seal of a data line.
-#[derive(Clone, Copy, Debug, PartialEq, Eq)]
+/// A mark: the begin of a page's re-encryption, or one seal of a data line. No program reads a seal's
+/// cipher, so it is there for clauses alone, and a mark takes 40 bytes.
+#[derive(Drop)]
 pub enum Mark {
     Begin {
         page: u32,
@@ -10,7 +11,7 @@ pub enum Mark {
     Seal {
         at: u32,
         ctr: Ctr,
-        cipher: Line,
+        cipher: GhostLine,
         tag: Tag,
     },
 }

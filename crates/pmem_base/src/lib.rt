@@ -14,5 +14,5 @@ pub use answers::{Answer, Exhibit, Mark, Place, Stat};
 pub use commands::{Command, Kind, Posted};
 pub use faults::{Cut, Full, MemFault, NoSnap, Spent};
 pub use geometry::{Geo, GeoFault};
-pub use lines::{Ctr, Line, Tag};
+pub use lines::{Ctr, GhostLine, Line, Tag};
 pub use registers::{Progress, Regs};

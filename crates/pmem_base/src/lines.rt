@@ -1,6 +1,8 @@
 //! Lines of memory and their counters.
-ghost use Rattle.std.specs.Prelude.{◌≡◌};
+ghost use Rattle.std.specs.Prelude.{◌≡◌, ℕ, List};
 ghost use Rattle.pmem_base.specs.Lines.{AreBytes, zero_line, zero_counter};
+
+use std::marker::Model;
 
 /// A keyed tag or a digest: 16 bytes.
 pub type Tag = [u8; 16];
@@ -24,6 +26,34 @@ impl Line {
 fn are_bytes(bytes: &[u8])
     ensures { AreBytes bytes.now }
 {}
+
+/// A line that only clauses and proofs read: there it is a `Line`, and a program keeps nothing of it,
+/// so it takes no memory.
+#[derive(Drop)]
+pub struct GhostLine {
+    ghost bytes: { List ℕ },
+}
+
+impl Model for GhostLine {
+    ghost use Rattle.std.specs.Borrow.{ftrue};
+    ghost use Rattle.pmem_base.specs.declared.lines.Line.{Line};
+    ghost use Rattle.pmem_base.specs.Lines.{line_of};
+
+    ghost Value = { Line };
+
+    ghost view = { λ ghost_line. line_of ghost_line.bytes };
+
+    ghost also_owns = { λ _. ftrue };
+}
+
+impl GhostLine {
+    /// A line as clauses read it.
+    pub fn of(_line: &Line) -> GhostLine
+        ensures { result ≡ _line.now }
+    {
+        GhostLine {}
+    }
+}
 
 /// The zero line.
 impl Default for Line {

@@ -54,29 +54,31 @@ impl Regs {
     pub fn same(&self) -> Regs
         ensures { result ≡ self.now }
     {
-        let mut group = ArrayVec::new();
-        let _ = group.try_extend_from_slice(&self.group);
-        let mut progress = ArrayVec::new();
-        let _ = progress.try_extend_from_slice(&self.progress);
-        Regs {
-            root: self.root,
-            group,
-            progress,
-            loss: self.loss,
-        }
+        let mut regs = Regs::empty();
+        regs.set(self);
+        regs
+    }
+
+    /// Makes them equal to these, in their own place.
+    pub fn set(&mut self, regs: &Regs)
+        ensures { self.new ≡ regs.now }
+    {
+        self.root = regs.root;
+        self.group.clear();
+        let _ = self.group.try_extend_from_slice(&regs.group);
+        self.progress.clear();
+        let _ = self.progress.try_extend_from_slice(&regs.progress);
+        self.loss = regs.loss;
     }
 
     /// The same registers with an empty group.
     pub fn emptied(&self) -> Regs
         ensures { result ≡ without_group self.now }
     {
-        let mut progress = ArrayVec::new();
-        let _ = progress.try_extend_from_slice(&self.progress);
-        Regs {
-            root: self.root,
-            group: ArrayVec::new(),
-            progress,
-            loss: self.loss,
-        }
+        let mut regs = Regs::empty();
+        regs.root = self.root;
+        let _ = regs.progress.try_extend_from_slice(&self.progress);
+        regs.loss = self.loss;
+        regs
     }
 }

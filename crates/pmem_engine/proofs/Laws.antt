@@ -11,14 +11,12 @@ pub mod AnchoredFormats
 pub mod DeviceRegions
 pub mod CounterBlocks
 pub mod GroupLaws
-pub mod StepChanges
-pub mod ArmLaws
+pub mod DeviceSteps
+pub mod TruthSteps
 pub mod NameLaws
 pub mod CacheLaws
 pub mod CommitLaws
 pub mod LossLaws
-pub mod PlaceLaws
-pub mod ChangedLines
 pub mod PathSlots
 pub mod SealLaws
 pub mod MendableLaws

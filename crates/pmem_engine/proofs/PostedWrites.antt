@@ -9,6 +9,7 @@ pub mod WriteWorks
 pub mod WriteRefusals
 pub mod WriteCuts
 pub mod WriteExits
+pub mod StoppedWrites
 pub mod WriteSeals
 pub mod WriteOutcomes
 pub mod WriteEnds

@@ -1,8 +1,8 @@
 -- Slots of the cache whose entries name their positions.
-use Rattle.std.specs.Prelude.{ℕ, ◌≡◌, ◌≢◌, ◌+◌, true, List}
+use Rattle.std.specs.Prelude.{ℕ, ◌≡◌, ◌+◌, true, List}
 use Rattle.pmem_base.specs.declared.lines.Line.{Line}
 use Rattle.pmem_base.specs.Shape.{Shape}
-use Rattle.bonsai_tree.specs.Positions.{counter_position, is_on_path}
+use Rattle.bonsai_tree.specs.Positions.{is_on_path}
 use Rattle.shadow_tables.specs.Entries.{slot_entry}
 use Rattle.shadow_tables.specs.Naming.{entry_line}
 use Rattle.meta_cache.specs.declared.slot.Slot.{Slot}
@@ -22,10 +22,3 @@ pub record ArePathSlotsNamed (g : Shape) (cache : Banks) (shadow : List Line) (p
   pub each :
       (bank set : ℕ) (slot : Slot) → Contains (set_of cache bank set) slot
       → is_on_path g page slot.position ≡ true → IsSlotInShadow g shadow bank set slot
-
--- each slot that holds a node of the page's path is named, its counter block's perhaps not
-pub record AreNodeSlotsNamed (g : Shape) (cache : Banks) (shadow : List Line) (page : ℕ) : Type 0 where
-  pub each :
-      (bank set : ℕ) (slot : Slot) → Contains (set_of cache bank set) slot
-      → is_on_path g page slot.position ≡ true → slot.position ≢ counter_position g page
-      → IsSlotInShadow g shadow bank set slot

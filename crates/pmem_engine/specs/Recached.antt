@@ -1,12 +1,11 @@
 -- How the engine's cache and its copy of the shadow lines change.
-use Rattle.std.specs.Prelude.{ℕ, ◌≡◌, ◌≢◌, ◌<◌, ◌⊎◌, true, false, List, [], slice_set}
+use Rattle.std.specs.Prelude.{ℕ, ◌≡◌, ◌⊎◌, true, false, List, [], slice_set}
 use Rattle.pmem_base.specs.declared.lines.Line.{Line}
 use Rattle.pmem_base.specs.Shape.{Shape}
-use Rattle.pmem_base.specs.Layout.{meta_lines}
 use Rattle.pmem_base.specs.Lines.{line_at}
-use Rattle.bonsai_tree.specs.Positions.{level_of, counter_position, is_on_path}
+use Rattle.bonsai_tree.specs.Positions.{level_of, is_on_path}
 use Rattle.meta_cache.specs.declared.slot.Slot.{Slot}
-use Rattle.meta_cache.specs.Banks.{Banks, set_of, is_cached, is_cached_dirty}
+use Rattle.meta_cache.specs.Banks.{Banks, set_of, is_cached_dirty}
 use Rattle.meta_cache.specs.KeptSlots.{IsFromBefore}
 use Rattle.std.specs.List.{Contains}
 use Rattle.seal_ledger.specs.Ledger.{LedgerState}
@@ -46,23 +45,6 @@ pub record IsMirrorWritten (old new : EngineState) (n : ℕ) (line : Line) : Typ
   pub cache : new.cache ≡ old.cache
   pub down : new.down ≡ old.down
 
--- each block of the page's path is cached
-pub record IsPathInCache (g : Shape) (cache : Banks) (page : ℕ) : Type 0 where
-  pub each :
-      (x : ℕ) → x < meta_lines g → is_on_path g page x ≡ true → is_cached g cache (level_of x) x ≡ true
-
--- each block of the page's path is cached dirty
-pub record IsPathDirty (g : Shape) (cache : Banks) (page : ℕ) : Type 0 where
-  pub each :
-      (x : ℕ) → x < meta_lines g → is_on_path g page x ≡ true → is_cached_dirty g cache (level_of x) x ≡ true
-
--- each node of the page's path is cached dirty, and its counter block isn't
-pub record ArePathNodesDirty (g : Shape) (cache : Banks) (page : ℕ) : Type 0 where
-  pub block_clean : is_cached_dirty g cache (level_of (counter_position g page)) (counter_position g page) ≡ false
-  pub each :
-      (x : ℕ) → x < meta_lines g → is_on_path g page x ≡ true → x ≢ counter_position g page
-      → is_cached_dirty g cache (level_of x) x ≡ true
-
 -- a slot as it was, or with its block's new true line
 pub record IsSlotOfStoredPath (g : Shape) (truth : List Line) (page : ℕ) (set : List Slot) (slot : Slot) : Type 0 where
   pub before : Slot
@@ -73,18 +55,6 @@ pub record IsSlotOfStoredPath (g : Shape) (truth : List Line) (page : ℕ) (set 
       is_on_path g page slot.position ≡ false
       → (before.line ≡ slot.line) × (slot.dirty ≡ true → before.dirty ≡ true)
   pub on_path : is_on_path g page slot.position ≡ true → slot.line ≡ line_at truth slot.position
-
--- the cache holds the path's new true lines, and all else is as before: no other dirty block is lost
-pub record IsPathStored (g : Shape) (old new : EngineState) (truth : List Line) (page : ℕ) : Type 0 where
-  pub shape : new.shape ≡ old.shape
-  pub mirror : new.mirror ≡ old.mirror
-  pub down : new.down ≡ old.down
-  pub slots :
-      (bank set : ℕ) (slot : Slot) → Contains (set_of new.cache bank set) slot
-      → IsSlotOfStoredPath g truth page (set_of old.cache bank set) slot
-  pub kept_dirty :
-      (x : ℕ) → x < meta_lines g → is_on_path g page x ≡ false
-      → is_cached_dirty g new.cache (level_of x) x ≡ false → is_cached_dirty g old.cache (level_of x) x ≡ false
 
 -- the engine that starts anew: nothing cached, its copy of the shadow lines as they are
 pub record IsNewEngine (setup : Setup) (engine : EngineState) (lines : List Line) : Type 0 where

@@ -8,7 +8,6 @@ use Rattle.pmem_base.specs.Shape.{Shape}
 use Rattle.pmem_base.specs.Layout as layout
 use Rattle.pmem_base.specs.Layout.{page_of, index_in_page}
 use Rattle.pmem_base.specs.Lines.{IsLine, IsTag, line_at}
-use Rattle.pmem_base.specs.Marks.{SealOf}
 use Rattle.pmem_base.specs.Registers.{IsGroup}
 use Rattle.split_counters.specs.declared.Block.{Block}
 use Rattle.split_counters.specs.Blocks.{packed, with_minor, next_block}
@@ -26,11 +25,6 @@ sealed_counter g truth a minor = record { major = (true_block g truth (page_of a
 -- the page's counter block then
 abbrev pub sealed_block : Shape → List Line → ℕ → ℕ → Block
 sealed_block g truth a minor = with_minor (true_block g truth (page_of a)) (index_in_page a) minor
-
--- that seal
-abbrev pub made_seal : Shape → List Line → ℕ → ℕ → Line → List ℕ → SealOf
-made_seal g truth a minor cipher tag =
-    record { ctr = sealed_counter g truth a minor; cipher = cipher; tag = tag }
 
 -- the parts that neither a seal nor a begin changes
 pub record IsKept (setup : Setup) (old_regs new_regs : Regs) (old new : LedgerState) : Type 0 where

@@ -1,8 +1,10 @@
 //! Reading: a page's path, and a line under its counter.
 ghost use Rattle.std.specs.Prelude.{◌≡◌, ◌<◌, ◌≤◌, All, IsSome, length, option_map};
-ghost use Rattle.pmem_base.specs.Layout.{data_lines, meta_lines, device_lines, pages, page_of};
+ghost use Rattle.pmem_base.specs.Layout.{data_lines, meta_lines, device_lines, pages, page_of, index_in_page};
+ghost use Rattle.pmem_base.specs.Lines.{IsCtr};
+ghost use Rattle.bonsai_tree.specs.Positions.{counter_position};
 ghost use Rattle.pmem_base.specs.Marks.{last_seal};
-ghost use Rattle.split_counters.specs.Blocks.{IsBlock};
+ghost use Rattle.split_counters.specs.Blocks.{IsBlock, block_counter};
 ghost use Rattle.page_reencrypt.specs.Registers.{counter_of};
 ghost use Rattle.seal_ledger.specs.Ledger.{LedgerState};
 ghost use Rattle.meta_path.specs.Blocks.{IsPathCached};
@@ -15,13 +17,12 @@ ghost use Rattle.pmem_engine.specs.Inner.{cached_block, HasFetched, HasUnsealed,
 use crate::engine::Engine;
 use crate::fault::Fault;
 use board::Board;
-use bonsai_tree::path;
 use line_seal::{tag_at, unseal};
 use meta_path::fetch_path;
-use page_reencrypt::ctr_of;
+use page_reencrypt::{ctr_of, is_left};
 use pmem_base::{Ctr, Line};
 use seal_ledger::{Audit, Go};
-use split_counters::{Block, unpack};
+use split_counters::{Block, counter_at, unpack};
 use suite::Suite;
 
 /// A data line that was unsealed: its plain line, and its tag line as read.
@@ -74,6 +75,15 @@ impl Engine {
         Ok(())
     }
 
+    // The position of a page's counter block.
+    pub(crate) fn block_position(&self, page: u32) -> u32
+        requires { page < pages self.now.shape }
+        ensures position { result ≡ counter_position self.now.shape page }
+        ensures inside { result < meta_lines self.now.shape }
+    {
+        self.geo.metas() - self.geo.pages() + page
+    }
+
     // The counter block of a page, which is cached.
     pub(crate) fn block(&self, page: u32) -> Block
         requires page { page < pages self.now.shape }
@@ -81,11 +91,27 @@ impl Engine {
         ensures range { All (λ m. m ≤ 127) result.minors }
         ensures valid { IsBlock result }
     {
-        let positions = path(&self.geo, page);
-        let levels = self.geo.levels();
-        match self.cache.look(levels, positions[usize::from(levels)]) {
+        match self
+            .cache
+            .look(self.geo.levels(), self.block_position(page))
+        {
             Some(line) => unpack(line),
             None => unpack(&Line::default()),
+        }
+    }
+
+    // The counter that the counter block of line `at`, which is cached, has for it.
+    pub(crate) fn block_counter(&self, at: u32) -> Ctr
+        requires { at < data_lines self.now.shape }
+        ensures cached { result ≡ block_counter (cached_block self.now.shape self.now (page_of at)) (index_in_page at) }
+        ensures range { IsCtr result }
+    {
+        match self
+            .cache
+            .look(self.geo.levels(), self.block_position(at / 64))
+        {
+            Some(line) => counter_at(line, (at % 64) as u8),
+            None => counter_at(&Line::default(), (at % 64) as u8),
         }
     }
 
@@ -97,7 +123,11 @@ impl Engine {
             → IsPathCached setup.shape self.now.cache (page_of at)
             → option_map (λ seal. seal.ctr) (last_seal ledger.marks at) ≡ Some result }
     {
-        ctr_of(&board.regs().progress, &self.block(at / 64), at)
+        let progress = &board.regs().progress;
+        if is_left(progress, at) {
+            return ctr_of(progress, &self.block(at / 64), at);
+        }
+        self.block_counter(at)
     }
 
     // Reads and unseals line `at` under a counter, and tells the audit.

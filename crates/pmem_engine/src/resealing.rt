@@ -13,7 +13,7 @@ ghost use Rattle.pmem_engine.specs.Resealing.{IsNextHeld, HasResealCommitted, Is
 use crate::engine::Engine;
 use crate::fault::Fault;
 use board::Board;
-use commit_regs::{arm, finish};
+use commit_regs::{arm, finish_armed};
 use line_seal::{put_tag, seal};
 use page_reencrypt::{find_open, left, mark, next_left};
 use pmem_base::{Ctr, Cut, Line, Progress, Regs, Tag};
@@ -160,28 +160,27 @@ impl Engine {
         ensures cut { OnErr result (IsResealCut self.now.shape next.now (B.device board.old) (B.device board.new)
             (A.ledger audit.old) (A.ledger audit.new)) }
     {
-        let regs = self.regs_with_seal(board.regs(), next);
+        let mut regs = Regs::empty();
+        regs.set(board.regs());
+        self.put_seal(&mut regs, next);
         arm(board, &regs)?;
         audit.note_seal(next.at, next.ctr, &next.cipher, &next.tag);
-        finish(board)
+        finish_armed(board, &mut regs)
     }
 
-    // The registers that arm a seal: its line done, its cipher and its tag line in the group.
-    pub(crate) fn regs_with_seal(&self, regs: &Regs, next: &NextSeal) -> Regs
+    // Lets registers with no group arm a seal: its line done, its cipher and its tag line in the group.
+    pub(crate) fn put_seal(&self, regs: &mut Regs, next: &NextSeal)
         requires line { next.now.at < data_lines self.now.shape }
-        requires valid { IsValidRegs self.now.shape regs.now }
-        ensures line_done { HasLineDone next.now.at regs.now result }
-        ensures group { result.group.items ≡ entries_of self.now.shape next.now }
-        ensures is_group { IsGroup (device_lines self.now.shape) result.group.items }
+        requires valid { IsValidRegs self.now.shape regs.old }
+        requires no_group { regs.old.group.items ≡ [] }
+        ensures line_done { HasLineDone next.now.at regs.old regs.new }
+        ensures group { regs.new.group.items ≡ entries_of self.now.shape next.now }
+        ensures is_group { IsGroup (device_lines self.now.shape) regs.new.group.items }
     {
-        let mut armed = regs.emptied();
-        done_in(&mut armed, next.at);
+        done_in(regs, next.at);
         next.cipher.is_whole();
         next.tag_line.is_whole();
-        armed.group.push((next.at, next.cipher));
-        armed
-            .group
-            .push((self.geo.tag_line(next.at), next.tag_line));
-        armed
+        regs.group.push((next.at, next.cipher));
+        regs.group.push((self.geo.tag_line(next.at), next.tag_line));
     }
 }

@@ -18,7 +18,7 @@ use crate::engine::Engine;
 use crate::fault::Fault;
 use crate::resealing::{NextSeal, next_seal};
 use board::Board;
-use commit_regs::{arm, finish};
+use commit_regs::{arm, finish_armed};
 use meta_path::{Path, next_path, store_path};
 use page_reencrypt::begin;
 use pmem_base::{Ctr, Cut, Line, Progress, Regs};
@@ -132,38 +132,40 @@ impl Engine {
         ensures cut { OnErr result (IsSealCut self.old.shape next.now persisted block.now path.now.lines.items path.now.root
             self.old self.new (B.device board.old) (B.device board.new) (A.ledger audit.old) (A.ledger audit.new)) }
     {
-        let regs = self.regs_with_path(board.regs(), next, path, block, persisted);
+        let mut regs = Regs::empty();
+        regs.set(board.regs());
+        self.put_seal_and_path(&mut regs, next, path, block, persisted);
         arm(board, &regs)?;
         audit.note_seal(next.at, next.ctr, &next.cipher, &next.tag);
         self.store(audit, next.at / 64, path, persisted);
-        finish(board)
+        finish_armed(board, &mut regs)
     }
 
-    // The registers that arm a seal with its page's new path.
-    fn regs_with_path(
+    // Lets registers with no group arm a seal with its page's new path.
+    fn put_seal_and_path(
         &self,
-        regs: &Regs,
+        regs: &mut Regs,
         next: &NextSeal,
         path: &Path,
         block: &Line,
         persisted: bool,
-    ) -> Regs
+    )
         requires line { next.now.at < data_lines self.now.shape }
-        requires valid { IsValidRegs self.now.shape regs.now }
-        ensures root { result.root ≡ path.now.root }
-        ensures progress { result.progress.items ≡ registers_with_done regs.now.progress.items next.now.at }
-        ensures loss { result.loss ≡ regs.now.loss }
-        ensures group { result.group.items ≡ seal_group self.now.shape next.now persisted block.now }
+        requires valid { IsValidRegs self.now.shape regs.old }
+        requires no_group { regs.old.group.items ≡ [] }
+        ensures root { regs.new.root ≡ path.now.root }
+        ensures progress { regs.new.progress.items ≡ registers_with_done regs.old.progress.items next.now.at }
+        ensures loss { regs.new.loss ≡ regs.old.loss }
+        ensures group { regs.new.group.items ≡ seal_group self.now.shape next.now persisted block.now }
         ensures is_group { IsGroup (device_lines self.now.shape) (seal_group self.now.shape next.now persisted block.now) }
-        ensures armed { result.group.items ≢ [] }
+        ensures armed { regs.new.group.items ≢ [] }
     {
-        let mut armed = self.regs_with_seal(regs, next);
-        armed.root = path.root;
+        self.put_seal(regs, next);
+        regs.root = path.root;
         block.is_whole();
         if persisted {
-            armed.group.push((self.block_place(next.at / 64), *block));
+            regs.group.push((self.block_place(next.at / 64), *block));
         }
-        armed
     }
 
     // Commits a page's begin.
@@ -189,37 +191,32 @@ impl Engine {
         ensures cut { OnErr result (IsBeginCut self.old.shape page register.now block.now path.now.lines.items path.now.root
             self.old self.new (B.device board.old) (B.device board.new) (A.ledger audit.old) (A.ledger audit.new)) }
     {
-        let regs = self.regs_with_begin(board.regs(), page, path, block, register);
+        let mut regs = Regs::empty();
+        regs.set(board.regs());
+        self.put_begin(&mut regs, page, path, block, register);
         arm(board, &regs)?;
         audit.note_begin(page);
         self.store(audit, page, path, true);
-        finish(board)
+        finish_armed(board, &mut regs)
     }
 
-    // The registers that arm a page's begin: its register last, its counter block in the group.
-    fn regs_with_begin(
-        &self,
-        regs: &Regs,
-        page: u32,
-        path: &Path,
-        block: &Line,
-        register: &Progress,
-    ) -> Regs
+    // Lets registers with no group arm a page's begin: its register last, its counter block in the
+    // group.
+    fn put_begin(&self, regs: &mut Regs, page: u32, path: &Path, block: &Line, register: &Progress)
         requires page { page < pages self.now.shape }
-        requires not_full { length regs.now.progress.items < 4 }
-        ensures root { result.root ≡ path.now.root }
-        ensures progress { result.progress.items ≡ regs.now.progress.items ++ register.now ∷ [] }
-        ensures loss { result.loss ≡ regs.now.loss }
-        ensures group { result.group.items ≡ begin_group self.now.shape page block.now }
+        requires not_full { length regs.old.progress.items < 4 }
+        requires no_group { regs.old.group.items ≡ [] }
+        ensures root { regs.new.root ≡ path.now.root }
+        ensures progress { regs.new.progress.items ≡ regs.old.progress.items ++ register.now ∷ [] }
+        ensures loss { regs.new.loss ≡ regs.old.loss }
+        ensures group { regs.new.group.items ≡ begin_group self.now.shape page block.now }
         ensures is_group { IsGroup (device_lines self.now.shape) (begin_group self.now.shape page block.now) }
-        ensures armed { result.group.items ≢ [] }
+        ensures armed { regs.new.group.items ≢ [] }
     {
-        let mut armed = regs.emptied();
-        armed.root = path.root;
-        armed.progress.push(*register);
+        regs.root = path.root;
+        regs.progress.push(*register);
         block.is_whole();
-        armed.group.push((self.block_place(page), *block));
-        armed
+        regs.group.push((self.block_place(page), *block));
     }
 
     // Stores a page's new path, and tells it to the audit.
@@ -241,7 +238,6 @@ impl Engine {
         ensures place { result ≡ meta_line self.now.shape (counter_position self.now.shape page) }
         ensures inside { result < device_lines self.now.shape }
     {
-        self.geo
-            .meta_line(self.geo.metas() - self.geo.pages() + page)
+        self.geo.meta_line(self.block_position(page))
     }
 }

@@ -57,11 +57,11 @@ impl Engine {
         ensures exactly { result ≡ overflow_of (cached_block self.now.shape self.now (page_of at)) (page_of at) (index_in_page at) }
         ensures major { IfOk result (λ overflows. overflows ≡ true → (cached_block self.now.shape self.now (page_of at)).major < 2 ^ 64 - 1) }
     {
-        let block = self.block(at / 64);
-        if block.minors[(at % 64) as usize] < 127 {
+        let ctr = self.block_counter(at);
+        if ctr.minor < 127 {
             return Ok(false);
         }
-        if block.major == u64::MAX {
+        if ctr.major == u64::MAX {
             return Err(Fault::Spent { page: at / 64 });
         }
         Ok(true)

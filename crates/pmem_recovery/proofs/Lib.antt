@@ -21,3 +21,5 @@ pub mod ReadLaws
 pub mod RecoverLaws
 pub mod FormatSteps
 pub mod FormattedLaws
+pub mod LatchLaws
+pub mod ResultLaws

@@ -29,7 +29,7 @@ use Rattle.pmem_recovery.specs.declared.faults.RecFault.TheVariants.{Memory, Cut
 use Rattle.pmem_recovery.specs.Named.{names, count_named, IsNextAt, IsNext}
 use Rattle.pmem_recovery.specs.Upward.{line_made, is_made, IsMadeLine, AreMade, AreMadeTo, AreAllMade}
 use Rattle.pmem_recovery.specs.Parts.{IsCompared, IsUndecided, IsRootFault}
-use Rattle.pmem_recovery.specs.Reads.{sum_named, line_reads, page_reads, block_reads, unmade_reads, children_reads, unnamed_reads, node_reads, all_reads, named_reads, IsRootRead, AreStoppedReads, reads_to, IsReadUntil}
+use Rattle.pmem_recovery.specs.Reads.{sum_named, line_reads, page_reads, block_reads, unmade_reads, children_reads, unnamed_reads, node_reads, all_reads, named_reads, IsRootRead, IsReadToStop, reads_to, IsReadUntil}
 
 -- ---- counts
 
@@ -233,7 +233,7 @@ root_read (Err (Twin at major low high cipher tag)) kept found n before after c 
 
 -- ---- where the trials stop
 
-pub read_at_undecided : (f : Formulas) (at major : ℕ) (cipher : Line) (tag matching : List ℕ) (fault : RecFault) (n before after : ℕ) → IsUndecided f at major cipher tag matching fault → RisesBy n before after → AreStoppedReads (λ a. a ≡ at) (λ a. n) fault before after
+pub read_at_undecided : (f : Formulas) (at major : ℕ) (cipher : Line) (tag matching : List ℕ) (fault : RecFault) (n before after : ℕ) → IsUndecided f at major cipher tag matching fault → RisesBy n before after → IsReadToStop (λ a. a ≡ at) (λ a. n) fault before after
 read_at_undecided f at major cipher tag matching Memory n before after u r = absurd u
 read_at_undecided f at major cipher tag matching Cut n before after u r = tt
 read_at_undecided f at major cipher tag matching (NoCounter a) n before after u r = (u.0, r)
@@ -241,7 +241,7 @@ read_at_undecided f at major cipher tag matching (Root kept found) n before afte
 read_at_undecided f at major cipher tag matching (Twin a x low high c t) n before after u r = (u.0, r)
 
 -- after some reads
-pub read_at_after : (P Q : ℕ → Type 0) (count all : ℕ → ℕ) (n : ℕ) (fault : RecFault) (before mid after : ℕ) → RisesBy n before mid → ((a : ℕ) → P a → Q a × (n + count a ≡ all a)) → AreStoppedReads P count fault mid after → AreStoppedReads Q all fault before after
+pub read_at_after : (P Q : ℕ → Type 0) (count all : ℕ → ℕ) (n : ℕ) (fault : RecFault) (before mid after : ℕ) → RisesBy n before mid → ((a : ℕ) → P a → Q a × (n + count a ≡ all a)) → IsReadToStop P count fault mid after → IsReadToStop Q all fault before after
 read_at_after P Q count all n Memory before mid after r same h = absurd h
 read_at_after P Q count all n Cut before mid after r same h = tt
 read_at_after P Q count all n (NoCounter a) before mid after r same h =
@@ -278,7 +278,7 @@ blocks_stop g shadow regs from end x low next a here =
     ap (sum_named g shadow f (level_start g.levels)) here in
     omega (arith, parts, gap, all)
 
-pub read_until_at : (g : Shape) (read shadow : List Line) (regs : Regs) (fault : RecFault) (before mid after : ℕ) → read ≡ shadow → RisesBy (layout.shadow_lines g) before mid → AreStoppedReads (λ a. ⊤) (reads_to g read regs) fault mid after → IsReadUntil g shadow regs fault before after
+pub read_until_at : (g : Shape) (read shadow : List Line) (regs : Regs) (fault : RecFault) (before mid after : ℕ) → read ≡ shadow → RisesBy (layout.shadow_lines g) before mid → IsReadToStop (λ a. ⊤) (reads_to g read regs) fault mid after → IsReadUntil g shadow regs fault before after
 read_until_at g read shadow regs Memory before mid after e r h = absurd h
 read_until_at g read shadow regs Cut before mid after e r h = tt
 read_until_at g read shadow regs (NoCounter a) before mid after e r h =

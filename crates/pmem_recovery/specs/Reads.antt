@@ -79,11 +79,11 @@ reads_to g shadow regs a =
     + 1 + page_reads regs.progress.items (page_of a) (index_in_page a + 1)
 
 -- where the trials stop at a line, of which something holds, so many are read; nothing is said of a cut
-abbrev pub AreStoppedReads : (ℕ → Type 0) → (ℕ → ℕ) → RecFault → ℕ → ℕ → Type 0
-AreStoppedReads P count Cut before after = ⊤
-AreStoppedReads P count (NoCounter a) before after = P a × RisesBy (count a) before after
-AreStoppedReads P count (Twin a major low high cipher tag) before after = P a × RisesBy (count a) before after
-AreStoppedReads P count fault before after = ⊥
+abbrev pub IsReadToStop : (ℕ → Type 0) → (ℕ → ℕ) → RecFault → ℕ → ℕ → Type 0
+IsReadToStop P count Cut before after = ⊤
+IsReadToStop P count (NoCounter a) before after = P a × RisesBy (count a) before after
+IsReadToStop P count (Twin a major low high cipher tag) before after = P a × RisesBy (count a) before after
+IsReadToStop P count fault before after = ⊥
 
 -- the reads of a recovery that stops: up to and with the first line that hasn't one minor, or all of them
 abbrev pub IsReadUntil : Shape → List Line → Regs → RecFault → ℕ → ℕ → Type 0

@@ -16,7 +16,7 @@ ghost use Rattle.pmem_recovery.specs.Upward.{block_made, AreMadeTo};
 ghost use Rattle.board.specs.Counts.{RisesBy};
 ghost use Rattle.commit_regs.specs.Groups.{RisesAtMost};
 ghost use Rattle.pmem_recovery.specs.Named.{count_named};
-ghost use Rattle.pmem_recovery.specs.Reads.{sum_named, line_reads, page_reads, block_reads, reads_to, AreStoppedReads};
+ghost use Rattle.pmem_recovery.specs.Reads.{sum_named, line_reads, page_reads, block_reads, reads_to, IsReadToStop};
 ghost use Rattle.pmem_recovery.specs.Parts.{setup_of, Told, KeepsDevice, IsUncut, IsCutOff, suite_state, SuiteWork, SuiteWorkAtMost, decided_of, IsDecided, AreOneTried, IsLineRefusal, IsPageRefusal, IsRefusal, IsStageStopped, line_tries, TriesUntil, AddsLine};
 
 use crate::RecFault;
@@ -47,7 +47,7 @@ pub(crate) fn fix_counters<B: Board, S: Suite>(
     ensures read { KeepsDevice (B.device board.old) (B.device board.new) }
     ensures reads { RisesAtMost (129 * count_named (shape_of geo.now) shadow.now (level_start (shape_of geo.now).levels) (meta_lines (shape_of geo.now))) (B.device board.old).reads (B.device board.new).reads }
     ensures exact_reads { OnOk result (RisesBy (sum_named (shape_of geo.now) shadow.now (block_reads (shape_of geo.now) regs.now) (level_start (shape_of geo.now).levels) (meta_lines (shape_of geo.now))) (B.device board.old).reads (B.device board.new).reads) }
-    ensures stopped_reads { IfErr result (λ fault. AreStoppedReads (λ a. ⊤) (reads_to (shape_of geo.now) shadow.now regs.now) fault (B.device board.old).reads (B.device board.new).reads) }
+    ensures stopped_reads { IfErr result (λ fault. IsReadToStop (λ a. ⊤) (reads_to (shape_of geo.now) shadow.now regs.now) fault (B.device board.old).reads (B.device board.new).reads) }
     ensures goes { OnOk result (IsUncut (B.device board.old) (B.device board.new)) }
     ensures worked { IfOk result (λ trials. SuiteWork trials 0 (suite_state (S.keys suite.old) (S.pads suite.old) (S.tags suite.old) (S.digests suite.old))
         (suite_state (S.keys suite.new) (S.pads suite.new) (S.tags suite.new) (S.digests suite.new))) }
@@ -94,7 +94,7 @@ fn fix_counter<B: Board, S: Suite>(
     ensures read { KeepsDevice (B.device board.old) (B.device board.new) }
     ensures reads { RisesAtMost (129) (B.device board.old).reads (B.device board.new).reads }
     ensures exact_reads { OnOk result (RisesBy (block_reads (shape_of geo.now) regs.now x) (B.device board.old).reads (B.device board.new).reads) }
-    ensures stopped_reads { IfErr result (λ fault. AreStoppedReads (λ a. counter_position (shape_of geo.now) (page_of a) ≡ x) (λ a. 1 + page_reads regs.now.progress.items (page_of a) (index_in_page a + 1)) fault (B.device board.old).reads (B.device board.new).reads) }
+    ensures stopped_reads { IfErr result (λ fault. IsReadToStop (λ a. counter_position (shape_of geo.now) (page_of a) ≡ x) (λ a. 1 + page_reads regs.now.progress.items (page_of a) (index_in_page a + 1)) fault (B.device board.old).reads (B.device board.new).reads) }
     ensures goes { OnOk result (IsUncut (B.device board.old) (B.device board.new)) }
     ensures worked { IfOk result (λ trials. SuiteWork trials 0 (suite_state (S.keys suite.old) (S.pads suite.old) (S.tags suite.old) (S.digests suite.old))
         (suite_state (S.keys suite.new) (S.pads suite.new) (S.tags suite.new) (S.digests suite.new))) }
@@ -143,7 +143,7 @@ fn fix_minors<B: Board, S: Suite>(
     ensures read { KeepsDevice (B.device board.old) (B.device board.new) }
     ensures reads { RisesAtMost (128) (B.device board.old).reads (B.device board.new).reads }
     ensures exact_reads { OnOk result (RisesBy (page_reads regs.now.progress.items page 64) (B.device board.old).reads (B.device board.new).reads) }
-    ensures stopped_reads { IfErr result (λ fault. AreStoppedReads (λ a. page_of a ≡ page) (λ a. page_reads regs.now.progress.items page (index_in_page a + 1)) fault (B.device board.old).reads (B.device board.new).reads) }
+    ensures stopped_reads { IfErr result (λ fault. IsReadToStop (λ a. page_of a ≡ page) (λ a. page_reads regs.now.progress.items page (index_in_page a + 1)) fault (B.device board.old).reads (B.device board.new).reads) }
     ensures goes { OnOk result (IsUncut (B.device board.old) (B.device board.new)) }
     ensures worked { IfOk result (λ fixed. SuiteWork fixed.1 0 (suite_state (S.keys suite.old) (S.pads suite.old) (S.tags suite.old) (S.digests suite.old))
         (suite_state (S.keys suite.new) (S.pads suite.new) (S.tags suite.new) (S.digests suite.new))) }
@@ -189,7 +189,7 @@ fn try_line<B: Board, S: Suite>(
     ensures read { KeepsDevice (B.device board.old) (B.device board.new) }
     ensures reads { RisesAtMost (2) (B.device board.old).reads (B.device board.new).reads }
     ensures exact_reads { OnOk result (RisesBy (line_reads regs.now.progress.items at) (B.device board.old).reads (B.device board.new).reads) }
-    ensures stopped_reads { IfErr result (λ fault. AreStoppedReads (λ a. a ≡ at) (λ a. line_reads regs.now.progress.items at) fault (B.device board.old).reads (B.device board.new).reads) }
+    ensures stopped_reads { IfErr result (λ fault. IsReadToStop (λ a. a ≡ at) (λ a. line_reads regs.now.progress.items at) fault (B.device board.old).reads (B.device board.new).reads) }
     ensures goes { OnOk result (IsUncut (B.device board.old) (B.device board.new)) }
     ensures worked { IfOk result (λ tried. SuiteWork tried.1 0 (suite_state (S.keys suite.old) (S.pads suite.old) (S.tags suite.old) (S.digests suite.old))
         (suite_state (S.keys suite.new) (S.pads suite.new) (S.tags suite.new) (S.digests suite.new))) }

@@ -1,2 +1,2 @@
 pub mod MarkLemmas
-pub mod NumberLemmas
+pub mod CipherLemmas

@@ -8,7 +8,7 @@ ledger_of ledger =
     record {
       marks = ledger.marks.items;
       truth = ledger.truth.items;
-      data_lines = length ledger.last.items;
+      data_lines = length ledger.ciphers.items;
       exhibit = ledger.exhibit;
       spare = vec_capacity ledger.marks - vec_len ledger.marks;
     }

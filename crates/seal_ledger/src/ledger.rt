@@ -1,25 +1,25 @@
-//! A ledger in memory, which finds the last seal of a line without going over the marks.
-ghost use Rattle.std.specs.Prelude.{◌≡◌, ◌<◌, All, length, IsSome, IfOk, IfSome};
+//! A ledger in memory, which has the cipher of each line's last seal without going over the marks.
+ghost use Rattle.std.specs.Prelude.{◌≡◌, ◌<◌, All, IfOk, IfSome};
 ghost use Rattle.std.specs.Option.{option_map};
 ghost use Rattle.pmem_base.specs.Geo.{shape_of};
 ghost use Rattle.pmem_base.specs.Lines.{IsLine};
 ghost use Rattle.pmem_base.specs.Marks.{last_seal};
+ghost use Rattle.seal_ledger.specs.Ciphers.{AreLastCiphers};
 ghost use Rattle.seal_ledger.specs.Ledger.{new_ledger, IsOfShape};
-ghost use Rattle.seal_ledger.specs.Numbers.{AreLastNumbers};
 
 use crate::{Audit, Go};
-use pmem_base::{Ctr, Exhibit, Geo, Line, Mark, MemFault, Tag};
+use pmem_base::{Ctr, Exhibit, Geo, GhostLine, Line, Mark, MemFault, Tag};
 use std::alloc::Global;
 
-/// An audit that keeps all it is told. `last` has for each data line the number of its last seal
-/// among the marks, counted from 1, and 0 where it has none.
+/// An audit that keeps what is printed of each mark, and for each data line the cipher of its last
+/// seal, which is the zero line where it has none.
 #[derive(Drop)]
 pub struct Ledger {
     marks: Vec<Mark>,
-    last: Vec<usize>,
+    ciphers: Vec<Line>,
     truth: Vec<Line>,
     exhibit: Option<Exhibit>,
-    ghost last_numbers: { AreLastNumbers marks.items last.items },
+    ghost last_ciphers: { AreLastCiphers marks.items ciphers.items },
     ghost each_line: { All IsLine truth.items },
 }
 
@@ -28,16 +28,16 @@ impl Ledger {
 
     /// The ledger of a geometry: no marks, zero lines and no exhibit. The one error is want of
     /// memory.
-    #[tactic(auto, using(crate::proofs::NumberLemmas::new_ledgers))]
+    #[tactic(auto, using(crate::proofs::CipherLemmas::new_ledgers))]
     pub fn new(alloc: Global, geo: &Geo) -> Result<Ledger, MemFault>
         ensures value { IfOk result (λ ledger. ledger_of ledger ≡ new_ledger (shape_of geo.now)) }
         ensures shape { IfOk result (λ ledger. IsOfShape (shape_of geo.now) (ledger_of ledger)) }
     {
-        let last = vec![in alloc; 0_usize; geo.lines() as usize]?;
+        let ciphers = vec![in alloc; Line::default(); geo.lines() as usize]?;
         let truth = vec![in alloc; Line::default(); geo.metas() as usize]?;
         Ok(Ledger {
             marks: Vec::new(alloc),
-            last,
+            ciphers,
             truth,
             exhibit: None,
         })
@@ -58,15 +58,12 @@ impl Ledger {
     }
 
     /// The cipher of the last seal of a data line.
+    #[tactic(auto, using(crate::proofs::CipherLemmas::kept_cipher))]
     fn last_cipher(&self, at: u32) -> &Line
-        requires line { at < (ledger_of self.now).data_lines }
-        requires sealed { IsSome (last_seal (ledger_of self.now).marks at) }
+        requires { at < (ledger_of self.now).data_lines }
         ensures { IfSome (last_seal (ledger_of self.now).marks at) (λ seal. result.now ≡ seal.cipher) }
     {
-        match &self.marks[self.last[at as usize] - 1] {
-            Mark::Seal { cipher, .. } => cipher,
-            Mark::Begin { .. } => unreachable!(),
-        }
+        &self.ciphers[at as usize]
     }
 }
 
@@ -80,22 +77,22 @@ impl Audit for Ledger {
         Ok(())
     }
 
-    #[tactic(auto, using(crate::proofs::NumberLemmas::begun_marks))]
+    #[tactic(auto, using(crate::proofs::CipherLemmas::begun_marks))]
     fn note_begin(&mut self, page: u32) {
         self.marks.push_reserved(Mark::Begin { page });
     }
 
-    #[tactic(auto, using(crate::proofs::NumberLemmas::sealed_marks))]
+    #[tactic(auto, using(crate::proofs::CipherLemmas::sealed_marks))]
     fn note_seal(&mut self, at: u32, ctr: Ctr, cipher: &Line, tag: &Tag) {
         cipher.is_whole();
         let seal = Mark::Seal {
             at,
             ctr,
-            cipher: *cipher,
+            cipher: GhostLine::of(cipher),
             tag: *tag,
         };
         self.marks.push_reserved(seal);
-        self.last[at as usize] = self.marks.len();
+        self.ciphers[at as usize] = *cipher;
     }
 
     fn note_meta(&mut self, x: u32, line: &Line) {

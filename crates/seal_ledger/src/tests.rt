@@ -24,6 +24,24 @@ fn seal_and_unseal<A: Audit>(
     Ok(audit.note_unseal(at, ctr, cipher, &[7; 16]))
 }
 
+/// Whether a mark is the seal of line 3 under this counter.
+fn is_sealed(mark: &Mark, under: Ctr) -> bool {
+    match mark {
+        Mark::Begin { .. } => false,
+        Mark::Seal { at, ctr, tag, .. } => *at == 3 && *ctr == under && *tag == [7; 16],
+    }
+}
+
+/// Whether the marks are a seal under each counter, with the begin of page 0 between them.
+fn are_told(marks: &[Mark]) -> bool {
+    match marks {
+        [first, Mark::Begin { page: 0 }, second] => {
+            is_sealed(first, FIRST) && is_sealed(second, SECOND)
+        }
+        _ => false,
+    }
+}
+
 #[test]
 fn forged_seal_is_shown(rt: HostRuntime) -> Result<(), Fail> {
     let mut ledger = Ledger::new(rt.alloc(), &Geo::new(1, 1, 1, 1, 0)?)?;
@@ -31,6 +49,7 @@ fn forged_seal_is_shown(rt: HostRuntime) -> Result<(), Fail> {
     let new = Line([6; 64]);
     ledger.reserve(2)?;
     ledger.note_seal(3, FIRST, &old, &[7; 16]);
+    assert_eq!(rt; ledger.note_unseal(3, FIRST, &old, &[7; 16]), Go::On);
     ledger.note_begin(0);
     assert_eq!(rt; ledger.note_unseal(3, SECOND, &new, &[9; 16]), Go::Stop);
     assert_eq!(rt; ledger.note_fetch(4, &old), Go::Stop);
@@ -42,22 +61,8 @@ fn forged_seal_is_shown(rt: HostRuntime) -> Result<(), Fail> {
         tag: [9; 16],
     };
     assert_eq!(rt; ledger.exhibit(), Some(&forged));
-    let marks = [
-        Mark::Seal {
-            at: 3,
-            ctr: FIRST,
-            cipher: old,
-            tag: [7; 16],
-        },
-        Mark::Begin { page: 0 },
-        Mark::Seal {
-            at: 3,
-            ctr: SECOND,
-            cipher: new,
-            tag: [7; 16],
-        },
-    ];
-    assert_eq!(rt; ledger.marks(), marks.as_slice());
+    assert!(rt; are_told(ledger.marks()));
+    assert_eq!(rt; size_of::<Mark>(), 40);
     Ok(())
 }
 

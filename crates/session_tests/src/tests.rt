@@ -10,6 +10,7 @@ mod txn;
 mod wear;
 
 use collision_witness::shown_text;
+use pmem_base::{Exhibit, Kind};
 use std::alloc::Global;
 use std::fmt::Debug;
 use std::process::Abort;
@@ -29,6 +30,14 @@ const TAG_KEY: [u8; 32] = [
     40, 41, 42, 43, 44, 45, 46, 47,
 ];
 
+/// Appends a text 64 times.
+fn push_64(whole: &mut String, text: &str) -> Result<(), Fail> {
+    for _ in 0..64 {
+        whole.push_str(text)?;
+    }
+    Ok(())
+}
+
 /// A text in which each `[aa]` stands for the byte aa 64 times.
 fn spelled(alloc: Global, text: &str) -> Result<String, Fail> {
     let mut whole = String::new(alloc);
@@ -36,9 +45,7 @@ fn spelled(alloc: Global, text: &str) -> Result<String, Fail> {
         match piece.split_once("]") {
             None => whole.push_str(piece)?,
             Some((byte, behind)) => {
-                for _ in 0..64 {
-                    whole.push_str(byte)?;
-                }
+                push_64(&mut whole, byte)?;
                 whole.push_str(behind)?;
             }
         }
@@ -56,20 +63,63 @@ fn ask<T: Talk>(
 ) -> Result<(), Fail> {
     let line = spelled(alloc, command)?;
     let wanted = spelled(alloc, answer)?;
+    let wanted = (command, wanted.as_bytes());
     match session.talk(alloc, line.as_bytes()) {
-        Ok(Some(text)) => assert_eq!(rt; text.as_slice(), wanted.as_bytes(), "{command}"),
+        Ok(Some(text)) => equal(rt, (command, text.as_slice()), wanted),
         Ok(None) => return Err(Fail::new("no answer")),
         Err(Halt::Memory) => return Err(Fail::new("no memory")),
         Err(Halt::Line(_)) => return Err(Fail::new("a malformed line")),
         Err(Halt::Shown(exhibit)) => {
-            assert_eq!(rt;
-                shown_text(&exhibit).as_slice(),
-                wanted.as_bytes(),
-                "{command}"
-            );
+            let text = shown_text(&exhibit);
+            equal(rt, (command, text.as_slice()), wanted);
         }
     }
     Ok(())
+}
+
+/// Whether a command's answer begins so.
+fn begins<T: Talk>(
+    alloc: Global,
+    session: &mut T,
+    command: &str,
+    front: &str,
+) -> Result<bool, Fail> {
+    let line = spelled(alloc, command)?;
+    let wanted = spelled(alloc, front)?;
+    match session.talk(alloc, line.as_bytes()) {
+        Ok(Some(text)) => Ok(text.as_slice().starts_with(wanted.as_bytes())),
+        _ => Err(Fail::new("no answer")),
+    }
+}
+
+/// Asks a comment and then a line with a wrong number of words: neither of them is answered.
+fn ask_nothing<T: Talk>(alloc: Global, session: &mut T, malformed: &str) -> Result<(), Fail> {
+    let Ok(None) = session.talk(alloc, b"# on") else {
+        return Err(Fail::new("not skipped"));
+    };
+    let Err(Halt::Line(Kind::Count)) = session.talk(alloc, malformed.as_bytes()) else {
+        return Err(Fail::new("not malformed"));
+    };
+    Ok(())
+}
+
+/// Turns power on, which has to show a twin: its line, its major and its two minors.
+fn ask_twin<T: Talk>(alloc: Global, session: &mut T) -> Result<(u32, u64, u8, u8), Fail> {
+    let Err(
+        Halt::Shown(
+            Exhibit::Twin {
+                at,
+                major,
+                low,
+                high,
+                ..
+            },
+        ),
+    ) = session.talk(alloc, b"on")
+    else {
+        return Err(Fail::new("no twin"));
+    };
+    Ok((at, major, low, high))
 }
 
 /// Asks each of these steps, `COMMAND: ANSWER` and so on, set apart by ` / `.

@@ -1,25 +1,19 @@
 -- Naming a position by a slot's entry.
-use Rattle.std.proofs.Common.{◌≡◌, ◌≢◌, ℕ, ◌+◌, ◌*◌, ◌/◌, ◌%◌, ◌^◌, ◌≤◌, ◌<◌, true, List, length, Option, Some, None, refl, sym, ap, subst, ◌∙◌, ◌⊎◌, inl, inr, arith, lit<}
+use Rattle.std.proofs.Common.{◌≡◌, ◌≢◌, ℕ, ◌+◌, ◌*◌, ◌/◌, ◌%◌, ◌^◌, ◌≤◌, ◌<◌, true, List, length, Option, Some, None, refl, sym, ap, subst, ◌∙◌, ◌⊎◌, inl, inr, arith}
 use Rattle.std.specs.Prelude.{All, Any, ◌==◌, IsNone, IfNone, OnSome}
 use Rattle.std.specs.List.{list_any, range_with_len}
-use Rattle.std.proofs.Math.Nat.{pow-le-pow_right, div-add-mod, div-lt_iff_lt-mul}
+use Rattle.std.proofs.Math.Nat.{div-add-mod, div-lt_iff_lt-mul}
 use Rattle.std.proofs.lemmas.Bool.{cases_eq, eq-eqb, eqb-true, ne_eqb, cond-true, cond-false}
 use Rattle.std.proofs.lemmas.List.Folds.{Any-from_list_any}
 use Rattle.std.proofs.lemmas.List.FromFn.{length-range_with_len, get_or-range_with_len}
 use Rattle.pmem_base.specs.declared.lines.Line.{Line}
 use Rattle.pmem_base.specs.Shape.{Shape}
-use Rattle.pmem_base.specs.Layout.{slots, meta_lines, shadow_counter_lines, shadow_lines}
+use Rattle.pmem_base.specs.Layout.{slots, shadow_counter_lines, shadow_lines}
 use Rattle.pmem_base.specs.Lines.{IsLine, line_at}
 use Rattle.pmem_base.proofs.LineLemmas.{IsLine-line_at}
 use Rattle.shadow_tables.specs.Entries.{table_entry, slot_entry, is_named_in}
 use Rattle.shadow_tables.specs.Naming.{entry_line, entry_index, naming_line, with_named, Names}
 use Rattle.shadow_tables.proofs.EntryLemmas.{IsEntryPut, IsEntryPut-with_entry, entry_index_below, entry_line_within, slot_entry-put_same, slot_entry-put_other, slot_entry-at_counter, slot_entry-at_node, is_named_in-slot}
-
--- a memory has at most 5461 metadata lines
-pub meta_lines_most : (g : Shape) → g.levels ≤ 6 → meta_lines g ≤ 5461
-meta_lines_most g most =
-    let power : 4 ^ (g.levels + 1) ≤ 4 ^ 7 = pow-le-pow_right {n = 4} (lit< tt) {i = g.levels + 1} {j = 7} (omega arith) in
-    omega arith
 
 -- a slot whose entry names the position, in a bank with the same table
 pub record HasSlot (g : Shape) (shadow : List Line) (bank x : ℕ) : Type 0 where

@@ -1,7 +1,7 @@
 -- Eight minors are seven bytes: the line of a block and the block of a line, by groups.
-use Rattle.std.proofs.Common.{ℕ, ◌≡◌, ◌<◌, ◌≤◌, ◌+◌, ◌-◌, ◌*◌, ◌/◌, ◌%◌, ◌^◌, List, [], ◌∷◌, ◌++◌, length, take, drop, refl, sym, ap, subst, ◌∙◌, arith}
+use Rattle.std.proofs.Common.{ℕ, zero, suc, slice_index, ◌≡◌, ◌<◌, ◌≤◌, ◌+◌, ◌-◌, ◌*◌, ◌/◌, ◌%◌, ◌^◌, List, [], ◌∷◌, ◌++◌, length, take, drop, refl, sym, ap, subst, ◌∙◌, arith}
 use Rattle.std.specs.Prelude.{All}
-use Rattle.std.proofs.lemmas.List.{append_assoc, append-nil, length-drop, length-take-le, take_all, drop-drop}
+use Rattle.std.proofs.lemmas.List.{append_assoc, append-nil, get_or_append_left, get_or-append-add, length-drop, length-take-le, take_all, drop-drop}
 use Rattle.std.proofs.lemmas.Slice.{take-put_mid}
 use borrow.Rule.Slice.PartMut.{put_mid, same_len_mid}
 use Rattle.std.specs.Int.{w64, to_be_bytes, from_be_bytes}
@@ -9,11 +9,12 @@ use Rattle.std.proofs.Math.Nat.{pow-le-pow_right, div-one}
 use Rattle.std.proofs.lemmas.List.Elements.{All-take, All-drop}
 use Rattle.std.proofs.Math.Seq.{take-add}
 use Rattle.pmem_base.specs.declared.lines.Line.{Line}
+use Rattle.pmem_base.specs.declared.lines.Ctr.{Ctr}
 use Rattle.pmem_base.specs.Lines.{AreBytes, IsLine, line_of, big_endian, from_big_endian}
 use Rattle.split_counters.specs.declared.Block.{Block}
-use Rattle.split_counters.specs.Blocks.{packed, unpacked, number_of_minors, minors_of_number}
+use Rattle.split_counters.specs.Blocks.{packed, unpacked, minor_of, block_counter, number_of_minors, minors_of_number}
 use Rattle.pmem_base.proofs.Digits.{big_endian-join, from_big_endian-append, from_big_endian-below}
-use Rattle.split_counters.proofs.MinorDigits.{minors_of_number-join, number_of_minors-append, number_of_minors-below}
+use Rattle.split_counters.proofs.MinorDigits.{length-minors_of_number, minors_of_number-join, number_of_minors-append, number_of_minors-below}
 
 -- seven minors have 49 bits
 pub number_of_minors-few : (minors : List ℕ) (i : ℕ) → i ≤ 7 → length minors ≡ 8 → All (λ m. m ≤ 127) minors → number_of_minors (take i minors) < 2 ^ 49
@@ -63,6 +64,10 @@ packed_front-all major minors long =
 unfoldable pub unpacked_front : List ℕ → ℕ → List ℕ
 unpacked_front bytes g = minors_of_number (8 * g) (from_big_endian (take (7 * g) bytes))
 
+unpacked_front-length : (bytes : List ℕ) (g : ℕ) → length (unpacked_front bytes g) ≡ 8 * g
+unfolding unpacked_front
+unpacked_front-length bytes g = length-minors_of_number (8 * g) (from_big_endian (take (7 * g) bytes))
+
 pub unpacked_front-none : (bytes : List ℕ) → unpacked_front bytes 0 ≡ []
 unfolding unpacked_front
 unpacked_front-none bytes = refl
@@ -91,6 +96,62 @@ pub unpacked_front-all : (bytes : List ℕ) → length bytes ≡ 56 → unpacked
 unfolding unpacked_front
 unpacked_front-all bytes long =
     ap (λ bs. minors_of_number 64 (from_big_endian bs)) (take_all 56 bytes (omega (arith, long)))
+
+-- the minors of the first g groups are the first ones of more
+front_kept : (bytes : List ℕ) (g d i : ℕ) → AreBytes bytes → 7 * (g + d) ≤ length bytes → i < 8 * g → slice_index (unpacked_front bytes (g + d)) i ≡ slice_index (unpacked_front bytes g) i
+front_kept bytes g zero i small long inside = ap (λ n. slice_index (unpacked_front bytes n) i) (omega arith)
+front_kept bytes g (suc d) i small long inside =
+    let more : g + suc d ≡ g + d + 1 = omega arith in
+    let group = minors_of_number 8 (from_big_endian (take 7 (drop (7 * (g + d)) bytes))) in
+    ap (λ n. slice_index (unpacked_front bytes n) i) more
+    ∙ ap (λ xs. slice_index xs i) (sym (unpacked_front-more bytes (g + d) small (omega (arith, long))))
+    ∙ get_or_append_left (unpacked_front bytes (g + d)) group 0 i (omega (arith, unpacked_front-length bytes (g + d), inside))
+    ∙ front_kept bytes g d i small (omega (arith, long)) inside
+
+-- minor k of group g of a line, from the group's bytes
+pub minor_in_group : (line : Line) (i g k : ℕ) → IsLine line → g < 8 → k < 8 → i ≡ 8 * g + k
+    → slice_index (minors_of_number 8 (from_big_endian (take (7 * g + 8 + 7 - (7 * g + 8)) (drop (7 * g + 8) line.0)))) k
+    ≡ minor_of (unpacked line) i
+unfolding unpacked
+minor_in_group line i g k whole inside low is =
+    let bytes = drop 8 line.0 in
+    let long : length bytes ≡ 56 = length-drop 8 line.0 ∙ omega (arith, whole.long) in
+    let small = All-drop (λ b. b < 256) 8 line.0 whole.bytes in
+    let seven : 7 * g + 8 + 7 - (7 * g + 8) ≡ 7 = omega arith in
+    let later : 7 * g + 8 ≡ 8 + 7 * g = omega arith in
+    let group = minors_of_number 8 (from_big_endian (take 7 (drop (7 * g) bytes))) in
+    let rest : g + 1 + (7 - g) ≡ 8 = omega (arith, inside) in
+    ap (λ n. slice_index (minors_of_number 8 (from_big_endian (take n (drop (7 * g + 8) line.0)))) k) seven
+    ∙ ap (λ n. slice_index (minors_of_number 8 (from_big_endian (take 7 (drop n line.0)))) k) later
+    ∙ ap (λ t. slice_index (minors_of_number 8 (from_big_endian (take 7 t))) k) (sym (drop-drop (7 * g) 8 line.0))
+    ∙ sym (get_or-append-add (unpacked_front bytes g) group k 0)
+    ∙ ap (λ n. slice_index (unpacked_front bytes g ++ group) n) (omega (arith, unpacked_front-length bytes g, is))
+    ∙ ap (λ xs. slice_index xs i) (unpacked_front-more bytes g small (omega (arith, long, inside)))
+    ∙ sym (front_kept bytes (g + 1) (7 - g) i small (omega (arith, long, inside)) (omega (arith, low, is)))
+    ∙ ap (λ n. slice_index (unpacked_front bytes n) i) rest
+    ∙ ap (λ ms. slice_index ms i) (unpacked_front-all bytes long)
+
+from_eight : (bytes : List ℕ) → length bytes ≡ 8 → from_be_bytes w64 bytes ≡ from_big_endian bytes
+from_eight (a ∷ b ∷ c ∷ d ∷ e ∷ f ∷ g ∷ h ∷ []) long = omega arith
+from_eight bytes long = absurd (omega (arith, long))
+
+abbrev read_counter : ℕ → ℕ → Ctr
+read_counter major minor = record { major = major; minor = minor }
+
+pub counter_read : (line : Line) (first group : List ℕ) (major i g k : ℕ) → IsLine line → i < 64 → g ≡ i / 8 → k ≡ i % 8
+    → first ≡ take 8 line.0 → major ≡ from_be_bytes w64 first
+    → group ≡ minors_of_number 8 (from_big_endian (take (7 * g + 8 + 7 - (7 * g + 8)) (drop (7 * g + 8) line.0)))
+    → read_counter major (slice_index group k) ≡ block_counter (unpacked line) i
+unfolding unpacked
+counter_read line first group major i g k whole inside its_group its_place read value minors =
+    let eight : length (take 8 line.0) ≡ 8 = length-take-le 8 line.0 (omega (arith, whole.long)) in
+    let its_major : major ≡ from_big_endian (take 8 line.0) =
+    value ∙ (ap (λ t. from_be_bytes w64 t) read ∙ from_eight (take 8 line.0) eight) in
+    let its_minor : slice_index group k ≡ minor_of (unpacked line) i =
+    ap (λ ms. slice_index ms k) minors
+    ∙ minor_in_group line i g k whole (omega (arith, inside, its_group)) (omega (arith, its_place)) (omega (arith, its_group, its_place)) in
+    ap (λ m. read_counter m (slice_index group k)) its_major
+    ∙ ap (read_counter (from_big_endian (take 8 line.0))) its_minor
 
 -- ---- the steps of the loops: a group is written at its place
 
@@ -145,10 +206,6 @@ pub to_eight : (value : ℕ) → to_be_bytes w64 value ≡ big_endian 8 value
 to_eight value =
     ap (λ z. value / 256 ^ 7 % 256 ∷ value / 256 ^ 6 % 256 ∷ value / 256 ^ 5 % 256 ∷ value / 256 ^ 4 % 256 ∷ value / 256 ^ 3 % 256 ∷ value / 256 ^ 2 % 256 ∷ value / 256 ^ 1 % 256 ∷ z % 256 ∷ [])
     (sym (div-one value))
-
-from_eight : (bytes : List ℕ) → length bytes ≡ 8 → from_be_bytes w64 bytes ≡ from_big_endian bytes
-from_eight (a ∷ b ∷ c ∷ d ∷ e ∷ f ∷ g ∷ h ∷ []) long = omega arith
-from_eight bytes long = absurd (omega (arith, long))
 
 pub unpack_end : (line : Line) (first minors : List ℕ) (major : ℕ) → IsLine line → length minors ≡ 64 → take 64 minors ≡ unpacked_front (drop 8 line.0) 8 → first ≡ take 8 line.0 → major ≡ from_be_bytes w64 first → record { major = major; minors = minors } ≡ unpacked line
 unfolding unpacked

@@ -1,11 +1,11 @@
 //! The 64 bytes of a counter block: 8 of the major, and then the minors as 7 bits each in a row.
-ghost use Rattle.std.specs.Prelude.{◌≡◌, ◌≤◌, All, length};
-ghost use Rattle.pmem_base.specs.Lines.{big_endian, from_big_endian};
-ghost use Rattle.split_counters.specs.Blocks.{IsBlock, packed, unpacked, number_of_minors, minors_of_number};
+ghost use Rattle.std.specs.Prelude.{◌≡◌, ◌<◌, ◌≤◌, All, length};
+ghost use Rattle.pmem_base.specs.Lines.{IsCtr, big_endian, from_big_endian};
+ghost use Rattle.split_counters.specs.Blocks.{IsBlock, block_counter, packed, unpacked, number_of_minors, minors_of_number};
 ghost use Rattle.split_counters.specs.Bits.{HasMinorBits};
 
 use crate::Block;
-use pmem_base::Line;
+use pmem_base::{Ctr, Line};
 
 /// The line of a block.
 pub fn pack(block: &Block) -> Line
@@ -37,6 +37,25 @@ pub fn unpack(line: &Line) -> Block
     Block {
         major: u64::from_be_bytes(major),
         minors,
+    }
+}
+
+/// The counter of line `i` of a page by its block's line: of the minors only the group of `i` is
+/// unpacked.
+pub fn counter_at(line: &Line, i: u8) -> Ctr
+    requires { i < 64 }
+    ensures value { result ≡ block_counter (unpacked line.now) i }
+    ensures range { IsCtr result }
+{
+    line.is_whole();
+    let mut major = [0; 8];
+    major.copy_from_slice(&line.0[..8]);
+    let start = 7 * usize::from(i / 8) + 8;
+    let minors = unpacked_group(&line.0[start..start + 7]);
+    let major = u64::from_be_bytes(major);
+    Ctr {
+        major,
+        minor: minors[usize::from(i % 8)],
     }
 }
 

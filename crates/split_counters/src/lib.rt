@@ -5,7 +5,7 @@ ghost use Rattle.split_counters.specs.Blocks.{IsBlock, minor_of, bumped, rolled}
 
 mod bytes;
 
-pub use bytes::{block_is_kept, line_is_kept, minors_have_seven_bits, pack, unpack};
+pub use bytes::{block_is_kept, counter_at, line_is_kept, minors_have_seven_bits, pack, unpack};
 use pmem_base::Spent;
 
 /// A page's major and its lines' minors, each at most 127.

@@ -1,10 +1,11 @@
 -- Logical memory through each write of a write and its move.
-use Rattle.std.proofs.Common.{ℕ, ◌≡◌, ◌≢◌, ◌<◌, ◌≤◌, ◌+◌, ◌-◌, ◌^◌, inl, inr, List, ◌++◌, length, replicate, Some, sym, ap, ◌∙◌, arith}
+use Rattle.std.proofs.Common.{ℕ, ◌≡◌, ◌<◌, ◌≤◌, ◌+◌, ◌-◌, ◌^◌, inl, inr, List, ◌++◌, length, replicate, Some, sym, ap, ◌∙◌, arith}
 use Rattle.std.specs.Prelude.{slice_set}
 use Rattle.std.proofs.lemmas.Bool.{cases_eq}
-use Rattle.std.proofs.lemmas.List.{length-set, get_or-set_same, get_or-set_other, length-replicate, get_or-replicate}
+use Rattle.std.proofs.lemmas.List.{length-set, length-replicate, get_or-replicate}
 use Rattle.pmem_base.specs.declared.lines.Line.{Line}
 use Rattle.pmem_base.specs.Lines.{line_at, zero_line, line_of, big_endian}
+use Rattle.pmem_base.proofs.LineSets.{line_at-set_same, line_at-set_other}
 use Rattle.start_gap.specs.declared.wear.Wear.{Wear}
 use Rattle.start_gap.specs.Wear.{IsWear, place_of, next_wear, source_of, first_wear}
 use Rattle.start_gap.specs.Record.{recorded, wear_record}
@@ -12,19 +13,12 @@ use Rattle.start_gap.specs.Logical.{IsLevelled, with_levelled_line, with_copy, w
 use Rattle.start_gap.proofs.Places.{places, next_place, next-IsWear}
 use Rattle.start_gap.proofs.Records.{recorded_record}
 
--- a line of a list where one is set
-same_line : (lines : List Line) (k : ℕ) (line : Line) → k < length lines → line_at (slice_set lines k line) k ≡ line
-same_line lines k line inside = get_or-set_same lines k line zero_line inside
-
-other_line : (lines : List Line) (k j : ℕ) (line : Line) → j ≢ k → line_at (slice_set lines k line) j ≡ line_at lines j
-other_line lines k j line apart = get_or-set_other lines k j line zero_line apart
-
 -- the record stays where another line is set
 same_record : (n : ℕ) (lines : List Line) (wear : Wear) (k : ℕ) (line : Line) → k ≤ n
     → recorded n (line_at lines (n + 1)) ≡ Some wear
     → recorded n (line_at (slice_set lines k line) (n + 1)) ≡ Some wear
 same_record n lines wear k line low its =
-    ap (recorded n) (other_line lines k (n + 1) line (λ e. omega (arith, e, low))) ∙ its
+    ap (recorded n) (line_at-set_other lines k (n + 1) line (λ e. omega (arith, e, low))) ∙ its
 
 -- a logical line is written
 pub write_levels : (n : ℕ) (lines memory : List Line) (wear : Wear) (a : ℕ) (plain : Line) → a < n
@@ -43,12 +37,12 @@ write_levels n lines memory wear a plain ha old =
                 λ b hb. elim (cases_eq b a) [
                   | inl e ↦
                       ap (λ k. line_at (with_levelled_line n wear a plain lines) (place_of n wear k)) e
-                      ∙ same_line lines (place_of n wear a) plain (omega (arith, within, old.size))
-                      ∙ sym (ap (line_at (slice_set memory a plain)) e ∙ same_line memory a plain (omega (arith, ha, old.holds.count)))
+                      ∙ line_at-set_same lines (place_of n wear a) plain (omega (arith, within, old.size))
+                      ∙ sym (ap (line_at (slice_set memory a plain)) e ∙ line_at-set_same memory a plain (omega (arith, ha, old.holds.count)))
                   | inr e ↦
-                      other_line lines (place_of n wear a) (place_of n wear b) plain (λ same. e (its.distinct b a hb ha same))
+                      line_at-set_other lines (place_of n wear a) (place_of n wear b) plain (λ same. e (its.distinct b a hb ha same))
                       ∙ old.holds.each b hb
-                      ∙ sym (other_line memory a b plain e)
+                      ∙ sym (line_at-set_other memory a b plain e)
                 ];
           };
     }
@@ -67,7 +61,7 @@ copy_levels n lines memory wear old =
             count = old.holds.count;
             each =
                 λ b hb.
-                other_line lines wear.gap (place_of n wear b) (line_at lines (source_of n wear)) (its.not_gap b hb)
+                line_at-set_other lines wear.gap (place_of n wear b) (line_at lines (source_of n wear)) (its.not_gap b hb)
                 ∙ old.holds.each b hb;
           };
     }
@@ -76,10 +70,10 @@ copy_levels n lines memory wear old =
 pub copy_same : (n : ℕ) (lines : List Line) (wear : Wear) → IsWear n wear → length lines ≡ n + 2
     → line_at (with_copy n wear lines) wear.gap ≡ line_at (with_copy n wear lines) (source_of n wear)
 copy_same n lines wear its size =
-    let here = same_line lines wear.gap (line_at lines (source_of n wear)) (omega (arith, its.gap, size)) in
+    let here = line_at-set_same lines wear.gap (line_at lines (source_of n wear)) (omega (arith, its.gap, size)) in
     elim (cases_eq (source_of n wear) wear.gap) [
       | inl e ↦ ap (line_at (with_copy n wear lines)) (sym e)
-      | inr e ↦ here ∙ sym (other_line lines wear.gap (source_of n wear) (line_at lines (source_of n wear)) e)
+      | inr e ↦ here ∙ sym (line_at-set_other lines wear.gap (source_of n wear) (line_at lines (source_of n wear)) e)
     ]
 
 pub same_under_next : (n : ℕ) → IsSameUnderNext n
@@ -105,7 +99,7 @@ record_levels n lines memory wear small same old =
       size = length-set lines (n + 1) (wear_record n (next_wear n wear)) ∙ old.size;
       its_wear = next;
       its_record =
-          ap (recorded n) (same_line lines (n + 1) (wear_record n (next_wear n wear)) (omega (arith, old.size)))
+          ap (recorded n) (line_at-set_same lines (n + 1) (wear_record n (next_wear n wear)) (omega (arith, old.size)))
           ∙ recorded_record n (next_wear n wear) small next;
       holds =
           record {
@@ -113,7 +107,7 @@ record_levels n lines memory wear small same old =
             each =
                 λ a ha.
                 let within = its.within a ha in
-                other_line lines (n + 1) (place_of n (next_wear n wear) a) (wear_record n (next_wear n wear)) (λ e. omega (arith, e, within))
+                line_at-set_other lines (n + 1) (place_of n (next_wear n wear) a) (wear_record n (next_wear n wear)) (λ e. omega (arith, e, within))
                 ∙ held.each a ha;
           };
     }

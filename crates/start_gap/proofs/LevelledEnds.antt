@@ -1,7 +1,6 @@
 -- How the engine stands after a write with its move, call by call.
-use Rattle.std.proofs.Common.{rules, ℕ, ◌≡◌, ◌+◌, ◌⊎◌, inl, inr, Bool, true, false, Result, Ok, Err, refl, sym, subst}
-use Rattle.std.specs.Prelude.{nat_lt, MatchBool, ◌<◌}
-use Rattle.std.proofs.lemmas.Bool.{true≢false}
+use Rattle.std.proofs.Common.{ℕ, ◌≡◌, ◌+◌, Result, Ok, Err, refl, sym, subst}
+use Rattle.std.specs.Prelude.{nat_lt}
 use Rattle.pmem_base.specs.declared.lines.Line.{Line}
 use Rattle.pmem_base.specs.declared.lines.Ctr.{Ctr}
 use Rattle.pmem_base.specs.declared.commands.Posted.{Posted}
@@ -124,7 +123,7 @@ trusted_after setup a plain old new from to answer it trusted =
     go (Ok (Move.Held page)) is = is
     go (Err fault) is = is
 
-unrefused_fault : (T : Type 0) (fault : Fault) → IsUnrefused {T = T} (Err fault) → IsCutOrSpent fault
+pub unrefused_fault : (T : Type 0) (fault : Fault) → IsUnrefused {T = T} (Err fault) → IsCutOrSpent fault
 unrefused_fault T Fail.Cut is = tt
 unrefused_fault T (Fail.Spent page) is = tt
 unrefused_fault T fault is = absurd is

@@ -1,14 +1,14 @@
 -- The steps of a call on a watched board, as an answer tells them.
-use Rattle.std.proofs.Common.{ℕ, zero, suc, ◌≡◌, ◌<◌, ◌≤◌, ◌+◌, ◌-◌, true, false, Bool, inl, inr, Option, Some, None, refl, sym, ap, subst, ◌∙◌, arith}
+use Rattle.std.proofs.Common.{ℕ, ◌≡◌, ◌<◌, ◌≤◌, ◌+◌, ◌-◌, true, false, Bool, refl, ap, ◌∙◌, arith}
 use Rattle.std.specs.Prelude.{min, option_map, IfSome}
-use Rattle.std.proofs.lemmas.Bool.{cases_lt}
 use Rattle.std.proofs.lemmas.Option.{same_Some}
-use Rattle.pmem_base.specs.Counts.{last_count, HasRisen}
+use Rattle.pmem_base.specs.Counts.{last_count}
 use Rattle.board.specs.Counts.{RisesBy}
 use Rattle.board.specs.Device.{Device}
 use Rattle.board.specs.Memory.{BoardMemory}
 use Rattle.watched_board.specs.declared.taken.Taken.{Taken}
-use Rattle.watched_board.specs.Watching.{counted, cuts_after, steps_in, step_limit, device_during, none_taken, IsWatched}
+use Rattle.watched_board.specs.Watching.{counted, steps_in, step_limit, device_during, none_taken, IsWatched}
+use Rattle.watched_board.proofs.StepLaws.{unburnt, rose}
 use Rattle.tree_session.specs.Answered.{TakesTreeSteps, IsTreeCutAt}
 
 -- ---- counts
@@ -22,20 +22,6 @@ risen-one last l tl nl latches in_l = (omega arith, λ below. omega arith)
 
 unrisen-one : (last l nl : ℕ) → nl ≡ min (l + 0) last → l ≤ last → nl ≡ l
 unrisen-one last l nl latches in_l = omega arith
-
--- a count after some more has risen
-rose_by : (before more : ℕ) → 0 < more → HasRisen before (cuts_after before more)
-rose_by before zero some = absurd (omega (arith, some))
-rose_by before (suc more) some =
-    elim (cases_lt before (counted before (suc more))) [
-      | inl above ↦ inl above
-      | inr below ↦ inr (omega (arith, below))
-    ]
-
--- a fuse with nothing burnt
-unburnt : (fuse : Option ℕ) → option_map (λ m. m - 0) fuse ≡ fuse
-unburnt None = refl
-unburnt (Some n) = let same : n - 0 ≡ n = omega arith in ap (λ m. Some m) same
 
 same_board : (p q : BoardMemory) → p.lines ≡ q.lines → p.regs ≡ q.regs → p.powered ≡ q.powered → p.fuse ≡ q.fuse → p.snapshot ≡ q.snapshot → p.reads ≡ q.reads → p.writes ≡ q.writes
     → p.latches ≡ q.latches → p.cuts ≡ q.cuts → p ≡ q
@@ -77,7 +63,7 @@ module _ (old new : BoardMemory) (taken : Taken) (watched : IsWatched old new ta
             record {
               at_end = watched.follows.spent off below;
               cleared = watched.follows.cleared off;
-              cut = subst (λ n. HasRisen old.cuts n) (sym watched.follows.cuts) (rose_by old.cuts taken.cuts (watched.follows.cut off));
+              cut = rose old new taken watched.follows off;
             };
         power = off;
         snapshot = watched.follows.snapshot;

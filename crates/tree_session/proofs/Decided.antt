@@ -1,6 +1,6 @@
 -- Answers that the state decides.
 use Rattle.std.proofs.Common.{ℕ, ◌≡◌, ◌<◌, ◌≤◌, true, false, Bool, List, Option, Some, None, Ok, Err, refl, sym, ap, subst, ◌∙◌}
-use Rattle.std.specs.Prelude.{Result, IsErr, OnOk, OnErr, nat_lt, not, is_none, is_some, if◌then◌else◌, slice_set, All}
+use Rattle.std.specs.Prelude.{Result, IsErr, OnErr, nat_lt, not, is_none, is_some, if◌then◌else◌, slice_set, All}
 use Rattle.std.proofs.lemmas.Bool.{lt-ltb, le-ltb, true≢false, false≢true}
 use Rattle.pmem_base.specs.declared.lines.Line.{Line}
 use Rattle.pmem_base.specs.Lines.{IsLine, line_at}
@@ -33,20 +33,11 @@ some_found None none its is = absurd (false≢true (its ∙ ap not is))
 some_found (Some x) none its is = (x, refl)
 
 -- and one of `is_some`
-pub found_none : {X : Type 0} (found : Option X) (some : Bool) → some ≡ is_some found → some ≡ false → found ≡ None
-found_none None some its is = refl
-found_none (Some x) some its is = absurd (true≢false (sym its ∙ is))
-
 pub found_some : {X : Type 0} (found : Option X) (some : Bool) → some ≡ is_some found → some ≡ true → (x : X) × (found ≡ Some x)
 found_some None some its is = absurd (false≢true (sym its ∙ is))
 found_some (Some x) some its is = (x, refl)
 
--- what holds of an answer that is no error
-pub from_no_error : {T E P : Type 0} (answer : Result T E) → (IsErr answer → ⊥) → OnOk answer P → P
-from_no_error (Ok value) fine holds = holds
-from_no_error (Err error) fine holds = absurd (fine refl)
-
--- and what holds of one
+-- what holds of an answer that is an error
 from_error : {T E P : Type 0} (answer : Result T E) → IsErr answer → OnErr answer P → P
 from_error (Ok value) is holds = absurd (false≢true is)
 from_error (Err error) is holds = holds

@@ -1,5 +1,5 @@
 -- What a session holds, and what a call that goes on, is cut or shows leaves of it.
-use Rattle.std.proofs.Common.{ℕ, ◌≡◌, ◌<◌, ◌≤◌, ◌+◌, true, false, Bool, List, [], length, Option, Some, None, refl, sym, ap, subst, ◌∙◌}
+use Rattle.std.proofs.Common.{ℕ, ◌≡◌, ◌<◌, ◌≤◌, ◌+◌, true, false, Bool, List, [], length, Option, Some, None, refl, sym, ap, subst, ◌∙◌, arith}
 use Rattle.std.specs.Prelude.{IsSome, IsNone, IfSome, MatchOption, All, slice_index_or}
 use Rattle.pmem_base.specs.declared.registers.Regs.{Regs}
 use Rattle.pmem_base.specs.declared.answers.Exhibit.{Exhibit}
@@ -259,6 +259,24 @@ module _ (c : TreeEngineCall) where
 
     pub rooted_cut : IsRooted c.setup (plain_of_parts c.setup (left None hurt))
     rooted_cut = rooted_off c.setup (left None hurt) c.world.whole_shape anchored_to effect.power.1
+
+  -- a call that goes on, with the flags of hurt lines as they were
+  pub held_still : TreeCallEffect c.setup going from to → IsTreeWorld c.setup (left (Some c.after) c.parts.hurt)
+  held_still effect = on_after effect c.parts.hurt c.world.hurt_count (seals_kept going effect)
+
+  pub rooted_still : TreeCallEffect c.setup going from to → IsRooted c.setup (plain_of_parts c.setup (left (Some c.after) c.parts.hurt))
+  rooted_still effect = rooted_after effect c.parts.hurt c.world.hurt_count (seals_kept going effect)
+
+  -- and one that is cut, with the registers as they were too
+  module _ (effect : TreeCallEffect c.setup cut_short from to) (same : c.board.regs ≡ c.parts.board.regs) where
+    small : length c.board.regs.group.items ≤ c.setup.shape.levels + 3
+    small = omega (arith, ap (λ (regs : Regs). length regs.group.items) same, ap length trusted_from.no_group)
+
+    pub cut_still : IsTreeWorld c.setup (left None c.parts.hurt)
+    cut_still = off_after effect small c.parts.hurt c.world.hurt_count (seals_kept cut_short effect)
+
+    pub cut_rooted_still : IsRooted c.setup (plain_of_parts c.setup (left None c.parts.hurt))
+    cut_rooted_still = rooted_cut effect small c.parts.hurt c.world.hurt_count (seals_kept cut_short effect)
 
   -- a call that ends with an exhibit, after which the board rests
   pub ended_after : TreeCallEffect c.setup shown from to → KeepsWatch shown c.parts.watch c.watch → (exhibit : Exhibit) → c.watch.exhibit ≡ Some exhibit → AreSmallMinors exhibit

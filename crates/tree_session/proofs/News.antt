@@ -1,5 +1,5 @@
 -- A formatted device begins a session.
-use Rattle.std.proofs.Common.{ℕ, zero, suc, ◌≡◌, ◌<◌, true, false, List, ◌∷◌, length, Option, Some, None, refl, sym, ap, subst, ◌∙◌, arith, zero-add, lit<}
+use Rattle.std.proofs.Common.{ℕ, zero, suc, ◌≡◌, ◌<◌, true, false, List, ◌∷◌, length, Some, None, refl, sym, ap, subst, ◌∙◌, arith, zero-add, lit<}
 use Rattle.std.specs.Prelude.{All, is_none, map, replicate, slice_set}
 use Rattle.std.specs.List.{range_with_len}
 use Rattle.std.proofs.lemmas.List.{ext_get_or, length-replicate, map-set}
@@ -63,10 +63,6 @@ module _ (setup : Setup) (keys : List ℕ) (engine : TreeState) (board : BoardMe
 
   lit : (board.powered ≡ true) × (is_none board.fuse ≡ true)
   lit = and_parts board.powered (is_none board.fuse) it.device.steady
-
-  fuse-none : (fuse : Option ℕ) → is_none fuse ≡ true → fuse ≡ None
-  fuse-none None is = refl
-  fuse-none (Some n) is = absurd (Rattle.std.proofs.lemmas.Bool.false≢true is)
 
   size : length board.lines ≡ tree_size setup.shape
   size = it.device.size ∙ length-replicate (tree_size setup.shape) zero_line
@@ -157,7 +153,7 @@ module _ (setup : Setup) (keys : List ℕ) (engine : TreeState) (board : BoardMe
         lines = it.device.lines;
         regs = it.device.regs;
         power = lit.0;
-        fuse = fuse-none board.fuse lit.1;
+        fuse = none_is board.fuse lit.1;
         snapshot = snapshot;
         reads = it.device.reads;
         writes = it.device.writes;

@@ -15,8 +15,8 @@ use Rattle.tree_session.specs.declared.answers.TreeAnswer.TheVariants as Say
 use Rattle.tree_session.specs.State.{tree_setup_in}
 use Rattle.tree_session.specs.World.{TreeParts, state_of, IsTreeWorld}
 use Rattle.tree_session.specs.Answered.{IsTreeAnswered, IsTreeHalt}
-use Rattle.tree_session.proofs.Held.{left, left_resting, from, to, trusted_from}
-use Rattle.tree_session.proofs.ReadLaws.{read_held, read_done, cut_held, cut_done, node_held, node_done, tag_held, tag_done, shown_held, shown_done, shown_minors}
+use Rattle.tree_session.proofs.Held.{left, left_resting, from, to, trusted_from, held_still, cut_still}
+use Rattle.tree_session.proofs.ReadLaws.{read_done, cut_done, node_done, tag_done, shown_held, shown_done, shown_minors}
 use Rattle.tree_session.proofs.Seen.{WorldCall, call, setup_of, setup_under, as_read, seen, held, halts, some_of}
 
 pub record ReadTreeCall : Type 0 where
@@ -41,7 +41,7 @@ module _ (r : ReadTreeCall) where
   was known is = as_read r.world r.at r.answer known is r.was_read
 
   pub got_held : (line : Line) → r.answer ≡ Ok line → IsTreeWorld setup_then (under (kept (Some r.world.after)))
-  got_held line is = held r.world (kept (Some r.world.after)) (read_held (call r.world) r.at r.within line (was (Ok line) is))
+  got_held line is = held r.world (kept (Some r.world.after)) (held_still (call r.world) ((was (Ok line) is).done (trusted_from (call r.world)).not_down).effect)
 
   pub got_seen : (line : Line) → r.answer ≡ Ok line
       → IsTreeAnswered (tree_setup_in r.world.formulas_of r.world.now) r.world.now (Do.Read r.at) (Say.Got line r.world.said) (state_of setup_then (under (kept (Some r.world.after))))
@@ -49,7 +49,7 @@ module _ (r : ReadTreeCall) where
       seen r.world (kept (Some r.world.after)) (Do.Read r.at) (Say.Got line) refl (read_done (call r.world) r.at r.within line (was (Ok line) is))
 
   pub node_kept : (x : ℕ) → r.answer ≡ Err (Fail.Node x) → IsTreeWorld setup_then (under (kept (Some r.world.after)))
-  node_kept x is = held r.world (kept (Some r.world.after)) (node_held (call r.world) r.at r.within x (was (Err (Fail.Node x)) is))
+  node_kept x is = held r.world (kept (Some r.world.after)) (held_still (call r.world) ((was (Err (Fail.Node x)) is).done (trusted_from (call r.world)).not_down).effect)
 
   pub node_seen : (x : ℕ) → r.answer ≡ Err (Fail.Node x)
       → IsTreeAnswered (tree_setup_in r.world.formulas_of r.world.now) r.world.now (Do.Read r.at) (Say.RefusedNode x r.world.said) (state_of setup_then (under (kept (Some r.world.after))))
@@ -57,7 +57,7 @@ module _ (r : ReadTreeCall) where
       seen r.world (kept (Some r.world.after)) (Do.Read r.at) (Say.RefusedNode x) refl (node_done (call r.world) r.at r.within x (was (Err (Fail.Node x)) is))
 
   pub tag_kept : (t : ℕ) → r.answer ≡ Err (Fail.Tag t) → IsTreeWorld setup_then (under (kept (Some r.world.after)))
-  tag_kept t is = held r.world (kept (Some r.world.after)) (tag_held (call r.world) r.at r.within t (was (Err (Fail.Tag t)) is))
+  tag_kept t is = held r.world (kept (Some r.world.after)) (held_still (call r.world) ((was (Err (Fail.Tag t)) is).done (trusted_from (call r.world)).not_down).effect)
 
   pub tag_seen : (t : ℕ) → r.answer ≡ Err (Fail.Tag t)
       → IsTreeAnswered (tree_setup_in r.world.formulas_of r.world.now) r.world.now (Do.Read r.at) (Say.RefusedData t r.world.said) (state_of setup_then (under (kept (Some r.world.after))))
@@ -65,7 +65,9 @@ module _ (r : ReadTreeCall) where
       seen r.world (kept (Some r.world.after)) (Do.Read r.at) (Say.RefusedData t) refl (tag_done (call r.world) r.at r.within t (was (Err (Fail.Tag t)) is))
 
   pub cut_kept : r.answer ≡ Err Fail.Cut → IsTreeWorld setup_then (under (kept None))
-  cut_kept is = held r.world (kept None) (cut_held (call r.world) r.at r.within (was (Err Fail.Cut) is))
+  cut_kept is =
+      let cut = (was (Err Fail.Cut) is).done (trusted_from (call r.world)).not_down in
+      held r.world (kept None) (cut_still (call r.world) cut.effect cut.regs)
 
   pub cut_seen : r.answer ≡ Err Fail.Cut
       → IsTreeAnswered (tree_setup_in r.world.formulas_of r.world.now) r.world.now (Do.Read r.at) (Say.Cut r.world.said) (state_of setup_then (under (kept None)))

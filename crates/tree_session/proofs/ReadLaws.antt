@@ -1,5 +1,5 @@
 -- A read: what is left of the session, and what is answered.
-use Rattle.std.proofs.Common.{ℕ, ◌≡◌, ◌≢◌, ◌<◌, ◌≤◌, ◌+◌, ◌⊎◌, false, inl, inr, List, length, Option, Some, None, Ok, Err, refl, sym, ap, subst, ◌∙◌, arith}
+use Rattle.std.proofs.Common.{ℕ, ◌≡◌, ◌≢◌, ◌<◌, ◌⊎◌, false, inl, inr, List, Option, Some, None, Ok, Err, refl, sym, ap, subst, ◌∙◌, arith}
 use Rattle.std.specs.Prelude.{IfSome, slice_index_or}
 use Rattle.pmem_base.specs.declared.lines.Line.{Line}
 use Rattle.pmem_base.specs.declared.registers.Regs.{Regs}
@@ -29,7 +29,7 @@ use Rattle.tree_session.specs.World.{TreeParts, plain_of_parts, state_of, IsTree
 use Rattle.tree_session.specs.Answered.{IsTreeAnswered, IsRooted, IsEngineShown, IsBoardSpilled, SaysOfRead, AnswersWith, tree_decided, IsDataAccepted, IsDataRefusal, IsDataExhibit, IsNodeExhibit, IsNodeRefusal}
 use Rattle.tree_session.proofs.BoardSteps.{goes_on, cut_off, then_rests}
 use Rattle.tree_session.proofs.PlainStates.{plain_is}
-use Rattle.tree_session.proofs.Held.{TreeEngineCall, from, to, left, left_resting, trusted_from, powered_from, seals_kept, on_after, rooted_after, off_after, rooted_cut, ended_after}
+use Rattle.tree_session.proofs.Held.{TreeEngineCall, from, to, left, left_resting, trusted_from, powered_from, seals_kept, rooted_still, cut_rooted_still, ended_after}
 use Rattle.tree_session.proofs.EngineCalls.{backs, backs-cut, undecided_line, kept_plain, rooted_shown, refused_node, shown_node, forged-minors}
 use Rattle.tree_session.proofs.Spills.{board_spilled}
 use Rattle.tree_session.proofs.Refusals.{data-accepted, data-refused, data-shown}
@@ -59,15 +59,12 @@ module _ (c : TreeEngineCall) (a : ℕ) (within : a < tree_lines c.setup.shape) 
     abbrev done : IsLineRead c.setup a (from c) (to c) (Ok line)
     done = it.done (trusted_from c).not_down
 
-    pub read_held : IsTreeWorld c.setup (left c (Some c.after) c.parts.hurt)
-    read_held = on_after c done.effect c.parts.hurt c.world.hurt_count (seals_kept c going done.effect)
-
     pub read_done : IsTreeAnswered c.setup (state_of c.setup c.parts) (Do.Read a) (Say.Got line (steps_in c.taken)) (state_of c.setup (left c (Some c.after) c.parts.hurt))
     read_done =
         let plain = kept_plain c going (left c (Some c.after) c.parts.hurt) done.watch refl refl refl in
         let accepted = (done.answered (trusted_from c)).2 in
         answered (Say.Got line (steps_in c.taken)) (left c (Some c.after) c.parts.hurt) refl (done.watch.exhibit going-unshown ∙ c.none)
-        (rooted_after c done.effect c.parts.hurt c.world.hurt_count (seals_kept c going done.effect)) (
+        (rooted_still c done.effect) (
           (done.answered (trusted_from c)).0 ∙ sym ((plain_is c.setup c.parts c.parts.board.regs c.world.whole_shape (trusted_from c).anchored).memory a within),
           goes_on c.parts.board c.board c.taken c.watched (done.effect.power.1 (powered_from c)),
           backs c.taken c.setup.shape.levels going c.parts.board c.board c.watched done.steps,
@@ -84,18 +81,12 @@ module _ (c : TreeEngineCall) (a : ℕ) (within : a < tree_lines c.setup.shape) 
     abbrev cut : IsLineRead c.setup a (from c) (to c) (Err Fail.Cut)
     cut = it.done (trusted_from c).not_down
 
-    small : length c.board.regs.group.items ≤ c.setup.shape.levels + 3
-    small = omega (arith, ap (λ (regs : Regs). length regs.group.items) cut.regs, ap length (trusted_from c).no_group)
-
-    pub cut_held : IsTreeWorld c.setup (left c None c.parts.hurt)
-    cut_held = off_after c cut.effect small c.parts.hurt c.world.hurt_count (seals_kept c cut_short cut.effect)
-
     pub cut_done : IsTreeAnswered c.setup (state_of c.setup c.parts) (Do.Read a) (Say.Cut (steps_in c.taken)) (state_of c.setup (left c None c.parts.hurt))
     cut_done =
         let below = backs-cut c.taken c.setup.shape.levels c.parts.board c.board c.watched (powered_from c) cut.steps in
         let levels = c.world.whole_shape.at_most_six_levels in
         answered (Say.Cut (steps_in c.taken)) (left c None c.parts.hurt) refl (cut.watch.exhibit cut-unshown ∙ c.none)
-        (rooted_cut c cut.effect small c.parts.hurt c.world.hurt_count (seals_kept c cut_short cut.effect)) (
+        (cut_rooted_still c cut.effect cut.regs) (
           cut_off c.parts.board c.board c.taken c.watched cut.effect.power.1 (omega (arith, below, levels)),
           below,
           kept_plain c cut_short (left c None c.parts.hurt) cut.watch refl refl refl,
@@ -108,14 +99,11 @@ module _ (c : TreeEngineCall) (a : ℕ) (within : a < tree_lines c.setup.shape) 
     abbrev node : IsLineRead c.setup a (from c) (to c) (Err (Fail.Node x))
     node = it.done (trusted_from c).not_down
 
-    pub node_held : IsTreeWorld c.setup (left c (Some c.after) c.parts.hurt)
-    node_held = on_after c node.effect c.parts.hurt c.world.hurt_count (seals_kept c going node.effect)
-
     pub node_done : IsTreeAnswered c.setup (state_of c.setup c.parts) (Do.Read a) (Say.RefusedNode x (steps_in c.taken)) (state_of c.setup (left c (Some c.after) c.parts.hurt))
     node_done =
         let plain = kept_plain c going (left c (Some c.after) c.parts.hurt) node.watch refl refl refl in
         answered (Say.RefusedNode x (steps_in c.taken)) (left c (Some c.after) c.parts.hurt) refl (node.watch.exhibit going-unshown ∙ c.none)
-        (rooted_after c node.effect c.parts.hurt c.world.hurt_count (seals_kept c going node.effect)) (
+        (rooted_still c node.effect) (
           subst (λ s. IsNodeRefusal c.setup s a x) (sym plain) (refused_node c a within c.board refl x (node.answered (trusted_from c))),
           goes_on c.parts.board c.board c.taken c.watched (node.effect.power.1 (powered_from c)),
           backs c.taken c.setup.shape.levels going c.parts.board c.board c.watched node.steps,
@@ -149,9 +137,6 @@ module _ (c : TreeEngineCall) (a : ℕ) (within : a < tree_lines c.setup.shape) 
     abbrev why : told.IsTreeTagRefused c.setup a (from c) (to c)
     why = ((it.done (trusted_from c).not_down).answered (trusted_from c)).2
 
-    pub tag_held : IsTreeWorld c.setup (left c (Some c.after) c.parts.hurt)
-    tag_held = on_after c tag.effect c.parts.hurt c.world.hurt_count (seals_kept c going tag.effect)
-
     hurt : slice_index_or c.parts.hurt a false ≡ false → ⊥
     hurt unhurt =
         let fits = (fits_here (stored_here tag.regs (seals_kept c going tag.effect a within unhurt) tag.watch.seals)).0 in
@@ -163,7 +148,7 @@ module _ (c : TreeEngineCall) (a : ℕ) (within : a < tree_lines c.setup.shape) 
     tag_done =
         let plain = kept_plain c going (left c (Some c.after) c.parts.hurt) tag.watch refl refl refl in
         answered (Say.RefusedData t (steps_in c.taken)) (left c (Some c.after) c.parts.hurt) refl (tag.watch.exhibit going-unshown ∙ c.none)
-        (rooted_after c tag.effect c.parts.hurt c.world.hurt_count (seals_kept c going tag.effect)) (
+        (rooted_still c tag.effect) (
           ((it.done (trusted_from c).not_down).answered (trusted_from c)).0,
           subst (λ s. IsDataRefusal c.setup s a) (sym plain)
               (data-refused c.setup c.parts c.parts.board.regs c.board c.world.whole_shape c.world.whole_formulas (trusted_from c).anchored a why.cipher why.tags within

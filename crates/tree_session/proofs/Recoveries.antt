@@ -14,6 +14,7 @@ use Rattle.board.specs.Memory.{BoardMemory, device_of}
 use Rattle.collision_witness.specs.Exhibits.{IsExhibit, AreSmallMinors}
 use Rattle.commit_regs.specs.Groups.{redone, finishing_latches}
 use Rattle.pmem_recovery.specs.declared.faults.Work.{Work}
+use Rattle.pmem_recovery.proofs.LatchLaws.{one_latch}
 use Rattle.counter_tree.specs.Layout.{tree_slots, tree_size, line_of_slot}
 use Rattle.counter_tree.specs.Shadow.{shadow_root, shadow_tree_line, shadow_height, IsShadowDifference}
 use Rattle.counter_tree.specs.Watch.{WatchState, IsSlotClash, HasShown, first_shown}
@@ -55,10 +56,6 @@ some_flag flag (suc n) =
             ])
       ]
     ]
-
-few_latches : (group : List (ℕ × Line)) → finishing_latches group ≤ 1
-few_latches [] = omega arith
-few_latches (entry ∷ group) = omega arith
 
 some_latch : (group : List (ℕ × Line)) → group ≢ [] → finishing_latches group ≡ 1
 some_latch [] some = absurd (some refl)
@@ -158,7 +155,7 @@ module _ (c : TreeRecoveryCall) where
       omega (arith, writes, latches)
 
   group_few : group_steps c.parts.board ≤ tree_recovery_bound c.setup.shape
-  group_few = omega (arith, few_latches c.parts.board.regs.group.items, off.small_group)
+  group_few = omega (arith, one_latch c.parts.board.regs.group.items, off.small_group)
 
   few_steps : steps_in c.taken ≡ group_steps c.parts.board → steps_in c.taken ≤ tree_recovery_bound c.setup.shape
   few_steps is = let few = group_few in omega (arith, is, few)

@@ -18,8 +18,8 @@ use Rattle.tree_session.specs.declared.answers.TreeAnswer.TheVariants as Say
 use Rattle.tree_session.specs.State.{tree_setup_in}
 use Rattle.tree_session.specs.World.{TreeParts, state_of, IsTreeWorld}
 use Rattle.tree_session.specs.Answered.{IsTreeAnswered, IsTreeHalt}
-use Rattle.tree_session.proofs.Held.{left, left_resting, from, to, trusted_from}
-use Rattle.tree_session.proofs.WriteLaws.{written_held, written_done, lost_held, lost_done, kept_held, kept_done, unwritten_held, unwritten_done, spent_held, spent_done, unwritten_shown_held, unwritten_shown_done, unwritten_shown_minors}
+use Rattle.tree_session.proofs.Held.{left, left_resting, from, to, trusted_from, held_still, cut_still}
+use Rattle.tree_session.proofs.WriteLaws.{written_held, written_done, is_lost, lost_done, kept_held, kept_done, unwritten_done, spent_done, unwritten_shown_held, unwritten_shown_done, unwritten_shown_minors}
 use Rattle.tree_session.proofs.Seen.{WorldCall, call, setup_of, setup_under, as_written, seen, held, halts, some_of}
 
 pub record WriteTreeCall : Type 0 where
@@ -57,7 +57,7 @@ module _ (r : WriteTreeCall) where
       seen r.world (made (Some r.world.after)) (Do.Write r.at r.line) Say.Written refl (written_done (call r.world) r.at r.within r.line r.whole counter (was (Ok counter) is))
 
   pub node_kept : (x : ℕ) → r.answer ≡ Err (Fail.Node x) → IsTreeWorld setup_then (under (kept (Some r.world.after)))
-  node_kept x is = held r.world (kept (Some r.world.after)) (unwritten_held (call r.world) r.at r.within r.line r.whole x (was (Err (Fail.Node x)) is))
+  node_kept x is = held r.world (kept (Some r.world.after)) (held_still (call r.world) ((was (Err (Fail.Node x)) is).done (trusted_from (call r.world)).not_down).effect)
 
   pub node_seen : (x : ℕ) → r.answer ≡ Err (Fail.Node x)
       → IsTreeAnswered (tree_setup_in r.world.formulas_of r.world.now) r.world.now (Do.Write r.at r.line) (Say.RefusedNode x r.world.said) (state_of setup_then (under (kept (Some r.world.after))))
@@ -66,7 +66,7 @@ module _ (r : WriteTreeCall) where
       (unwritten_done (call r.world) r.at r.within r.line r.whole x (was (Err (Fail.Node x)) is))
 
   pub spent_kept : r.answer ≡ Err Fail.Spent → IsTreeWorld setup_then (under (kept (Some r.world.after)))
-  spent_kept is = held r.world (kept (Some r.world.after)) (spent_held (call r.world) r.at r.within r.line r.whole (was (Err Fail.Spent) is))
+  spent_kept is = held r.world (kept (Some r.world.after)) (held_still (call r.world) ((was (Err Fail.Spent) is).done (trusted_from (call r.world)).not_down).effect)
 
   pub spent_seen : r.answer ≡ Err Fail.Spent
       → IsTreeAnswered (tree_setup_in r.world.formulas_of r.world.now) r.world.now (Do.Write r.at r.line) (Say.Spent r.world.said) (state_of setup_then (under (kept (Some r.world.after))))
@@ -74,7 +74,10 @@ module _ (r : WriteTreeCall) where
       seen r.world (kept (Some r.world.after)) (Do.Write r.at r.line) Say.Spent refl (spent_done (call r.world) r.at r.within r.line r.whole (was (Err Fail.Spent) is))
 
   pub lost_kept : r.answer ≡ Err Fail.Cut → r.world.taken.latches ≤ 0 → IsTreeWorld setup_then (under (kept None))
-  lost_kept is none = held r.world (kept None) (lost_held (call r.world) r.at r.within r.line r.whole (was (Err Fail.Cut) is) none)
+  lost_kept is none =
+      let cut = was (Err Fail.Cut) is in
+      held r.world (kept None)
+      (cut_still (call r.world) (cut.done (trusted_from (call r.world)).not_down).effect (is_lost (call r.world) r.at r.within r.line r.whole cut none).regs)
 
   pub lost_seen : r.answer ≡ Err Fail.Cut → r.world.taken.latches ≤ 0
       → IsTreeAnswered (tree_setup_in r.world.formulas_of r.world.now) r.world.now (Do.Write r.at r.line) (Say.CutLost r.world.said) (state_of setup_then (under (kept None)))

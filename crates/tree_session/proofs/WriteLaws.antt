@@ -35,7 +35,7 @@ use Rattle.tree_session.specs.World.{TreeParts, plain_of_parts, state_of, IsTree
 use Rattle.tree_session.specs.Answered.{IsTreeAnswered, IsRooted, IsEngineShown, SaysOfWrite, AnswersWith, IsNodeExhibit, IsNodeRefusal, AllAreMade, tree_write_bound, IsBoardSpilled}
 use Rattle.tree_session.proofs.BoardSteps.{goes_on, cut_off, latched, unlatched, untouched, then_rests, taken-exact}
 use Rattle.tree_session.proofs.PlainStates.{plain_is, plain-kept, plain-written, writes-are}
-use Rattle.tree_session.proofs.Held.{TreeEngineCall, from, to, left, left_resting, trusted_from, powered_from, seals_kept, on_after, rooted_after, off_after, rooted_cut, ended_after, none_is}
+use Rattle.tree_session.proofs.Held.{TreeEngineCall, from, to, left, left_resting, trusted_from, powered_from, seals_kept, on_after, rooted_after, off_after, rooted_cut, rooted_still, cut_rooted_still, ended_after, none_is}
 use Rattle.tree_session.proofs.Spills.{board_spilled, few_spilled, board_written, group_kept}
 use Rattle.tree_session.proofs.EngineCalls.{backs, undecided_line, kept_plain, rooted_shown, refused_node, shown_node, forged-minors}
 
@@ -136,7 +136,7 @@ module _ (c : TreeEngineCall) (a : ℕ) (within : a < tree_lines c.setup.shape) 
     limit : steps_in c.taken < step_limit
     limit = omega (arith, below, c.world.whole_shape.at_most_six_levels)
 
-    is_lost : c.taken.latches ≤ 0 → told.IsWriteLost (from c) (to c)
+    pub is_lost : c.taken.latches ≤ 0 → told.IsWriteLost (from c) (to c)
     is_lost none =
         elim said.1 [
           | inl lost ↦ lost
@@ -181,17 +181,11 @@ module _ (c : TreeEngineCall) (a : ℕ) (within : a < tree_lines c.setup.shape) 
                 absurd (omega (arith, one, none))
           ]
 
-      lost_small : length c.board.regs.group.items ≤ c.setup.shape.levels + 3
-      lost_small = omega (arith, ap (λ (regs : Regs). length regs.group.items) (is_lost none).regs, ap length (trusted_from c).no_group)
-
-      pub lost_held : IsTreeWorld c.setup (left c None c.parts.hurt)
-      lost_held = off_after c cut.effect lost_small c.parts.hurt c.world.hurt_count (seals_kept c cut_short cut.effect)
-
       pub lost_done : IsTreeAnswered c.setup (state_of c.setup c.parts) (Do.Write a line) (Say.CutLost (steps_in c.taken)) (state_of c.setup (left c None c.parts.hurt))
       lost_done =
           let same = (is_lost none).watch in
           answered (Say.CutLost (steps_in c.taken)) (left c None c.parts.hurt) refl (ap (λ (w : WatchState). w.exhibit) same ∙ c.none)
-          (rooted_cut c cut.effect lost_small c.parts.hurt c.world.hurt_count (seals_kept c cut_short cut.effect)) (
+          (cut_rooted_still c cut.effect (is_lost none).regs) (
             unused said.0,
             cut_off c.parts.board c.board c.taken c.watched cut.effect.power.1 limit,
             unlatched c.parts.board c.board c.taken c.watched (is_lost none).latches,
@@ -246,15 +240,12 @@ module _ (c : TreeEngineCall) (a : ℕ) (within : a < tree_lines c.setup.shape) 
     abbrev node : IsLineWritten c.setup a line (from c) (to c) (Err (Fail.Node x))
     node = it.done (trusted_from c).not_down
 
-    pub unwritten_held : IsTreeWorld c.setup (left c (Some c.after) c.parts.hurt)
-    unwritten_held = on_after c node.effect c.parts.hurt c.world.hurt_count (seals_kept c going node.effect)
-
     pub unwritten_done : IsTreeAnswered c.setup (state_of c.setup c.parts) (Do.Write a line) (Say.RefusedNode x (steps_in c.taken)) (state_of c.setup (left c (Some c.after) c.parts.hurt))
     unwritten_done =
         let keeps = node.watch tt in
         let plain = kept_plain c going (left c (Some c.after) c.parts.hurt) keeps refl refl refl in
         answered (Say.RefusedNode x (steps_in c.taken)) (left c (Some c.after) c.parts.hurt) refl (keeps.exhibit going-unshown ∙ c.none)
-        (rooted_after c node.effect c.parts.hurt c.world.hurt_count (seals_kept c going node.effect)) (
+        (rooted_still c node.effect) (
           unused (node.answered (trusted_from c)).0,
           subst (λ s. IsNodeRefusal c.setup s a x) (sym plain) (refused_node c a within c.board refl x (node.answered (trusted_from c)).1),
           goes_on c.parts.board c.board c.taken c.watched (node.effect.power.1 (powered_from c)),
@@ -269,9 +260,6 @@ module _ (c : TreeEngineCall) (a : ℕ) (within : a < tree_lines c.setup.shape) 
     abbrev spent : IsLineWritten c.setup a line (from c) (to c) (Err Fail.Spent)
     spent = it.done (trusted_from c).not_down
 
-    pub spent_held : IsTreeWorld c.setup (left c (Some c.after) c.parts.hurt)
-    spent_held = on_after c spent.effect c.parts.hurt c.world.hurt_count (seals_kept c going spent.effect)
-
     pub spent_done : IsTreeAnswered c.setup (state_of c.setup c.parts) (Do.Write a line) (Say.Spent (steps_in c.taken)) (state_of c.setup (left c (Some c.after) c.parts.hurt))
     spent_done =
         let keeps = spent.watch tt in
@@ -279,7 +267,7 @@ module _ (c : TreeEngineCall) (a : ℕ) (within : a < tree_lines c.setup.shape) 
         let writes : c.taken.writes ≡ 0 = ap (λ (d : Device). d.writes) same in
         let latches : c.taken.latches ≡ 0 = ap (λ (d : Device). d.latches) same in
         answered (Say.Spent (steps_in c.taken)) (left c (Some c.after) c.parts.hurt) refl (keeps.exhibit going-unshown ∙ c.none)
-        (rooted_after c spent.effect c.parts.hurt c.world.hurt_count (seals_kept c going spent.effect)) (
+        (rooted_still c spent.effect) (
           made-is ∙ (spent.answered (trusted_from c)).0,
           omega (arith, writes, latches),
           kept_plain c going (left c (Some c.after) c.parts.hurt) keeps refl refl refl

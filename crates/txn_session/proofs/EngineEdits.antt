@@ -1,5 +1,5 @@
 -- Changes of data lines, made by an engine in order: how many of their writes are done, by the answer, and all their marks.
-use Rattle.std.proofs.Common.{ℕ, zero, suc, ◌≡◌, ◌<◌, ◌≤◌, ◌+◌, ◌++◌, ◌⊎◌, inl, inr, List, [], ◌∷◌, length, take, drop, Some, Result, Ok, Err, refl, sym, ap, subst, ◌∙◌, arith}
+use Rattle.std.proofs.Common.{ℕ, zero, suc, ◌≡◌, ◌<◌, ◌≤◌, ◌+◌, ◌++◌, ◌⊎◌, inl, inr, List, [], ◌∷◌, length, take, drop, Some, Result, Ok, Err, sym, ap, subst, ◌∙◌, arith}
 use Rattle.std.specs.Prelude.{All, MatchOption, slice_get, option_and_then}
 use Rattle.std.proofs.lemmas.List.Elements.{All-head, All-tail}
 use Rattle.pmem_base.specs.declared.lines.Line.{Line}
@@ -12,7 +12,7 @@ use Rattle.pmem_base.specs.Lines.{line_at}
 use Rattle.suite.specs.Formulas.{Formulas}
 use Rattle.suite.specs.Setup.{Setup}
 use Rattle.plain_model.specs.State.{Memory, memory_with}
-use Rattle.plain_model.specs.Asked.{Moment, marks_of_write, marks_of_writes, moment_after, moment_after_writes}
+use Rattle.plain_model.specs.Asked.{Moment, marks_of_write, marks_of_writes, moment_after_writes}
 use Rattle.plain_model.specs.Fits.{next_marks, IsSpentNext}
 use Rattle.pmem_engine.specs.declared.fault.Fault.{Fault}
 use Rattle.pmem_engine.specs.declared.fault.Fault.TheVariants as Fail
@@ -24,8 +24,9 @@ use Rattle.line_txn.specs.declared.edits.Edit.{Edit}
 use Rattle.line_txn.specs.declared.edits.Edit.TheVariants as Make
 use Rattle.line_txn.specs.Edits.{HasLinePut, HasPutRead, HasEdited, CommitGoesOn, AreEdited, IsEditOf}
 use Rattle.wear_session.specs.Answered.{Writing, IsCutAmong, write_steps, read_steps}
-use Rattle.wear_session.proofs.AskedWrites.{stopped}
-use Rattle.wear_session.proofs.EngineWrites.{memory_now, moment_now, most_within, fewer_within, AreDone, AreCut, memory_done, read_line, read_done, read_cut, write_done, spent_next, spent_done, write_cut}
+use Rattle.pmem_engine.proofs.PostedWrites.StoppedWrites.{stopped}
+use Rattle.wear_session.proofs.WriteEnds.{within_done, within_cut}
+use Rattle.wear_session.proofs.EngineWrites.{after_more, memory_now, moment_now, AreDone, AreCut, memory_done, read_line, read_done, read_cut, write_done, spent_next, spent_done, write_cut}
 
 -- ---- the writes of changes
 
@@ -80,32 +81,6 @@ EndsTxnAt setup from queue first last most (Err fault) to = ⊥
 
 -- ---- bounds
 
-done_within : (setup : Setup) (from : Parts) (writes : List Posted) (made : List Mark) (n m : ℕ) (to : Parts) → n ≤ m
-    → AreDone setup from writes made n to → AreDone setup from writes made m to
-done_within setup from writes made n m to few it =
-    record {
-      asked = it.asked;
-      moment = it.moment;
-      marks = it.marks;
-      loss = it.loss;
-      sound = it.sound;
-      live = it.live;
-      takes = most_within from.device to.device n m few it.takes;
-    }
-
-cut_within : (setup : Setup) (from : Parts) (writes : List Posted) (made : List Mark) (n m : ℕ) (to : Parts) → n ≤ m
-    → AreCut setup from writes made n to → AreCut setup from writes made m to
-cut_within setup from writes made n m to few it =
-    record {
-      memory = it.memory;
-      marks = it.marks;
-      loss = it.loss;
-      durable = it.durable;
-      dark = it.dark;
-      small_group = it.small_group;
-      takes = fewer_within from.device to.device n m few it.takes;
-    }
-
 -- an end of fewer changes is one of more
 pub ends_within : (setup : Setup) (from : Parts) (queue : List Posted) (first first' last last' n m : ℕ) (fault : Fault) (to : Parts)
     → first' ≤ first → last ≤ last' → n ≤ m → EndsTxnAt setup from queue first last n (Err fault) to
@@ -116,7 +91,7 @@ ends_within setup from queue first first' last last' n m (Fail.Spent page) to lo
       low = let low = it.low in omega (arith, low, lower);
       high = let high = it.high in omega (arith, high, higher);
       made = it.made;
-      done = done_within setup from (take it.count queue) it.made n m to few it.done;
+      done = within_done setup from (take it.count queue) it.made n m to few it.done;
       next = it.next;
     }
 ends_within setup from queue first first' last last' n m Fail.Cut to lower higher few it =
@@ -125,7 +100,7 @@ ends_within setup from queue first first' last last' n m Fail.Cut to lower highe
       low = let low = it.low in omega (arith, low, lower);
       high = let high = it.high in omega (arith, high, higher);
       came = it.came;
-      cut = cut_within setup from (take it.writing.done queue) it.writing.made n m to few it.cut;
+      cut = within_cut setup from (take it.writing.done queue) it.writing.made n m to few it.cut;
     }
 ends_within setup from queue first first' last last' n m fault to lower higher few it = absurd it
 
@@ -156,11 +131,6 @@ next_of (first ∷ queue) (suc k) write rest is =
       waits = let waits = it.waits in omega (arith, waits);
       later = it.later;
     }
-
-after_more : (f : Formulas) (now : Moment) (writes : List Posted) (write : Posted)
-    → moment_after_writes f now (writes ++ write ∷ []) ≡ moment_after f (moment_after_writes f now writes) write
-after_more f now [] write = refl
-after_more f now (first ∷ writes) write = after_more f (moment_after f now first) writes write
 
 module _ (setup : Setup) (from : Parts) (queue : List Posted) where
   abbrev f : Formulas
@@ -284,7 +254,7 @@ module _ (setup : Setup) (from : Parts) (queue : List Posted) where
             high = omega arith;
             came = inl (omega (arith, waits), done.asked);
             cut =
-                cut_within setup from (take k queue) made (most + r) (most + (r + w)) it.between (omega arith)
+                within_cut setup from (take k queue) made (most + r) (most + (r + w)) it.between (omega arith)
                 (read_cut setup from parts (take k queue) made most done source it.between was);
           } in end))
       go (Err fault) was put = absurd (was.unrefused (sound_trusted setup parts done.sound).not_down done.sound)
@@ -314,7 +284,7 @@ module _ (setup : Setup) (from : Parts) (queue : List Posted) where
         made = made;
         done =
             subst (λ n. AreDone setup from (take n queue) made (most + 0) parts) (omega arith)
-            (done_within setup from (take k queue) made most (most + 0) parts (omega arith) done);
+            (within_done setup from (take k queue) made most (most + 0) parts (omega arith) done);
       } in end))
   edits_go (edit ∷ edits) k most made parts to tail answer fits done there it =
       go it.1 (λ n made_now gone place then. edits_go edits (suc k) n made_now it.0 to tail answer others gone place then) it.2 it.3

@@ -1,9 +1,8 @@
 -- A new session: formatting, and the opening of zero lines.
-use Rattle.std.proofs.Common.{ℕ, zero, suc, ◌≡◌, ◌<◌, ◌≤◌, ◌+◌, ◌^◌, ◌++◌, ◌⊎◌, inl, inr, true, List, [], length, replicate, Option, Some, None, Result, Ok, Err, refl, sym, ap, ap₂, subst, ◌∙◌, subst₂, arith, rules}
-use Rattle.std.specs.Prelude.{is_none, ⊤, ◌&&◌, ◌==◌, if◌then◌else◌}
+use Rattle.std.proofs.Common.{ℕ, zero, ◌≡◌, ◌<◌, ◌≤◌, ◌+◌, ◌^◌, ◌⊎◌, inl, inr, true, List, [], length, replicate, Option, Some, None, Result, Ok, Err, refl, sym, ap, subst, ◌∙◌, subst₂, arith, rules}
+use Rattle.std.specs.Prelude.{is_none, ⊤, ◌&&◌}
 use Rattle.std.proofs.lemmas.Bool.{true≢false, and_parts}
 use Rattle.std.proofs.lemmas.List.{append-nil, length-replicate, get_or-replicate}
-use Rattle.std.specs.List.{list_any}
 use Rattle.pmem_base.specs.declared.lines.Line.{Line}
 use Rattle.pmem_base.specs.declared.registers.Regs.{Regs}
 use Rattle.pmem_base.specs.declared.answers.Mark.{Mark}
@@ -14,13 +13,7 @@ use Rattle.pmem_base.specs.Shape.{Shape, IsShape}
 use Rattle.board.specs.Counts.{RisesBy}
 use Rattle.board.specs.Device.{Device}
 use Rattle.board.specs.Memory.{BoardMemory, device_of}
-use Rattle.meta_cache.specs.declared.slot.Slot.{Slot}
-use Rattle.meta_cache.specs.Banks.{set_index}
-use Rattle.meta_cache.specs.State.{empty_banks}
-use Rattle.meta_path.specs.Blocks.{path_at}
-use Rattle.meta_path.specs.Levels.{room_write}
 use Rattle.meta_path.specs.Fetching.{spilled}
-use Rattle.meta_path.proofs.PathFacts.{set_of-empty_banks}
 use Rattle.seal_ledger.specs.Ledger.{LedgerState}
 use Rattle.seal_ledger.specs.Notes.{HasRoom}
 use Rattle.suite.specs.Formulas.{AreInRange}
@@ -47,22 +40,11 @@ use Rattle.line_txn.specs.Store.{HasStoreOpened, HasStoreStarted, HasTargetsRedo
 use Rattle.line_txn.proofs.Headers.{one_header}
 use Rattle.line_txn.proofs.LoggedLaws.{zero_logged}
 use Rattle.line_txn.proofs.Openings.{logged_size}
+use Rattle.wear_session.proofs.NewLaws.{none_to_write}
 use Rattle.txn_session.specs.State.{IsNewTxn}
 use Rattle.txn_session.specs.World.{TxnParts, IsTxnWorld, targets_in_force, txn_of}
 use Rattle.txn_session.proofs.Worlds.{few_lines, targets_held, memory_held, logged_is, on_of}
 use Rattle.txn_session.proofs.Rooms.{sound_reserved}
-
--- an empty cache has nothing to write back
-none_to_write : (g : Shape) (page n : ℕ) → spilled g (empty_banks g) page n ≡ []
-none_to_write g page zero = refl
-none_to_write g page (suc n) =
-    ap₂ (λ xs ys. xs ++ ys) (none_to_write g page n)
-    (ap (λ (slots : List Slot). if list_any (λ slot. slot.position == path_at g page n) slots then [] else room_write g slots)
-    (set_of-empty_banks g n (set_index g (path_at g page n)))
-    ∙ nothing)
-  where
-    nothing : room_write g [] ≡ []
-    nothing = search rules
 
 -- what formatting and the opening leave
 pub record NewTxnCall : Type 0 where

@@ -1,13 +1,11 @@
 -- Power comes on, as the session's fields have it: what is held after recovery, the opening and its redo, and what is answered.
-use Rattle.std.proofs.Common.{ℕ, ◌≡◌, ◌≤◌, ◌+◌, ◌-◌, ◌⊎◌, inl, inr, true, false, cond, List, [], length, take, Option, Some, None, Result, Ok, Err, refl, sym, ap, subst, ◌∙◌, arith}
-use Rattle.std.specs.Prelude.{option_map, MatchOption, ⊤}
+use Rattle.std.proofs.Common.{ℕ, ◌≡◌, ◌≤◌, ◌+◌, ◌-◌, ◌⊎◌, inl, inr, false, cond, List, [], length, take, Option, Some, None, Result, Ok, Err, refl, sym, ap, subst, ◌∙◌, arith}
+use Rattle.std.specs.Prelude.{MatchOption, ⊤}
 use Rattle.std.proofs.lemmas.Bool.{le-ltb}
 use Rattle.std.proofs.lemmas.List.{append-nil}
 use Rattle.pmem_base.specs.declared.lines.Line.{Line}
 use Rattle.pmem_base.specs.declared.answers.Exhibit.TheVariants.{Twin}
 use Rattle.pmem_base.specs.declared.commands.Posted.{Posted}
-use Rattle.pmem_base.specs.declared.registers.Regs.{Regs}
-use Rattle.pmem_base.specs.Registers.{without_group}
 use Rattle.board.specs.Device.{Device}
 use Rattle.board.specs.Memory.{BoardMemory}
 use Rattle.commit_regs.specs.Groups.{redone}
@@ -19,14 +17,13 @@ use Rattle.pmem_engine.specs.declared.fault.Fault.{Fault}
 use Rattle.pmem_engine.specs.declared.fault.Fault.TheVariants as Fail
 use Rattle.pmem_engine.specs.Engine.{EngineState}
 use Rattle.pmem_engine.specs.Parts.{Parts, parts_of}
-use Rattle.pmem_engine.specs.Invariants.{IsDurable}
 use Rattle.pmem_engine.specs.Calls.{HasReadLine}
 use Rattle.pmem_engine.proofs.CallEnds.StillParts.{sound_trusted}
 use Rattle.pmem_recovery.specs.declared.faults.Work.{Work}
 use Rattle.pmem_recovery.specs.declared.faults.RecFault.{RecFault}
 use Rattle.pmem_recovery.specs.declared.faults.RecFault.TheVariants as Rec
 use Rattle.pmem_recovery.specs.Parts.{SuiteState}
-use Rattle.pmem_recovery.specs.Recovered.{HasRecovered, HasMended, most_recovery_steps}
+use Rattle.pmem_recovery.specs.Recovered.{HasRecovered, most_recovery_steps}
 use Rattle.line_txn.specs.declared.store.Store.{Store}
 use Rattle.line_txn.specs.declared.store.Opened.{Opened}
 use Rattle.line_txn.specs.declared.store.TxnFault.{TxnFault}
@@ -37,7 +34,8 @@ use Rattle.line_txn.specs.Store.{HasStoreOpened, HasStoreStarted, HasFailedRedo,
 use Rattle.watched_board.specs.Watching.{steps_in}
 use Rattle.wear_session.specs.Answered.{Writing, read_steps}
 use Rattle.wear_session.proofs.Seen.{setup_under}
-use Rattle.wear_session.proofs.Twins.{tried_line, seal_twin}
+use Rattle.wear_session.proofs.Twins.{seal_twin}
+use Rattle.wear_session.proofs.Recoveries.{few_recovery, sound_recovered, cut_left, wanted_left, untouched, twin_left, twin_of_last, twin_within}
 use Rattle.wear_session.proofs.EngineWrites.{fewer_within, memory_done, read_line, read_cut}
 use Rattle.txn_session.specs.declared.calls.StartFault.{StartFault}
 use Rattle.txn_session.specs.declared.calls.StartFault.TheVariants as Start
@@ -216,7 +214,7 @@ module _ (c : OnTxnCall) where
     -- or in the reading of the header
     read_cut_exit : (dropped : EngineState) → HasReadLine setup n middle (parts_to dropped) (Err Fail.Cut) → OpenExit c.board None (Say.Cut (steps_in c.taken))
     read_cut_exit dropped was =
-        let cut = read_cut setup first middle [] [] bound (state.recovered c between suite_between engine work it) n (parts_to dropped) was in
+        let cut = read_cut setup first middle [] [] bound (state.recovered_to c between suite_between engine work it) n (parts_to dropped) was in
         let writing : Writing = record { done = 0; made = [] } in
         let come : state.HasTxnCome c writing = state.still_come c (cut.marks ∙ append-nil p.ledger.marks) in
         exit_of c.board None (Say.Cut (steps_in c.taken)) (state.dark_world c writing come c.board cut.dark cut.durable cut.small_group)
@@ -230,7 +228,7 @@ module _ (c : OnTxnCall) where
     by_opened (Err (Txn.Engine (Fail.Spent page))) opened =
         elim opened.1 [ inl read ↦ absurd read.possible | inr redo ↦ absurd redo.unspent ]
     by_opened (Err (Txn.Engine fault)) opened =
-        let sound = state.sound_between c between suite_between engine work it in
+        let sound = sound_recovered setup p.ledger lit between c.suite_old suite_between engine work it (state.off c).durable in
         elim opened.1 [
           | inl read ↦ absurd (read.unrefused (sound_trusted setup middle sound).not_down sound)
           | inr redo ↦ absurd (state.redo_ends c between suite_between engine work it redo.targets (parts_to opened.0) (Err fault) redo.was_redone)
@@ -240,24 +238,10 @@ module _ (c : OnTxnCall) where
         (opened.1.none targets
         (subst (λ l. IsHeader n l targets)
         (sym
-        (read_line setup first middle [] [] bound (state.recovered c between suite_between engine work it) n (parts_to opened.0) line
+        (read_line setup first middle [] [] bound (state.recovered_to c between suite_between engine work it) n (parts_to opened.0) line
         (state.header_inside c between suite_between engine work it) opened.1.was_read)) (state.world c).logged.header))
 
   -- ---- recovery wasn't done
-
-  module _ (suite_between : SuiteState) (fault : RecFault) (it : HasRecovered setup p.ledger from to c.suite_old suite_between (Err fault))
-      (ledger : c.ledger ≡ p.ledger) where
-    mended : HasMended setup p.ledger from to p.board.lines c.board.lines (Err fault)
-    mended = it.lines p.board.lines refl c.board.lines refl
-
-    marks_same : c.ledger.marks ≡ p.ledger.marks
-    marks_same = ap (λ (l : LedgerState). l.marks) ledger
-
-    durable_now : IsDurable setup c.board.lines c.board.regs p.ledger → IsDurable setup c.board.lines c.board.regs c.ledger
-    durable_now durable = subst (IsDurable setup c.board.lines c.board.regs) (sym ledger) durable
-
-  few_by : (regs : Regs) → c.board.regs ≡ regs → length regs.group.items ≤ 3 → length c.board.regs.group.items ≤ 3
-  few_by regs same few = subst (λ (r : Regs). length r.group.items ≤ 3) (sym same) few
 
   abbrev nothing_done : Writing
   nothing_done = record { done = 0; made = [] }
@@ -265,45 +249,30 @@ module _ (c : OnTxnCall) where
   recovery_cut : (suite_between : SuiteState) → HasRecovered setup p.ledger from to c.suite_old suite_between (Err Rec.Cut) → c.ledger ≡ p.ledger
       → OpenExit c.board None (Say.Cut (steps_in c.taken))
   recovery_cut suite_between it ledger =
-      let come = state.still_come c (marks_same suite_between Rec.Cut it ledger) in
-      let durable = durable_now suite_between Rec.Cut it ledger ((mended suite_between Rec.Cut it ledger).from_durable (state.off c).durable) in
-      let few : length c.board.regs.group.items ≤ 3 = elim it.regs [
-        | inl same ↦ few_by p.board.regs same (state.world c).few_armed
-        | inr none ↦ few_by (without_group p.board.regs) none (omega arith)
-      ] in
-      let loss : c.board.regs.loss ≡ p.board.regs.loss =
-      elim it.regs [ inl same ↦ ap (λ (r : Regs). r.loss) same | inr none ↦ ap (λ (r : Regs). r.loss) none ] in
+      let come = state.still_come c (ap (λ (l : LedgerState). l.marks) ledger) in
+      let is = cut_left setup p.ledger c.ledger lit c.board c.taken c.suite_old suite_between ledger (state.off c).durable (state.world c).few_armed it in
       let dark : c.board.powered ≡ false = it.power.off in
-      exit_of c.board None (Say.Cut (steps_in c.taken)) (state.dark_world c nothing_done come c.board dark durable few)
-      (state.cut_seen c nothing_done come (inl (omega arith, refl)) dark loss
-      (fewer_within from to (most_recovery_steps setup lit.regs) most (let few = state.few_recovery c in omega (arith, few)) it.steps))
+      exit_of c.board None (Say.Cut (steps_in c.taken)) (state.dark_world c nothing_done come c.board dark is.durable is.few_armed)
+      (state.cut_seen c nothing_done come (inl (omega arith, refl)) dark is.loss
+      (fewer_within from to (most_recovery_steps setup lit.regs) most
+      (let few = few_recovery setup lit.regs (state.world c).few_armed in omega (arith, few)) it.steps))
 
   -- nothing was done, for want of memory
-  no_fuse_burnt : (fuse : Option ℕ) → option_map (λ n. n - 0) fuse ≡ fuse
-  no_fuse_burnt None = refl
-  no_fuse_burnt (Some n) = ap (λ (k : ℕ). Some k) (omega arith)
-
   recovery_wanted : (suite_between : SuiteState) → HasRecovered setup p.ledger from to c.suite_old suite_between (Err Rec.Memory)
       → c.ledger ≡ p.ledger → OpenOutcome (Err (Start.Recovery Rec.Memory))
   recovery_wanted suite_between it ledger =
-      let marks = marks_same suite_between Rec.Memory it ledger in
-      let durable = durable_now suite_between Rec.Memory it ledger ((mended suite_between Rec.Memory it ledger).from_durable (state.off c).durable) in
-      let same : to ≡ from = it.unchanged in
-      let lasting : c.board.powered ≡ true = ap (λ (d : Device). d.live) same in
-      let no_writes : c.taken.writes ≡ 0 = ap (λ (d : Device). d.writes) same in
-      let no_latches : c.taken.latches ≡ 0 = ap (λ (d : Device). d.latches) same in
-      let loss : c.board.regs.loss ≡ p.board.regs.loss = ap (λ (d : Device). d.regs.loss) same in
-      let follows = (state.watched c).follows in
-      let none : steps_in c.taken ≡ 0 = omega (arith, no_writes, no_latches) in
-      let fuse : c.board.fuse ≡ p.board.fuse =
-      follows.burnt lasting ∙ ap (λ k. option_map (λ n. n - k) p.board.fuse) none ∙ no_fuse_burnt p.board.fuse in
-      let writes : c.board.writes ≡ p.board.writes = omega (arith, follows.writes, (state.watched c).in_count.writes, no_writes) in
-      let latches : c.board.latches ≡ p.board.latches = omega (arith, follows.latches, (state.watched c).in_count.latches, no_latches) in
-      let cuts : c.board.cuts ≡ p.board.cuts = follows.uncut lasting in
+      let marks : c.ledger.marks ≡ p.ledger.marks = ap (λ (l : LedgerState). l.marks) ledger in
+      let is = wanted_left setup p.ledger c.ledger lit c.board c.taken c.suite_old suite_between ledger (state.off c).durable (state.world c).few_armed it in
+      let still = untouched lit c.board c.taken (state.watched c) it.unchanged refl in
+      let loss : c.board.regs.loss ≡ p.board.regs.loss = is.loss in
+      let fuse : c.board.fuse ≡ p.board.fuse = still.fuse in
+      let writes : c.board.writes ≡ p.board.writes = still.writes in
+      let latches : c.board.latches ≡ p.board.latches = still.latches in
+      let cuts : c.board.cuts ≡ p.board.cuts = still.cuts in
       let power : p.board.powered ≡ false = (state.off c).unpowered in
       let stuck : stuck_in p.store ≡ None = ap stuck_in c.there in
       let txn : p.txn ≡ None = (state.off c).no_txn in (
-        state.dark_world c nothing_done (state.still_come c marks) rested refl durable (few_by p.board.regs it.regs (state.world c).few_armed),
+        state.dark_world c nothing_done (state.still_come c marks) rested refl is.durable is.few_armed,
         cc (power, fuse, loss, marks, writes, latches, cuts, stuck, txn),
       )
 
@@ -311,19 +280,17 @@ module _ (c : OnTxnCall) where
       → HasRecovered setup p.ledger from to c.suite_old suite_between (Err (Rec.Twin at major low high cipher tag)) → c.ledger ≡ p.ledger
       → OpenOutcome (Err (Start.Recovery (Rec.Twin at major low high cipher tag)))
   recovery_twin suite_between at major low high cipher tag it ledger =
-      let fault = Rec.Twin at major low high cipher tag in
-      let marks = marks_same suite_between fault it ledger in
-      let its = mended suite_between fault it ledger in
-      let made = its.from_durable (state.off c).durable in
-      let durable = durable_now suite_between fault it ledger made.1 in
-      let within = tried_line setup (redone p.board.regs.group.items p.board.lines) p.board.regs at its.decided.0 in (
-        state.dark_world c nothing_done (state.still_come c marks) rested refl durable (few_by (without_group p.board.regs) it.regs (omega arith)),
+      let marks : c.ledger.marks ≡ p.ledger.marks = ap (λ (l : LedgerState). l.marks) ledger in
+      let is = twin_left setup p.ledger c.ledger lit c.board c.taken c.suite_old suite_between ledger (state.off c).durable (state.world c).few_armed at major low high cipher tag it in
+      let within = twin_within setup p.ledger c.ledger lit c.board c.taken c.suite_old suite_between ledger (state.off c).durable (state.world c).few_armed at major low high cipher tag it in (
+        state.dark_world c nothing_done (state.still_come c marks) rested refl is.durable is.few_armed,
         (
           (state.off c).unpowered,
           within,
           it.twin,
           seal_twin setup p.board.regs p.ledger places p.board.regs.loss at major low high cipher tag
-              (state.world c).whole_formulas (state.off c).durable.mendable.anchored (state.world c).places within made.0,
+              (state.world c).whole_formulas (state.off c).durable.mendable.anchored (state.world c).places within
+              (twin_of_last setup p.ledger c.ledger lit c.board c.taken c.suite_old suite_between ledger (state.off c).durable (state.world c).few_armed at major low high cipher tag it),
         ),
       )
 
@@ -349,7 +316,7 @@ module _ (c : OnTxnCall) where
           subst OpenOutcome (sym later.0)
           (recovery_twin (state.started c).suite_between at major low high cipher tag (refused (Rec.Twin at major low high cipher tag) it later.1) later.2)
       go (Err fault) it later =
-          absurd ((mended (state.started c).suite_between fault (refused fault it later.1) later.2).from_durable (state.off c).durable)
+          absurd (((refused fault it later.1).lines p.board.lines refl c.board.lines refl).from_durable (state.off c).durable)
 
   -- ---- as contracts write it
 

@@ -1,12 +1,11 @@
 -- Power comes on, as the session's fields have it: the state once so many writes of the redo are done.
 use Rattle.std.proofs.Common.{ℕ, ◌≡◌, ◌<◌, ◌≤◌, ◌+◌, ◌-◌, ◌^◌, ◌++◌, true, false, cond, List, [], length, take, Option, Some, None, Result, Ok, refl, sym, ap, subst, ◌∙◌, arith}
-use Rattle.std.specs.Prelude.{is_some, nat_lt, MatchOption}
-use Rattle.std.proofs.lemmas.Bool.{true≢false, le-ltb}
+use Rattle.std.specs.Prelude.{nat_lt}
+use Rattle.std.proofs.lemmas.Bool.{le-ltb}
 use Rattle.std.proofs.lemmas.List.{append-nil}
 use Rattle.pmem_base.specs.declared.lines.Line.{Line}
 use Rattle.pmem_base.specs.declared.answers.Mark.{Mark}
 use Rattle.pmem_base.specs.declared.commands.Posted.{Posted}
-use Rattle.pmem_base.specs.declared.registers.Regs.{Regs}
 use Rattle.pmem_base.specs.Layout as layout
 use Rattle.board.specs.Device.{Device}
 use Rattle.board.specs.Memory.{BoardMemory}
@@ -17,13 +16,13 @@ use Rattle.plain_model.specs.Asked.{Moment, moment_after_writes}
 use Rattle.plain_model.specs.Bounds.{recovery_bound}
 use Rattle.pmem_engine.specs.declared.fault.Fault.{Fault}
 use Rattle.pmem_engine.specs.Engine.{EngineState}
-use Rattle.pmem_engine.specs.Parts.{Parts, parts_of, AreSound}
+use Rattle.pmem_engine.specs.Parts.{Parts, parts_of}
 use Rattle.pmem_engine.specs.Invariants.{IsDurable, IsSound}
 use Rattle.pmem_engine.specs.Outcomes.{TakesAtMost, TakesFewer}
 use Rattle.pmem_engine.specs.Calls.{HasReadLine}
 use Rattle.pmem_recovery.specs.declared.faults.Work.{Work}
 use Rattle.pmem_recovery.specs.Parts.{SuiteState}
-use Rattle.pmem_recovery.specs.Recovered.{HasRecovered, most_recovery_steps}
+use Rattle.pmem_recovery.specs.Recovered.{HasRecovered}
 use Rattle.line_txn.specs.declared.store.Store.{Store}
 use Rattle.line_txn.specs.Header.{AreTargets, IsHeader}
 use Rattle.line_txn.specs.Logged.{IsLogged, lines_opened, targets_opened}
@@ -34,12 +33,12 @@ use Rattle.line_txn.proofs.LoggedLaws.{kept_by_opening}
 use Rattle.line_txn.proofs.Openings.{logged_size}
 use Rattle.line_txn.proofs.EditStages.{redoing_fit}
 use Rattle.watched_board.specs.Watching.{steps_in, device_during, none_taken, IsWatched}
+use Rattle.watched_board.proofs.StepLaws.{at_most, fewer}
 use Rattle.wear_session.specs.Answered.{Writing, IsCutAmong, read_steps}
-use Rattle.wear_session.proofs.Worlds.{at_most, fewer}
 use Rattle.wear_session.proofs.Seen.{setup_under}
-use Rattle.wear_session.proofs.Starts.{one_latch}
+use Rattle.wear_session.proofs.Recoveries.{recovered}
 use Rattle.wear_session.proofs.WriteLaws.{whole_places}
-use Rattle.wear_session.proofs.EngineWrites.{memory_now, most_within, AreDone, memory_done, read_line, read_done}
+use Rattle.wear_session.proofs.EngineWrites.{memory_now, AreDone, memory_done, read_line, read_done}
 use Rattle.txn_session.specs.declared.answers.TxnAnswer.TheVariants as Say
 use Rattle.txn_session.specs.During.{HasTxnStarted}
 use Rattle.txn_session.specs.State.{TxnState, txn_moment_in, redo_writes}
@@ -199,7 +198,7 @@ module _ (c : OnTxnCall) where
     cut_seen came dark loss takes =
         let it =
         cut_off setup (record p { board = lit }) (left c.board None) c.taken watched (after_redo old writing) most dark
-        (fewer lit c.board c.taken most watched.follows.few takes)
+        (fewer c.taken most watched.follows.few takes.sum)
         (few_of_on c.geometry world.whole_shape (length targets) its_targets.few)
         (record {
           shape = refl;
@@ -230,7 +229,7 @@ module _ (c : OnTxnCall) where
     goes store powered loss takes =
         let it =
         goes_to setup (record p { board = lit }) (left c.board (Some store)) c.taken watched (record (after_redo old writing) { stuck = store.stuck }) most
-        powered (at_most lit c.board c.taken most watched.follows.few takes)
+        powered (at_most c.taken most watched.follows.few takes.sum)
         (record {
           shape = refl;
           keys = refl;
@@ -255,9 +254,6 @@ module _ (c : OnTxnCall) where
 
   -- ---- recovery is done
 
-  pub few_recovery : most_recovery_steps setup lit.regs ≤ recovery_bound c.geometry
-  few_recovery = omega (arith, one_latch p.board.regs.group.items, world.few_armed)
-
   module _ (between : Device) (suite_between : SuiteState) (engine : EngineState) (work : Work)
       (it : HasRecovered setup p.ledger from between c.suite_old suite_between (Ok (engine, work))) where
     abbrev pub parts_from : Parts
@@ -266,25 +262,8 @@ module _ (c : OnTxnCall) where
     abbrev pub parts_between : Parts
     parts_between = parts_of engine between p.ledger suite_between.tags suite_between.digests
 
-    pub sound_between : AreSound setup parts_between
-    sound_between = go between.lines refl
-      where
-        go : (found : Option (List Line)) → between.lines ≡ found
-            → MatchOption found ⊥ (λ lines. IsSound setup engine lines between.regs p.ledger)
-        go None none = absurd (true≢false (sym it.told ∙ ap (λ (o : Option (List Line)). is_some o) none))
-        go (Some here) there = (it.lines p.board.lines refl here there).from_durable off.durable
-
-    pub recovered : AreDone setup parts_from [] [] (recovery_bound c.geometry) parts_between
-    recovered =
-        record {
-          asked = refl;
-          moment = refl;
-          marks = sym (append-nil p.ledger.marks);
-          loss = ap (λ (r : Regs). r.loss) it.regs;
-          sound = sound_between;
-          live = it.power.live refl;
-          takes = most_within from between (most_recovery_steps setup lit.regs) (recovery_bound c.geometry) few_recovery it.steps;
-        }
+    abbrev pub recovered_to : AreDone setup parts_from [] [] (recovery_bound c.geometry) parts_between
+    recovered_to = recovered setup p.ledger lit between c.suite_old suite_between engine work it off.durable refl world.few_armed
 
     pub header_inside : n < layout.data_lines c.geometry
     header_inside = let its = size in omega (arith, its)
@@ -295,14 +274,14 @@ module _ (c : OnTxnCall) where
     found_targets new line found read header =
         one_header n line found targets small header
         (subst (λ l. IsHeader n l targets)
-        (sym (read_line setup parts_from parts_between [] [] (recovery_bound c.geometry) recovered n new line header_inside read)) world.logged.header)
+        (sym (read_line setup parts_from parts_between [] [] (recovery_bound c.geometry) recovered_to n new line header_inside read)) world.logged.header)
 
     -- the redo of it
     pub redo_ends : (found : List ℕ) (new : Parts) (answer : Result (Unit {0}) Fault) → HasTargetsRedone setup found parts_between new answer
         → EndsTxnAt setup parts_from queue 0 (length (redoing_edits n targets)) most answer new
     redo_ends found new answer redo =
         let same = found_targets redo.between redo.line found redo.was_read redo.header in
-        let read = read_done setup parts_from parts_between [] [] (recovery_bound c.geometry) recovered n redo.between redo.line redo.was_read in
+        let read = read_done setup parts_from parts_between [] [] (recovery_bound c.geometry) recovered_to n redo.between redo.line redo.was_read in
         let bound = recovery_bound c.geometry + read_steps c.geometry in
         let memory : memory_now setup redo.between ≡ places = memory_done setup parts_from redo.between [] [] bound read in
         subst (λ m. EndsTxnAt setup parts_from queue 0 (length (redoing_edits n targets)) (bound + m) answer new) (cost_redo c.geometry n targets)

@@ -1,42 +1,16 @@
 -- Room for marks changes nothing that a session holds.
-use Rattle.std.proofs.Common.{rules, ℕ, ◌≡◌, List, Option, Some, None, sym, ap, subst, ◌∙◌}
+use Rattle.std.proofs.Common.{ℕ, ◌≡◌, List, Option, Some, None, ap, subst}
 use Rattle.pmem_base.specs.declared.lines.Line.{Line}
 use Rattle.pmem_base.specs.declared.registers.Regs.{Regs}
 use Rattle.pmem_base.specs.declared.answers.Mark.{Mark}
-use Rattle.pmem_base.specs.declared.answers.Exhibit.{Exhibit}
 use Rattle.seal_ledger.specs.Ledger.{LedgerState}
 use Rattle.seal_ledger.specs.Notes.{HasRoom}
 use Rattle.suite.specs.Setup.{Setup}
 use Rattle.pmem_engine.specs.Engine.{EngineState}
-use Rattle.pmem_engine.specs.Invariants.{IsAnchored, IsTrusted, IsMendable, IsDurable, IsSound}
+use Rattle.pmem_engine.specs.Invariants.{IsSound}
 use Rattle.line_txn.specs.declared.store.Store.{Store}
+use Rattle.wear_session.proofs.Rooms.{durable_spared, sound_spared, ledger_is}
 use Rattle.txn_session.specs.World.{TxnParts, IsTxnWorld, IsStoredBy, txn_of}
-
-module _ (setup : Setup) (ledger : LedgerState) (spare : ℕ) where
-  abbrev spared : LedgerState
-  spared = record ledger { spare = spare }
-
-  anchored_spared : (regs : Regs) → IsAnchored setup regs ledger → IsAnchored setup regs spared
-  anchored_spared regs it = search rules
-
-  trusted_spared : (engine : EngineState) (regs : Regs) → IsTrusted setup engine regs ledger → IsTrusted setup engine regs spared
-  trusted_spared engine regs it = search (rules, anchored_spared)
-
-  mendable_spared : (lines : List Line) (regs : Regs) → IsMendable setup lines regs ledger → IsMendable setup lines regs spared
-  mendable_spared lines regs it = search (rules, anchored_spared)
-
-  durable_spared : (lines : List Line) (regs : Regs) → IsDurable setup lines regs ledger → IsDurable setup lines regs spared
-  durable_spared lines regs it = record { device_whole = it.device_whole; mendable = mendable_spared _ regs it.mendable }
-
-  sound_spared : (engine : EngineState) (lines : List Line) (regs : Regs) → IsSound setup engine lines regs ledger → IsSound setup engine lines regs spared
-  sound_spared engine lines regs it = search (rules, trusted_spared, durable_spared)
-
-pub ledger_is : (old new : LedgerState) (n : ℕ) → HasRoom old new n → record old { spare = new.spare } ≡ new
-ledger_is old new n room =
-    ap (λ (m : List Mark). record old { spare = new.spare; marks = m }) (sym room.marks)
-    ∙ ap (λ (t : List Line). record old { spare = new.spare; marks = new.marks; truth = t }) (sym room.truth)
-    ∙ ap (λ (d : ℕ). record old { spare = new.spare; marks = new.marks; truth = new.truth; data_lines = d }) (sym room.data_lines)
-    ∙ ap (λ (e : Option Exhibit). record new { exhibit = e }) (sym room.exhibit)
 
 pub sound_reserved : (setup : Setup) (old new : LedgerState) (n : ℕ) (engine : EngineState) (lines : List Line) (regs : Regs) → HasRoom old new n
     → IsSound setup engine lines regs old → IsSound setup engine lines regs new

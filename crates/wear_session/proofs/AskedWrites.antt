@@ -1,11 +1,11 @@
 -- The marks that a write of an engine asks: its own seal comes last, no other of them seals its line, and they are at most
 -- 65 seals and a begin.
 use Rattle.std.proofs.Common.{ℕ, ◌≡◌, ◌<◌, ◌≤◌, ◌+◌, ◌-◌, ◌*◌, ◌++◌, ◌^◌, Bool, true, false, cond, List, [], ◌∷◌, length, map, take, drop, Option, Some, None, IsTrue, refl, sym, ap, subst, ◌∙◌, arith}
-use Rattle.std.specs.Prelude.{⊤, MatchOption, All, ◌||◌, ◌&&◌, ◌==◌, nat_lt, nat_le, unwrap_or, is_none, IsSome, slice_get}
+use Rattle.std.specs.Prelude.{⊤, MatchOption, All, ◌||◌, ◌&&◌, ◌==◌, nat_lt, nat_le, unwrap_or, is_none}
 use Rattle.std.specs.List.{list_any}
-use Rattle.std.proofs.lemmas.Option.{same_Some, none-some, slice_get_within}
+use Rattle.std.proofs.lemmas.Option.{same_Some, none-some}
 use Rattle.std.proofs.lemmas.Bool.{true≢false, or_parts, or_from, or_left, or_right, cond-true, eq-eqb, ne_eqb, lt-ltb, ltb-true}
-use Rattle.std.proofs.lemmas.List.{append_assoc, length-append, length-map, take_at, drop_at, take-append-le, take-append-drop, nil_from_length}
+use Rattle.std.proofs.lemmas.List.{append_assoc, length-append, length-map, take_at, take-append-le, take-append-drop, nil_from_length}
 use Rattle.std.proofs.lemmas.List.Elements.{All-head, All-tail, All-cons, All-nil}
 use Rattle.std.proofs.lemmas.List.Folds.{list_any-append}
 use Rattle.std.proofs.lemmas.List.Sums.{sum_by-append, sum_by-cons}
@@ -27,7 +27,6 @@ use Rattle.suite.specs.Setup.{Setup}
 use Rattle.plain_model.specs.View.{DeviceView, OpenPage, counter_at, open_page, is_left, view_of}
 use Rattle.plain_model.specs.Asked.{Moment, seal_mark, next_major, reseal_mark, finishing_marks_of, page_to_finish, first_of, marks_of_write}
 use Rattle.plain_model.specs.Bounds.{is_seal, seal_count, begin_count}
-use Rattle.plain_model.specs.Fits.{drained_marks, next_marks, marks_in_flight, marks_still_asked, IsStopped}
 use Rattle.pmem_engine.specs.Invariants.{IsAnchored, register_page}
 use Rattle.pmem_engine.specs.Outcomes.{is_seal_of, is_sealed_by}
 use Rattle.pmem_engine.specs.Calls.{IsPartOf}
@@ -264,28 +263,3 @@ part_apart setup regs ledger anchored now its_view write made part = go (marks_o
         ∙ ap (λ marks. is_sealed_by marks write.at) (take-append-drop (length made) are.front) ∙ are.apart in
         ap (λ marks. is_sealed_by marks write.at) its
         ∙ (or_parts (is_sealed_by (take (length made) are.front) write.at) (is_sealed_by (drop (length made) are.front) write.at) both).0
-
--- ---- a write that isn't done
-
-module _ (f : Formulas) (now : Moment) (queue : List Posted) (n : ℕ) (made more : List Mark) (asked : Option (List Mark)) (write : Posted)
-    (place : slice_get queue n ≡ Some write) (drained : drained_marks f now queue n ≡ Some made) (next : next_marks f now queue n ≡ asked) where
-  in_flight : marks_in_flight f now queue n (made ++ more) ≡ more
-  in_flight = ap (λ o. drop (length (unwrap_or o [])) (made ++ more)) drained ∙ drop_at made more (length made) refl
-
-  -- the marks are those of the writes before it and a part of its own
-  pub stopped : IsPartOf asked more → IsStopped f now queue n (made ++ more)
-  stopped part =
-      let still : marks_still_asked f now queue n (made ++ more) ≡ part.left =
-      ap (λ m. drop (length m) (unwrap_or (next_marks f now queue n) [])) in_flight
-      ∙ ap (λ o. drop (length more) (unwrap_or o [])) next ∙ ap (drop (length more)) part.front ∙ drop_at more part.left (length more) refl in
-      record {
-        one_waits = slice_get_within queue n write place;
-        none_spent = subst (λ o. IsSome o) (sym drained) refl;
-        all_drained = ap (λ m. made ++ m) (sym in_flight) ∙ ap (λ o. unwrap_or o [] ++ marks_in_flight f now queue n (made ++ more)) (sym drained);
-        begun =
-            ap (λ o. unwrap_or o []) next ∙ part.front ∙ ap (λ m. more ++ m) (sym still)
-            ∙ ap (λ m. m ++ marks_still_asked f now queue n (made ++ more)) (sym in_flight);
-        not_done =
-            subst (λ o. IsTrue (is_none o || nat_lt 0 (length (marks_still_asked f now queue n (made ++ more))))) (sym next)
-            (subst (λ left. IsTrue (is_none asked || nat_lt 0 (length left))) (sym still) part.not_all);
-      }

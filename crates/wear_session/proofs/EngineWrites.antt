@@ -132,7 +132,7 @@ pub record IsCutBefore (setup : Setup) (from : Parts) (writes : List Posted) (ma
   pub apart : is_sealed_by more write.at ≡ false
   pub cut : AreCut setup from writes (made ++ more) most to
 
-after_more : (f : Formulas) (now : Moment) (writes : List Posted) (write : Posted)
+pub after_more : (f : Formulas) (now : Moment) (writes : List Posted) (write : Posted)
     → moment_after_writes f now (writes ++ write ∷ []) ≡ moment_after f (moment_after_writes f now writes) write
 after_more f now [] write = refl
 after_more f now (first ∷ writes) write = after_more f (moment_after f now first) writes write

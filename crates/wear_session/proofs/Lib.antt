@@ -12,5 +12,6 @@ pub mod Written
 pub mod Turns
 pub mod Sessions
 pub mod Twins
+pub mod Recoveries
 pub mod Opened
 pub mod NewLaws

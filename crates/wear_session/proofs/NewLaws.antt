@@ -51,7 +51,7 @@ use Rattle.wear_session.proofs.Levels.{wear_is, memory_held, levelled_is}
 use Rattle.wear_session.proofs.Worlds.{on_of}
 
 -- an empty cache has nothing to write back
-none_to_write : (g : Shape) (page n : ℕ) → spilled g (empty_banks g) page n ≡ []
+pub none_to_write : (g : Shape) (page n : ℕ) → spilled g (empty_banks g) page n ≡ []
 none_to_write g page zero = refl
 none_to_write g page (suc n) =
     ap₂ (λ xs ys. xs ++ ys) (none_to_write g page n)

@@ -1,26 +1,22 @@
 -- Power comes on, as the session's fields have it: what is held after recovery and the opening, and what is answered.
 use Rattle.std.proofs.Common.{ℕ, ◌≡◌, ◌<◌, ◌≤◌, ◌+◌, ◌-◌, ◌++◌, ◌⊎◌, inl, inr, true, false, List, [], length, Option, Some, None, Result, Ok, Err, refl, sym, ap, subst, ◌∙◌, arith}
-use Rattle.std.specs.Prelude.{is_some, unwrap_or, option_map, MatchOption, ⊤, if◌then◌else◌}
-use Rattle.std.proofs.lemmas.Bool.{true≢false}
+use Rattle.std.specs.Prelude.{unwrap_or, option_map, ⊤, if◌then◌else◌}
 use Rattle.std.proofs.lemmas.Option.{none-some, same_Some}
 use Rattle.std.proofs.lemmas.List.{append-nil}
 use Rattle.pmem_base.specs.declared.lines.Line.{Line}
 use Rattle.pmem_base.specs.declared.answers.Mark.{Mark}
 use Rattle.pmem_base.specs.declared.answers.Exhibit.TheVariants.{Twin}
-use Rattle.pmem_base.specs.declared.registers.Regs.{Regs}
 use Rattle.pmem_base.specs.Layout as layout
-use Rattle.pmem_base.specs.Registers.{without_group}
 use Rattle.board.specs.Device.{Device}
 use Rattle.board.specs.Memory.{BoardMemory}
-use Rattle.commit_regs.specs.Groups.{redone}
 use Rattle.seal_ledger.specs.Ledger.{LedgerState}
 use Rattle.suite.specs.Setup.{Setup}
 use Rattle.plain_model.specs.View.{plain_memory}
 use Rattle.plain_model.specs.Bounds.{recovery_bound}
 use Rattle.pmem_engine.specs.declared.fault.Fault.TheVariants as Fail
 use Rattle.pmem_engine.specs.Engine.{EngineState}
-use Rattle.pmem_engine.specs.Parts.{Parts, parts_of, AreSound}
-use Rattle.pmem_engine.specs.Invariants.{IsDurable, IsSound}
+use Rattle.pmem_engine.specs.Parts.{Parts, parts_of}
+use Rattle.pmem_engine.specs.Invariants.{IsDurable}
 use Rattle.pmem_engine.specs.Outcomes.{TakesAtMost, TakesFewer}
 use Rattle.pmem_engine.specs.Calls.{HasReadLine}
 use Rattle.pmem_engine.proofs.CallEnds.StillParts.{sound_trusted}
@@ -28,7 +24,7 @@ use Rattle.pmem_recovery.specs.declared.faults.Work.{Work}
 use Rattle.pmem_recovery.specs.declared.faults.RecFault.{RecFault}
 use Rattle.pmem_recovery.specs.declared.faults.RecFault.TheVariants as Rec
 use Rattle.pmem_recovery.specs.Parts.{SuiteState}
-use Rattle.pmem_recovery.specs.Recovered.{HasRecovered, HasMended, most_recovery_steps}
+use Rattle.pmem_recovery.specs.Recovered.{HasRecovered, most_recovery_steps}
 use Rattle.start_gap.specs.declared.wear.Wear.{Wear}
 use Rattle.start_gap.specs.declared.gapped.Gapped.{Gapped}
 use Rattle.start_gap.specs.declared.gapped.GapFault.{GapFault}
@@ -37,6 +33,7 @@ use Rattle.start_gap.specs.Record.{recorded}
 use Rattle.start_gap.specs.Logical.{IsLevelled}
 use Rattle.start_gap.specs.Gapped.{HasGappedOpened, HasReadRecord, logical_lines}
 use Rattle.watched_board.specs.Watching.{steps_in, device_during, none_taken, IsWatched}
+use Rattle.watched_board.proofs.StepLaws.{at_most, fewer}
 use Rattle.wear_session.specs.declared.calls.StartFault.{StartFault}
 use Rattle.wear_session.specs.declared.calls.StartFault.TheVariants as Start
 use Rattle.wear_session.specs.declared.commands.WearCommand.TheVariants as Do
@@ -46,11 +43,12 @@ use Rattle.wear_session.specs.During.{HasWearStarted, HasWearOpenedAfter, wear_s
 use Rattle.wear_session.specs.State.{WearState, wear_setup_in}
 use Rattle.wear_session.specs.World.{WearParts, IsWearWorld, IsLevelledOff, IsLevelledBy, wear_in, levelled_memory, wear_of}
 use Rattle.wear_session.specs.Answered.{IsWearAnswered, IsWearShownBy, IsWearMemoryWanted, HasWearOpened, wear_decided, with_power, read_steps}
-use Rattle.wear_session.proofs.Worlds.{at_most, fewer, goes_to, cut_off, on_after, off_after}
+use Rattle.wear_session.proofs.Worlds.{goes_to, cut_off, on_after, off_after}
 use Rattle.wear_session.proofs.Seen.{setup_under, served, seen_from, held_under}
-use Rattle.wear_session.proofs.EngineWrites.{most_within, fewer_within, AreDone, read_line, read_done, read_cut}
-use Rattle.wear_session.proofs.Starts.{OnWearCall, one_latch, few_of_on}
-use Rattle.wear_session.proofs.Twins.{tried_line, seal_twin}
+use Rattle.wear_session.proofs.EngineWrites.{fewer_within, AreDone, read_line, read_done, read_cut}
+use Rattle.wear_session.proofs.Starts.{OnWearCall, few_of_on}
+use Rattle.wear_session.proofs.Twins.{seal_twin}
+use Rattle.wear_session.proofs.Recoveries.{few_recovery, recovered, sound_recovered, cut_left, wanted_left, untouched, twin_left, twin_of_last, twin_within}
 
 module _ (c : OnWearCall) where
   abbrev setup : Setup
@@ -124,7 +122,7 @@ module _ (c : OnWearCall) where
     cut_seen dark loss takes =
         let it =
         cut_off setup (record p { board = lit }) (left c.board None) c.taken watched old most dark
-        (fewer lit c.board c.taken most watched.follows.few takes) (few_of_on c.geometry c.world.whole_shape)
+        (fewer c.taken most watched.follows.few takes.sum) (few_of_on c.geometry c.world.whole_shape)
         (record {
           shape = refl;
           keys = refl;
@@ -149,7 +147,7 @@ module _ (c : OnWearCall) where
     open_seen gapped powered loss takes none its_wear =
         let it =
         goes_to setup (record p { board = lit }) (left c.board (Some gapped)) c.taken watched (with_power old) most powered
-        (at_most lit c.board c.taken most watched.follows.few takes)
+        (at_most c.taken most watched.follows.few takes.sum)
         (record {
           shape = refl;
           keys = refl;
@@ -173,9 +171,6 @@ module _ (c : OnWearCall) where
 
   -- ---- recovery is done
 
-  few_recovery : most_recovery_steps setup lit.regs ≤ recovery_bound c.geometry
-  few_recovery = omega (arith, one_latch p.board.regs.group.items, c.world.few_armed)
-
   module _ (between : Device) (suite_between : SuiteState) (engine : EngineState) (work : Work)
       (it : HasRecovered setup p.ledger from between c.suite_old suite_between (Ok (engine, work))) where
     abbrev parts_from : Parts
@@ -184,25 +179,8 @@ module _ (c : OnWearCall) where
     abbrev parts_between : Parts
     parts_between = parts_of engine between p.ledger suite_between.tags suite_between.digests
 
-    sound_between : AreSound setup parts_between
-    sound_between = go between.lines refl
-      where
-        go : (found : Option (List Line)) → between.lines ≡ found
-            → MatchOption found ⊥ (λ lines. IsSound setup engine lines between.regs p.ledger)
-        go None none = absurd (true≢false (sym it.told ∙ ap (λ (o : Option (List Line)). is_some o) none))
-        go (Some now) there = (it.lines p.board.lines refl now there).from_durable off.durable
-
-    recovered : AreDone setup parts_from [] [] (recovery_bound c.geometry) parts_between
-    recovered =
-        record {
-          asked = refl;
-          moment = refl;
-          marks = sym (append-nil p.ledger.marks);
-          loss = ap (λ (r : Regs). r.loss) it.regs;
-          sound = sound_between;
-          live = it.power.live refl;
-          takes = most_within from between (most_recovery_steps setup lit.regs) (recovery_bound c.geometry) few_recovery it.steps;
-        }
+    abbrev recovered_to : AreDone setup parts_from [] [] (recovery_bound c.geometry) parts_between
+    recovered_to = recovered setup p.ledger lit between c.suite_old suite_between engine work it off.durable refl c.world.few_armed
 
     record_inside : logical_lines c.geometry + 1 < layout.data_lines c.geometry
     record_inside =
@@ -215,7 +193,7 @@ module _ (c : OnWearCall) where
         → recorded (logical_lines c.geometry) line ≡ Some old.wear
     record_read new line read =
         ap (recorded (logical_lines c.geometry))
-        (read_line setup parts_from parts_between [] [] (recovery_bound c.geometry) recovered (logical_lines c.geometry + 1) new line record_inside read)
+        (read_line setup parts_from parts_between [] [] (recovery_bound c.geometry) recovered_to (logical_lines c.geometry + 1) new line record_inside read)
         ∙ c.world.levelled.its_record
 
   -- ---- the answers
@@ -273,7 +251,7 @@ module _ (c : OnWearCall) where
         let middle = parts_between between suite_between engine work it in
         let was : HasReadLine setup (logical_lines c.geometry + 1) middle (parts_to gapped.engine) (Ok line) =
         subst (λ n. HasReadLine setup (n + 1) middle (parts_to gapped.engine) (Ok line)) read.its_lines read.was_read in
-        let done = read_done setup start middle [] [] bound (recovered between suite_between engine work it) (logical_lines c.geometry + 1) (parts_to gapped.engine) line was in
+        let done = read_done setup start middle [] [] bound (recovered_to between suite_between engine work it) (logical_lines c.geometry + 1) (parts_to gapped.engine) line was in
         let marks = no_marks [] done.marks in
         let its_wear : gapped.wear ≡ old.wear =
         same_Some gapped.wear old.wear
@@ -288,7 +266,7 @@ module _ (c : OnWearCall) where
     read_cut_exit dropped was =
         let start = parts_from between suite_between engine work it in
         let middle = parts_between between suite_between engine work it in
-        let cut = read_cut setup start middle [] [] bound (recovered between suite_between engine work it) (logical_lines c.geometry + 1) (parts_to dropped) was in
+        let cut = read_cut setup start middle [] [] bound (recovered_to between suite_between engine work it) (logical_lines c.geometry + 1) (parts_to dropped) was in
         let marks = no_marks [] cut.marks in
         exit_of c.board None (Say.Cut (steps_in c.taken)) (dark_world marks c.board cut.dark cut.durable cut.small_group)
         (cut_seen marks cut.dark cut.loss cut.takes)
@@ -301,66 +279,37 @@ module _ (c : OnWearCall) where
     by_opened (Err (Gap.BadWear line)) opened =
         absurd (none-some old.wear (sym opened.2 ∙ record_read between suite_between engine work it (parts_to opened.0) line opened.1))
     by_opened (Err (Gap.Engine fault)) opened =
-        let sound = sound_between between suite_between engine work it in
+        let sound = sound_recovered setup p.ledger lit between c.suite_old suite_between engine work it off.durable in
         absurd (opened.1.unrefused (sound_trusted setup (parts_between between suite_between engine work it) sound).not_down sound)
 
   -- ---- recovery wasn't done
 
-  module _ (suite_between : SuiteState) (fault : RecFault) (it : HasRecovered setup p.ledger from to c.suite_old suite_between (Err fault))
-      (ledger : c.ledger ≡ p.ledger) where
-    mended : HasMended setup p.ledger from to p.board.lines c.board.lines (Err fault)
-    mended = it.lines p.board.lines refl c.board.lines refl
-
-    marks_same : c.ledger.marks ≡ p.ledger.marks
-    marks_same = ap (λ (l : LedgerState). l.marks) ledger
-
-    durable_now : IsDurable setup c.board.lines c.board.regs p.ledger → IsDurable setup c.board.lines c.board.regs c.ledger
-    durable_now durable = subst (IsDurable setup c.board.lines c.board.regs) (sym ledger) durable
-
-  few_by : (regs : Regs) → c.board.regs ≡ regs → length regs.group.items ≤ 3 → length c.board.regs.group.items ≤ 3
-  few_by regs same few = subst (λ (r : Regs). length r.group.items ≤ 3) (sym same) few
-
   recovery_cut : (suite_between : SuiteState) → HasRecovered setup p.ledger from to c.suite_old suite_between (Err Rec.Cut) → c.ledger ≡ p.ledger
       → WearExit c.board None (Say.Cut (steps_in c.taken))
   recovery_cut suite_between it ledger =
-      let marks = marks_same suite_between Rec.Cut it ledger in
-      let durable = durable_now suite_between Rec.Cut it ledger ((mended suite_between Rec.Cut it ledger).from_durable off.durable) in
-      let few : length c.board.regs.group.items ≤ 3 = elim it.regs [
-        | inl same ↦ few_by p.board.regs same c.world.few_armed
-        | inr none ↦ few_by (without_group p.board.regs) none (omega arith)
-      ] in
-      let loss : c.board.regs.loss ≡ p.board.regs.loss =
-      elim it.regs [ inl same ↦ ap (λ (r : Regs). r.loss) same | inr none ↦ ap (λ (r : Regs). r.loss) none ] in
+      let marks : c.ledger.marks ≡ p.ledger.marks = ap (λ (l : LedgerState). l.marks) ledger in
+      let is = cut_left setup p.ledger c.ledger lit c.board c.taken c.suite_old suite_between ledger off.durable c.world.few_armed it in
       let dark : c.board.powered ≡ false = it.power.off in
-      exit_of c.board None (Say.Cut (steps_in c.taken)) (dark_world marks c.board dark durable few)
-      (cut_seen marks dark loss
-      (fewer_within from to (most_recovery_steps setup lit.regs) most (let few = few_recovery in omega (arith, few)) it.steps))
+      exit_of c.board None (Say.Cut (steps_in c.taken)) (dark_world marks c.board dark is.durable is.few_armed)
+      (cut_seen marks dark is.loss
+      (fewer_within from to (most_recovery_steps setup lit.regs) most
+      (let few = few_recovery setup lit.regs c.world.few_armed in omega (arith, few)) it.steps))
 
   -- nothing was done, for want of memory
-  no_fuse_burnt : (fuse : Option ℕ) → option_map (λ n. n - 0) fuse ≡ fuse
-  no_fuse_burnt None = refl
-  no_fuse_burnt (Some n) = ap (λ (k : ℕ). Some k) (omega arith)
-
   recovery_wanted : (suite_between : SuiteState) → HasRecovered setup p.ledger from to c.suite_old suite_between (Err Rec.Memory)
       → c.ledger ≡ p.ledger → WearOutcome (Err (Start.Recovery Rec.Memory))
   recovery_wanted suite_between it ledger =
-      let marks = marks_same suite_between Rec.Memory it ledger in
-      let durable = durable_now suite_between Rec.Memory it ledger ((mended suite_between Rec.Memory it ledger).from_durable off.durable) in
-      let same : to ≡ from = it.unchanged in
-      let lasting : c.board.powered ≡ true = ap (λ (d : Device). d.live) same in
-      let no_writes : c.taken.writes ≡ 0 = ap (λ (d : Device). d.writes) same in
-      let no_latches : c.taken.latches ≡ 0 = ap (λ (d : Device). d.latches) same in
-      let loss : c.board.regs.loss ≡ p.board.regs.loss = ap (λ (d : Device). d.regs.loss) same in
-      let follows = watched.follows in
-      let none : steps_in c.taken ≡ 0 = omega (arith, no_writes, no_latches) in
-      let fuse : c.board.fuse ≡ p.board.fuse =
-      follows.burnt lasting ∙ ap (λ k. option_map (λ n. n - k) p.board.fuse) none ∙ no_fuse_burnt p.board.fuse in
-      let writes : c.board.writes ≡ p.board.writes = omega (arith, follows.writes, watched.in_count.writes, no_writes) in
-      let latches : c.board.latches ≡ p.board.latches = omega (arith, follows.latches, watched.in_count.latches, no_latches) in
-      let cuts : c.board.cuts ≡ p.board.cuts = follows.uncut lasting in
+      let marks : c.ledger.marks ≡ p.ledger.marks = ap (λ (l : LedgerState). l.marks) ledger in
+      let is = wanted_left setup p.ledger c.ledger lit c.board c.taken c.suite_old suite_between ledger off.durable c.world.few_armed it in
+      let still = untouched lit c.board c.taken watched it.unchanged refl in
+      let loss : c.board.regs.loss ≡ p.board.regs.loss = is.loss in
+      let fuse : c.board.fuse ≡ p.board.fuse = still.fuse in
+      let writes : c.board.writes ≡ p.board.writes = still.writes in
+      let latches : c.board.latches ≡ p.board.latches = still.latches in
+      let cuts : c.board.cuts ≡ p.board.cuts = still.cuts in
       let power : p.board.powered ≡ false = off.unpowered in
       let count : unwrap_or (option_map (λ (k : Gapped). k.count) p.gapped) 0 ≡ 0 = no_count in (
-        dark_world marks rested refl durable (few_by p.board.regs it.regs c.world.few_armed),
+        dark_world marks rested refl is.durable is.few_armed,
         cc (power, fuse, loss, marks, writes, latches, cuts),
       )
 
@@ -368,19 +317,17 @@ module _ (c : OnWearCall) where
       → HasRecovered setup p.ledger from to c.suite_old suite_between (Err (Rec.Twin at major low high cipher tag)) → c.ledger ≡ p.ledger
       → WearOutcome (Err (Start.Recovery (Rec.Twin at major low high cipher tag)))
   recovery_twin suite_between at major low high cipher tag it ledger =
-      let fault = Rec.Twin at major low high cipher tag in
-      let marks = marks_same suite_between fault it ledger in
-      let its = mended suite_between fault it ledger in
-      let made = its.from_durable off.durable in
-      let durable = durable_now suite_between fault it ledger made.1 in
-      let within = tried_line setup (redone p.board.regs.group.items p.board.lines) p.board.regs at its.decided.0 in (
-        dark_world marks rested refl durable (few_by (without_group p.board.regs) it.regs (omega arith)),
+      let marks : c.ledger.marks ≡ p.ledger.marks = ap (λ (l : LedgerState). l.marks) ledger in
+      let is = twin_left setup p.ledger c.ledger lit c.board c.taken c.suite_old suite_between ledger off.durable c.world.few_armed at major low high cipher tag it in
+      let within = twin_within setup p.ledger c.ledger lit c.board c.taken c.suite_old suite_between ledger off.durable c.world.few_armed at major low high cipher tag it in (
+        dark_world marks rested refl is.durable is.few_armed,
         (
           off.unpowered,
           within,
           it.twin,
           seal_twin setup p.board.regs p.ledger (plain_memory setup p.ledger.marks) p.board.regs.loss at major low high cipher tag
-              c.world.whole_formulas off.durable.mendable.anchored c.world.places within made.0,
+              c.world.whole_formulas off.durable.mendable.anchored c.world.places within
+              (twin_of_last setup p.ledger c.ledger lit c.board c.taken c.suite_old suite_between ledger off.durable c.world.few_armed at major low high cipher tag it),
         ),
       )
 
@@ -406,7 +353,7 @@ module _ (c : OnWearCall) where
           subst WearOutcome (sym later.0)
           (recovery_twin started.suite_between at major low high cipher tag (refused (Rec.Twin at major low high cipher tag) it later.1) later.2)
       go (Err fault) it later =
-          absurd ((mended started.suite_between fault (refused fault it later.1) later.2).from_durable off.durable)
+          absurd (((refused fault it later.1).lines p.board.lines refl c.board.lines refl).from_durable off.durable)
 
   -- ---- as contracts write it
 

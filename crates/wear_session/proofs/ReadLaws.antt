@@ -23,10 +23,11 @@ use Rattle.start_gap.specs.Logical.{IsLevelled}
 use Rattle.start_gap.proofs.Places.{places}
 use Rattle.watched_board.specs.declared.taken.Taken.{Taken}
 use Rattle.watched_board.specs.Watching.{steps_in, step_limit, device_during, none_taken, IsWatched}
+use Rattle.watched_board.proofs.StepLaws.{at_most, fewer}
 use Rattle.wear_session.specs.World.{WearParts, IsWearWorld, IsLevelledOn, IsLevelledBy, wear_in, levelled_memory, wear_of}
 use Rattle.wear_session.specs.Answered.{HasWearRead, read_steps}
 use Rattle.wear_session.specs.declared.answers.WearAnswer.TheVariants as Say
-use Rattle.wear_session.proofs.Worlds.{at_most, fewer, goes_to, cut_off, on_after, off_after}
+use Rattle.wear_session.proofs.Worlds.{goes_to, cut_off, on_after, off_after}
 
 -- with power on, what is held of the levelled lines
 pub on_in : (setup : Setup) (p : WearParts) (gapped : Gapped) → IsWearWorld setup p → p.gapped ≡ Some gapped → IsLevelledOn setup p gapped
@@ -104,7 +105,7 @@ module _ (setup : Setup) (p : WearParts) (gapped after : Gapped) (board : BoardM
     read_done = (
       shown,
       goes_to setup p left_on taken watched (wear_of setup p) (read_steps setup.shape) powered
-          (at_most p.board board taken (path_length setup.shape) watched.follows.few (it.steps_of_path on.running).0)
+          (at_most taken (path_length setup.shape) watched.follows.few (it.steps_of_path on.running).0.sum)
           (record {
             shape = refl;
             keys = refl;
@@ -138,7 +139,7 @@ module _ (setup : Setup) (p : WearParts) (gapped after : Gapped) (board : BoardM
     pub read_cut : path_length setup.shape ≤ step_limit → HasWearRead (wear_of setup p) a (Say.Cut (steps_in taken)) (wear_of setup left_off)
     read_cut small =
         cut_off setup p left_off taken watched (wear_of setup p) (read_steps setup.shape) off
-        (fewer p.board board taken (path_length setup.shape) watched.follows.few ((it.steps_of_path on.running).1 on.powered)) small
+        (fewer taken (path_length setup.shape) watched.follows.few ((it.steps_of_path on.running).1 on.powered).sum) small
         (record {
           shape = refl;
           keys = refl;

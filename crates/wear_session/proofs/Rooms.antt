@@ -25,22 +25,22 @@ module _ (setup : Setup) (ledger : LedgerState) (spare : ℕ) where
   mendable_spared : (lines : List Line) (regs : Regs) → IsMendable setup lines regs ledger → IsMendable setup lines regs spared
   mendable_spared lines regs it = search (rules, anchored_spared)
 
-  durable_spared : (lines : List Line) (regs : Regs) → IsDurable setup lines regs ledger → IsDurable setup lines regs spared
+  pub durable_spared : (lines : List Line) (regs : Regs) → IsDurable setup lines regs ledger → IsDurable setup lines regs spared
   durable_spared lines regs it = record { device_whole = it.device_whole; mendable = mendable_spared _ regs it.mendable }
 
-  sound_spared : (engine : EngineState) (lines : List Line) (regs : Regs) → IsSound setup engine lines regs ledger → IsSound setup engine lines regs spared
+  pub sound_spared : (engine : EngineState) (lines : List Line) (regs : Regs) → IsSound setup engine lines regs ledger → IsSound setup engine lines regs spared
   sound_spared engine lines regs it = search (rules, trusted_spared, durable_spared)
+
+pub ledger_is : (old new : LedgerState) (n : ℕ) → HasRoom old new n → record old { spare = new.spare } ≡ new
+ledger_is old new n room =
+    ap (λ (m : List Mark). record old { spare = new.spare; marks = m }) (sym room.marks)
+    ∙ ap (λ (t : List Line). record old { spare = new.spare; marks = new.marks; truth = t }) (sym room.truth)
+    ∙ ap (λ (d : ℕ). record old { spare = new.spare; marks = new.marks; truth = new.truth; data_lines = d }) (sym room.data_lines)
+    ∙ ap (λ (e : Option Exhibit). record new { exhibit = e }) (sym room.exhibit)
 
 module _ (setup : Setup) (p : WearParts) (ledger : LedgerState) (n : ℕ) (room : HasRoom p.ledger ledger n) where
   abbrev with_room : WearParts
   with_room = record p { ledger = record p.ledger { spare = ledger.spare } }
-
-  ledger_is : record p.ledger { spare = ledger.spare } ≡ ledger
-  ledger_is =
-      ap (λ (m : List Mark). record p.ledger { spare = ledger.spare; marks = m }) (sym room.marks)
-      ∙ ap (λ (t : List Line). record p.ledger { spare = ledger.spare; marks = ledger.marks; truth = t }) (sym room.truth)
-      ∙ ap (λ (d : ℕ). record p.ledger { spare = ledger.spare; marks = ledger.marks; truth = ledger.truth; data_lines = d }) (sym room.data_lines)
-      ∙ ap (λ (e : Option Exhibit). record ledger { exhibit = e }) (sym room.exhibit)
 
   by_chip : (gapped : Option Gapped) → IsLevelledBy setup p gapped → IsLevelledBy setup with_room gapped
   by_chip None off =
@@ -65,7 +65,7 @@ module _ (setup : Setup) (p : WearParts) (ledger : LedgerState) (n : ℕ) (room 
   -- a session with room for marks is one
   pub reserved_world : IsWearWorld setup p → IsWearWorld setup (record p { ledger = ledger })
   reserved_world world =
-      subst (λ l. IsWearWorld setup (record p { ledger = l })) ledger_is
+      subst (λ l. IsWearWorld setup (record p { ledger = l })) (ledger_is p.ledger ledger n room)
       (record {
         whole_shape = world.whole_shape;
         whole_formulas = world.whole_formulas;

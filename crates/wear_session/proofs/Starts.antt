@@ -1,13 +1,9 @@
 -- Recovery, and then the opening of the lines: one relation, and the steps of both.
-use Rattle.std.proofs.Common.{Bool, true, false, Option, Some, None, sym, ◌∙◌, ℕ, mul-le-mul_left, mul-le-mul_right, ◌≡◌, ◌≤◌, ◌+◌, ◌*◌, List, [], ◌∷◌, Result, Ok, refl, ap, subst, arith}
-use Rattle.std.specs.Prelude.{is_some}
-use Rattle.std.proofs.lemmas.Bool.{true≢false}
-use Rattle.pmem_base.specs.declared.lines.Line.{Line}
+use Rattle.std.proofs.Common.{true, None, ℕ, mul-le-mul_left, mul-le-mul_right, ◌≡◌, ◌≤◌, ◌+◌, ◌*◌, List, Result, Ok, refl, ap, subst, arith}
 use Rattle.pmem_base.specs.Layout as layout
 use Rattle.pmem_base.specs.Shape.{Shape, IsShape}
 use Rattle.board.specs.Device.{Device}
 use Rattle.board.specs.Memory.{BoardMemory}
-use Rattle.commit_regs.specs.Groups.{finishing_latches}
 use Rattle.seal_ledger.specs.Ledger.{LedgerState}
 use Rattle.suite.specs.Formulas.{Formulas}
 use Rattle.plain_model.specs.Bounds.{path_length, recovery_bound}
@@ -60,10 +56,6 @@ has_started formulas_of g every old between new ledger_old ledger_new suite_old 
 
 -- ---- bounds
 
-pub one_latch : (group : List (ℕ × Line)) → finishing_latches group ≤ 1
-one_latch [] = omega arith
-one_latch (entry ∷ rest) = omega arith
-
 pub few_of_on : (g : Shape) → IsShape g → recovery_bound g + read_steps g ≤ step_limit
 few_of_on g shape =
     let slots : layout.slots g ≤ 512 =
@@ -72,11 +64,6 @@ few_of_on g shape =
     omega (arith, mul-le-mul_left (path_length g) slots, shape.at_most_six_levels) in
     let banks : g.levels * layout.slots g ≤ 3072 = omega (arith, mul-le-mul_left g.levels slots, shape.at_most_six_levels) in
     omega (arith, slots, path, banks, shape.at_most_six_levels)
-
--- nothing is there
-pub none_of : {X : Type 0} (found : Option X) (some : Bool) → some ≡ is_some found → some ≡ false → found ≡ None
-none_of None some is none = refl
-none_of (Some x) some is none = absurd (true≢false (sym is ∙ none))
 
 -- the session's parts as power comes on, what recovery and the opening leave and answer
 pub record OnWearCall : Type 0 where

@@ -1,7 +1,6 @@
 -- A twin that recovery shows is one of a line that the session keeps.
-use Rattle.std.proofs.Common.{ℕ, ◌≡◌, ◌<◌, ◌*◌, ◌/◌, List, length, Option, Some, None, refl, sym, ap, ap₂, ◌∙◌, arith}
-use Rattle.std.specs.Prelude.{All, option_map, ◌==◌, not, true}
-use Rattle.std.specs.List.{range_with_len}
+use Rattle.std.proofs.Common.{ℕ, ◌≡◌, ◌<◌, ◌/◌, List, Option, Some, None, refl, sym, ap, ap₂, ◌∙◌}
+use Rattle.std.specs.Prelude.{option_map}
 use Rattle.std.proofs.lemmas.Option.{same_Some, none-some}
 use Rattle.pmem_base.specs.declared.lines.Line.{Line}
 use Rattle.pmem_base.specs.declared.lines.Ctr.{Ctr}
@@ -10,8 +9,6 @@ use Rattle.pmem_base.specs.declared.answers.Mark.TheVariants.{Seal}
 use Rattle.pmem_base.specs.Layout as layout
 use Rattle.pmem_base.specs.Lines.{line_at}
 use Rattle.pmem_base.specs.Marks.{SealOf, last_seal}
-use Rattle.pmem_base.proofs.ListLaws.{find_found, All-into_flat_map, All-into_filter, All-into_range}
-use Rattle.bonsai_tree.specs.Positions.{counter_position}
 use Rattle.seal_ledger.specs.Ledger.{LedgerState, IsMark}
 use Rattle.seal_ledger.proofs.MarkLemmas.{last_seal_has}
 use Rattle.suite.specs.Formulas.{AreInRange, cipher_of}
@@ -21,23 +18,8 @@ use Rattle.plain_model.specs.State.{Memory}
 use Rattle.plain_model.specs.View.{IsMemoryOf, counter_at, plain_of_seal, view_of}
 use Rattle.plain_model.specs.Shown.{IsTwinOfSeal}
 use Rattle.plain_model.proofs.Views.{counter_at-last}
-use Rattle.pmem_engine.specs.Invariants.{IsAnchored, IsSealTagged, is_named}
-use Rattle.pmem_recovery.specs.Trials.{first_undecided, named_pages, lines_tried, tried_minors, IsTwinOfLastSeal}
-
--- a line that recovery tries is a data line
-pub tried_line : (setup : Setup) (lines : List Line) (regs : Regs) (a : ℕ) → first_undecided setup lines regs ≡ Some a → a < layout.data_lines setup.shape
-tried_line setup lines regs a found =
-    (find_found (λ a. not (length (tried_minors setup lines regs a) == 1)) (λ a. a < layout.data_lines setup.shape)
-    (lines_tried setup.shape lines) a
-    (All-into_flat_map (λ a. a < layout.data_lines setup.shape) (λ page. range_with_len (64 * page) 64) (named_pages setup.shape lines)
-    (All-into_filter (λ page. is_named setup.shape lines (counter_position setup.shape page))
-    (λ page. All (λ a. a < layout.data_lines setup.shape) (range_with_len (64 * page) 64)) (range_with_len 0 (layout.pages setup.shape))
-    (All-into_range
-    (λ page. is_named setup.shape lines (counter_position setup.shape page) ≡ true → All (λ a. a < layout.data_lines setup.shape) (range_with_len (64 * page) 64))
-    0 (layout.pages setup.shape)
-    (λ page low high named.
-    All-into_range (λ a. a < layout.data_lines setup.shape) (64 * page) 64 (λ a first last. omega (arith, first, last, high))))))
-    found).1
+use Rattle.pmem_engine.specs.Invariants.{IsAnchored, IsSealTagged}
+use Rattle.pmem_recovery.specs.Trials.{IsTwinOfLastSeal}
 
 -- a twin of its last seal is one of memory's line
 pub seal_twin : (setup : Setup) (regs : Regs) (ledger : LedgerState) (memory : Memory) (loss a major low high : ℕ) (cipher : Line) (tag : List ℕ)

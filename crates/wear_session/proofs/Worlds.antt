@@ -1,9 +1,7 @@
 -- What a session holds after a call that goes on or is cut, and how its state stands to the one before.
-use Rattle.std.proofs.Common.{rules, ℕ, zero, suc, ◌≡◌, ◌<◌, ◌≤◌, ◌+◌, inl, inr, true, false, List, length, Option, Some, None, refl, sym, ap, subst, ◌∙◌, arith}
+use Rattle.std.proofs.Common.{rules, ℕ, zero, ◌≡◌, ◌<◌, ◌≤◌, true, false, List, length, Option, Some, None, refl, sym, ap, subst, ◌∙◌, arith}
 use Rattle.std.specs.Prelude.{IsSome, option_map}
-use Rattle.std.proofs.lemmas.Bool.{cases_lt}
 use Rattle.std.proofs.lemmas.Option.{none-some}
-use Rattle.pmem_base.specs.Counts.{last_count, HasRisen}
 use Rattle.pmem_base.specs.declared.answers.Mark.{Mark}
 use Rattle.pmem_base.specs.Layout as layout
 use Rattle.pmem_base.specs.Marks.{SealOf, last_seal}
@@ -23,9 +21,9 @@ use Rattle.pmem_engine.specs.Invariants.{IsAnchored, IsDurable, IsSound}
 use Rattle.start_gap.specs.declared.gapped.Gapped.{Gapped}
 use Rattle.start_gap.specs.Logical.{IsLevelled}
 use Rattle.start_gap.specs.Gapped.{logical_lines}
-use Rattle.pmem_engine.specs.Outcomes.{TakesAtMost, TakesFewer}
 use Rattle.watched_board.specs.declared.taken.Taken.{Taken}
-use Rattle.watched_board.specs.Watching.{counted, cuts_after, steps_in, step_limit, device_during, none_taken, FollowsOn, IsWatched}
+use Rattle.watched_board.specs.Watching.{steps_in, step_limit, FollowsOn, IsWatched}
+use Rattle.watched_board.proofs.StepLaws.{rose}
 use Rattle.trace_text.specs.Sessions.{HasBurnt, HasRunOut}
 use Rattle.wear_session.specs.State.{WearState, wear_without_power}
 use Rattle.wear_session.specs.World.{WearParts, IsWearWorld, IsLevelledOn, IsLevelledBy, wear_in, levelled_memory, wear_of}
@@ -72,32 +70,6 @@ places_of setup marks sealed =
 
 -- ---- steps of a call
 
-few_exact : (taken : Taken) → steps_in taken ≤ step_limit → (taken.writes < last_count) × (taken.latches < last_count)
-few_exact taken few = (omega (arith, few), omega (arith, few))
-
-pub at_most : (old new : BoardMemory) (taken : Taken) (n : ℕ) → steps_in taken ≤ step_limit
-    → TakesAtMost n (device_during old none_taken) (device_during new taken) → steps_in taken ≤ n
-at_most old new taken n few takes =
-    let exact = few_exact taken few in
-    let sum : taken.writes + taken.latches ≤ 0 + 0 + n = takes.sum exact.0 exact.1 in
-    omega (arith, sum)
-
-pub fewer : (old new : BoardMemory) (taken : Taken) (n : ℕ) → steps_in taken ≤ step_limit
-    → TakesFewer n (device_during old none_taken) (device_during new taken) → steps_in taken < n
-fewer old new taken n few takes =
-    let exact = few_exact taken few in
-    let sum : taken.writes + taken.latches < 0 + 0 + n = takes.sum exact.0 exact.1 in
-    omega (arith, sum)
-
--- a count after some more has risen
-rose_by : (before more : ℕ) → 0 < more → HasRisen before (cuts_after before more)
-rose_by before zero some = absurd (omega (arith, some))
-rose_by before (suc more) some =
-    elim (cases_lt before (counted before (suc more))) [
-      | inl above ↦ inl above
-      | inr below ↦ inr (omega (arith, below))
-    ]
-
 module _ (old new : BoardMemory) (taken : Taken) (follows : FollowsOn old new taken) where
   pub rises_by : RisesBySteps (steps_in taken) old.writes old.latches new.writes new.latches
   rises_by =
@@ -117,7 +89,7 @@ module _ (old new : BoardMemory) (taken : Taken) (follows : FollowsOn old new ta
       record {
         at_end = follows.spent off below;
         cleared = follows.cleared off;
-        cut = subst (λ n. HasRisen old.cuts n) (sym follows.cuts) (rose_by old.cuts taken.cuts (follows.cut off));
+        cut = rose old new taken follows off;
       }
 
 -- ---- states

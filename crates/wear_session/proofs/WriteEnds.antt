@@ -32,7 +32,8 @@ use Rattle.start_gap.specs.Gapped.{HasRecorded, HasRecordedAfter, HasCopied, Has
 use Rattle.start_gap.proofs.Places.{places, source-within}
 use Rattle.wear_session.specs.State.{moving_writes}
 use Rattle.wear_session.specs.Answered.{Writing, is_own_seal, IsCutAmong, write_steps, read_steps}
-use Rattle.wear_session.proofs.AskedWrites.{asked_own, own_by_seal, stopped}
+use Rattle.pmem_engine.proofs.PostedWrites.StoppedWrites.{stopped}
+use Rattle.wear_session.proofs.AskedWrites.{asked_own, own_by_seal}
 use Rattle.wear_session.proofs.EngineWrites.{memory_now, moment_now, most_within, fewer_within, AreDone, AreCut, IsCutAfter, IsCutBefore, none_done, memory_done, read_line, read_done, read_cut, write_done, write_asked, spent_next, spent_done, spent_path, write_cut}
 
 -- ---- the engine writes of a write
@@ -121,7 +122,7 @@ wears_as setup a plain old new from to answer it = go it.made it.then
 
 -- ---- bounds
 
-within_done : (setup : Setup) (from : Parts) (writes : List Posted) (made : List Mark) (n m : ℕ) (to : Parts) → n ≤ m
+pub within_done : (setup : Setup) (from : Parts) (writes : List Posted) (made : List Mark) (n m : ℕ) (to : Parts) → n ≤ m
     → AreDone setup from writes made n to → AreDone setup from writes made m to
 within_done setup from writes made n m to few it =
     record {
@@ -134,7 +135,7 @@ within_done setup from writes made n m to few it =
       takes = most_within from.device to.device n m few it.takes;
     }
 
-within_cut : (setup : Setup) (from : Parts) (writes : List Posted) (made : List Mark) (n m : ℕ) (to : Parts) → n ≤ m
+pub within_cut : (setup : Setup) (from : Parts) (writes : List Posted) (made : List Mark) (n m : ℕ) (to : Parts) → n ≤ m
     → AreCut setup from writes made n to → AreCut setup from writes made m to
 within_cut setup from writes made n m to few it =
     record {

@@ -32,13 +32,14 @@ use Rattle.start_gap.specs.Logical.{IsLevelled, write_lines_at, wear_at, write_m
 use Rattle.start_gap.specs.Gapped.{HasLevelledWrite, IsCutOrSpent, logical_lines}
 use Rattle.watched_board.specs.declared.taken.Taken.{Taken}
 use Rattle.watched_board.specs.Watching.{steps_in, step_limit, device_during, none_taken, IsWatched}
+use Rattle.watched_board.proofs.StepLaws.{at_most, fewer}
 use Rattle.wear_session.specs.declared.commands.WearCommand.TheVariants as Do
 use Rattle.wear_session.specs.declared.answers.WearAnswer.{WearAnswer}
 use Rattle.wear_session.specs.declared.answers.WearAnswer.TheVariants as Say
 use Rattle.wear_session.specs.State.{WearState, wear_setup_in, wear_lines_in, is_due, engine_writes, wear_moment_in, place_in}
 use Rattle.wear_session.specs.World.{WearParts, IsWearWorld, IsLevelledOn, wear_in, levelled_memory, wear_of}
 use Rattle.wear_session.specs.Answered.{Writing, is_own_seal, IsWearAnswered, IsWriting, IsWearWriteKept, EndsWriting, IsWearButForSteps, GoesToWearState, IsWearCutOff, after_writing, most_of_write, wear_of_line, write_steps}
-use Rattle.wear_session.proofs.Worlds.{at_most, fewer, goes_to, cut_off, on_after, off_after}
+use Rattle.wear_session.proofs.Worlds.{goes_to, cut_off, on_after, off_after}
 use Rattle.wear_session.proofs.ReadLaws.{on_in, lines_are}
 use Rattle.wear_session.proofs.Seen.{setup_under, of_line_is, served, seen_from, held_under}
 use Rattle.wear_session.proofs.Rooms.{reserved_world, reserved_state}
@@ -238,7 +239,7 @@ module _ (c : WriteWearCall) where
       goes : GoesToWearState (after_writing old c.at c.plain writing) (steps_in c.taken) limit old (wear_of setup (left (Some c.after)))
       goes =
           goes_to setup p (left (Some c.after)) c.taken c.watched (after_writing old c.at c.plain writing) limit done.live
-          (at_most c.before.board c.board c.taken limit c.watched.follows.few done.takes)
+          (at_most c.taken limit c.watched.follows.few done.takes.sum)
           (subst (λ e. IsWearButForSteps (record e { marks = old.marks ++ made })
           (wear_of setup (left (Some c.after)))) (sym (with_writes_is old c.at c.plain k))
           (record {
@@ -263,7 +264,7 @@ module _ (c : WriteWearCall) where
       cuts : limit ≤ step_limit → IsWearCutOff (after_writing old c.at c.plain writing) (steps_in c.taken) limit old (wear_of setup (left None))
       cuts small =
           cut_off setup p (left None) c.taken c.watched (after_writing old c.at c.plain writing) limit cut.dark
-          (fewer c.before.board c.board c.taken limit c.watched.follows.few cut.takes) small
+          (fewer c.taken limit c.watched.follows.few cut.takes.sum) small
           (subst (λ e. IsWearButForSteps (record e { marks = old.marks ++ made; count = 0; power = false; fuse = None })
           (wear_of setup (left None))) (sym (with_writes_is old c.at c.plain k))
           (record {

@@ -276,6 +276,49 @@ impl Chip {
         assert!(rt; matches!(n, 1 | 2 | 4 | 8 | 16));
         self.engine.set_loss(&mut self.board, n)
     }
+
+    /// A read has this answer.
+    fn reads(&mut self, rt: &impl Abort, at: u32, wanted: Result<Line, Fault>) {
+        equal(rt, self.read(rt, at), wanted);
+    }
+
+    /// A turn has this answer.
+    fn turns(&mut self, rt: &impl Abort, wanted: Result<Option<(u32, u8)>, Fault>) {
+        equal(rt, self.turn(rt), wanted);
+    }
+
+    /// A flush has this answer.
+    fn flushes(&mut self, rt: &impl Abort, wanted: Result<Option<u32>, Fault>) {
+        equal(rt, self.flush(), wanted);
+    }
+
+    /// A new stop-loss number has this answer.
+    fn sets_loss(&mut self, rt: &impl Abort, n: u8, wanted: Result<u32, Fault>) {
+        equal(rt, self.set_loss(rt, n), wanted);
+    }
+
+    /// So much was counted since then.
+    fn took(&self, rt: &impl Abort, start: Counts, wanted: Counts) {
+        equal(rt, self.since(start), wanted);
+    }
+
+    /// So many lines are armed.
+    fn has_armed(&self, rt: &impl Abort, lines: usize) {
+        equal(rt, self.board.regs().group.len(), lines);
+    }
+
+    /// The lines that are done of the oldest open page, where there is one.
+    fn done(&self) -> Option<u64> {
+        match self.board.regs().progress.first() {
+            Some(oldest) => Some(oldest.done),
+            None => None,
+        }
+    }
+}
+
+/// The first of two values where it is so, and else the second.
+fn either<T: Copy>(is_so: bool, first: T, second: T) -> T {
+    if is_so { first } else { second }
 }
 
 // A path is fetched once. A cached block that is tampered with isn't noticed, one that isn't cached is
@@ -284,25 +327,25 @@ impl Chip {
 fn reads(rt: HostRuntime) -> Result<(), Fail> {
     let mut chip = formatted(&rt, rt.alloc(), false, 1)?;
     let cold = chip.counts();
-    equal(&rt, chip.read(&rt, 5), Ok(Line::default()));
-    equal(&rt, chip.since(cold), (0, 4, 1, 2));
+    chip.reads(&rt, 5, Ok(Line::default()));
+    chip.took(&rt, cold, (0, 4, 1, 2));
     let warm = chip.counts();
     chip.flip(&rt, 320, 0);
     chip.flip(&rt, 321, 0);
-    equal(&rt, chip.read(&rt, 7), Ok(Line::default()));
-    equal(&rt, chip.since(warm), (0, 2, 1, 0));
+    chip.reads(&rt, 7, Ok(Line::default()));
+    chip.took(&rt, warm, (0, 2, 1, 0));
     chip.flip(&rt, 322, 0);
-    equal(&rt, chip.read(&rt, 64), Err(Fault::Meta { x: 2 }));
+    chip.reads(&rt, 64, Err(Fault::Meta { x: 2 }));
     chip.flip(&rt, 7, 0);
-    equal(&rt, chip.read(&rt, 7), Err(Fault::Tag { at: 7 }));
+    chip.reads(&rt, 7, Err(Fault::Tag { at: 7 }));
     // The weak tag of two flipped bits is that of none.
     chip.flip(&rt, 7, 8);
-    equal(&rt, chip.read(&rt, 7), Err(Fault::Shown));
+    chip.reads(&rt, 7, Err(Fault::Shown));
     assert!(rt; matches!(chip.ledger.exhibit(), Some(Exhibit::Forged { at: 7, .. })));
-    equal(&rt, chip.read(&rt, 5), Err(Fault::Down));
-    equal(&rt, chip.turn(&rt), Err(Fault::Down));
-    equal(&rt, chip.flush(), Err(Fault::Down));
-    equal(&rt, chip.set_loss(&rt, 8), Err(Fault::Down));
+    chip.reads(&rt, 5, Err(Fault::Down));
+    chip.turns(&rt, Err(Fault::Down));
+    chip.flushes(&rt, Err(Fault::Down));
+    chip.sets_loss(&rt, 8, Err(Fault::Down));
     Ok(())
 }
 
@@ -315,8 +358,8 @@ fn clashes(rt: HostRuntime) -> Result<(), Fail> {
     chip.flip(&rt, 321, 8);
     let first = chip.peek(&rt, 321);
     let start = chip.counts();
-    equal(&rt, chip.read(&rt, 0), Err(Fault::Shown));
-    equal(&rt, chip.since(start), (0, 2, 0, 2));
+    chip.reads(&rt, 0, Err(Fault::Shown));
+    chip.took(&rt, start, (0, 2, 0, 2));
     equal(
         &rt,
         chip.ledger.exhibit(),
@@ -326,7 +369,7 @@ fn clashes(rt: HostRuntime) -> Result<(), Fail> {
             second,
         }),
     );
-    equal(&rt, chip.read(&rt, 64), Err(Fault::Down));
+    chip.reads(&rt, 64, Err(Fault::Down));
     Ok(())
 }
 
@@ -336,13 +379,32 @@ fn turns(rt: HostRuntime) -> Result<(), Fail> {
     let mut chip = formatted(&rt, rt.alloc(), true, 1)?;
     for at in 0..64_u8 {
         let start = chip.counts();
-        equal(&rt, chip.turn(&rt), Ok(Some((u32::from(at), 63 - at))));
-        equal(&rt, chip.since(start), (4, 2, 2, 0));
+        chip.turns(&rt, Ok(Some((u32::from(at), 63 - at))));
+        chip.took(&rt, start, (4, 2, 2, 0));
     }
     let start = chip.counts();
-    equal(&rt, chip.turn(&rt), Ok(None));
-    equal(&rt, chip.since(start), (0, 0, 0, 0));
-    equal(&rt, chip.read(&rt, 63), Ok(Line::default()));
+    chip.turns(&rt, Ok(None));
+    chip.took(&rt, start, (0, 0, 0, 0));
+    chip.reads(&rt, 63, Ok(Line::default()));
+    Ok(())
+}
+
+// A turn that is cut after so many steps of four.
+fn cut_turn(rt: &impl Abort, alloc: Global, fuse: u8) -> Result<(), Fail> {
+    let mut chip = formatted(rt, alloc, true, 1)?;
+    let (cipher, tag_line) = (chip.peek(rt, 0), chip.peek(rt, 256));
+    let start = chip.counts();
+    chip.arm(fuse);
+    let is_cut = fuse < 4;
+    chip.turns(rt, either(is_cut, Err(Fault::Cut), Ok(Some((0, 63)))));
+    chip.took(rt, start, (u64::from(fuse), 2, 2, 0));
+    equal(rt, chip.ledger.marks().len(), either(fuse == 0, 256, 257));
+    chip.has_armed(rt, either(fuse == 0 || fuse == 4, 0, 2));
+    equal(rt, chip.done(), Some(u64::from(fuse > 0)));
+    equal(rt, chip.peek(rt, 0) != cipher, fuse >= 2);
+    equal(rt, chip.peek(rt, 256) != tag_line, fuse >= 3);
+    chip.power();
+    chip.turns(rt, Err(either(is_cut, Fault::Down, Fault::Cut)));
     Ok(())
 }
 
@@ -351,49 +413,7 @@ fn turns(rt: HostRuntime) -> Result<(), Fail> {
 #[test]
 fn cut_turns(rt: HostRuntime) -> Result<(), Fail> {
     for fuse in 0..5_u8 {
-        let mut chip = formatted(&rt, rt.alloc(), true, 1)?;
-        let (cipher, tag_line) = (chip.peek(&rt, 0), chip.peek(&rt, 256));
-        let start = chip.counts();
-        chip.arm(fuse);
-        equal(
-            &rt,
-            chip.turn(&rt),
-            if fuse < 4 {
-                Err(Fault::Cut)
-            } else {
-                Ok(Some((0, 63)))
-            },
-        );
-        equal(&rt, chip.since(start), (u64::from(fuse), 2, 2, 0));
-        equal(
-            &rt,
-            chip.ledger.marks().len(),
-            if fuse == 0 { 256 } else { 257 },
-        );
-        equal(
-            &rt,
-            chip.board.regs().group.len(),
-            if matches!(fuse, 1..4) { 2 } else { 0 },
-        );
-        let done = chip
-            .board
-            .regs()
-            .progress
-            .first()
-            .map(|register| register.done);
-        equal(&rt, done, Some(u64::from(fuse > 0)));
-        equal(&rt, chip.peek(&rt, 0) != cipher, fuse >= 2);
-        equal(&rt, chip.peek(&rt, 256) != tag_line, fuse >= 3);
-        chip.power();
-        equal(
-            &rt,
-            chip.turn(&rt),
-            if fuse < 4 {
-                Err(Fault::Down)
-            } else {
-                Err(Fault::Cut)
-            },
-        );
+        cut_turn(&rt, rt.alloc(), fuse)?;
     }
     Ok(())
 }
@@ -408,25 +428,52 @@ fn write_backs(rt: HostRuntime) -> Result<(), Fail> {
     chip.wear(&rt, 0, 1);
     chip.flip(&rt, 321, 3);
     let dirty = chip.counts();
-    equal(&rt, chip.read(&rt, 64), Ok(Line::default()));
-    equal(&rt, chip.since(dirty), (1, 3, 1, 1));
+    chip.reads(&rt, 64, Ok(Line::default()));
+    chip.took(&rt, dirty, (1, 3, 1, 1));
     equal(&rt, unpack(&chip.peek(&rt, 321)), block);
     let clean = chip.counts();
-    equal(&rt, chip.read(&rt, 0), Ok(Line::default()));
-    equal(&rt, chip.since(clean), (0, 3, 1, 1));
+    chip.reads(&rt, 0, Ok(Line::default()));
+    chip.took(&rt, clean, (0, 3, 1, 1));
     chip.wear(&rt, 0, 1);
     let dirty = chip.counts();
-    equal(&rt, chip.flush(), Ok(Some(0)));
-    equal(&rt, chip.flush(), Ok(Some(1)));
-    equal(&rt, chip.flush(), Ok(None));
-    equal(&rt, chip.since(dirty), (2, 0, 0, 0));
+    chip.flushes(&rt, Ok(Some(0)));
+    chip.flushes(&rt, Ok(Some(1)));
+    chip.flushes(&rt, Ok(None));
+    chip.took(&rt, dirty, (2, 0, 0, 0));
     chip.wear(&rt, 0, 1);
     let dirty = chip.counts();
     chip.arm(0);
-    equal(&rt, chip.read(&rt, 64), Err(Fault::Cut));
-    equal(&rt, chip.since(dirty), (0, 1, 0, 1));
+    chip.reads(&rt, 64, Err(Fault::Cut));
+    chip.took(&rt, dirty, (0, 1, 0, 1));
     chip.power();
-    equal(&rt, chip.flush(), Err(Fault::Down));
+    chip.flushes(&rt, Err(Fault::Down));
+    Ok(())
+}
+
+// A smaller number that is cut after so many steps of three.
+fn cut_loss(rt: &impl Abort, alloc: Global, fuse: u8) -> Result<(), Fail> {
+    let mut chip = formatted(rt, alloc, false, 2)?;
+    let start = chip.counts();
+    chip.sets_loss(rt, 4, Ok(0));
+    chip.took(rt, start, (0, 0, 0, 0));
+    chip.sets_loss(rt, 8, Ok(1));
+    chip.reads(rt, 0, Ok(Line::default()));
+    chip.reads(rt, 64, Ok(Line::default()));
+    chip.wear(rt, 0, 1);
+    chip.wear(rt, 64, 1);
+    let blocks = (chip.peek(rt, 321), chip.peek(rt, 322));
+    let start = chip.counts();
+    chip.arm(fuse);
+    let is_cut = fuse < 3;
+    chip.sets_loss(rt, 2, either(is_cut, Err(Fault::Cut), Ok(3)));
+    chip.took(rt, start, (u64::from(fuse), 0, 0, 0));
+    equal(rt, chip.board.regs().loss, either(is_cut, 8, 2));
+    equal(rt, chip.peek(rt, 321) != blocks.0, fuse > 0);
+    equal(rt, chip.peek(rt, 322) != blocks.1, fuse > 1);
+    chip.power();
+    chip.arm(1);
+    chip.flushes(rt, either(is_cut, Err(Fault::Down), Ok(Some(0))));
+    chip.flushes(rt, either(is_cut, Err(Fault::Down), Ok(None)));
     Ok(())
 }
 
@@ -435,40 +482,7 @@ fn write_backs(rt: HostRuntime) -> Result<(), Fail> {
 #[test]
 fn losses(rt: HostRuntime) -> Result<(), Fail> {
     for fuse in 0..4_u8 {
-        let mut chip = formatted(&rt, rt.alloc(), false, 2)?;
-        let start = chip.counts();
-        equal(&rt, chip.set_loss(&rt, 4), Ok(0));
-        equal(&rt, chip.since(start), (0, 0, 0, 0));
-        equal(&rt, chip.set_loss(&rt, 8), Ok(1));
-        equal(&rt, chip.read(&rt, 0), Ok(Line::default()));
-        equal(&rt, chip.read(&rt, 64), Ok(Line::default()));
-        chip.wear(&rt, 0, 1);
-        chip.wear(&rt, 64, 1);
-        let blocks = (chip.peek(&rt, 321), chip.peek(&rt, 322));
-        let start = chip.counts();
-        chip.arm(fuse);
-        equal(
-            &rt,
-            chip.set_loss(&rt, 2),
-            if fuse < 3 { Err(Fault::Cut) } else { Ok(3) },
-        );
-        equal(&rt, chip.since(start), (u64::from(fuse), 0, 0, 0));
-        equal(&rt, chip.board.regs().loss, if fuse < 3 { 8 } else { 2 });
-        equal(&rt, chip.peek(&rt, 321) != blocks.0, fuse > 0);
-        equal(&rt, chip.peek(&rt, 322) != blocks.1, fuse > 1);
-        chip.power();
-        chip.arm(1);
-        for clean in [Some(0), None] {
-            equal(
-                &rt,
-                chip.flush(),
-                if fuse < 3 {
-                    Err(Fault::Down)
-                } else {
-                    Ok(clean)
-                },
-            );
-        }
+        cut_loss(&rt, rt.alloc(), fuse)?;
     }
     Ok(())
 }

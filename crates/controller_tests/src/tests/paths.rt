@@ -1,5 +1,5 @@
 //! Paths fetched, tampered with, renewed and written back, for 16 pages.
-ghost use Rattle.std.specs.Prelude.{◌≡◌, ◌<◌, length};
+ghost use Rattle.std.specs.Prelude.{◌≡◌, length};
 ghost use Rattle.pmem_base.specs.Geo.{shape_of};
 ghost use Rattle.pmem_base.specs.Layout.{meta_lines, shadow_lines, device_lines};
 ghost use Rattle.board.specs.MemBoard.{memory_of};
@@ -72,30 +72,27 @@ fn grow(rt: &impl Abort, bench: &mut Bench, x: u8) {
         digests[usize::from(i)] = bench.suite.digest(child, &below);
     }
     let node = node_of(&digests);
-    put(rt, bench, u32::from(x), &node);
-    bench.ledger.note_meta(u32::from(x), &node);
-}
-
-/// The device line of the metadata line at `x`.
-fn place(rt: &impl Abort, bench: &Bench, x: u32) -> u32
-    ensures meta { x < meta_lines (shape_of bench.now.geo) }
-    ensures within { result < device_lines (shape_of bench.now.geo) }
-{
-    assert!(rt; x < bench.geo.metas());
-    bench.geo.meta_line(x)
+    put_true(rt, bench, u32::from(x), &node);
 }
 
 /// The metadata line at `x` on the device.
 fn line<'a>(rt: &impl Abort, bench: &'a Bench, x: u32) -> &'a Line {
-    bench.board.peek(place(rt, bench, x))
+    assert!(rt; x < bench.geo.metas());
+    bench.board.peek(bench.geo.meta_line(x))
 }
 
 /// Writes the metadata line at `x` past the controller.
-fn put(rt: &impl Abort, bench: &mut Bench, x: u32, line: &Line)
-    ensures { x < meta_lines (shape_of bench.new.geo) }
-{
-    let at = place(rt, bench, x);
-    bench.board.poke(at, line);
+fn put(rt: &impl Abort, bench: &mut Bench, x: u32, line: &Line) {
+    assert!(rt; x < bench.geo.metas());
+    let place = bench.geo.meta_line(x);
+    bench.board.poke(place, line);
+}
+
+/// Makes the true metadata line at `x` this one, on the device and in the ledger.
+fn put_true(rt: &impl Abort, bench: &mut Bench, x: u32, line: &Line) {
+    assert!(rt; x < bench.geo.metas());
+    bench.ledger.note_meta(x, line);
+    put(rt, bench, x, line);
 }
 
 /// The counts of reads, line writes and digests.
@@ -176,19 +173,41 @@ fn flush(bench: &mut Bench) -> Option<u32> {
     write_back_one(&bench.geo, &mut bench.cache, &mut bench.board).unwrap_or(None)
 }
 
+/// A fetch has this answer, and takes so much.
+fn fetches_to(
+    rt: &impl Abort,
+    bench: &mut Bench,
+    page: u32,
+    wanted: Result<(), PathFault>,
+    took: (u64, u64, u64),
+) {
+    equal(rt, fetch(rt, bench, page), (wanted, took));
+}
+
+/// A renewal of page 0's counter block makes this root.
+fn renews_to(rt: &impl Abort, bench: &mut Bench, persisted: bool, root: u8) {
+    equal(rt, renew(rt, bench, persisted), Ok(short(root)));
+}
+
+/// The oldest dirty block is this one.
+fn flushes_to(rt: &impl Abort, bench: &mut Bench, x: Option<u32>) {
+    equal(rt, flush(bench), x);
+}
+
 #[test]
 fn fetches(rt: HostRuntime) -> Result<(), Fail> {
     let mut bench = formatted(&rt, rt.alloc(), 4, 2)?;
     equal(&rt, bench.board.regs().root, short(0x15));
-    assert_eq!(rt; fetch(&rt, &mut bench, 0), (Ok(()), (3, 0, 3)), "cold");
-    assert_eq!(rt; fetch(&rt, &mut bench, 0), (Ok(()), (0, 0, 0)), "warm");
-    assert_eq!(rt; fetch(&rt, &mut bench, 1), (Ok(()), (1, 0, 1)), "one block");
+    // cold, warm, and one block that isn't cached
+    fetches_to(&rt, &mut bench, 0, Ok(()), (3, 0, 3));
+    fetches_to(&rt, &mut bench, 0, Ok(()), (0, 0, 0));
+    fetches_to(&rt, &mut bench, 1, Ok(()), (1, 0, 1));
     let mut bench = formatted(&rt, rt.alloc(), 1, 1)?;
-    equal(&rt, renew(&rt, &mut bench, false), Ok(short(0x17)));
-    let two = (Ok(()), (2, 2, 2));
-    assert_eq!(rt; fetch(&rt, &mut bench, 15), two, "two give way");
-    assert_eq!(rt; line(&rt, &bench, 5).0[8], 2, "what gave way is written");
-    assert_eq!(rt; fetch(&rt, &mut bench, 0), (Ok(()), (2, 0, 2)), "and right");
+    renews_to(&rt, &mut bench, false, 0x17);
+    // two blocks give way, one of which was changed and is written, and is then right
+    fetches_to(&rt, &mut bench, 15, Ok(()), (2, 2, 2));
+    equal(&rt, line(&rt, &bench, 5).0[8], 2);
+    fetches_to(&rt, &mut bench, 0, Ok(()), (2, 0, 2));
     Ok(())
 }
 
@@ -199,17 +218,12 @@ fn tampered_lines(rt: HostRuntime) -> Result<(), Fail> {
     let mut first = second;
     first.0[15] ^= 1;
     put(&rt, &mut bench, 1, &first);
-    let refused = (Err(PathFault::Meta { x: 1 }), (2, 0, 2));
-    equal(&rt, fetch(&rt, &mut bench, 0), refused);
+    fetches_to(&rt, &mut bench, 0, Err(PathFault::Meta { x: 1 }), (2, 0, 2));
     // Under the weak digest the order of the bytes doesn't count.
     first = second;
     first.0.swap(14, 15);
     put(&rt, &mut bench, 1, &first);
-    equal(
-        &rt,
-        fetch(&rt, &mut bench, 0),
-        (Err(PathFault::Shown), (1, 0, 1)),
-    );
+    fetches_to(&rt, &mut bench, 0, Err(PathFault::Shown), (1, 0, 1));
     let clash = Exhibit::Clash {
         x: 1,
         first,
@@ -224,15 +238,17 @@ fn named_and_flushed(rt: HostRuntime) -> Result<(), Fail> {
     let mut bench = formatted(&rt, rt.alloc(), 4, 2)?;
     equal(&rt, name(&rt, &mut bench), Ok(3));
     equal(&rt, name(&rt, &mut bench), Ok(0));
-    for (persisted, order) in [
-        (false, [Some(0), Some(1), Some(5), None]),
-        (true, [Some(0), Some(1), None, None]),
-    ] {
-        equal(&rt, renew(&rt, &mut bench, persisted), Ok(short(0x17)));
-        for x in order {
-            equal(&rt, flush(&mut bench), x);
-        }
-    }
+    renews_to(&rt, &mut bench, false, 0x17);
+    flushes_to(&rt, &mut bench, Some(0));
+    flushes_to(&rt, &mut bench, Some(1));
+    flushes_to(&rt, &mut bench, Some(5));
+    flushes_to(&rt, &mut bench, None);
+    // A counter block that was persisted isn't dirty.
+    renews_to(&rt, &mut bench, true, 0x17);
+    flushes_to(&rt, &mut bench, Some(0));
+    flushes_to(&rt, &mut bench, Some(1));
+    flushes_to(&rt, &mut bench, None);
+    flushes_to(&rt, &mut bench, None);
     let mut bench = formatted(&rt, rt.alloc(), 4, 2)?;
     bench.board.arm(1);
     equal(&rt, name(&rt, &mut bench), Err(PathFault::Cut));

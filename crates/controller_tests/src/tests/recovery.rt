@@ -238,6 +238,23 @@ fn recovered(alloc: Global, bench: &mut Bench) -> Seen {
     }
 }
 
+/// What is seen of a recovery.
+fn recovers(rt: &impl Abort, alloc: Global, bench: &mut Bench, wanted: Seen) {
+    equal(rt, recovered(alloc, bench), wanted);
+}
+
+/// The answer and the steps of a recovery.
+fn answers(
+    rt: &impl Abort,
+    alloc: Global,
+    bench: &mut Bench,
+    answer: Result<Work, RecFault>,
+    steps: u64,
+) {
+    let seen = recovered(alloc, bench);
+    equal(rt, (seen.answer, seen.steps), (answer, steps));
+}
+
 /// Reads a line, which has to be this one.
 fn read_one(rt: &impl Abort, bench: &mut Bench, engine: &mut Engine, at: u32, plain: &Line)
     requires shape { engine.old.shape ≡ shape_of bench.old.geo }
@@ -298,72 +315,66 @@ fn mend_and_read(
 fn lines_are_made_and_written(rt: HostRuntime) -> Result<(), Fail> {
     let mut bench = fresh(rt.alloc(), false, 4)?;
     equal(&rt, bench.board.regs().root, one_byte(0x15));
-    assert_eq!(rt;
-        line(&rt, &bench, 0).0[63],
-        0x3f,
-        "zeros under the first pad"
-    );
+    // zeros under the first pad
+    equal(&rt, line(&rt, &bench, 0).0[63], 0x3f);
     equal(&rt, tag_at(&line(&rt, &bench, TAGS), 0), one_byte(0x10));
     equal(&rt, tag_at(&line(&rt, &bench, TAGS), 3), one_byte(0x53));
-    equal(&rt, recovered(rt.alloc(), &mut bench), done(0, 1, 0));
+    recovers(&rt, rt.alloc(), &mut bench, done(0, 1, 0));
     name_path(&rt, &mut bench);
-    equal(&rt, recovered(rt.alloc(), &mut bench), done(256, 9, 2));
-    equal(&rt, recovered(rt.alloc(), &mut bench), done(0, 1, 0));
+    recovers(&rt, rt.alloc(), &mut bench, done(256, 9, 2));
+    recovers(&rt, rt.alloc(), &mut bench, done(0, 1, 0));
     write_armed(&rt, &mut bench, &Line([0x11; 64]), 1)?;
     equal(&rt, bench.board.regs().root, one_byte(0x17));
-    equal(&rt, recovered(rt.alloc(), &mut bench), done(256, 9, 8));
+    recovers(&rt, rt.alloc(), &mut bench, done(256, 9, 8));
     equal(&rt, bench.board.regs().root, one_byte(0x17));
     equal(&rt, bench.board.regs().group.len(), 0);
-    assert_eq!(rt; line(&rt, &bench, BLOCK).0[8], 2, "the first minor is 1");
-    equal(&rt, recovered(rt.alloc(), &mut bench), done(0, 1, 0));
+    // the first minor is 1
+    equal(&rt, line(&rt, &bench, BLOCK).0[8], 2);
+    recovers(&rt, rt.alloc(), &mut bench, done(0, 1, 0));
     // three writes since the block was written, and the group is done
     let mut bench = fresh(rt.alloc(), false, 4)?;
     write_done(&rt, &mut bench, &Line([0; 64]), 3)?;
-    equal(&rt, recovered(rt.alloc(), &mut bench), done(256, 9, 5));
-    assert_eq!(rt; line(&rt, &bench, BLOCK).0[8], 6, "the first minor is 3");
+    recovers(&rt, rt.alloc(), &mut bench, done(256, 9, 5));
+    // the first minor is 3
+    equal(&rt, line(&rt, &bench, BLOCK).0[8], 6);
     Ok(())
 }
 
+/// A recovery that is cut after so many steps, and then another one, which tries so much and takes so many.
+fn cut_recovery(
+    rt: &impl Abort,
+    alloc: Global,
+    fuse: u64,
+    trials: u64,
+    steps: u64,
+) -> Result<(), Fail> {
+    let plain = Line([0x11; 64]);
+    let mut bench = fresh(alloc, false, 4)?;
+    write_armed(rt, &mut bench, &plain, 1)?;
+    bench.board.arm(fuse);
+    answers(rt, alloc, &mut bench, Err(RecFault::Cut), fuse);
+    bench.board.power();
+    recovers(rt, alloc, &mut bench, done(trials, 9, steps));
+    equal(rt, line(rt, &bench, BLOCK).0[8], 2);
+    equal(rt, line(rt, &bench, NODE_TABLE), Line::default());
+    equal(rt, mend_and_read(rt, alloc, &mut bench, &[plain]), Ok(()));
+    Ok(())
+}
+
+// The steps are two lines and their latch, a counter block, two nodes and two shadow lines.
 #[test]
 fn cuts_are_recovered_from(rt: HostRuntime) -> Result<(), Fail> {
-    // the steps are two lines and their latch, a counter block, two nodes and two shadow lines
-    let rest = [
-        (256, 8),
-        (256, 8),
-        (256, 8),
-        (256, 5),
-        (255, 4),
-        (255, 3),
-        (255, 2),
-        (0, 1),
-    ];
-    let plain = Line([0x11; 64]);
-    for fuse in 0..8_u8 {
-        let (trials, steps) = rest[usize::from(fuse)];
-        let mut bench = fresh(rt.alloc(), false, 4)?;
-        write_armed(&rt, &mut bench, &plain, 1)?;
-        bench.board.arm(u64::from(fuse));
-        let cut = recovered(rt.alloc(), &mut bench);
-        equal(
-            &rt,
-            (cut.answer, cut.steps),
-            (Err(RecFault::Cut), u64::from(fuse)),
-        );
-        bench.board.power();
-        let again = recovered(rt.alloc(), &mut bench);
-        assert_eq!(rt; again, done(trials, 9, steps), "at {fuse}");
-        equal(&rt, line(&rt, &bench, BLOCK).0[8], 2);
-        equal(&rt, line(&rt, &bench, NODE_TABLE), Line::default());
-        equal(
-            &rt,
-            mend_and_read(&rt, rt.alloc(), &mut bench, &[plain]),
-            Ok(()),
-        );
-    }
-    Ok(())
+    cut_recovery(&rt, rt.alloc(), 0, 256, 8)?;
+    cut_recovery(&rt, rt.alloc(), 1, 256, 8)?;
+    cut_recovery(&rt, rt.alloc(), 2, 256, 8)?;
+    cut_recovery(&rt, rt.alloc(), 3, 256, 5)?;
+    cut_recovery(&rt, rt.alloc(), 4, 255, 4)?;
+    cut_recovery(&rt, rt.alloc(), 5, 255, 3)?;
+    cut_recovery(&rt, rt.alloc(), 6, 255, 2)?;
+    cut_recovery(&rt, rt.alloc(), 7, 0, 1)
 }
 
-/// What is done to a device, and what the recovery then answers.
+/// What is done to a device.
 #[derive(Clone, Copy)]
 enum Tampering {
     Flip(u32, u16),
@@ -394,39 +405,57 @@ fn wrong_root(found: u8) -> Result<Work, RecFault> {
     })
 }
 
+/// The answer and the steps of a recovery after a write of line 0 that is done, and this.
+fn tampered(
+    rt: &impl Abort,
+    alloc: Global,
+    tampering: Tampering,
+    answer: Result<Work, RecFault>,
+    steps: u64,
+) -> Result<(), Fail> {
+    let mut bench = fresh(alloc, false, 4)?;
+    write_done(rt, &mut bench, &Line::default(), 1)?;
+    tamper(rt, &mut bench, &tampering);
+    answers(rt, alloc, &mut bench, answer, steps);
+    Ok(())
+}
+
 #[test]
 fn tampering_is_refused_or_mended(rt: HostRuntime) -> Result<(), Fail> {
+    let alloc = rt.alloc();
     let mended = Ok(Work {
         trials: 256,
         digests: 9,
     });
     let no_counter = Err(RecFault::NoCounter { at: 0 });
-    let table = [
-        // no candidate has the tag
-        (Tampering::Flip(TAGS, 127), no_counter, 0),
-        (Tampering::Flip(0, 7), no_counter, 0),
-        (Tampering::Move(2, 0), no_counter, 0),
-        // another candidate has it
-        (Tampering::Flip(TAGS, 120), wrong_root(0x15), 0),
-        // another major finds other minors
-        (Tampering::Flip(BLOCK, 0), wrong_root(0x16), 0),
-        // an unnamed child of the top
-        (Tampering::Flip(BLOCK - 3, 0), wrong_root(0x16), 0),
-        // the block isn't named, the nodes aren't
-        (Tampering::Poke(BLOCK_TABLE), wrong_root(0x15), 0),
-        (Tampering::Poke(NODE_TABLE), wrong_root(0x15), 0),
-        // a named node is made anew, and the weak suite gives both lines one cipher
-        (Tampering::Flip(BLOCK - 4, 0), mended, 5),
-        (Tampering::Move(1, 0), mended, 5),
-    ];
-    for (i, (tampering, answer, steps)) in table.iter().enumerate() {
-        let mut bench = fresh(rt.alloc(), false, 4)?;
-        write_done(&rt, &mut bench, &Line::default(), 1)?;
-        tamper(&rt, &mut bench, tampering);
-        let seen = recovered(rt.alloc(), &mut bench);
-        assert_eq!(rt; (seen.answer, seen.steps), (*answer, *steps), "row {i}");
-    }
-    Ok(())
+    // no candidate has the tag
+    tampered(&rt, alloc, Tampering::Flip(TAGS, 127), no_counter, 0)?;
+    tampered(&rt, alloc, Tampering::Flip(0, 7), no_counter, 0)?;
+    tampered(&rt, alloc, Tampering::Move(2, 0), no_counter, 0)?;
+    // another candidate has it
+    tampered(&rt, alloc, Tampering::Flip(TAGS, 120), wrong_root(0x15), 0)?;
+    // another major finds other minors
+    tampered(&rt, alloc, Tampering::Flip(BLOCK, 0), wrong_root(0x16), 0)?;
+    // an unnamed child of the top
+    tampered(
+        &rt,
+        alloc,
+        Tampering::Flip(BLOCK - 3, 0),
+        wrong_root(0x16),
+        0,
+    )?;
+    // the block isn't named, the nodes aren't
+    tampered(
+        &rt,
+        alloc,
+        Tampering::Poke(BLOCK_TABLE),
+        wrong_root(0x15),
+        0,
+    )?;
+    tampered(&rt, alloc, Tampering::Poke(NODE_TABLE), wrong_root(0x15), 0)?;
+    // a named node is made anew, and the weak suite gives both lines one cipher
+    tampered(&rt, alloc, Tampering::Flip(BLOCK - 4, 0), mended, 5)?;
+    tampered(&rt, alloc, Tampering::Move(1, 0), mended, 5)
 }
 
 #[test]
@@ -436,17 +465,16 @@ fn old_lines_are_refused(rt: HostRuntime) -> Result<(), Fail> {
     write_armed(&rt, &mut bench, &Line([0x11; 64]), 1)?;
     poke(&rt, &mut bench, BLOCK_TABLE, &Line::default());
     poke(&rt, &mut bench, NODE_TABLE, &Line::default());
-    let seen = recovered(rt.alloc(), &mut bench);
-    equal(&rt, (seen.answer, seen.steps), (wrong_root(0x15), 3));
+    answers(&rt, rt.alloc(), &mut bench, wrong_root(0x15), 3);
     // named again, it goes through
     name_path(&rt, &mut bench);
-    equal(&rt, recovered(rt.alloc(), &mut bench), done(256, 9, 5));
+    recovers(&rt, rt.alloc(), &mut bench, done(256, 9, 5));
     // an armed line is written anew, whatever stands in its place
     let plain = Line([0x11; 64]);
     let mut bench = fresh(rt.alloc(), false, 4)?;
     write_armed(&rt, &mut bench, &plain, 1)?;
     poke(&rt, &mut bench, 0, &Line([0xff; 64]));
-    equal(&rt, recovered(rt.alloc(), &mut bench), done(256, 9, 8));
+    recovers(&rt, rt.alloc(), &mut bench, done(256, 9, 8));
     equal(
         &rt,
         mend_and_read(&rt, rt.alloc(), &mut bench, &[plain]),
@@ -551,28 +579,28 @@ fn cut_turn(rt: &impl Abort, alloc: Global, bench: &mut Bench, fuse: u64) -> Res
     Ok(())
 }
 
-#[test]
-fn open_pages_are_recovered(rt: HostRuntime) -> Result<(), Fail> {
+/// A turn of an open page that is cut after so many steps: it is lost before the latch, and redone after it,
+/// in so many steps of the recovery.
+fn cut_page(rt: &impl Abort, alloc: Global, fuse: u64, steps: u64) -> Result<(), Fail> {
     let zero = Line::default();
     let fives = Line([0x55; 64]);
+    let mut bench = fresh(alloc, false, 4)?;
+    open_page(rt, &mut bench, &fives)?;
+    // the lines that are done are tried alone
+    recovers(rt, alloc, &mut bench, done(12, 9, 5));
+    cut_turn(rt, alloc, &mut bench, fuse)?;
+    recovers(rt, alloc, &mut bench, done(0, 1, steps));
     let lines = [zero, zero, zero, zero, zero, fives];
-    for fuse in 0..4_u8 {
-        let mut bench = fresh(rt.alloc(), false, 4)?;
-        open_page(&rt, &mut bench, &fives)?;
-        // the lines that are done are tried alone
-        equal(&rt, recovered(rt.alloc(), &mut bench), done(12, 9, 5));
-        cut_turn(&rt, rt.alloc(), &mut bench, u64::from(fuse))?;
-        // lost before the latch, redone after it
-        let steps = if fuse == 0 { 0 } else { 3 };
-        assert_eq!(rt;
-            recovered(rt.alloc(), &mut bench),
-            done(0, 1, steps),
-            "at {fuse}"
-        );
-        let read = mend_and_read(&rt, rt.alloc(), &mut bench, &lines);
-        assert_eq!(rt; read, Ok(()), "at {fuse}");
-    }
+    equal(rt, mend_and_read(rt, alloc, &mut bench, &lines), Ok(()));
     Ok(())
+}
+
+#[test]
+fn open_pages_are_recovered(rt: HostRuntime) -> Result<(), Fail> {
+    cut_page(&rt, rt.alloc(), 0, 0)?;
+    cut_page(&rt, rt.alloc(), 1, 3)?;
+    cut_page(&rt, rt.alloc(), 2, 3)?;
+    cut_page(&rt, rt.alloc(), 3, 3)
 }
 
 /// Sets the stop-loss number 2 over a memory that was recovered, with so many steps before a cut.
@@ -591,10 +619,10 @@ fn the_number_of_the_registers_counts(rt: HostRuntime) -> Result<(), Fail> {
     let cut = set_loss(rt.alloc(), &mut bench, 0);
     equal(&rt, cut, Ok(Err(Fault::Cut)));
     name_path(&rt, &mut bench);
-    equal(&rt, recovered(rt.alloc(), &mut bench), done(255, 9, 2));
+    recovers(&rt, rt.alloc(), &mut bench, done(255, 9, 2));
     equal(&rt, set_loss(rt.alloc(), &mut bench, 9), Ok(Ok(1)));
     name_path(&rt, &mut bench);
-    equal(&rt, recovered(rt.alloc(), &mut bench), done(127, 9, 2));
+    recovers(&rt, rt.alloc(), &mut bench, done(127, 9, 2));
     equal(&rt, mend_and_read(&rt, rt.alloc(), &mut bench, &[]), Ok(()));
     Ok(())
 }

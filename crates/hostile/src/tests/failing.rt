@@ -122,55 +122,67 @@ fn check_quiet_pulls<R: Abort + AllocGlobal>(rt: &R, row: &Row) -> Result<(), Fa
     Ok(())
 }
 
+/// The check of an exhibit fails at each pull and at each push.
+fn check_exhibit<R: Abort + AllocGlobal>(
+    rt: &R,
+    words: &str,
+    output: &str,
+    status: u8,
+) -> Result<(), Fail> {
+    let row = (words, FORGED, output, status);
+    check_quiet_pulls(rt, &row)?;
+    check_pushes(rt, &row)
+}
+
 #[test]
 fn a_checked_exhibit_fails_at_each_call(rt: HostRuntime) -> Result<(), Fail> {
-    for (words, output, status) in [("check --suite weak", "holds", 0), ("check", "fails", 8)] {
-        let row = (words, FORGED, output, status);
-        check_quiet_pulls(&rt, &row)?;
-        check_pushes(&rt, &row)?;
-    }
+    check_exhibit(&rt, "check --suite weak", "holds", 0)?;
+    check_exhibit(&rt, "check", "fails", 8)
+}
+
+/// A sample pulls nothing, and fails at each push.
+fn check_sample<R: Abort + AllocGlobal>(rt: &R, words: &str, output: &str) -> Result<(), Fail> {
+    check_pushes(rt, &(words, "", output, 0))?;
+    let whole = spelled(rt, output)?;
+    let found = ran(rt, words, b"", (0, NEVER), PLACES)?;
+    check_end(rt, words, found, 0, whole.as_slice());
     Ok(())
 }
 
-/// Samples pull nothing, and fail at each push.
 #[test]
 fn samples_fail_at_each_push(rt: HostRuntime) -> Result<(), Fail> {
-    for (words, output) in [
-        (
-            "make 0 5",
-            "flush / post 7 357 [78] / flush / read 6 129 / drain 1 / stat",
-        ),
-        ("sample 0 5", "stat 5 0 0 1 3"),
-    ] {
-        check_pushes(&rt, &(words, "", output, 0))?;
-        let whole = spelled(&rt, output)?;
-        let found = ran(&rt, words, b"", (0, NEVER), PLACES)?;
-        check_end(&rt, words, found, 0, whole.as_slice());
-    }
+    check_sample(
+        &rt,
+        "make 0 5",
+        "flush / post 7 357 [78] / flush / read 6 129 / drain 1 / stat",
+    )?;
+    check_sample(&rt, "sample 0 5", "stat 5 0 0 1 3")
+}
+
+/// A pull or a push of the greatest chunks fails: the replies are put where there are any, and `stop read`
+/// where it is said.
+fn check_chunks<R: Abort + AllocGlobal>(
+    rt: &R,
+    failing: (u64, u64),
+    status: u8,
+    has_replies: bool,
+    stop: &[u8],
+) -> Result<(), Fail> {
+    let (words, trace, output, _) = CUTS;
+    let given = spelled(rt, trace)?;
+    let mut due = spelled(rt, if has_replies { output } else { "" })?;
+    due.extend_from_slice(stop)?;
+    let found = ran(rt, words, given.as_slice(), failing, PLACES)?;
+    check_end(rt, words, found, status, due.as_slice());
     Ok(())
 }
 
 /// In the greatest chunks: each of the three pulls and of the pushes of a trace fails.
 #[test]
 fn chunks_fail(rt: HostRuntime) -> Result<(), Fail> {
-    let (words, trace, output, _) = CUTS;
-    let given = spelled(&rt, trace)?;
-    for (failing, status, end) in [
-        ((0, NEVER), 3, "stop read"),
-        ((1, NEVER), 3, ".. / stop read"),
-        ((2, NEVER), 0, ".."),
-        ((NEVER, 0), 4, ""),
-        ((NEVER, 1), 0, ".."),
-    ] {
-        let mut due = Vec::new(rt.alloc());
-        if end.starts_with("..") {
-            due.extend_from_slice(spelled(&rt, output)?.as_slice())?;
-        }
-        if end.ends_with("stop read") {
-            due.extend_from_slice(b"stop read\n")?;
-        }
-        let found = ran(&rt, words, given.as_slice(), failing, PLACES)?;
-        check_end(&rt, words, found, status, due.as_slice());
-    }
-    Ok(())
+    check_chunks(&rt, (0, NEVER), 3, false, b"stop read\n")?;
+    check_chunks(&rt, (1, NEVER), 3, true, b"stop read\n")?;
+    check_chunks(&rt, (2, NEVER), 0, true, b"")?;
+    check_chunks(&rt, (NEVER, 0), 4, false, b"")?;
+    check_chunks(&rt, (NEVER, 1), 0, true, b"")
 }

@@ -132,17 +132,23 @@ fn trip_each(rt: &impl Abort, alloc: Global, row: &Row) -> Result<(), Fail> {
 #[test]
 fn calls_of_the_engine_trip(rt: HostRuntime) -> Result<(), Fail> {
     let none = (0, 0);
-    let table = [
-        // The path isn't cached: it is fetched and named.
-        Row {
+    // The path isn't cached: it is fetched and named.
+    trip_each(
+        &rt,
+        rt.alloc(),
+        &Row {
             banks: (4, 2),
             before: [none, none, none, none, none],
             call: Call::Write { at: 0, byte: 0xee },
             calls: 11,
             kept: 8,
         },
-        // Dirty blocks give way to the path.
-        Row {
+    )?;
+    // Dirty blocks give way to the path.
+    trip_each(
+        &rt,
+        rt.alloc(),
+        &Row {
             banks: (1, 1),
             before: [(0, 1), none, none, none, none],
             call: Call::Write {
@@ -152,23 +158,35 @@ fn calls_of_the_engine_trip(rt: HostRuntime) -> Result<(), Fail> {
             calls: 11,
             kept: 8,
         },
-        // The minor overflows, and the page is begun.
-        Row {
+    )?;
+    // The minor overflows, and the page is begun.
+    trip_each(
+        &rt,
+        rt.alloc(),
+        &Row {
             banks: (4, 2),
             before: [(0, 127), none, none, none, none],
             call: Call::Write { at: 0, byte: 0xee },
             calls: 8,
             kept: 5,
         },
-        Row {
+    )?;
+    trip_each(
+        &rt,
+        rt.alloc(),
+        &Row {
             banks: (1, 1),
             before: [(0, 127), (960, 1), none, none, none],
             call: Call::Write { at: 0, byte: 0xee },
             calls: 14,
             kept: 11,
         },
-        // A few bytes.
-        Row {
+    )?;
+    // A few bytes.
+    trip_each(
+        &rt,
+        rt.alloc(),
+        &Row {
             banks: (4, 2),
             before: [none, none, none, none, none],
             call: Call::Part {
@@ -180,7 +198,11 @@ fn calls_of_the_engine_trip(rt: HostRuntime) -> Result<(), Fail> {
             calls: 13,
             kept: 10,
         },
-        Row {
+    )?;
+    trip_each(
+        &rt,
+        rt.alloc(),
+        &Row {
             banks: (4, 2),
             before: [(0, 1), none, none, none, none],
             call: Call::Part {
@@ -192,25 +214,30 @@ fn calls_of_the_engine_trip(rt: HostRuntime) -> Result<(), Fail> {
             calls: 7,
             kept: 4,
         },
-        Row {
+    )?;
+    trip_each(
+        &rt,
+        rt.alloc(),
+        &Row {
             banks: (4, 2),
             before: [(0, 128), none, none, none, none],
             call: Call::Turn,
             calls: 6,
             kept: NEVER,
         },
-        // Three counter blocks are dirty.
-        Row {
+    )?;
+    // Three counter blocks are dirty.
+    trip_each(
+        &rt,
+        rt.alloc(),
+        &Row {
             banks: (4, 2),
             before: [(0, 1), (64, 1), (128, 2), (960, 3), none],
             call: Call::Loss { n: 2 },
             calls: 5,
             kept: NEVER,
         },
-    ];
-    for row in table {
-        trip_each(&rt, rt.alloc(), &row)?;
-    }
+    )?;
     Ok(())
 }
 
@@ -249,6 +276,21 @@ fn recover_tripped(
     Ok(done)
 }
 
+/// Recoveries of the row's device trip at each number of calls up to the one at which they are done.
+fn trip_recoveries(
+    rt: &impl Abort,
+    alloc: Global,
+    row: &Row,
+    fuse: u64,
+    calls: u64,
+) -> Result<(), Fail> {
+    for n in 0..calls {
+        assert!(rt; !recover_tripped(rt, alloc, row, fuse, n)?, "at {n}");
+    }
+    assert!(rt; recover_tripped(rt, alloc, row, fuse, calls)?);
+    Ok(())
+}
+
 #[test]
 fn recoveries_trip(rt: HostRuntime) -> Result<(), Fail> {
     // Blocks of three pages and the nodes above them are named, without a group and with one.
@@ -259,11 +301,6 @@ fn recoveries_trip(rt: HostRuntime) -> Result<(), Fail> {
         calls: 0,
         kept: 1,
     };
-    for (fuse, calls) in [(0, 407), (1, 410)] {
-        for n in 0..calls {
-            assert!(rt; !recover_tripped(&rt, rt.alloc(), &row, fuse, n)?, "at {n}");
-        }
-        assert!(rt; recover_tripped(&rt, rt.alloc(), &row, fuse, calls)?);
-    }
-    Ok(())
+    trip_recoveries(&rt, rt.alloc(), &row, 0, 407)?;
+    trip_recoveries(&rt, rt.alloc(), &row, 1, 410)
 }

@@ -1,5 +1,5 @@
 -- A dirty block is written to its place, and is clean afterwards: what it keeps, whatever the device holds.
-use Rattle.std.proofs.Common.{rules, ℕ, ◌≡◌, ◌≢◌, ◌<◌, ◌⊎◌, inl, inr, Bool, true, false, cond, List, [], ◌∷◌, length, Option, Some, None, refl, sym, ap, ap₂, subst, subst₂, ◌∙◌, arith}
+use Rattle.std.proofs.Common.{rules, ℕ, ◌≡◌, ◌≢◌, ◌<◌, ◌⊎◌, inl, inr, Bool, true, false, cond, List, [], ◌∷◌, length, Some, refl, sym, ap, ap₂, subst, subst₂, ◌∙◌, arith}
 use Rattle.std.specs.Prelude.{IfSome, option_map, is_some, slice_set, ◌==◌, ◌&&◌, ◌||◌}
 use Rattle.std.specs.List.{Contains, list_any}
 use Rattle.std.proofs.lemmas.Bool.{cases_eq}
@@ -28,7 +28,7 @@ use Rattle.pmem_engine.specs.Recached.{IsRecached, IsTrueOrDirty, WasCleaned}
 use Rattle.pmem_engine.specs.Parts.{Parts, parts_of, AreTrusted, AreSound, HoldsCounters, HoldsMeta, meta_line_in, lines_redone}
 use Rattle.pmem_engine.specs.Outcomes.{going, KeepsPlaces, KeepsMeta, OneLossEffect}
 use Rattle.pmem_engine.specs.Flushed.{HasWrittenBack}
-use Rattle.pmem_engine.proofs.CallEnds.ToldLines.{told_cases, told_surely, told_same, unarmed, whole_lines}
+use Rattle.pmem_engine.proofs.CallEnds.ToldLines.{told_cases, told_surely, any_told, told_same, unarmed, whole_lines}
 use Rattle.pmem_engine.proofs.CheckedReads.LineCounters.{cached_true}
 use Rattle.pmem_engine.proofs.Laws.DeviceRegions.{stored_meta-set_other}
 use Rattle.pmem_engine.proofs.Laws.CounterBlocks.{IsCounterStored-written_back}
@@ -220,11 +220,7 @@ module _ (setup : Setup) (bank x : ℕ) (old new : EngineState) (before after : 
       (λ lines lines' was now had.
       inl (ap (λ z. stored_meta setup.shape z x) (lines_now trusted lines lines' was now)
       ∙ stored_meta-true_line setup.shape lines ledger.truth x (count lines was) on_tree))
-      (nothing before.lines))
-    where
-      nothing : (o : Option (List Line)) → IfSome o (λ lines. Unit {0})
-      nothing None = tt
-      nothing (Some lines) = tt
+      (any_told before.lines))
 
   metadata : AreTrusted setup start → KeepsMeta setup [] start finish
   metadata trusted =

@@ -37,7 +37,7 @@ metadata_where setup cut_short made more old mid new first second = second
 metadata_where setup shown made more old mid new first second =
     metadata_chained setup made more old mid new first second
 
-power_chained : (outcome : Outcome) (old mid new : Device) → HasPower going old mid → HasPower outcome mid new
+pub power_chained : (outcome : Outcome) (old mid new : Device) → HasPower going old mid → HasPower outcome mid new
     → HasPower outcome old new
 power_chained going old mid new first second =
     (λ was. second.0 (first.0 was), λ was. second.1 (first.1 was), second.2 ∙ first.2)
@@ -49,7 +49,7 @@ power_chained cut_short old mid new first second =
     unsteady : (b : Bool) → old.steady ≡ b → old.steady ≡ false
     unsteady v0 it = search rules
 
-going_uncut : going ≢ cut_short
+pub going_uncut : going ≢ cut_short
 going_uncut e = absurd (true≢false (ap is_going e))
 
 pub going_unshown : going ≢ shown

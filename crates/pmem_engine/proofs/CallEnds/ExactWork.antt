@@ -6,7 +6,7 @@ use Rattle.board.specs.Counts.{RisesBy}
 use Rattle.board.specs.Device.{Device}
 use Rattle.board.proofs.CountLemmas.{RisesBy-then}
 use Rattle.meta_path.specs.Fetching.{IsFetchedTo}
-use Rattle.meta_path.proofs.WorkLemmas.{risen_times-add}
+use Rattle.pmem_base.proofs.CountLemmas.{risen_times-add}
 use Rattle.suite.specs.Setup.{Setup}
 use Rattle.plain_model.specs.Bounds.{path_length}
 use Rattle.pmem_engine.specs.declared.reading.Unsealed.{Unsealed}

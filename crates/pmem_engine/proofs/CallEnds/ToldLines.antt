@@ -1,5 +1,5 @@
 -- Lines that a board may not tell: what holds of them where they are told.
-use Rattle.std.proofs.Common.{rules, ℕ, ◌≡◌, List, [], Option, Some, ap, ◌∙◌}
+use Rattle.std.proofs.Common.{rules, ℕ, ◌≡◌, List, [], Option, Some, None, ap, ◌∙◌}
 use Rattle.std.specs.Prelude.{MatchOption, IfSome, option_map, is_some}
 use Rattle.pmem_base.specs.declared.lines.Line.{Line}
 use Rattle.commit_regs.proofs.GroupLemmas.{redone-nil}
@@ -17,6 +17,11 @@ pub told_surely : (P Q : List Line → Type 0) (old new : Option (List Line)) �
     → ((lines lines_now : List Line) → old ≡ Some lines → new ≡ Some lines_now → P lines → Q lines_now)
     → MatchOption old ⊥ P → MatchOption new ⊥ Q
 told_surely v0 v1 v2 new same give it = search rules
+
+-- nothing is said of them
+pub any_told : (told : Option (List Line)) → IfSome told (λ lines. Unit {0})
+any_told None = tt
+any_told (Some lines) = tt
 
 -- where they are told, something follows
 pub told_gives : (P : List Line → Type 0) (Q : Type 0) (told : Option (List Line))

@@ -1,23 +1,24 @@
 -- A page's begin keeps the registers and the ledger anchored.
-use Rattle.std.proofs.Common.{rules, ℕ, ◌≡◌, ◌≢◌, ◌<◌, ◌+◌, ◌*◌, List, [], ◌∷◌, ◌++◌, get_or, map, Some, None, inl, inr, sym, ap, subst, ◌∙◌, arith}
+use Rattle.std.proofs.Common.{rules, ℕ, ◌≡◌, ◌≢◌, ◌<◌, ◌+◌, ◌-◌, ◌*◌, ◌^◌, List, [], ◌∷◌, ◌++◌, get_or, map, Some, None, inl, inr, sym, ap, subst, ◌∙◌, arith}
 use Rattle.std.specs.Prelude.{IsTrue, IsNone, slice_index}
 use Rattle.std.specs.List.{All, AllPairs}
 use Rattle.std.specs.Option.{option_map}
 use Rattle.std.proofs.lemmas.Bool.{cases_eq}
 use Rattle.std.proofs.lemmas.List.{map_push}
 use Rattle.std.proofs.lemmas.List.Elements.{All-push, All-weaker}
+use Rattle.pmem_base.specs.declared.lines.Line.{Line}
 use Rattle.pmem_base.specs.declared.registers.Progress.{Progress}
 use Rattle.pmem_base.specs.declared.registers.Regs.{Regs}
 use Rattle.pmem_base.specs.declared.answers.Mark.TheVariants.{Begin}
 use Rattle.pmem_base.specs.Shape.{Shape, is_loss}
-use Rattle.pmem_base.specs.Layout.{data_lines, page_of, index_in_page}
+use Rattle.pmem_base.specs.Layout.{data_lines, device_lines, pages, page_of, index_in_page}
 use Rattle.pmem_base.specs.Lines.{line_at}
 use Rattle.pmem_base.specs.Marks.{last_seal, IsFresh}
-use Rattle.pmem_base.specs.Registers.{places_of_page, old_major, IsValidRegs, IsProgress}
+use Rattle.pmem_base.specs.Registers.{IsGroup, places_of_page, old_major, IsValidRegs, IsProgress}
 use Rattle.seal_ledger.proofs.MarkLemmas.{last_seal-begun, IsFresh-push}
 use Rattle.page_reencrypt.proofs.DoneBits.{places-small}
 use Rattle.split_counters.specs.declared.Block.{Block}
-use Rattle.split_counters.specs.Blocks.{packed, block_counter, next_block}
+use Rattle.split_counters.specs.Blocks.{packed, unpacked, block_counter, next_block}
 use Rattle.split_counters.proofs.Packing.{next_block-IsBlock, zero_minors-zero}
 use Rattle.bonsai_tree.specs.Positions.{counter_position}
 use Rattle.page_reencrypt.specs.Registers.{register_of, register_held, counter_of, begun}
@@ -30,6 +31,16 @@ use Rattle.pmem_engine.specs.Truth.{true_block, true_counter}
 use Rattle.pmem_engine.specs.Invariants.{IsSealTagged, IsHeldBack, register_page, IsAnchored}
 use Rattle.pmem_engine.specs.Sealed.{IsBegun}
 use Rattle.pmem_engine.proofs.Laws.AnchoredSeals.{true_block-new, true_block-other}
+
+-- the registers with a page begun
+pub valid_regs-begun : (g : Shape) (old new : Regs) (page : ℕ) (line : Line) → page < pages g → (unpacked line).major < 2 ^ 64 - 1 → register_of old.progress.items page ≡ None → new.progress.items ≡ old.progress.items ++ begun page line ∷ [] → new.loss ≡ old.loss → IsGroup (device_lines g) new.group.items → IsValidRegs g old → IsValidRegs g new
+valid_regs-begun g old new page line inside major closed progress loss group valid =
+    record {
+      group = group;
+      each_page = subst (λ ps. All (IsProgress g) ps) (sym progress) (All-push (IsProgress g) old.progress.items (begun page line) valid.each_page (begun-IsProgress g page line inside major));
+      distinct_pages = subst (λ ps. AllPairs (λ x y. x.page ≢ y.page) ps) (sym progress) (begun-distinct old.progress.items page line closed valid.distinct_pages);
+      known_loss = subst (λ n. IsTrue (is_loss n)) (sym loss) valid.known_loss;
+    }
 
 module _ (setup : Setup) (page : ℕ) (old_regs new_regs : Regs) (old new : LedgerState) (anchored : IsAnchored setup old_regs old) (it : IsBegun setup page old_regs new_regs old new) where
   abbrev geometry : Shape
@@ -90,18 +101,7 @@ module _ (setup : Setup) (page : ℕ) (old_regs new_regs : Regs) (old new : Ledg
       subst (λ ms. All (IsSealTagged setup.formulas) ms) (sym it.marks) (All-push (IsSealTagged setup.formulas) old.marks (Begin page) anchored.seals_tagged tt)
 
   valid_regs : IsValidRegs geometry new_regs
-  valid_regs =
-      record {
-        group = it.kept.group;
-        each_page =
-            subst (λ ps. All (IsProgress geometry) ps) (sym it.progress)
-            (All-push (IsProgress geometry) old_regs.progress.items opening anchored.valid_regs.each_page
-            (begun-IsProgress geometry page (line_at old.truth (counter_position geometry page)) it.its_page it.can_roll));
-        distinct_pages =
-            subst (λ ps. AllPairs (λ x y. x.page ≢ y.page) ps) (sym it.progress)
-            (begun-distinct old_regs.progress.items page (line_at old.truth (counter_position geometry page)) it.closed anchored.valid_regs.distinct_pages);
-        known_loss = subst (λ n. IsTrue (is_loss n)) (sym it.kept.loss) anchored.valid_regs.known_loss;
-      }
+  valid_regs = valid_regs-begun geometry old_regs new_regs page (line_at old.truth (counter_position geometry page)) it.its_page it.can_roll it.closed it.progress it.kept.loss it.kept.group anchored.valid_regs
 
   held_of_other : (register : Progress) → register.page ≢ page → IsHeldBack geometry old.truth register → IsHeldBack geometry new.truth register
   held_of_other register apart held = search rules

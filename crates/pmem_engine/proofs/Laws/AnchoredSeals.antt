@@ -13,10 +13,10 @@ use Rattle.pmem_base.specs.declared.registers.Progress.{Progress}
 use Rattle.pmem_base.specs.declared.registers.Regs.{Regs}
 use Rattle.pmem_base.specs.declared.answers.Mark.TheVariants.{Seal}
 use Rattle.pmem_base.specs.Shape.{Shape, is_loss}
-use Rattle.pmem_base.specs.Layout.{data_lines, pages, page_of, index_in_page}
+use Rattle.pmem_base.specs.Layout.{data_lines, device_lines, pages, page_of, index_in_page}
 use Rattle.pmem_base.specs.Lines.{IsCtr, line_at}
 use Rattle.pmem_base.specs.Marks.{SealOf, last_seal, is_below, IsFresh}
-use Rattle.pmem_base.specs.Registers.{not_done, with_done, IsValidRegs, IsProgress}
+use Rattle.pmem_base.specs.Registers.{IsGroup, not_done, with_done, IsValidRegs, IsProgress}
 use Rattle.pmem_base.proofs.LineLemmas.{IsLine-line_at}
 use Rattle.seal_ledger.proofs.MarkLemmas.{last_seal-sealed, last_seal-other, IsFresh-push}
 use Rattle.page_reencrypt.proofs.DoneBits.{not_done-with_done}
@@ -27,7 +27,7 @@ use Rattle.split_counters.proofs.Packing.{packed-IsLine, unpacked-IsBlock, unpac
 use Rattle.bonsai_tree.specs.Positions.{counter_position}
 use Rattle.bonsai_tree.specs.Paths.{IsTreeWith, lines_with, root_with}
 use Rattle.bonsai_tree.proofs.Trees.{lines_with-IsTreeWith}
-use Rattle.page_reencrypt.specs.Registers.{counter_of}
+use Rattle.page_reencrypt.specs.Registers.{counter_of, registers_with_done}
 use Rattle.page_reencrypt.proofs.Holding.{counter_of-other, counter_of-done, registers_with_done-IsProgress, registers_with_done-distinct, All-registers_with_done, old_major-same}
 use Rattle.seal_ledger.specs.Ledger.{LedgerState, IsMark, IsOfShape}
 use Rattle.suite.specs.Setup.{Setup}
@@ -55,6 +55,16 @@ true_block-other g f page line root old new other apart tree = ap unpacked (tree
 -- a line's counter depends on its own minor and the major of its block
 counter_of-block : (registers : List Progress) (a b : Block) (line : ℕ) → block_counter a (index_in_page line) ≡ block_counter b (index_in_page line) → counter_of registers a line ≡ counter_of registers b line
 counter_of-block registers a b line same = search rules
+
+-- the registers with a line done
+pub valid_regs-done : (g : Shape) (old new : Regs) (a : ℕ) → new.progress.items ≡ registers_with_done old.progress.items a → new.loss ≡ old.loss → IsGroup (device_lines g) new.group.items → IsValidRegs g old → IsValidRegs g new
+valid_regs-done g old new a progress loss group valid =
+    record {
+      group = group;
+      each_page = subst (λ ps. All (IsProgress g) ps) (sym progress) (registers_with_done-IsProgress g old.progress.items a valid.each_page);
+      distinct_pages = subst (λ ps. AllPairs (λ x y. x.page ≢ y.page) ps) (sym progress) (registers_with_done-distinct old.progress.items a valid.distinct_pages);
+      known_loss = subst (λ n. IsTrue (is_loss n)) (sym loss) valid.known_loss;
+    }
 
 -- ---- the parts of a seal
 
@@ -140,13 +150,7 @@ module _ (setup : Setup) (a minor : ℕ) (cipher : Line) (tag : List ℕ) (old_r
       (All-push (IsSealTagged setup.formulas) old.marks (Seal a seal_counter cipher tag) anchored.seals_tagged it.tagged)
 
   valid_regs : IsValidRegs geometry new_regs
-  valid_regs =
-      record {
-        group = it.kept.group;
-        each_page = subst (λ ps. All (IsProgress geometry) ps) (sym it.progress) (registers_with_done-IsProgress geometry old_regs.progress.items a anchored.valid_regs.each_page);
-        distinct_pages = subst (λ ps. AllPairs (λ x y. x.page ≢ y.page) ps) (sym it.progress) (registers_with_done-distinct old_regs.progress.items a anchored.valid_regs.distinct_pages);
-        known_loss = subst (λ n. IsTrue (is_loss n)) (sym it.kept.loss) anchored.valid_regs.known_loss;
-      }
+  valid_regs = valid_regs-done geometry old_regs new_regs a it.progress it.kept.loss it.kept.group anchored.valid_regs
 
   held_of_page : (register : Progress) → register.page ≡ sealed_page → IsHeldBack geometry old.truth register → IsHeldBack geometry new.truth (with_done register (index_in_page a))
   held_of_page register its held =

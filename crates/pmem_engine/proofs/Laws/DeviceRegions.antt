@@ -1,7 +1,7 @@
 -- What the parts of the device show after a write to one of its regions: metadata lines, names, data
 -- lines and tags, each by itself and over any lines.
 use Rattle.std.proofs.lemmas.Grind.{common_steps}
-use Rattle.std.proofs.Common.{rules, ◌≡◌, ◌≢◌, ℕ, ◌<◌, List, length, Some, refl, sym, ap, subst, ◌∙◌, ◌⊎◌, inl, inr, arith}
+use Rattle.std.proofs.Common.{rules, ◌≡◌, ◌≢◌, ℕ, ◌<◌, List, length, Some, refl, sym, ap, ◌∙◌, ◌⊎◌, inl, inr, arith}
 use Rattle.std.specs.Prelude.{slice_set}
 use Rattle.std.proofs.lemmas.Bool.{cases_eq}
 use Rattle.pmem_base.specs.declared.lines.Line.{Line}
@@ -21,7 +21,7 @@ use Rattle.bonsai_tree.specs.Positions.{level_of}
 use Rattle.shadow_tables.specs.Entries.{is_named_in, shadow_of}
 use Rattle.shadow_tables.proofs.ShadowLines.{shadow_of-set_before}
 use Rattle.pmem_engine.specs.Invariants.{IsSealStored, stored_meta, is_named}
-use Rattle.pmem_engine.specs.Steps.{IsPlaceKept, SealsOne, sealed_lines}
+use Rattle.pmem_engine.specs.Steps.{IsPlaceKept, sealed_lines}
 
 -- a data line lies in a page
 pub page_within : (g : Shape) (a : ℕ) → a < layout.data_lines g → layout.page_of a < layout.pages g
@@ -139,26 +139,6 @@ IsPlaceKept-sealed g lines a seal b it hb other =
         (line_at-sealed_lines_other g lines a seal (tag_line g b)
         (λ e. tag_line≢data g a b it.its_line (sym e)) apart)
 
-pub IsSealStored-sealed_elsewhere : (g : Shape) (lines : List Line) (old new : List Mark) (a : ℕ) (seal : SealOf)
-    (b : ℕ) → IsSealable g lines a seal → b < data_lines g → b ≢ a → last_seal new b ≡ last_seal old b
-    → IsSealStored g lines old b → IsSealStored g (sealed_lines g lines a seal) new b
-IsSealStored-sealed_elsewhere g lines old new a seal b it hb other same =
-    IsSealStored-kept g lines (sealed_lines g lines a seal) old new b same
-    (IsPlaceKept-sealed g lines a seal b it hb other)
-
--- each line's seal is stored once the group of the sealed line is written, where it was before
-pub IsSealStored-sealed : (g : Shape) (lines : List Line) (old new : List Mark) (a : ℕ) (seal : SealOf) (b : ℕ)
-    → IsSealable g lines a seal → SealsOne (data_lines g) old new a seal → b < data_lines g
-    → IsSealStored g lines old b → IsSealStored g (sealed_lines g lines a seal) new b
-IsSealStored-sealed g lines old new a seal b it one hb stored =
-    elim (cases_eq b a) [
-      | inl same ↦
-          subst (λ c. IsSealStored g (sealed_lines g lines a seal) new c) (sym same)
-          (IsSealStored-sealed_here g lines new a seal it one.here)
-      | inr other ↦
-          IsSealStored-sealed_elsewhere g lines old new a seal b it hb other (one.elsewhere b hb other) stored
-    ]
-
 pub stored_meta-sealed_lines : (g : Shape) (lines : List Line) (a : ℕ) (seal : SealOf) (x : ℕ) → a < data_lines g
     → stored_meta g (sealed_lines g lines a seal) x ≡ stored_meta g lines x
 stored_meta-sealed_lines g lines a seal x h = search rules
@@ -168,8 +148,3 @@ pub shadow_of-sealed_lines : (g : Shape) (lines : List Line) (a : ℕ) (seal : S
 shadow_of-sealed_lines g lines a seal h =
     shadow_of-set_before g (slice_set lines a seal.cipher) (tag_line g a) _ (tag_before_shadow g a h)
     ∙ shadow_of-set_before g lines a seal.cipher (data_before_shadow g a h)
-
-pub is_named-sealed_lines : (g : Shape) (lines : List Line) (a : ℕ) (seal : SealOf) (x : ℕ) → a < data_lines g
-    → is_named g (sealed_lines g lines a seal) x ≡ is_named g lines x
-is_named-sealed_lines g lines a seal x h =
-    ap (λ shadow. is_named_in g shadow (level_of x) x) (shadow_of-sealed_lines g lines a seal h)

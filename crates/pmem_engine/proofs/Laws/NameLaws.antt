@@ -9,7 +9,7 @@ use Rattle.pmem_base.specs.declared.registers.Regs.{Regs}
 use Rattle.pmem_base.specs.Shape.{Shape}
 use Rattle.pmem_base.specs.Layout.{device_lines, meta_lines, shadow_line}
 use Rattle.pmem_base.specs.Lines.{line_at, IsLine}
-use Rattle.bonsai_tree.specs.Positions.{level_of, is_on_path}
+use Rattle.bonsai_tree.specs.Positions.{level_of}
 use Rattle.board.proofs.LineLemmas.{AreLinesOf-set}
 use Rattle.seal_ledger.specs.Ledger.{LedgerState}
 use Rattle.shadow_tables.specs.Entries.{slot_entry, is_named_in, shadow_of}
@@ -18,13 +18,12 @@ use Rattle.shadow_tables.proofs.EntryLemmas.{is_named_in-slot}
 use Rattle.shadow_tables.proofs.ShadowLines.{shadow_of-set}
 use Rattle.meta_cache.specs.declared.slot.Slot.{Slot}
 use Rattle.meta_cache.specs.Banks.{Banks, set_of, set_index, slot_number, is_cached_dirty, IsInPlace, IsBanksOf}
-use Rattle.meta_cache.proofs.SlotLemmas.{All-stands, All-from_stands, dirty_slot, cached_slot, same_slot, in_place_of, slot_number_within}
+use Rattle.meta_cache.proofs.SlotLemmas.{All-stands, All-from_stands, dirty_slot, same_slot, in_place_of, slot_number_within}
 use Rattle.suite.specs.Setup.{Setup}
 use Rattle.pmem_engine.specs.Engine.{EngineState}
 use Rattle.pmem_engine.specs.Invariants.{IsTrusted, stored_meta, is_named, IsMendable, IsDirtyNamed, IsSound}
-use Rattle.pmem_engine.specs.Steps.{IsPathNamed}
-use Rattle.pmem_engine.specs.Recached.{IsMirrorWritten, IsPathInCache}
-use Rattle.pmem_engine.specs.Named.{named_slot_line, IsSlotInShadow, ArePathSlotsNamed, AreNodeSlotsNamed}
+use Rattle.pmem_engine.specs.Recached.{IsMirrorWritten}
+use Rattle.pmem_engine.specs.Named.{named_slot_line, IsSlotInShadow}
 use Rattle.pmem_engine.proofs.Laws.DeviceRegions.{stored_meta-set_shadow}
 use Rattle.pmem_engine.proofs.Laws.GroupLaws.{IsMendable-unarmed, IsDurable-unarmed}
 
@@ -39,6 +38,20 @@ is_named-slot g cache shadow bank set slot form stands named =
     is_named_in-slot g shadow bank (slot_number g set slot) slot.position place.its_bank
     (slot_number_within g set slot place.its_set place.its_way) named
 
+-- a position that is cached dirty is named, where each dirty slot is
+pub dirty_is_named : (g : Shape) (cache : Banks) (lines : List Line) (x : ℕ) → IsBanksOf g cache
+    → ((bank set : ℕ) → All (IsDirtyNamed g (shadow_of g lines) bank set) (set_of cache bank set))
+    → is_cached_dirty g cache (level_of x) x ≡ true → IsTrue (is_named g lines x)
+dirty_is_named g cache lines x form named dirty = by_slot (dirty_slot g cache (level_of x) x dirty)
+  where
+    by_slot : ((slot : Slot) × Contains (set_of cache (level_of x) (set_index g x)) slot × (slot.position ≡ x)
+        × (slot.dirty ≡ true)) → is_named g lines x ≡ true
+    by_slot s =
+        ap (is_named_in g (shadow_of g lines) (level_of x)) (sym s.2)
+        ∙ is_named-slot g cache (shadow_of g lines) (level_of x) (set_index g x) s.0 form s.1
+        (All-stands (IsDirtyNamed g (shadow_of g lines) (level_of x) (set_index g x))
+        (set_of cache (level_of x) (set_index g x)) s.0 (named (level_of x) (set_index g x)) s.1 s.3)
+
 -- a block that isn't true on the device is cached dirty, and so named
 pub true_or_named_from_sound : (g : Shape) (cache : Banks) (lines truth : List Line) → IsBanksOf g cache
     → ((x : ℕ) → x < meta_lines g → is_cached_dirty g cache (level_of x) x ≡ false
@@ -48,17 +61,9 @@ pub true_or_named_from_sound : (g : Shape) (cache : Banks) (lines truth : List L
     → (stored_meta g lines x ≡ line_at truth x) ⊎ IsTrue (is_named g lines x)
 true_or_named_from_sound g cache lines truth form stored named x h =
     elim (cases_Bool (is_cached_dirty g cache (level_of x) x)) [
-      | inl dirty ↦ inr (by_slot (dirty_slot g cache (level_of x) x dirty))
+      | inl dirty ↦ inr (dirty_is_named g cache lines x form named dirty)
       | inr clean ↦ inl (stored x h clean)
     ]
-  where
-    by_slot : ((slot : Slot) × Contains (set_of cache (level_of x) (set_index g x)) slot × (slot.position ≡ x)
-        × (slot.dirty ≡ true)) → is_named g lines x ≡ true
-    by_slot s =
-        ap (is_named_in g (shadow_of g lines) (level_of x)) (sym s.2)
-        ∙ is_named-slot g cache (shadow_of g lines) (level_of x) (set_index g x) s.0 form s.1
-        (All-stands (IsDirtyNamed g (shadow_of g lines) (level_of x) (set_index g x))
-        (set_of cache (level_of x) (set_index g x)) s.0 (named (level_of x) (set_index g x)) s.1 s.3)
 
 -- ---- a slot's entry comes to name its position
 
@@ -174,23 +179,3 @@ IsSound-named setup old new lines regs ledger bank set slot line sound form stan
         (λ mirror. (bank' set' : ℕ)
         → All (IsDirtyNamed setup.shape mirror bank' set') (set_of old.cache bank' set'))
         shadow_now named
-
--- ---- a path whose slots are named
-
-pub node_slots_named : (g : Shape) (cache : Banks) (shadow : List Line) (page : ℕ)
-    → ArePathSlotsNamed g cache shadow page → AreNodeSlotsNamed g cache shadow page
-node_slots_named g cache shadow page named = search rules
-
--- a path that is cached, with its slots named, is named on the device
-pub IsPathNamed_from_slots : (g : Shape) (cache : Banks) (lines : List Line) (page : ℕ) → IsBanksOf g cache
-    → IsPathInCache g cache page → ArePathSlotsNamed g cache (shadow_of g lines) page → IsPathNamed g lines page
-IsPathNamed_from_slots g cache lines page form cached named =
-    record { each = λ x h on. by_slot x on (cached_slot g cache (level_of x) x (cached.each x h on)) }
-  where
-    by_slot : (x : ℕ) → is_on_path g page x ≡ true
-        → ((slot : Slot) × Contains (set_of cache (level_of x) (set_index g x)) slot × (slot.position ≡ x))
-        → is_named g lines x ≡ true
-    by_slot x on s =
-        ap (is_named_in g (shadow_of g lines) (level_of x)) (sym s.2)
-        ∙ is_named-slot g cache (shadow_of g lines) (level_of x) (set_index g x) s.0 form s.1
-        (named.each (level_of x) (set_index g x) s.0 s.1 (ap (is_on_path g page) s.2 ∙ on))

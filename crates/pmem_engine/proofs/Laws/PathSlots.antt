@@ -1,66 +1,23 @@
 -- What is known of a page's path level by level, as the laws ask for it: cached, dirty, named.
-use Rattle.std.proofs.Common.{rules, ◌≡◌, ◌≢◌, ℕ, ◌+◌, ◌<◌, ◌≤◌, true, false, List, sym, ap, subst, ◌∙◌, arith}
+use Rattle.std.proofs.Common.{◌≡◌, ℕ, ◌+◌, ◌<◌, ◌≤◌, true, List, sym, ap, subst, ◌∙◌}
 use Rattle.std.specs.Prelude.{slice_index, option_map, unwrap_or}
 use Rattle.std.specs.List.{Contains}
 use Rattle.pmem_base.specs.declared.lines.Line.{Line}
 use Rattle.pmem_base.specs.declared.registers.Regs.{Regs}
 use Rattle.pmem_base.specs.Shape.{Shape}
 use Rattle.pmem_base.specs.Layout.{pages}
-use Rattle.bonsai_tree.specs.Positions.{level_of, path_of, counter_position, is_on_path}
-use Rattle.bonsai_tree.proofs.PathPositions.{on_path-level, path_of-block, path_of-level}
+use Rattle.bonsai_tree.specs.Positions.{level_of, path_of, is_on_path}
+use Rattle.bonsai_tree.proofs.PathPositions.{on_path-level}
 use Rattle.seal_ledger.specs.Ledger.{LedgerState}
 use Rattle.shadow_tables.specs.Entries.{slot_entry}
 use Rattle.meta_cache.specs.declared.slot.Slot.{Slot}
 use Rattle.meta_cache.specs.Sets.{slot_with}
-use Rattle.meta_cache.specs.Banks.{Banks, set_of, set_index, slot_number, is_cached, is_cached_dirty, IsBanksOf}
+use Rattle.meta_cache.specs.Banks.{Banks, set_of, set_index, slot_number, IsBanksOf}
 use Rattle.meta_cache.proofs.SlotLemmas.{All-stands, slot_with-is}
 use Rattle.suite.specs.Setup.{Setup}
 use Rattle.pmem_engine.specs.Engine.{EngineState}
 use Rattle.pmem_engine.specs.Invariants.{IsTrueSlot, IsTrusted}
-use Rattle.pmem_engine.specs.Recached.{IsPathInCache, IsPathDirty, ArePathNodesDirty}
 use Rattle.pmem_engine.specs.Named.{IsSlotInShadow, ArePathSlotsNamed}
-
--- each level's position is cached in the bank of its level
-pub IsPathCached-levels : (g : Shape) (cache : Banks) (page : ℕ) → g.levels ≤ 6 → page < pages g
-    → ((j : ℕ) → j ≤ g.levels → is_cached g cache j (slice_index (path_of g page) j) ≡ true)
-    → IsPathInCache g cache page
-IsPathCached-levels g cache page few inside each =
-    record {
-      each = λ x h on.
-          let at = on_path-level g page x few inside on in
-          ap (is_cached g cache (level_of x)) (sym at.1) ∙ each (level_of x) at.0;
-    }
-
--- each level's position is cached dirty, ..
-pub IsPathDirty-levels : (g : Shape) (cache : Banks) (page : ℕ) → g.levels ≤ 6 → page < pages g
-    → ((j : ℕ) → j ≤ g.levels → is_cached_dirty g cache j (slice_index (path_of g page) j) ≡ true)
-    → IsPathDirty g cache page
-IsPathDirty-levels g cache page few inside each =
-    record {
-      each = λ x h on.
-          let at = on_path-level g page x few inside on in
-          ap (is_cached_dirty g cache (level_of x)) (sym at.1) ∙ each (level_of x) at.0;
-    }
-
--- .. or that of each level but the last, whose block is clean
-pub ArePathNodesDirty-levels : (g : Shape) (cache : Banks) (page : ℕ) → g.levels ≤ 6 → page < pages g
-    → ((j : ℕ) → j < g.levels → is_cached_dirty g cache j (slice_index (path_of g page) j) ≡ true)
-    → is_cached_dirty g cache g.levels (counter_position g page) ≡ false → ArePathNodesDirty g cache page
-ArePathNodesDirty-levels g cache page few inside each clean =
-    record {
-      block_clean = ap (λ j. is_cached_dirty g cache j (counter_position g page)) last ∙ clean;
-      each = λ x h on node.
-          let at = on_path-level g page x few inside on in
-          ap (is_cached_dirty g cache (level_of x)) (sym at.1)
-          ∙ each (level_of x) (above x at.0 at.1 node);
-    }
-  where
-    last : level_of (counter_position g page) ≡ g.levels
-    last = ap level_of (sym (path_of-block g page)) ∙ path_of-level g page g.levels few inside (omega arith)
-
-    above : (x : ℕ) → level_of x ≤ g.levels → slice_index (path_of g page) (level_of x) ≡ x
-        → x ≢ counter_position g page → level_of x < g.levels
-    above x low at node = search rules
 
 -- the number in its bank of the slot that a bank has for position x, or 0 where it has none
 abbrev pub slot_number_at : Shape → Banks → ℕ → ℕ → ℕ

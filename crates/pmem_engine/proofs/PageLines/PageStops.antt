@@ -7,7 +7,6 @@ use Rattle.pmem_base.specs.Registers.{not_done, IsValidRegs}
 use Rattle.board.specs.Device.{Device}
 use Rattle.suite.specs.Setup.{Setup}
 use Rattle.plain_model.specs.State.{Memory}
-use Rattle.plain_model.specs.Asked.{reseal_mark}
 use Rattle.pmem_engine.specs.declared.fault.Fault.{Fault}
 use Rattle.pmem_engine.specs.declared.fault.Fault.TheVariants as Fail
 use Rattle.pmem_engine.specs.Parts.{Parts, regs_of, AreTrusted}
@@ -101,17 +100,14 @@ module _ (setup : Setup) (n number : ℕ) (old mid new : Parts) (valid : IsValid
       subst (λ a. AnswersReseal setup a mid new (Err fault))
       (at_is setup n number old mid valid inside first some new (Err fault) it) (it.answered (mid_trusted trusted))
 
-  same_next : AreTrusted setup old → (memory : Memory)
-      → reseal_mark setup.formulas (moment_in setup memory mid) (register_in mid n).page it.place ≡ asked_of setup n old memory it.place
-  same_next trusted memory = same_mark setup n number old mid valid inside first some new (Err fault) it trusted memory
-
   marks_so : (f : Fault) → AreTrusted setup old → (memory : Memory) → IsMemory setup memory old
       → HasResealMarks setup.formulas (moment_in setup memory mid) (register_in mid n).page it.place it.made (Err f)
       → AnswersReseal setup at_stop mid new (Err f)
       → HasFinishMarks (reseals_of setup.formulas (moment_in setup memory old) (register_in old n)) (first.made ++ it.made) (Err f)
   marks_so Fail.Cut trusted memory was (inl none) says = cut_front trusted memory was (inl none)
   marks_so Fail.Cut trusted memory was (inr one) says =
-      cut_front trusted memory was (inr (one ∙ ap (λ m. m ∷ []) (same_next trusted memory)))
+      cut_front trusted memory was
+      (inr (one ∙ ap (λ m. m ∷ []) (same_mark setup n number old mid valid inside first some new (Err fault) it trusted memory)))
   marks_so (Fail.Tag b) trusted memory was none says = stopped trusted memory was none b says.0
   marks_so Fail.Shown trusted memory was none says = (at_stop, stopped trusted memory was none at_stop refl)
   marks_so (Fail.Meta x) trusted memory was none says = none

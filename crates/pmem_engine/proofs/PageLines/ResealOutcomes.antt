@@ -13,7 +13,7 @@ use Rattle.pmem_base.specs.Counts.{last_count, risen}
 use Rattle.pmem_base.specs.Shape.{Shape}
 use Rattle.pmem_base.specs.Layout as layout
 use Rattle.pmem_base.specs.Layout.{page_of, index_in_page}
-use Rattle.pmem_base.specs.Lines.{IsLine, line_at}
+use Rattle.pmem_base.specs.Lines.{IsLine, line_at, zero_line}
 use Rattle.pmem_base.specs.Registers.{IsProgress, is_done, not_done, empty_progress}
 use Rattle.suite.specs.Formulas.{AreInRange}
 use Rattle.suite.specs.Setup.{Setup}
@@ -54,7 +54,9 @@ use Rattle.pmem_engine.proofs.CallEnds.ShadowLines.{shadow_still, committed_off,
 use Rattle.pmem_engine.proofs.Laws.PlainLines.{plain_line-resealed}
 use Rattle.pmem_engine.proofs.CheckedReads.UnsealedLines.{risen_never_falls, same_never_falls}
 use Rattle.pmem_engine.specs.Faults.{IsTagRefused, IsForgedShown}
-use Rattle.pmem_engine.proofs.PageLines.LineReseals.{IsResealing, sealed_here, done_resealed, cut_resealed}
+use Rattle.pmem_engine.proofs.Laws.DeviceSteps.{sealed_here}
+use Rattle.pmem_engine.proofs.Seals.GroupCommits.{IsCommit, done_committed, done_cut}
+use Rattle.pmem_engine.proofs.PageLines.LineReseals.{IsResealing, resealing}
 
 -- a metadata line where lines and registers are as they were
 pub meta_of_same : (g : Shape) (x : ℕ) (old new : Parts) → regs_of new ≡ regs_of old → new.device.lines ≡ old.device.lines
@@ -218,19 +220,6 @@ module _ (setup : Setup) (n : ℕ) (engine : EngineState) (old : Device) (before
     same_ledger : ledger ≡ before
     same_ledger = it.same_ledger (λ e. absurd (true≢false (ap is_going e)))
 
-    resealing : IsResealing setup sealing register mid
-    resealing =
-        record {
-          its_line = held_in_range;
-          held =
-              ap (λ regs. register_held regs.progress.items held.at) it.regs ∙ holds;
-          its_counter = next.next;
-          tagged = refl;
-          tags = unsealed.tag_line;
-          tags_read = it.tells_tag_line;
-          tag_line = refl;
-        }
-
     still_unarmed : mid.regs.group.items ≡ []
     still_unarmed = ap (λ regs. regs.group.items) it.regs ∙ unarmed
 
@@ -342,6 +331,27 @@ module _ (setup : Setup) (n : ℕ) (engine : EngineState) (old : Device) (before
       never_digests : NeverFalls digests_mid digests_now
       never_digests = same_never_falls digests_mid digests_now same_digests
 
+      held_sealing : IsResealing setup sealing register mid
+      held_sealing =
+          record {
+            its_line = held_in_range;
+            held = ap (λ regs. register_held regs.progress.items held.at) it.regs ∙ holds;
+            its_counter = next.next;
+            tagged = refl;
+            tags = unsealed.tag_line;
+            tags_read = it.tells_tag_line;
+            tag_line = refl;
+            unarmed = still_unarmed;
+            whole = device;
+            size = mid_size;
+          }
+
+      commit : HasLineSealed setup.shape sealing mid new ledger after
+          → IsCommit setup (entries_of setup.shape sealing) mark (page_of sealing.at) false zero_line middle final
+      commit done =
+          resealing setup sealing register engine mid new ledger after tags_mid digests_mid tags_now digests_now held_sealing done
+          never_tags never_digests
+
       truth_is : HasLineSealed setup.shape sealing mid new ledger after → after.truth ≡ before.truth
       truth_is done = done.mark.truth ∙ ap (λ seals. seals.truth) same_ledger
 
@@ -370,9 +380,8 @@ module _ (setup : Setup) (n : ℕ) (engine : EngineState) (old : Device) (before
             made = mark ∷ [];
             done =
                 done_chained setup cut_short [] (mark ∷ []) start middle final it.done
-                (cut_resealed setup sealing register engine mid new ledger after tags_mid digests_mid tags_now digests_now
-                resealing was_cut.line_sealed still_unarmed device device_now mid_size never_tags never_digests
-                was_cut.device);
+                (done_cut setup (entries_of setup.shape sealing) mark (page_of sealing.at) false zero_line middle final
+                (commit was_cut.line_sealed) device_now was_cut.device);
             marks = λ trusted memory was. inr (ap (λ m. m ∷ []) (mark_is trusted memory was));
             memory_kept =
                 λ trusted memory was.
@@ -431,8 +440,8 @@ module _ (setup : Setup) (n : ℕ) (engine : EngineState) (old : Device) (before
             made = mark ∷ [];
             done =
                 done_chained setup going [] (mark ∷ []) start middle final it.done
-                (done_resealed setup sealing register engine mid new ledger after tags_mid digests_mid tags_now digests_now
-                resealing committed.line_sealed still_unarmed device mid_size never_tags never_digests committed.device);
+                (done_committed setup (entries_of setup.shape sealing) mark (page_of sealing.at) false zero_line middle final
+                (commit committed.line_sealed) committed.device);
             marks = λ trusted memory was. ap (λ m. m ∷ []) (mark_is trusted memory was);
             memory_kept =
                 λ trusted memory was.

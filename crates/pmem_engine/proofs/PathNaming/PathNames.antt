@@ -16,7 +16,8 @@ use Rattle.seal_ledger.specs.Ledger.{LedgerState}
 use Rattle.shadow_tables.specs.Entries.{slot_entry}
 use Rattle.shadow_tables.specs.Naming.{entry_line, entry_index, naming_line, with_named}
 use Rattle.shadow_tables.proofs.ShadowLines.{IsLine-with_entry}
-use Rattle.shadow_tables.proofs.NameLemmas.{Names-with_named, meta_lines_most}
+use Rattle.pmem_base.proofs.LayoutLemmas.{meta_lines-most}
+use Rattle.shadow_tables.proofs.NameLemmas.{Names-with_named}
 use Rattle.meta_cache.specs.declared.slot.Slot.{Slot}
 use Rattle.meta_cache.specs.Banks.{Banks, set_of, set_index, slot_number, IsBanksOf}
 use Rattle.meta_cache.specs.State.{IsCacheOf}
@@ -177,7 +178,7 @@ module _ (setup : Setup) (page : ℕ) (engine : EngineState) (lines : List Line)
       (path_number_low g (record { shape = g; banks = engine.cache }) page some_sets refl cache_form cached n low))
       now.long now.whole
       (subst (λ y. y + 1 < 2 ^ 32) (sym slot.2)
-      (omega (arith, path_at-lt g page n its_page low, meta_lines_most g few_levels))))
+      (omega (arith, path_at-lt g page n its_page low, meta_lines-most g few_levels))))
       (naming_line-whole g mirror n number slot.0.position now.whole)
       (record { mirror = refl; shape = refl; cache = refl; down = refl }))
     where

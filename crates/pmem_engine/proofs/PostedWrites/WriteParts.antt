@@ -1,21 +1,18 @@
 -- What each part of a write keeps, up to the seal of its own line, and what two of them keep together.
 use Rattle.std.proofs.lemmas.Grind.{common_steps}
-use Rattle.std.proofs.Common.{rules, ℕ, ◌≡◌, ◌<◌, ◌++◌, Bool, true, false, List, [], ◌∷◌, IsTrue, Result, refl, sym, ap, ap₂, ◌∙◌, arith}
+use Rattle.std.proofs.Common.{rules, ℕ, ◌≡◌, ◌<◌, ◌++◌, Bool, true, false, List, [], IsTrue, Result, refl, sym, ap, ap₂, ◌∙◌, arith}
 use Rattle.std.specs.Prelude.{◌||◌, option_map}
 use Rattle.std.specs.List.{list_any}
-use Rattle.std.proofs.lemmas.Bool.{true≢false, or_parts, eq-eqb}
-use Rattle.std.proofs.lemmas.List.{append-nil, append_assoc}
+use Rattle.std.proofs.lemmas.Bool.{true≢false, or_parts}
 use Rattle.std.proofs.lemmas.List.Folds.{list_any-append}
 use Rattle.pmem_base.specs.declared.lines.Line.{Line}
 use Rattle.pmem_base.specs.declared.answers.Mark.{Mark}
-use Rattle.pmem_base.specs.declared.answers.Mark.TheVariants.{Begin, Seal}
 use Rattle.pmem_base.specs.declared.commands.Posted.{Posted}
 use Rattle.pmem_base.specs.Layout as layout
 use Rattle.pmem_base.specs.Layout.{page_of}
 use Rattle.pmem_base.specs.Lines.{line_at, tag_slot}
 use Rattle.pmem_base.specs.Marks.{SealOf, last_seal}
 use Rattle.bonsai_tree.specs.Positions.{counter_position}
-use Rattle.seal_ledger.proofs.MarkLemmas.{last_seal-other, last_seal-begun}
 use Rattle.suite.specs.Setup.{Setup}
 use Rattle.plain_model.specs.State.{Memory}
 use Rattle.plain_model.specs.View.{plain_line, plain_of_seal}
@@ -27,6 +24,7 @@ use Rattle.pmem_engine.specs.Calls.{IsMemory, IsLeftAlone, is_persisting}
 use Rattle.pmem_engine.specs.Inner.{HasFetched, HasNamedPath}
 use Rattle.pmem_engine.specs.Sealing.{HasBegunPage}
 use Rattle.pmem_engine.specs.Writing.{HasMadePlain}
+pub use Rattle.pmem_engine.proofs.Laws.PlainLines.{last_seal-unsealed}
 use Rattle.pmem_engine.proofs.CallEnds.ToldLines.{told_cases, told_redone}
 use Rattle.pmem_engine.proofs.CallEnds.CallChains.{done_chained, still_unarmed}
 
@@ -48,24 +46,7 @@ pub record IsWritePart (setup : Setup) (at : ℕ) (outcome : Outcome) (made : Li
 
 -- ---- lines that aren't sealed
 
--- a mark that isn't a seal of a line leaves its last one
-unsealed_last : (marks : List Mark) (mark : Mark) (a : ℕ) → is_seal_of a mark ≡ false
-    → last_seal (marks ++ mark ∷ []) a ≡ last_seal marks a
-unsealed_last marks (Begin page) a it = last_seal-begun marks page a
-unsealed_last marks (Seal at ctr cipher tag) a it =
-    last_seal-other marks at ctr cipher tag a (λ same. true≢false (sym (eq-eqb at a (sym same)) ∙ it))
-
--- marks that seal none of a line leave its last seal
-pub last_seal-unsealed : (marks made : List Mark) (a : ℕ) → is_sealed_by made a ≡ false
-    → last_seal (marks ++ made) a ≡ last_seal marks a
-last_seal-unsealed marks [] a it = ap (λ ms. last_seal ms a) (append-nil marks)
-last_seal-unsealed marks (mark ∷ made) a it =
-    let apart = or_parts (is_seal_of a mark) (is_sealed_by made a) it in
-    ap (λ ms. last_seal ms a) (sym (append_assoc marks (mark ∷ []) made))
-    ∙ last_seal-unsealed (marks ++ mark ∷ []) made a apart.1
-    ∙ unsealed_last marks mark a apart.0
-
--- their plain lines too
+-- marks that seal none of a line leave its plain line
 pub plain_line-unsealed : (setup : Setup) (marks made : List Mark) (a : ℕ) → is_sealed_by made a ≡ false
     → plain_line setup.formulas (marks ++ made) a ≡ plain_line setup.formulas marks a
 plain_line-unsealed setup marks made a it =

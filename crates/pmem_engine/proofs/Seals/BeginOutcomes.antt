@@ -1,5 +1,5 @@
 -- The exits of a page's begin: cut before its group was armed, or while it was, or done.
-use Rattle.std.proofs.Common.{rules, ℕ, ◌≡◌, ◌<◌, ◌≤◌, ◌-◌, ◌^◌, inl, inr, true, false, List, [], ◌∷◌, length, None, Ok, Err, refl, sym, ap, ap₂, subst, ◌∙◌, arith}
+use Rattle.std.proofs.Common.{rules, ℕ, ◌≡◌, ◌<◌, ◌≤◌, ◌-◌, ◌^◌, inl, inr, true, false, List, [], ◌∷◌, length, None, Ok, Err, refl, sym, ap, subst, ◌∙◌, arith}
 use Rattle.std.specs.Prelude.{option_map}
 use Rattle.std.proofs.lemmas.Bool.{true≢false}
 use Rattle.pmem_base.specs.declared.lines.Line.{Line}
@@ -10,24 +10,19 @@ use Rattle.pmem_base.specs.Layout as layout
 use Rattle.pmem_base.specs.Lines.{line_at}
 use Rattle.suite.specs.Formulas.{AreInRange}
 use Rattle.suite.specs.Setup.{Setup}
-use Rattle.split_counters.specs.Blocks.{packed, unpacked, next_block, IsBlock}
-use Rattle.split_counters.proofs.Packing.{unpacked-packed, packed-unpacked}
+use Rattle.split_counters.specs.Blocks.{packed, next_block, IsBlock}
 use Rattle.bonsai_tree.specs.Positions.{counter_position}
-use Rattle.board.specs.Device.{Device, IsDevice, AreToldLines}
+use Rattle.board.specs.Device.{Device, IsDevice}
 use Rattle.commit_regs.specs.Groups.{redone_told}
 use Rattle.page_reencrypt.specs.Registers.{register_of, begun}
-use Rattle.page_reencrypt.proofs.Holding.{begun-IsProgress}
 use Rattle.seal_ledger.specs.Ledger.{LedgerState}
-use Rattle.meta_path.specs.Blocks.{line_in, IsPathCached, AreCachedTrue}
+use Rattle.meta_path.specs.Blocks.{IsPathCached, AreCachedTrue}
 use Rattle.meta_path.specs.Naming.{path_number}
 use Rattle.meta_path.specs.Storing.{IsRenewed}
 use Rattle.plain_model.specs.Bounds.{path_length}
-use Rattle.pmem_base.proofs.LineLemmas.{IsLine-line_at}
 use Rattle.pmem_engine.specs.declared.fault.Fault.TheVariants as Fail
 use Rattle.pmem_engine.specs.Engine.{EngineState}
-use Rattle.pmem_engine.specs.Truth.{true_block}
-use Rattle.pmem_engine.specs.Invariants.{IsTrusted, stored_meta}
-use Rattle.pmem_engine.specs.Parts.{Parts, parts_of}
+use Rattle.pmem_engine.specs.Parts.{Parts, parts_of, lines_redone}
 use Rattle.pmem_engine.specs.Outcomes.{going, NeverFalls, OneLossEffect}
 use Rattle.pmem_engine.specs.Calls.{IsUsable, IsPathNamedInMirror}
 use Rattle.pmem_engine.specs.Committing.{HasCommitted, IsCutArmed}
@@ -36,11 +31,12 @@ use Rattle.pmem_engine.specs.Sealing.{begin_group, HasPageBegun, HasBeginCommitt
 use Rattle.pmem_engine.proofs.CallEnds.ExactWork.{still_rise}
 use Rattle.pmem_engine.proofs.Seals.NextPaths.{times_never_fall}
 use Rattle.pmem_engine.proofs.Seals.KeptSlots.{kept_same}
-use Rattle.pmem_engine.proofs.Seals.StoredPaths.{cached_true_line, cached_lines_true, path_number_kept, kept_named}
+use Rattle.pmem_engine.proofs.Seals.StoredPaths.{cached_lines_true, block_clean, path_number_kept, kept_named}
 use Rattle.pmem_engine.proofs.CallEnds.MetaLines.{committed_at, begin_off_meta}
 use Rattle.pmem_engine.proofs.CallEnds.ShadowLines.{shadow_still, committed_off, armed_off, begin_off}
-use Rattle.pmem_engine.proofs.Seals.PathBegins.{IsBeginning, done_begun, cut_begun, begun_line, begun_clean, begun_block}
-use Rattle.commit_regs.proofs.GroupLemmas.{redone-nil}
+use Rattle.pmem_engine.proofs.Seals.BegunBlocks.{rolled_block}
+use Rattle.pmem_engine.proofs.Seals.GroupCommits.{IsCommit, block_true, comes_committed, done_committed, done_cut}
+use Rattle.pmem_engine.proofs.Seals.PathBegins.{IsBeginning, beginning}
 
 one_made : {page : ℕ} → Begin page ∷ [] ≡ [] → ⊥
 one_made none = omega (arith, ap length none)
@@ -104,40 +100,22 @@ module _ (setup : Setup) (page : ℕ) (engine engine_now : EngineState) (old new
       }
 
   module _ (done : HasPageBegun setup.shape page register block lines root engine engine_now old.regs new.regs before after) where
-    -- the cached block is the true one
-    line_true : IsTrusted setup engine old.regs before
-        → line_in setup.shape engine.cache setup.shape.levels (counter_position setup.shape page)
-        ≡ line_at before.truth (counter_position setup.shape page)
-    line_true trusted =
-        cached_true_line setup.shape engine.cache before.truth page done.stored.banks_before trusted.cached_true cached
-
-    block_true : IsTrusted setup engine old.regs before
-        → cached_block setup.shape engine page ≡ true_block setup.shape before.truth page
-    block_true trusted = ap unpacked (line_true trusted)
-
-    beginning : IsBeginning setup page register block lines root engine old before
-    beginning =
+    is_beginning : IsDevice old → IsBeginning setup page lines root engine old
+    is_beginning whole =
         record {
-          its_page = inside;
-          few = few;
-          in_range = in_range;
-          cached = cached;
-          named = named;
+          path = record { few = few; in_range = in_range; inside = inside; cached = cached; named = named; renewed = renewed };
           closed = closed;
-          in_use =
-              begun-IsProgress setup.shape page old_block inside
-              (subst (λ b. b.major < 2 ^ 64 - 1) (sym (unpacked-packed (cached_block setup.shape engine page) valid)) major);
-          of_page = refl;
-          can_roll = λ trusted. subst (λ b. b.major < 2 ^ 64 - 1) (block_true trusted) major;
-          its_register =
-              λ trusted.
-              ap (λ line. begun page line)
-              (ap packed (block_true trusted)
-              ∙ packed-unpacked (line_at before.truth (counter_position setup.shape page))
-              (IsLine-line_at before.truth (counter_position setup.shape page) trusted.anchored.of_shape.truth_lines));
-          new_block = λ trusted. ap (λ b. packed (next_block b)) (block_true trusted);
-          renewed = λ trusted. renewed before.truth (cached_lines_true setup.shape engine.cache before.truth trusted.cached_true);
+          major = major;
+          valid = valid;
+          unarmed = unarmed;
+          whole = whole;
+          size = usable.ready.its_size;
         }
+
+    commit : IsDevice old → IsCommit setup (begin_group setup.shape page block) (Begin page) page true block start final
+    commit whole =
+        beginning setup page lines root engine engine_now old new before after tags digests tags_now digests_now (is_beginning whole)
+        done never_tags never_digests
 
     -- cut while its group was armed
     pub begin_cut : IsDevice old → IsDevice new → IsCutArmed (begin_group setup.shape page block) old new
@@ -146,8 +124,8 @@ module _ (setup : Setup) (page : ℕ) (engine engine_now : EngineState) (old new
         record {
           made = Begin page ∷ [];
           done =
-              cut_begun setup page register block lines root engine engine_now old new before after tags digests tags_now digests_now
-              beginning done unarmed whole whole_now usable.ready.its_size never_tags never_digests armed;
+              done_cut setup (begin_group setup.shape page block) (Begin page) page true block start final (commit whole) whole_now
+              armed;
           marks = inr refl;
           opened = λ ok. absurd (true≢false (sym ok));
           block_kept = λ none. absurd (one_made none);
@@ -184,27 +162,18 @@ module _ (setup : Setup) (page : ℕ) (engine engine_now : EngineState) (old new
                 registers = done.progress;
                 block =
                     λ trusted.
-                    ap unpacked
-                    (cached_true_line setup.shape engine_now.cache after.truth page done.stored.banks
-                    (it_is.gone.trusted trusted).cached_true done.stored.cached)
-                    ∙ begun_block setup page register block lines root engine engine_now old new before after tags digests tags_now
-                    digests_now beginning done trusted
-                    ∙ ap next_block (sym (block_true trusted));
+                    rolled_block setup.shape setup.formulas (line_at before.truth) page lines engine engine_now done.stored major
+                    (renewed before.truth (cached_lines_true setup.shape engine.cache before.truth trusted.cached_true)).lines;
                 block_true =
                     λ trusted.
                     record {
                       line =
-                          ap₂ (λ items told. option_map (λ ls. stored_meta setup.shape ls (counter_position setup.shape page))
-                          (redone_told items told)) finished.no_group finished.lines
-                          ∙ ap (option_map (λ ls. stored_meta setup.shape ls (counter_position setup.shape page)))
-                          (redone-nil (redone_told (begin_group setup.shape page block) old.lines))
-                          ∙ begun_line setup page register block lines root engine engine_now old new before after tags digests tags_now
-                          digests_now beginning done trusted old.lines
-                          (subst (λ size. AreToldLines size old.lines) usable.ready.its_size whole)
-                          ∙ ap (option_map (λ ls. line_at after.truth (counter_position setup.shape page))) (sym finished.lines);
+                          block_true setup (begin_group setup.shape page block) (Begin page) page true block start final (commit whole)
+                          comes trusted refl
+                          ∙ ap (option_map (λ ls. line_at after.truth (counter_position setup.shape page))) (comes ∙ sym finished.lines);
                       clean =
-                          begun_clean setup page register block lines root engine engine_now old new before after tags digests tags_now
-                          digests_now beginning done trusted;
+                          block_clean setup page (next_block (cached_block setup.shape engine page)) lines root (Begin page) true engine
+                          engine_now old.regs before after (is_beginning whole).path done.stored done.noted trusted refl;
                     };
                 path_cached = done.stored.cached;
                 path_named = path_named;
@@ -245,8 +214,11 @@ module _ (setup : Setup) (page : ℕ) (engine engine_now : EngineState) (old new
       where
         it_is : OneLossEffect setup going (Begin page ∷ []) start final
         it_is =
-            done_begun setup page register block lines root engine engine_now old new before after tags digests tags_now digests_now
-            beginning done unarmed whole usable.ready.its_size never_tags never_digests finished
+            done_committed setup (begin_group setup.shape page block) (Begin page) page true block start final (commit whole) finished
+
+        comes : lines_redone final ≡ redone_told (begin_group setup.shape page block) old.lines
+        comes =
+            comes_committed setup (begin_group setup.shape page block) (Begin page) page true block start final (commit whole) finished
 
         path_named : IsPathNamedInMirror setup.shape engine_now page
         path_named = kept_named setup.shape page true lines engine engine_now done.stored cached named

@@ -1,136 +1,65 @@
--- A group that was armed, and finished or cut: what the device comes to, and what is left to show of a part of a
--- call that commits one mark.
-use Rattle.std.proofs.Common.{rules, ℕ, ◌≡◌, ◌<◌, ◌≤◌, ◌+◌, ◌++◌, ◌⊎◌, true, false, List, [], ◌∷◌, length, IsTrue, Option, Some, ap, ◌∙◌}
-use Rattle.std.specs.Prelude.{IfSome, option_map}
+-- A group of one mark that was armed, and finished or cut: what is left to show of the part of a call that commits it.
+use Rattle.std.proofs.Common.{rules, ℕ, ◌≡◌, ◌<◌, ◌≤◌, ◌⊎◌, Bool, true, List, [], ◌∷◌, length, Option, Some, None, refl, sym, ap, subst, ◌∙◌}
+use Rattle.std.specs.Prelude.{◌&&◌, ◌==◌, option_map}
+use Rattle.std.proofs.lemmas.Bool.{eq-eqb}
 use Rattle.pmem_base.specs.declared.lines.Line.{Line}
 use Rattle.pmem_base.specs.declared.answers.Mark.{Mark}
-use Rattle.pmem_base.specs.Shape.{Shape}
 use Rattle.pmem_base.specs.Layout as layout
-use Rattle.pmem_base.specs.Lines.{line_at, tag_slot}
-use Rattle.pmem_base.specs.Registers.{IsValidRegs}
+use Rattle.pmem_base.specs.Lines.{line_at}
+use Rattle.pmem_base.specs.Registers.{IsGroup, IsValidRegs}
 use Rattle.board.specs.Device.{IsDevice, AreLinesOf}
-use Rattle.meta_cache.specs.Banks.{Banks, is_cached_dirty}
+use Rattle.meta_cache.specs.Banks.{is_cached_dirty}
 use Rattle.commit_regs.specs.Groups.{redone, redone_told}
+use Rattle.commit_regs.proofs.GroupLemmas.{redone-nil, AreLinesOf-redone}
 use Rattle.suite.specs.Setup.{Setup}
-use Rattle.pmem_engine.specs.Invariants.{IsAnchored, IsSound, IsDurable, IsSealStored, IsCounterStored, stored_meta}
-use Rattle.pmem_engine.specs.Steps.{IsPlaceKept}
-use Rattle.pmem_engine.specs.Recached.{IsTrueOrDirty}
-use Rattle.pmem_engine.specs.Parts.{Parts, regs_of, lines_redone, AreTrusted, AreSound, AreDurable, HoldsCounters}
-use Rattle.pmem_engine.specs.Outcomes.{going, cut_short, is_sealed_by, IsTouchedBy, NeverFalls, KeepsPlaces, KeepsMeta, OneLossEffect}
+use Rattle.bonsai_tree.specs.Positions.{counter_position}
+use Rattle.pmem_engine.specs.Invariants.{IsAnchored, IsSound, IsDurable, stored_meta}
+use Rattle.pmem_engine.specs.Parts.{Parts, regs_of, lines_redone, AreTrusted, AreSound, AreDurable, HoldsCounters, meta_line_in}
+use Rattle.pmem_engine.specs.Outcomes.{going, cut_short, IsTouchedBy, NeverFalls, KeepsPlaces, KeepsMeta, OneLossEffect}
 use Rattle.pmem_engine.specs.Committing.{HasCommitted, IsCutArmed}
-use Rattle.commit_regs.proofs.GroupLemmas.{redone-nil}
+use Rattle.pmem_engine.specs.Sealing.{HasNotedPath}
+use Rattle.pmem_engine.proofs.Laws.AnchoredLatches.{IsGroup-nil}
+use Rattle.pmem_engine.proofs.Laws.DeviceSteps.{writes_block, IsDeviceStep}
+use Rattle.pmem_engine.proofs.Laws.TruthSteps.{IsTruthStep}
+use Rattle.pmem_engine.proofs.Laws.CommitLaws.{KeepsOver, kept_over, trusted_after, durable_while_armed, sound_after}
 
--- ---- what the lines come to
-
--- of one mark, before and after a commit
-pub record IsCommit (setup : Setup) (group : List (ℕ × Line)) (mark : Mark) (old new : Parts) : Type 0 where
+-- of one mark, before and after a commit: its group over the device, and from a trusted chip on its truth step
+pub record IsCommit (setup : Setup) (group : List (ℕ × Line)) (mark : Mark) (page : ℕ) (written : Bool) (block : Line)
+    (old new : Parts) : Type 0 where
   pub unarmed : (regs_of old).group.items ≡ []
   pub short : length group ≤ 3
+  pub is_group : IsGroup (layout.device_lines setup.shape) group
   pub whole : IsDevice old.device
   pub size : old.device.size ≡ layout.device_lines setup.shape
   pub shape : new.engine.shape ≡ old.engine.shape
-  pub marks : new.ledger.marks ≡ old.ledger.marks ++ mark ∷ []
-  pub spare : new.ledger.spare + 1 ≡ old.ledger.spare
-  pub true_lines : length new.ledger.truth ≡ length old.ledger.truth
-  pub data_lines : new.ledger.data_lines ≡ old.ledger.data_lines
-  pub exhibit : new.ledger.exhibit ≡ old.ledger.exhibit
+  pub lines : List (ℕ × Line)
+  pub noted : HasNotedPath lines mark old.ledger new.ledger
   pub loss : (regs_of new).loss ≡ (regs_of old).loss
-  pub valid : IsValidRegs setup.shape (regs_of old) → IsValidRegs setup.shape (regs_of new)
+  pub valid :
+      IsGroup (layout.device_lines setup.shape) (regs_of new).group.items
+      → IsValidRegs setup.shape (regs_of old) → IsValidRegs setup.shape (regs_of new)
   pub tags : NeverFalls old.tags new.tags
   pub digests : NeverFalls old.digests new.digests
+  pub device :
+      (lines : List Line) → old.device.lines ≡ Some lines → AreLinesOf (layout.device_lines setup.shape) lines
+      → IsDeviceStep setup.shape mark old.ledger.marks page written block lines (redone group lines)
+  pub truth :
+      AreTrusted setup old
+      → IsTruthStep setup mark page written block (regs_of old).loss old.engine new.engine old.ledger.truth new.ledger.truth
+  pub anchored :
+      AreTrusted setup old → IsGroup (layout.device_lines setup.shape) (regs_of new).group.items
+      → IsAnchored setup (regs_of new) new.ledger
 
--- each data line and its tag slot, over lines and what they come to
-pub record KeepsSeals (g : Shape) (mark : Mark) (old_marks new_marks : List Mark) (lines after : List Line) : Type 0 where
-  pub seals :
-      (a : ℕ) → a < layout.data_lines g → IsSealStored g lines old_marks a ⊎ IsTrue (is_sealed_by (mark ∷ []) a)
-      → IsSealStored g after new_marks a
-  pub places : (a : ℕ) → a < layout.data_lines g → is_sealed_by (mark ∷ []) a ≡ false → IsPlaceKept g lines after a
-
--- and each metadata line
-pub record KeepsTrue (g : Shape) (old new : Banks) (old_truth new_truth lines after : List Line) : Type 0 where
-  pub held :
-      (x : ℕ) → x < layout.meta_lines g → IsTrueOrDirty g old lines old_truth x → IsTrueOrDirty g new after new_truth x
-  pub changed :
-      (x : ℕ) → x < layout.meta_lines g
-      → (stored_meta g after x ≡ stored_meta g lines x) ⊎ IsTrueOrDirty g new after new_truth x
-
-module _ (setup : Setup) (group : List (ℕ × Line)) (mark : Mark) (old new : Parts) (it : IsCommit setup group mark old new) (comes : lines_redone new ≡ redone_told group old.device.lines) where
-  stood : lines_redone old ≡ old.device.lines
-  stood = ap (λ items. redone_told items old.device.lines) it.unarmed ∙ redone-nil old.device.lines
-
+module _ (setup : Setup) (group : List (ℕ × Line)) (mark : Mark) (page : ℕ) (written : Bool) (block : Line) (old new : Parts)
+    (it : IsCommit setup group mark page written block old new) where
   -- the told lines are whole
-  pub whole_lines : (lines : List Line) → old.device.lines ≡ Some lines → AreLinesOf (layout.device_lines setup.shape) lines
+  whole_lines : (lines : List Line) → old.device.lines ≡ Some lines → AreLinesOf (layout.device_lines setup.shape) lines
   whole_lines lines told = search rules
 
-  abbrev Kept : List Line → Type 0
-  Kept lines = KeepsSeals setup.shape mark old.ledger.marks new.ledger.marks lines (redone group lines)
+  step_over : (lines : List Line) → old.device.lines ≡ Some lines
+      → IsDeviceStep setup.shape mark old.ledger.marks page written block lines (redone group lines)
+  step_over lines told = it.device lines told (whole_lines lines told)
 
-  seals_kept : (a : ℕ) → a < layout.data_lines setup.shape → (told : Option (List Line))
-      → ((lines : List Line) → told ≡ Some lines → Kept lines)
-      → IfSome told (λ lines. IsSealStored setup.shape lines old.ledger.marks a) ⊎ IsTrue (is_sealed_by (mark ∷ []) a)
-      → IfSome (redone_told group told) (λ lines. IsSealStored setup.shape lines new.ledger.marks a)
-  seals_kept a within v2 each before = search rules
-
-  lines_kept : (a : ℕ) → a < layout.data_lines setup.shape → is_sealed_by (mark ∷ []) a ≡ false → (told : Option (List Line))
-      → ((lines : List Line) → told ≡ Some lines → Kept lines)
-      → option_map (λ lines. line_at lines a) (redone_told group told) ≡ option_map (λ lines. line_at lines a) told
-  lines_kept a within unsealed v3 each = search rules
-
-  slots_kept : (a : ℕ) → a < layout.data_lines setup.shape → is_sealed_by (mark ∷ []) a ≡ false → (told : Option (List Line))
-      → ((lines : List Line) → told ≡ Some lines → Kept lines)
-      → option_map (λ lines. tag_slot (line_at lines (layout.tag_line setup.shape a)) a) (redone_told group told)
-      ≡ option_map (λ lines. tag_slot (line_at lines (layout.tag_line setup.shape a)) a) told
-  slots_kept a within unsealed v3 each = search rules
-
-  -- place by place
-  pub committed_places : ((lines : List Line) → old.device.lines ≡ Some lines → Kept lines)
-      → KeepsPlaces setup (mark ∷ []) old new
-  committed_places each = search rules
-
-  abbrev KeptCounters : ℕ → List Line → Type 0
-  KeptCounters page lines =
-      IsCounterStored setup lines (regs_of old).loss old.ledger.truth page
-      → IsCounterStored setup (redone group lines) (regs_of old).loss new.ledger.truth page
-
-  counters_kept : (page : ℕ) → (told : Option (List Line)) → ((lines : List Line) → told ≡ Some lines → KeptCounters page lines)
-      → IfSome told (λ lines. IsCounterStored setup lines (regs_of old).loss old.ledger.truth page)
-      → IfSome (redone_told group told) (λ lines. IsCounterStored setup lines (regs_of old).loss new.ledger.truth page)
-  counters_kept page v1 each before = search rules
-
-  -- what is stored of a counter block
-  pub committed_counters : (page : ℕ) → ((lines : List Line) → old.device.lines ≡ Some lines → KeptCounters page lines)
-      → HoldsCounters setup old page → HoldsCounters setup new page
-  committed_counters page each before = search rules
-
-  abbrev KeptTrue : List Line → Type 0
-  KeptTrue lines =
-      KeepsTrue setup.shape old.engine.cache new.engine.cache old.ledger.truth new.ledger.truth lines (redone group lines)
-
-  held_kept : (x : ℕ) → x < layout.meta_lines setup.shape → (told : Option (List Line))
-      → ((lines : List Line) → told ≡ Some lines → KeptTrue lines)
-      → IfSome told (λ lines. IsTrueOrDirty setup.shape old.engine.cache lines old.ledger.truth x)
-      → IfSome (redone_told group told) (λ lines. IsTrueOrDirty setup.shape new.engine.cache lines new.ledger.truth x)
-  held_kept x within v2 each before = search rules
-
-  changed_held : (x : ℕ) → x < layout.meta_lines setup.shape → (told : Option (List Line))
-      → ((lines : List Line) → told ≡ Some lines → KeptTrue lines)
-      → (option_map (λ lines. stored_meta setup.shape lines x) (redone_told group told)
-      ≡ option_map (λ lines. stored_meta setup.shape lines x) told)
-      ⊎ IfSome (redone_told group told) (λ lines. IsTrueOrDirty setup.shape new.engine.cache lines new.ledger.truth x)
-  changed_held x within v2 each = search rules
-
-  -- the metadata lines
-  pub committed_metadata : ((lines : List Line) → old.device.lines ≡ Some lines → KeptTrue lines)
-      → ((bank x : ℕ) → is_cached_dirty setup.shape new.engine.cache bank x ≡ true
-      → (is_cached_dirty setup.shape old.engine.cache bank x ≡ true) ⊎ IsTouchedBy setup.shape (mark ∷ []) x)
-      → KeepsMeta setup (mark ∷ []) old new
-  committed_metadata each dirty = search rules
-
--- ---- a group finished
-
--- ---- the part of a call
-
-module _ (setup : Setup) (group : List (ℕ × Line)) (mark : Mark) (old new : Parts) (it : IsCommit setup group mark old new) where
   -- finished, it comes to the lines with the group redone
   pub comes_committed : HasCommitted group old.device new.device → lines_redone new ≡ redone_told group old.device.lines
   comes_committed done = search rules
@@ -139,32 +68,114 @@ module _ (setup : Setup) (group : List (ℕ × Line)) (mark : Mark) (old new : P
   pub comes_armed : IsCutArmed group old.device new.device → lines_redone new ≡ redone_told group old.device.lines
   comes_armed armed = ap (λ items. redone_told items new.device.lines) armed.armed ∙ armed.again
 
-  -- it went on
-  pub done_committed : HasCommitted group old.device new.device → (AreTrusted setup old → AreTrusted setup new)
+  abbrev Keeps : List Line → Type 0
+  Keeps lines = KeepsOver setup mark (regs_of old).loss old.engine new.engine old.ledger new.ledger lines (redone group lines)
+
+  keeps : AreTrusted setup old → (lines : List Line) → old.device.lines ≡ Some lines → Keeps lines
+  keeps trusted lines told =
+      kept_over setup mark page written block old.engine new.engine (regs_of old) old.ledger new.ledger lines (redone group lines)
+      (step_over lines told) (it.truth trusted) it.noted.marks
+
+  module _ (comes : lines_redone new ≡ redone_told group old.device.lines) where
+    stood : lines_redone old ≡ old.device.lines
+    stood = ap (λ items. redone_told items old.device.lines) it.unarmed ∙ redone-nil old.device.lines
+
+    -- place by place
+    places_kept : ((lines : List Line) → old.device.lines ≡ Some lines → Keeps lines) → KeepsPlaces setup (mark ∷ []) old new
+    places_kept each = search rules
+
+    -- what is stored of a counter block
+    counters_kept : (other : ℕ) → ((lines : List Line) → old.device.lines ≡ Some lines → Keeps lines)
+        → HoldsCounters setup old other → HoldsCounters setup new other
+    counters_kept other each before = search rules
+
+    -- the metadata lines
+    metadata_kept : ((lines : List Line) → old.device.lines ≡ Some lines → Keeps lines)
+        → ((bank x : ℕ) → is_cached_dirty setup.shape new.engine.cache bank x ≡ true
+        → (is_cached_dirty setup.shape old.engine.cache bank x ≡ true) ⊎ IsTouchedBy setup.shape (mark ∷ []) x)
+        → KeepsMeta setup (mark ∷ []) old new
+    metadata_kept each dirty = search rules
+
+    -- a block that is in the group is the true one
+    pub block_true : AreTrusted setup old → written ≡ true
+        → meta_line_in setup.shape new (counter_position setup.shape page)
+        ≡ option_map (λ lines. line_at new.ledger.truth (counter_position setup.shape page)) (lines_redone new)
+    block_true trusted is = subst (λ told. option_map (λ lines. stored_meta setup.shape lines x) told ≡ option_map (λ lines. line_at new.ledger.truth x) told) (sym comes) (at old.device.lines refl)
+      where
+        x : ℕ
+        x = counter_position setup.shape page
+
+        here : writes_block setup.shape page written x ≡ true
+        here = ap (λ b. b && (x == x)) is ∙ eq-eqb x x refl
+
+        at : (told : Option (List Line)) → old.device.lines ≡ told
+            → option_map (λ lines. stored_meta setup.shape lines x) (redone_told group told)
+            ≡ option_map (λ lines. line_at new.ledger.truth x) (redone_told group told)
+        at None told = refl
+        at (Some lines) told = ap Some ((step_over lines told).its_block x here ∙ sym ((it.truth trusted).its_block x here))
+
+  -- ---- the part of a call
+
+  -- it went on, ..
+  going_on : HasCommitted group old.device new.device → (AreTrusted setup old → AreTrusted setup new)
       → (AreSound setup old → AreSound setup new) → (AreTrusted setup old → KeepsPlaces setup (mark ∷ []) old new)
       → (AreTrusted setup old → KeepsMeta setup (mark ∷ []) old new)
       → (AreTrusted setup old → (page : ℕ) → page < layout.pages setup.shape → HoldsCounters setup old page → HoldsCounters setup new page)
-      → OneLossEffect setup going (mark ∷ []) old new
-  done_committed done trusted sound places metadata counters = search rules
+      → IsGroup (layout.device_lines setup.shape) (regs_of new).group.items → OneLossEffect setup going (mark ∷ []) old new
+  going_on done trusted sound places metadata counters group = search rules
 
-  -- or was cut while the group was armed
-  pub done_cut_armed : IsCutArmed group old.device new.device
-      → (AreTrusted setup old → IsAnchored setup (regs_of new) new.ledger)
-      → (AreSound setup old → AreDurable setup new) → (AreTrusted setup old → KeepsPlaces setup (mark ∷ []) old new)
-      → (AreTrusted setup old → (page : ℕ) → page < layout.pages setup.shape → HoldsCounters setup old page → HoldsCounters setup new page)
-      → OneLossEffect setup cut_short (mark ∷ []) old new
-  done_cut_armed armed anchored durable places counters = search rules
-
-  -- sound of the told lines, once the group is finished
-  pub sound_committed : HasCommitted group old.device new.device
+  sound_over : HasCommitted group old.device new.device
       → ((lines : List Line) → old.device.lines ≡ Some lines → IsSound setup old.engine lines (regs_of old) old.ledger
       → IsSound setup new.engine (redone group lines) (regs_of new) new.ledger)
       → AreSound setup old → AreSound setup new
-  sound_committed done each sound = search rules
+  sound_over done each sound = search rules
 
-  -- durable of the told lines, while it is armed
-  pub durable_armed : IsCutArmed group old.device new.device → IsDevice new.device
+  pub done_committed : HasCommitted group old.device new.device → OneLossEffect setup going (mark ∷ []) old new
+  done_committed done =
+      going_on done
+      (λ trusted.
+      trusted_after setup mark page written block old.engine new.engine (regs_of old) old.ledger new.ledger
+      (it.truth trusted) (regs_of new) trusted (it.anchored trusted empty) done.no_group)
+      (sound_over done
+      (λ lines told sound.
+      sound_after setup mark page written block old.engine new.engine (regs_of old) old.ledger new.ledger lines (redone group lines)
+      (step_over lines told) (it.truth sound.trusted) it.noted.marks sound (regs_of new)
+      (AreLinesOf-redone (layout.device_lines setup.shape) group lines it.is_group.lines_range (whole_lines lines told))
+      done.no_group it.loss (it.anchored sound.trusted empty)))
+      (λ trusted. places_kept (comes_committed done) (keeps trusted))
+      (λ trusted. metadata_kept (comes_committed done) (keeps trusted) (it.truth trusted).touched)
+      (λ trusted other within. counters_kept (comes_committed done) other (keeps trusted))
+      empty
+    where
+      empty : IsGroup (layout.device_lines setup.shape) (regs_of new).group.items
+      empty =
+          subst (IsGroup (layout.device_lines setup.shape)) (sym done.no_group) (IsGroup-nil (layout.device_lines setup.shape))
+
+  -- .. or was cut while the group was armed
+  cut_amid : IsCutArmed group old.device new.device
+      → (AreTrusted setup old → IsAnchored setup (regs_of new) new.ledger)
+      → (AreSound setup old → AreDurable setup new) → (AreTrusted setup old → KeepsPlaces setup (mark ∷ []) old new)
+      → (AreTrusted setup old → (page : ℕ) → page < layout.pages setup.shape → HoldsCounters setup old page → HoldsCounters setup new page)
+      → IsGroup (layout.device_lines setup.shape) (regs_of new).group.items → OneLossEffect setup cut_short (mark ∷ []) old new
+  cut_amid armed anchored durable places counters group = search rules
+
+  durable_over : IsCutArmed group old.device new.device → IsDevice new.device
       → ((lines : List Line) → old.device.lines ≡ Some lines → IsSound setup old.engine lines (regs_of old) old.ledger
       → IsDurable setup lines (regs_of new) new.ledger)
       → AreSound setup old → AreDurable setup new
-  durable_armed armed whole each sound = search rules
+  durable_over armed whole each sound = search rules
+
+  pub done_cut : IsDevice new.device → IsCutArmed group old.device new.device → OneLossEffect setup cut_short (mark ∷ []) old new
+  done_cut whole armed =
+      cut_amid armed (λ trusted. it.anchored trusted armed_group)
+      (durable_over armed whole
+      (λ lines told sound.
+      durable_while_armed setup mark page written block old.engine new.engine (regs_of old) old.ledger new.ledger lines
+      (redone group lines) (step_over lines told) (it.truth sound.trusted) it.noted.marks sound group (regs_of new) refl
+      armed.armed it.loss (it.anchored sound.trusted armed_group)))
+      (λ trusted. places_kept (comes_armed armed) (keeps trusted))
+      (λ trusted other within. counters_kept (comes_armed armed) other (keeps trusted))
+      armed_group
+    where
+      armed_group : IsGroup (layout.device_lines setup.shape) (regs_of new).group.items
+      armed_group = subst (IsGroup (layout.device_lines setup.shape)) (sym armed.armed) it.is_group

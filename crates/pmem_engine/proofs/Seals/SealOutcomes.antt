@@ -1,5 +1,5 @@
 -- The exits of a seal under the next counter: its tag line isn't read, its group is cut, or the line is sealed.
-use Rattle.std.proofs.Common.{rules, ℕ, ◌≡◌, ◌<◌, ◌≤◌, ◌+◌, ◌%◌, ◌++◌, inl, inr, Bool, true, false, List, [], ◌∷◌, length, IsTrue, Some, Ok, Err, cond, refl, sym, ap, ap₂, subst, subst₂, ◌∙◌, arith}
+use Rattle.std.proofs.Common.{rules, ℕ, ◌≡◌, ◌<◌, ◌≤◌, ◌+◌, ◌%◌, ◌++◌, inl, inr, Bool, true, false, List, [], ◌∷◌, length, IsTrue, Some, Ok, Err, cond, refl, sym, ap, subst, subst₂, ◌∙◌, arith}
 use Rattle.std.specs.Prelude.{option_map, ◌↔◌, ◌==◌, if◌then◌else◌}
 use Rattle.std.specs.List.{list_any}
 use Rattle.std.proofs.lemmas.Bool.{true≢false, cond-true, cond-false}
@@ -14,11 +14,10 @@ use Rattle.pmem_base.specs.Layout.{page_of, index_in_page}
 use Rattle.pmem_base.specs.Lines.{IsLine, IsCtr, line_at}
 use Rattle.suite.specs.Formulas.{AreInRange}
 use Rattle.suite.specs.Setup.{Setup}
-use Rattle.split_counters.specs.declared.Block.{Block}
-use Rattle.split_counters.specs.Blocks.{packed, unpacked, minor_of, with_minor}
+use Rattle.split_counters.specs.Blocks.{packed, minor_of}
 use Rattle.bonsai_tree.specs.Positions.{counter_position}
 use Rattle.board.specs.Counts.{RisesBy}
-use Rattle.board.specs.Device.{Device, IsDevice, AreToldLines}
+use Rattle.board.specs.Device.{Device, IsDevice}
 use Rattle.board.specs.Steps.{HasRead, WasCut, Tells}
 use Rattle.commit_regs.specs.Groups.{redone_told}
 use Rattle.seal_ledger.specs.Ledger.{LedgerState}
@@ -31,7 +30,6 @@ use Rattle.plain_model.specs.Bounds.{path_length}
 use Rattle.pmem_engine.specs.declared.fault.Fault.TheVariants as Fail
 use Rattle.pmem_engine.specs.declared.resealing.NextSeal.{NextSeal}
 use Rattle.pmem_engine.specs.Engine.{EngineState}
-use Rattle.pmem_engine.specs.Truth.{true_block}
 use Rattle.pmem_engine.specs.Invariants.{IsTrusted, stored_meta}
 use Rattle.pmem_engine.specs.Parts.{Parts, parts_of, lines_redone, AreTrusted, meta_line_in}
 use Rattle.pmem_engine.specs.Outcomes.{going, cut_short, is_going, outcome_of, is_sealed_by, NeverFalls, OneLossEffect}
@@ -42,13 +40,14 @@ use Rattle.pmem_engine.specs.Sealing.{next_counter_of, raised_block, seal_steps,
 use Rattle.pmem_engine.proofs.CallEnds.CallChains.{done_chained}
 use Rattle.pmem_engine.proofs.Laws.PlainLines.{plain_line-sealed, plain_line-other}
 use Rattle.pmem_engine.proofs.CheckedReads.UnsealedLines.{risen_never_falls}
-use Rattle.pmem_engine.proofs.PageLines.LineReseals.{sealed_here, unsealed_other}
+use Rattle.pmem_engine.proofs.Laws.DeviceSteps.{sealed_here, unsealed_other}
 use Rattle.pmem_engine.proofs.Seals.NextPaths.{times_never_fall}
 use Rattle.pmem_engine.proofs.Seals.KeptSlots.{kept_same}
-use Rattle.pmem_engine.proofs.Seals.StoredPaths.{cached_true_line, cached_lines_true, path_number_kept, kept_named}
+use Rattle.pmem_engine.proofs.Seals.StoredPaths.{block_clean, path_number_kept, kept_named}
 use Rattle.pmem_engine.proofs.CallEnds.MetaLines.{committed_at, seal_off_meta}
 use Rattle.pmem_engine.proofs.CallEnds.ShadowLines.{shadow_still, committed_off, armed_off, seal_off, told_off, undue_off}
-use Rattle.pmem_engine.proofs.Seals.PathSeals.{IsPathSealing, done_sealed, cut_sealed, sealed_line_true, sealed_clean}
+use Rattle.pmem_engine.proofs.Seals.GroupCommits.{IsCommit, block_true, comes_committed, done_committed, done_cut}
+use Rattle.pmem_engine.proofs.Seals.PathSeals.{IsPathSealing, sealing}
 use Rattle.commit_regs.proofs.GroupLemmas.{redone-nil}
 
 module _ (setup : Setup) (at : ℕ) (plain : Line) (engine : EngineState) (old : Device) (before : LedgerState) (tags digests : ℕ)
@@ -185,35 +184,24 @@ module _ (setup : Setup) (at : ℕ) (plain tag_line : Line) (persisted : Bool) (
           ∙ sym (cond-false (is_sealed_by (mark ∷ []) a) (Some plain) (plain_line setup.formulas before.marks a) is)
 
   module _ (done : HasPathSealed setup.shape next persisted block lines root engine engine_now mid.regs new.regs before after) where
-    block_true : IsTrusted setup engine mid.regs before
-        → cached_block setup.shape engine (page_of at) ≡ true_block setup.shape before.truth (page_of at)
-    block_true trusted =
-        ap unpacked
-        (cached_true_line setup.shape engine.cache before.truth (page_of at) done.stored.banks_before trusted.cached_true cached)
-
-    sealing : IsPathSealing setup next ctr.minor persisted block lines root engine mid before
-    sealing =
+    is_sealing : IsPathSealing setup at tag_line persisted lines root engine mid
+    is_sealing =
         record {
+          path = record { few = few; in_range = in_range; inside = omega (arith, inside); cached = cached; named = named; renewed = renewed };
           its_line = inside;
-          few = few;
-          in_range = in_range;
-          its_minor = omega (arith, minor_low);
-          tagged = refl;
-          tags = tag_line;
-          tags_read = subst (λ o. Tells o (layout.tag_line setup.shape at) tag_line) (sym read.lines) read.tells;
-          tag_line = refl;
+          low = minor_low;
+          tag_line_read = subst (λ o. Tells o (layout.tag_line setup.shape at) tag_line) (sym read.lines) read.tells;
           rest =
               search rules;
-          cached = cached;
-          named = named;
-          counter =
-              λ trusted. ap (λ (b : Block). record { major = b.major; minor = ctr.minor }) (block_true trusted);
-          new_block =
-              λ trusted. ap (λ b. packed (with_minor b (index_in_page at) ctr.minor)) (block_true trusted);
-          raised = λ trusted. ap (λ b. minor_of b (index_in_page at) + 1) (block_true trusted);
-          renewed =
-              λ trusted. renewed before.truth (cached_lines_true setup.shape engine.cache before.truth trusted.cached_true);
+          unarmed = mid_unarmed;
+          whole = device;
+          size = mid_size;
         }
+
+    commit : IsCommit setup group mark (page_of at) persisted block middle final
+    commit =
+        sealing setup at plain tag_line persisted lines root engine engine_now mid new before after tags digests tags_now digests_now
+        is_sealing done never_tags never_digests
 
     trusted_mid : AreTrusted setup first → IsTrusted setup engine mid.regs before
     trusted_mid trusted = was_read.gone.trusted trusted
@@ -236,8 +224,7 @@ module _ (setup : Setup) (at : ℕ) (plain tag_line : Line) (persisted : Bool) (
           made = mark ∷ [];
           done =
               done_chained setup cut_short [] (mark ∷ []) first middle final was_read
-              (cut_sealed setup next ctr.minor persisted block lines root engine engine_now mid new before after tags digests tags_now
-              digests_now sealing done mid_unarmed device device_now mid_size never_tags never_digests armed);
+              (done_cut setup group mark (page_of at) persisted block middle final commit device_now armed);
           marks = inr refl;
           plain_now = plain_after done.noted.marks;
           path_cached = λ ok. absurd (true≢false (sym ok));
@@ -274,8 +261,7 @@ module _ (setup : Setup) (at : ℕ) (plain tag_line : Line) (persisted : Bool) (
           made = mark ∷ [];
           done =
               done_chained setup going [] (mark ∷ []) first middle final was_read
-              (done_sealed setup next ctr.minor persisted block lines root engine engine_now mid new before after tags digests tags_now
-              digests_now sealing done mid_unarmed device mid_size never_tags never_digests finished);
+              (done_committed setup group mark (page_of at) persisted block middle final commit finished);
           marks = (refl, refl);
           plain_now = plain_after done.noted.marks;
           path_cached = λ ok. done.stored.cached;
@@ -317,19 +303,17 @@ module _ (setup : Setup) (at : ℕ) (plain tag_line : Line) (persisted : Bool) (
               λ trusted ok zero.
               record {
                 line =
-                    ap (option_map (λ ls. stored_meta setup.shape ls position)) comes
-                    ∙ sealed_line_true setup next ctr.minor persisted block lines root engine engine_now mid new before after tags digests
-                    tags_now digests_now sealing done (trusted_mid trusted) (sym is_due ∙ zero) mid.lines refl
-                    (subst (λ size. AreToldLines size mid.lines) mid_size device)
-                    ∙ ap (option_map (λ ls. line_at after.truth position)) (sym finished.lines);
+                    block_true setup group mark (page_of at) persisted block middle final commit comes (trusted_mid trusted)
+                    (sym is_due ∙ zero)
+                    ∙ ap (option_map (λ ls. line_at after.truth position)) (comes ∙ sym finished.lines);
                 clean =
-                    sealed_clean setup next ctr.minor persisted block lines root engine engine_now mid new before after tags digests
-                    tags_now digests_now sealing done (trusted_mid trusted) (sym is_due ∙ zero);
+                    block_clean setup (page_of at) (raised_block setup.shape engine at) lines root mark persisted engine engine_now
+                    mid.regs before after is_sealing.path done.stored done.noted (trusted_mid trusted) (sym is_due ∙ zero);
               };
         }
       where
         comes : lines_redone final ≡ redone_told group mid.lines
-        comes = ap₂ redone_told finished.no_group finished.lines ∙ redone-nil (redone_told group mid.lines)
+        comes = comes_committed setup group mark (page_of at) persisted block middle final commit finished
 
         path_named : IsPathNamedInMirror setup.shape engine_now (page_of at)
         path_named = kept_named setup.shape (page_of at) persisted lines engine engine_now done.stored cached named

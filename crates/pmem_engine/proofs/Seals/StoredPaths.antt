@@ -1,33 +1,47 @@
--- A page's new path stored in the cache, as the laws on the device ask for it.
-use Rattle.std.proofs.Common.{rules, ℕ, ◌≡◌, ◌<◌, ◌≤◌, ◌+◌, ◌*◌, inl, inr, Bool, true, false, List, length, refl, sym, ap, ap₂, subst, subst₂, ◌∙◌, arith}
-use Rattle.std.specs.Prelude.{not, ◌||◌, nat_lt, option_map, unwrap_or, All, Contains}
-use Rattle.std.proofs.lemmas.Bool.{cases_Bool, true≢false, false≢true, lt-ltb, le-ltb}
+-- A page's new path stored in the cache and noted: the truth step that it makes, and what stays of its slots.
+use Rattle.std.proofs.Common.{rules, ℕ, ◌≡◌, ◌<◌, ◌≤◌, ◌+◌, ◌*◌, inl, inr, Bool, true, false, List, [], ◌∷◌, length, IsTrue, refl, sym, ap, ap₂, subst, subst₂, ◌∙◌, arith}
+use Rattle.std.specs.Prelude.{not, ◌||◌, ◌==◌, nat_lt, option_map, unwrap_or, All, Contains}
+use Rattle.std.specs.List.{list_any}
+use Rattle.std.proofs.lemmas.Bool.{cases_Bool, cases_eq, and_parts, eq-eqb, eqb-true, eqb-false, true≢false, false≢true, lt-ltb, le-ltb}
 use Rattle.pmem_base.specs.declared.lines.Line.{Line}
+use Rattle.pmem_base.specs.declared.registers.Regs.{Regs}
+use Rattle.pmem_base.specs.declared.answers.Mark.{Mark}
 use Rattle.pmem_base.specs.Shape.{Shape}
-use Rattle.pmem_base.specs.Layout.{meta_lines}
-use Rattle.pmem_base.specs.Lines.{line_at, zero_line}
-use Rattle.suite.specs.Formulas.{Formulas}
+use Rattle.pmem_base.specs.Layout.{meta_lines, pages}
+use Rattle.pmem_base.specs.Lines.{line_at, zero_line, put_lines}
+use Rattle.suite.specs.Formulas.{Formulas, AreInRange}
+use Rattle.suite.specs.Setup.{Setup}
+use Rattle.split_counters.specs.declared.Block.{Block}
+use Rattle.split_counters.specs.Blocks.{packed, unpacked, IsStoredBlock}
 use Rattle.bonsai_tree.specs.Positions.{level_of, counter_position, is_on_path}
-use Rattle.bonsai_tree.specs.Paths.{path_with, lines_with}
+use Rattle.bonsai_tree.specs.Paths.{IsTreeWith, path_with, lines_with}
 use Rattle.bonsai_tree.proofs.Trees.{path_with-entries}
 use Rattle.bonsai_tree.proofs.PathPositions.{on_path-level, path_of-on_path, path_of-block}
+use Rattle.seal_ledger.specs.Ledger.{LedgerState}
 use Rattle.shadow_tables.specs.Entries.{slot_entry}
 use Rattle.meta_cache.specs.declared.slot.Slot.{Slot}
 use Rattle.meta_cache.specs.Banks.{Banks, set_of, set_index, slot_number, is_cached, is_cached_dirty, IsBanksOf}
 use Rattle.meta_cache.specs.Sets.{slot_with}
-use Rattle.meta_cache.proofs.SlotLemmas.{All-stands, dirty_slot, cached_slot, is_cached_dirty_from, slot_with-is}
+use Rattle.meta_cache.proofs.SlotLemmas.{All-stands, All-from_stands, dirty_slot, cached_slot, is_cached_dirty_from, slot_with-is}
 use Rattle.meta_path.specs.Blocks.{path_at, number_in, line_in}
 use Rattle.meta_path.specs.Blocks as meta
 use Rattle.meta_path.specs.Naming.{path_number}
-use Rattle.meta_path.specs.Storing.{new_line, stored_mark}
+use Rattle.meta_path.specs.Storing.{IsRenewed, new_line, stored_mark}
 use Rattle.meta_path.specs.Storing as storing
 use Rattle.meta_path.proofs.StoreLemmas.{length-path_lines, position_of}
 use Rattle.pmem_engine.specs.Engine.{EngineState}
-use Rattle.pmem_engine.specs.Invariants.{IsTrueSlot}
-use Rattle.pmem_engine.specs.Recached.{IsPathDirty, ArePathNodesDirty, IsSlotOfStoredPath, IsPathStored}
+use Rattle.pmem_engine.specs.Truth.{true_block}
+use Rattle.pmem_engine.specs.Invariants.{IsTrueSlot, IsDirtyNamed, IsTrusted}
+use Rattle.pmem_engine.specs.Recached.{IsSlotOfStoredPath}
+use Rattle.pmem_engine.specs.Named.{IsSlotInShadow, ArePathSlotsNamed}
+use Rattle.pmem_engine.specs.Outcomes.{is_touching}
 use Rattle.pmem_engine.specs.Calls.{IsPathNamedInMirror}
-use Rattle.pmem_engine.specs.Sealing.{HasStoredPath}
-use Rattle.pmem_engine.proofs.Laws.PathSlots.{IsPathDirty-levels, ArePathNodesDirty-levels}
+use Rattle.pmem_engine.specs.Inner.{cached_block}
+use Rattle.pmem_engine.specs.Sealing.{HasStoredPath, HasNotedPath}
+use Rattle.pmem_engine.proofs.Laws.AnchoredSeals.{anchored-new_path}
+use Rattle.pmem_engine.proofs.Laws.PathSlots.{ArePathSlotsNamed-levels}
+use Rattle.pmem_engine.proofs.Laws.DeviceSteps.{writes_block}
+use Rattle.pmem_engine.proofs.Laws.TruthSteps.{IsTruthStep}
 
 -- the cached line of a page's counter block is the true one
 pub cached_true_line : (g : Shape) (cache : Banks) (truth : List Line) (page : ℕ) → IsBanksOf g cache
@@ -55,45 +69,86 @@ pub cached_lines_true : (g : Shape) (cache : Banks) (truth : List Line)
     → ((bank set : ℕ) → All (IsTrueSlot g truth bank set) (set_of cache bank set)) → meta.AreCachedTrue cache truth
 cached_lines_true g cache truth true_slots = search rules
 
--- the slots of a bank's set, by their positions
-module _ (g : Shape) (f : Formulas) (page : ℕ) (persisted : Bool) (block : Line) (lines : List (ℕ × Line)) (truth new_truth : List Line)
-    (old new : EngineState) (few : g.levels ≤ 6) (size : length truth ≡ meta_lines g)
-    (true_slots : (bank set : ℕ) → All (IsTrueSlot g truth bank set) (set_of old.cache bank set))
-    (it : HasStoredPath g page persisted lines old new) (renewed : lines ≡ path_with g f (line_at truth) page block)
-    (noted : new_truth ≡ lines_with g f truth page block) where
+-- all lines with a page's new path are those with its entries put
+put_path : (g : Shape) (f : Formulas) (truth : List Line) (page : ℕ) (block : Line) (lines : List (ℕ × Line))
+    → lines ≡ path_with g f (line_at truth) page block → put_lines lines truth ≡ lines_with g f truth page block
+unfolding lines_with
+put_path g f truth page block lines renewed = ap (λ entries. put_lines entries truth) renewed
+
+-- a page's path is about to have new lines: it is cached and named, and these are they, with this counter block
+pub record IsRenewing (setup : Setup) (page : ℕ) (new_block : Block) (lines : List (ℕ × Line)) (root : List ℕ)
+    (engine : EngineState) : Type 0 where
+  pub few : setup.shape.levels ≤ 6
+  pub in_range : AreInRange setup.formulas
+  pub inside : page < pages setup.shape
+  pub cached : meta.IsPathCached setup.shape engine.cache page
+  pub named : IsPathNamedInMirror setup.shape engine page
+  pub renewed :
+      (truth : List Line) → meta.AreCachedTrue engine.cache truth
+      → IsRenewed setup.shape setup.formulas truth page (packed new_block) lines root
+
+-- they were stored and noted
+module _ (setup : Setup) (page : ℕ) (new_block : Block) (lines : List (ℕ × Line)) (root : List ℕ) (mark : Mark) (persisted : Bool)
+    (old new : EngineState) (regs : Regs) (before after : LedgerState) (path : IsRenewing setup page new_block lines root old)
+    (it : HasStoredPath setup.shape page persisted lines old new) (noted : HasNotedPath lines mark before after)
+    (trusted : IsTrusted setup old regs before) where
+  abbrev g : Shape
+  g = setup.shape
+
+  renewed_here : IsRenewed setup.shape setup.formulas before.truth page (packed new_block) lines root
+  renewed_here = path.renewed before.truth (cached_lines_true g old.cache before.truth trusted.cached_true)
+
+  truth_is : after.truth ≡ lines_with setup.shape setup.formulas before.truth page (packed new_block)
+  truth_is = noted.truth ∙ put_path g setup.formulas before.truth page (packed new_block) lines renewed_here.lines
+
+  -- the new true lines are a tree
+  pub new_tree : (top : List ℕ) → top ≡ root
+      → IsTreeWith setup.shape setup.formulas page (packed new_block) top before.truth after.truth
+  new_tree top same =
+      anchored-new_path setup regs before page new_block top after.truth path.in_range trusted.anchored path.inside truth_is
+      (same ∙ renewed_here.root)
+
+  -- the counter block as it was cached was the true one
+  pub old_block_true : cached_block setup.shape old page ≡ true_block setup.shape before.truth page
+  old_block_true = ap unpacked (cached_true_line g old.cache before.truth page it.banks_before trusted.cached_true path.cached)
+
   -- each level's new line is the true one of its position
-  line_is : (j : ℕ) → j ≤ g.levels → new_line lines j ≡ line_at new_truth (path_at g page j)
+  line_is : (j : ℕ) → j ≤ setup.shape.levels → new_line lines j ≡ line_at after.truth (path_at setup.shape page j)
   line_is j le =
       let h : j < length lines = omega (arith, le, length-path_lines g page lines it.path) in
-      let entries : All (λ entry. line_at new_truth entry.0 ≡ entry.1) lines =
-      subst₂ (λ t xs. All (λ entry. line_at t entry.0 ≡ entry.1) xs) (sym noted) (sym renewed)
-      (path_with-entries g f truth page block size it.path.its_page) in
-      sym (entries j (0, zero_line) h) ∙ ap (line_at new_truth) (position_of g page lines j (0, zero_line) it.path h)
+      let entries : All (λ entry. line_at after.truth entry.0 ≡ entry.1) lines =
+      subst₂ (λ t xs. All (λ entry. line_at t entry.0 ≡ entry.1) xs) (sym truth_is) (sym renewed_here.lines)
+      (path_with-entries g setup.formulas before.truth page (packed new_block) trusted.anchored.of_shape.truth_count path.inside) in
+      sym (entries j (0, zero_line) h) ∙ ap (line_at after.truth) (position_of g page lines j (0, zero_line) it.path h)
 
   -- a slot is in the bank of its level
-  its_own : (bank set : ℕ) (slot : Slot) → Contains (set_of old.cache bank set) slot → IsTrueSlot g truth bank set slot
-  its_own bank set slot stands = search rules
+  its_own : (bank set : ℕ) (slot : Slot) → Contains (set_of old.cache bank set) slot
+      → IsTrueSlot setup.shape before.truth bank set slot
+  its_own bank set slot stands =
+      All-stands (IsTrueSlot g before.truth bank set) (set_of old.cache bank set) slot (trusted.cached_true bank set) stands
 
   -- a position on the path is that of its level
-  on_path_at : (bank x : ℕ) → level_of x ≡ bank → is_on_path g page x ≡ true → (bank ≤ g.levels) × (x ≡ path_at g page bank)
+  on_path_at : (bank x : ℕ) → level_of x ≡ bank → is_on_path setup.shape page x ≡ true
+      → (bank ≤ setup.shape.levels) × (x ≡ path_at setup.shape page bank)
   on_path_at bank x level on =
-      let at = on_path-level g page x few it.path.its_page on in
+      let at = on_path-level g page x path.few path.inside on in
       (subst (λ n. n ≤ g.levels) level at.0, sym at.1 ∙ ap (path_at g page) level)
 
   -- and of no other one
-  off_path_at : (bank x : ℕ) → is_on_path g page x ≡ false → (bank ≤ g.levels) × (x ≡ path_at g page bank) → ⊥
+  off_path_at : (bank x : ℕ) → is_on_path setup.shape page x ≡ false
+      → (bank ≤ setup.shape.levels) × (x ≡ path_at setup.shape page bank) → ⊥
   off_path_at bank x off at =
       false≢true (sym off ∙ ap (is_on_path g page) at.1 ∙ path_of-on_path g page bank at.0)
 
   stored_slot : (bank set : ℕ) (slot : Slot) → Contains (set_of new.cache bank set) slot
-      → IsSlotOfStoredPath g new_truth page (set_of old.cache bank set) slot
+      → IsSlotOfStoredPath setup.shape after.truth page (set_of old.cache bank set) slot
   stored_slot bank set slot stands = at (it.slots.slots_now bank set slot stands)
     where
-      at : (before : Slot) × Contains (set_of old.cache bank set) before × storing.IsStoredSlot g page persisted lines bank before slot
-          → IsSlotOfStoredPath g new_truth page (set_of old.cache bank set) slot
-      at (before, was, is) =
+      at : (first : Slot) × Contains (set_of old.cache bank set) first × storing.IsStoredSlot g page persisted lines bank first slot
+          → IsSlotOfStoredPath g after.truth page (set_of old.cache bank set) slot
+      at (first, was, is) =
           record {
-            before = before;
+            before = first;
             stands = was;
             way = sym is.way;
             position = sym is.position;
@@ -103,20 +158,20 @@ module _ (g : Shape) (f : Formulas) (page : ℕ) (persisted : Bool) (block : Lin
                 (ap (λ s. s.line) (sym same), λ dirty. ap (λ s. s.dirty) (sym same) ∙ dirty);
             on_path =
                 λ on.
-                let place = on_path_at bank slot.position (ap level_of is.position ∙ (its_own bank set before was).its_bank) on in
-                is.line place.0 place.1 ∙ line_is bank place.0 ∙ ap (line_at new_truth) (sym place.1);
+                let place = on_path_at bank slot.position (ap level_of is.position ∙ (its_own bank set first was).its_bank) on in
+                is.line place.0 place.1 ∙ line_is bank place.0 ∙ ap (line_at after.truth) (sym place.1);
           }
 
   -- a dirty block off the path stays dirty
-  still_dirty : (x : ℕ) → is_on_path g page x ≡ false → is_cached_dirty g old.cache (level_of x) x ≡ true
-      → is_cached_dirty g new.cache (level_of x) x ≡ true
+  still_dirty : (x : ℕ) → is_on_path setup.shape page x ≡ false → is_cached_dirty setup.shape old.cache (level_of x) x ≡ true
+      → is_cached_dirty setup.shape new.cache (level_of x) x ≡ true
   still_dirty x off dirty = at (dirty_slot g old.cache (level_of x) x dirty)
     where
-      from : (before : Slot) → before.position ≡ x → before.dirty ≡ true
+      from : (first : Slot) → first.position ≡ x → first.dirty ≡ true
           → (now : Slot) × Contains (set_of new.cache (level_of x) (set_index g x)) now
-          × storing.IsStoredSlot g page persisted lines (level_of x) before now
+          × storing.IsStoredSlot g page persisted lines (level_of x) first now
           → is_cached_dirty g new.cache (level_of x) x ≡ true
-      from before its was (now, stands, is) =
+      from first its was (now, stands, is) =
           let same = is.off_path (off_path_at (level_of x) now.position (ap (is_on_path g page) (is.position ∙ its) ∙ off)) in
           let position : now.position ≡ x = is.position ∙ its in
           subst (λ y. is_cached_dirty g new.cache (level_of x) y ≡ true) position
@@ -129,31 +184,37 @@ module _ (g : Shape) (f : Formulas) (page : ℕ) (persisted : Bool) (block : Lin
       at (slot, stands, its, was) =
           from slot its was (it.slots.slots_before (level_of x) (set_index g x) slot stands)
 
-  pub path_stored : IsPathStored g old new new_truth page
-  path_stored =
-      record {
-        shape = it.shape;
-        mirror = it.mirror;
-        down = it.down;
-        slots = stored_slot;
-        kept_dirty =
-            λ x h off clean.
-            elim (cases_Bool (is_cached_dirty g old.cache (level_of x) x)) [
-              | inl dirty ↦ absurd (true≢false (sym (still_dirty x off dirty) ∙ clean))
-              | inr was ↦ was
-            ];
-      }
+  -- and what is dirty off the path was so before
+  was_dirty : (bank x : ℕ) → is_on_path setup.shape page x ≡ false → is_cached_dirty setup.shape new.cache bank x ≡ true
+      → is_cached_dirty setup.shape old.cache bank x ≡ true
+  was_dirty bank x off dirty = by_slot (dirty_slot g new.cache bank x dirty)
+    where
+      from : (slot : Slot) → slot.position ≡ x → slot.dirty ≡ true
+          → IsSlotOfStoredPath g after.truth page (set_of old.cache bank (set_index g x)) slot
+          → is_cached_dirty g old.cache bank x ≡ true
+      from slot here its_dirty kept =
+          let same : kept.before.position ≡ x = kept.position ∙ here in
+          ap (is_cached_dirty g old.cache bank) (sym same)
+          ∙ is_cached_dirty_from g old.cache bank kept.before
+          (subst (λ y. Contains (set_of old.cache bank (set_index g y)) kept.before) (sym same) kept.stands)
+          ((kept.off_path (ap (is_on_path g page) here ∙ off)).1 its_dirty)
+
+      by_slot : ((slot : Slot) × Contains (set_of new.cache bank (set_index g x)) slot × (slot.position ≡ x) × (slot.dirty ≡ true))
+          → is_cached_dirty g old.cache bank x ≡ true
+      by_slot s = from s.0 s.2 s.3 (stored_slot bank (set_index g x) s.0 s.1)
 
   -- the mark of each level
-  level_mark : (j : ℕ) → j ≤ g.levels → (slot : Slot) → Contains (set_of new.cache j (set_index g (path_at g page j))) slot
-      → slot.position ≡ path_at g page j → slot.dirty ≡ stored_mark g persisted j
+  level_mark : (j : ℕ) → j ≤ setup.shape.levels → (slot : Slot)
+      → Contains (set_of new.cache j (set_index setup.shape (path_at setup.shape page j))) slot
+      → slot.position ≡ path_at setup.shape page j → slot.dirty ≡ stored_mark setup.shape persisted j
   level_mark j le slot stands its = at (it.slots.slots_now j (set_index g (path_at g page j)) slot stands)
     where
-      at : (before : Slot) × Contains (set_of old.cache j (set_index g (path_at g page j))) before
-          × storing.IsStoredSlot g page persisted lines j before slot → slot.dirty ≡ stored_mark g persisted j
-      at (before, was, is) = is.mark le its
+      at : (first : Slot) × Contains (set_of old.cache j (set_index g (path_at g page j))) first
+          × storing.IsStoredSlot g page persisted lines j first slot → slot.dirty ≡ stored_mark g persisted j
+      at (first, was, is) = is.mark le its
 
-  level_dirty : (j : ℕ) → j ≤ g.levels → stored_mark g persisted j ≡ true → is_cached_dirty g new.cache j (path_at g page j) ≡ true
+  level_dirty : (j : ℕ) → j ≤ setup.shape.levels → stored_mark setup.shape persisted j ≡ true
+      → is_cached_dirty setup.shape new.cache j (path_at setup.shape page j) ≡ true
   level_dirty j le mark = at (cached_slot g new.cache j (path_at g page j) (it.cached.each j le))
     where
       at : (slot : Slot) × Contains (set_of new.cache j (set_index g (path_at g page j))) slot × (slot.position ≡ path_at g page j)
@@ -164,18 +225,32 @@ module _ (g : Shape) (f : Formulas) (page : ℕ) (persisted : Bool) (block : Lin
           (subst (λ y. Contains (set_of new.cache j (set_index g y)) slot) (sym its) stands)
           (level_mark j le slot stands its ∙ mark))
 
-  -- the whole path is dirty where its block wasn't persisted, ..
-  pub path_dirty : persisted ≡ false → IsPathDirty g new.cache page
-  path_dirty kept =
-      IsPathDirty-levels g new.cache page few it.path.its_page
-      (λ j le. level_dirty j le (ap (λ b. nat_lt j g.levels || not b) kept ∙ any_or_true (nat_lt j g.levels)))
+  -- the path is dirty but for its block where that is written, ..
+  path_dirty : (x : ℕ) → is_on_path setup.shape page x ≡ true → writes_block setup.shape page persisted x ≡ false
+      → is_cached_dirty setup.shape new.cache (level_of x) x ≡ true
+  path_dirty x on un =
+      let at = on_path-level g page x path.few path.inside on in
+      ap (is_cached_dirty g new.cache (level_of x)) (sym at.1)
+      ∙ level_dirty (level_of x) at.0 (marked persisted un at.0 (sym at.1))
     where
       any_or_true : (b : Bool) → (b || true) ≡ true
       any_or_true true = refl
       any_or_true false = refl
 
-  -- .. and else its nodes alone
-  pub block_clean : persisted ≡ true → is_cached_dirty g new.cache g.levels (counter_position g page) ≡ false
+      marked : (b : Bool) → writes_block g page b x ≡ false → level_of x ≤ g.levels → x ≡ path_at g page (level_of x)
+          → stored_mark g b (level_of x) ≡ true
+      marked false un le at = any_or_true (nat_lt (level_of x) g.levels)
+      marked true un le at =
+          ap (λ b. b || false)
+          (lt-ltb (level_of x) g.levels
+          (elim (cases_eq (level_of x) g.levels) [
+            | inl last ↦ absurd (eqb-false x (counter_position g page) un (at ∙ ap (path_at g page) last ∙ path_of-block g page))
+            | inr less ↦ omega arith
+          ]))
+
+  -- .. which is clean then
+  pub block_clean : persisted ≡ true
+      → is_cached_dirty setup.shape new.cache setup.shape.levels (counter_position setup.shape page) ≡ false
   block_clean kept =
       elim (cases_Bool (is_cached_dirty g new.cache g.levels (counter_position g page))) [
         | inl dirty ↦ absurd (at (dirty_slot g new.cache g.levels (counter_position g page) dirty))
@@ -199,11 +274,97 @@ module _ (g : Shape) (f : Formulas) (page : ℕ) (persisted : Bool) (block : Lin
           (subst (λ y. Contains (set_of new.cache g.levels (set_index g y)) slot) (sym last) stands) (its ∙ sym last)
           ∙ unmarked)
 
-  pub nodes_dirty : persisted ≡ true → ArePathNodesDirty g new.cache page
-  nodes_dirty kept =
-      ArePathNodesDirty-levels g new.cache page few it.path.its_page
-      (λ j below. level_dirty j (omega (arith, below)) (ap (λ b. b || not persisted) (lt-ltb j g.levels below)))
-      (block_clean kept)
+  -- ---- the truth step
+
+  tree_here : IsTreeWith setup.shape setup.formulas page (packed new_block) root before.truth after.truth
+  tree_here = new_tree root refl
+
+  slots_named : ArePathSlotsNamed setup.shape old.cache old.mirror page
+  slots_named =
+      ArePathSlotsNamed-levels setup old regs before old.mirror page trusted it.banks_before path.few path.inside
+      (λ j le. path.named.each j le)
+
+  true_now : (bank set : ℕ) (slot : Slot) → IsSlotOfStoredPath setup.shape after.truth page (set_of old.cache bank set) slot
+      → IsTrueSlot setup.shape after.truth bank set slot
+  true_now bank set slot from =
+      record {
+        on_tree = subst (λ x. x < meta_lines g) from.position own.on_tree;
+        true_line =
+            elim (cases_Bool (is_on_path g page slot.position)) [
+              | inl on ↦ from.on_path on
+              | inr off ↦
+                  sym (from.off_path off).0 ∙ own.true_line ∙ ap (line_at before.truth) from.position
+                  ∙ sym (tree_here.off_path slot.position off)
+            ];
+        its_bank = ap level_of (sym from.position) ∙ own.its_bank;
+        its_set = ap (set_index g) (sym from.position) ∙ own.its_set;
+      }
+    where
+      own : IsTrueSlot g before.truth bank set from.before
+      own = its_own bank set from.before from.stands
+
+  named_now : ((bank set : ℕ) → All (IsDirtyNamed setup.shape old.mirror bank set) (set_of old.cache bank set)) → (bank set : ℕ)
+      (slot : Slot) → slot.dirty ≡ true → IsSlotOfStoredPath setup.shape after.truth page (set_of old.cache bank set) slot
+      → IsSlotInShadow setup.shape old.mirror bank set slot
+  named_now named bank set slot dirty from =
+      subst₂ (λ way x. slot_entry g old.mirror bank (set * g.ways + way) ≡ x + 1) from.way from.position
+      (elim (cases_Bool (is_on_path g page slot.position)) [
+        | inl on ↦ slots_named.each bank set from.before from.stands (ap (is_on_path g page) from.position ∙ on)
+        | inr off ↦
+            All-stands (IsDirtyNamed g old.mirror bank set) (set_of old.cache bank set) from.before (named bank set) from.stands
+            ((from.off_path off).1 dirty)
+      ])
+
+  -- a mark that may leave the path dirty, whose seal without the block keeps what is stored of that
+  pub new_path_step : (loss : ℕ) → IsTrue (list_any (is_touching page) (mark ∷ []))
+      → (persisted ≡ false → (stored : Block) → IsStoredBlock loss stored (true_block setup.shape before.truth page)
+      → IsStoredBlock loss stored (true_block setup.shape after.truth page))
+      → IsTruthStep setup mark page persisted (packed new_block) loss old new before.truth after.truth
+  new_path_step loss touches unwritten =
+      record {
+        shape = it.shape;
+        mirror = it.mirror;
+        down = it.down;
+        true_slots =
+            λ bank set.
+            All-from_stands (IsTrueSlot g after.truth bank set) (set_of new.cache bank set)
+            (λ slot stands. true_now bank set slot (stored_slot bank set slot stands));
+        named =
+            λ named bank set.
+            All-from_stands (IsDirtyNamed g old.mirror bank set) (set_of new.cache bank set)
+            (λ slot stands dirty. named_now named bank set slot dirty (stored_slot bank set slot stands));
+        touched =
+            λ bank x dirty.
+            elim (cases_Bool (is_on_path g page x)) [
+              | inl on ↦ inr (page, touches, on)
+              | inr off ↦ inl (was_dirty bank x off dirty)
+            ];
+        its_block =
+            λ x is.
+            ap (line_at after.truth) (eqb-true x (counter_position g page) (and_parts persisted (x == counter_position g page) is).1)
+            ∙ tree_here.its_block;
+        others =
+            λ x within un.
+            elim (cases_Bool (is_on_path g page x)) [
+              | inl on ↦ inl (it.banks, path_dirty x on un)
+              | inr off ↦ inr (tree_here.off_path x off, still_dirty x off)
+            ];
+        counters =
+            λ other un stored is.
+            elim (cases_eq other page) [
+              | inl same ↦
+                  subst (λ p. IsStoredBlock loss stored (true_block g after.truth p)) (sym same)
+                  (unwritten
+                  (not_written persisted (ap (λ p. writes_block g page persisted (counter_position g p)) (sym same) ∙ un))
+                  stored (subst (λ p. IsStoredBlock loss stored (true_block g before.truth p)) same is))
+              | inr apart ↦
+                  subst (λ line. IsStoredBlock loss stored (unpacked line)) (sym (tree_here.other_blocks other apart)) is
+            ];
+      }
+    where
+      not_written : (b : Bool) → writes_block g page b (counter_position g page) ≡ false → b ≡ false
+      not_written false un = refl
+      not_written true un = absurd (true≢false (sym (eq-eqb (counter_position g page) (counter_position g page) refl) ∙ un))
 
 -- ---- the numbers of the path's slots stay
 

@@ -22,11 +22,12 @@ use Rattle.pmem_engine.specs.Calls.{HasSetLoss}
 use Rattle.pmem_replay.specs.World.{WorldState, HasFlags, HasQueues, IsOn, IsWorld}
 use Rattle.watched_board.specs.declared.taken.Taken.{Taken}
 use Rattle.watched_board.specs.Watching.{none_taken, device_during, steps_in}
+use Rattle.watched_board.proofs.StepLaws.{fewer}
 use Rattle.pmem_replay.specs.During.{parts_in}
 use Rattle.pmem_replay.specs.Called.{IsCall}
 use Rattle.pmem_replay.proofs.Steps.WorldsAfterCalls.{on_in, cut_at_fuse, within_fuse}
 use Rattle.pmem_replay.proofs.Marks.DirtyBlocks.{dirty_blocks-le, dirty_slots-le}
-use Rattle.pmem_replay.proofs.Steps.MarklessCalls.{fewer, exactly, cut_state, accounted_in}
+use Rattle.pmem_replay.proofs.Steps.MarklessCalls.{exactly, cut_state, accounted_in}
 use Rattle.pmem_replay.proofs.Steps.FaultCauses.{counter_position-within}
 use Rattle.pmem_replay.specs.Replies.{without_marks}
 use Rattle.pmem_replay.proofs.Steps.GoodReplies.{IsGood}
@@ -127,8 +128,8 @@ module _ (setup : Setup) (old new : WorldState) (engine after : EngineState) (ta
             → MatchBool less (TakesFewer 1 (device_during old.board none_taken) (device_during new.board taken))
             (TakesFewer (dirty_now + 1) (device_during old.board none_taken) (device_during new.board taken))
             → MatchBool less (steps_in taken < 1) (steps_in taken < dirty_now + 1)
-        go true it = fewer old.board new.board taken 1 call.follows.few it
-        go false it = fewer old.board new.board taken (dirty_now + 1) call.follows.few it
+        go true it = fewer taken 1 call.follows.few it.sum
+        go false it = fewer taken (dirty_now + 1) call.follows.few it.sum
 
     cut_bounds : (less : Bool) → MatchBool less (steps_in taken < 1) (steps_in taken < dirty_now + 1)
         → AreAllWithin true (steps_in taken)

@@ -34,6 +34,7 @@ use Rattle.pmem_engine.specs.Calls.{HasReadLine}
 use Rattle.pmem_replay.specs.World.{WorldState, IsOn, view_in, lines_in}
 use Rattle.watched_board.specs.declared.taken.Taken.{Taken}
 use Rattle.watched_board.specs.Watching.{none_taken, steps_in}
+use Rattle.watched_board.proofs.StepLaws.{at_most, fewer}
 use Rattle.pmem_replay.specs.During.{parts_in}
 use Rattle.pmem_replay.specs.Called.{IsCall}
 use Rattle.pmem_replay.proofs.Steps.WorldsAfterCalls.{on_in, cut_at_fuse, within_fuse}
@@ -41,7 +42,7 @@ use Rattle.pmem_replay.proofs.Steps.FaultCauses.{on_path-within, may_differ, fet
 use Rattle.pmem_replay.specs.Replies.{without_marks}
 use Rattle.pmem_replay.proofs.Steps.GoodReplies.{IsGood}
 use Rattle.pmem_replay.proofs.Marks.DirtyBlocks.{dirty_count-le}
-use Rattle.pmem_replay.proofs.Steps.MarklessCalls.{at_most, fewer, accounted_in}
+use Rattle.pmem_replay.proofs.Steps.MarklessCalls.{accounted_in}
 
 module _ (setup : Setup) (old new : WorldState) (engine after : EngineState) (taken : Taken)
     (call : IsCall setup old new engine after taken) (port at : ℕ) (within : at < layout.data_lines setup.shape) where
@@ -52,8 +53,8 @@ module _ (setup : Setup) (old new : WorldState) (engine after : EngineState) (ta
   steps_within : (answer : Result Line Fault) → HasReadLine setup at (parts_in old engine none_taken) (parts_in new after taken) answer
       → (steps_in taken ≤ path_length setup.shape) × (steps_in taken ≤ dirty_bound setup.shape old.state)
   steps_within answer read =
-      let path = at_most old.board new.board taken (path_length setup.shape) call.follows.few (read.steps_of_path on_now.trusted.not_down).0 in
-      let dirty = at_most old.board new.board taken (dirty_count setup.shape engine.cache) call.follows.few (read.steps_of_dirty on_now.trusted.not_down).0 in
+      let path = at_most taken (path_length setup.shape) call.follows.few (read.steps_of_path on_now.trusted.not_down).0.sum in
+      let dirty = at_most taken (dirty_count setup.shape engine.cache) call.follows.few (read.steps_of_dirty on_now.trusted.not_down).0.sum in
       let few = dirty_count-le setup.shape engine.cache old.state (accounted_in setup old engine call.world on_now) in
       (path, omega (arith, dirty, few))
 
@@ -62,8 +63,8 @@ module _ (setup : Setup) (old new : WorldState) (engine after : EngineState) (ta
       → (steps_in taken < path_length setup.shape) × (steps_in taken < dirty_bound setup.shape old.state)
   cut_within read =
       let live : old.board.powered ≡ true = call.world.board.power ∙ on_now.powered in
-      let path = fewer old.board new.board taken (path_length setup.shape) call.follows.few ((read.steps_of_path on_now.trusted.not_down).1 live) in
-      let dirty = fewer old.board new.board taken (dirty_count setup.shape engine.cache) call.follows.few ((read.steps_of_dirty on_now.trusted.not_down).1 live) in
+      let path = fewer taken (path_length setup.shape) call.follows.few ((read.steps_of_path on_now.trusted.not_down).1 live).sum in
+      let dirty = fewer taken (dirty_count setup.shape engine.cache) call.follows.few ((read.steps_of_dirty on_now.trusted.not_down).1 live).sum in
       let few = dirty_count-le setup.shape engine.cache old.state (accounted_in setup old engine call.world on_now) in
       (path, omega (arith, dirty, few))
 

@@ -31,11 +31,12 @@ use Rattle.pmem_engine.specs.Calls.{HasTurned}
 use Rattle.pmem_replay.specs.World.{WorldState, HasFlags, HasQueues, IsOn, IsWorld, view_in, lines_in}
 use Rattle.watched_board.specs.declared.taken.Taken.{Taken}
 use Rattle.watched_board.specs.Watching.{none_taken, steps_in}
+use Rattle.watched_board.proofs.StepLaws.{fewer}
 use Rattle.pmem_replay.specs.During.{parts_in}
 use Rattle.pmem_replay.specs.Called.{IsCall}
 use Rattle.pmem_replay.proofs.Steps.WorldsAfterCalls.{on_in, cut_at_fuse, within_fuse}
 use Rattle.pmem_replay.proofs.Steps.FaultCauses.{stored_unspoiled, hurt_before, tag_unstored, forged_unstored, forged_other, zero_within, shown_uncut}
-use Rattle.pmem_replay.proofs.Steps.MarklessCalls.{fewer, exactly, counted_state, cut_state}
+use Rattle.pmem_replay.proofs.Steps.MarklessCalls.{exactly, counted_state, cut_state}
 use Rattle.pmem_replay.proofs.Commands.FlushLaws.{left_alone-steps}
 use Rattle.pmem_replay.proofs.Marks.OpenPages.{IsWholePage, whole_pages, lowest_within, turn_mark, reseal_quiet, reseal_untouching}
 use Rattle.pmem_replay.specs.Replies.{without_marks}
@@ -141,7 +142,7 @@ module _ (setup : Setup) (old new : WorldState) (engine after : EngineState) (ta
     pub cut-good : IsGood setup old Do.Turn (record { marks = turn.made; answer = Say.Cut (steps_in taken) })
     cut-good =
         let done = turn.done on_now.trusted.not_down in
-        let few = fewer old.board new.board taken 4 call.follows.few (turn.counts on_now.trusted.not_down) in
+        let few = fewer taken 4 call.follows.few (turn.counts on_now.trusted.not_down).sum in
         record {
           legal =
               record {

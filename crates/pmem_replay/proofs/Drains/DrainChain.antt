@@ -28,11 +28,12 @@ use Rattle.pmem_engine.specs.Calls.{HasWrittenLine, write_bound}
 use Rattle.pmem_replay.specs.World.{WorldState, IsOn, IsWorld, view_in, lines_in}
 use Rattle.watched_board.specs.declared.taken.Taken.{Taken}
 use Rattle.watched_board.specs.Watching.{none_taken, steps_in}
+use Rattle.watched_board.proofs.StepLaws.{at_most, unburnt}
 use Rattle.pmem_replay.specs.During.{parts_in}
 use Rattle.pmem_replay.specs.Called.{IsCall}
 use Rattle.pmem_replay.proofs.Steps.WorldsAfterCalls.{on_in, within_fuse}
 use Rattle.pmem_replay.proofs.Steps.FaultCauses.{stored_unspoiled, zero_within}
-use Rattle.pmem_replay.proofs.Steps.MarklessCalls.{at_most, counted_state}
+use Rattle.pmem_replay.proofs.Steps.MarklessCalls.{counted_state}
 use Rattle.pmem_replay.proofs.Marks.AfterMarks.{with_flags, touched_after, flushed_after, touched_after_mark, flushed_after_mark}
 use Rattle.pmem_replay.proofs.Marks.OpenPages.{whole_pages}
 use Rattle.pmem_replay.proofs.Marks.AskedMarks.{asked_form, asked_seals}
@@ -51,8 +52,7 @@ fuse_twice None first second = refl
 fuse_twice (Some n) first second = ap (λ (k : ℕ). Some k) (omega arith)
 
 pub fuse_none : (fuse : Option ℕ) → fuse ≡ option_map (λ n. n - 0) fuse
-fuse_none None = refl
-fuse_none (Some n) = ap (λ (k : ℕ). Some k) (omega arith)
+fuse_none fuse = sym (unburnt fuse)
 
 -- steps taken after others are within the fuse that those left
 pub fuse_more : (fuse : Option ℕ) (first second : ℕ) → IfSome fuse (λ n. first ≤ n)
@@ -202,8 +202,8 @@ module _ (setup : Setup) (old mid : WorldState) (port n : ℕ) (made : List Mark
 
     pub ok_steps : steps_in taken ≤ write_bound setup.shape written.made
     ok_steps =
-        at_most mid.board new.board taken (write_bound setup.shape written.made) call.follows.few
-        (written.steps on_mid.trusted.not_down on_mid.trusted mid.state.memory call.world.memory.each)
+        at_most taken (write_bound setup.shape written.made) call.follows.few
+        (written.steps on_mid.trusted.not_down on_mid.trusted mid.state.memory call.world.memory.each).sum
 
     part_unspoiled : write.len ≢ 64 → is_flagged mid.state.spoiled write.at ≡ false
     part_unspoiled part =

@@ -27,13 +27,17 @@ use Rattle.pmem_replay.specs.Given.{given_state, WasGiven, IsGiven, IsGivenTo, I
 use Rattle.pmem_replay.specs.World.{WorldState, IsOn, IsWorld, setup_of_world}
 use Rattle.pmem_replay.proofs.Steps.WorldsAfterCalls.{on_in}
 use Rattle.pmem_replay.proofs.Drains.DrainChain.{IsDrainedTo, drained_none, ok_sealed}
-use Rattle.pmem_replay.proofs.Drains.WriteLaws.{meta-unsealed, tag-unsealed, spent-unsealed}
+use Rattle.pmem_replay.proofs.Drains.WriteLaws.{meta-made, tag-unsealed, spent_marks}
 use Rattle.pmem_replay.proofs.Drains.WriteReplies.{drain_is_writing}
 
 -- the front of a queue
 pub front_is : (queue : List Posted) (write : Posted) → slice_get queue 0 ≡ Some write → queue ≡ write ∷ drop 1 queue
 front_is [] write is = absurd (none-some write is)
 front_is (first ∷ later) write is = ap (λ (w : Posted). w ∷ later) (same_Some first write is)
+
+-- no mark is no seal
+no_seal : (made : List Mark) (at : ℕ) → made ≡ [] → is_sealed_by made at ≡ false
+no_seal made at none = ap (λ marks. is_sealed_by marks at) none
 
 abbrev pub Writes : Posted → Setup → Parts → Parts → Result Ctr Fault → Type 0
 Writes write setup old new answer = HasWrittenLine setup write old new answer
@@ -179,16 +183,18 @@ module _ (setup : Setup) (old new : WorldState) (port : ℕ) (small : port < 8) 
       (ok_sealed setup old old port 0 [] 0 drained whole small write later waits new w.engine w.after taken (call (Ok ctr) w) ctr w.related) counted
   given_to (Err (Fail.Meta x)) w put its n counted =
       as_on (Err (Fail.Meta x)) w false n refl
-      (meta-unsealed setup old old new (Do.Drain port) None port 0 [] 0 (drain_is_writing setup old port) drained whole small write later waits
-      w.engine w.after taken (call (Err (Fail.Meta x)) w) x w.related) counted
+      (no_seal w.related.made write.at
+      (meta-made setup old old new (Do.Drain port) None port 0 [] 0 (drain_is_writing setup old port) drained whole small write later waits
+      w.engine w.after taken (call (Err (Fail.Meta x)) w) x w.related)) counted
   given_to (Err (Fail.Tag at)) w put its n counted =
       as_on (Err (Fail.Tag at)) w false n refl
       (tag-unsealed setup old old new (Do.Drain port) None port 0 [] 0 (drain_is_writing setup old port) drained whole small write later waits
       w.engine w.after taken (call (Err (Fail.Tag at)) w) at w.related) counted
   given_to (Err (Fail.Spent page)) w put its n counted =
       as_on (Err (Fail.Spent page)) w false n refl
-      (spent-unsealed setup old old new (Do.Drain port) None port 0 [] 0 (drain_is_writing setup old port) drained whole small write later waits
-      w.engine w.after taken (call (Err (Fail.Spent page)) w) page w.related) counted
+      (no_seal w.related.made write.at
+      (spent_marks setup old old new (Do.Drain port) None port 0 [] 0 (drain_is_writing setup old port) drained whole small write later waits
+      w.engine w.after taken (call (Err (Fail.Spent page)) w) page w.related).1) counted
   given_to (Err Fail.Cut) w put its n counted = as_off (Err Fail.Cut) w put n refl (put_is (Err Fail.Cut) w put its) counted
   given_to (Err Fail.Down) w put its n counted = absurd (w.lawful.up tt)
   given_to (Err Fail.Shown) w put its n counted = record { given = was_given (Err Fail.Shown) w; engine = w.kept; shown = w.shown }

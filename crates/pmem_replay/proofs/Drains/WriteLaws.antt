@@ -39,21 +39,23 @@ use Rattle.pmem_engine.proofs.Laws.TrueLines.{true_line-is}
 use Rattle.pmem_replay.specs.World.{WorldState, IsOn, IsWorld, view_in, lines_in}
 use Rattle.watched_board.specs.declared.taken.Taken.{Taken}
 use Rattle.watched_board.specs.Watching.{none_taken, steps_in, step_limit}
+use Rattle.watched_board.proofs.StepLaws.{at_most, fewer}
 use Rattle.pmem_replay.specs.During.{parts_in}
 use Rattle.pmem_engine.proofs.PostedWrites.WriteParts.{last_seal-unsealed}
+use Rattle.pmem_engine.proofs.PostedWrites.StoppedWrites.{stopped}
 use Rattle.pmem_replay.proofs.Marks.SealedLines.{counter_now}
 use Rattle.pmem_replay.specs.Called.{IsCall}
 use Rattle.pmem_replay.proofs.Steps.WorldsAfterCalls.{on_in, cut_at_fuse, within_fuse}
 use Rattle.pmem_replay.proofs.Steps.FaultCauses.{on_path-within, may_differ, fetched_before, stored_unspoiled, hurt_before, tag_unstored, forged_unstored, forged_other, zero_within, shown_uncut}
 use Rattle.pmem_replay.proofs.Marks.DirtyBlocks.{dirty_count-le}
-use Rattle.pmem_replay.proofs.Steps.MarklessCalls.{at_most, fewer, accounted_in}
+use Rattle.pmem_replay.proofs.Steps.MarklessCalls.{accounted_in}
 use Rattle.pmem_replay.proofs.Marks.OpenPages.{IsWholePage, whole_pages}
 use Rattle.pmem_replay.proofs.Marks.AskedMarks.{asked_form, asked_seals, asked_few, refused_within, part_apart}
 use Rattle.plain_model.proofs.WriteMarks.{writing_bound-append}
 use Rattle.pmem_replay.proofs.Drains.DrainLists.{writing_bound-few}
 use Rattle.pmem_replay.proofs.Drains.WriteWorlds.{front_on_memory}
 use Rattle.pmem_replay.proofs.Drains.DrainChain.{IsDrainedTo, IsNextDrain, next-known, next-short, can-more, marks-more, fuse_more, fuse_cut, drains_fuse}
-use Rattle.pmem_replay.proofs.Drains.WriteReplies.{IsReplayWriting, part_none, stopped, place_refused, meta_refused, refused_part}
+use Rattle.pmem_replay.proofs.Drains.WriteReplies.{IsReplayWriting, part_none, place_refused, meta_refused, refused_part}
 use Rattle.pmem_replay.proofs.Steps.GoodReplies.{IsGood}
 use Rattle.pmem_replay.proofs.Drains.WriteBounds.{takes_meta, takes_tag, some_asked, view_both, refused_bound, refusal_within, none_within, bound_by, first_next, bound_at, CanBeRefusedIn, next_count}
 
@@ -161,8 +163,8 @@ module _ (setup : Setup) (old mid new : WorldState) (command : Command) (d : Opt
         let takes =
         subst (λ o. TakesSpent setup.shape o (parts_in mid engine none_taken) (parts_in new after taken)) goes
         (written.steps_of_spent on_mid.trusted.not_down on_mid.trusted mid.state.memory call.world.memory.each none) in
-        let path = at_most mid.board new.board taken (path_length setup.shape) call.follows.few takes.0 in
-        let dirty = at_most mid.board new.board taken (dirty_count setup.shape engine.cache) call.follows.few takes.1.0 in
+        let path = at_most taken (path_length setup.shape) call.follows.few takes.0.sum in
+        let dirty = at_most taken (dirty_count setup.shape engine.cache) call.follows.few takes.1.0.sum in
         let few = dirty_count-le setup.shape engine.cache mid.state (accounted_in setup mid engine call.world on_mid) in
         (path, omega (arith, dirty, few))
 
@@ -183,9 +185,9 @@ module _ (setup : Setup) (old mid new : WorldState) (command : Command) (d : Opt
         let powered = done.gone.power.1 (call.world.board.power ∙ on_mid.powered) in
         let in_tree = on_path-within setup.shape (page_of write.at) x (omega (arith, within)) refused.fetched.on_path in
         let other : refused.line ≢ line_at mid.ledger.truth x = λ same. refused.other_digest (ap (setup.formulas.digest_of x) same) in
-        let few = at_most mid.board new.board taken (write_bound setup.shape written.made) call.follows.few
+        let few = at_most taken (write_bound setup.shape written.made) call.follows.few
         (takes_meta setup.shape asked written.made (parts_in mid engine none_taken) (parts_in new after taken) x
-        (written.steps on_mid.trusted.not_down on_mid.trusted mid.state.memory call.world.memory.each)) in
+        (written.steps on_mid.trusted.not_down on_mid.trusted mid.state.memory call.world.memory.each)).sum in
         let it =
         refusal written.made (Place.Meta x) (spent + steps_in taken) (all_within powered)
         (meta_caused x refused.fetched.on_path
@@ -197,9 +199,6 @@ module _ (setup : Setup) (old mid new : WorldState) (command : Command) (d : Opt
         if_spent (refused_bound setup.shape n made written.made spent (steps_in taken) drained.bound few) in
         record { legal = record { legal = it.legal; shown = tt }; fits = it.fits }
 
-    pub meta-unsealed : is_sealed_by written.made write.at ≡ false
-    meta-unsealed = ap (λ marks. is_sealed_by marks write.at) meta-made
-
   module _ (b : ℕ) (written : HasWrittenLine setup write (parts_in mid engine none_taken) (parts_in new after taken) (Err (Fail.Tag b))) where
     tag_line_of : IsRefusedLine asked written.made write b
     tag_line_of = written.marks on_mid.trusted.not_down on_mid.trusted mid.state.memory call.world.memory.each
@@ -210,9 +209,9 @@ module _ (setup : Setup) (old mid new : WorldState) (command : Command) (d : Opt
         let refused = written.answered on_mid.trusted.not_down on_mid.trusted mid.state.memory call.world.memory.each in
         let done = written.done on_mid.trusted.not_down in
         let powered = done.gone.power.1 (call.world.board.power ∙ on_mid.powered) in
-        let few = at_most mid.board new.board taken (write_bound setup.shape written.made) call.follows.few
+        let few = at_most taken (write_bound setup.shape written.made) call.follows.few
         (takes_tag setup.shape asked written.made (parts_in mid engine none_taken) (parts_in new after taken) b
-        (written.steps on_mid.trusted.not_down on_mid.trusted mid.state.memory call.world.memory.each)) in
+        (written.steps on_mid.trusted.not_down on_mid.trusted mid.state.memory call.world.memory.each)).sum in
         let inside = refused_within setup.shape setup.formulas (moment_of mid.state (view_in setup mid)) write written.made b pages_whole within tag_line_of in
         let it =
         refusal written.made (Place.Line b) (spent + steps_in taken) (all_within powered)
@@ -232,7 +231,7 @@ module _ (setup : Setup) (old mid new : WorldState) (command : Command) (d : Opt
   -- ---- a spent write
 
   module _ (page : ℕ) (written : HasWrittenLine setup write (parts_in mid engine none_taken) (parts_in new after taken) (Err (Fail.Spent page))) where
-    spent_marks : (asked ≡ None) × (written.made ≡ []) × (page ≡ page_of write.at)
+    pub spent_marks : (asked ≡ None) × (written.made ≡ []) × (page ≡ page_of write.at)
     spent_marks = written.marks on_mid.trusted.not_down on_mid.trusted mid.state.memory call.world.memory.each
 
     -- its steps are those of its path alone, and of blocks that were dirty
@@ -275,9 +274,6 @@ module _ (setup : Setup) (old mid new : WorldState) (command : Command) (d : Opt
     pub spent-bound : spent + steps_in taken ≤ writing_bound setup.shape n (made ++ written.made) + spent_bound setup.shape
     spent-bound = path-bound (Err (Fail.Spent page)) written refl spent_marks.0
 
-    pub spent-unsealed : is_sealed_by written.made write.at ≡ false
-    spent-unsealed = ap (λ marks. is_sealed_by marks write.at) spent_marks.1
-
   -- ---- a cut
 
   module _ (written : HasWrittenLine setup write (parts_in mid engine none_taken) (parts_in new after taken) (Err Fail.Cut)) where
@@ -288,10 +284,10 @@ module _ (setup : Setup) (old mid new : WorldState) (command : Command) (d : Opt
 
     cut_few : (it : Option (List Mark)) → asked ≡ it → (spent + steps_in taken < bound_by setup.shape n made it) × (steps_in taken < step_limit)
     cut_few None there =
-        let path = fewer mid.board new.board taken (path_length setup.shape) call.follows.few (cut_takes None there).0 in
+        let path = fewer taken (path_length setup.shape) call.follows.few (cut_takes None there).0.sum in
         (omega (arith, path, drained.bound), omega (arith, path, call.world.whole_shape.at_most_six_levels))
     cut_few (Some marks) there =
-        let few = fewer mid.board new.board taken (write_bound setup.shape marks) call.follows.few (cut_takes (Some marks) there) in
+        let few = fewer taken (write_bound setup.shape marks) call.follows.few (cut_takes (Some marks) there).sum in
         let form = asked_form setup.shape setup.formulas (moment_of mid.state (view_in setup mid)) write marks pages_whole there in
         let low = writing_bound-few setup.shape marks call.world.whole_shape.at_most_six_levels (asked_few setup.formulas write marks form) in
         (omega (arith, few, drained.bound, writing_bound-append setup.shape n 1 made marks), omega (arith, few, low))
@@ -309,7 +305,7 @@ module _ (setup : Setup) (old mid new : WorldState) (command : Command) (d : Opt
             → MatchBool (is_none (option_map (λ more. made ++ more) it)) (steps_in taken < dirty_bound setup.shape mid.state) ⊤
         go None there =
             let live : mid.board.powered ≡ true = call.world.board.power ∙ on_mid.powered in
-            let dirty = fewer mid.board new.board taken (dirty_count setup.shape engine.cache) call.follows.few ((cut_takes None there).1.1 live) in
+            let dirty = fewer taken (dirty_count setup.shape engine.cache) call.follows.few ((cut_takes None there).1.1 live).sum in
             let few = dirty_count-le setup.shape engine.cache mid.state (accounted_in setup mid engine call.world on_mid) in
             omega (arith, dirty, few)
         go (Some marks) there = tt

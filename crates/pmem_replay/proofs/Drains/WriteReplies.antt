@@ -1,11 +1,9 @@
 -- The reply of a drain or a fence whose last write the engine refuses, finds spent, or is cut in: its marks, its
 -- causes and its bounds, and the state after it.
 use Rattle.std.proofs.Common.{rules}
-use Rattle.std.proofs.Common.{ℕ, zero, suc, ◌≡◌, ◌<◌, ◌+◌, ◌++◌, inl, inr, List, [], ◌∷◌, length, drop, Option, Some, None, IsTrue, refl, sym, ap, ap₂, subst, ◌∙◌, arith}
+use Rattle.std.proofs.Common.{ℕ, zero, suc, ◌≡◌, ◌<◌, ◌+◌, ◌++◌, inl, inr, List, [], ◌∷◌, length, Option, Some, None, IsTrue, refl, sym, ap, ap₂, subst, ◌∙◌, arith}
 use Rattle.std.specs.Prelude.{MatchOption, IsSome, is_none, unwrap_or, option_map, slice_get, nat_lt, ◌||◌}
-use Rattle.std.proofs.lemmas.Option.{slice_get_within}
 use Rattle.std.proofs.lemmas.Bool.{lt-ltb}
-use Rattle.std.proofs.lemmas.List.{drop_at}
 use Rattle.pmem_base.specs.declared.commands.Posted.{Posted}
 use Rattle.pmem_base.specs.declared.commands.Command.{Command}
 use Rattle.pmem_base.specs.declared.commands.Command.TheVariants as Do
@@ -23,8 +21,9 @@ use Rattle.pmem_base.specs.WaitingWrites.{queue_of}
 use Rattle.plain_model.specs.Answers.{is_engine_answer}
 use Rattle.plain_model.specs.Legal.{front_of, state_at_turn, line_at_turn, port_drained, IsLineOfRead}
 use Rattle.plain_model.specs.Bounds.{IsWriteWithin, IsWithinBounds}
-use Rattle.plain_model.specs.Fits.{drained_marks, next_marks, marks_in_flight, marks_still_asked, IsStopped, IsResealOf, IsPlaceInFlight, HasWriteMarks, HasMarks, IsPeekTrue}
+use Rattle.plain_model.specs.Fits.{drained_marks, next_marks, IsResealOf, IsPlaceInFlight, HasWriteMarks, HasMarks, IsPeekTrue}
 use Rattle.pmem_engine.specs.Calls.{IsPartOf, IsRefusedLine}
+use Rattle.pmem_engine.proofs.PostedWrites.StoppedWrites.{in_flight, still}
 use Rattle.pmem_replay.specs.World.{WorldState, view_in}
 use Rattle.pmem_replay.proofs.Marks.AfterMarks.{with_flags, touched_after, flushed_after, after_marks-is}
 use Rattle.pmem_replay.proofs.Steps.MarklessCalls.{counted_state}
@@ -79,49 +78,23 @@ part_none asked some =
 
 module _ (f : Formulas) (now : Moment) (queue : List Posted) (n : ℕ) (made more : List Mark) (asked : Option (List Mark)) (write : Posted)
     (place : slice_get queue n ≡ Some write) (drained : drained_marks f now queue n ≡ Some made) (next : next_marks f now queue n ≡ asked) where
-  in_flight : marks_in_flight f now queue n (made ++ more) ≡ more
-  in_flight =
-      ap (λ o. drop (length (unwrap_or o [])) (made ++ more)) drained ∙ drop_at made more (length made) refl
-
-  still : (part : IsPartOf asked more) → marks_still_asked f now queue n (made ++ more) ≡ part.left
-  still part =
-      ap₂ (λ (m : List Mark) (o : Option (List Mark)). drop (length m) (unwrap_or o [])) in_flight next
-      ∙ ap (drop (length more)) part.front
-      ∙ drop_at more part.left (length more) refl
-
-  -- the reply's marks are those of the drained writes and a part of the next one's
-  pub stopped : IsPartOf asked more → IsStopped f now queue n (made ++ more)
-  stopped part =
-      record {
-        one_waits = slice_get_within queue n write place;
-        none_spent = subst (λ o. IsSome o) (sym drained) refl;
-        all_drained =
-            ap₂ (λ (a b : List Mark). a ++ b) (sym (ap (λ o. unwrap_or o []) drained)) (sym in_flight);
-        begun =
-            ap (λ o. unwrap_or o []) next ∙ part.front
-            ∙ ap₂ (λ (a b : List Mark). a ++ b) (sym in_flight) (sym (still part));
-        not_done =
-            subst (λ o. IsTrue (is_none o || nat_lt 0 (length (marks_still_asked f now queue n (made ++ more))))) (sym next)
-            (subst (λ left. IsTrue (is_none asked || nat_lt 0 (length left))) (sym (still part)) part.not_all);
-      }
-
   -- a refused data line is the one to be sealed next, or the line of a short write
   pub place_refused : (b : ℕ) → IsRefusedLine asked more write b → IsPlaceInFlight f now queue n (made ++ more) (Place.Line b)
   place_refused b it =
       elim it [
-        | inl resealed ↦ inl (subst (IsResealOf b) (sym (still resealed.0)) resealed.1)
+        | inl resealed ↦ inl (subst (IsResealOf b) (sym (still f now queue n made more asked write place drained next resealed.0)) resealed.1)
         | inr short ↦
             inr (record {
               short =
                   subst (λ o. MatchOption o ⊥ (λ write. (write.len < 64) × (write.at ≡ b))) (sym place) (short.0, sym short.1);
-              unmarked = in_flight ∙ short.2;
+              unmarked = in_flight f now queue n made more asked write place drained next ∙ short.2;
               not_spent = subst (λ o. IsSome o) (sym next) short.3;
             })
       ]
 
   -- a refused metadata line comes before any mark
   pub meta_refused : (x : ℕ) → more ≡ [] → IsPlaceInFlight f now queue n (made ++ more) (Place.Meta x)
-  meta_refused x none = in_flight ∙ none
+  meta_refused x none = in_flight f now queue n made more asked write place drained next ∙ none
 
 -- the marks asked up to the next refusal are a part
 pub refused_part : (asked : Option (List Mark)) (made : List Mark) (write : Posted) (b : ℕ)

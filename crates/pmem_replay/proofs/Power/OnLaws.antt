@@ -1,6 +1,6 @@
 -- Powering on: recovery's answer is legal and fits, and the world goes on.
 use Rattle.std.proofs.Common.{rules}
-use Rattle.std.proofs.Common.{ℕ, mul-le-mul_left, mul-le-mul_right, ◌≡◌, ◌<◌, ◌≤◌, ◌-◌, ◌*◌, inl, inr, true, false, List, [], ◌∷◌, length, Some, None, Ok, Err, refl, sym, ap, subst, ◌∙◌, arith}
+use Rattle.std.proofs.Common.{ℕ, mul-le-mul_left, mul-le-mul_right, ◌≡◌, ◌<◌, ◌≤◌, ◌-◌, ◌*◌, inl, inr, true, false, List, length, Some, None, Ok, Err, refl, sym, ap, subst, ◌∙◌, arith}
 use Rattle.std.specs.Prelude.{All, Result, IfSome, option_map, is_some, ◌||◌}
 use Rattle.std.specs.Prelude.{◌==◌, ◌&&◌}
 use Rattle.std.specs.List.{list_any}
@@ -17,7 +17,7 @@ use Rattle.pmem_base.specs.Registers.{without_group}
 use Rattle.pmem_base.specs.WaitingWrites.{no_writes}
 use Rattle.board.specs.Device.{AreLinesOf}
 use Rattle.board.specs.Memory.{BoardMemory}
-use Rattle.commit_regs.specs.Groups.{redone, finishing_latches}
+use Rattle.commit_regs.specs.Groups.{redone}
 use Rattle.meta_cache.specs.Banks.{set_index, IsBanksOf, is_cached_dirty}
 use Rattle.meta_cache.specs.State.{empty_banks}
 use Rattle.suite.specs.Setup.{Setup}
@@ -32,9 +32,11 @@ use Rattle.pmem_recovery.specs.declared.faults.RecFault.{RecFault}
 use Rattle.pmem_recovery.specs.declared.faults.RecFault.TheVariants as Fail
 use Rattle.pmem_recovery.specs.Parts.{SuiteState}
 use Rattle.pmem_recovery.specs.Recovered.{HasRecovered, HasMended}
+use Rattle.pmem_recovery.proofs.LatchLaws.{one_latch}
 use Rattle.pmem_replay.specs.World.{WorldState, AreKept, HasSteps, IsOn, IsOff, IsWorld, IsPowered, IsOtherCipher}
 use Rattle.watched_board.specs.declared.taken.Taken.{Taken}
 use Rattle.watched_board.specs.Watching.{AreInCount, none_taken, steps_in, device_during, FollowsOn}
+use Rattle.watched_board.proofs.StepLaws.{few_exact}
 use Rattle.pmem_replay.proofs.Steps.WorldsAfterCalls.{steps-taken}
 use Rattle.pmem_replay.proofs.Marks.AfterMarks.{length-no_flags}
 use Rattle.pmem_replay.proofs.Steps.MarklessCalls.{HasQueues-none}
@@ -90,24 +92,14 @@ module _ (setup : Setup) (old new : WorldState) (left : BoardMemory) (taken : Ta
   pub off : IsOff setup old
   off = off_in setup old call.world call.was_off
 
-  abbrev group : List (ℕ × Line)
-  group = old.board.regs.group.items
-
   pub mended : HasMended setup old.ledger (device_during (lit old.board) none_taken) (device_during left taken) old.board.lines left.lines answer
   mended = call.recovered.lines old.board.lines refl left.lines refl
 
   pub exact : (taken.writes < last_count) × (taken.latches < last_count)
-  exact = (omega (arith, call.follows.few), omega (arith, call.follows.few))
-
-  pub one_latch : finishing_latches group ≤ 1
-  one_latch = go group
-    where
-      go : (group : List (ℕ × Line)) → finishing_latches group ≤ 1
-      go [] = omega arith
-      go (entry ∷ rest) = omega arith
+  exact = few_exact taken call.follows.few
 
   few_steps : steps_in taken ≤ recovery_bound setup.shape
-  few_steps = search (rules, arith, exact, one_latch)
+  few_steps = let latch = one_latch old.board.regs.group.items in search (rules, arith, exact, latch)
 
   fuse_before : old.board.fuse ≡ old.state.fuse
   fuse_before = call.world.board.fuse

@@ -34,6 +34,8 @@ use Rattle.pmem_recovery.specs.Parts.{SuiteState, IsRefusal, suite_state}
 use Rattle.pmem_recovery.specs.Trials.{first_undecided, tried_minors}
 use Rattle.pmem_recovery.specs.Fixed.{found_root}
 use Rattle.pmem_recovery.specs.Recovered.{HasRecovered, HasOnlyRedone}
+use Rattle.pmem_recovery.proofs.LatchLaws.{one_latch}
+use Rattle.pmem_recovery.proofs.UndecidedLaws.{undecided_line}
 use Rattle.pmem_replay.specs.Flagged.{Tampering, Dirtying, HasDirtyingOf, with_tampering, with_dirtying}
 use Rattle.pmem_replay.specs.World.{WorldState, WorldParts, IsOff, IsWorld, state_in, world_of, lines_in}
 use Rattle.watched_board.specs.Watching.{none_taken, steps_in, device_during}
@@ -44,8 +46,8 @@ use Rattle.pmem_replay.proofs.Steps.GoodReplies.{IsGood}
 use Rattle.pmem_replay.proofs.Steps.WorldsAfterCalls.{cut_counted, uncut_counted}
 use Rattle.pmem_base.specs.Counts.{HasRisen}
 use Rattle.pmem_replay.proofs.Steps.MarklessCalls.{counted_state, cut_state}
-use Rattle.pmem_replay.proofs.Power.OnLaws.{IsOnCall, lit, one_latch, off_in, recovered_state, cut_on_state, recovered-good, recovered-world, cut-good, cut-world}
-use Rattle.pmem_replay.proofs.Power.RefusedRecoveries.{tried_within, redone_same, counter-good, counter-world, root-good, root-world, twin-good}
+use Rattle.pmem_replay.proofs.Power.OnLaws.{IsOnCall, lit, off_in, recovered_state, cut_on_state, recovered-good, recovered-world, cut-good, cut-world}
+use Rattle.pmem_replay.proofs.Power.RefusedRecoveries.{redone_same, refused-world, counter_tampered, counter_lasting, counter-good, root_tampered, root_lasting, root-good, twin-good}
 use Rattle.pmem_replay.proofs.Steps.DeviceEvidence.{small_line}
 use Rattle.pmem_replay.proofs.Steps.PartsOfWorld.{EndsCall, ends, numbered, setup_in}
 use Rattle.pmem_replay.proofs.Steps.WorldSteps.{stepped_by_engine}
@@ -231,7 +233,7 @@ module _ (s : RecoveryCall) where
       let new = cut_new None tampering queues in
       let call = on_call (Err Fail.Cut) has new refl refl refl in
       let sum = has.steps.sum (omega (arith, s.served.watched.follows.few)) (omega (arith, s.served.watched.follows.few)) in
-      let latch : finishing_latches s.parts.board.regs.group.items ≤ 1 = one_latch setup old new s.board s.taken (Err Fail.Cut) call in
+      let latch : finishing_latches s.parts.board.regs.group.items ≤ 1 = one_latch s.parts.board.regs.group.items in
       let fewer : steps_in s.taken < recovery_bound setup.shape = omega (arith, sum, latch, s.served.going.whole.board.few_armed) in
       let dark : s.board.powered ≡ false = has.power.off in
       let loss : s.board.regs.loss ≡ s.parts.board.regs.loss =
@@ -287,11 +289,12 @@ module _ (s : RecoveryCall) where
       (subst (λ (r : Regs). IsRefusal setup (lines_in old) r (Fail.NoCounter at)) (sym has.regs) refused) in
       powered (Err (Fail.NoCounter at)) has (Say.NoCounter at (steps_in s.taken)) new
       (counter-good setup old new s.board s.taken at call)
-      (small_line setup.shape s.served.going.whole.whole_shape at (tried_within setup (lines_in old) s.parts.board.regs at refused.0), few)
+      (small_line setup.shape s.served.going.whole.whole_shape at (undecided_line setup (lines_in old) s.parts.board.regs at refused.0).0.on_device, few)
       refl refl refl s.served.going.unshown refl refl refl refl refl refl refl refl refl refl refl lasting
       (λ quiet. refl) refl
       (λ quiet. its_state)
-      (λ quiet. counter-world setup old new s.board s.taken at call its_state refl refl)
+      (λ quiet. refused-world setup old new s.board s.taken (Fail.NoCounter at) call call.recovered.regs call.recovered.unchanged
+      (counter_tampered setup old new s.board s.taken at call) (counter_lasting setup old new s.board s.taken at call) its_state refl refl)
       there
 
   pub on-counter : (rested : BoardMemory) (at : ℕ) → s.outcome ≡ Err (Fail.NoCounter at) → rested ≡ dim
@@ -320,7 +323,8 @@ module _ (s : RecoveryCall) where
       refl refl refl s.served.going.unshown refl refl refl refl refl refl refl refl refl refl refl lasting
       (λ quiet. refl) (refl, refl)
       (λ quiet. its_state)
-      (λ quiet. root-world setup old new s.board s.taken kept found call its_state refl refl)
+      (λ quiet. refused-world setup old new s.board s.taken (Fail.Root kept found) call call.recovered.regs call.recovered.unchanged
+      (root_tampered setup old new s.board s.taken kept found call) (root_lasting setup old new s.board s.taken kept found call) its_state refl refl)
       there
 
   pub on-root : (rested : BoardMemory) (kept found : List ℕ) → s.outcome ≡ Err (Fail.Root kept found) → rested ≡ dim → IsTag kept → IsTag found
@@ -346,7 +350,7 @@ module _ (s : RecoveryCall) where
       let lines : s.board.lines ≡ lines_in old = same_Some s.board.lines (lines_in old) redo.lines in
       powered (Err fault) has (Say.Shown (Show.Twin at major low high cipher tag)) new
       (twin-good setup old new s.board s.taken at major low high cipher tag call) (
-        small_line setup.shape s.served.going.whole.whole_shape at (tried_within setup (lines_in old) s.parts.board.regs at refused.0),
+        small_line setup.shape s.served.going.whole.whole_shape at (undecided_line setup (lines_in old) s.parts.board.regs at refused.0).0.on_device,
         small_major,
         omega (arith, holds.in_order, holds.in_range),
         holds.in_range,

@@ -1,8 +1,7 @@
 -- Powering on, refused: the line or the root that recovery names, and a twin.
 use Rattle.std.proofs.Common.{rules}
-use Rattle.std.proofs.Common.{ℕ, zero, suc, ◌≡◌, ◌<◌, ◌≤◌, ◌+◌, ◌-◌, ◌*◌, ◌/◌, ◌^◌, true, false, List, length, Option, Some, None, Err, IsTrue, refl, sym, ap, ap₂, subst, ◌∙◌, arith}
-use Rattle.std.specs.Prelude.{All, option_map, is_some, ◌||◌, ◌==◌, not}
-use Rattle.std.specs.List.{range_with_len}
+use Rattle.std.proofs.Common.{ℕ, zero, suc, ◌≡◌, ◌<◌, ◌≤◌, ◌+◌, ◌-◌, ◌/◌, ◌^◌, true, false, List, length, Option, Some, None, Err, IsTrue, refl, sym, ap, ap₂, subst, ◌∙◌, arith}
+use Rattle.std.specs.Prelude.{option_map, is_some, ◌||◌}
 use Rattle.std.proofs.lemmas.Option.{same_Some, none-some}
 use Rattle.std.proofs.lemmas.Bool.{or_parts, true_from_ne_false}
 use Rattle.pmem_base.specs.declared.lines.Line.{Line}
@@ -17,7 +16,6 @@ use Rattle.pmem_base.specs.Layout.{page_of}
 use Rattle.pmem_base.specs.Lines.{line_at}
 use Rattle.pmem_base.specs.Marks.{SealOf, last_seal}
 use Rattle.pmem_base.specs.Registers.{without_group}
-use Rattle.pmem_base.proofs.ListLaws.{find_found, All-into_flat_map, All-into_filter, All-into_range}
 use Rattle.bonsai_tree.specs.Positions.{counter_position}
 use Rattle.board.specs.Memory.{BoardMemory}
 use Rattle.commit_regs.specs.Groups.{redone, finishing_latches}
@@ -28,40 +26,24 @@ use Rattle.plain_model.specs.State.{is_flagged, has_flags}
 use Rattle.plain_model.specs.View.{counter_at}
 use Rattle.plain_model.proofs.Views.{counter_at-last}
 use Rattle.plain_model.specs.Shown.{IsTwinOfSeal}
-use Rattle.pmem_engine.specs.Invariants.{IsAnchored, IsSealTagged, is_named}
+use Rattle.pmem_engine.specs.Invariants.{IsAnchored, IsSealTagged}
 use Rattle.pmem_engine.proofs.Laws.TrueLines.{true_line-is}
 use Rattle.pmem_recovery.specs.declared.faults.RecFault.{RecFault}
 use Rattle.pmem_recovery.specs.declared.faults.RecFault.TheVariants as Fail
-use Rattle.pmem_recovery.specs.Trials.{first_undecided, named_pages, lines_tried, tried_minors, IsTwinOfLastSeal}
+use Rattle.pmem_recovery.specs.Trials.{IsTwinOfLastSeal}
 use Rattle.pmem_recovery.specs.Recovered.{HasOnlyRedone}
+use Rattle.pmem_recovery.proofs.LatchLaws.{one_latch}
+use Rattle.pmem_recovery.proofs.UndecidedLaws.{undecided_line}
 use Rattle.pmem_replay.specs.World.{WorldState, AreKept, IsOff, IsWorld, view_in, lines_in}
 use Rattle.watched_board.specs.declared.taken.Taken.{Taken}
 use Rattle.watched_board.specs.Watching.{none_taken, steps_in, device_during}
 use Rattle.pmem_replay.proofs.Marks.SealedLines.{last_cipher}
 use Rattle.pmem_replay.proofs.Steps.FaultCauses.{zero_within, counter_position-within}
 use Rattle.pmem_replay.proofs.Steps.MarklessCalls.{counted_state}
-use Rattle.pmem_replay.proofs.Power.OnLaws.{IsOnCall, lit, off, mended, exact, one_latch, within_lasting, left_lines, left_steps}
+use Rattle.pmem_replay.proofs.Power.OnLaws.{IsOnCall, lit, off, mended, exact, within_lasting, left_lines, left_steps}
 use Rattle.pmem_replay.proofs.Steps.SameWorld.{same_world}
 use Rattle.pmem_replay.specs.Replies.{without_marks}
 use Rattle.pmem_replay.proofs.Steps.GoodReplies.{IsGood}
-
--- ---- a line that recovery tries
-
-all_tried : (g : Shape) (lines : List Line) → All (λ a. a < layout.data_lines g) (lines_tried g lines)
-all_tried g lines =
-    All-into_flat_map (λ a. a < layout.data_lines g) (λ page. range_with_len (64 * page) 64) (named_pages g lines)
-    (All-into_filter (λ page. is_named g lines (counter_position g page)) (λ page. All (λ a. a < layout.data_lines g) (range_with_len (64 * page) 64))
-    (range_with_len 0 (layout.pages g))
-    (All-into_range (λ page. is_named g lines (counter_position g page) ≡ true → All (λ a. a < layout.data_lines g) (range_with_len (64 * page) 64))
-    0 (layout.pages g)
-    (λ page low high named.
-    All-into_range (λ a. a < layout.data_lines g) (64 * page) 64 (λ a first last. omega (arith, first, last, high)))))
-
--- is a data line
-pub tried_within : (setup : Setup) (lines : List Line) (regs : Regs) (a : ℕ) → first_undecided setup lines regs ≡ Some a → a < layout.data_lines setup.shape
-tried_within setup lines regs a found =
-    (find_found (λ a. not (length (tried_minors setup lines regs a) == 1)) (λ a. a < layout.data_lines setup.shape)
-    (lines_tried setup.shape lines) a (all_tried setup.shape lines) found).1
 
 -- ---- a refusal that has done nothing but the redo
 
@@ -77,7 +59,7 @@ module _ (setup : Setup) (old new : WorldState) (left : BoardMemory) (taken : Ta
       let exact = exact setup old new left taken (Err fault) call in
       let writes : taken.writes ≡ 0 + length old.board.regs.group.items = redo.writes.exact exact.0 in
       let latches : taken.latches ≡ 0 + finishing_latches old.board.regs.group.items = redo.latches.exact exact.1 in
-      omega (arith, writes, latches, one_latch setup old new left taken (Err fault) call, call.world.board.few_armed)
+      omega (arith, writes, latches, one_latch old.board.regs.group.items, call.world.board.few_armed)
 
   -- the lines are those that were redone
   pub redone_same : redone left.regs.group.items left.lines ≡ lines_in old
@@ -148,7 +130,7 @@ module _ (setup : Setup) (old new : WorldState) (left : BoardMemory) (taken : Ta
   abbrev counter_off : IsOff setup old
   counter_off = off setup old new left taken (Err (Fail.NoCounter at)) call
 
-  counter_lasting : left.powered ≡ true
+  pub counter_lasting : left.powered ≡ true
   counter_lasting = call.recovered.power.live refl
 
   pub counter_tampered : has_flags old.state.named ≡ false → ⊥
@@ -171,7 +153,7 @@ module _ (setup : Setup) (old new : WorldState) (left : BoardMemory) (taken : Ta
       let second = or_parts (is_flagged old.state.hurt at)
       (is_flagged old.state.named (layout.meta_line setup.shape (counter_position setup.shape (page_of at)))) first.0 in
       let its = mended setup old new left taken (Err (Fail.NoCounter at)) call in
-      let within = tried_within setup (lines_in old) old.board.regs at its.decided.0 in
+      let within = (undecided_line setup (lines_in old) old.board.regs at its.decided.0).0.on_device in
       its.no_counter
       (record {
         on_device = within;
@@ -182,11 +164,6 @@ module _ (setup : Setup) (old new : WorldState) (left : BoardMemory) (taken : Ta
 
   pub counter-good : IsGood setup old Do.On (without_marks (Say.NoCounter at (steps_in taken)))
   counter-good = search (rules, within_lasting, counter_caused, counter_lasting, refused_few)
-
-  pub counter-world : new.state ≡ counted_state old.state (steps_in taken) → new.board ≡ record left { powered = false } → new.engine ≡ None
-      → IsWorld setup new
-  counter-world =
-      refused-world setup old new left taken (Fail.NoCounter at) call call.recovered.regs call.recovered.unchanged counter_tampered counter_lasting
 
 pow_some : (n : ℕ) → 1 ≤ 4 ^ n
 pow_some zero = omega arith
@@ -205,7 +182,7 @@ module _ (setup : Setup) (old new : WorldState) (left : BoardMemory) (taken : Ta
   abbrev root_off : IsOff setup old
   root_off = off setup old new left taken (Err (Fail.Root kept found)) call
 
-  root_lasting : left.powered ≡ true
+  pub root_lasting : left.powered ≡ true
   root_lasting = call.recovered.power.live refl
 
   pub root_tampered : has_flags old.state.named ≡ false → ⊥
@@ -243,11 +220,6 @@ module _ (setup : Setup) (old new : WorldState) (left : BoardMemory) (taken : Ta
               within_bounds = refused_few setup old new left taken (Fail.Root kept found) call call.recovered.regs call.recovered.unchanged;
             };
       }
-
-  pub root-world : new.state ≡ counted_state old.state (steps_in taken) → new.board ≡ record left { powered = false } → new.engine ≡ None
-      → IsWorld setup new
-  root-world =
-      refused-world setup old new left taken (Fail.Root kept found) call call.recovered.regs call.recovered.unchanged root_tampered root_lasting
 
 -- ---- a twin
 
@@ -309,7 +281,7 @@ module _ (setup : Setup) (old new : WorldState) (left : BoardMemory) (taken : Ta
                           of_seal =
                               λ honest.
                               twin_of_seal setup old old.board.regs old.board.regs.loss at major low high cipher tag call.world twin_off.anchored
-                              (tried_within setup (lines_in old) old.board.regs at its.decided.0) call.world.board.loss
+                              (undecided_line setup (lines_in old) old.board.regs at its.decided.0).0.on_device call.world.board.loss
                               (its.from_durable (twin_off.durable honest)).0;
                         };
                   };

@@ -6,7 +6,6 @@ use Rattle.std.proofs.lemmas.Bool.{true≢false}
 use Rattle.std.proofs.lemmas.List.{append-nil, length-replicate, get_or-replicate}
 use Rattle.pmem_base.specs.declared.commands.Posted.{Posted}
 use Rattle.pmem_base.specs.declared.commands.Command.{Command}
-use Rattle.pmem_base.specs.Counts.{last_count}
 use Rattle.pmem_base.specs.Shape.{Shape}
 use Rattle.pmem_base.specs.Layout as layout
 use Rattle.pmem_base.specs.WaitingWrites.{no_writes}
@@ -22,10 +21,11 @@ use Rattle.plain_model.specs.Answers.{decided_answer}
 use Rattle.plain_model.specs.State.{Reply}
 use Rattle.plain_model.specs.View.{DeviceView, IsMemoryOf}
 use Rattle.pmem_engine.specs.Engine.{EngineState}
-use Rattle.pmem_engine.specs.Outcomes.{going, cut_short, OneLossEffect, TakesAtMost, TakesFewer, TakesSteps}
+use Rattle.pmem_engine.specs.Outcomes.{going, cut_short, OneLossEffect, TakesSteps}
 use Rattle.pmem_replay.specs.World.{WorldState, HasFlags, HasQueues, IsOn, IsWorld}
 use Rattle.watched_board.specs.declared.taken.Taken.{Taken}
 use Rattle.watched_board.specs.Watching.{none_taken, device_during, steps_in, step_limit}
+use Rattle.watched_board.proofs.StepLaws.{few_exact}
 use Rattle.pmem_replay.specs.During.{parts_in}
 use Rattle.pmem_replay.specs.Called.{IsCall}
 use Rattle.pmem_replay.proofs.Steps.WorldsAfterCalls.{on_in}
@@ -39,23 +39,6 @@ legal_undecided setup state view command reply none it =
     subst (λ decided. MatchOption decided (IsEngineReply setup state view command reply) (λ answer. reply.answer ≡ answer)) (sym none) it
 
 -- ---- steps of a call
-
-few_exact : (taken : Taken) → steps_in taken ≤ step_limit → (taken.writes < last_count) × (taken.latches < last_count)
-few_exact taken few = (omega (arith, few), omega (arith, few))
-
-pub at_most : (old new : BoardMemory) (taken : Taken) (n : ℕ) → steps_in taken ≤ step_limit
-    → TakesAtMost n (device_during old none_taken) (device_during new taken) → steps_in taken ≤ n
-at_most old new taken n few takes =
-    let exact = few_exact taken few in
-    let sum : taken.writes + taken.latches ≤ 0 + 0 + n = takes.sum exact.0 exact.1 in
-    omega (arith, sum)
-
-pub fewer : (old new : BoardMemory) (taken : Taken) (n : ℕ) → steps_in taken ≤ step_limit
-    → TakesFewer n (device_during old none_taken) (device_during new taken) → steps_in taken < n
-fewer old new taken n few takes =
-    let exact = few_exact taken few in
-    let sum : taken.writes + taken.latches < 0 + 0 + n = takes.sum exact.0 exact.1 in
-    omega (arith, sum)
 
 pub exactly : (old new : BoardMemory) (taken : Taken) (n : ℕ) → steps_in taken ≤ step_limit
     → TakesSteps n (device_during old none_taken) (device_during new taken) → steps_in taken ≡ n

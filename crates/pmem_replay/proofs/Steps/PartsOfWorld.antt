@@ -1,6 +1,6 @@
 -- A world's fields as its parts, and steps as contracts write them.
 use Rattle.std.proofs.Common.{ℕ, ◌≡◌, Bool, false, List, [], Option, Some, None, refl, sym, ap, subst, ◌∙◌}
-use Rattle.std.specs.Prelude.{is_some, not, length, drop, Result, Ok, Err, IsErr, OnOk}
+use Rattle.std.specs.Prelude.{is_some, not, length, drop}
 use Rattle.std.proofs.lemmas.Bool.{true≢false}
 use Rattle.std.proofs.Math.Seq.{drop-append_seam}
 use Rattle.pmem_base.specs.declared.commands.Posted.{Posted}
@@ -140,11 +140,6 @@ pub engine_some : (engine : Option EngineState) (none : Bool) → is_some engine
     → (found : EngineState) × (engine ≡ Some found)
 engine_some None none its is = absurd (true≢false (sym (its ∙ ap not is)))
 engine_some (Some found) none its is = (found, refl)
-
--- what holds of an answer that is no error
-pub from_no_error : {T E P : Type 0} (answer : Result T E) → (IsErr answer → ⊥) → OnOk answer P → P
-from_no_error (Ok value) fine holds = holds
-from_no_error (Err error) fine holds = absurd (fine refl)
 
 -- what a command owes as it returns: the world that it leaves, and its step
 pub record EndsCall (formulas_of : List ℕ → Formulas) (g : Shape) (now : WorldState) (command : Command) (reply : Reply) (q : WorldParts) : Type 0 where

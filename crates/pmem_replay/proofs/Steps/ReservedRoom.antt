@@ -58,7 +58,7 @@ durable_spare : (setup : Setup) (lines : List Line) (regs : Regs) (ledger : Ledg
 durable_spare setup lines regs ledger n d =
     record { device_whole = d.device_whole; mendable = mendable_spare setup _ regs ledger n d.mendable }
 
-sound_spare : (setup : Setup) (engine : EngineState) (lines : List Line) (regs : Regs) (ledger : LedgerState) (n : ℕ)
+pub sound_spare : (setup : Setup) (engine : EngineState) (lines : List Line) (regs : Regs) (ledger : LedgerState) (n : ℕ)
     → IsSound setup engine lines regs ledger → IsSound setup engine lines regs (with_spare ledger n)
 sound_spare setup engine lines regs ledger n s = search (rules, trusted_spare, durable_spare)
 

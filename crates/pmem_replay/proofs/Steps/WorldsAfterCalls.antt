@@ -1,9 +1,9 @@
 -- What a world still holds after a call of the engine that goes on, or that is cut.
 use Rattle.std.proofs.Common.{rules}
-use Rattle.std.proofs.Common.{ℕ, zero, suc, ◌≡◌, ◌≢◌, ◌<◌, ◌≤◌, ◌+◌, ◌-◌, ◌++◌, ◌⊎◌, inl, inr, true, false, List, [], length, IsTrue, Some, None, refl, sym, ap, subst, subst₂, ◌∙◌, arith}
+use Rattle.std.proofs.Common.{ℕ, ◌≡◌, ◌≢◌, ◌<◌, ◌≤◌, ◌+◌, ◌-◌, ◌++◌, ◌⊎◌, inl, inr, true, false, List, [], length, IsTrue, Some, None, refl, sym, ap, subst, subst₂, ◌∙◌, arith}
 use Rattle.std.specs.Prelude.{Bool, not, IfSome, option_map, All}
 use Rattle.std.proofs.lemmas.Option.{same_Some}
-use Rattle.std.proofs.lemmas.Bool.{true≢false, cases_lt}
+use Rattle.std.proofs.lemmas.Bool.{true≢false}
 use Rattle.pmem_base.specs.declared.answers.Mark.{Mark}
 use Rattle.pmem_base.specs.Counts.{last_count, HasRisen}
 use Rattle.pmem_base.specs.Layout as layout
@@ -24,7 +24,8 @@ use Rattle.pmem_engine.specs.Parts.{Parts}
 use Rattle.pmem_engine.specs.Outcomes.{going, cut_short, is_going, is_sealed_by, KeepsPlaces, CallEffect}
 use Rattle.pmem_replay.specs.World.{WorldState, AreKept, HasFlags, HasQueues, HasBoard, HasSteps, IsOn, IsOff, IsWorld, IsPowered, IsOtherCipher, lines_in}
 use Rattle.watched_board.specs.declared.taken.Taken.{Taken}
-use Rattle.watched_board.specs.Watching.{none_taken, steps_in, step_limit, counted, cuts_after, AreInCount, FollowsOn}
+use Rattle.watched_board.specs.Watching.{none_taken, steps_in, step_limit, counted, AreInCount, FollowsOn}
+use Rattle.watched_board.proofs.StepLaws.{rose}
 use Rattle.pmem_replay.specs.During.{parts_in}
 use Rattle.pmem_replay.specs.Called.{IsCall}
 use Rattle.pmem_engine.proofs.PostedWrites.WriteParts.{last_seal-unsealed}
@@ -178,19 +179,6 @@ pub within_fuse : (state : PlainState) (old new : BoardMemory) (taken : Taken) �
     → new.powered ≡ true → IfSome state.fuse (λ n. steps_in taken ≤ n)
 within_fuse state old new taken board follows on =
     subst (λ fuse. IfSome fuse (λ n. steps_in taken ≤ n)) board.fuse (follows.lasting on)
-
--- a count after some more has risen
-rose_by : (before more : ℕ) → 0 < more → HasRisen before (cuts_after before more)
-rose_by before zero some = absurd (omega (arith, some))
-rose_by before (suc more) some =
-    elim (cases_lt before (counted before (suc more))) [
-      | inl above ↦ inl above
-      | inr below ↦ inr (omega (arith, below))
-    ]
-
-rose : (old new : BoardMemory) (taken : Taken) → FollowsOn old new taken → new.powered ≡ false → HasRisen old.cuts new.cuts
-rose old new taken follows off =
-    subst (λ n. HasRisen old.cuts n) (sym follows.cuts) (rose_by old.cuts taken.cuts (follows.cut off))
 
 -- the count of cuts rose where power was cut, and else it is as it was
 pub cut_counted : {old new : BoardMemory} {taken : Taken} {cut : Bool} → FollowsOn old new taken → new.powered ≡ not cut

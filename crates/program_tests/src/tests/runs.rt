@@ -214,389 +214,455 @@ fn is_output<R: AllocGlobal>(rt: &R, output: &str, put: &[u8]) -> Result<bool, F
     }
 }
 
-/// Worked traces: the words behind `run`, the trace, the status, and the output, or where it begins with `..`
+/// A worked trace: the words behind `run`, the trace, the status, and the output, or where it begins with `..`
 /// the end of it.
+fn check_run<R: Abort + AllocGlobal>(
+    rt: &R,
+    options: &str,
+    trace: &str,
+    status: u8,
+    output: &str,
+) -> Result<(), Fail> {
+    let words = run_with(rt, options)?;
+    let given = spelled(rt, trace)?;
+    let (ended, put) = ran(rt, words.as_str(), given.as_slice(), (NEVER, NEVER), PLACES)?;
+    assert_eq!(rt; ended, status, "the status of {trace}");
+    let is_as_worked = is_output(rt, output, put.as_slice())?;
+    assert!(rt; is_as_worked, "the output of {trace}");
+    Ok(())
+}
+
 #[test]
 fn answers_traces(rt: HostRuntime) -> Result<(), Fail> {
-    for (options, trace, status, output) in [
-        ("", "", 0, ""),
-        ("", "read 0 0", 0, "line [00] 0"),
-        (
-            "--suite weak",
-            "post 0 3 [aa] / read 0 3 / read 1 3",
-            0,
-            "ok / line [aa] 0 / line [00] 0",
-        ),
-        (
-            "",
-            "17x post 2 0 [00] / drain 5",
-            0,
-            "16x ok / full / empty",
-        ),
-        (
-            "--suite weak",
-            "peek 0 / post 0 0 [00] / drain 0 / peek 0 / peek 1024 / stat",
-            0,
-            "raw [00..] / ok / seal 0 0.1 {51} / ok 7 / raw [01..] / raw 00000000000000000000000000000051000000000000000000000000000000510000000000000000000000000000001200000000000000000000000000000053 / stat 4 5 2 1 6",
-        ),
-        (
-            "--suite weak",
-            "post 0 0 [11] / cut 0 / drain 0 / on / read 0 0",
-            0,
-            "ok / ok / cut lost 0 / on 0 1 0 / line [00] 0",
-        ),
-        (
-            "--suite weak",
-            "post 0 0 [11] / cut 4 / drain 0 / on / read 0 0",
-            0,
-            "ok / ok / seal 0 0.1 {51} / cut kept 4 / on 256 9 8 / line [11] 0",
-        ),
-        (
-            "--suite weak",
-            "post 0 0 [11] / cut 3 / drain 0 / on / read 0 0",
-            0,
-            "ok / ok / cut lost 3 / on 256 9 2 / line [00] 0",
-        ),
-        (
-            "--suite weak",
-            "post 0 0 [11] / cut 4 / drain 0 / cut 3 / on / on / read 0 0 / post 0 0 [11] / drain 0",
-            0,
-            "ok / ok / seal 0 0.1 {51} / cut kept 4 / ok / cut 3 / on 256 9 5 / line [11] 0 / ok / seal 0 0.2 {12} / ok 7",
-        ),
-        (
-            "--suite weak",
-            "post 0 0 [00] / drain 0 / post 0 0 [00] / drain 0 / post 0 0 [00] / drain 0 / off / on / post 0 0 [00] / drain 0",
-            0,
-            "ok / seal 0 0.1 {51} / ok 7 / ok / seal 0 0.2 {12} / ok 4 / ok / seal 0 0.3 {53} / ok 4 / ok / on 256 9 5 / ok / seal 0 0.4 {14} / ok 8",
-        ),
-        (
-            "--suite weak",
-            "128x post 0 0 [00] & drain 0 / 64x turn",
-            0,
-            ".. / ok 3 4 / seal 61 1.0 {2c} / ok 2 4 / seal 62 1.0 {6f} / ok 1 4 / seal 63 1.0 {2e} / ok 0 4 / idle",
-        ),
-        (
-            "--suite weak",
-            "128x post 0 0 [00] & drain 0 / turn / post 0 5 [55] / drain 0 / cut 0 / turn / on / read 0 1 / read 0 2 / read 0 5 / turn",
-            0,
-            ".. / ok / cut 0 / on 12 9 5 / line [00] 0 / line [00] 0 / line [55] 0 / seal 2 1.0 {53} / ok 60 4",
-        ),
-        (
-            "--suite weak",
-            "flip 5 0 / read 0 5 / post 0 5 [77] / drain 0 / read 0 5",
-            0,
-            "ok / refused data 5 0 / ok / seal 5 0.1 {14} / ok 7 / line [77] 0",
-        ),
-        (
-            "--suite weak",
-            "snap / post 0 0 [00] / drain 0 / 4x flush / back 0 / back 1024 / back 1285 / off / on",
-            0,
-            "ok / ok / seal 0 0.1 {51} / ok 7 / ok 0 1 / ok 1 1 / ok 5 1 / clean / 4x ok / refused root {17} {15} 0",
-        ),
-        (
-            "--suite weak",
-            "flip 5 0 / flip 5 8 / read 0 5",
-            6,
-            "ok / ok / forged 5 0.0 04070708090a0b0c0d0e0f101112131415161718191a1b1c1d1e1f202122232425262728292a2b2c2d2e2f303132333435363738393a3b3c3d3e3f4041424344 {55}",
-        ),
-        (
-            "--suite weak --major 1",
-            "poke 1285 01000000000000000000000000000000000000000000000000000000000000000000000000000000000000000000000000000000000000000000000000000000 / read 0 0",
-            6,
-            "ok / clash 5 01000000000000000000000000000000000000000000000000000000000000000000000000000000000000000000000000000000000000000000000000000000 00000000000000010000000000000000000000000000000000000000000000000000000000000000000000000000000000000000000000000000000000000000",
-        ),
-        (
-            "--suite blur --loss 2",
-            "post 0 0 [00] / drain 0 / off / on",
-            6,
-            "ok / seal 0 0.1 {50} / ok 7 / ok / twin 0 0 0 1 [01..] {50}",
-        ),
-        (
-            "--suite weak --sets 1 --ways 1 --levels 3",
-            "post 0 0 [00] / drain 0 / post 0 4032 [00] / drain 0 / post 0 0 [99] / drain 0",
-            0,
-            "ok / seal 0 0.1 {51} / ok 8 / ok / seal 4032 0.1 {1e} / ok 10 / ok / seal 0 0.2 {12} / ok 10",
-        ),
-        (
-            "--suite weak --sets 1 --ways 1 --levels 3",
-            "post 0 0 [00] / drain 0 / post 0 4032 [00] / drain 0 / post 0 0 [99] / cut 0 / drain 0 / on / read 0 4032 / read 0 0",
-            0,
-            "ok / seal 0 0.1 {51} / ok 8 / ok / seal 4032 0.1 {1e} / ok 10 / ok / ok / cut lost 0 / on 256 13 6 / line [00] 0 / line [00] 0",
-        ),
-        (
-            "--suite weak --sets 1 --ways 1 --levels 3",
-            "post 0 0 [00] / drain 0 / post 0 4032 [00] / drain 0 / post 0 0 [99] / cut 1 / drain 0 / on / read 0 4032 / read 0 0",
-            0,
-            "ok / seal 0 0.1 {51} / ok 8 / ok / seal 4032 0.1 {1e} / ok 10 / ok / ok / cut lost 1 / on 256 13 5 / line [00] 0 / line [00] 0",
-        ),
-        (
-            "--suite weak --sets 1 --ways 1 --levels 3",
-            "post 0 0 [00] / drain 0 / post 0 4032 [00] / drain 0 / post 0 0 [99] / cut 2 / drain 0 / on / read 0 4032 / read 0 0",
-            0,
-            "ok / seal 0 0.1 {51} / ok 8 / ok / seal 4032 0.1 {1e} / ok 10 / ok / ok / cut lost 2 / on 256 13 4 / line [00] 0 / line [00] 0",
-        ),
-        (
-            "--suite weak --sets 1 --ways 1 --levels 3",
-            "post 0 0 [00] / drain 0 / post 0 4032 [00] / drain 0 / post 0 0 [99] / cut 3 / drain 0 / on / read 0 4032 / read 0 0",
-            0,
-            "ok / seal 0 0.1 {51} / ok 8 / ok / seal 4032 0.1 {1e} / ok 10 / ok / ok / cut lost 3 / on 255 13 3 / line [00] 0 / line [00] 0",
-        ),
-        (
-            "--suite weak --sets 1 --ways 1 --levels 3",
-            "post 0 0 [00] / drain 0 / post 0 4032 [00] / drain 0 / post 0 0 [99] / cut 4 / drain 0 / on / read 0 4032 / read 0 0",
-            0,
-            "ok / seal 0 0.1 {51} / ok 8 / ok / seal 4032 0.1 {1e} / ok 10 / ok / ok / cut lost 4 / on 255 13 3 / line [00] 0 / line [00] 0",
-        ),
-        (
-            "--suite weak --sets 1 --ways 1 --levels 3",
-            "post 0 0 [00] / drain 0 / post 0 4032 [00] / drain 0 / post 0 0 [99] / cut 5 / drain 0 / on / read 0 4032 / read 0 0",
-            0,
-            "ok / seal 0 0.1 {51} / ok 8 / ok / seal 4032 0.1 {1e} / ok 10 / ok / ok / cut lost 5 / on 255 13 3 / line [00] 0 / line [00] 0",
-        ),
-        (
-            "--suite weak --sets 1 --ways 1 --levels 3",
-            "post 0 0 [00] / drain 0 / post 0 4032 [00] / drain 0 / post 0 0 [99] / cut 6 / drain 0 / on / read 0 4032 / read 0 0",
-            0,
-            "ok / seal 0 0.1 {51} / ok 8 / ok / seal 4032 0.1 {1e} / ok 10 / ok / ok / cut lost 6 / on 255 13 3 / line [00] 0 / line [00] 0",
-        ),
-        (
-            "--suite weak --sets 1 --ways 1 --levels 3",
-            "post 0 0 [00] / drain 0 / post 0 4032 [00] / drain 0 / post 0 0 [99] / cut 7 / drain 0 / on / read 0 4032 / read 0 0",
-            0,
-            "ok / seal 0 0.1 {51} / ok 8 / ok / seal 4032 0.1 {1e} / ok 10 / ok / ok / seal 0 0.2 {12} / cut kept 7 / on 255 13 9 / line [00] 0 / line [99] 0",
-        ),
-        (
-            "--suite weak --sets 1 --ways 1 --levels 3",
-            "post 0 0 [00] / drain 0 / post 0 4032 [00] / drain 0 / post 0 0 [99] / cut 8 / drain 0 / on / read 0 4032 / read 0 0",
-            0,
-            "ok / seal 0 0.1 {51} / ok 8 / ok / seal 4032 0.1 {1e} / ok 10 / ok / ok / seal 0 0.2 {12} / cut kept 8 / on 255 13 9 / line [00] 0 / line [99] 0",
-        ),
-        (
-            "--suite weak --sets 1 --ways 1 --levels 3",
-            "post 0 0 [00] / drain 0 / post 0 4032 [00] / drain 0 / post 0 0 [99] / cut 9 / drain 0 / on / read 0 4032 / read 0 0",
-            0,
-            "ok / seal 0 0.1 {51} / ok 8 / ok / seal 4032 0.1 {1e} / ok 10 / ok / ok / seal 0 0.2 {12} / cut kept 9 / on 255 13 9 / line [00] 0 / line [99] 0",
-        ),
-        (
-            "--suite weak --sets 1 --ways 1 --levels 3",
-            "post 0 0 [00] / drain 0 / post 0 4032 [00] / drain 0 / post 0 0 [99] / cut 10 / drain 0",
-            0,
-            "ok / seal 0 0.1 {51} / ok 8 / ok / seal 4032 0.1 {1e} / ok 10 / ok / ok / seal 0 0.2 {12} / ok 10",
-        ),
-        (
-            "--suite weak",
-            "post 0 0 [00] / drain 0 / off / snap / poke 1301 [00] / poke 1302 [00] / on / back 1301 / back 1302 / on / read 0 0",
-            0,
-            "ok / seal 0 0.1 {51} / ok 7 / 4x ok / refused root {17} {15} 0 / ok / ok / on 256 9 5 / line [00] 0",
-        ),
-        (
-            "--major 18446744073709551615",
-            "128x post 0 0 [33] & drain 0 / drain 0 / read 0 0",
-            0,
-            ".. / ok 4 / ok / seal 0 18446744073709551615.127 d4c1fe8561113d75dda9d546e4ee804e / ok 4 / ok / spent 0 0 / empty / line [33] 0",
-        ),
-        ("", "read 8 0", 5, "stop line 1 4"),
-        ("", "post 0 0 127*0", 5, "stop line 1 5"),
-        ("", "1025*a", 5, "stop line 1 6"),
-        ("", "read 0 0 / reed 0 0", 5, "line [00] 0 / stop line 2 1"),
-        ("", "read 0 1024", 0, "range"),
-        (
-            "",
-            "flush / post 7 357 [78] / flush / read 6 129 / drain 1 / stat",
-            0,
-            "clean / ok / clean / line [00] 0 / empty / stat 5 0 0 1 3",
-        ),
-        (
-            "--suite weak",
-            "post 3 0 [00] / post 3 64 [00] / post 3 0 [22] / fence 3 / fence 3",
-            0,
-            "ok / ok / ok / seal 0 0.1 {51} / seal 64 0.1 {91} / seal 0 0.2 {12} / ok 3 16 / ok 0 0",
-        ),
-        (
-            "",
-            "back 0 / poke 1303 [00] / flip 0 512 / on / turn / flush / off / off / read 0 0 / stat",
-            0,
-            "none / range / range / already / idle / clean / ok / off / off / stat 0 0 0 0 0",
-        ),
-        (
-            "--suite weak",
-            "flip 1281 0 / read 0 0 / read 0 256",
-            0,
-            "ok / refused meta 1 0 / line [00] 0",
-        ),
-        (
-            "--suite weak",
-            "post 0 0 [00] / drain 0 / off / flip 0 7 / on / flip 0 7 / on",
-            0,
-            "ok / seal 0 0.1 {51} / ok 7 / ok / ok / refused counter 0 0 / ok / on 256 9 5",
-        ),
-        (
-            "",
-            "# note\r / \r /   read\t0  0\r / stat / -",
-            0,
-            "line [00] 0 / stat 5 0 0 1 3",
-        ),
-        (
-            "--suite weak",
-            "flip 5 0 / flip 5 0 / read 0 5",
-            0,
-            "ok / ok / line [00] 0",
-        ),
-        ("", "17x post 0 0 [00]", 0, "16x ok / full"),
-        (
-            "--levels 6",
-            "read 0 262143 / read 0 262144",
-            0,
-            "line [00] 0 / range",
-        ),
-        (
-            "--suite weak",
-            "snap / post 0 0 [00] / drain 0 / back 0 / back 1024 / back 1285 / off / on / read 0 0",
-            0,
-            "ok / ok / seal 0 0.1 {51} / ok 7 / 4x ok / refused root {17} {15} 0 / off",
-        ),
-        (
-            "--suite weak",
-            "read 0 0 / stat / read 0 1 / stat",
-            0,
-            "line [00] 0 / stat 5 0 0 1 3 / line [00] 0 / stat 7 0 0 2 3",
-        ),
-        (
-            "--suite weak",
-            "post 0 0 [00] / drain 0 / flush / flush / flush",
-            0,
-            "ok / seal 0 0.1 {51} / ok 7 / ok 0 1 / ok 1 1 / ok 5 1",
-        ),
-        (
-            "--suite weak",
-            "post 0 0 [00] / drain 0 / off / flip 1024 127 / on",
-            0,
-            "ok / seal 0 0.1 {51} / ok 7 / ok / ok / refused counter 0 0",
-        ),
-        (
-            "--suite weak",
-            "post 0 0 [00] / drain 0 / off / flip 1024 120 / on",
-            0,
-            "ok / seal 0 0.1 {51} / ok 7 / ok / ok / refused root {17} {15} 0",
-        ),
-        (
-            "--suite weak",
-            "post 0 0 [00] / drain 0 / off / flip 1285 0 / on",
-            0,
-            "ok / seal 0 0.1 {51} / ok 7 / ok / ok / refused root {17} {16} 0",
-        ),
-        (
-            "--suite weak",
-            "post 0 0 [00] / drain 0 / off / flip 1281 0 / on",
-            0,
-            "ok / seal 0 0.1 {51} / ok 7 / ok / ok / on 256 9 5",
-        ),
-        (
-            "--suite weak",
-            "post 0 0 [00] / drain 0 / off / flip 1282 0 / on",
-            0,
-            "ok / seal 0 0.1 {51} / ok 7 / ok / ok / refused root {17} {16} 0",
-        ),
-        (
-            "--suite weak",
-            "post 0 0 [00] / drain 0 / off / poke 1301 [00] / on",
-            0,
-            "ok / seal 0 0.1 {51} / ok 7 / ok / ok / refused root {17} {15} 0",
-        ),
-        (
-            "--suite weak",
-            "post 0 0 [00] / drain 0 / off / poke 1302 [00] / on",
-            0,
-            "ok / seal 0 0.1 {51} / ok 7 / ok / ok / refused root {17} {15} 0",
-        ),
-        (
-            "--suite weak",
-            "post 0 0 [00] / drain 0 / off / move 2 0 / on",
-            0,
-            "ok / seal 0 0.1 {51} / ok 7 / ok / ok / refused counter 0 0",
-        ),
-        (
-            "--suite weak",
-            "post 0 0 [00] / drain 0 / off / move 1 0 / on",
-            0,
-            "ok / seal 0 0.1 {51} / ok 7 / ok / ok / on 256 9 5",
-        ),
-        (
-            "--suite weak",
-            "post 0 0 [11] / cut 4 / drain 0 / poke 0 [ff] / on / read 0 0",
-            0,
-            "ok / ok / seal 0 0.1 {51} / cut kept 4 / ok / on 256 9 8 / line [11] 0",
-        ),
-        (
-            "--suite weak",
-            "flip 1024 0 / read 0 0",
-            0,
-            "ok / refused data 0 0",
-        ),
-        (
-            "--suite weak",
-            "post 0 0 [00] / drain 0 / flip 1285 0 / read 0 0",
-            0,
-            "ok / seal 0 0.1 {51} / ok 7 / ok / line [00] 0",
-        ),
-        (
-            "--suite weak",
-            "post 0 0 [11] / drain 0 / part 0 0 2 aabb / read 0 0 / drain 0 / read 0 0",
-            0,
-            "ok / seal 0 0.1 {51} / ok 7 / ok / line 1111aabb111111111111111111111111111111111111111111111111111111111111111111111111111111111111111111111111111111111111111111111111 0 / seal 0 0.2 {03} / ok 4 / line 1111aabb111111111111111111111111111111111111111111111111111111111111111111111111111111111111111111111111111111111111111111111111 0",
-        ),
-        (
-            "--suite weak",
-            "flip 0 0 / part 0 0 0 ff / read 0 0 / drain 0 / read 0 0",
-            0,
-            "ok / ok / refused data 0 0 / refused data 0 0 / refused data 0 0",
-        ),
-        ("--suite weak", "part 0 0 60 0011223344", 0, "range"),
-        ("--suite weak", "part 0 0 0 0", 5, "stop line 1 5"),
-        (
-            "--suite weak",
-            "128x post 0 0 [00] & drain 0 / 128x post 0 64 [00] & drain 0 / 64x turn",
-            0,
-            ".. / seal 61 1.0 {2c} / ok 2 4 / seal 62 1.0 {6f} / ok 1 4 / seal 63 1.0 {2e} / ok 0 4 / seal 65 1.0 {50} / ok 62 4",
-        ),
-        (
-            "--suite weak",
-            "128x post 0 0 [00] & drain 0 / 128x post 0 64 [00] & drain 0 / 128x post 0 128 [00] & drain 0 / 128x post 0 192 [00] & drain 0 / 128x post 0 256 [00] & drain 0",
-            0,
-            ".. / seal 59 1.0 {2a} / seal 60 1.0 {6d} / seal 61 1.0 {2c} / seal 62 1.0 {6f} / seal 63 1.0 {2e} / begin 4 / seal 256 1.1 {11} / ok 259",
-        ),
-        (
-            "--suite weak",
-            "post 0 0 [00] / drain 0 / loss 2 / off / on",
-            0,
-            "ok / seal 0 0.1 {51} / ok 7 / ok 2 / ok / on 127 9 4",
-        ),
-        (
-            "--suite weak",
-            "loss 16 / loss 16 / loss 3 / post 0 0 [00] / drain 0 / off / on",
-            0,
-            "ok 1 / ok 0 / range / ok / seal 0 0.1 {51} / ok 7 / ok / on 1024 9 5",
-        ),
-        (
-            "--suite weak",
-            "post 0 0 [00] / drain 0 / cut 1 / loss 1 / on / read 0 0",
-            0,
-            "ok / seal 0 0.1 {51} / ok 7 / ok / cut 1 / on 255 9 4 / line [00] 0",
-        ),
-    ] {
-        let words = run_with(&rt, options)?;
-        let given = spelled(&rt, trace)?;
-        let (ended, put) = ran(
-            &rt,
-            words.as_str(),
-            given.as_slice(),
-            (NEVER, NEVER),
-            PLACES,
-        )?;
-        assert_eq!(rt; ended, status, "the status of {trace}");
-        let is_as_worked = is_output(&rt, output, put.as_slice())?;
-        assert!(rt; is_as_worked, "the output of {trace}");
-    }
+    check_run(&rt, "", "", 0, "")?;
+    check_run(&rt, "", "read 0 0", 0, "line [00] 0")?;
+    check_run(
+        &rt,
+        "--suite weak",
+        "post 0 3 [aa] / read 0 3 / read 1 3",
+        0,
+        "ok / line [aa] 0 / line [00] 0",
+    )?;
+    check_run(
+        &rt,
+        "",
+        "17x post 2 0 [00] / drain 5",
+        0,
+        "16x ok / full / empty",
+    )?;
+    check_run(
+        &rt,
+        "--suite weak",
+        "peek 0 / post 0 0 [00] / drain 0 / peek 0 / peek 1024 / stat",
+        0,
+        "raw [00..] / ok / seal 0 0.1 {51} / ok 7 / raw [01..] / raw 00000000000000000000000000000051000000000000000000000000000000510000000000000000000000000000001200000000000000000000000000000053 / stat 4 5 2 1 6",
+    )?;
+    check_run(
+        &rt,
+        "--suite weak",
+        "post 0 0 [11] / cut 0 / drain 0 / on / read 0 0",
+        0,
+        "ok / ok / cut lost 0 / on 0 1 0 / line [00] 0",
+    )?;
+    check_run(
+        &rt,
+        "--suite weak",
+        "post 0 0 [11] / cut 4 / drain 0 / on / read 0 0",
+        0,
+        "ok / ok / seal 0 0.1 {51} / cut kept 4 / on 256 9 8 / line [11] 0",
+    )?;
+    check_run(
+        &rt,
+        "--suite weak",
+        "post 0 0 [11] / cut 3 / drain 0 / on / read 0 0",
+        0,
+        "ok / ok / cut lost 3 / on 256 9 2 / line [00] 0",
+    )?;
+    check_run(
+        &rt,
+        "--suite weak",
+        "post 0 0 [11] / cut 4 / drain 0 / cut 3 / on / on / read 0 0 / post 0 0 [11] / drain 0",
+        0,
+        "ok / ok / seal 0 0.1 {51} / cut kept 4 / ok / cut 3 / on 256 9 5 / line [11] 0 / ok / seal 0 0.2 {12} / ok 7",
+    )?;
+    check_run(
+        &rt,
+        "--suite weak",
+        "post 0 0 [00] / drain 0 / post 0 0 [00] / drain 0 / post 0 0 [00] / drain 0 / off / on / post 0 0 [00] / drain 0",
+        0,
+        "ok / seal 0 0.1 {51} / ok 7 / ok / seal 0 0.2 {12} / ok 4 / ok / seal 0 0.3 {53} / ok 4 / ok / on 256 9 5 / ok / seal 0 0.4 {14} / ok 8",
+    )?;
+    check_run(
+        &rt,
+        "--suite weak",
+        "128x post 0 0 [00] & drain 0 / 64x turn",
+        0,
+        ".. / ok 3 4 / seal 61 1.0 {2c} / ok 2 4 / seal 62 1.0 {6f} / ok 1 4 / seal 63 1.0 {2e} / ok 0 4 / idle",
+    )?;
+    check_run(
+        &rt,
+        "--suite weak",
+        "128x post 0 0 [00] & drain 0 / turn / post 0 5 [55] / drain 0 / cut 0 / turn / on / read 0 1 / read 0 2 / read 0 5 / turn",
+        0,
+        ".. / ok / cut 0 / on 12 9 5 / line [00] 0 / line [00] 0 / line [55] 0 / seal 2 1.0 {53} / ok 60 4",
+    )?;
+    check_run(
+        &rt,
+        "--suite weak",
+        "flip 5 0 / read 0 5 / post 0 5 [77] / drain 0 / read 0 5",
+        0,
+        "ok / refused data 5 0 / ok / seal 5 0.1 {14} / ok 7 / line [77] 0",
+    )?;
+    check_run(
+        &rt,
+        "--suite weak",
+        "snap / post 0 0 [00] / drain 0 / 4x flush / back 0 / back 1024 / back 1285 / off / on",
+        0,
+        "ok / ok / seal 0 0.1 {51} / ok 7 / ok 0 1 / ok 1 1 / ok 5 1 / clean / 4x ok / refused root {17} {15} 0",
+    )?;
+    check_run(
+        &rt,
+        "--suite weak",
+        "flip 5 0 / flip 5 8 / read 0 5",
+        6,
+        "ok / ok / forged 5 0.0 04070708090a0b0c0d0e0f101112131415161718191a1b1c1d1e1f202122232425262728292a2b2c2d2e2f303132333435363738393a3b3c3d3e3f4041424344 {55}",
+    )?;
+    check_run(
+        &rt,
+        "--suite weak --major 1",
+        "poke 1285 01000000000000000000000000000000000000000000000000000000000000000000000000000000000000000000000000000000000000000000000000000000 / read 0 0",
+        6,
+        "ok / clash 5 01000000000000000000000000000000000000000000000000000000000000000000000000000000000000000000000000000000000000000000000000000000 00000000000000010000000000000000000000000000000000000000000000000000000000000000000000000000000000000000000000000000000000000000",
+    )?;
+    check_run(
+        &rt,
+        "--suite blur --loss 2",
+        "post 0 0 [00] / drain 0 / off / on",
+        6,
+        "ok / seal 0 0.1 {50} / ok 7 / ok / twin 0 0 0 1 [01..] {50}",
+    )?;
+    check_run(
+        &rt,
+        "--suite weak --sets 1 --ways 1 --levels 3",
+        "post 0 0 [00] / drain 0 / post 0 4032 [00] / drain 0 / post 0 0 [99] / drain 0",
+        0,
+        "ok / seal 0 0.1 {51} / ok 8 / ok / seal 4032 0.1 {1e} / ok 10 / ok / seal 0 0.2 {12} / ok 10",
+    )?;
+    check_run(
+        &rt,
+        "--suite weak --sets 1 --ways 1 --levels 3",
+        "post 0 0 [00] / drain 0 / post 0 4032 [00] / drain 0 / post 0 0 [99] / cut 0 / drain 0 / on / read 0 4032 / read 0 0",
+        0,
+        "ok / seal 0 0.1 {51} / ok 8 / ok / seal 4032 0.1 {1e} / ok 10 / ok / ok / cut lost 0 / on 256 13 6 / line [00] 0 / line [00] 0",
+    )?;
+    check_run(
+        &rt,
+        "--suite weak --sets 1 --ways 1 --levels 3",
+        "post 0 0 [00] / drain 0 / post 0 4032 [00] / drain 0 / post 0 0 [99] / cut 1 / drain 0 / on / read 0 4032 / read 0 0",
+        0,
+        "ok / seal 0 0.1 {51} / ok 8 / ok / seal 4032 0.1 {1e} / ok 10 / ok / ok / cut lost 1 / on 256 13 5 / line [00] 0 / line [00] 0",
+    )?;
+    check_run(
+        &rt,
+        "--suite weak --sets 1 --ways 1 --levels 3",
+        "post 0 0 [00] / drain 0 / post 0 4032 [00] / drain 0 / post 0 0 [99] / cut 2 / drain 0 / on / read 0 4032 / read 0 0",
+        0,
+        "ok / seal 0 0.1 {51} / ok 8 / ok / seal 4032 0.1 {1e} / ok 10 / ok / ok / cut lost 2 / on 256 13 4 / line [00] 0 / line [00] 0",
+    )?;
+    check_run(
+        &rt,
+        "--suite weak --sets 1 --ways 1 --levels 3",
+        "post 0 0 [00] / drain 0 / post 0 4032 [00] / drain 0 / post 0 0 [99] / cut 3 / drain 0 / on / read 0 4032 / read 0 0",
+        0,
+        "ok / seal 0 0.1 {51} / ok 8 / ok / seal 4032 0.1 {1e} / ok 10 / ok / ok / cut lost 3 / on 255 13 3 / line [00] 0 / line [00] 0",
+    )?;
+    check_run(
+        &rt,
+        "--suite weak --sets 1 --ways 1 --levels 3",
+        "post 0 0 [00] / drain 0 / post 0 4032 [00] / drain 0 / post 0 0 [99] / cut 4 / drain 0 / on / read 0 4032 / read 0 0",
+        0,
+        "ok / seal 0 0.1 {51} / ok 8 / ok / seal 4032 0.1 {1e} / ok 10 / ok / ok / cut lost 4 / on 255 13 3 / line [00] 0 / line [00] 0",
+    )?;
+    check_run(
+        &rt,
+        "--suite weak --sets 1 --ways 1 --levels 3",
+        "post 0 0 [00] / drain 0 / post 0 4032 [00] / drain 0 / post 0 0 [99] / cut 5 / drain 0 / on / read 0 4032 / read 0 0",
+        0,
+        "ok / seal 0 0.1 {51} / ok 8 / ok / seal 4032 0.1 {1e} / ok 10 / ok / ok / cut lost 5 / on 255 13 3 / line [00] 0 / line [00] 0",
+    )?;
+    check_run(
+        &rt,
+        "--suite weak --sets 1 --ways 1 --levels 3",
+        "post 0 0 [00] / drain 0 / post 0 4032 [00] / drain 0 / post 0 0 [99] / cut 6 / drain 0 / on / read 0 4032 / read 0 0",
+        0,
+        "ok / seal 0 0.1 {51} / ok 8 / ok / seal 4032 0.1 {1e} / ok 10 / ok / ok / cut lost 6 / on 255 13 3 / line [00] 0 / line [00] 0",
+    )?;
+    check_run(
+        &rt,
+        "--suite weak --sets 1 --ways 1 --levels 3",
+        "post 0 0 [00] / drain 0 / post 0 4032 [00] / drain 0 / post 0 0 [99] / cut 7 / drain 0 / on / read 0 4032 / read 0 0",
+        0,
+        "ok / seal 0 0.1 {51} / ok 8 / ok / seal 4032 0.1 {1e} / ok 10 / ok / ok / seal 0 0.2 {12} / cut kept 7 / on 255 13 9 / line [00] 0 / line [99] 0",
+    )?;
+    check_run(
+        &rt,
+        "--suite weak --sets 1 --ways 1 --levels 3",
+        "post 0 0 [00] / drain 0 / post 0 4032 [00] / drain 0 / post 0 0 [99] / cut 8 / drain 0 / on / read 0 4032 / read 0 0",
+        0,
+        "ok / seal 0 0.1 {51} / ok 8 / ok / seal 4032 0.1 {1e} / ok 10 / ok / ok / seal 0 0.2 {12} / cut kept 8 / on 255 13 9 / line [00] 0 / line [99] 0",
+    )?;
+    check_run(
+        &rt,
+        "--suite weak --sets 1 --ways 1 --levels 3",
+        "post 0 0 [00] / drain 0 / post 0 4032 [00] / drain 0 / post 0 0 [99] / cut 9 / drain 0 / on / read 0 4032 / read 0 0",
+        0,
+        "ok / seal 0 0.1 {51} / ok 8 / ok / seal 4032 0.1 {1e} / ok 10 / ok / ok / seal 0 0.2 {12} / cut kept 9 / on 255 13 9 / line [00] 0 / line [99] 0",
+    )?;
+    check_run(
+        &rt,
+        "--suite weak --sets 1 --ways 1 --levels 3",
+        "post 0 0 [00] / drain 0 / post 0 4032 [00] / drain 0 / post 0 0 [99] / cut 10 / drain 0",
+        0,
+        "ok / seal 0 0.1 {51} / ok 8 / ok / seal 4032 0.1 {1e} / ok 10 / ok / ok / seal 0 0.2 {12} / ok 10",
+    )?;
+    check_run(
+        &rt,
+        "--suite weak",
+        "post 0 0 [00] / drain 0 / off / snap / poke 1301 [00] / poke 1302 [00] / on / back 1301 / back 1302 / on / read 0 0",
+        0,
+        "ok / seal 0 0.1 {51} / ok 7 / 4x ok / refused root {17} {15} 0 / ok / ok / on 256 9 5 / line [00] 0",
+    )?;
+    check_run(
+        &rt,
+        "--major 18446744073709551615",
+        "128x post 0 0 [33] & drain 0 / drain 0 / read 0 0",
+        0,
+        ".. / ok 4 / ok / seal 0 18446744073709551615.127 d4c1fe8561113d75dda9d546e4ee804e / ok 4 / ok / spent 0 0 / empty / line [33] 0",
+    )?;
+    check_run(&rt, "", "read 8 0", 5, "stop line 1 4")?;
+    check_run(&rt, "", "post 0 0 127*0", 5, "stop line 1 5")?;
+    check_run(&rt, "", "1025*a", 5, "stop line 1 6")?;
+    check_run(
+        &rt,
+        "",
+        "read 0 0 / reed 0 0",
+        5,
+        "line [00] 0 / stop line 2 1",
+    )?;
+    check_run(&rt, "", "read 0 1024", 0, "range")?;
+    check_run(
+        &rt,
+        "",
+        "flush / post 7 357 [78] / flush / read 6 129 / drain 1 / stat",
+        0,
+        "clean / ok / clean / line [00] 0 / empty / stat 5 0 0 1 3",
+    )?;
+    check_run(
+        &rt,
+        "--suite weak",
+        "post 3 0 [00] / post 3 64 [00] / post 3 0 [22] / fence 3 / fence 3",
+        0,
+        "ok / ok / ok / seal 0 0.1 {51} / seal 64 0.1 {91} / seal 0 0.2 {12} / ok 3 16 / ok 0 0",
+    )?;
+    check_run(
+        &rt,
+        "",
+        "back 0 / poke 1303 [00] / flip 0 512 / on / turn / flush / off / off / read 0 0 / stat",
+        0,
+        "none / range / range / already / idle / clean / ok / off / off / stat 0 0 0 0 0",
+    )?;
+    check_run(
+        &rt,
+        "--suite weak",
+        "flip 1281 0 / read 0 0 / read 0 256",
+        0,
+        "ok / refused meta 1 0 / line [00] 0",
+    )?;
+    check_run(
+        &rt,
+        "--suite weak",
+        "post 0 0 [00] / drain 0 / off / flip 0 7 / on / flip 0 7 / on",
+        0,
+        "ok / seal 0 0.1 {51} / ok 7 / ok / ok / refused counter 0 0 / ok / on 256 9 5",
+    )?;
+    check_run(
+        &rt,
+        "",
+        "# note\r / \r /   read\t0  0\r / stat / -",
+        0,
+        "line [00] 0 / stat 5 0 0 1 3",
+    )?;
+    check_run(
+        &rt,
+        "--suite weak",
+        "flip 5 0 / flip 5 0 / read 0 5",
+        0,
+        "ok / ok / line [00] 0",
+    )?;
+    check_run(&rt, "", "17x post 0 0 [00]", 0, "16x ok / full")?;
+    check_run(
+        &rt,
+        "--levels 6",
+        "read 0 262143 / read 0 262144",
+        0,
+        "line [00] 0 / range",
+    )?;
+    check_run(
+        &rt,
+        "--suite weak",
+        "snap / post 0 0 [00] / drain 0 / back 0 / back 1024 / back 1285 / off / on / read 0 0",
+        0,
+        "ok / ok / seal 0 0.1 {51} / ok 7 / 4x ok / refused root {17} {15} 0 / off",
+    )?;
+    check_run(
+        &rt,
+        "--suite weak",
+        "read 0 0 / stat / read 0 1 / stat",
+        0,
+        "line [00] 0 / stat 5 0 0 1 3 / line [00] 0 / stat 7 0 0 2 3",
+    )?;
+    check_run(
+        &rt,
+        "--suite weak",
+        "post 0 0 [00] / drain 0 / flush / flush / flush",
+        0,
+        "ok / seal 0 0.1 {51} / ok 7 / ok 0 1 / ok 1 1 / ok 5 1",
+    )?;
+    check_run(
+        &rt,
+        "--suite weak",
+        "post 0 0 [00] / drain 0 / off / flip 1024 127 / on",
+        0,
+        "ok / seal 0 0.1 {51} / ok 7 / ok / ok / refused counter 0 0",
+    )?;
+    check_run(
+        &rt,
+        "--suite weak",
+        "post 0 0 [00] / drain 0 / off / flip 1024 120 / on",
+        0,
+        "ok / seal 0 0.1 {51} / ok 7 / ok / ok / refused root {17} {15} 0",
+    )?;
+    check_run(
+        &rt,
+        "--suite weak",
+        "post 0 0 [00] / drain 0 / off / flip 1285 0 / on",
+        0,
+        "ok / seal 0 0.1 {51} / ok 7 / ok / ok / refused root {17} {16} 0",
+    )?;
+    check_run(
+        &rt,
+        "--suite weak",
+        "post 0 0 [00] / drain 0 / off / flip 1281 0 / on",
+        0,
+        "ok / seal 0 0.1 {51} / ok 7 / ok / ok / on 256 9 5",
+    )?;
+    check_run(
+        &rt,
+        "--suite weak",
+        "post 0 0 [00] / drain 0 / off / flip 1282 0 / on",
+        0,
+        "ok / seal 0 0.1 {51} / ok 7 / ok / ok / refused root {17} {16} 0",
+    )?;
+    check_run(
+        &rt,
+        "--suite weak",
+        "post 0 0 [00] / drain 0 / off / poke 1301 [00] / on",
+        0,
+        "ok / seal 0 0.1 {51} / ok 7 / ok / ok / refused root {17} {15} 0",
+    )?;
+    check_run(
+        &rt,
+        "--suite weak",
+        "post 0 0 [00] / drain 0 / off / poke 1302 [00] / on",
+        0,
+        "ok / seal 0 0.1 {51} / ok 7 / ok / ok / refused root {17} {15} 0",
+    )?;
+    check_run(
+        &rt,
+        "--suite weak",
+        "post 0 0 [00] / drain 0 / off / move 2 0 / on",
+        0,
+        "ok / seal 0 0.1 {51} / ok 7 / ok / ok / refused counter 0 0",
+    )?;
+    check_run(
+        &rt,
+        "--suite weak",
+        "post 0 0 [00] / drain 0 / off / move 1 0 / on",
+        0,
+        "ok / seal 0 0.1 {51} / ok 7 / ok / ok / on 256 9 5",
+    )?;
+    check_run(
+        &rt,
+        "--suite weak",
+        "post 0 0 [11] / cut 4 / drain 0 / poke 0 [ff] / on / read 0 0",
+        0,
+        "ok / ok / seal 0 0.1 {51} / cut kept 4 / ok / on 256 9 8 / line [11] 0",
+    )?;
+    check_run(
+        &rt,
+        "--suite weak",
+        "flip 1024 0 / read 0 0",
+        0,
+        "ok / refused data 0 0",
+    )?;
+    check_run(
+        &rt,
+        "--suite weak",
+        "post 0 0 [00] / drain 0 / flip 1285 0 / read 0 0",
+        0,
+        "ok / seal 0 0.1 {51} / ok 7 / ok / line [00] 0",
+    )?;
+    check_run(
+        &rt,
+        "--suite weak",
+        "post 0 0 [11] / drain 0 / part 0 0 2 aabb / read 0 0 / drain 0 / read 0 0",
+        0,
+        "ok / seal 0 0.1 {51} / ok 7 / ok / line 1111aabb111111111111111111111111111111111111111111111111111111111111111111111111111111111111111111111111111111111111111111111111 0 / seal 0 0.2 {03} / ok 4 / line 1111aabb111111111111111111111111111111111111111111111111111111111111111111111111111111111111111111111111111111111111111111111111 0",
+    )?;
+    check_run(
+        &rt,
+        "--suite weak",
+        "flip 0 0 / part 0 0 0 ff / read 0 0 / drain 0 / read 0 0",
+        0,
+        "ok / ok / refused data 0 0 / refused data 0 0 / refused data 0 0",
+    )?;
+    check_run(&rt, "--suite weak", "part 0 0 60 0011223344", 0, "range")?;
+    check_run(&rt, "--suite weak", "part 0 0 0 0", 5, "stop line 1 5")?;
+    check_run(
+        &rt,
+        "--suite weak",
+        "128x post 0 0 [00] & drain 0 / 128x post 0 64 [00] & drain 0 / 64x turn",
+        0,
+        ".. / seal 61 1.0 {2c} / ok 2 4 / seal 62 1.0 {6f} / ok 1 4 / seal 63 1.0 {2e} / ok 0 4 / seal 65 1.0 {50} / ok 62 4",
+    )?;
+    check_run(
+        &rt,
+        "--suite weak",
+        "128x post 0 0 [00] & drain 0 / 128x post 0 64 [00] & drain 0 / 128x post 0 128 [00] & drain 0 / 128x post 0 192 [00] & drain 0 / 128x post 0 256 [00] & drain 0",
+        0,
+        ".. / seal 59 1.0 {2a} / seal 60 1.0 {6d} / seal 61 1.0 {2c} / seal 62 1.0 {6f} / seal 63 1.0 {2e} / begin 4 / seal 256 1.1 {11} / ok 259",
+    )?;
+    check_run(
+        &rt,
+        "--suite weak",
+        "post 0 0 [00] / drain 0 / loss 2 / off / on",
+        0,
+        "ok / seal 0 0.1 {51} / ok 7 / ok 2 / ok / on 127 9 4",
+    )?;
+    check_run(
+        &rt,
+        "--suite weak",
+        "loss 16 / loss 16 / loss 3 / post 0 0 [00] / drain 0 / off / on",
+        0,
+        "ok 1 / ok 0 / range / ok / seal 0 0.1 {51} / ok 7 / ok / on 1024 9 5",
+    )?;
+    check_run(
+        &rt,
+        "--suite weak",
+        "post 0 0 [00] / drain 0 / cut 1 / loss 1 / on / read 0 0",
+        0,
+        "ok / seal 0 0.1 {51} / ok 7 / ok / cut 1 / on 255 9 4 / line [00] 0",
+    )?;
     Ok(())
 }
 
@@ -616,80 +682,109 @@ fn answers_a_sample_trace(rt: HostRuntime) -> Result<(), Fail> {
 }
 
 /// Words that are no command: nothing is read, and a sink that fails changes no status.
-#[test]
-fn refuses_words(rt: HostRuntime) -> Result<(), Fail> {
-    for words in [
-        "",
-        "ran",
-        "--help",
-        "run x",
-        "run --",
-        "run --loss",
-        "run --loss 3",
-        "run --levels 7",
-        "run --sets=0",
-        "run --ways 2 --ways 2",
-        "make 1",
-        "make 1 1000000",
-        "make 1 2 3",
-        "sample 0",
-        "sample 18446744073709551616 5",
-        "check x",
-        "check --levels 2",
-        "check --suite",
-        "check --suite=weak --suite weak",
-        "check -suite weak",
-        "check --key 0g",
-        "check --tag-key=",
-    ] {
-        let told = ran(&rt, words, b"read 0 0", (0, NEVER), PLACES)?;
-        check_end(&rt, words, told, 2, b"stop words\n");
-        let untold = ran(&rt, words, b"read 0 0", (0, 0), PLACES)?;
-        check_end(&rt, words, untold, 2, b"");
-    }
+fn check_refusal<R: Abort + AllocGlobal>(rt: &R, words: &str) -> Result<(), Fail> {
+    let told = ran(rt, words, b"read 0 0", (0, NEVER), PLACES)?;
+    check_end(rt, words, told, 2, b"stop words\n");
+    let untold = ran(rt, words, b"read 0 0", (0, 0), PLACES)?;
+    check_end(rt, words, untold, 2, b"");
     Ok(())
 }
 
-/// Sample traces, which pull nothing: the push that fails, the places, the status and the output.
+#[test]
+fn refuses_words(rt: HostRuntime) -> Result<(), Fail> {
+    check_refusal(&rt, "")?;
+    check_refusal(&rt, "ran")?;
+    check_refusal(&rt, "--help")?;
+    check_refusal(&rt, "run x")?;
+    check_refusal(&rt, "run --")?;
+    check_refusal(&rt, "run --loss")?;
+    check_refusal(&rt, "run --loss 3")?;
+    check_refusal(&rt, "run --levels 7")?;
+    check_refusal(&rt, "run --sets=0")?;
+    check_refusal(&rt, "run --ways 2 --ways 2")?;
+    check_refusal(&rt, "make 1")?;
+    check_refusal(&rt, "make 1 1000000")?;
+    check_refusal(&rt, "make 1 2 3")?;
+    check_refusal(&rt, "sample 0")?;
+    check_refusal(&rt, "sample 18446744073709551616 5")?;
+    check_refusal(&rt, "check x")?;
+    check_refusal(&rt, "check --levels 2")?;
+    check_refusal(&rt, "check --suite")?;
+    check_refusal(&rt, "check --suite=weak --suite weak")?;
+    check_refusal(&rt, "check -suite weak")?;
+    check_refusal(&rt, "check --key 0g")?;
+    check_refusal(&rt, "check --tag-key=")?;
+    Ok(())
+}
+
+/// A sample trace, which pulls nothing: the push that fails, the places, the status and the output.
+fn check_sample<R: Abort + AllocGlobal>(
+    rt: &R,
+    words: &str,
+    push: u64,
+    places: usize,
+    status: u8,
+    output: &str,
+) -> Result<(), Fail> {
+    let found = ran(rt, words, b"", (0, push), places)?;
+    check_end(rt, words, found, status, spelled(rt, output)?.as_slice());
+    Ok(())
+}
+
 #[test]
 fn makes_samples(rt: HostRuntime) -> Result<(), Fail> {
     let made = "flush / post 7 357 [78] / flush / read 6 129 / drain 1 / stat";
-    for (words, push, places, status, output) in [
-        ("make 0 5", NEVER, PLACES, 0, made),
-        ("make 0 0", NEVER, PLACES, 0, "stat"),
-        ("make 0 5", 0, PLACES, 4, ""),
-        ("make 0 1", NEVER, 8, 4, "flush / st / -"),
-        ("sample 0 5", NEVER, PLACES, 0, "stat 5 0 0 1 3"),
-        ("sample 0 5", 0, PLACES, 4, ""),
-        (
-            "sample 7 2000",
-            NEVER,
-            PLACES,
-            0,
-            "stat 4436 1761 1150 6697 2058",
-        ),
-        (
-            "sample 7 20000",
-            NEVER,
-            PLACES,
-            0,
-            "stat 51592 17613 11644 66445 19925",
-        ),
-        (
-            "sample 7 20000",
-            NEVER,
-            PLACES,
-            0,
-            "stat 51592 17613 11644 66445 19925",
-        ),
-    ] {
-        let found = ran(&rt, words, b"", (0, push), places)?;
-        check_end(&rt, words, found, status, spelled(&rt, output)?.as_slice());
-    }
+    check_sample(&rt, "make 0 5", NEVER, PLACES, 0, made)?;
+    check_sample(&rt, "make 0 0", NEVER, PLACES, 0, "stat")?;
+    check_sample(&rt, "make 0 5", 0, PLACES, 4, "")?;
+    check_sample(&rt, "make 0 1", NEVER, 8, 4, "flush / st / -")?;
+    check_sample(&rt, "sample 0 5", NEVER, PLACES, 0, "stat 5 0 0 1 3")?;
+    check_sample(&rt, "sample 0 5", 0, PLACES, 4, "")?;
+    check_sample(
+        &rt,
+        "sample 7 2000",
+        NEVER,
+        PLACES,
+        0,
+        "stat 4436 1761 1150 6697 2058",
+    )?;
+    check_sample(
+        &rt,
+        "sample 7 20000",
+        NEVER,
+        PLACES,
+        0,
+        "stat 51592 17613 11644 66445 19925",
+    )?;
+    check_sample(
+        &rt,
+        "sample 7 20000",
+        NEVER,
+        PLACES,
+        0,
+        "stat 51592 17613 11644 66445 19925",
+    )?;
     Ok(())
 }
 
-/// Exhibits: the words behind `check`, the lines, the pull and the push that fail, the status and the output.
+/// An exhibit: the words behind `check`, the lines, the pull and the push that fail, the status and the output.
+fn check_exhibit<R: Abort + AllocGlobal>(
+    rt: &R,
+    options: &str,
+    lines: [&str; 2],
+    failing: (u64, u64),
+    status: u8,
+    output: &str,
+) -> Result<(), Fail> {
+    let words = format!(in rt.alloc(); "check {options}")?;
+    let mut given = spelled(rt, lines[0])?;
+    given.extend_from_slice(spelled(rt, lines[1])?.as_slice())?;
+    let found = ran(rt, words.as_str(), given.as_slice(), failing, PLACES)?;
+    let told = spelled(rt, output)?;
+    check_end(rt, words.as_str(), found, status, told.as_slice());
+    Ok(())
+}
+
 #[test]
 fn checks_exhibits(rt: HostRuntime) -> Result<(), Fail> {
     let first =
@@ -698,111 +793,128 @@ fn checks_exhibits(rt: HostRuntime) -> Result<(), Fail> {
         "clash 5 [00] 01000000000000000000000000000000000000000000000000000000000000000000000000000000000000000000000000000000000000000000000000000000";
     let twin = "twin 0 0 0 1 [01..] {50}";
     let keys = "--tag-key=FF --suite=weak --key 000102030405060708090A0b0c0d0e0f";
-    for (options, trace, failing, status, output) in [
-        ("--suite weak", [first, ""], (NEVER, NEVER), 0, "holds"),
-        (keys, ["# note\r /  ", first], (NEVER, NEVER), 0, "holds"),
-        ("", [first, ""], (NEVER, NEVER), 8, "fails"),
-        ("--suite weak", [other, ""], (NEVER, NEVER), 8, "fails"),
-        (
-            "--suite weak",
-            ["forged 5 0.0 [04..] {55}", ""],
-            (NEVER, NEVER),
-            8,
-            "fails",
-        ),
-        (
-            "--suite weak",
-            ["forged 0 0.1 [01..] {51}", ""],
-            (NEVER, NEVER),
-            0,
-            "holds",
-        ),
-        ("--suite blur", [twin, ""], (NEVER, NEVER), 0, "holds"),
-        ("--suite weak", [twin, ""], (NEVER, NEVER), 8, "fails"),
-        (
-            "--suite blur",
-            ["twin 0 0 1 1 [01..] {50}", ""],
-            (NEVER, NEVER),
-            8,
-            "fails",
-        ),
-        (
-            "--suite blur",
-            ["twin 0 0 1 0 [01..] {50}", ""],
-            (NEVER, NEVER),
-            8,
-            "fails",
-        ),
-        (
-            "--suite blur",
-            ["twin 0 0 2 1 [01..] {50}", ""],
-            (NEVER, NEVER),
-            8,
-            "fails",
-        ),
-        ("", ["", ""], (NEVER, NEVER), 5, "stop line 0 2"),
-        ("", [" / #", ""], (NEVER, NEVER), 5, "stop line 0 2"),
-        (
-            "--suite weak",
-            [first, other],
-            (NEVER, NEVER),
-            5,
-            "stop line 2 2",
-        ),
-        (
-            "",
-            [first, " / clash 5"],
-            (NEVER, NEVER),
-            5,
-            "stop line 3 2",
-        ),
-        (
-            "",
-            [first, "clash x 0 0"],
-            (NEVER, NEVER),
-            5,
-            "stop line 2 3",
-        ),
-        (
-            "",
-            ["clash 4294967296 [00] [11]", ""],
-            (NEVER, NEVER),
-            5,
-            "stop line 1 3",
-        ),
-        (
-            "",
-            ["clash 5 [00] 127*1", ""],
-            (NEVER, NEVER),
-            5,
-            "stop line 1 5",
-        ),
-        ("", [first, "1025*a"], (NEVER, NEVER), 5, "stop line 2 6"),
-        ("", ["read 0 0", ""], (NEVER, NEVER), 5, "stop line 1 1"),
-        ("--suite weak", [first, ""], (0, NEVER), 3, "stop read"),
-        ("--suite weak", [first, ""], (1, NEVER), 3, "stop read"),
-        ("--suite weak", [first, ""], (2, NEVER), 0, "holds"),
-        ("--suite weak", [first, ""], (NEVER, 0), 4, ""),
-        ("--suite weak", [first, ""], (0, 0), 4, ""),
-    ] {
-        let words = format!(in rt.alloc(); "check {options}")?;
-        let mut given = spelled(&rt, trace[0])?;
-        given.extend_from_slice(spelled(&rt, trace[1])?.as_slice())?;
-        let found = ran(&rt, words.as_str(), given.as_slice(), failing, PLACES)?;
-        check_end(
-            &rt,
-            words.as_str(),
-            found,
-            status,
-            spelled(&rt, output)?.as_slice(),
-        );
-    }
+    check_exhibit(&rt, "--suite weak", [first, ""], (NEVER, NEVER), 0, "holds")?;
+    check_exhibit(
+        &rt,
+        keys,
+        ["# note\r /  ", first],
+        (NEVER, NEVER),
+        0,
+        "holds",
+    )?;
+    check_exhibit(&rt, "", [first, ""], (NEVER, NEVER), 8, "fails")?;
+    check_exhibit(&rt, "--suite weak", [other, ""], (NEVER, NEVER), 8, "fails")?;
+    check_exhibit(
+        &rt,
+        "--suite weak",
+        ["forged 5 0.0 [04..] {55}", ""],
+        (NEVER, NEVER),
+        8,
+        "fails",
+    )?;
+    check_exhibit(
+        &rt,
+        "--suite weak",
+        ["forged 0 0.1 [01..] {51}", ""],
+        (NEVER, NEVER),
+        0,
+        "holds",
+    )?;
+    check_exhibit(&rt, "--suite blur", [twin, ""], (NEVER, NEVER), 0, "holds")?;
+    check_exhibit(&rt, "--suite weak", [twin, ""], (NEVER, NEVER), 8, "fails")?;
+    check_exhibit(
+        &rt,
+        "--suite blur",
+        ["twin 0 0 1 1 [01..] {50}", ""],
+        (NEVER, NEVER),
+        8,
+        "fails",
+    )?;
+    check_exhibit(
+        &rt,
+        "--suite blur",
+        ["twin 0 0 1 0 [01..] {50}", ""],
+        (NEVER, NEVER),
+        8,
+        "fails",
+    )?;
+    check_exhibit(
+        &rt,
+        "--suite blur",
+        ["twin 0 0 2 1 [01..] {50}", ""],
+        (NEVER, NEVER),
+        8,
+        "fails",
+    )?;
+    check_exhibit(&rt, "", ["", ""], (NEVER, NEVER), 5, "stop line 0 2")?;
+    check_exhibit(&rt, "", [" / #", ""], (NEVER, NEVER), 5, "stop line 0 2")?;
+    check_exhibit(
+        &rt,
+        "--suite weak",
+        [first, other],
+        (NEVER, NEVER),
+        5,
+        "stop line 2 2",
+    )?;
+    check_exhibit(
+        &rt,
+        "",
+        [first, " / clash 5"],
+        (NEVER, NEVER),
+        5,
+        "stop line 3 2",
+    )?;
+    check_exhibit(
+        &rt,
+        "",
+        [first, "clash x 0 0"],
+        (NEVER, NEVER),
+        5,
+        "stop line 2 3",
+    )?;
+    check_exhibit(
+        &rt,
+        "",
+        ["clash 4294967296 [00] [11]", ""],
+        (NEVER, NEVER),
+        5,
+        "stop line 1 3",
+    )?;
+    check_exhibit(
+        &rt,
+        "",
+        ["clash 5 [00] 127*1", ""],
+        (NEVER, NEVER),
+        5,
+        "stop line 1 5",
+    )?;
+    check_exhibit(
+        &rt,
+        "",
+        [first, "1025*a"],
+        (NEVER, NEVER),
+        5,
+        "stop line 2 6",
+    )?;
+    check_exhibit(
+        &rt,
+        "",
+        ["read 0 0", ""],
+        (NEVER, NEVER),
+        5,
+        "stop line 1 1",
+    )?;
+    check_exhibit(&rt, "--suite weak", [first, ""], (0, NEVER), 3, "stop read")?;
+    check_exhibit(&rt, "--suite weak", [first, ""], (1, NEVER), 3, "stop read")?;
+    check_exhibit(&rt, "--suite weak", [first, ""], (2, NEVER), 0, "holds")?;
+    check_exhibit(&rt, "--suite weak", [first, ""], (NEVER, 0), 4, "")?;
+    check_exhibit(&rt, "--suite weak", [first, ""], (0, 0), 4, "")?;
     Ok(())
 }
 
 /// Lets each pull fail in turn. The replies to the lines that had come are put, and then `stop read`, unless the
 /// last of all lines had come, which is the one that stops the run.
-pub(crate) fn check_pulls<R: Abort + AllocGlobal>(
+fn check_pulls<R: Abort + AllocGlobal>(
     rt: &R,
     words: &str,
     trace: &str,
@@ -834,7 +946,7 @@ pub(crate) fn check_pulls<R: Abort + AllocGlobal>(
 }
 
 /// Lets each push fail in turn. Just the bytes before it are put.
-pub(crate) fn check_pushes<R: Abort + AllocGlobal>(
+fn check_pushes<R: Abort + AllocGlobal>(
     rt: &R,
     words: &str,
     trace: &str,
@@ -857,142 +969,194 @@ pub(crate) fn check_pushes<R: Abort + AllocGlobal>(
 }
 
 /// Each pull and each push fails in turn, a byte at a time: the words, the trace, and for each line its reply.
+pub(crate) fn check_faults<R: Abort + AllocGlobal>(
+    rt: &R,
+    words: &str,
+    trace: &str,
+    output: &str,
+    status: u8,
+) -> Result<(), Fail> {
+    check_pulls(rt, words, trace, output, status)?;
+    check_pushes(rt, words, trace, output, status)
+}
+
 #[test]
 fn stops_at_each_fault(rt: HostRuntime) -> Result<(), Fail> {
-    for (words, trace, output, status) in [
-        (
-            "run --suite weak --levels 1",
-            "post 0 0 [11] / cut 4 / drain 0 / cut 3 / on / on / read 0 0 / post 0 0 [11] / drain 0",
-            "ok / ok / seal 0 0.1 {51} & cut kept 4 / ok / cut 3 / on 256 5 4 / line [11] 0 / ok / seal 0 0.2 {12} & ok 6",
-            0,
-        ),
-        (
-            "run --suite blur --loss 2 --levels 1",
-            "post 0 0 [00] / drain 0 / off / on",
-            "ok / seal 0 0.1 {50} & ok 6 / ok / twin 0 0 0 1 [01..] {50}",
-            6,
-        ),
-        (
-            "run --levels 1",
-            "read 0 0 / reed 0 0",
-            "line [00] 0 / stop line 2 1",
-            5,
-        ),
-    ] {
-        check_pulls(&rt, words, trace, output, status)?;
-        check_pushes(&rt, words, trace, output, status)?;
-    }
+    check_faults(
+        &rt,
+        "run --suite weak --levels 1",
+        "post 0 0 [11] / cut 4 / drain 0 / cut 3 / on / on / read 0 0 / post 0 0 [11] / drain 0",
+        "ok / ok / seal 0 0.1 {51} & cut kept 4 / ok / cut 3 / on 256 5 4 / line [11] 0 / ok / seal 0 0.2 {12} & ok 6",
+        0,
+    )?;
+    check_faults(
+        &rt,
+        "run --suite blur --loss 2 --levels 1",
+        "post 0 0 [00] / drain 0 / off / on",
+        "ok / seal 0 0.1 {50} & ok 6 / ok / twin 0 0 0 1 [01..] {50}",
+        6,
+    )?;
+    check_faults(
+        &rt,
+        "run --levels 1",
+        "read 0 0 / reed 0 0",
+        "line [00] 0 / stop line 2 1",
+        5,
+    )?;
     Ok(())
 }
 
 /// The greatest chunks: the pull and the push that fail, the places, the status and the output.
-#[test]
-fn tells_faults(rt: HostRuntime) -> Result<(), Fail> {
-    for (trace, failing, places, status, output) in [
-        ("read 0 0", (0, NEVER), PLACES, 3, "stop read"),
-        (
-            "read 0 0 / re / -",
-            (1, NEVER),
-            PLACES,
-            3,
-            "line [00] 0 / stop read",
-        ),
-        // No pull follows the end.
-        ("read 0 0 / -", (2, NEVER), PLACES, 0, "line [00] 0"),
-        ("read 0 0", (NEVER, 0), PLACES, 4, ""),
-        // The replies are pushed before the next pull, and no push follows.
-        ("read 0 0 / re / -", (1, 1), PLACES, 4, "line [00] 0"),
-        ("read 0 0", (NEVER, NEVER), 8, 4, "line 000 / -"),
-    ] {
-        let given = spelled(&rt, trace)?;
-        let found = ran(&rt, "run", given.as_slice(), failing, places)?;
-        check_end(&rt, trace, found, status, spelled(&rt, output)?.as_slice());
-    }
+fn check_chunks<R: Abort + AllocGlobal>(
+    rt: &R,
+    trace: &str,
+    failing: (u64, u64),
+    places: usize,
+    status: u8,
+    output: &str,
+) -> Result<(), Fail> {
+    let given = spelled(rt, trace)?;
+    let found = ran(rt, "run", given.as_slice(), failing, places)?;
+    check_end(rt, trace, found, status, spelled(rt, output)?.as_slice());
     Ok(())
 }
 
-/// The limits on lines: a front, a byte so many times, an end, and the status and the output.
+#[test]
+fn tells_faults(rt: HostRuntime) -> Result<(), Fail> {
+    check_chunks(&rt, "read 0 0", (0, NEVER), PLACES, 3, "stop read")?;
+    check_chunks(
+        &rt,
+        "read 0 0 / re / -",
+        (1, NEVER),
+        PLACES,
+        3,
+        "line [00] 0 / stop read",
+    )?;
+    // No pull follows the end.
+    check_chunks(&rt, "read 0 0 / -", (2, NEVER), PLACES, 0, "line [00] 0")?;
+    check_chunks(&rt, "read 0 0", (NEVER, 0), PLACES, 4, "")?;
+    // The replies are pushed before the next pull, and no push follows.
+    check_chunks(&rt, "read 0 0 / re / -", (1, 1), PLACES, 4, "line [00] 0")?;
+    check_chunks(&rt, "read 0 0", (NEVER, NEVER), 8, 4, "line 000 / -")?;
+    Ok(())
+}
+
+/// A limit on lines: a front, a byte so many times, an end, and the status and the output.
+fn check_limit<R: Abort + AllocGlobal>(
+    rt: &R,
+    words: &str,
+    front: &str,
+    (byte, count): (u8, usize),
+    end: &str,
+    pull: u64,
+    status: u8,
+    output: &str,
+) -> Result<(), Fail> {
+    let mut trace = spelled(rt, front)?;
+    trace.extend_from_slice(vec![in rt.alloc(); byte; count]?.as_slice())?;
+    trace.extend_from_slice(spelled(rt, end)?.as_slice())?;
+    let found = ran(rt, words, trace.as_slice(), (pull, NEVER), PLACES)?;
+    check_end(rt, output, found, status, spelled(rt, output)?.as_slice());
+    Ok(())
+}
+
 #[test]
 fn keeps_limits(rt: HostRuntime) -> Result<(), Fail> {
-    let alloc = rt.alloc();
-    for (words, front, (byte, count), end, pull, status, output) in [
-        ("run", "", (b'\n', 1_000_000), "", NEVER, 0, ""),
-        ("run", "", (b'\n', 1_000_001), "", NEVER, 7, "stop lines"),
-        (
-            "run",
-            "",
-            (b'\n', 1_000_000),
-            "x / -",
-            NEVER,
-            7,
-            "stop lines",
-        ),
-        (
-            "run",
-            "read 0 0",
-            (b'\n', 999_999),
-            "read 0 0",
-            NEVER,
-            7,
-            "line [00] 0 / stop lines",
-        ),
-        (
-            "run",
-            "read 0 0",
-            (b'\n', 999_998),
-            "read 0 0 / -",
-            NEVER,
-            0,
-            "2x line [00] 0",
-        ),
-        (
-            "run",
-            "",
-            (b'\n', 999_999),
-            "reed 0 0",
-            NEVER,
-            5,
-            "stop line 1000000 1",
-        ),
-        (
-            "check",
-            "",
-            (b'\n', 1_000_000),
-            "",
-            NEVER,
-            5,
-            "stop line 0 2",
-        ),
-        ("check", "", (b'\n', 1_000_001), "", NEVER, 7, "stop lines"),
-        ("run", "", (b'a', 1_024), "", NEVER, 5, "stop line 1 1"),
-        ("run", "", (b'a', 1_025), "", NEVER, 5, "stop line 1 6"),
-        (
-            "run",
-            "",
-            (b'#', 1_024),
-            " / read 0 0",
-            NEVER,
-            0,
-            "line [00] 0",
-        ),
-        (
-            "run",
-            "",
-            (b'#', 1_025),
-            " / read 0 0",
-            NEVER,
-            5,
-            "stop line 1 6",
-        ),
-        ("run", "", (b'a', 1_025), "", 1, 5, "stop line 1 6"),
-        ("run", "", (b'a', 1_024), "", 1, 3, "stop read"),
-    ] {
-        let mut trace = spelled(&rt, front)?;
-        trace.extend_from_slice(vec![in alloc; byte; count]?.as_slice())?;
-        trace.extend_from_slice(spelled(&rt, end)?.as_slice())?;
-        let found = ran(&rt, words, trace.as_slice(), (pull, NEVER), PLACES)?;
-        check_end(&rt, output, found, status, spelled(&rt, output)?.as_slice());
-    }
+    check_limit(&rt, "run", "", (b'\n', 1_000_000), "", NEVER, 0, "")?;
+    check_limit(
+        &rt,
+        "run",
+        "",
+        (b'\n', 1_000_001),
+        "",
+        NEVER,
+        7,
+        "stop lines",
+    )?;
+    check_limit(
+        &rt,
+        "run",
+        "",
+        (b'\n', 1_000_000),
+        "x / -",
+        NEVER,
+        7,
+        "stop lines",
+    )?;
+    check_limit(
+        &rt,
+        "run",
+        "read 0 0",
+        (b'\n', 999_999),
+        "read 0 0",
+        NEVER,
+        7,
+        "line [00] 0 / stop lines",
+    )?;
+    check_limit(
+        &rt,
+        "run",
+        "read 0 0",
+        (b'\n', 999_998),
+        "read 0 0 / -",
+        NEVER,
+        0,
+        "2x line [00] 0",
+    )?;
+    check_limit(
+        &rt,
+        "run",
+        "",
+        (b'\n', 999_999),
+        "reed 0 0",
+        NEVER,
+        5,
+        "stop line 1000000 1",
+    )?;
+    check_limit(
+        &rt,
+        "check",
+        "",
+        (b'\n', 1_000_000),
+        "",
+        NEVER,
+        5,
+        "stop line 0 2",
+    )?;
+    check_limit(
+        &rt,
+        "check",
+        "",
+        (b'\n', 1_000_001),
+        "",
+        NEVER,
+        7,
+        "stop lines",
+    )?;
+    check_limit(&rt, "run", "", (b'a', 1_024), "", NEVER, 5, "stop line 1 1")?;
+    check_limit(&rt, "run", "", (b'a', 1_025), "", NEVER, 5, "stop line 1 6")?;
+    check_limit(
+        &rt,
+        "run",
+        "",
+        (b'#', 1_024),
+        " / read 0 0",
+        NEVER,
+        0,
+        "line [00] 0",
+    )?;
+    check_limit(
+        &rt,
+        "run",
+        "",
+        (b'#', 1_025),
+        " / read 0 0",
+        NEVER,
+        5,
+        "stop line 1 6",
+    )?;
+    check_limit(&rt, "run", "", (b'a', 1_025), "", 1, 5, "stop line 1 6")?;
+    check_limit(&rt, "run", "", (b'a', 1_024), "", 1, 3, "stop read")?;
     Ok(())
 }
 

@@ -99,76 +99,92 @@ fn check_talk<R: Abort>(rt: &R, at: &str, found: (u8, Vec<u8>), status: u8, outp
 }
 
 /// The trace, the status and the output, in great chunks and a byte at a time.
+fn check_lines<R: Abort + AllocGlobal>(
+    rt: &R,
+    trace: &str,
+    status: u8,
+    output: &str,
+) -> Result<(), Fail> {
+    let found = talked(rt, trace.as_bytes(), (NEVER, NEVER))?;
+    check_talk(rt, trace, found, status, output);
+    let found = talked_by_bytes(rt, trace.as_bytes(), (NEVER, NEVER))?;
+    check_talk(rt, trace, found, status, output);
+    Ok(())
+}
+
 #[test]
 fn answers_lines(rt: HostRuntime) -> Result<(), Fail> {
     let zeros = "0".repeat(rt.alloc(), 128)?;
     let shown = format!(in rt.alloc(); "a0\nclash 0 {zeros} {zeros}\n")?;
-    for (trace, status, output) in [
-        ("", 0, ""),
-        ("a", 0, "a0\n"),
-        ("a\nb\n", 0, "a0\nb1\n"),
-        ("a\n\nb", 0, "a0\nb1\n"),
-        (
-            "a\nb\nc\nd\ne\nf\ng\nh\ni\nj\nk\n",
-            0,
-            "a0\nb1\nc2\nd3\ne4\nf5\ng6\nh7\ni8\nj9\nk0\n",
-        ),
-        ("a\nbb\nc\n", 5, "a0\nstop line 2 1\n"),
-        ("\n\nbb", 5, "stop line 3 1\n"),
-        ("a\nm\nc\n", 1, "a0\nstop memory\n"),
-        ("m", 1, "stop memory\n"),
-        ("a\nx\nc\n", 6, shown.as_str()),
-        ("a\nx", 6, shown.as_str()),
-    ] {
-        let found = talked(&rt, trace.as_bytes(), (NEVER, NEVER))?;
-        check_talk(&rt, trace, found, status, output);
-        let found = talked_by_bytes(&rt, trace.as_bytes(), (NEVER, NEVER))?;
-        check_talk(&rt, trace, found, status, output);
-    }
+    check_lines(&rt, "", 0, "")?;
+    check_lines(&rt, "a", 0, "a0\n")?;
+    check_lines(&rt, "a\nb\n", 0, "a0\nb1\n")?;
+    check_lines(&rt, "a\n\nb", 0, "a0\nb1\n")?;
+    check_lines(
+        &rt,
+        "a\nb\nc\nd\ne\nf\ng\nh\ni\nj\nk\n",
+        0,
+        "a0\nb1\nc2\nd3\ne4\nf5\ng6\nh7\ni8\nj9\nk0\n",
+    )?;
+    check_lines(&rt, "a\nbb\nc\n", 5, "a0\nstop line 2 1\n")?;
+    check_lines(&rt, "\n\nbb", 5, "stop line 3 1\n")?;
+    check_lines(&rt, "a\nm\nc\n", 1, "a0\nstop memory\n")?;
+    check_lines(&rt, "m", 1, "stop memory\n")?;
+    check_lines(&rt, "a\nx\nc\n", 6, shown.as_str())?;
+    check_lines(&rt, "a\nx", 6, shown.as_str())?;
     Ok(())
 }
 
-/// The limits on lines: a byte so many times, the status and the output.
+/// A limit on lines: a byte so many times, the status and the output.
+fn check_limit<R: Abort + AllocGlobal>(
+    rt: &R,
+    byte: u8,
+    count: usize,
+    status: u8,
+    output: &str,
+) -> Result<(), Fail> {
+    let trace = vec![in rt.alloc(); byte; count]?;
+    let found = talked(rt, trace.as_slice(), (NEVER, NEVER))?;
+    check_talk(rt, output, found, status, output);
+    Ok(())
+}
+
 #[test]
 fn keeps_its_limits(rt: HostRuntime) -> Result<(), Fail> {
-    let alloc = rt.alloc();
-    for (byte, count, status, output) in [
-        (b'a', 1_024, 5, "stop line 1 1\n"),
-        (b'a', 1_025, 5, "stop line 1 6\n"),
-        (b'\n', 1_000_001, 7, "stop lines\n"),
-    ] {
-        let trace = vec![in alloc; byte; count]?;
-        let found = talked(&rt, trace.as_slice(), (NEVER, NEVER))?;
-        check_talk(&rt, output, found, status, output);
-    }
+    check_limit(&rt, b'a', 1_024, 5, "stop line 1 1\n")?;
+    check_limit(&rt, b'a', 1_025, 5, "stop line 1 6\n")?;
+    check_limit(&rt, b'\n', 1_000_001, 7, "stop lines\n")?;
     Ok(())
 }
 
-/// Each pull and each push fails in turn, a byte at a time.
+/// A pull fails, a byte at a time.
+fn check_pull<R: Abort + AllocGlobal>(rt: &R, pull: u64, output: &str) -> Result<(), Fail> {
+    let found = talked_by_bytes(rt, b"a\n\nb\n", (pull, NEVER))?;
+    check_talk(rt, output, found, 3, output);
+    Ok(())
+}
+
+/// A push fails, a byte at a time.
+fn check_push<R: Abort + AllocGlobal>(rt: &R, push: u64, output: &str) -> Result<(), Fail> {
+    let found = talked_by_bytes(rt, b"a\nbb\nc\n", (NEVER, push))?;
+    check_talk(rt, output, found, 4, output);
+    Ok(())
+}
+
 #[test]
 fn tells_each_fault(rt: HostRuntime) -> Result<(), Fail> {
-    for (pull, output) in [
-        (0, "stop read\n"),
-        (1, "stop read\n"),
-        (2, "a0\nstop read\n"),
-        (3, "a0\nstop read\n"),
-        (4, "a0\nstop read\n"),
-        (5, "a0\nb1\nstop read\n"),
-    ] {
-        let found = talked_by_bytes(&rt, b"a\n\nb\n", (pull, NEVER))?;
-        check_talk(&rt, output, found, 3, output);
-    }
-    for (push, output) in [
-        (0, ""),
-        (1, "a"),
-        (2, "a0"),
-        (3, "a0\n"),
-        (4, "a0\ns"),
-        (16, "a0\nstop line 2 1"),
-    ] {
-        let found = talked_by_bytes(&rt, b"a\nbb\nc\n", (NEVER, push))?;
-        check_talk(&rt, output, found, 4, output);
-    }
+    check_pull(&rt, 0, "stop read\n")?;
+    check_pull(&rt, 1, "stop read\n")?;
+    check_pull(&rt, 2, "a0\nstop read\n")?;
+    check_pull(&rt, 3, "a0\nstop read\n")?;
+    check_pull(&rt, 4, "a0\nstop read\n")?;
+    check_pull(&rt, 5, "a0\nb1\nstop read\n")?;
+    check_push(&rt, 0, "")?;
+    check_push(&rt, 1, "a")?;
+    check_push(&rt, 2, "a0")?;
+    check_push(&rt, 3, "a0\n")?;
+    check_push(&rt, 4, "a0\ns")?;
+    check_push(&rt, 16, "a0\nstop line 2 1")?;
     let found = talked_by_bytes(&rt, b"a\nbb\nc\n", (NEVER, 17))?;
     check_talk(&rt, "the end", found, 5, "a0\nstop line 2 1\n");
     Ok(())

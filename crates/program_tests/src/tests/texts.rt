@@ -5,7 +5,7 @@ ghost use Rattle.trace_text.specs.Answers.{HasSmallMinors};
 
 use crate::tests::equal;
 use arrayvec::ArrayVec;
-use pmem_base::{Answer, Command, Ctr, Exhibit, Kind, Line, Mark, Place, Stat};
+use pmem_base::{Answer, Command, Ctr, Exhibit, GhostLine, Kind, Line, Mark, Place, Stat};
 use rand_xoshiro::SplitMix64;
 use rand_xoshiro::rand_core::SeedableRng;
 use rand_xoshiro::rand_core::utils::NextWord;
@@ -37,9 +37,19 @@ fn spelled(alloc: Global, line: &str) -> Result<String, AllocError> {
     Ok(text)
 }
 
+/// A line in shorthand is read so.
+fn check_line<R: Abort + AllocGlobal>(
+    rt: &R,
+    line: &str,
+    wanted: Result<Option<Command>, Kind>,
+) -> Result<(), Fail> {
+    let given = spelled(rt.alloc(), line)?;
+    assert_eq!(rt; read_command(given.as_bytes()), wanted, "at {line}");
+    Ok(())
+}
+
 #[test]
 fn reads_lines(rt: HostRuntime) -> Result<(), Fail> {
-    let alloc = rt.alloc();
     let read = Ok(Some(Command::Read { port: 0, at: 7 }));
     let last = Ok(Some(Command::Read {
         port: 0,
@@ -51,99 +61,93 @@ fn reads_lines(rt: HostRuntime) -> Result<(), Fail> {
         at: 5,
         line: Line([0xab; 64]),
     }));
-    for (line, wanted) in [
-        ("", Ok(None)),
-        ("\r", Ok(None)),
-        (" \t", Ok(None)),
-        ("  # read 0", Ok(None)),
-        ("#$abc", Ok(None)),
-        ("#$abcd", Err(Kind::Long)),
-        ("$abcd", Err(Kind::Word)),
-        ("$abcde", Err(Kind::Long)),
-        ("$abcd\r", Err(Kind::Long)),
-        ("  read\t0  7\r", read),
-        ("read 00 00000000000000000007 ", read),
-        ("read 0 000000000000000000007", Err(Kind::Number)),
-        ("read 0 18446744073709551615", last),
-        ("read 0 18446744073709551616", Err(Kind::Number)),
-        ("read 8 0", Err(Kind::Port)),
-        ("read 7 7", Ok(Some(Command::Read { port: 7, at: 7 }))),
-        ("read x 0", Err(Kind::Number)),
-        ("read 9 x", Err(Kind::Port)),
-        ("read 0", Err(Kind::Count)),
-        ("read x", Err(Kind::Count)),
-        ("read 0 7 0", Err(Kind::Count)),
-        ("read 0 7\r\r", Err(Kind::Number)),
-        ("READ 0 7", Err(Kind::Word)),
-        ("re\tad 0 7", Err(Kind::Word)),
-        ("turn", Ok(Some(Command::Turn))),
-        ("drain 000", drain),
-        ("drain", Err(Kind::Count)),
-        ("post 0 5 %aB", post),
-        ("post 0 5 %a", Err(Kind::Hex)),
-        ("post 0 5 %aBc", Err(Kind::Hex)),
-        ("post 0 5 %ag", Err(Kind::Hex)),
-    ] {
-        let given = spelled(alloc, line)?;
-        assert_eq!(rt; read_command(given.as_bytes()), wanted, "at {line}");
-    }
+    check_line(&rt, "", Ok(None))?;
+    check_line(&rt, "\r", Ok(None))?;
+    check_line(&rt, " \t", Ok(None))?;
+    check_line(&rt, "  # read 0", Ok(None))?;
+    check_line(&rt, "#$abc", Ok(None))?;
+    check_line(&rt, "#$abcd", Err(Kind::Long))?;
+    check_line(&rt, "$abcd", Err(Kind::Word))?;
+    check_line(&rt, "$abcde", Err(Kind::Long))?;
+    check_line(&rt, "$abcd\r", Err(Kind::Long))?;
+    check_line(&rt, "  read\t0  7\r", read)?;
+    check_line(&rt, "read 00 00000000000000000007 ", read)?;
+    check_line(&rt, "read 0 000000000000000000007", Err(Kind::Number))?;
+    check_line(&rt, "read 0 18446744073709551615", last)?;
+    check_line(&rt, "read 0 18446744073709551616", Err(Kind::Number))?;
+    check_line(&rt, "read 8 0", Err(Kind::Port))?;
+    check_line(&rt, "read 7 7", Ok(Some(Command::Read { port: 7, at: 7 })))?;
+    check_line(&rt, "read x 0", Err(Kind::Number))?;
+    check_line(&rt, "read 9 x", Err(Kind::Port))?;
+    check_line(&rt, "read 0", Err(Kind::Count))?;
+    check_line(&rt, "read x", Err(Kind::Count))?;
+    check_line(&rt, "read 0 7 0", Err(Kind::Count))?;
+    check_line(&rt, "read 0 7\r\r", Err(Kind::Number))?;
+    check_line(&rt, "READ 0 7", Err(Kind::Word))?;
+    check_line(&rt, "re\tad 0 7", Err(Kind::Word))?;
+    check_line(&rt, "turn", Ok(Some(Command::Turn)))?;
+    check_line(&rt, "drain 000", drain)?;
+    check_line(&rt, "drain", Err(Kind::Count))?;
+    check_line(&rt, "post 0 5 %aB", post)?;
+    check_line(&rt, "post 0 5 %a", Err(Kind::Hex))?;
+    check_line(&rt, "post 0 5 %aBc", Err(Kind::Hex))?;
+    check_line(&rt, "post 0 5 %ag", Err(Kind::Hex))?;
+    Ok(())
+}
+
+/// A line in shorthand is a command that is written as this text in shorthand.
+fn check_command<R: Abort + AllocGlobal>(rt: &R, line: &str, text: &str) -> Result<(), Fail> {
+    let given = spelled(rt.alloc(), line)?;
+    let wanted = spelled(rt.alloc(), text)?;
+    let Ok(Some(command)) = read_command(given.as_bytes()) else {
+        return Err(Fail::new("no command"));
+    };
+    assert_eq!(rt;
+        write_command(&command).as_slice(),
+        wanted.as_bytes(),
+        "at {line}"
+    );
     Ok(())
 }
 
 #[test]
 fn reads_and_writes_commands(rt: HostRuntime) -> Result<(), Fail> {
-    let alloc = rt.alloc();
-    for (line, wanted) in [
-        (
-            "post 07 18446744073709551615 %AB",
-            Ok("post 7 18446744073709551615 %ab"),
-        ),
-        ("part 1 5 62 aaBB", Ok("part 1 5 62 aabb")),
-        ("part 0 0 0 %ab", Ok("part 0 0 0 %ab")),
-        ("part 0 0 0 a", Err(Kind::Hex)),
-        ("part 0 0 0 aab", Err(Kind::Hex)),
-        ("part 0 0 0 %abab", Err(Kind::Hex)),
-        ("part 0 0 x zz", Err(Kind::Number)),
-        ("part 0 0 aa", Err(Kind::Count)),
-        ("drain 7", Ok("drain 7")),
-        ("drain 8", Err(Kind::Port)),
-        ("fence 00", Ok("fence 0")),
-        ("fence 0 0", Err(Kind::Count)),
-        ("read 3 1", Ok("read 3 1")),
-        (" turn ", Ok("turn")),
-        ("turn 1", Err(Kind::Count)),
-        ("flush", Ok("flush")),
-        ("cut 003", Ok("cut 3")),
-        ("cut -1", Err(Kind::Number)),
-        ("off", Ok("off")),
-        ("on\r", Ok("on")),
-        ("poke 1303 %ab", Ok("poke 1303 %ab")),
-        ("poke x %", Err(Kind::Number)),
-        ("poke 0 %", Err(Kind::Hex)),
-        ("flip 5 511", Ok("flip 5 511")),
-        ("move 2 0", Ok("move 2 0")),
-        ("move 2", Err(Kind::Count)),
-        ("snap", Ok("snap")),
-        ("back 1301", Ok("back 1301")),
-        ("peek\t0", Ok("peek 0")),
-        ("stat", Ok("stat")),
-        ("loss 16", Ok("loss 16")),
-        ("lose 16", Err(Kind::Word)),
-    ] {
-        let given = spelled(alloc, line)?;
-        match (read_command(given.as_bytes()), wanted) {
-            (Ok(Some(command)), Ok(text)) => {
-                let text = spelled(alloc, text)?;
-                assert_eq!(rt;
-                    write_command(&command).as_slice(),
-                    text.as_bytes(),
-                    "at {line}"
-                );
-            }
-            (Err(kind), wanted) => assert_eq!(rt; Some(kind), wanted.err(), "at {line}"),
-            _ => assert_eq!(rt; "nothing or a command", "the other", "at {line}"),
-        }
-    }
+    check_command(
+        &rt,
+        "post 07 18446744073709551615 %AB",
+        "post 7 18446744073709551615 %ab",
+    )?;
+    check_command(&rt, "part 1 5 62 aaBB", "part 1 5 62 aabb")?;
+    check_command(&rt, "part 0 0 0 %ab", "part 0 0 0 %ab")?;
+    check_line(&rt, "part 0 0 0 a", Err(Kind::Hex))?;
+    check_line(&rt, "part 0 0 0 aab", Err(Kind::Hex))?;
+    check_line(&rt, "part 0 0 0 %abab", Err(Kind::Hex))?;
+    check_line(&rt, "part 0 0 x zz", Err(Kind::Number))?;
+    check_line(&rt, "part 0 0 aa", Err(Kind::Count))?;
+    check_command(&rt, "drain 7", "drain 7")?;
+    check_line(&rt, "drain 8", Err(Kind::Port))?;
+    check_command(&rt, "fence 00", "fence 0")?;
+    check_line(&rt, "fence 0 0", Err(Kind::Count))?;
+    check_command(&rt, "read 3 1", "read 3 1")?;
+    check_command(&rt, " turn ", "turn")?;
+    check_line(&rt, "turn 1", Err(Kind::Count))?;
+    check_command(&rt, "flush", "flush")?;
+    check_command(&rt, "cut 003", "cut 3")?;
+    check_line(&rt, "cut -1", Err(Kind::Number))?;
+    check_command(&rt, "off", "off")?;
+    check_command(&rt, "on\r", "on")?;
+    check_command(&rt, "poke 1303 %ab", "poke 1303 %ab")?;
+    check_line(&rt, "poke x %", Err(Kind::Number))?;
+    check_line(&rt, "poke 0 %", Err(Kind::Hex))?;
+    check_command(&rt, "flip 5 511", "flip 5 511")?;
+    check_command(&rt, "move 2 0", "move 2 0")?;
+    check_line(&rt, "move 2", Err(Kind::Count))?;
+    check_command(&rt, "snap", "snap")?;
+    check_command(&rt, "back 1301", "back 1301")?;
+    check_command(&rt, "peek\t0", "peek 0")?;
+    check_command(&rt, "stat", "stat")?;
+    check_command(&rt, "loss 16", "loss 16")?;
+    check_line(&rt, "lose 16", Err(Kind::Word))?;
     Ok(())
 }
 
@@ -164,100 +168,105 @@ fn check_answer<R: Abort>(rt: &R, command: Command, answer: Answer, text: &str)
     );
 }
 
+/// A text in shorthand is no answer to this command.
+fn check_no_answer<R: Abort + AllocGlobal>(
+    rt: &R,
+    command: Command,
+    line: &str,
+) -> Result<(), Fail> {
+    let given = spelled(rt.alloc(), line)?;
+    assert_eq!(rt; read_answer(&command, given.as_bytes()), None, "at {line}");
+    Ok(())
+}
+
 #[test]
 fn refuses_texts(rt: HostRuntime) -> Result<(), Fail> {
-    let alloc = rt.alloc();
     let (drain, fence) = (Command::Drain { port: 0 }, Command::Fence { port: 0 });
     let (read, on) = (Command::Read { port: 0, at: 7 }, Command::On);
-    for (command, line) in [
-        (drain, ""),
-        (drain, "ok"),
-        (drain, "ok 07"),
-        (drain, "ok  7"),
-        (drain, " ok 7"),
-        (drain, "ok 7 "),
-        (drain, "ok 7\r"),
-        (drain, "OK 7"),
-        (drain, "ok 18446744073709551616"),
-        (drain, "ok 3 16"),
-        (drain, "cut 4"),
-        (drain, "cut kept 2 4"),
-        (drain, "refused 0 data 5 0"),
-        (drain, "refused page 5 0"),
-        (drain, "refused data 4294967296 0"),
-        (drain, "idle"),
-        (fence, "ok 7"),
-        (fence, "ok 256 7"),
-        (fence, "cut kept 4"),
-        (fence, "refused data 5 0"),
-        (fence, "spent 0 0"),
-        (fence, "empty"),
-        (read, "line %AB 0"),
-        (read, "line %a 0"),
-        (read, "already"),
-        (on, "on 1 2"),
-        (on, "refused counter 5"),
-        (on, "twin 0 0 0 128 %ab 00000000000000000000000000000050"),
-        (on, "clash 05 %ab %ab"),
-        (on, "clash 5 %ab %AB"),
-        (Command::Flush, "ok 4294967296 1"),
-        (Command::Turn, "ok 256 1"),
-        (Command::Stat, "stat 1 2 3 4"),
-        (Command::Cut { n: 0 }, "ok 0"),
-        (Command::Loss { n: 4 }, "ok"),
-        (Command::Flush, "clash 5 %ab %ab"),
-    ] {
-        let given = spelled(alloc, line)?;
-        assert_eq!(rt; read_answer(&command, given.as_bytes()), None, "at {line}");
-    }
+    check_no_answer(&rt, drain, "")?;
+    check_no_answer(&rt, drain, "ok")?;
+    check_no_answer(&rt, drain, "ok 07")?;
+    check_no_answer(&rt, drain, "ok  7")?;
+    check_no_answer(&rt, drain, " ok 7")?;
+    check_no_answer(&rt, drain, "ok 7 ")?;
+    check_no_answer(&rt, drain, "ok 7\r")?;
+    check_no_answer(&rt, drain, "OK 7")?;
+    check_no_answer(&rt, drain, "ok 18446744073709551616")?;
+    check_no_answer(&rt, drain, "ok 3 16")?;
+    check_no_answer(&rt, drain, "cut 4")?;
+    check_no_answer(&rt, drain, "cut kept 2 4")?;
+    check_no_answer(&rt, drain, "refused 0 data 5 0")?;
+    check_no_answer(&rt, drain, "refused page 5 0")?;
+    check_no_answer(&rt, drain, "refused data 4294967296 0")?;
+    check_no_answer(&rt, drain, "idle")?;
+    check_no_answer(&rt, fence, "ok 7")?;
+    check_no_answer(&rt, fence, "ok 256 7")?;
+    check_no_answer(&rt, fence, "cut kept 4")?;
+    check_no_answer(&rt, fence, "refused data 5 0")?;
+    check_no_answer(&rt, fence, "spent 0 0")?;
+    check_no_answer(&rt, fence, "empty")?;
+    check_no_answer(&rt, read, "line %AB 0")?;
+    check_no_answer(&rt, read, "line %a 0")?;
+    check_no_answer(&rt, read, "already")?;
+    check_no_answer(&rt, on, "on 1 2")?;
+    check_no_answer(&rt, on, "refused counter 5")?;
+    check_no_answer(
+        &rt,
+        on,
+        "twin 0 0 0 128 %ab 00000000000000000000000000000050",
+    )?;
+    check_no_answer(&rt, on, "clash 05 %ab %ab")?;
+    check_no_answer(&rt, on, "clash 5 %ab %AB")?;
+    check_no_answer(&rt, Command::Flush, "ok 4294967296 1")?;
+    check_no_answer(&rt, Command::Turn, "ok 256 1")?;
+    check_no_answer(&rt, Command::Stat, "stat 1 2 3 4")?;
+    check_no_answer(&rt, Command::Cut { n: 0 }, "ok 0")?;
+    check_no_answer(&rt, Command::Loss { n: 4 }, "ok")?;
+    check_no_answer(&rt, Command::Flush, "clash 5 %ab %ab")?;
     Ok(())
 }
 
 #[test]
 fn makes_samples(rt: HostRuntime) {
     let mut words = SplitMix64::from_seed([0; 8]);
-    for word in [
-        0xe220_a839_7b1d_cdaf,
-        0x6e78_9e6a_a1b9_65f4,
-        0x06c4_5d18_8009_454f,
-        0xf88b_b8a8_724c_81ec,
-        0x1b39_896a_51a8_749b,
-    ] {
-        equal(&rt, words.next_word(), word);
-    }
+    equal(&rt, words.next_word(), 0xe220_a839_7b1d_cdaf);
+    equal(&rt, words.next_word(), 0x6e78_9e6a_a1b9_65f4);
+    equal(&rt, words.next_word(), 0x06c4_5d18_8009_454f);
+    equal(&rt, words.next_word(), 0xf88b_b8a8_724c_81ec);
+    equal(&rt, words.next_word(), 0x1b39_896a_51a8_749b);
     let mut maker = Maker::new(0);
-    for command in [
-        Command::Flush,
+    equal(&rt, maker.next(), Command::Flush);
+    equal(
+        &rt,
+        maker.next(),
         Command::Post {
             port: 7,
             at: 357,
             line: Line([0x78; 64]),
         },
-        Command::Flush,
-        Command::Read { port: 6, at: 129 },
-        Command::Drain { port: 1 },
-    ] {
-        equal(&rt, maker.next(), command);
-    }
+    );
+    equal(&rt, maker.next(), Command::Flush);
+    equal(&rt, maker.next(), Command::Read { port: 6, at: 129 });
+    equal(&rt, maker.next(), Command::Drain { port: 1 });
     let mut maker = Maker::new(7);
     for _ in 0..506 {
         let _ = maker.next();
     }
-    for command in [
-        Command::Drain { port: 1 },
-        Command::Cut { n: 2 },
+    equal(&rt, maker.next(), Command::Drain { port: 1 });
+    equal(&rt, maker.next(), Command::Cut { n: 2 });
+    equal(
+        &rt,
+        maker.next(),
         Command::Post {
             port: 0,
             at: 515,
             line: Line([0xb3; 64]),
         },
-        Command::Fence { port: 0 },
-        Command::Off,
-        Command::On,
-        Command::Read { port: 3, at: 1 },
-    ] {
-        equal(&rt, maker.next(), command);
-    }
+    );
+    equal(&rt, maker.next(), Command::Fence { port: 0 });
+    equal(&rt, maker.next(), Command::Off);
+    equal(&rt, maker.next(), Command::On);
+    equal(&rt, maker.next(), Command::Read { port: 3, at: 1 });
 }
 
 #[test]
@@ -365,7 +374,7 @@ fn writes_texts(rt: HostRuntime) {
     let seal = Mark::Seal {
         at: 0,
         ctr: Ctr { major: 0, minor: 1 },
-        cipher: Line([0; 64]),
+        cipher: GhostLine::of(&Line([0; 64])),
         tag: [0x51; 16],
     };
     let seal_text = b"seal 0 0.1 51515151515151515151515151515151";

@@ -83,7 +83,7 @@ fn read(rt: &impl Abort, bench: &mut Bench, gapped: &mut Gapped, line: u32, plai
 {
     assert!(rt; line < gapped.lines());
     let answer = gapped.read(&mut bench.board, &mut bench.suite, &mut bench.ledger, line);
-    assert_eq!(rt; answer, Ok(*plain), "line {line}");
+    equal(rt, (line, answer), (line, Ok(*plain)));
 }
 
 // The first line and then the last one are written, each with a move.
@@ -113,35 +113,53 @@ fn lines_are_written_and_move(rt: HostRuntime) -> Result<(), Fail> {
     Ok(())
 }
 
+/// Cuts power after so many steps of a write with its move, and reads the line.
+fn cut_write(rt: &impl Abort, alloc: Global, fuse: u8) -> Result<(), Fail> {
+    let mut bench = fresh(alloc, 0)?;
+    let mut gapped = opened(alloc, &mut bench, 1)?;
+    bench.board.arm(u64::from(fuse));
+    match put(rt, &mut bench, &mut gapped, 0, &Line([0xaa; 64])) {
+        Ok(moved) => equal(rt, (fuse, moved), (17, Moved::Made)),
+        Err(fault) => equal(
+            rt,
+            (fuse, fault.fault, fault.written),
+            (fuse, Fault::Cut, fuse > 6),
+        ),
+    }
+    bench.board.off();
+    bench.board.power();
+    let mut gapped = opened(alloc, &mut bench, 1)?;
+    let gap = if fuse > 13 { 1021 } else { 1022 };
+    equal(rt, (fuse, gapped.wear()), (fuse, &Wear { start: 0, gap }));
+    let plain = if fuse > 3 {
+        Line([0xaa; 64])
+    } else {
+        Line::default()
+    };
+    read(rt, &mut bench, &mut gapped, 0, &plain);
+    Ok(())
+}
+
 // The write takes 17 steps. From the latch on, its fourth step, the line is there; from the latch of the record on,
 // its fourteenth, the gap has moved.
 #[test]
 fn cuts_keep_each_line(rt: HostRuntime) -> Result<(), Fail> {
-    for fuse in 0..18_u8 {
-        let mut bench = fresh(rt.alloc(), 0)?;
-        let mut gapped = opened(rt.alloc(), &mut bench, 1)?;
-        bench.board.arm(u64::from(fuse));
-        let answer = put(&rt, &mut bench, &mut gapped, 0, &Line([0xaa; 64]));
-        match answer {
-            Ok(moved) => equal(&rt, (moved, fuse), (Moved::Made, 17)),
-            Err(fault) => assert_eq!(rt;
-                (fault.fault, fault.written),
-                (Fault::Cut, fuse > 6),
-                "at {fuse}"
-            ),
-        }
-        bench.board.off();
-        bench.board.power();
-        let mut gapped = opened(rt.alloc(), &mut bench, 1)?;
-        let gap = if fuse > 13 { 1021 } else { 1022 };
-        assert_eq!(rt; gapped.wear(), &Wear { start: 0, gap }, "at {fuse}");
-        let plain = if fuse > 3 {
-            Line([0xaa; 64])
-        } else {
-            Line::default()
-        };
-        read(&rt, &mut bench, &mut gapped, 0, &plain);
+    for fuse in 0..18 {
+        cut_write(&rt, rt.alloc(), fuse)?;
     }
+    Ok(())
+}
+
+/// Changes a line of the device: then the record isn't read.
+fn change(rt: &impl Abort, alloc: Global, at: u32) -> Result<(), Fail> {
+    let mut bench = fresh(alloc, 0)?;
+    if at >= bench.board.size() {
+        return Err(Fail::new("no line of the device"));
+    }
+    bench.board.poke(at, &Line([1; 64]));
+    let engine = recovered(alloc, &mut bench)?;
+    let fault = GapFault::Engine(Fault::Tag { at: 1023 });
+    equal(rt, open(&mut bench, engine, 1).err(), Some(fault));
     Ok(())
 }
 
@@ -152,19 +170,10 @@ fn faulty_records_are_told(rt: HostRuntime) -> Result<(), Fail> {
     let mut bench = fresh(rt.alloc(), 0)?;
     let mut engine = recovered(rt.alloc(), &mut bench)?;
     let line = Line([1; 64]);
-    assert!(rt; write_past(&rt, &mut bench, &mut engine, 1023, &line).is_ok());
-    equal(
-        &rt,
-        open(&mut bench, engine, 1).err(),
-        Some(GapFault::BadWear { line }),
-    );
-    for changed in [1023, 1024 + 255] {
-        let mut bench = fresh(rt.alloc(), 0)?;
-        assert!(rt; changed < bench.board.size());
-        bench.board.poke(changed, &line);
-        let engine = recovered(rt.alloc(), &mut bench)?;
-        let fault = GapFault::Engine(Fault::Tag { at: 1023 });
-        equal(&rt, open(&mut bench, engine, 1).err(), Some(fault));
-    }
-    Ok(())
+    let written = write_past(&rt, &mut bench, &mut engine, 1023, &line);
+    equal(&rt, written.is_ok(), true);
+    let fault = open(&mut bench, engine, 1).err();
+    equal(&rt, fault, Some(GapFault::BadWear { line }));
+    change(&rt, rt.alloc(), 1023)?;
+    change(&rt, rt.alloc(), 1024 + 255)
 }

@@ -81,6 +81,17 @@ fn read(rt: &impl Abort, bench: &mut Bench, store: &mut Store, at: u32) -> Line
     answer.unwrap_or_default()
 }
 
+/// A transaction of the lines 0 and 64.
+fn pair(rt: &impl Abort, store: &Store) -> ArrayVec<(u32, Line), 15>
+    ensures { AreDistinctBelow store.now.lines (targets_of result.items) }
+{
+    assert!(rt; store.lines() > 64);
+    let mut txn = ArrayVec::new();
+    txn.push((0, Line([0x11; 64])));
+    txn.push((64, Line([0x22; 64])));
+    txn
+}
+
 // Two lines are committed in 30 steps, and no lines in none.
 #[test]
 fn transactions_are_applied(rt: HostRuntime) -> Result<(), Fail> {
@@ -98,10 +109,7 @@ fn transactions_are_applied(rt: HostRuntime) -> Result<(), Fail> {
     let before = steps(&bench);
     let done = commit(&rt, &mut bench, &mut store, &ArrayVec::new());
     equal(&rt, (done, steps(&bench)), (Ok(Done::Applied), before));
-    let mut txn = ArrayVec::new();
-    txn.push((0, Line([0x11; 64])));
-    txn.push((64, Line([0x22; 64])));
-    assert!(rt; store.lines() > 64);
+    let txn = pair(&rt, &store);
     let done = commit(&rt, &mut bench, &mut store, &txn);
     equal(&rt, done, Ok(Done::Applied));
     equal(&rt, steps(&bench).wrapping_sub(before), 30);
@@ -111,42 +119,49 @@ fn transactions_are_applied(rt: HostRuntime) -> Result<(), Fail> {
     Ok(())
 }
 
+/// Cuts power after so many steps of a commit of two lines, and reads them.
+fn cut_commit(rt: &impl Abort, alloc: Global, fuse: u8) -> Result<(), Fail> {
+    let mut bench = fresh(alloc, 0)?;
+    let (mut store, _) = opened(rt, alloc, &mut bench)?;
+    let txn = pair(rt, &store);
+    bench.board.arm(u64::from(fuse));
+    match commit(rt, &mut bench, &mut store, &txn) {
+        Ok(done) => equal(rt, (fuse, done), (30, Done::Applied)),
+        Err(fault) => equal(
+            rt,
+            (fuse, fault.fault, fault.committed),
+            (fuse, Fault::Cut, fuse > 14),
+        ),
+    }
+    bench.board.off();
+    bench.board.power();
+    let (mut store, again) = opened(rt, alloc, &mut bench)?;
+    let whole = fuse > 11;
+    let redone = if whole && fuse < 27 { 2 } else { 0 };
+    let wanted = Opened {
+        redone,
+        stuck: None,
+    };
+    equal(rt, (fuse, again), (fuse, wanted));
+    let lines = if whole {
+        [Line([0x11; 64]), Line([0x22; 64])]
+    } else {
+        [Line::default(); 2]
+    };
+    let found = [
+        read(rt, &mut bench, &mut store, 0),
+        read(rt, &mut bench, &mut store, 64),
+    ];
+    equal(rt, (fuse, found), (fuse, lines));
+    Ok(())
+}
+
 // Power is cut after each number of steps. From the twelfth on, the latch of the header's write, both lines are
 // there; before that none is.
 #[test]
 fn cuts_leave_all_or_none(rt: HostRuntime) -> Result<(), Fail> {
-    for fuse in 0..31_u8 {
-        let mut bench = fresh(rt.alloc(), 0)?;
-        let (mut store, _) = opened(&rt, rt.alloc(), &mut bench)?;
-        let mut txn = ArrayVec::new();
-        txn.push((0, Line([0x11; 64])));
-        txn.push((64, Line([0x22; 64])));
-        assert!(rt; store.lines() > 64);
-        bench.board.arm(u64::from(fuse));
-        match commit(&rt, &mut bench, &mut store, &txn) {
-            Ok(done) => assert_eq!(rt; (done, fuse), (Done::Applied, 30)),
-            Err(fault) => assert_eq!(rt;
-                (fault.fault, fault.committed),
-                (Fault::Cut, fuse > 14),
-                "at {fuse}"
-            ),
-        }
-        bench.board.off();
-        bench.board.power();
-        let (mut store, again) = opened(&rt, rt.alloc(), &mut bench)?;
-        let whole = fuse > 11;
-        let redone = if whole && fuse < 27 { 2 } else { 0 };
-        assert_eq!(rt; (again.redone, again.stuck), (redone, None), "at {fuse}");
-        let lines = if whole {
-            [Line([0x11; 64]), Line([0x22; 64])]
-        } else {
-            [Line::default(); 2]
-        };
-        let found = [
-            read(&rt, &mut bench, &mut store, 0),
-            read(&rt, &mut bench, &mut store, 64),
-        ];
-        assert_eq!(rt; found, lines, "at {fuse}");
+    for fuse in 0..31 {
+        cut_commit(&rt, rt.alloc(), fuse)?;
     }
     Ok(())
 }

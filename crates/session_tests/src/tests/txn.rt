@@ -8,7 +8,6 @@ use pmem_base::Geo;
 use std::alloc::Global;
 use std::test::Fail;
 use suite::WeakSuite;
-use trace_text::Talk;
 use txn_session::TxnWorld;
 
 /// A new session: levels, sets, ways, the stop-loss number and the first major; and whether the suite makes twins.
@@ -21,17 +20,4 @@ fn new_session(
     let geo = Geo::new(levels, sets, ways, loss, major)?;
     let suite = WeakSuite::new(&KEY, &TAG_KEY, blur);
     Ok(TxnWorld::new(alloc, geo, suite)?)
-}
-
-/// Whether a command's answer begins so.
-fn begins<T: Talk>(
-    alloc: Global,
-    session: &mut T,
-    command: &str,
-    front: &str,
-) -> Result<bool, Fail> {
-    match session.talk(alloc, command.as_bytes()) {
-        Ok(Some(text)) => Ok(text.as_slice().starts_with(front.as_bytes())),
-        _ => Err(Fail::new("no answer")),
-    }
 }

@@ -3,7 +3,7 @@
 ghost use Rattle.std.specs.Prelude.{◌≤◌, ◌+◌};
 ghost use Rattle.pmem_base.specs.Ranges.{IsPosted};
 
-use super::{Bench, Chip, formatted};
+use super::{Bench, Chip, either, formatted};
 use crate::tests::equal;
 use board::{Board, MemBoard};
 use bonsai_tree::node_of;
@@ -66,6 +66,11 @@ impl Chip {
         self.engine.write(&mut self.board, &mut self.suite, &mut self.ledger, at, line)
     }
 
+    /// A write has this answer.
+    fn writes(&mut self, rt: &impl Abort, at: u32, line: &Line, wanted: Result<Ctr, Fault>) {
+        equal(rt, self.write(rt, at, line), wanted);
+    }
+
     fn write_part(&mut self, rt: &impl Abort, write: &Posted) -> Result<Ctr, Fault>
         requires { IsPosted write.now }
     {
@@ -86,6 +91,32 @@ impl Chip {
     fn marks(&self) -> usize {
         self.ledger.marks().len()
     }
+
+    /// So many marks were made since there were so many.
+    fn has_made(&self, rt: &impl Abort, before: usize, marks: usize) {
+        equal(rt, self.marks().wrapping_sub(before), marks);
+    }
+
+    /// The last mark begins page 0.
+    fn has_begun(&self) -> bool {
+        matches!(self.ledger.marks().last(), Some(Mark::Begin { page: 0 }))
+    }
+
+    /// The oldest open page.
+    fn oldest(&self) -> Option<u32> {
+        match self.board.regs().progress.first() {
+            Some(oldest) => Some(oldest.page),
+            None => None,
+        }
+    }
+
+    /// The newest open page.
+    fn newest(&self) -> Option<u32> {
+        match self.board.regs().progress.last() {
+            Some(newest) => Some(newest.page),
+            None => None,
+        }
+    }
 }
 
 /// A line of 64 equal bytes.
@@ -102,23 +133,22 @@ fn drains(rt: HostRuntime) -> Result<(), Fail> {
     let mut chip = formatted(&rt, rt.alloc(), false, 1)?;
     let zero = Line::default();
     let start = chip.counts();
-    equal(&rt, chip.write(&rt, 0, &zero), ctr(0, 1));
-    equal(&rt, chip.since(start), (6, 3, 1, 4));
+    chip.writes(&rt, 0, &zero, ctr(0, 1));
+    chip.took(&rt, start, (6, 3, 1, 4));
     for minor in 2..128_u8 {
         let start = chip.counts();
-        equal(&rt, chip.write(&rt, 0, &zero), ctr(0, minor));
-        let steps = if minor % 4 == 0 { 5 } else { 4 };
-        equal(&rt, chip.since(start), (steps, 1, 1, 2));
+        chip.writes(&rt, 0, &zero, ctr(0, minor));
+        chip.took(&rt, start, (either(minor % 4 == 0, 5, 4), 1, 1, 2));
     }
     let start = chip.counts();
-    equal(&rt, chip.write(&rt, 0, &zero), ctr(1, 1));
-    equal(&rt, chip.since(start), (7, 1, 1, 4));
+    chip.writes(&rt, 0, &zero, ctr(1, 1));
+    chip.took(&rt, start, (7, 1, 1, 4));
     let start = chip.counts();
-    equal(&rt, chip.turn(&rt), Ok(Some((1, 62))));
-    equal(&rt, chip.since(start), (4, 2, 2, 0));
-    equal(&rt, chip.write(&rt, 2, &FULL), ctr(1, 1));
-    equal(&rt, chip.turn(&rt), Ok(Some((3, 60))));
-    equal(&rt, chip.read(&rt, 2), Ok(FULL));
+    chip.turns(&rt, Ok(Some((1, 62))));
+    chip.took(&rt, start, (4, 2, 2, 0));
+    chip.writes(&rt, 2, &FULL, ctr(1, 1));
+    chip.turns(&rt, Ok(Some((3, 60))));
+    chip.reads(&rt, 2, Ok(FULL));
     Ok(())
 }
 
@@ -128,16 +158,16 @@ fn drains(rt: HostRuntime) -> Result<(), Fail> {
 fn evictions(rt: HostRuntime) -> Result<(), Fail> {
     let mut chip = formatted_deep(&rt, rt.alloc())?;
     let start = chip.counts();
-    equal(&rt, chip.write(&rt, 0, &Line::default()), ctr(0, 1));
-    equal(&rt, chip.since(start), (7, 4, 1, 6));
+    chip.writes(&rt, 0, &Line::default(), ctr(0, 1));
+    chip.took(&rt, start, (7, 4, 1, 6));
     let start = chip.counts();
-    equal(&rt, chip.write(&rt, 960, &Line::default()), ctr(0, 1));
-    equal(&rt, chip.since(start), (8, 3, 1, 5));
+    chip.writes(&rt, 960, &Line::default(), ctr(0, 1));
+    chip.took(&rt, start, (8, 3, 1, 5));
     let start = chip.counts();
-    equal(&rt, chip.write(&rt, 0, &FULL), ctr(0, 2));
-    equal(&rt, chip.since(start), (8, 3, 1, 5));
-    equal(&rt, chip.read(&rt, 0), Ok(FULL));
-    equal(&rt, chip.read(&rt, 960), Ok(Line::default()));
+    chip.writes(&rt, 0, &FULL, ctr(0, 2));
+    chip.took(&rt, start, (8, 3, 1, 5));
+    chip.reads(&rt, 0, Ok(FULL));
+    chip.reads(&rt, 960, Ok(Line::default()));
     Ok(())
 }
 
@@ -145,14 +175,14 @@ fn evictions(rt: HostRuntime) -> Result<(), Fail> {
 #[test]
 fn parts(rt: HostRuntime) -> Result<(), Fail> {
     let mut chip = formatted(&rt, rt.alloc(), false, 1)?;
-    equal(&rt, chip.write(&rt, 0, &FULL), ctr(0, 1));
+    chip.writes(&rt, 0, &FULL, ctr(0, 1));
     let start = chip.counts();
     equal(&rt, chip.write_part(&rt, &part(0, 2, 2, 0xaa)), ctr(0, 2));
-    equal(&rt, chip.since(start), (4, 3, 2, 2));
+    chip.took(&rt, start, (4, 3, 2, 2));
     let mut line = FULL;
     line.0[2] = 0xaa;
     line.0[3] = 0xaa;
-    equal(&rt, chip.read(&rt, 0), Ok(line));
+    chip.reads(&rt, 0, Ok(line));
     // The line's tag is checked before, and the page isn't touched by what is refused.
     chip.flip(&rt, 0, 9);
     let start = chip.counts();
@@ -161,9 +191,9 @@ fn parts(rt: HostRuntime) -> Result<(), Fail> {
         chip.write_part(&rt, &part(0, 2, 2, 0xaa)),
         Err(Fault::Tag { at: 0 }),
     );
-    equal(&rt, chip.since(start), (0, 2, 1, 0));
-    equal(&rt, chip.write(&rt, 0, &FULL), ctr(0, 3));
-    equal(&rt, chip.read(&rt, 0), Ok(FULL));
+    chip.took(&rt, start, (0, 2, 1, 0));
+    chip.writes(&rt, 0, &FULL, ctr(0, 3));
+    chip.reads(&rt, 0, Ok(FULL));
     Ok(())
 }
 
@@ -186,29 +216,29 @@ fn part(at: u32, from: u8, len: u8, byte: u8) -> Posted
     }
 }
 
+// This page begins, the fifth where it is page 4.
+fn begins(rt: &impl Abort, chip: &mut Chip, page: u8) {
+    let at = 64 * u32::from(page);
+    chip.wear(rt, at, 127);
+    let (start, marks) = (chip.counts(), chip.marks());
+    chip.writes(rt, at, &Line::default(), ctr(1, 1));
+    let is_fifth = page == 4;
+    chip.took(
+        rt,
+        start,
+        either(is_fifth, (259, 127, 127, 6), (7, 1, 1, 6)),
+    );
+    chip.has_made(rt, marks, either(is_fifth, 65, 2));
+    equal(rt, chip.newest(), Some(u32::from(page)));
+    equal(rt, chip.oldest(), Some(u32::from(is_fifth)));
+}
+
 // A fifth page begins: the oldest of the four open ones is finished first, its lines upwards.
 #[test]
 fn five_pages(rt: HostRuntime) -> Result<(), Fail> {
     let mut chip = formatted_deep(&rt, rt.alloc())?;
-    for page in 0..5_u32 {
-        chip.wear(&rt, 64 * page, 127);
-        let (start, marks) = (chip.counts(), chip.marks());
-        equal(&rt, chip.write(&rt, 64 * page, &Line::default()), ctr(1, 1));
-        let counts = if page == 4 {
-            (259, 127, 127, 6)
-        } else {
-            (7, 1, 1, 6)
-        };
-        equal(&rt, chip.since(start), counts);
-        let made = if page == 4 { 65 } else { 2 };
-        equal(&rt, chip.marks().wrapping_sub(marks), made);
-        let open = chip.board.regs().progress.as_slice();
-        equal(&rt, open.last().map(|register| register.page), Some(page));
-        equal(
-            &rt,
-            open.first().map(|register| register.page),
-            Some(u32::from(page == 4)),
-        );
+    for page in 0..5_u8 {
+        begins(&rt, &mut chip, page);
     }
     Ok(())
 }
@@ -220,11 +250,51 @@ fn own_page(rt: HostRuntime) -> Result<(), Fail> {
     chip.wear(&rt, 0, 127);
     chip.wear(&rt, 0, 127);
     let start = chip.counts();
-    equal(&rt, chip.write(&rt, 0, &FULL), ctr(2, 1));
-    equal(&rt, chip.since(start), (259, 127, 127, 4));
+    chip.writes(&rt, 0, &FULL, ctr(2, 1));
+    chip.took(&rt, start, (259, 127, 127, 4));
     equal(&rt, chip.board.regs().progress.len(), 1);
-    equal(&rt, chip.read(&rt, 0), Ok(FULL));
-    equal(&rt, chip.read(&rt, 63), Ok(Line::default()));
+    chip.reads(&rt, 0, Ok(FULL));
+    chip.reads(&rt, 63, Ok(Line::default()));
+    Ok(())
+}
+
+/// The marks that a write has made which begins its page and is cut after so many steps.
+fn marks_made(fuse: u8) -> usize {
+    match fuse {
+        0 => 0,
+        1..4 => 1,
+        _ => 2,
+    }
+}
+
+/// The lines that it has armed.
+fn lines_armed(fuse: u8) -> usize {
+    match fuse {
+        1 | 2 => 1,
+        4..7 => 2,
+        _ => 0,
+    }
+}
+
+// A write that begins its page, and is cut after so many steps of seven.
+fn cut_overflow(rt: &impl Abort, alloc: Global, fuse: u8) -> Result<(), Fail> {
+    let mut chip = formatted(rt, alloc, false, 1)?;
+    chip.wear(rt, 0, 127);
+    let (start, marks) = (chip.counts(), chip.marks());
+    chip.arm(fuse);
+    let is_cut = fuse < 7;
+    chip.writes(rt, 0, &FULL, either(is_cut, Err(Fault::Cut), ctr(1, 1)));
+    equal(rt, chip.since(start).0, u64::from(fuse));
+    chip.has_made(rt, marks, marks_made(fuse));
+    chip.has_armed(rt, lines_armed(fuse));
+    equal(
+        rt,
+        chip.done(),
+        either(fuse == 0, None, Some(u64::from(fuse > 3))),
+    );
+    equal(rt, chip.has_begun(), matches!(fuse, 1..4));
+    chip.power();
+    chip.writes(rt, 0, &FULL, Err(either(is_cut, Fault::Down, Fault::Cut)));
     Ok(())
 }
 
@@ -233,57 +303,7 @@ fn own_page(rt: HostRuntime) -> Result<(), Fail> {
 #[test]
 fn cut_overflows(rt: HostRuntime) -> Result<(), Fail> {
     for fuse in 0..8_u8 {
-        let mut chip = formatted(&rt, rt.alloc(), false, 1)?;
-        chip.wear(&rt, 0, 127);
-        let (start, marks) = (chip.counts(), chip.marks());
-        chip.arm(fuse);
-        let answer = chip.write(&rt, 0, &FULL);
-        equal(
-            &rt,
-            answer,
-            if fuse < 7 { Err(Fault::Cut) } else { ctr(1, 1) },
-        );
-        equal(&rt, chip.since(start).0, u64::from(fuse));
-        let made = if fuse == 0 {
-            0
-        } else if fuse < 4 {
-            1
-        } else {
-            2
-        };
-        equal(&rt, chip.marks().wrapping_sub(marks), made);
-        let armed = if matches!(fuse, 1 | 2) {
-            1
-        } else if matches!(fuse, 4..7) {
-            2
-        } else {
-            0
-        };
-        equal(&rt, chip.board.regs().group.len(), armed);
-        let done = chip
-            .board
-            .regs()
-            .progress
-            .first()
-            .map(|register| register.done);
-        equal(
-            &rt,
-            done,
-            if fuse == 0 {
-                None
-            } else {
-                Some(u64::from(fuse > 3))
-            },
-        );
-        let last = chip.ledger.marks().last();
-        equal(
-            &rt,
-            matches!(last, Some(Mark::Begin { page: 0 })),
-            matches!(fuse, 1..4),
-        );
-        chip.power();
-        let after = if fuse < 7 { Fault::Down } else { Fault::Cut };
-        equal(&rt, chip.write(&rt, 0, &FULL), Err(after));
+        cut_overflow(&rt, rt.alloc(), fuse)?;
     }
     Ok(())
 }
@@ -302,25 +322,36 @@ impl Chip {
     }
 }
 
+// After three writes of line 0 an older counter block is put back, where it is to be once the cache is
+// flushed. The trials then find the true minor, and under the new number 2, which takes so many steps, this.
+fn old_block(
+    rt: &impl Abort,
+    alloc: Global,
+    flushed: bool,
+    steps: u32,
+    found: Found,
+) -> Result<(), Fail> {
+    let mut chip = formatted(rt, alloc, false, 1)?;
+    let old = chip.peek(rt, 321);
+    chip.wear(rt, 0, 3);
+    if flushed {
+        chip.flushes(rt, Ok(Some(0)));
+        chip.flushes(rt, Ok(Some(1)));
+        equal(rt, chip.peek(rt, 321) != old, true);
+    }
+    chip.poke(rt, 321, &old);
+    equal(rt, chip.trials(rt), Found::One(3));
+    chip.sets_loss(rt, 2, Ok(steps));
+    equal(rt, chip.trials(rt), found);
+    chip.reads(rt, 0, Ok(Line::default()));
+    Ok(())
+}
+
 // After three writes of line 0 an older counter block, put back by an attacker, still has the true minor
 // in its window of 4. Where the page's block is cached dirty, the new number 2 writes it first. Where it
 // isn't, the old block stays, and its window of 2 ends before the true minor.
 #[test]
 fn old_blocks_leave_their_windows(rt: HostRuntime) -> Result<(), Fail> {
-    for (flushed, steps, found) in [(false, 2_u32, Found::One(3)), (true, 1, Found::Nothing)] {
-        let mut chip = formatted(&rt, rt.alloc(), false, 1)?;
-        let old = chip.peek(&rt, 321);
-        chip.wear(&rt, 0, 3);
-        if flushed {
-            equal(&rt, chip.flush(), Ok(Some(0)));
-            equal(&rt, chip.flush(), Ok(Some(1)));
-            assert!(rt; chip.peek(&rt, 321) != old);
-        }
-        chip.poke(&rt, 321, &old);
-        equal(&rt, chip.trials(&rt), Found::One(3));
-        equal(&rt, chip.set_loss(&rt, 2), Ok(steps));
-        equal(&rt, chip.trials(&rt), found);
-        equal(&rt, chip.read(&rt, 0), Ok(Line::default()));
-    }
-    Ok(())
+    old_block(&rt, rt.alloc(), false, 2, Found::One(3))?;
+    old_block(&rt, rt.alloc(), true, 1, Found::Nothing)
 }

@@ -10,7 +10,7 @@ use super::{Bench, fresh, mend_and_read, mended};
 use board::MemBoard;
 use pmem_base::{Ctr, Geo, Line, Posted};
 use pmem_engine::{Engine, Fault};
-use pmem_recovery::format;
+use pmem_recovery::{RecFault, format};
 use seal_ledger::{Audit, Ledger};
 use std::alloc::Global;
 use std::process::Abort;
@@ -104,6 +104,30 @@ fn cut_write(
     Ok(answer.is_ok())
 }
 
+/// A new memory, whose cache has one block a bank where it isn't deep.
+fn new_bench(alloc: Global, deep: bool) -> Result<Bench, Fail> {
+    if deep {
+        return fresh(alloc, false, 4);
+    }
+    narrow(alloc)
+}
+
+/// Recovers the memory and reads its lines: zeros, and the one that was written where it is there.
+fn read_with(
+    rt: &impl Abort,
+    alloc: Global,
+    bench: &mut Bench,
+    write: &Posted,
+    is_there: bool,
+) -> Result<(), RecFault> {
+    let mut lines = [Line::default(); 1024];
+    assert!(rt; (write.at as usize) < lines.len());
+    if is_there {
+        lines[write.at as usize] = write.line;
+    }
+    mend_and_read(rt, alloc, bench, &lines)
+}
+
 /// Cuts this write, after so many of line 0, at each of its steps but the last. Up to the latch after
 /// so many steps it is absent, and from then on whole, after recovery too.
 fn cut_each(
@@ -118,19 +142,10 @@ fn cut_each(
     requires posted { IsPosted write.now }
 {
     for fuse in 0..=steps {
-        let mut bench = if deep {
-            fresh(alloc, false, 4)?
-        } else {
-            narrow(alloc)?
-        };
+        let mut bench = new_bench(alloc, deep)?;
         let done = cut_write(rt, alloc, &mut bench, before, write, u64::from(fuse))?;
         assert_eq!(rt; done, fuse == steps, "at {fuse}");
-        let mut lines = [Line::default(); 1024];
-        assert!(rt; (write.at as usize) < lines.len());
-        if fuse > latch {
-            lines[write.at as usize] = write.line;
-        }
-        let read = mend_and_read(rt, alloc, &mut bench, &lines);
+        let read = read_with(rt, alloc, &mut bench, write, fuse > latch);
         assert_eq!(rt; read, Ok(()), "at {fuse}");
     }
     Ok(())

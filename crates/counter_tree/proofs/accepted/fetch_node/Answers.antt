@@ -1,7 +1,7 @@
 -- A node's position is below 5461.
 use Rattle.std.proofs.Common.{arith}
 use Rattle.pmem_base.specs.Geo.{shape_of}
-use Rattle.counter_tree.proofs.Positions.{meta_lines-most}
+use Rattle.pmem_base.proofs.LayoutLemmas.{meta_lines-most}
 use Rattle.counter_tree.proofs.accepted.fetch_node.Goals as goal
 
 pub read_node-requires : goal.read_node-requires

@@ -1,6 +1,7 @@
 -- The lists are equal up to where they first differ.
 use Rattle.std.proofs.Common.{sym, ◌∙◌, arith}
-use Rattle.counter_tree.proofs.DifferenceLemmas.{same-more, same_lists}
+use Rattle.pmem_base.proofs.LineLemmas.{lines-equal}
+use Rattle.counter_tree.proofs.DifferenceLemmas.{same-more}
 use Rattle.counter_tree.proofs.differences.first_difference.Goals as goal
 
 pub returns-then-is_other-clause-some : goal.returns-then-is_other-clause-some
@@ -19,4 +20,4 @@ slots-preserved c =
 
 pub returns-clause-none : goal.returns-clause-none
 returns-clause-none c =
-    same_lists c.args.first.now c.args.second.now c.requires.count (λ j below. c.slots.invariant j (omega (arith, below, c.slots-test.false)))
+    lines-equal c.args.first.now c.args.second.now c.requires.count (λ j below. c.slots.invariant j (omega (arith, below, c.slots-test.false)))

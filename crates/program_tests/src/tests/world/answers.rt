@@ -1,14 +1,10 @@
 //! A world's answers to commands, as another program gives them.
-ghost use Rattle.std.specs.Prelude.{◌≡◌, ◌<◌, false, OnOk};
-ghost use Rattle.pmem_base.specs.Ranges.{IsCommand};
+ghost use Rattle.std.specs.Prelude.{◌<◌};
 
-use super::asked::{Row, ask, ask_all, first_byte, small_world};
-use crate::tests::equal;
+use super::asked::{Asked, first_byte, small_world};
 use pmem_base::{Answer, Command, Ctr, Exhibit, Line, Place, Stat, Tag};
-use pmem_replay::World;
 use std::process::Abort;
 use std::test::Fail;
-use suite::WeakSuite;
 
 const ZEROS: Line = Line([0; 64]);
 
@@ -32,6 +28,10 @@ fn part(port: u8, at: u64, from: u64, byte: u8) -> Command {
         count: 1,
         line: first_byte(byte),
     }
+}
+
+fn drain(port: u8) -> Command {
+    Command::Drain { port }
 }
 
 fn read(port: u8, at: u64) -> Command {
@@ -65,6 +65,10 @@ fn tag_of(byte: u8) -> Tag {
 
 fn got(line: Line) -> Answer {
     Answer::Got { line, steps: 0 }
+}
+
+fn drained(steps: u64) -> Answer {
+    Answer::Drained { steps }
 }
 
 fn fenced(drained: u8, steps: u64) -> Answer {
@@ -117,238 +121,204 @@ fn counts(reads: u64, writes: u64, latches: u64, tags: u64, digests: u64) -> Ans
 fn commands_are_answered(rt: HostRuntime) -> Result<(), Fail> {
     let mixed = with_byte(NINES, 2, 0xaa);
     let ended = with_byte(ZEROS, 63, 0xbb);
-    let rows = [
-        (Command::Stat, 0, counts(0, 0, 0, 0, 0)),
-        (post(0, 7), 0, Answer::Ok),
-        (read(0, 7), 0, got(NINES)),
-        (read(1, 7), 0, got(ZEROS)),
-        (part(0, 7, 2, 0xaa), 0, Answer::Ok),
-        (read(0, 7), 0, got(mixed)),
-        (part(1, 8, 63, 0xbb), 0, Answer::Ok),
-        (read(1, 8), 0, got(ended)),
-        (read(0, 8), 0, got(ZEROS)),
-        (Command::Drain { port: 0 }, 1, Answer::Drained { steps: 6 }),
-        (read(0, 7), 0, got(mixed)),
-        (Command::Drain { port: 0 }, 1, Answer::Drained { steps: 5 }),
-        (Command::Drain { port: 0 }, 0, Answer::Empty),
-        (read(1, 7), 0, got(mixed)),
-        (Command::Fence { port: 1 }, 1, fenced(1, 4)),
-        (Command::Fence { port: 1 }, 0, fenced(0, 0)),
-        (read(0, 8), 0, got(ended)),
-        (Command::Turn, 0, Answer::Idle),
-        (Command::Flush, 0, Answer::Flushed { x: 0, steps: 1 }),
-        (Command::Flush, 0, Answer::Flushed { x: 1, steps: 1 }),
-        (Command::Flush, 0, Answer::Clean),
-        (Command::Flush, 0, Answer::Clean),
-        (Command::Loss { n: 3 }, 0, Answer::Range),
-        (Command::Loss { n: 2 }, 0, Answer::LossSet { steps: 0 }),
-        (Command::Loss { n: 8 }, 0, Answer::LossSet { steps: 1 }),
-        (Command::Loss { n: 2 }, 0, Answer::LossSet { steps: 1 }),
-        (post(2, 9), 0, Answer::Ok),
-        (post(2, 10), 0, Answer::Ok),
-        (Command::Cut { n: 5 }, 0, Answer::Ok),
-        (
-            Command::Fence { port: 2 },
-            2,
-            Answer::CutKept {
-                drained: Some(1),
-                steps: 5,
-            },
-        ),
-        (Command::Fence { port: 2 }, 0, Answer::Off),
-        (read(2, 9), 0, Answer::Off),
-        (Command::On, 0, recovered(127, 5, 7)),
-        (Command::On, 0, Answer::Already),
-        (read(2, 9), 0, got(NINES)),
-        (read(2, 10), 0, got(NINES)),
-        (Command::Snap, 0, Answer::Ok),
-        (Command::Poke { at: 5, line: NINES }, 0, Answer::Ok),
-        (read(0, 5), 0, refused(Place::Line { at: 5 })),
-        (read(0, 6), 0, got(ZEROS)),
-        (Command::Back { at: 5 }, 0, Answer::Ok),
-        (read(0, 5), 0, got(ZEROS)),
-        (Command::Flip { at: 260, bit: 0 }, 0, Answer::Ok),
-        (read(0, 16), 0, refused(Place::Line { at: 16 })),
-        (Command::Fence { port: 0 }, 0, fenced(0, 0)),
-        (Command::Flip { at: 260, bit: 0 }, 0, Answer::Ok),
-        (read(0, 16), 0, got(ZEROS)),
-        (Command::Move { from: 7, to: 68 }, 0, Answer::Ok),
-        (read(3, 68), 0, refused(Place::Line { at: 68 })),
-        (Command::Back { at: 68 }, 0, Answer::Ok),
-        (read(3, 68), 0, got(ZEROS)),
-        (
-            Command::Peek { at: 68 },
-            0,
-            Answer::Raw { line: rising(68) },
-        ),
-        (Command::Peek { at: 405 }, 0, Answer::Range),
-        (Command::Flip { at: 323, bit: 0 }, 0, Answer::Ok),
-        (read(0, 128), 0, refused(Place::Meta { x: 3 })),
-        (read(0, 4), 0, got(ZEROS)),
-        (Command::Flip { at: 323, bit: 0 }, 0, Answer::Ok),
-        (read(0, 128), 0, got(ZEROS)),
-        (
-            Command::Poke {
-                at: 320,
-                line: NINES,
-            },
-            0,
-            Answer::Ok,
-        ),
-        (Command::Off, 0, Answer::Ok),
-        (Command::Off, 0, Answer::Off),
-        (Command::On, 0, wrong_root(9, 1)),
-        (Command::Back { at: 320 }, 0, Answer::Ok),
-        (Command::Cut { n: 0 }, 0, Answer::Ok),
-        (Command::On, 0, recovered(0, 1, 0)),
-        (Command::Stat, 0, counts(192, 19, 12, 151, 25)),
-    ];
     let mut world = small_world(rt.alloc(), 0, false)?;
-    ask_all(&rt, &mut world, &rows)
+    world.ask(&rt, Command::Stat, 0, counts(0, 0, 0, 0, 0))?;
+    world.ask(&rt, post(0, 7), 0, Answer::Ok)?;
+    world.ask(&rt, read(0, 7), 0, got(NINES))?;
+    world.ask(&rt, read(1, 7), 0, got(ZEROS))?;
+    world.ask(&rt, part(0, 7, 2, 0xaa), 0, Answer::Ok)?;
+    world.ask(&rt, read(0, 7), 0, got(mixed))?;
+    world.ask(&rt, part(1, 8, 63, 0xbb), 0, Answer::Ok)?;
+    world.ask(&rt, read(1, 8), 0, got(ended))?;
+    world.ask(&rt, read(0, 8), 0, got(ZEROS))?;
+    world.ask(&rt, drain(0), 1, drained(6))?;
+    world.ask(&rt, read(0, 7), 0, got(mixed))?;
+    world.ask(&rt, drain(0), 1, drained(5))?;
+    world.ask(&rt, drain(0), 0, Answer::Empty)?;
+    world.ask(&rt, read(1, 7), 0, got(mixed))?;
+    world.ask(&rt, Command::Fence { port: 1 }, 1, fenced(1, 4))?;
+    world.ask(&rt, Command::Fence { port: 1 }, 0, fenced(0, 0))?;
+    world.ask(&rt, read(0, 8), 0, got(ended))?;
+    world.ask(&rt, Command::Turn, 0, Answer::Idle)?;
+    world.ask(&rt, Command::Flush, 0, Answer::Flushed { x: 0, steps: 1 })?;
+    world.ask(&rt, Command::Flush, 0, Answer::Flushed { x: 1, steps: 1 })?;
+    world.ask(&rt, Command::Flush, 0, Answer::Clean)?;
+    world.ask(&rt, Command::Flush, 0, Answer::Clean)?;
+    world.ask(&rt, Command::Loss { n: 3 }, 0, Answer::Range)?;
+    world.ask(&rt, Command::Loss { n: 2 }, 0, Answer::LossSet { steps: 0 })?;
+    world.ask(&rt, Command::Loss { n: 8 }, 0, Answer::LossSet { steps: 1 })?;
+    world.ask(&rt, Command::Loss { n: 2 }, 0, Answer::LossSet { steps: 1 })?;
+    world.ask(&rt, post(2, 9), 0, Answer::Ok)?;
+    world.ask(&rt, post(2, 10), 0, Answer::Ok)?;
+    world.ask(&rt, Command::Cut { n: 5 }, 0, Answer::Ok)?;
+    world.ask(
+        &rt,
+        Command::Fence { port: 2 },
+        2,
+        Answer::CutKept {
+            drained: Some(1),
+            steps: 5,
+        },
+    )?;
+    world.ask(&rt, Command::Fence { port: 2 }, 0, Answer::Off)?;
+    world.ask(&rt, read(2, 9), 0, Answer::Off)?;
+    world.ask(&rt, Command::On, 0, recovered(127, 5, 7))?;
+    world.ask(&rt, Command::On, 0, Answer::Already)?;
+    world.ask(&rt, read(2, 9), 0, got(NINES))?;
+    world.ask(&rt, read(2, 10), 0, got(NINES))?;
+    world.ask(&rt, Command::Snap, 0, Answer::Ok)?;
+    world.ask(&rt, Command::Poke { at: 5, line: NINES }, 0, Answer::Ok)?;
+    world.ask(&rt, read(0, 5), 0, refused(Place::Line { at: 5 }))?;
+    world.ask(&rt, read(0, 6), 0, got(ZEROS))?;
+    world.ask(&rt, Command::Back { at: 5 }, 0, Answer::Ok)?;
+    world.ask(&rt, read(0, 5), 0, got(ZEROS))?;
+    world.ask(&rt, Command::Flip { at: 260, bit: 0 }, 0, Answer::Ok)?;
+    world.ask(&rt, read(0, 16), 0, refused(Place::Line { at: 16 }))?;
+    world.ask(&rt, Command::Fence { port: 0 }, 0, fenced(0, 0))?;
+    world.ask(&rt, Command::Flip { at: 260, bit: 0 }, 0, Answer::Ok)?;
+    world.ask(&rt, read(0, 16), 0, got(ZEROS))?;
+    world.ask(&rt, Command::Move { from: 7, to: 68 }, 0, Answer::Ok)?;
+    world.ask(&rt, read(3, 68), 0, refused(Place::Line { at: 68 }))?;
+    world.ask(&rt, Command::Back { at: 68 }, 0, Answer::Ok)?;
+    world.ask(&rt, read(3, 68), 0, got(ZEROS))?;
+    world.ask(
+        &rt,
+        Command::Peek { at: 68 },
+        0,
+        Answer::Raw { line: rising(68) },
+    )?;
+    world.ask(&rt, Command::Peek { at: 405 }, 0, Answer::Range)?;
+    world.ask(&rt, Command::Flip { at: 323, bit: 0 }, 0, Answer::Ok)?;
+    world.ask(&rt, read(0, 128), 0, refused(Place::Meta { x: 3 }))?;
+    world.ask(&rt, read(0, 4), 0, got(ZEROS))?;
+    world.ask(&rt, Command::Flip { at: 323, bit: 0 }, 0, Answer::Ok)?;
+    world.ask(&rt, read(0, 128), 0, got(ZEROS))?;
+    world.ask(
+        &rt,
+        Command::Poke {
+            at: 320,
+            line: NINES,
+        },
+        0,
+        Answer::Ok,
+    )?;
+    world.ask(&rt, Command::Off, 0, Answer::Ok)?;
+    world.ask(&rt, Command::Off, 0, Answer::Off)?;
+    world.ask(&rt, Command::On, 0, wrong_root(9, 1))?;
+    world.ask(&rt, Command::Back { at: 320 }, 0, Answer::Ok)?;
+    world.ask(&rt, Command::Cut { n: 0 }, 0, Answer::Ok)?;
+    world.ask(&rt, Command::On, 0, recovered(0, 1, 0))?;
+    world.ask(&rt, Command::Stat, 0, counts(192, 19, 12, 151, 25))?;
+    Ok(())
 }
 
-/// Line 7 is written until the next write of it uses up its counter.
-fn wear<R: Abort + AllocGlobal>(rt: &R, world: &mut World<WeakSuite>) -> Result<(), Fail>
-    requires running { world.old.shown ≡ false }
-    ensures { OnOk result (world.new.shown ≡ false) }
-{
-    'writes: for n in 0..127_u8 {
-        ask(rt, world, &(post(0, 7), 0, Answer::Ok))?;
-        let steps = if n == 0 { 6 } else { 4 + u64::from(n % 2) };
-        ask(
-            rt,
-            world,
-            &(Command::Drain { port: 0 }, 1, Answer::Drained { steps }),
-        )?;
+impl Asked {
+    /// Line 7 is written until the next write of it uses up its counter.
+    fn wear<R: Abort + AllocGlobal>(&mut self, rt: &R) -> Result<(), Fail> {
+        for n in 0..127_u8 {
+            self.ask(rt, post(0, 7), 0, Answer::Ok)?;
+            let steps = if n == 0 { 6 } else { 4 + u64::from(n % 2) };
+            self.ask(rt, drain(0), 1, drained(steps))?;
+        }
+        Ok(())
     }
-    Ok(())
 }
 
 #[test]
 fn pages_are_sealed_anew(rt: HostRuntime) -> Result<(), Fail> {
-    let rows = [
-        (post(0, 7), 0, Answer::Ok),
-        (Command::Drain { port: 0 }, 2, Answer::Drained { steps: 7 }),
-        (read(0, 7), 0, got(NINES)),
-        (Command::Turn, 1, Answer::Turned { left: 62, steps: 4 }),
-        (post(0, 9), 0, Answer::Ok),
-        (Command::Drain { port: 0 }, 1, Answer::Drained { steps: 4 }),
-        (Command::Turn, 1, Answer::Turned { left: 60, steps: 4 }),
-        (Command::Cut { n: 2 }, 0, Answer::Ok),
-        (Command::Turn, 1, Answer::Cut { steps: 2 }),
-        (Command::Turn, 0, Answer::Off),
-        (Command::On, 0, recovered(10, 5, 7)),
-        (Command::Turn, 1, Answer::Turned { left: 58, steps: 4 }),
-        (read(0, 1), 0, got(ZEROS)),
-        (Command::Flip { at: 5, bit: 0 }, 0, Answer::Ok),
-        (Command::Turn, 1, Answer::Turned { left: 57, steps: 4 }),
-        (Command::Turn, 0, refused(Place::Line { at: 5 })),
-        (Command::Flip { at: 5, bit: 0 }, 0, Answer::Ok),
-        (Command::Turn, 1, Answer::Turned { left: 56, steps: 4 }),
-        (Command::Cut { n: 3 }, 0, Answer::Ok),
-        (Command::Loss { n: 1 }, 0, Answer::LossSet { steps: 1 }),
-        (post(0, 7), 0, Answer::Ok),
-        (
-            Command::Drain { port: 0 },
-            0,
-            Answer::CutLost {
-                drained: None,
-                steps: 2,
-            },
-        ),
-        (Command::Off, 0, Answer::Off),
-        (Command::Drain { port: 0 }, 0, Answer::Off),
-        (Command::Stat, 0, counts(169, 343, 273, 155, 271)),
-    ];
     let mut world = small_world(rt.alloc(), 0, false)?;
-    wear(&rt, &mut world)?;
-    ask_all(&rt, &mut world, &rows)
+    world.wear(&rt)?;
+    world.ask(&rt, post(0, 7), 0, Answer::Ok)?;
+    world.ask(&rt, drain(0), 2, drained(7))?;
+    world.ask(&rt, read(0, 7), 0, got(NINES))?;
+    world.ask(&rt, Command::Turn, 1, Answer::Turned { left: 62, steps: 4 })?;
+    world.ask(&rt, post(0, 9), 0, Answer::Ok)?;
+    world.ask(&rt, drain(0), 1, drained(4))?;
+    world.ask(&rt, Command::Turn, 1, Answer::Turned { left: 60, steps: 4 })?;
+    world.ask(&rt, Command::Cut { n: 2 }, 0, Answer::Ok)?;
+    world.ask(&rt, Command::Turn, 1, Answer::Cut { steps: 2 })?;
+    world.ask(&rt, Command::Turn, 0, Answer::Off)?;
+    world.ask(&rt, Command::On, 0, recovered(10, 5, 7))?;
+    world.ask(&rt, Command::Turn, 1, Answer::Turned { left: 58, steps: 4 })?;
+    world.ask(&rt, read(0, 1), 0, got(ZEROS))?;
+    world.ask(&rt, Command::Flip { at: 5, bit: 0 }, 0, Answer::Ok)?;
+    world.ask(&rt, Command::Turn, 1, Answer::Turned { left: 57, steps: 4 })?;
+    world.ask(&rt, Command::Turn, 0, refused(Place::Line { at: 5 }))?;
+    world.ask(&rt, Command::Flip { at: 5, bit: 0 }, 0, Answer::Ok)?;
+    world.ask(&rt, Command::Turn, 1, Answer::Turned { left: 56, steps: 4 })?;
+    world.ask(&rt, Command::Cut { n: 3 }, 0, Answer::Ok)?;
+    world.ask(&rt, Command::Loss { n: 1 }, 0, Answer::LossSet { steps: 1 })?;
+    world.ask(&rt, post(0, 7), 0, Answer::Ok)?;
+    world.ask(
+        &rt,
+        drain(0),
+        0,
+        Answer::CutLost {
+            drained: None,
+            steps: 2,
+        },
+    )?;
+    world.ask(&rt, Command::Off, 0, Answer::Off)?;
+    world.ask(&rt, drain(0), 0, Answer::Off)?;
+    world.ask(&rt, Command::Stat, 0, counts(169, 343, 273, 155, 271))?;
+    Ok(())
 }
 
 #[test]
 fn counters_are_used_up(rt: HostRuntime) -> Result<(), Fail> {
-    let rows = [
-        (post(0, 8), 0, Answer::Ok),
-        (post(0, 7), 0, Answer::Ok),
-        (post(0, 10), 0, Answer::Ok),
-        (Command::Fence { port: 0 }, 1, spent(Some(1), 4)),
-        (Command::Drain { port: 0 }, 1, Answer::Drained { steps: 4 }),
-        (post(0, 7), 0, Answer::Ok),
-        (Command::Drain { port: 0 }, 0, spent(None, 0)),
-        (Command::Drain { port: 0 }, 0, Answer::Empty),
-        (read(0, 7), 0, got(NINES)),
-    ];
     let mut world = small_world(rt.alloc(), u64::MAX, false)?;
-    wear(&rt, &mut world)?;
-    ask_all(&rt, &mut world, &rows)
-}
-
-/// After these commands the last one is answered by this exhibit.
-fn shows<R: Abort + AllocGlobal>(
-    rt: &R,
-    blur: bool,
-    rows: &[Row],
-    command: &Command,
-    exhibit: Exhibit,
-) -> Result<(), Fail>
-    requires { IsCommand command.now }
-{
-    let mut world = small_world(rt.alloc(), 0, blur)?;
-    ask_all(rt, &mut world, rows)?;
-    let reply = world.step(rt.alloc(), command)?;
-    equal(rt, reply.answer, Answer::Shown(exhibit));
+    world.wear(&rt)?;
+    world.ask(&rt, post(0, 8), 0, Answer::Ok)?;
+    world.ask(&rt, post(0, 7), 0, Answer::Ok)?;
+    world.ask(&rt, post(0, 10), 0, Answer::Ok)?;
+    world.ask(&rt, Command::Fence { port: 0 }, 1, spent(Some(1), 4))?;
+    world.ask(&rt, drain(0), 1, drained(4))?;
+    world.ask(&rt, post(0, 7), 0, Answer::Ok)?;
+    world.ask(&rt, drain(0), 0, spent(None, 0))?;
+    world.ask(&rt, drain(0), 0, Answer::Empty)?;
+    world.ask(&rt, read(0, 7), 0, got(NINES))?;
     Ok(())
 }
 
 #[test]
 fn a_forged_tag_is_shown(rt: HostRuntime) -> Result<(), Fail> {
-    let rows = [(Command::Move { from: 64, to: 68 }, 0, Answer::Ok)];
+    let mut world = small_world(rt.alloc(), 0, false)?;
+    world.ask(&rt, Command::Move { from: 64, to: 68 }, 0, Answer::Ok)?;
     let forged = Exhibit::Forged {
         at: 68,
         ctr: Ctr { major: 0, minor: 0 },
         cipher: rising(64),
         tag: tag_of(0x44),
     };
-    shows(
-        &rt,
-        false,
-        &rows,
-        &Command::Read { port: 0, at: 68 },
-        forged,
-    )
+    world.shows(&rt, &Command::Read { port: 0, at: 68 }, forged)
 }
 
 #[test]
 fn two_lines_of_one_digest_are_shown(rt: HostRuntime) -> Result<(), Fail> {
-    let rows = [(
+    let mut world = small_world(rt.alloc(), 0, false)?;
+    world.ask(
+        &rt,
         Command::Poke {
             at: 323,
             line: NINES,
         },
         0,
         Answer::Ok,
-    )];
+    )?;
     let clash = Exhibit::Clash {
         x: 3,
         first: NINES,
         second: ZEROS,
     };
-    shows(
-        &rt,
-        false,
-        &rows,
-        &Command::Read { port: 0, at: 128 },
-        clash,
-    )
+    world.shows(&rt, &Command::Read { port: 0, at: 128 }, clash)
 }
 
 #[test]
 fn two_counters_of_one_tag_are_shown(rt: HostRuntime) -> Result<(), Fail> {
-    let rows = [
-        (post(0, 0), 0, Answer::Ok),
-        (Command::Drain { port: 0 }, 1, Answer::Drained { steps: 6 }),
-        (Command::Off, 0, Answer::Ok),
-    ];
+    let mut world = small_world(rt.alloc(), 0, true)?;
+    world.ask(&rt, post(0, 0), 0, Answer::Ok)?;
+    world.ask(&rt, drain(0), 1, drained(6))?;
+    world.ask(&rt, Command::Off, 0, Answer::Ok)?;
     let mut cipher = rising(1);
     'bytes: for byte in &mut cipher.0 {
         *byte ^= 9;
@@ -361,5 +331,5 @@ fn two_counters_of_one_tag_are_shown(rt: HostRuntime) -> Result<(), Fail> {
         cipher,
         tag: tag_of(0x40),
     };
-    shows(&rt, true, &rows, &Command::On, twin)
+    world.shows(&rt, &Command::On, twin)
 }

@@ -1,26 +1,29 @@
-//! A world that is asked a table of commands.
-ghost use Rattle.std.specs.Prelude.{◌≡◌, ◌<◌, ◌^◌, true, false, OnOk, IfOk};
+//! A world that is asked commands.
+ghost use Rattle.std.specs.Prelude.{◌≡◌, ◌<◌, ◌^◌, true, false};
 ghost use Rattle.pmem_base.specs.Ranges.{IsCommand, IsPartLine};
 ghost use Rattle.plain_model.specs.Answers as answers;
-ghost use Rattle.pmem_replay.specs.World.{WorldState};
 
-use pmem_base::{Answer, Command, Geo, Line};
+use crate::tests::equal;
+use pmem_base::{Answer, Command, Exhibit, Geo, Line};
 use pmem_replay::World;
 use std::alloc::Global;
 use std::process::Abort;
 use std::test::Fail;
 use suite::WeakSuite;
 
-/// A command, how many marks its reply has, and its answer.
-pub(crate) type Row = (Command, usize, Answer);
+/// A world that has shown no exhibit.
+#[derive(Drop)]
+pub(crate) struct Asked {
+    world: World<WeakSuite>,
+    ghost running: { world.shown ≡ false },
+}
 
 /// A formatted world of four pages, with one set of one way in each bank, the stop-loss number 2, and this
 /// first major. Where the suite blurs, two minors have one tag.
-pub(crate) fn small_world(alloc: Global, major: u64, blur: bool) -> Result<World<WeakSuite>, Fail>
-    ensures { IfOk result (λ (world : WorldState). world.shown ≡ false) }
-{
+pub(crate) fn small_world(alloc: Global, major: u64, blur: bool) -> Result<Asked, Fail> {
     let suite = WeakSuite::new(&[0; 16], &[0], blur);
-    Ok(World::new(alloc, Geo::new(1, 1, 1, 2, major)?, suite)?)
+    let world = World::new(alloc, Geo::new(1, 1, 1, 2, major)?, suite)?;
+    Ok(Asked { world })
 }
 
 /// A line of zeros with a first byte.
@@ -109,19 +112,20 @@ fn is_shown(answer: &Answer) -> bool
 }
 
 /// A command is answered as wanted, with so many marks, and by no exhibit.
-pub(crate) fn ask<R: Abort + AllocGlobal>(
+fn ask<R: Abort + AllocGlobal>(
     rt: &R,
     world: &mut World<WeakSuite>,
-    row: &Row,
+    command: &Command,
+    marks: usize,
+    wanted: &Answer,
 ) -> Result<(), Fail>
     requires running { world.old.shown ≡ false }
-    ensures { OnOk result (world.new.shown ≡ false) }
+    ensures { world.new.shown ≡ false }
 {
-    let (command, marks, wanted) = *row;
-    assert!(rt; is_command(&command));
-    let reply = world.step(rt.alloc(), &command)?;
+    assert!(rt; is_command(command));
+    let reply = world.step(rt.alloc(), command)?;
     assert!(rt; !is_shown(&reply.answer));
-    assert_eq!(rt; reply.answer, wanted, "to {command:?}");
+    assert_eq!(rt; reply.answer, *wanted, "to {command:?}");
     assert_eq!(rt;
         reply.to.saturating_sub(reply.from),
         marks,
@@ -130,17 +134,29 @@ pub(crate) fn ask<R: Abort + AllocGlobal>(
     Ok(())
 }
 
-/// Each command of a table is.
-pub(crate) fn ask_all<R: Abort + AllocGlobal>(
-    rt: &R,
-    world: &mut World<WeakSuite>,
-    rows: &[Row],
-) -> Result<(), Fail>
-    requires running { world.old.shown ≡ false }
-    ensures { OnOk result (world.new.shown ≡ false) }
-{
-    'rows: for row in rows {
-        ask(rt, world, row)?;
+impl Asked {
+    /// A command is answered as wanted, with so many marks, and by no exhibit.
+    pub(crate) fn ask<R: Abort + AllocGlobal>(
+        &mut self,
+        rt: &R,
+        command: Command,
+        marks: usize,
+        wanted: Answer,
+    ) -> Result<(), Fail> {
+        ask(rt, &mut self.world, &command, marks, &wanted)
     }
-    Ok(())
+
+    /// A command is answered by this exhibit.
+    pub(crate) fn shows<R: Abort + AllocGlobal>(
+        self,
+        rt: &R,
+        command: &Command,
+        exhibit: Exhibit,
+    ) -> Result<(), Fail> {
+        let mut world = self.world;
+        assert!(rt; is_command(command));
+        let reply = world.step(rt.alloc(), command)?;
+        equal(rt, reply.answer, Answer::Shown(exhibit));
+        Ok(())
+    }
 }

@@ -1,52 +1,58 @@
 //! What lines ask for.
-use super::super::{converse, spelled};
+use super::super::{ask_nothing, converse, spelled};
 use super::new_session;
 use crate::tests::equal;
 use pmem_base::{Kind, Line};
+use std::process::Abort;
 use std::test::Fail;
-use trace_text::{Halt, Talk};
 use tree_session::{TreeCommand, read_tree_command};
+
+/// A line has to ask for this, or to be faulty so.
+fn means(rt: &impl Abort, line: &str, wanted: Result<Option<TreeCommand>, Kind>) {
+    equal(
+        rt,
+        (line, read_tree_command(line.as_bytes())),
+        (line, wanted),
+    );
+}
 
 #[test]
 fn lines_are_commands_or_faulty(rt: HostRuntime) -> Result<(), Fail> {
-    for (line, wanted) in [
-        ("", Ok(None)),
-        ("\r", Ok(None)),
-        (" \t", Ok(None)),
-        (" # off", Ok(None)),
-        ("on", Ok(Some(TreeCommand::On))),
-        (" off\t\r", Ok(Some(TreeCommand::Off))),
-        ("snap", Ok(Some(TreeCommand::Snap))),
-        ("on\r\r", Err(Kind::Word)),
-        ("read\t0007", Ok(Some(TreeCommand::Read { at: 7 }))),
-        (
-            "back 18446744073709551615",
-            Ok(Some(TreeCommand::Back { at: u64::MAX })),
-        ),
-        ("back 18446744073709551616", Err(Kind::Number)),
-        ("cut 0", Ok(Some(TreeCommand::Cut { n: 0 }))),
-        ("cut 000000000000000000000", Err(Kind::Number)),
-        ("turn", Err(Kind::Word)),
-        ("place 0", Err(Kind::Word)),
-        ("Write 0", Err(Kind::Word)),
-        ("write", Err(Kind::Count)),
-        ("write 0", Err(Kind::Count)),
-        ("write 0 aa 0", Err(Kind::Count)),
-        ("write x aa", Err(Kind::Number)),
-        ("write 0 aa", Err(Kind::Hex)),
-        ("read", Err(Kind::Count)),
-        ("read 0 0", Err(Kind::Count)),
-        ("poke 0", Err(Kind::Count)),
-        ("poke -1 aa", Err(Kind::Number)),
-        ("poke 0 aa", Err(Kind::Hex)),
-        ("snap 0", Err(Kind::Count)),
-        ("back", Err(Kind::Count)),
-        ("cut", Err(Kind::Count)),
-        ("off 0", Err(Kind::Count)),
-        ("on #", Err(Kind::Count)),
-    ] {
-        assert_eq!(rt; read_tree_command(line.as_bytes()), wanted, "{line}");
-    }
+    means(&rt, "", Ok(None));
+    means(&rt, "\r", Ok(None));
+    means(&rt, " \t", Ok(None));
+    means(&rt, " # off", Ok(None));
+    means(&rt, "on", Ok(Some(TreeCommand::On)));
+    means(&rt, " off\t\r", Ok(Some(TreeCommand::Off)));
+    means(&rt, "snap", Ok(Some(TreeCommand::Snap)));
+    means(&rt, "on\r\r", Err(Kind::Word));
+    means(&rt, "read\t0007", Ok(Some(TreeCommand::Read { at: 7 })));
+    means(
+        &rt,
+        "back 18446744073709551615",
+        Ok(Some(TreeCommand::Back { at: u64::MAX })),
+    );
+    means(&rt, "back 18446744073709551616", Err(Kind::Number));
+    means(&rt, "cut 0", Ok(Some(TreeCommand::Cut { n: 0 })));
+    means(&rt, "cut 000000000000000000000", Err(Kind::Number));
+    means(&rt, "turn", Err(Kind::Word));
+    means(&rt, "place 0", Err(Kind::Word));
+    means(&rt, "Write 0", Err(Kind::Word));
+    means(&rt, "write", Err(Kind::Count));
+    means(&rt, "write 0", Err(Kind::Count));
+    means(&rt, "write 0 aa 0", Err(Kind::Count));
+    means(&rt, "write x aa", Err(Kind::Number));
+    means(&rt, "write 0 aa", Err(Kind::Hex));
+    means(&rt, "read", Err(Kind::Count));
+    means(&rt, "read 0 0", Err(Kind::Count));
+    means(&rt, "poke 0", Err(Kind::Count));
+    means(&rt, "poke -1 aa", Err(Kind::Number));
+    means(&rt, "poke 0 aa", Err(Kind::Hex));
+    means(&rt, "snap 0", Err(Kind::Count));
+    means(&rt, "back", Err(Kind::Count));
+    means(&rt, "cut", Err(Kind::Count));
+    means(&rt, "off 0", Err(Kind::Count));
+    means(&rt, "on #", Err(Kind::Count));
     equal(&rt, read_tree_command(&[b'#'; 1024]), Ok(None));
     equal(&rt, read_tree_command(&[b'#'; 1025]), Err(Kind::Long));
     let line = spelled(rt.alloc(), "write 5 [Aa]")?;
@@ -67,12 +73,7 @@ fn lines_are_commands_or_faulty(rt: HostRuntime) -> Result<(), Fail> {
 #[test]
 fn skipped_and_malformed_lines_do_nothing(rt: HostRuntime) -> Result<(), Fail> {
     let mut session = new_session(rt.alloc(), 1, 1)?;
-    let Ok(None) = session.talk(rt.alloc(), b"# on") else {
-        return Err(Fail::new("not skipped"));
-    };
-    let Err(Halt::Line(Kind::Count)) = session.talk(rt.alloc(), b"write 0") else {
-        return Err(Fail::new("not malformed"));
-    };
+    ask_nothing(rt.alloc(), &mut session, "write 0")?;
     converse(
         &rt,
         rt.alloc(),

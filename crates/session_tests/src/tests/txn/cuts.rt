@@ -1,6 +1,6 @@
 //! A cut at each step of a commit of fifteen lines, and of its redo: then all lines are read.
-use super::super::{ask, converse, spelled};
-use super::{begins, new_session};
+use super::super::{ask, begins, converse, spelled};
+use super::new_session;
 use crate::tests::equal;
 use std::alloc::Global;
 use std::process::Abort;

@@ -1,10 +1,10 @@
 //! Each answer of each command, and what lines ask for.
-use super::super::{converse, spelled};
+use super::super::{ask_nothing, ask_twin, converse, spelled};
 use super::new_session;
 use crate::tests::equal;
-use pmem_base::{Exhibit, Kind, Line};
+use pmem_base::{Kind, Line};
+use std::process::Abort;
 use std::test::Fail;
-use trace_text::{Halt, Talk};
 use txn_session::{TxnCommand, read_txn_command};
 
 /// Every answer but `stuck`, `spent` and a twin.
@@ -75,64 +75,57 @@ fn twin_ends_a_session(rt: HostRuntime) -> Result<(), Fail> {
         &mut session,
         "begin: ok / put 0 [aa]: ok / commit: ok 22 / off: ok",
     )?;
-    let Err(
-        Halt::Shown(
-            Exhibit::Twin {
-                at,
-                major,
-                low,
-                high,
-                ..
-            },
-        ),
-    ) = session.talk(rt.alloc(), b"on")
-    else {
-        return Err(Fail::new("no twin"));
-    };
-    equal(&rt, (at, major, low, high), (192, 0, 0, 1));
+    let twin = ask_twin(rt.alloc(), &mut session)?;
+    equal(&rt, twin, (192, 0, 0, 1));
     Ok(())
+}
+
+/// A line has to ask for this, or to be faulty so.
+fn means(rt: &impl Abort, line: &str, wanted: Result<Option<TxnCommand>, Kind>) {
+    equal(
+        rt,
+        (line, read_txn_command(line.as_bytes())),
+        (line, wanted),
+    );
 }
 
 #[test]
 fn lines_are_commands_or_faulty(rt: HostRuntime) -> Result<(), Fail> {
-    for (line, wanted) in [
-        ("", Ok(None)),
-        ("\r", Ok(None)),
-        (" \t", Ok(None)),
-        (" # off", Ok(None)),
-        ("begin", Ok(Some(TxnCommand::Begin))),
-        (" commit\t\r", Ok(Some(TxnCommand::Commit))),
-        ("abort ", Ok(Some(TxnCommand::Abort))),
-        ("on", Ok(Some(TxnCommand::On))),
-        (" off\t\r", Ok(Some(TxnCommand::Off))),
-        ("on\r\r", Err(Kind::Word)),
-        ("read\t0007", Ok(Some(TxnCommand::Read { at: 7 }))),
-        (
-            "read 18446744073709551615",
-            Ok(Some(TxnCommand::Read { at: u64::MAX })),
-        ),
-        ("read 18446744073709551616", Err(Kind::Number)),
-        ("cut 0", Ok(Some(TxnCommand::Cut { n: 0 }))),
-        ("cut 000000000000000000000", Err(Kind::Number)),
-        ("write 0", Err(Kind::Word)),
-        ("Begin", Err(Kind::Word)),
-        ("begin 0", Err(Kind::Count)),
-        ("commit 0", Err(Kind::Count)),
-        ("abort 0", Err(Kind::Count)),
-        ("put", Err(Kind::Count)),
-        ("put 0", Err(Kind::Count)),
-        ("put 0 aa 0", Err(Kind::Count)),
-        ("put x aa", Err(Kind::Number)),
-        ("put 0 aa", Err(Kind::Hex)),
-        ("read", Err(Kind::Count)),
-        ("read 0 0", Err(Kind::Count)),
-        ("read -1", Err(Kind::Number)),
-        ("cut", Err(Kind::Count)),
-        ("off 0", Err(Kind::Count)),
-        ("on #", Err(Kind::Count)),
-    ] {
-        assert_eq!(rt; read_txn_command(line.as_bytes()), wanted, "{line}");
-    }
+    means(&rt, "", Ok(None));
+    means(&rt, "\r", Ok(None));
+    means(&rt, " \t", Ok(None));
+    means(&rt, " # off", Ok(None));
+    means(&rt, "begin", Ok(Some(TxnCommand::Begin)));
+    means(&rt, " commit\t\r", Ok(Some(TxnCommand::Commit)));
+    means(&rt, "abort ", Ok(Some(TxnCommand::Abort)));
+    means(&rt, "on", Ok(Some(TxnCommand::On)));
+    means(&rt, " off\t\r", Ok(Some(TxnCommand::Off)));
+    means(&rt, "on\r\r", Err(Kind::Word));
+    means(&rt, "read\t0007", Ok(Some(TxnCommand::Read { at: 7 })));
+    means(
+        &rt,
+        "read 18446744073709551615",
+        Ok(Some(TxnCommand::Read { at: u64::MAX })),
+    );
+    means(&rt, "read 18446744073709551616", Err(Kind::Number));
+    means(&rt, "cut 0", Ok(Some(TxnCommand::Cut { n: 0 })));
+    means(&rt, "cut 000000000000000000000", Err(Kind::Number));
+    means(&rt, "write 0", Err(Kind::Word));
+    means(&rt, "Begin", Err(Kind::Word));
+    means(&rt, "begin 0", Err(Kind::Count));
+    means(&rt, "commit 0", Err(Kind::Count));
+    means(&rt, "abort 0", Err(Kind::Count));
+    means(&rt, "put", Err(Kind::Count));
+    means(&rt, "put 0", Err(Kind::Count));
+    means(&rt, "put 0 aa 0", Err(Kind::Count));
+    means(&rt, "put x aa", Err(Kind::Number));
+    means(&rt, "put 0 aa", Err(Kind::Hex));
+    means(&rt, "read", Err(Kind::Count));
+    means(&rt, "read 0 0", Err(Kind::Count));
+    means(&rt, "read -1", Err(Kind::Number));
+    means(&rt, "cut", Err(Kind::Count));
+    means(&rt, "off 0", Err(Kind::Count));
+    means(&rt, "on #", Err(Kind::Count));
     equal(&rt, read_txn_command(&[b'#'; 1024]), Ok(None));
     equal(&rt, read_txn_command(&[b'#'; 1025]), Err(Kind::Long));
     let line = spelled(rt.alloc(), "put 5 [Aa]")?;
@@ -148,12 +141,7 @@ fn lines_are_commands_or_faulty(rt: HostRuntime) -> Result<(), Fail> {
 fn skipped_and_malformed_lines_do_nothing(rt: HostRuntime) -> Result<(), Fail> {
     let mut session = new_session(rt.alloc(), (1, 1, 1, 4, 0), false)?;
     converse(&rt, rt.alloc(), &mut session, "begin: ok")?;
-    let Ok(None) = session.talk(rt.alloc(), b"# on") else {
-        return Err(Fail::new("not skipped"));
-    };
-    let Err(Halt::Line(Kind::Count)) = session.talk(rt.alloc(), b"put 0") else {
-        return Err(Fail::new("not malformed"));
-    };
+    ask_nothing(rt.alloc(), &mut session, "put 0")?;
     converse(
         &rt,
         rt.alloc(),

@@ -1,10 +1,10 @@
 //! Each answer of each command, and what lines ask for.
-use super::super::{converse, spelled};
+use super::super::{ask_nothing, ask_twin, converse, spelled};
 use super::new_session;
 use crate::tests::equal;
-use pmem_base::{Exhibit, Kind, Line};
+use pmem_base::{Kind, Line};
+use std::process::Abort;
 use std::test::Fail;
-use trace_text::{Halt, Talk};
 use wear_session::{WearCommand, read_wear_command};
 
 /// With a move at each second write: every answer but `held`, `spent` and a twin.
@@ -62,58 +62,51 @@ fn twin_ends_a_session(rt: HostRuntime) -> Result<(), Fail> {
         &mut session,
         "write 0 [aa]: ok 16 / write 0 [bb]: ok 16 / off: ok",
     )?;
-    let Err(
-        Halt::Shown(
-            Exhibit::Twin {
-                at,
-                major,
-                low,
-                high,
-                ..
-            },
-        ),
-    ) = session.talk(rt.alloc(), b"on")
-    else {
-        return Err(Fail::new("no twin"));
-    };
-    equal(&rt, (at, major, low, high), (192, 0, 0, 1));
+    let twin = ask_twin(rt.alloc(), &mut session)?;
+    equal(&rt, twin, (192, 0, 0, 1));
     Ok(())
+}
+
+/// A line has to ask for this, or to be faulty so.
+fn means(rt: &impl Abort, line: &str, wanted: Result<Option<WearCommand>, Kind>) {
+    equal(
+        rt,
+        (line, read_wear_command(line.as_bytes())),
+        (line, wanted),
+    );
 }
 
 #[test]
 fn lines_are_commands_or_faulty(rt: HostRuntime) -> Result<(), Fail> {
-    for (line, wanted) in [
-        ("", Ok(None)),
-        ("\r", Ok(None)),
-        (" \t", Ok(None)),
-        (" # off", Ok(None)),
-        ("on", Ok(Some(WearCommand::On))),
-        (" off\t\r", Ok(Some(WearCommand::Off))),
-        ("on\r\r", Err(Kind::Word)),
-        ("read\t0007", Ok(Some(WearCommand::Read { at: 7 }))),
-        (
-            "place 18446744073709551615",
-            Ok(Some(WearCommand::Place { at: u64::MAX })),
-        ),
-        ("place 18446744073709551616", Err(Kind::Number)),
-        ("cut 0", Ok(Some(WearCommand::Cut { n: 0 }))),
-        ("cut 000000000000000000000", Err(Kind::Number)),
-        ("turn", Err(Kind::Word)),
-        ("Write 0", Err(Kind::Word)),
-        ("write", Err(Kind::Count)),
-        ("write 0", Err(Kind::Count)),
-        ("write 0 aa 0", Err(Kind::Count)),
-        ("write x aa", Err(Kind::Number)),
-        ("write 0 aa", Err(Kind::Hex)),
-        ("read", Err(Kind::Count)),
-        ("read 0 0", Err(Kind::Count)),
-        ("place -1", Err(Kind::Number)),
-        ("cut", Err(Kind::Count)),
-        ("off 0", Err(Kind::Count)),
-        ("on #", Err(Kind::Count)),
-    ] {
-        assert_eq!(rt; read_wear_command(line.as_bytes()), wanted, "{line}");
-    }
+    means(&rt, "", Ok(None));
+    means(&rt, "\r", Ok(None));
+    means(&rt, " \t", Ok(None));
+    means(&rt, " # off", Ok(None));
+    means(&rt, "on", Ok(Some(WearCommand::On)));
+    means(&rt, " off\t\r", Ok(Some(WearCommand::Off)));
+    means(&rt, "on\r\r", Err(Kind::Word));
+    means(&rt, "read\t0007", Ok(Some(WearCommand::Read { at: 7 })));
+    means(
+        &rt,
+        "place 18446744073709551615",
+        Ok(Some(WearCommand::Place { at: u64::MAX })),
+    );
+    means(&rt, "place 18446744073709551616", Err(Kind::Number));
+    means(&rt, "cut 0", Ok(Some(WearCommand::Cut { n: 0 })));
+    means(&rt, "cut 000000000000000000000", Err(Kind::Number));
+    means(&rt, "turn", Err(Kind::Word));
+    means(&rt, "Write 0", Err(Kind::Word));
+    means(&rt, "write", Err(Kind::Count));
+    means(&rt, "write 0", Err(Kind::Count));
+    means(&rt, "write 0 aa 0", Err(Kind::Count));
+    means(&rt, "write x aa", Err(Kind::Number));
+    means(&rt, "write 0 aa", Err(Kind::Hex));
+    means(&rt, "read", Err(Kind::Count));
+    means(&rt, "read 0 0", Err(Kind::Count));
+    means(&rt, "place -1", Err(Kind::Number));
+    means(&rt, "cut", Err(Kind::Count));
+    means(&rt, "off 0", Err(Kind::Count));
+    means(&rt, "on #", Err(Kind::Count));
     equal(&rt, read_wear_command(&[b'#'; 1024]), Ok(None));
     equal(&rt, read_wear_command(&[b'#'; 1025]), Err(Kind::Long));
     let line = spelled(rt.alloc(), "write 5 [Aa]")?;
@@ -128,12 +121,7 @@ fn lines_are_commands_or_faulty(rt: HostRuntime) -> Result<(), Fail> {
 #[test]
 fn skipped_and_malformed_lines_do_nothing(rt: HostRuntime) -> Result<(), Fail> {
     let mut session = new_session(rt.alloc(), (1, 1, 1, 4, 0), 1, false)?;
-    let Ok(None) = session.talk(rt.alloc(), b"# on") else {
-        return Err(Fail::new("not skipped"));
-    };
-    let Err(Halt::Line(Kind::Count)) = session.talk(rt.alloc(), b"write 0") else {
-        return Err(Fail::new("not malformed"));
-    };
+    ask_nothing(rt.alloc(), &mut session, "write 0")?;
     converse(
         &rt,
         rt.alloc(),

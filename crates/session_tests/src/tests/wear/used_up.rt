@@ -1,9 +1,19 @@
 //! Moves while a page is sealed anew, and counters that are used up.
-use super::super::converse;
 use super::new_session;
+use crate::tests::{begins, converse};
 use std::alloc::Global;
 use std::test::Fail;
 use trace_text::Talk;
+
+/// Writes a byte to a line, which has to be answered `ok`.
+fn write<T: Talk>(alloc: Global, session: &mut T, line: u8, byte: u8) -> Result<(), Fail> {
+    let command = format!(in alloc; "write {line} [{byte:02x}]")?;
+    if begins(alloc, session, command.as_str(), "ok ")? {
+        Ok(())
+    } else {
+        Err(Fail::new("not written"))
+    }
+}
 
 /// Writes so many lines from `first` on, `step` apart: each one has to be answered `ok`.
 fn write_many<T: Talk>(
@@ -15,20 +25,7 @@ fn write_many<T: Talk>(
 ) -> Result<(), Fail> {
     let mut line = first;
     for i in 0..times {
-        let command = format!(in alloc; "write {line} ")?;
-        let digits = format!(in alloc; "{i:02x}")?;
-        let mut text = String::from_str(alloc, command.as_str())?;
-        for _ in 0..64 {
-            text.push_str(digits.as_str())?;
-        }
-        match session.talk(alloc, text.as_bytes()) {
-            Ok(Some(answer)) => {
-                if !answer.as_slice().starts_with(b"ok ".as_slice()) {
-                    return Err(Fail::new("not written"));
-                }
-            }
-            _ => return Err(Fail::new("stopped")),
-        }
+        write(alloc, session, line, i)?;
         line = line.wrapping_add(step);
     }
     Ok(())

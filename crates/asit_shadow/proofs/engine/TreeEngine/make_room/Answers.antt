@@ -1,6 +1,6 @@
 -- A held node's position is below 5461.
 use Rattle.std.proofs.Common.{sym, ◌∙◌, arith}
-use Rattle.counter_tree.proofs.Positions.{meta_lines-most}
+use Rattle.pmem_base.proofs.LayoutLemmas.{meta_lines-most}
 use Rattle.asit_shadow.proofs.engine.TreeEngine.make_room.Goals as goal
 
 pub node_line-line-requires-clause-place : goal.node_line-line-requires-clause-place

@@ -10,7 +10,7 @@ use Rattle.counter_tree.specs.Layout.{tree_slots, line_of_slot, line_of_tag}
 use Rattle.counter_tree.specs.Shadow.{IsShadowTree, tree_with, tree_root_with}
 use Rattle.counter_tree.specs.Slots.{slot_of}
 use Rattle.pmem_base.specs.Layout.{meta_lines}
-use Rattle.counter_tree.proofs.Positions.{meta_lines-most}
+use Rattle.pmem_base.proofs.LayoutLemmas.{meta_lines-most}
 use Rattle.counter_tree.proofs.HeightLemmas.{shadow_height-room}
 use Rattle.asit_shadow.specs.Writing.{armed_lines, IsTreeNamed}
 use Rattle.asit_shadow.proofs.RegisterLaws.{others-emptied, others-then}

@@ -5,7 +5,8 @@ use Rattle.pmem_base.proofs.LineSets.{length-put_lines}
 use Rattle.pmem_base.specs.Lines.{line_at, put_lines}
 use Rattle.pmem_base.specs.Counts.{risen_times}
 use Rattle.bonsai_tree.specs.Paths.{new_path, new_root}
-use Rattle.counter_tree.proofs.ChipLemmas.{level-within, level-above, level-low, put-more, root-more, node-is, risen_times-add}
+use Rattle.pmem_base.proofs.CountLemmas.{risen_times-add}
+use Rattle.counter_tree.proofs.ChipLemmas.{level-within, level-above, level-low, put-more, root-more, node-is}
 use Rattle.counter_tree.proofs.shadow.ShadowTree.+put_at.Goals as goal
 
 pub set_line-requires : goal.set_line-requires

@@ -7,7 +7,8 @@ use Rattle.pmem_base.specs.Lines.{line_at}
 use Rattle.pmem_base.proofs.LineSets.{line_at-set_other}
 use Rattle.bonsai_tree.specs.Nodes.{node_over}
 use Rattle.bonsai_tree.proofs.Levels.{level_start-suc}
-use Rattle.counter_tree.proofs.ChipLemmas.{nodes-more, risen_times-add}
+use Rattle.pmem_base.proofs.CountLemmas.{risen_times-add}
+use Rattle.counter_tree.proofs.ChipLemmas.{nodes-more}
 use Rattle.counter_tree.proofs.shadow.ShadowTree.make_nodes.Goals as goal
 
 pub nodes-preserved : goal.nodes-preserved

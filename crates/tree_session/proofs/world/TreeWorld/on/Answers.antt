@@ -5,7 +5,8 @@ use Rattle.board.specs.MemBoard.{memory_of}
 use Rattle.counter_tree.specs.BookView.{watch_of}
 use Rattle.tree_session.specs.declared.commands.TreeCommand.TheVariants as Do
 use Rattle.tree_session.specs.declared.answers.TreeAnswer.TheVariants as Say
-use Rattle.tree_session.proofs.Decided.{QuietCall, found_none, found_some, already, as_now}
+use Rattle.tree_session.proofs.Decided.{QuietCall, found_some, already, as_now}
+use Rattle.pmem_recovery.proofs.ResultLaws.{none_of}
 use Rattle.tree_session.proofs.OnCalls.{OnTreeCall, on_held, on_seen, cut_kept, cut_seen, shadow_kept, shadow_seen, shown_kept, shown_seen}
 use Rattle.tree_session.proofs.world.TreeWorld.on.Given.{Over}
 use Rattle.tree_session.proofs.world.TreeWorld.on.Goals.{After-steps-steps}
@@ -31,7 +32,7 @@ module _ (g : Over) (c : After-steps-steps g) where
         is = c.self.view_is;
         world = c.self.invariant;
         unshown = c.requires;
-        there = found_none c.self.inside.engine c.is_some.result c.is_some.ensures c.if-is_some.false;
+        there = none_of c.self.inside.engine c.is_some.result c.is_some.ensures c.if-is_some.false;
         lit = memory_of c.power.new.self;
         is_lit = c.power.ensures;
         keys = g.S.Suite.keys c.recover-done.new.suite;

@@ -8,7 +8,7 @@ use Rattle.pmem_engine.specs.declared.fault.Fault.TheVariants as Fail
 use Rattle.pmem_recovery.specs.declared.faults.RecFault.TheVariants as Rec
 use Rattle.pmem_recovery.specs.Parts.{suite_state}
 use Rattle.line_txn.specs.declared.store.TxnFault.TheVariants as Txn
-use Rattle.wear_session.proofs.Starts.{none_of}
+use Rattle.pmem_recovery.proofs.ResultLaws.{none_of}
 use Rattle.txn_session.specs.declared.calls.StartFault.TheVariants as Start
 use Rattle.txn_session.proofs.Starts.{OnTxnCall}
 use Rattle.txn_session.proofs.Opened.{open_held, open_exit, stuck_exit, cut_exit, wanted_on, wanted_exit, twin_exit, possible}

@@ -9,7 +9,8 @@ use Rattle.pmem_recovery.specs.Parts.{suite_state}
 use Rattle.start_gap.specs.declared.gapped.Gapped.{Gapped}
 use Rattle.start_gap.specs.declared.gapped.GapFault.TheVariants as Gap
 use Rattle.wear_session.specs.declared.calls.StartFault.TheVariants as Start
-use Rattle.wear_session.proofs.Starts.{OnWearCall, none_of}
+use Rattle.wear_session.proofs.Starts.{OnWearCall}
+use Rattle.pmem_recovery.proofs.ResultLaws.{none_of}
 use Rattle.wear_session.proofs.Opened.{open_exit, cut_exit, wanted_on, wanted_exit, twin_exit, possible}
 use Rattle.wear_session.proofs.world.WearWorld.on.Given.{Over}
 use Rattle.wear_session.proofs.world.WearWorld.on.Goals.{After-steps-steps, In-Err-Recovery, In-Err-Opening, In-Engine}

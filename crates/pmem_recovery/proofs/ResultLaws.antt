@@ -1,0 +1,13 @@
+-- What holds of an answer that is no error, and of what isn't there.
+use Rattle.std.proofs.Common.{◌≡◌, Bool, true, false, Option, Some, None, refl, sym, ◌∙◌}
+use Rattle.std.specs.Prelude.{Result, Ok, Err, IsErr, OnOk, is_some}
+use Rattle.std.proofs.lemmas.Bool.{true≢false}
+
+pub from_no_error : {T E P : Type 0} (answer : Result T E) → (IsErr answer → ⊥) → OnOk answer P → P
+from_no_error (Ok value) fine holds = holds
+from_no_error (Err error) fine holds = absurd (fine refl)
+
+-- nothing is there
+pub none_of : {X : Type 0} (found : Option X) (some : Bool) → some ≡ is_some found → some ≡ false → found ≡ None
+none_of None some is none = refl
+none_of (Some x) some is none = absurd (true≢false (sym is ∙ none))

@@ -1,0 +1,142 @@
+-- What a recovery leaves that a session over the engine began: as from the engine's start where it is done, and else a
+-- durable device.
+use Rattle.std.proofs.Common.{ℕ, ◌≡◌, ◌<◌, ◌≤◌, ◌-◌, true, List, [], length, inl, inr, Option, Some, None, Ok, Err, refl, sym, ap, subst, ◌∙◌, arith}
+use Rattle.std.specs.Prelude.{is_some, option_map, MatchOption}
+use Rattle.std.proofs.lemmas.Bool.{true≢false}
+use Rattle.std.proofs.lemmas.List.{append-nil}
+use Rattle.pmem_base.specs.declared.lines.Line.{Line}
+use Rattle.pmem_base.specs.declared.registers.Regs.{Regs}
+use Rattle.pmem_base.specs.Layout as layout
+use Rattle.pmem_base.specs.Registers.{without_group}
+use Rattle.board.specs.Device.{Device}
+use Rattle.board.specs.Memory.{BoardMemory}
+use Rattle.commit_regs.specs.Groups.{redone}
+use Rattle.seal_ledger.specs.Ledger.{LedgerState}
+use Rattle.suite.specs.Setup.{Setup}
+use Rattle.plain_model.specs.Bounds.{recovery_bound}
+use Rattle.pmem_engine.specs.Engine.{EngineState}
+use Rattle.pmem_engine.specs.Parts.{Parts, parts_of, AreSound}
+use Rattle.pmem_engine.specs.Invariants.{IsDurable, IsSound}
+use Rattle.pmem_recovery.specs.declared.faults.Work.{Work}
+use Rattle.pmem_recovery.specs.declared.faults.RecFault.TheVariants as Rec
+use Rattle.pmem_recovery.specs.Parts.{SuiteState}
+use Rattle.pmem_recovery.specs.Trials.{IsTwinOfLastSeal}
+use Rattle.pmem_recovery.specs.Recovered.{HasRecovered, most_recovery_steps}
+use Rattle.pmem_recovery.proofs.LatchLaws.{one_latch}
+use Rattle.pmem_recovery.proofs.UndecidedLaws.{undecided_line}
+use Rattle.watched_board.specs.declared.taken.Taken.{Taken}
+use Rattle.watched_board.specs.Watching.{steps_in, device_during, none_taken, IsWatched}
+use Rattle.watched_board.proofs.StepLaws.{unburnt}
+use Rattle.wear_session.proofs.EngineWrites.{most_within, AreDone}
+
+-- its steps
+pub few_recovery : (setup : Setup) (regs : Regs) → length regs.group.items ≤ 3 → most_recovery_steps setup regs ≤ recovery_bound setup.shape
+few_recovery setup regs few = omega (arith, one_latch regs.group.items, few)
+
+-- ---- it is done
+
+module _ (setup : Setup) (ledger : LedgerState) (lit : BoardMemory) (between : Device) (suite_old suite_between : SuiteState) (engine : EngineState) (work : Work)
+    (it : HasRecovered setup ledger (device_during lit none_taken) between suite_old suite_between (Ok (engine, work)))
+    (durable : IsDurable setup lit.lines lit.regs ledger) where
+  abbrev start : Parts
+  start = parts_of engine (device_during lit none_taken) ledger suite_between.tags suite_between.digests
+
+  abbrev middle : Parts
+  middle = parts_of engine between ledger suite_between.tags suite_between.digests
+
+  pub sound_recovered : AreSound setup middle
+  sound_recovered = go between.lines refl
+    where
+      go : (found : Option (List Line)) → between.lines ≡ found
+          → MatchOption found ⊥ (λ lines. IsSound setup engine lines between.regs ledger)
+      go None none = absurd (true≢false (sym it.told ∙ ap (λ (o : Option (List Line)). is_some o) none))
+      go (Some now) there = (it.lines lit.lines refl now there).from_durable durable
+
+  -- no write is done yet
+  pub recovered : lit.powered ≡ true → length lit.regs.group.items ≤ 3 → AreDone setup start [] [] (recovery_bound setup.shape) middle
+  recovered on few =
+      record {
+        asked = refl;
+        moment = refl;
+        marks = sym (append-nil ledger.marks);
+        loss = ap (λ (r : Regs). r.loss) it.regs;
+        sound = sound_recovered;
+        live = it.power.live on;
+        takes =
+            most_within (device_during lit none_taken) between (most_recovery_steps setup lit.regs) (recovery_bound setup.shape)
+            (few_recovery setup lit.regs few) it.steps;
+      }
+
+-- ---- it isn't done
+
+-- the device is durable, and the stop-loss number as it was
+pub record IsLeftDurable (setup : Setup) (old : BoardMemory) (new : BoardMemory) (ledger : LedgerState) : Type 0 where
+  pub durable : IsDurable setup new.lines new.regs ledger
+  pub few_armed : length new.regs.group.items ≤ 3
+  pub loss : new.regs.loss ≡ old.regs.loss
+
+-- nothing was done: no step was taken
+pub record IsUntouched (old new : BoardMemory) (taken : Taken) : Type 0 where
+  pub none : steps_in taken ≡ 0
+  pub fuse : new.fuse ≡ old.fuse
+  pub writes : new.writes ≡ old.writes
+  pub latches : new.latches ≡ old.latches
+  pub cuts : new.cuts ≡ old.cuts
+
+pub untouched : (old new : BoardMemory) (taken : Taken) → IsWatched old new taken → device_during new taken ≡ device_during old none_taken → old.powered ≡ true
+    → IsUntouched old new taken
+untouched old new taken watched same on =
+    let follows = watched.follows in
+    let lasting : new.powered ≡ true = ap (λ (d : Device). d.live) same ∙ on in
+    let no_writes : taken.writes ≡ 0 = ap (λ (d : Device). d.writes) same in
+    let no_latches : taken.latches ≡ 0 = ap (λ (d : Device). d.latches) same in
+    let none : steps_in taken ≡ 0 = omega (arith, no_writes, no_latches) in
+    record {
+      none = none;
+      fuse = follows.burnt lasting ∙ ap (λ k. option_map (λ n. n - k) old.fuse) none ∙ unburnt old.fuse;
+      writes = omega (arith, follows.writes, watched.in_count.writes, no_writes);
+      latches = omega (arith, follows.latches, watched.in_count.latches, no_latches);
+      cuts = follows.uncut lasting;
+    }
+
+module _ (setup : Setup) (ledger after : LedgerState) (lit board : BoardMemory) (taken : Taken) (suite_old suite_between : SuiteState) (same : after ≡ ledger)
+    (durable : IsDurable setup lit.lines lit.regs ledger) (few : length lit.regs.group.items ≤ 3) where
+  abbrev from : Device
+  from = device_during lit none_taken
+
+  abbrev to : Device
+  to = device_during board taken
+
+  left_durable : (regs : Regs) → board.regs ≡ regs → length regs.group.items ≤ 3 → regs.loss ≡ lit.regs.loss → IsDurable setup board.lines board.regs ledger
+      → IsLeftDurable setup lit board after
+  left_durable regs is armed loss made =
+      record {
+        durable = subst (IsDurable setup board.lines board.regs) (sym same) made;
+        few_armed = subst (λ (r : Regs). length r.group.items ≤ 3) (sym is) armed;
+        loss = ap (λ (r : Regs). r.loss) is ∙ loss;
+      }
+
+  pub cut_left : HasRecovered setup ledger from to suite_old suite_between (Err Rec.Cut) → IsLeftDurable setup lit board after
+  cut_left it =
+      let made = (it.lines lit.lines refl board.lines refl).from_durable durable in
+      elim it.regs [
+        | inl kept ↦ left_durable lit.regs kept few refl made
+        | inr emptied ↦ left_durable (without_group lit.regs) emptied (omega arith) refl made
+      ]
+
+  pub wanted_left : HasRecovered setup ledger from to suite_old suite_between (Err Rec.Memory) → IsLeftDurable setup lit board after
+  wanted_left it = left_durable lit.regs it.regs few refl ((it.lines lit.lines refl board.lines refl).from_durable durable)
+
+  module _ (at major low high : ℕ) (cipher : Line) (tag : List ℕ)
+      (it : HasRecovered setup ledger from to suite_old suite_between (Err (Rec.Twin at major low high cipher tag))) where
+    pub twin_left : IsLeftDurable setup lit board after
+    twin_left =
+        left_durable (without_group lit.regs) it.regs (omega arith) refl ((it.lines lit.lines refl board.lines refl).from_durable durable).1
+
+    -- the twin is of a data line's last seal
+    pub twin_of_last : IsTwinOfLastSeal lit.regs.loss ledger at major low high cipher tag
+    twin_of_last = ((it.lines lit.lines refl board.lines refl).from_durable durable).0
+
+    pub twin_within : at < layout.data_lines setup.shape
+    twin_within =
+        (undecided_line setup (redone lit.regs.group.items lit.lines) lit.regs at (it.lines lit.lines refl board.lines refl).decided.0).0.on_device
