@@ -1,5 +1,5 @@
 -- A waiting write is given to the engine: the state and the world after it.
-use Rattle.std.proofs.Common.{ℕ, ◌≡◌, ◌<◌, Bool, true, false, List, [], ◌∷◌, Some, None, Ok, Err, refl, sym, ap, subst, ◌∙◌}
+use Rattle.std.proofs.Common.{ℕ, ◌≡◌, ◌<◌, ◌≤◌, Bool, true, false, List, [], ◌∷◌, Some, None, Ok, Err, refl, sym, ap, subst, ◌∙◌, arith}
 use Rattle.std.specs.Prelude.{Result, slice_set, slice_get, length, drop, option_map, ◌-◌, if◌then◌else◌}
 use Rattle.std.proofs.lemmas.Option.{same_Some, none-some}
 use Rattle.std.proofs.Math.Seq.{drop-append_seam}
@@ -7,13 +7,14 @@ use Rattle.pmem_base.specs.declared.lines.Ctr.{Ctr}
 use Rattle.pmem_base.specs.declared.commands.Posted.{Posted}
 use Rattle.pmem_base.specs.declared.commands.Command.TheVariants as Do
 use Rattle.pmem_base.specs.declared.answers.Answer.{Answer}
+use Rattle.pmem_base.specs.declared.answers.Answer.TheVariants as Say
 use Rattle.pmem_base.specs.declared.answers.Mark.{Mark}
 use Rattle.pmem_base.specs.Shape.{Shape}
 use Rattle.pmem_base.specs.WaitingWrites.{queue_of, no_writes}
 use Rattle.suite.specs.Formulas.{Formulas}
 use Rattle.suite.specs.Setup.{Setup}
 use Rattle.plain_model.specs.State.{PlainState, memory_with, without_flag}
-use Rattle.plain_model.specs.After.{after_marks, steps_with}
+use Rattle.plain_model.specs.After.{after_marks, steps_of, steps_with}
 use Rattle.pmem_engine.specs.declared.fault.Fault.{Fault}
 use Rattle.pmem_engine.specs.declared.fault.Fault.TheVariants as Fail
 use Rattle.pmem_engine.specs.Parts.{Parts}
@@ -23,7 +24,7 @@ use Rattle.watched_board.specs.declared.taken.Taken.{Taken}
 use Rattle.watched_board.specs.Watching.{none_taken, steps_in}
 use Rattle.pmem_replay.specs.During.{parts_in}
 use Rattle.pmem_replay.specs.Called.{engine_left, is_outcome_shown, called_state, IsCall, WasCalled, IsTaken}
-use Rattle.pmem_replay.specs.Given.{given_state, WasGiven, IsGiven, IsGivenTo, IsSaid, HasGiven}
+use Rattle.pmem_replay.specs.Given.{given_state, WasGiven, IsGiven, IsGivenTo, IsSaid, HasGiven, CanEndFence}
 use Rattle.pmem_replay.specs.World.{WorldState, IsOn, IsWorld, setup_of_world}
 use Rattle.pmem_replay.proofs.Steps.WorldsAfterCalls.{on_in}
 use Rattle.pmem_replay.proofs.Drains.DrainChain.{IsDrainedTo, drained_none, ok_sealed}
@@ -215,3 +216,26 @@ gives formulas_of old mid new port write taken answer put n said small whole uns
       given = given_to (setup_of_world formulas_of old) old new port small whole unshown write took.later took.waits taken answer called put sealed n counted;
       says = says;
     }
+
+-- a drain that isn't done can end a fence
+ends_fence : (setup : Setup) (old new : WorldState) (port : ℕ) (said : Answer) (answer : Result Ctr Fault) (put : Bool) (n : ℕ) → IsGivenTo setup old port n answer put new
+    → IsSaid new answer put n said → ((k : ℕ) → said ≡ Say.Drained k → ⊥) → (steps_of said ≤ 65536) × CanEndFence said
+ends_fence setup old new port said (Ok ctr) put n it is undrained = absurd (undrained n is)
+ends_fence setup old new port said (Err (Fail.Meta x)) put n it is undrained =
+    subst (λ a. (steps_of a ≤ 65536) × CanEndFence a) (sym is) (omega (arith, it.counted, it.given.follows.few), tt)
+ends_fence setup old new port said (Err (Fail.Tag at)) put n it is undrained =
+    subst (λ a. (steps_of a ≤ 65536) × CanEndFence a) (sym is) (omega (arith, it.counted, it.given.follows.few), tt)
+ends_fence setup old new port said (Err (Fail.Spent page)) put n it is undrained =
+    subst (λ a. (steps_of a ≤ 65536) × CanEndFence a) (sym is) (omega (arith, it.counted, it.given.follows.few), tt)
+ends_fence setup old new port said (Err Fail.Cut) true n it is undrained =
+    subst (λ a. (steps_of a ≤ 65536) × CanEndFence a) (sym is) (omega (arith, it.counted, it.given.follows.few), tt)
+ends_fence setup old new port said (Err Fail.Cut) false n it is undrained =
+    subst (λ a. (steps_of a ≤ 65536) × CanEndFence a) (sym is) (omega (arith, it.counted, it.given.follows.few), tt)
+ends_fence setup old new port said (Err Fail.Down) put n it is undrained = absurd is
+ends_fence setup old new port said (Err Fail.Shown) put n it is undrained =
+    subst (λ a. (steps_of a ≤ 65536) × CanEndFence a) (sym is.2) (omega arith, tt)
+
+pub ends_with : (setup : Setup) (old new : WorldState) (port : ℕ) (said : Answer) → HasGiven setup old port said new → ((k : ℕ) → said ≡ Say.Drained k → ⊥)
+    → (steps_of said ≤ 65536) × CanEndFence said
+ends_with setup old new port said given undrained =
+    ends_fence setup old new port said given.answer given.put given.steps given.given given.says undrained
