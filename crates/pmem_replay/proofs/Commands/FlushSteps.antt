@@ -70,10 +70,7 @@ flush_clean s =
     (λ quiet. ap (after_clean s.setup.shape) state) (λ quiet. clean_noted s.setup s.new (w.holds w.shown) clean)
     (done_as s (after_clean s.setup.shape s.new.state) _ (Ok None, w.related, tt) Say.Clean refl (λ quiet. sym none)) tt
 
--- a block is written back: it is on the tree, and clean
-pub flush_on_tree : (x : ℕ) (s : Serving Flushes None (Ok (Some x))) → x < layout.meta_lines s.new.shape
-flush_on_tree x s = subst (λ (g : Shape). x < layout.meta_lines g) (sym (same_shape (Ok (Some x)) s)) (answered (Ok (Some x)) s).2
-
+-- a block is written back, and clean
 pub flush_clean_at : (x : ℕ) (s : Serving Flushes None (Ok (Some x))) → IsCleanAt s.new.shape s.new.engine x
 flush_clean_at x s =
     subst (λ (g : Shape). IsCleanAt g s.new.engine x) (sym (same_shape (Ok (Some x)) s))
