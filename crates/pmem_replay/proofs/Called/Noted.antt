@@ -15,16 +15,18 @@ use Rattle.plain_model.specs.After.{after_clean}
 use Rattle.plain_model.specs.Bounds.{can_be_dirty}
 use Rattle.pmem_engine.specs.Engine.{EngineState}
 use Rattle.pmem_replay.specs.Called.{IsCleanIn, IsCleanAt}
-use Rattle.pmem_replay.specs.World.{WorldState, IsPowered, IsWorld}
+use Rattle.pmem_replay.specs.World.{WorldState, HasQueues, IsPowered, IsWorld}
 use Rattle.pmem_replay.proofs.Steps.WorldsAfterCalls.{on_in}
 use Rattle.pmem_replay.proofs.Drains.WriteWorlds.{HasQueues-shorter}
 
--- with other flags of dirty blocks, where they still tell of each that is dirty
-noted : (setup : Setup) (old : WorldState) (touched flushed : List Bool) → IsWorld setup old → length touched ≡ layout.pages setup.shape → length flushed ≡ layout.meta_lines setup.shape
+-- with other queues and other flags of dirty blocks, where these still tell of each that is dirty
+restated : (setup : Setup) (old : WorldState) (queues : List (List Posted)) (touched flushed : List Bool) → IsWorld setup old
+    → HasQueues setup.shape (record (old.state) { queues = queues; touched = touched; flushed = flushed })
+    → length touched ≡ layout.pages setup.shape → length flushed ≡ layout.meta_lines setup.shape
     → ((engine : EngineState) → old.engine ≡ Some engine → (bank x : ℕ) → is_cached_dirty setup.shape engine.cache bank x ≡ true
-    → IsTrue (can_be_dirty setup.shape (record (old.state) { touched = touched; flushed = flushed }) x))
-    → IsWorld setup (record old { state = record (old.state) { touched = touched; flushed = flushed } })
-noted setup old touched flushed whole touched_count flushed_count dirty =
+    → IsTrue (can_be_dirty setup.shape (record (old.state) { queues = queues; touched = touched; flushed = flushed }) x))
+    → IsWorld setup (record old { state = record (old.state) { queues = queues; touched = touched; flushed = flushed } })
+restated setup old queues touched flushed whole waiting touched_count flushed_count dirty =
     record {
       its_shape = whole.its_shape;
       whole_shape = whole.whole_shape;
@@ -41,7 +43,7 @@ noted setup old touched flushed whole touched_count flushed_count dirty =
             touched = touched_count;
             flushed = flushed_count;
           };
-      queues = record { ports = whole.queues.ports; on_memory = whole.queues.on_memory };
+      queues = waiting;
       board =
           record {
             power = whole.board.power;
@@ -62,8 +64,8 @@ noted setup old touched flushed whole touched_count flushed_count dirty =
   where
     chip : (engine : Option EngineState) → IsPowered setup old engine
         → ((found : EngineState) → engine ≡ Some found → (bank x : ℕ) → is_cached_dirty setup.shape found.cache bank x ≡ true
-        → IsTrue (can_be_dirty setup.shape (record (old.state) { touched = touched; flushed = flushed }) x))
-        → IsPowered setup (record old { state = record (old.state) { touched = touched; flushed = flushed } }) engine
+        → IsTrue (can_be_dirty setup.shape (record (old.state) { queues = queues; touched = touched; flushed = flushed }) x))
+        → IsPowered setup (record old { state = record (old.state) { queues = queues; touched = touched; flushed = flushed } }) engine
     chip None off may = record { unpowered = off.unpowered; anchored = off.anchored; durable = off.durable }
     chip (Some engine) on may =
         record {
@@ -80,7 +82,8 @@ pub clean_noted : (setup : Setup) (old : WorldState) → IsWorld setup old → I
     → IsWorld setup (record old { state = after_clean setup.shape old.state })
 unfolding no_flags
 clean_noted setup old whole clean =
-    noted setup old (no_flags (layout.pages setup.shape)) (no_flags (layout.meta_lines setup.shape)) whole
+    restated setup old old.state.queues (no_flags (layout.pages setup.shape)) (no_flags (layout.meta_lines setup.shape)) whole
+    (record { ports = whole.queues.ports; on_memory = whole.queues.on_memory })
     (length-replicate (layout.pages setup.shape) false) (length-replicate (layout.meta_lines setup.shape) false)
     (λ engine there bank x dirty.
     absurd (true≢false (sym dirty ∙ (subst (λ (e : Option EngineState). IsCleanIn setup.shape e) there clean) bank x)))
@@ -89,7 +92,8 @@ clean_noted setup old whole clean =
 pub flushed_noted : (setup : Setup) (old : WorldState) (x : ℕ) → IsWorld setup old → IsCleanAt setup.shape old.engine x
     → IsWorld setup (record old { state = record (old.state) { flushed = with_flag old.state.flushed x } })
 flushed_noted setup old x whole clean =
-    noted setup old old.state.touched (with_flag old.state.flushed x) whole whole.flags.touched
+    restated setup old old.state.queues old.state.touched (with_flag old.state.flushed x) whole
+    (record { ports = whole.queues.ports; on_memory = whole.queues.on_memory }) whole.flags.touched
     (length-set old.state.flushed x true ∙ whole.flags.flushed)
     (λ engine there bank y dirty.
     let parts = and_parts (touched_block y) (not (is_flagged old.state.flushed y)) ((on_in setup old engine whole there).dirty bank y dirty) in
@@ -111,50 +115,6 @@ pub taken_world : (setup : Setup) (old : WorldState) (port : ℕ) (write : Poste
     → queue_of old.state.queues port ≡ write ∷ later
     → IsWorld setup (record old { state = record (old.state) { queues = slice_set old.state.queues port later } })
 taken_world setup old port write later whole small waits =
-    record {
-      its_shape = whole.its_shape;
-      whole_shape = whole.whole_shape;
-      whole_formulas = whole.whole_formulas;
-      whole_lines = whole.whole_lines;
-      memory = record { count = whole.memory.count; each = whole.memory.each };
-      chip = chip old.engine whole.chip;
-      kept = record { seals = whole.kept.seals; spoiled = whole.kept.spoiled; counters = whole.kept.counters };
-      flags =
-          record {
-            named = whole.flags.named;
-            hurt = whole.flags.hurt;
-            spoiled = whole.flags.spoiled;
-            touched = whole.flags.touched;
-            flushed = whole.flags.flushed;
-          };
-      queues = HasQueues-shorter setup old.state _ port write later whole.queues small waits refl;
-      board =
-          record {
-            power = whole.board.power;
-            fuse = whole.board.fuse;
-            snapped = whole.board.snapped;
-            loss = whole.board.loss;
-            few_armed = whole.board.few_armed;
-          };
-      steps =
-          record {
-            in_range = whole.steps.in_range;
-            reads = whole.steps.reads;
-            writes = whole.steps.writes;
-            latches = whole.steps.latches;
-            sum = whole.steps.sum;
-          };
-    }
-  where
-    chip : (engine : Option EngineState) → IsPowered setup old engine
-        → IsPowered setup (record old { state = record (old.state) { queues = slice_set old.state.queues port later } }) engine
-    chip None off = record { unpowered = off.unpowered; anchored = off.anchored; durable = off.durable }
-    chip (Some engine) on =
-        record {
-          powered = on.powered;
-          trusted = on.trusted;
-          sound = on.sound;
-          whole_cache = on.whole_cache;
-          metadata = on.metadata;
-          dirty = on.dirty;
-        }
+    restated setup old (slice_set old.state.queues port later) old.state.touched old.state.flushed whole
+    (HasQueues-shorter setup old.state _ port write later whole.queues small waits refl) whole.flags.touched whole.flags.flushed
+    (λ engine there bank x dirty. (on_in setup old engine whole there).dirty bank x dirty)
