@@ -7,7 +7,6 @@ pub mod WorldsAfterCalls
 pub mod FewSteps
 pub mod MarklessCalls
 pub mod CallSurroundings
-pub mod EngineCalls
 pub mod ReservedRoom
 pub mod SameWorld
 pub mod FaultCauses

@@ -1,8 +1,10 @@
 -- The plain machine's flags: of lines that were tampered with, and of blocks that may be dirty.
-use Rattle.std.specs.Prelude.{◌≡◌, false, Bool, List, length}
+use Rattle.std.specs.Prelude.{ℕ, ◌≡◌, false, Bool, List, length, Option, Some, None, if◌then◌else◌}
+use Rattle.pmem_base.specs.declared.answers.Mark.{Mark}
 use Rattle.pmem_base.specs.Shape.{Shape}
 use Rattle.pmem_base.specs.Layout as layout
-use Rattle.plain_model.specs.State.{PlainState, no_flags}
+use Rattle.plain_model.specs.State.{PlainState, no_flags, without_flag}
+use Rattle.pmem_engine.specs.Outcomes.{is_sealed_by}
 
 -- device lines that were changed, data lines that this bears on, those that surely differ from what was
 -- sealed, and whether the device was powered on over such changes
@@ -48,3 +50,14 @@ pub record HasTamperingOf (g : Shape) (flags : Tampering) : Type 0 where
 pub record HasDirtyingOf (g : Shape) (flags : Dirtying) : Type 0 where
   pub touched : length flags.touched ≡ layout.pages g
   pub flushed : length flags.flushed ≡ layout.meta_lines g
+
+-- ---- a write's line
+
+-- without the line's flag, where one of these marks seals it
+abbrev pub healed_flags : Option ℕ → List Mark → List Bool → List Bool
+healed_flags None made flags = flags
+healed_flags (Some at) made flags = if is_sealed_by made at then without_flag flags at else flags
+
+abbrev pub healed : Option ℕ → List Mark → Tampering → Tampering
+healed line made flags =
+    record flags { hurt = healed_flags line made flags.hurt; spoiled = healed_flags line made flags.spoiled }

@@ -1,9 +1,7 @@
 -- One waiting write given to the engine, and what became of it.
-use Rattle.std.specs.Prelude.{ℕ, ⊤, ◌≡◌, ◌+◌, ◌-◌, ◌++◌, Bool, true, false, List, ◌∷◌, Some, None, Result, Ok, Err, option_map, slice_set, All, if◌then◌else◌}
+use Rattle.std.specs.Prelude.{ℕ, ⊤, ◌≡◌, ◌-◌, ◌++◌, Bool, true, false, List, ◌∷◌, Some, None, Result, Ok, Err, option_map, slice_set, All, if◌then◌else◌}
 use Rattle.pmem_base.specs.declared.lines.Ctr.{Ctr}
 use Rattle.pmem_base.specs.declared.commands.Posted.{Posted}
-use Rattle.pmem_base.specs.declared.answers.Exhibit.{Exhibit}
-use Rattle.pmem_base.specs.declared.answers.Place.{Place}
 use Rattle.pmem_base.specs.declared.answers.Answer.{Answer}
 use Rattle.pmem_base.specs.declared.answers.Answer.TheVariants as Say
 use Rattle.pmem_base.specs.Lines.{IsLine}
@@ -19,10 +17,9 @@ use Rattle.pmem_engine.specs.Outcomes.{is_sealed_by}
 use Rattle.pmem_engine.specs.Calls.{HasWrittenLine}
 use Rattle.pmem_replay.specs.World.{WorldState, IsWorld}
 use Rattle.watched_board.specs.declared.taken.Taken.{Taken}
-use Rattle.pmem_replay.specs.declared.draining.Gave.{Gave}
-use Rattle.pmem_replay.specs.declared.draining.Gave.TheVariants.{Put, Refused, Spent, Kept, Lost, Shown}
 use Rattle.watched_board.specs.Watching.{AreInCount, FollowsOn, none_taken, steps_in}
 use Rattle.pmem_replay.specs.During.{parts_in}
+use Rattle.pmem_replay.specs.Called.{IsStopped}
 
 -- the front write is put or not, and power stays on or not; what its marks leave dirty comes after
 abbrev pub given_state : PlainState → ℕ → Posted → List Posted → ℕ → Bool → Bool → PlainState
@@ -86,80 +83,39 @@ pub record IsGiven (setup : Setup) (old : WorldState) (port steps : ℕ) (answer
   pub holds : IsWorld setup new
 
 -- the engine has an exhibit
-pub record IsGivenShown (setup : Setup) (old : WorldState) (port : ℕ) (exhibit : Exhibit) (new : WorldState) : Type 0 where
+pub record IsGivenShown (setup : Setup) (old : WorldState) (port : ℕ) (new : WorldState) : Type 0 where
   pub given : WasGiven setup old port (Err Fail.Shown) new
   pub engine : new.engine ≡ Some given.after
   pub shown : new.shown ≡ true
-  pub its : new.ledger.exhibit ≡ Some exhibit
 
--- the fault of a refused place
-abbrev pub fault_at : Place → Fault
-fault_at (Place.Meta x) = Fail.Meta x
-fault_at (Place.Line at) = Fail.Tag at
+-- by what the engine answered: the write was put where it was done, and in a cut where its own seal was made
+abbrev pub IsGivenTo : Setup → WorldState → ℕ → ℕ → Result Ctr Fault → Bool → WorldState → Type 0
+IsGivenTo setup old port steps (Ok ctr) put new = IsGiven setup old port steps (Ok ctr) true true new
+IsGivenTo setup old port steps (Err Fail.Cut) put new = IsGiven setup old port steps (Err Fail.Cut) put false new
+IsGivenTo setup old port steps (Err Fail.Down) put new = ⊥
+IsGivenTo setup old port steps (Err Fail.Shown) put new = IsGivenShown setup old port new
+IsGivenTo setup old port steps (Err fault) put new = IsGiven setup old port steps (Err fault) false true new
 
-abbrev pub HasGiven : Setup → WorldState → ℕ → Gave → WorldState → Type 0
-HasGiven setup old port (Put steps) new = (ctr : Ctr) × IsGiven setup old port steps (Ok ctr) true true new
-HasGiven setup old port (Refused place steps) new = IsGiven setup old port steps (Err (fault_at place)) false true new
-HasGiven setup old port (Spent page steps) new = IsGiven setup old port steps (Err (Fail.Spent page)) false true new
-HasGiven setup old port (Kept steps) new = IsGiven setup old port steps (Err Fail.Cut) true false new
-HasGiven setup old port (Lost steps) new = IsGiven setup old port steps (Err Fail.Cut) false false new
-HasGiven setup old port (Shown exhibit) new = IsGivenShown setup old port exhibit new
+-- and what a drain says of it
+abbrev pub IsSaid : WorldState → Result Ctr Fault → Bool → ℕ → Answer → Type 0
+IsSaid new (Ok ctr) put steps said = said ≡ Say.Drained steps
+IsSaid new (Err fault) put steps said = IsStopped new.ledger.exhibit (Some put) fault steps said
 
--- the engine's answer, as it ends
-abbrev pub is_fault_shown : Result Ctr Fault → Bool
-is_fault_shown (Ok ctr) = false
-is_fault_shown (Err Fail.Shown) = true
-is_fault_shown (Err fault) = false
+pub record HasGiven (setup : Setup) (old : WorldState) (port : ℕ) (said : Answer) (new : WorldState) : Type 0 where
+  pub answer : Result Ctr Fault
+  pub put : Bool
+  pub steps : ℕ
+  pub given : IsGivenTo setup old port steps answer put new
+  pub says : IsSaid new answer put steps said
 
-abbrev pub is_fault_cut : Result Ctr Fault → Bool
-is_fault_cut (Ok ctr) = false
-is_fault_cut (Err Fail.Cut) = true
-is_fault_cut (Err fault) = false
-
-abbrev pub is_fault_down : Result Ctr Fault → Bool
-is_fault_down (Ok ctr) = false
-is_fault_down (Err Fail.Down) = true
-is_fault_down (Err fault) = false
-
--- and as it is answered
-abbrev pub IsGave : Result Ctr Fault → Bool → ℕ → Gave → Type 0
-IsGave (Ok ctr) put steps gave = gave ≡ Put steps
-IsGave (Err (Fail.Meta x)) put steps gave = gave ≡ Refused (Place.Meta x) steps
-IsGave (Err (Fail.Tag at)) put steps gave = gave ≡ Refused (Place.Line at) steps
-IsGave (Err (Fail.Spent page)) put steps gave = gave ≡ Spent page steps
-IsGave (Err Fail.Cut) true steps gave = gave ≡ Kept steps
-IsGave (Err Fail.Cut) false steps gave = gave ≡ Lost steps
-IsGave (Err fault) put steps gave = ⊥
-
--- what a drain answers
-abbrev pub IsDrainReply : Gave → Answer → Type 0
-IsDrainReply (Put steps) answer = answer ≡ Say.Drained steps
-IsDrainReply (Refused place steps) answer = answer ≡ Say.Refused None place steps
-IsDrainReply (Spent page steps) answer = answer ≡ Say.Spent None page steps
-IsDrainReply (Kept steps) answer = answer ≡ Say.CutKept None steps
-IsDrainReply (Lost steps) answer = answer ≡ Say.CutLost None steps
-IsDrainReply (Shown exhibit) answer = answer ≡ Say.Shown exhibit
-
--- what a fence answers that ends with this write, after n drained ones that took `spent` steps
-abbrev pub IsEnded : Gave → ℕ → ℕ → Answer → Type 0
-IsEnded (Put steps) n spent answer = ⊥
-IsEnded (Refused place steps) n spent answer = answer ≡ Say.Refused (Some n) place (spent + steps)
-IsEnded (Spent page steps) n spent answer = answer ≡ Say.Spent (Some n) page (spent + steps)
-IsEnded (Kept steps) n spent answer = answer ≡ Say.CutKept (Some n) (spent + steps)
-IsEnded (Lost steps) n spent answer = answer ≡ Say.CutLost (Some n) (spent + steps)
-IsEnded (Shown exhibit) n spent answer = answer ≡ Say.Shown exhibit
-
-abbrev pub IsNotPut : Gave → Type 0
-IsNotPut (Put steps) = ⊥
-IsNotPut gave = ⊤
-
-abbrev pub gave_steps : Gave → ℕ
-gave_steps (Put steps) = steps
-gave_steps (Refused place steps) = steps
-gave_steps (Spent page steps) = steps
-gave_steps (Kept steps) = steps
-gave_steps (Lost steps) = steps
-gave_steps (Shown exhibit) = 0
+-- a fence can end with a drain that answers so
+abbrev pub CanEndFence : Answer → Type 0
+CanEndFence (Say.Refused None place steps) = ⊤
+CanEndFence (Say.Spent None page steps) = ⊤
+CanEndFence (Say.CutKept None steps) = ⊤
+CanEndFence (Say.CutLost None steps) = ⊤
+CanEndFence (Say.Shown exhibit) = ⊤
+CanEndFence one = ⊥
 
 -- room was made for more marks, and nothing else was done
 pub record HasMarkRoom (setup : Setup) (old : WorldState) (more : ℕ) (new : WorldState) : Type 0 where

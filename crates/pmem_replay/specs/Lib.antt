@@ -1,5 +1,6 @@
 pub mod World
 pub mod During
+pub mod Called
 pub mod Flagged
 pub mod Given
 pub mod Replies

@@ -1,23 +1,28 @@
 //! Calls of the engine and of recovery, over a board whose fuse and snapshot are watched.
-ghost use Rattle.std.specs.Prelude.{◌≡◌, ◌<◌, ◌≤◌, ℕ, true, [], None, Some, length, IsTrue, IsNone, IfOk, IsOk, All};
+ghost use Rattle.std.specs.Prelude.{◌≡◌, ◌<◌, ◌≤◌, ℕ, true, false, [], ◌∷◌, None, Some, length, drop, Option, option_map, Result, IsTrue, IsNone, IsSome, IfOk, IfSome, IsOk, All, ⊤, if◌then◌else◌};
+ghost use Rattle.pmem_base.specs.declared.commands.Posted.{Posted};
 ghost use Rattle.pmem_base.specs.Lines.{IsLine};
 ghost use Rattle.pmem_base.specs.Geo.{shape_of};
 ghost use Rattle.pmem_base.specs.Ranges.{IsPosted};
-ghost use Rattle.pmem_base.specs.Shape.{is_loss};
+ghost use Rattle.pmem_base.specs.Shape.{Shape, is_loss};
 ghost use Rattle.pmem_base.specs.Layout.{data_lines, device_lines};
 ghost use Rattle.pmem_base.specs.Registers.{IsValidRegs};
+ghost use Rattle.pmem_base.specs.WaitingWrites.{no_writes};
 ghost use Rattle.board.specs.Memory.{device_of};
 ghost use Rattle.board.specs.MemBoard.{memory_of};
 ghost use Rattle.suite.specs.Setup.{Setup};
-ghost use Rattle.seal_ledger.specs.Ledger.{LedgerState, IsOfShape};
+ghost use Rattle.seal_ledger.specs.Ledger.{IsOfShape};
 ghost use Rattle.seal_ledger.specs.View.{ledger_of};
-ghost use Rattle.pmem_engine.specs.Parts.{parts_of};
-ghost use Rattle.pmem_engine.specs.Calls.{IsReady, IsUsable, HasReadLine, HasTurned, HasFlushed, HasSetLoss, HasWrittenLine};
+ghost use Rattle.pmem_engine.specs.declared.fault.Fault.{Fault};
+ghost use Rattle.pmem_engine.specs.Parts.{Parts, parts_of};
+ghost use Rattle.pmem_engine.specs.Outcomes.{outcome_of, is_sealed_by};
+ghost use Rattle.pmem_engine.specs.Calls.{IsUsable, HasReadLine, HasTurned, HasFlushed, HasSetLoss, HasWrittenLine};
 ghost use Rattle.pmem_recovery.specs.Parts.{suite_state};
 ghost use Rattle.watched_board.specs.Watching.{IsWatched, device_during, none_taken};
 ghost use Rattle.pmem_replay.specs.During.{WasFormatted, IsTakenApart, WasRecovered};
+ghost use Rattle.pmem_replay.specs.Called.{IsMade, is_outcome_shown, is_outcome_cut};
 
-use board::MemBoard;
+use board::{Board, MemBoard};
 use pmem_base::{Ctr, Geo, Line, MemFault, Posted};
 use pmem_engine::{Engine, Fault};
 use pmem_recovery::{RecFault, Work};
@@ -34,235 +39,256 @@ pub(crate) struct Done<T> {
     pub(crate) answer: T,
 }
 
-/// Reads data line `at`.
-pub(crate) fn read<S: Suite>(
+/// A call of the engine: what it needs of the geometry and of the room for marks, what it does, and the write
+/// that it puts, if it is one.
+pub(crate) trait Call {
+    /// What it answers where it is done.
+    type Value: Copy;
+
+    ghost can: { Self → Shape → ℕ → Type 0 };
+
+    ghost relation: { Self → Setup → Parts → Parts → Result Self.Value Fault → Type 0 };
+
+    ghost write: { Self → Option Posted };
+
+    /// Makes the call.
+    fn make<B: Board, S: Suite>(
+        &self,
+        engine: &mut Engine,
+        board: &mut B,
+        suite: &mut S,
+        ledger: &mut Ledger,
+    ) -> Result<Self::Value, Fault>
+        requires can { can self.now engine.old.shape (ledger_of ledger.old).spare }
+        requires usable { IsUsable engine.old.shape engine.old (B.device board.old) (ledger_of ledger.old) }
+        ensures made { IsMade (relation self.now) (write self.now) (record { shape = engine.old.shape; formulas = S.formulas_of (S.keys suite.old) })
+            (parts_of engine.old (B.device board.old) (ledger_of ledger.old) (S.tags suite.old) (S.digests suite.old))
+            (parts_of engine.new (B.device board.new) (ledger_of ledger.new) (S.tags suite.new) (S.digests suite.new)) result }
+        ensures keys { S.keys suite.new ≡ S.keys suite.old };
+
+    /// The data line that it writes, if it is a write.
+    fn line(&self) -> Option<u32>
+        ensures { result ≡ option_map (λ w. w.at) (write self.now) };
+}
+
+/// Data line `at` is read.
+#[derive(Drop)]
+pub(crate) struct ReadLine {
+    pub(crate) at: u32,
+}
+
+impl Call for ReadLine {
+    type Value = Line;
+
+    ghost can = { λ c g spare. c.at < data_lines g };
+
+    ghost relation = { λ c setup old new answer. HasReadLine setup c.at old new answer };
+
+    ghost write = { λ c. None };
+
+    fn make<B: Board, S: Suite>(
+        &self,
+        engine: &mut Engine,
+        board: &mut B,
+        suite: &mut S,
+        ledger: &mut Ledger,
+    ) -> Result<Line, Fault> {
+        engine.read(board, suite, ledger, self.at)
+    }
+
+    fn line(&self) -> Option<u32> {
+        None
+    }
+}
+
+/// The next line of the oldest page under re-encryption is sealed.
+#[derive(Drop)]
+pub(crate) struct TurnPage;
+
+impl Call for TurnPage {
+    type Value = Option<(u32, u8)>;
+
+    ghost can = { λ c g spare. 1 ≤ spare };
+
+    ghost relation = { λ c setup old new answer. HasTurned setup old new answer };
+
+    ghost write = { λ c. None };
+
+    fn make<B: Board, S: Suite>(
+        &self,
+        engine: &mut Engine,
+        board: &mut B,
+        suite: &mut S,
+        ledger: &mut Ledger,
+    ) -> Result<Option<(u32, u8)>, Fault> {
+        engine.turn(board, suite, ledger)
+    }
+
+    fn line(&self) -> Option<u32> {
+        None
+    }
+}
+
+/// The bytes of a posted write are written into their line.
+#[derive(Drop)]
+pub(crate) struct WriteLine {
+    pub(crate) write: Posted,
+}
+
+impl Call for WriteLine {
+    type Value = Ctr;
+
+    ghost can = { λ c g spare. (c.write.at < data_lines g) × IsPosted c.write × (66 ≤ spare) };
+
+    ghost relation = { λ c setup old new answer. HasWrittenLine setup c.write old new answer };
+
+    ghost write = { λ c. Some c.write };
+
+    fn make<B: Board, S: Suite>(
+        &self,
+        engine: &mut Engine,
+        board: &mut B,
+        suite: &mut S,
+        ledger: &mut Ledger,
+    ) -> Result<Ctr, Fault> {
+        engine.write_part(board, suite, ledger, &self.write)
+    }
+
+    fn line(&self) -> Option<u32> {
+        Some(self.write.at)
+    }
+}
+
+/// The oldest dirty block is written back.
+#[derive(Drop)]
+pub(crate) struct FlushBlock;
+
+impl Call for FlushBlock {
+    type Value = Option<u32>;
+
+    ghost can = { λ c g spare. ⊤ };
+
+    ghost relation = { λ c setup old new answer. HasFlushed setup old new answer };
+
+    ghost write = { λ c. None };
+
+    fn make<B: Board, S: Suite>(
+        &self,
+        engine: &mut Engine,
+        board: &mut B,
+        suite: &mut S,
+        ledger: &mut Ledger,
+    ) -> Result<Option<u32>, Fault> {
+        engine.flush(board)
+    }
+
+    fn line(&self) -> Option<u32> {
+        None
+    }
+}
+
+/// The stop-loss number is set.
+#[derive(Drop)]
+pub(crate) struct SetLoss {
+    pub(crate) n: u8,
+}
+
+impl Call for SetLoss {
+    type Value = u32;
+
+    ghost can = { λ c g spare. IsTrue (is_loss c.n) };
+
+    ghost relation = { λ c setup old new answer. HasSetLoss setup c.n old new answer };
+
+    ghost write = { λ c. None };
+
+    fn make<B: Board, S: Suite>(
+        &self,
+        engine: &mut Engine,
+        board: &mut B,
+        suite: &mut S,
+        ledger: &mut Ledger,
+    ) -> Result<u32, Fault> {
+        engine.set_loss(board, self.n)
+    }
+
+    fn line(&self) -> Option<u32> {
+        None
+    }
+}
+
+/// Makes a call over the watched board.
+pub(crate) fn make<C: Call, S: Suite>(
+    call: &C,
     engine: &mut Engine,
     board: &mut MemBoard,
     suite: &mut S,
     ledger: &mut Ledger,
-    at: u32,
-) -> Done<Result<Line, Fault>>
-    requires line { at < data_lines engine.old.shape }
+) -> Done<Result<C::Value, Fault>>
+    requires can { C.can call.now engine.old.shape (ledger_of ledger.old).spare }
     requires on { (memory_of board.old).powered ≡ true }
     requires usable { IsUsable engine.old.shape engine.old (device_during (memory_of board.old) none_taken) (ledger_of ledger.old) }
-    ensures read { HasReadLine (record { shape = engine.old.shape; formulas = S.formulas_of (S.keys suite.old) }) at
+    ensures made { IsMade (C.relation call.now) (C.write call.now) (record { shape = engine.old.shape; formulas = S.formulas_of (S.keys suite.old) })
         (parts_of engine.old (device_during (memory_of board.old) none_taken) (ledger_of ledger.old) (S.tags suite.old) (S.digests suite.old))
         (parts_of engine.new (device_during (memory_of board.new) result.taken) (ledger_of ledger.new) (S.tags suite.new) (S.digests suite.new)) result.answer }
     ensures watched { IsWatched (memory_of board.old) (memory_of board.new) result.taken }
     ensures keys { S.keys suite.new ≡ S.keys suite.old }
 {
-    let left = read_watched::<Brand, S>(engine, board, suite, ledger, at);
+    let mut outcome = None;
+    let left = make_watched::<Brand, C, S>(call, engine, board, suite, ledger, &mut outcome);
     let Left {
-        board: _,
-        taken,
-        answer,
+        board: _, taken, ..
     } = left;
-    Done { taken, answer }
+    match outcome {
+        Some(answer) => Done { taken, answer },
+        None => unreachable!(),
+    }
 }
 
-fn read_watched<'a, K: Start, S: Suite>(
+fn make_watched<'a, K: Start, C: Call, S: Suite>(
+    call: &C,
     engine: &mut Engine,
     board: &'a mut MemBoard,
     suite: &mut S,
     ledger: &mut Ledger,
-    at: u32,
-) -> Left<'a, Result<Line, Fault>>
-    requires line { at < data_lines engine.old.shape }
+    outcome: &mut Option<Result<C::Value, Fault>>,
+) -> Left<'a, ()>
+    requires can { C.can call.now engine.old.shape (ledger_of ledger.old).spare }
     requires start { memory_of board.old ≡ K.start }
     requires name { board.ghost_name ≡ K.name }
     requires on { (memory_of board.old).powered ≡ true }
     requires usable { IsUsable engine.old.shape engine.old (device_during (memory_of board.old) none_taken) (ledger_of ledger.old) }
     ensures name { result.board.ghost_name ≡ K.name }
-    ensures read { HasReadLine (record { shape = engine.old.shape; formulas = S.formulas_of (S.keys suite.old) }) at
+    ensures made { IfSome outcome.new (λ answer. IsMade (C.relation call.now) (C.write call.now) (record { shape = engine.old.shape; formulas = S.formulas_of (S.keys suite.old) })
         (parts_of engine.old (device_during (memory_of board.old) none_taken) (ledger_of ledger.old) (S.tags suite.old) (S.digests suite.old))
-        (parts_of engine.new (device_during (memory_of result.board.now) result.taken) (ledger_of ledger.new) (S.tags suite.new) (S.digests suite.new)) result.answer }
+        (parts_of engine.new (device_during (memory_of result.board.now) result.taken) (ledger_of ledger.new) (S.tags suite.new) (S.digests suite.new)) answer) }
+    ensures some { IsSome outcome.new }
     ensures watched { IsWatched K.start (memory_of result.board.now) result.taken }
     ensures keys { S.keys suite.new ≡ S.keys suite.old }
 {
     let mut watched = Watched::<K>::new(board);
-    let answer = engine.read(&mut watched, suite, ledger, at);
-    watched.left(answer)
+    *outcome = Some(call.make(engine, &mut watched, suite, ledger));
+    watched.left(())
 }
 
-/// Seals the next line of the oldest page under re-encryption.
-pub(crate) fn turn<S: Suite>(
-    engine: &mut Engine,
-    board: &mut MemBoard,
-    suite: &mut S,
-    ledger: &mut Ledger,
-) -> Done<Result<Option<(u32, u8)>, Fault>>
-    requires room { 1 ≤ (ledger_of ledger.old).spare }
-    requires on { (memory_of board.old).powered ≡ true }
-    requires usable { IsUsable engine.old.shape engine.old (device_during (memory_of board.old) none_taken) (ledger_of ledger.old) }
-    ensures turned { HasTurned (record { shape = engine.old.shape; formulas = S.formulas_of (S.keys suite.old) })
-        (parts_of engine.old (device_during (memory_of board.old) none_taken) (ledger_of ledger.old) (S.tags suite.old) (S.digests suite.old))
-        (parts_of engine.new (device_during (memory_of board.new) result.taken) (ledger_of ledger.new) (S.tags suite.new) (S.digests suite.new)) result.answer }
-    ensures watched { IsWatched (memory_of board.old) (memory_of board.new) result.taken }
-    ensures keys { S.keys suite.new ≡ S.keys suite.old }
+/// Whether an exhibit ended the call.
+pub(crate) fn is_shown<T>(answer: &Result<T, Fault>) -> bool
+    ensures { result ≡ is_outcome_shown (outcome_of answer.now) }
 {
-    let left = turn_watched::<Brand, S>(engine, board, suite, ledger);
-    let Left {
-        board: _,
-        taken,
-        answer,
-    } = left;
-    Done { taken, answer }
+    match answer {
+        Err(Fault::Shown) => true,
+        _ => false,
+    }
 }
 
-fn turn_watched<'a, K: Start, S: Suite>(
-    engine: &mut Engine,
-    board: &'a mut MemBoard,
-    suite: &mut S,
-    ledger: &mut Ledger,
-) -> Left<'a, Result<Option<(u32, u8)>, Fault>>
-    requires room { 1 ≤ (ledger_of ledger.old).spare }
-    requires start { memory_of board.old ≡ K.start }
-    requires name { board.ghost_name ≡ K.name }
-    requires on { (memory_of board.old).powered ≡ true }
-    requires usable { IsUsable engine.old.shape engine.old (device_during (memory_of board.old) none_taken) (ledger_of ledger.old) }
-    ensures name { result.board.ghost_name ≡ K.name }
-    ensures turned { HasTurned (record { shape = engine.old.shape; formulas = S.formulas_of (S.keys suite.old) })
-        (parts_of engine.old (device_during (memory_of board.old) none_taken) (ledger_of ledger.old) (S.tags suite.old) (S.digests suite.old))
-        (parts_of engine.new (device_during (memory_of result.board.now) result.taken) (ledger_of ledger.new) (S.tags suite.new) (S.digests suite.new)) result.answer }
-    ensures watched { IsWatched K.start (memory_of result.board.now) result.taken }
-    ensures keys { S.keys suite.new ≡ S.keys suite.old }
+/// Whether power was cut in the call.
+pub(crate) fn is_cut<T>(answer: &Result<T, Fault>) -> bool
+    ensures { result ≡ is_outcome_cut (outcome_of answer.now) }
 {
-    let mut watched = Watched::<K>::new(board);
-    let answer = engine.turn(&mut watched, suite, ledger);
-    watched.left(answer)
-}
-
-/// Writes the bytes of a posted write into their line.
-pub(crate) fn write_part<S: Suite>(
-    engine: &mut Engine,
-    board: &mut MemBoard,
-    suite: &mut S,
-    ledger: &mut Ledger,
-    write: &Posted,
-) -> Done<Result<Ctr, Fault>>
-    requires line { write.now.at < data_lines engine.old.shape }
-    requires posted { IsPosted write.now }
-    requires room { 66 ≤ (ledger_of ledger.old).spare }
-    requires on { (memory_of board.old).powered ≡ true }
-    requires usable { IsUsable engine.old.shape engine.old (device_during (memory_of board.old) none_taken) (ledger_of ledger.old) }
-    ensures written { HasWrittenLine (record { shape = engine.old.shape; formulas = S.formulas_of (S.keys suite.old) }) write.now
-        (parts_of engine.old (device_during (memory_of board.old) none_taken) (ledger_of ledger.old) (S.tags suite.old) (S.digests suite.old))
-        (parts_of engine.new (device_during (memory_of board.new) result.taken) (ledger_of ledger.new) (S.tags suite.new) (S.digests suite.new)) result.answer }
-    ensures watched { IsWatched (memory_of board.old) (memory_of board.new) result.taken }
-    ensures keys { S.keys suite.new ≡ S.keys suite.old }
-    ensures shape { engine.new.shape ≡ engine.old.shape }
-{
-    let left = write_watched::<Brand, S>(engine, board, suite, ledger, write);
-    let Left {
-        board: _,
-        taken,
-        answer,
-    } = left;
-    Done { taken, answer }
-}
-
-fn write_watched<'a, K: Start, S: Suite>(
-    engine: &mut Engine,
-    board: &'a mut MemBoard,
-    suite: &mut S,
-    ledger: &mut Ledger,
-    write: &Posted,
-) -> Left<'a, Result<Ctr, Fault>>
-    requires line { write.now.at < data_lines engine.old.shape }
-    requires posted { IsPosted write.now }
-    requires room { 66 ≤ (ledger_of ledger.old).spare }
-    requires start { memory_of board.old ≡ K.start }
-    requires name { board.ghost_name ≡ K.name }
-    requires on { (memory_of board.old).powered ≡ true }
-    requires usable { IsUsable engine.old.shape engine.old (device_during (memory_of board.old) none_taken) (ledger_of ledger.old) }
-    ensures name { result.board.ghost_name ≡ K.name }
-    ensures written { HasWrittenLine (record { shape = engine.old.shape; formulas = S.formulas_of (S.keys suite.old) }) write.now
-        (parts_of engine.old (device_during (memory_of board.old) none_taken) (ledger_of ledger.old) (S.tags suite.old) (S.digests suite.old))
-        (parts_of engine.new (device_during (memory_of result.board.now) result.taken) (ledger_of ledger.new) (S.tags suite.new) (S.digests suite.new)) result.answer }
-    ensures watched { IsWatched K.start (memory_of result.board.now) result.taken }
-    ensures keys { S.keys suite.new ≡ S.keys suite.old }
-    ensures shape { engine.new.shape ≡ engine.old.shape }
-{
-    let mut watched = Watched::<K>::new(board);
-    let answer = engine.write_part(&mut watched, suite, ledger, write);
-    watched.left(answer)
-}
-
-/// Writes the oldest dirty block back.
-pub(crate) fn flush(engine: &mut Engine, board: &mut MemBoard) -> Done<Result<Option<u32>, Fault>>
-    requires on { (memory_of board.old).powered ≡ true }
-    requires ready { IsReady engine.old.shape engine.old (device_during (memory_of board.old) none_taken) }
-    ensures flushed { (setup : Setup) (ledger : LedgerState) (tags digests : ℕ) → setup.shape ≡ engine.old.shape
-        → HasFlushed setup (parts_of engine.old (device_during (memory_of board.old) none_taken) ledger tags digests)
-        (parts_of engine.new (device_during (memory_of board.new) result.taken) ledger tags digests) result.answer }
-    ensures watched { IsWatched (memory_of board.old) (memory_of board.new) result.taken }
-{
-    let left = flush_watched::<Brand>(engine, board);
-    let Left {
-        board: _,
-        taken,
-        answer,
-    } = left;
-    Done { taken, answer }
-}
-
-fn flush_watched<'a, K: Start>(
-    engine: &mut Engine,
-    board: &'a mut MemBoard,
-) -> Left<'a, Result<Option<u32>, Fault>>
-    requires start { memory_of board.old ≡ K.start }
-    requires name { board.ghost_name ≡ K.name }
-    requires on { (memory_of board.old).powered ≡ true }
-    requires ready { IsReady engine.old.shape engine.old (device_during (memory_of board.old) none_taken) }
-    ensures name { result.board.ghost_name ≡ K.name }
-    ensures flushed { (setup : Setup) (ledger : LedgerState) (tags digests : ℕ) → setup.shape ≡ engine.old.shape
-        → HasFlushed setup (parts_of engine.old (device_during (memory_of board.old) none_taken) ledger tags digests)
-        (parts_of engine.new (device_during (memory_of result.board.now) result.taken) ledger tags digests) result.answer }
-    ensures watched { IsWatched K.start (memory_of result.board.now) result.taken }
-{
-    let mut watched = Watched::<K>::new(board);
-    let answer = engine.flush(&mut watched);
-    watched.left(answer)
-}
-
-/// Sets the stop-loss number.
-pub(crate) fn set_loss(engine: &mut Engine, board: &mut MemBoard, n: u8) -> Done<Result<u32, Fault>>
-    requires number { IsTrue (is_loss n) }
-    requires on { (memory_of board.old).powered ≡ true }
-    requires ready { IsReady engine.old.shape engine.old (device_during (memory_of board.old) none_taken) }
-    ensures set { (setup : Setup) (ledger : LedgerState) (tags digests : ℕ) → setup.shape ≡ engine.old.shape
-        → HasSetLoss setup n (parts_of engine.old (device_during (memory_of board.old) none_taken) ledger tags digests)
-        (parts_of engine.new (device_during (memory_of board.new) result.taken) ledger tags digests) result.answer }
-    ensures watched { IsWatched (memory_of board.old) (memory_of board.new) result.taken }
-{
-    let left = set_loss_watched::<Brand>(engine, board, n);
-    let Left {
-        board: _,
-        taken,
-        answer,
-    } = left;
-    Done { taken, answer }
-}
-
-fn set_loss_watched<'a, K: Start>(
-    engine: &mut Engine,
-    board: &'a mut MemBoard,
-    n: u8,
-) -> Left<'a, Result<u32, Fault>>
-    requires number { IsTrue (is_loss n) }
-    requires start { memory_of board.old ≡ K.start }
-    requires name { board.ghost_name ≡ K.name }
-    requires on { (memory_of board.old).powered ≡ true }
-    requires ready { IsReady engine.old.shape engine.old (device_during (memory_of board.old) none_taken) }
-    ensures name { result.board.ghost_name ≡ K.name }
-    ensures set { (setup : Setup) (ledger : LedgerState) (tags digests : ℕ) → setup.shape ≡ engine.old.shape
-        → HasSetLoss setup n (parts_of engine.old (device_during (memory_of board.old) none_taken) ledger tags digests)
-        (parts_of engine.new (device_during (memory_of result.board.now) result.taken) ledger tags digests) result.answer }
-    ensures watched { IsWatched K.start (memory_of result.board.now) result.taken }
-{
-    let mut watched = Watched::<K>::new(board);
-    let answer = engine.set_loss(&mut watched, n);
-    watched.left(answer)
+    match answer {
+        Err(Fault::Cut) => true,
+        _ => false,
+    }
 }
 
 /// Makes the device new. Where it is done the engine is there.

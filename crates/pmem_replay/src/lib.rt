@@ -2,6 +2,7 @@
 #![tactic(auto)]
 
 mod answering;
+mod calling;
 mod calls;
 mod dirtied;
 mod draining;

@@ -1,35 +1,54 @@
 //! Commands that the engine serves.
-ghost use Rattle.std.specs.Prelude.{◌≡◌, ◌<◌, false, IsTrue, IsSome, IfOk, OnErr, Some};
+ghost use Rattle.std.specs.Prelude.{◌≡◌, ◌<◌, false, Some, IfOk, OnErr};
 ghost use Rattle.pmem_base.specs.declared.commands.Command.TheVariants as Do;
 ghost use Rattle.pmem_base.specs.Shape as shape;
-ghost use Rattle.seal_ledger.specs.View.{ledger_of};
+ghost use Rattle.pmem_base.specs.Layout.{data_lines, meta_lines};
+ghost use Rattle.pmem_base.specs.WaitingWrites.{queue_of, writes_to};
+ghost use Rattle.plain_model.specs.State.{with_flag};
+ghost use Rattle.plain_model.specs.After.{after_clean};
 ghost use Rattle.pmem_replay.specs.World.{setup_of_world};
 ghost use Rattle.pmem_replay.specs.Replies.{without_marks, with_marks_since};
 ghost use Rattle.pmem_replay.specs.Stepped.{HasStepped, CanWantMemory};
+ghost use Rattle.pmem_replay.specs.Called.{IsLook, IsCleanIn, IsCleanAt};
 
-use crate::{World, calls};
+use crate::World;
+use crate::calls::{FlushBlock, ReadLine, SetLoss, TurnPage};
 use board::Board;
-use pmem_base::{Answer, Exhibit, MemFault, Place};
-use pmem_engine::Fault;
-use seal_ledger::{Audit, Ledger};
+use pmem_base::{Answer, MemFault};
 use suite::Counted;
 use watched_board::is_byte;
-use write_ports::overlay;
+use write_ports::{Seen, overlay};
 
 impl<S: Counted + Drop> World<S> {
+    /// How many data lines there are.
+    fn lines(&self) -> u32
+        ensures { result ≡ data_lines self.now.shape }
+    {
+        self.geo.lines()
+    }
+
+    /// What the port's waiting writes to data line `at` show of it.
+    fn look(&self, port: u8, at: u32) -> Seen
+        requires { port < 8 }
+        ensures { IsLook (writes_to (queue_of self.now.state.queues port) at) result }
+    {
+        self.ports.look(port, at)
+    }
+
     /// A data line as the port sees it.
     pub(crate) fn read(&mut self, port: u8, at: u64) -> Answer
         requires shown { self.old.shown ≡ false }
         requires port { port < 8 }
         ensures { HasStepped (setup_of_world S.formulas_of self.old) self.old (Do.Read port at) (without_marks result) self.new }
     {
-        let Some(engine) = &mut self.engine else {
+        self.holds();
+        if !self.is_on() {
             return Answer::Off;
-        };
-        if at >= u64::from(self.geo.lines()) {
+        }
+        if at >= u64::from(self.lines()) {
             return Answer::Range;
         }
-        let seen = self.ports.look(port, at as u32);
+        let seen = self.look(port, at as u32);
         if seen.mask == u64::MAX {
             seen.line.is_whole();
             return Answer::Got {
@@ -37,16 +56,8 @@ impl<S: Counted + Drop> World<S> {
                 steps: 0,
             };
         }
-        let done = calls::read(
-            engine,
-            &mut self.board,
-            &mut self.suite,
-            &mut self.ledger,
-            at as u32,
-        );
-        engine.has_banks();
+        let done = self.call(&ReadLine { at: at as u32 });
         let steps = done.taken.steps();
-        self.steps = self.steps.saturating_add(steps);
         match done.answer {
             Ok(line) => {
                 line.is_whole();
@@ -55,26 +66,7 @@ impl<S: Counted + Drop> World<S> {
                     steps,
                 }
             }
-            Err(Fault::Cut) => {
-                self.engine = None;
-                self.ports.clear();
-                Answer::Cut { steps }
-            }
-            Err(Fault::Meta { x }) => Answer::Refused {
-                drained: None,
-                place: Place::Meta { x },
-                steps,
-            },
-            Err(Fault::Tag { at: line }) => Answer::Refused {
-                drained: None,
-                place: Place::Line { at: line },
-                steps,
-            },
-            Err(Fault::Shown) => {
-                self.shown = true;
-                Answer::Shown(exhibit_of(&self.ledger))
-            }
-            Err(Fault::Down | Fault::Spent { .. }) => unreachable!(),
+            Err(fault) => self.stopped(fault, None, steps),
         }
     }
 
@@ -86,14 +78,13 @@ impl<S: Counted + Drop> World<S> {
         ensures err { OnErr result (self.new ≡ self.old) }
         ensures wanting { OnErr result (CanWantMemory self.old.state Do.Turn) }
     {
-        let Some(engine) = &mut self.engine else {
+        self.holds();
+        if !self.is_on() {
             return Ok(Answer::Off);
-        };
-        self.ledger.reserve(1)?;
-        let done = calls::turn(engine, &mut self.board, &mut self.suite, &mut self.ledger);
-        engine.has_banks();
+        }
+        self.make_room(1)?;
+        let done = self.call(&TurnPage);
         let steps = done.taken.steps();
-        self.steps = self.steps.saturating_add(steps);
         match done.answer {
             Ok(None) => Ok(Answer::Idle),
             Ok(Some(turned)) => {
@@ -101,23 +92,7 @@ impl<S: Counted + Drop> World<S> {
                 is_byte(left);
                 Ok(Answer::Turned { left, steps })
             }
-            Err(Fault::Cut) => {
-                self.engine = None;
-                self.ports.clear();
-                Ok(Answer::Cut { steps })
-            }
-            Err(Fault::Tag { at }) => Ok(Answer::Refused {
-                drained: None,
-                place: Place::Line { at },
-                steps,
-            }),
-            Err(Fault::Shown) => {
-                self.shown = true;
-                Ok(Answer::Shown(exhibit_of(&self.ledger)))
-            }
-            Err(Fault::Down) => unreachable!(),
-            Err(Fault::Spent { .. }) => unreachable!(),
-            Err(Fault::Meta { .. }) => unreachable!(),
+            Err(fault) => Ok(self.stopped(fault, None, steps)),
         }
     }
 
@@ -126,29 +101,49 @@ impl<S: Counted + Drop> World<S> {
         requires { self.old.shown ≡ false }
         ensures { HasStepped (setup_of_world S.formulas_of self.old) self.old Do.Flush (without_marks result) self.new }
     {
-        let Some(engine) = &mut self.engine else {
+        self.holds();
+        if !self.is_on() {
             return Answer::Off;
-        };
-        let done = calls::flush(engine, &mut self.board);
-        engine.has_banks();
+        }
+        let done = self.call(&FlushBlock);
         let steps = done.taken.steps();
-        self.steps = self.steps.saturating_add(steps);
         match done.answer {
             Ok(None) => {
-                self.dirtied.clean();
+                self.note_clean();
                 Answer::Clean
             }
             Ok(Some(x)) => {
-                self.dirtied.flush(x);
+                self.note_flushed(x);
                 Answer::Flushed { x, steps }
             }
-            // No other fault comes.
-            Err(_) => {
-                self.engine = None;
-                self.ports.clear();
-                Answer::Cut { steps }
-            }
+            Err(fault) => self.stopped(fault, None, steps),
         }
+    }
+
+    /// No block is dirty.
+    fn note_clean(&mut self)
+        requires shown { self.old.shown ≡ false }
+        requires clean { IsCleanIn self.old.shape self.old.engine }
+        ensures { self.new ≡ record (self.old) { state = after_clean self.old.shape self.old.state } }
+    {
+        self.dirtied.clean();
+    }
+
+    /// The block at `x` was written back.
+    fn note_flushed(&mut self, x: u32)
+        requires shown { self.old.shown ≡ false }
+        requires within { x < meta_lines self.old.shape }
+        requires clean { IsCleanAt self.old.shape self.old.engine x }
+        ensures { self.new ≡ record (self.old) { state = record (self.old.state) { flushed = with_flag self.old.state.flushed x } } }
+    {
+        self.dirtied.flush(x);
+    }
+
+    /// The stop-loss number of the registers.
+    fn loss_now(&self) -> u8
+        ensures { result ≡ self.now.state.loss }
+    {
+        self.board.regs().loss
     }
 
     /// The stop-loss number is set.
@@ -156,39 +151,22 @@ impl<S: Counted + Drop> World<S> {
         requires { self.old.shown ≡ false }
         ensures { HasStepped (setup_of_world S.formulas_of self.old) self.old (Do.Loss n) (without_marks result) self.new }
     {
-        let Some(engine) = &mut self.engine else {
+        self.holds();
+        if !self.is_on() {
             return Answer::Off;
-        };
+        }
         if !is_loss(n) {
             return Answer::Range;
         }
-        if n == u64::from(self.board.regs().loss) {
+        if n == u64::from(self.loss_now()) {
             return Answer::LossSet { steps: 0 };
         }
-        let done = calls::set_loss(engine, &mut self.board, n as u8);
-        engine.has_banks();
+        let done = self.call(&SetLoss { n: n as u8 });
         let steps = done.taken.steps();
-        self.steps = self.steps.saturating_add(steps);
         match done.answer {
             Ok(_) => Answer::LossSet { steps },
-            // No other fault comes.
-            Err(_) => {
-                self.engine = None;
-                self.ports.clear();
-                Answer::Cut { steps }
-            }
+            Err(fault) => self.stopped(fault, None, steps),
         }
-    }
-}
-
-/// The exhibit that the ledger has.
-pub(crate) fn exhibit_of(ledger: &Ledger) -> Exhibit
-    requires { IsSome (ledger_of ledger.now).exhibit }
-    ensures { (ledger_of ledger.now).exhibit ≡ Some result }
-{
-    match ledger.exhibit() {
-        Some(exhibit) => *exhibit,
-        None => unreachable!(),
     }
 }
 

@@ -24,8 +24,9 @@ use Rattle.pmem_replay.specs.World.{WorldState, IsOn, IsWorld}
 use Rattle.watched_board.specs.declared.taken.Taken.{Taken}
 use Rattle.watched_board.specs.Watching.{none_taken, steps_in}
 use Rattle.pmem_replay.specs.During.{parts_in}
-use Rattle.pmem_replay.proofs.Steps.WorldsAfterCalls.{on_in, IsCall, cut_at_fuse, within_fuse}
-use Rattle.pmem_replay.proofs.Steps.MarklessCalls.{exactly, flagged_state, flags-going}
+use Rattle.pmem_replay.specs.Called.{IsCall}
+use Rattle.pmem_replay.proofs.Steps.WorldsAfterCalls.{on_in, cut_at_fuse, within_fuse}
+use Rattle.pmem_replay.proofs.Steps.MarklessCalls.{exactly}
 use Rattle.pmem_replay.proofs.Steps.FaultCauses.{zero_within}
 use Rattle.pmem_replay.specs.Replies.{without_marks}
 use Rattle.pmem_replay.proofs.Steps.GoodReplies.{IsGood}
@@ -39,7 +40,7 @@ left_alone-steps setup old new engine after taken alone =
     omega (arith, writes, latches)
 
 -- a position that is no longer dirty in its level's bank isn't in any other
-clean_everywhere : (setup : Setup) (world : WorldState) (after : EngineState) (bank x y : ℕ)
+pub clean_everywhere : (setup : Setup) (world : WorldState) (after : EngineState) (bank x y : ℕ)
     → IsTrusted setup after world.board.regs world.ledger
     → is_cached_dirty setup.shape after.cache (level_of x) x ≡ false
     → is_cached_dirty setup.shape after.cache bank y ≡ true → y ≢ x
@@ -61,21 +62,6 @@ module _ (setup : Setup) (old new : WorldState) (engine after : EngineState) (ta
   module _ (flush : HasFlushed setup (parts_in old engine none_taken) (parts_in new after taken) (Ok None)) where
     pub clean-good : IsGood setup old Do.Flush (without_marks Say.Clean)
     clean-good = search (rules, zero_within)
-
-    pub clean-world : new.state ≡ state_after setup.shape old.state Do.Flush (without_marks Say.Clean) → new.engine ≡ Some after
-        → IsBanksOf setup.shape after.cache → IsWorld setup new
-    unfolding no_flags
-    clean-world state there whole_cache =
-        let answered = flush.answered on_now.trusted.not_down in
-        let zero = left_alone-steps setup old new engine after taken answered.0 in
-        flags-going setup old new engine after taken call (flush.done on_now.trusted.not_down) there whole_cache
-        (no_flags (layout.pages setup.shape)) (no_flags (layout.meta_lines setup.shape))
-        (subst (λ n. new.state ≡ flagged_state old.state n (no_flags (layout.pages setup.shape)) (no_flags (layout.meta_lines setup.shape))) (sym zero) state)
-        (length-replicate (layout.pages setup.shape) false) (length-replicate (layout.meta_lines setup.shape) false)
-        (λ bank x now.
-        absurd (true≢false (sym now
-        ∙ ap (λ (engine : EngineState). is_cached_dirty setup.shape engine.cache bank x) answered.0.engine
-        ∙ answered.1 bank x)))
 
   -- ---- a block is written back
 
@@ -106,31 +92,6 @@ module _ (setup : Setup) (old new : WorldState) (engine after : EngineState) (ta
                 within_bounds = exactly old.board new.board taken 1 call.follows.few answered.3;
               };
         }
-
-    pub flushed-world : new.state ≡ state_after setup.shape old.state Do.Flush (without_marks (Say.Flushed x (steps_in taken)))
-        → new.engine ≡ Some after → IsBanksOf setup.shape after.cache → IsWorld setup new
-    flushed-world state there whole_cache =
-        let answered = flush.answered on_now.trusted.not_down in
-        let done = flush.done on_now.trusted.not_down in
-        flags-going setup old new engine after taken call done there whole_cache
-        old.state.touched (with_flag old.state.flushed x) state call.world.flags.touched
-        (length-set old.state.flushed x true ∙ call.world.flags.flushed)
-        (λ bank y now.
-        elim ((done.gone.metadata on_now.trusted).dirty bank y now) [
-          | inl was ↦
-              let may = on_now.dirty bank y was in
-              let parts = and_parts (touched_block y) (not (is_flagged old.state.flushed y)) may in
-              let apart = clean_everywhere setup new after bank x y (done.gone.trusted on_now.trusted) answered.1 now in
-              subst (λ s. IsTrue (can_be_dirty setup.shape s y)) (sym state)
-              (and_from (touched_block y) (not (is_flagged (with_flag old.state.flushed x) y)) parts.0
-              (ap not (get_or-set_other old.state.flushed x y true false apart) ∙ parts.1))
-          | inr touched ↦ absurd (true≢false (sym touched.1))
-        ])
-      where
-        touched_block : ℕ → Bool
-        touched_block y =
-            list_any (λ page. is_flagged old.state.touched page && is_on_path setup.shape page y)
-            (range_with_len 0 (layout.pages setup.shape))
 
   -- ---- a cut
 

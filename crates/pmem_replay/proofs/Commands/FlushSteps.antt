@@ -1,142 +1,115 @@
 -- Flushes: what the world answers, and what becomes of it.
-use Rattle.std.proofs.Common.{ℕ, ◌≡◌, ◌<◌, List, [], Option, Some, None, refl, sym, ap, subst, ◌∙◌}
-use Rattle.std.specs.Prelude.{Result, Ok, Err, ◌^◌}
-use Rattle.std.proofs.lemmas.List.{append-nil}
-use Rattle.pmem_base.specs.declared.commands.Posted.{Posted}
+use Rattle.std.proofs.Common.{ℕ, ◌≡◌, ◌<◌, inl, inr, [], Option, Some, None, refl, sym, ap, subst, ◌∙◌}
+use Rattle.std.specs.Prelude.{Result, Ok, Err}
+use Rattle.std.proofs.lemmas.Bool.{cases_Bool}
 use Rattle.pmem_base.specs.declared.commands.Command.TheVariants as Do
 use Rattle.pmem_base.specs.declared.answers.Answer.{Answer}
 use Rattle.pmem_base.specs.declared.answers.Answer.TheVariants as Say
-use Rattle.pmem_base.specs.Shape.{Shape}
 use Rattle.pmem_base.specs.Layout as layout
-use Rattle.pmem_base.specs.WaitingWrites.{no_writes}
+use Rattle.pmem_base.specs.Shape.{Shape}
+use Rattle.meta_cache.specs.Banks.{is_cached_dirty}
 use Rattle.suite.specs.Setup.{Setup}
 use Rattle.plain_model.specs.State.{PlainState, with_flag}
-use Rattle.plain_model.specs.After.{after_clean, state_after}
+use Rattle.plain_model.specs.After.{after_clean}
 use Rattle.plain_model.specs.Answers.{decided_answer}
 use Rattle.pmem_engine.specs.declared.fault.Fault.{Fault}
 use Rattle.pmem_engine.specs.declared.fault.Fault.TheVariants as Fail
-use Rattle.pmem_engine.specs.Outcomes.{going, OneLossEffect}
-use Rattle.pmem_engine.specs.Calls.{HasFlushed}
-use Rattle.pmem_replay.specs.Flagged.{Dirtying, HasDirtyingOf, with_dirtying}
-use Rattle.pmem_replay.specs.World.{WorldState, WorldParts, IsOn, state_in, world_of}
+use Rattle.pmem_engine.specs.Engine.{EngineState}
+use Rattle.pmem_engine.specs.Parts.{Parts}
+use Rattle.pmem_engine.specs.Outcomes.{going, cut_short, outcome_of, OneLossEffect}
+use Rattle.pmem_engine.specs.Calls.{HasFlushed, AnswersFlush}
 use Rattle.watched_board.specs.Watching.{none_taken, steps_in}
 use Rattle.pmem_replay.specs.During.{parts_in}
+use Rattle.pmem_replay.specs.Called.{called_state, IsStopped, IsCleanIn, IsCleanAt}
 use Rattle.pmem_replay.specs.Replies.{without_marks}
-use Rattle.pmem_replay.proofs.Steps.MarklessCalls.{counted_state, cut_state, quiet-cut}
+use Rattle.pmem_replay.specs.Stepped.{HasStepped, IsFlushAnswer}
+use Rattle.pmem_replay.proofs.Called.Noted.{clean_noted, flushed_noted}
 use Rattle.pmem_replay.proofs.Commands.FlushLaws as laws
 use Rattle.pmem_replay.proofs.Steps.DeviceEvidence.{small_position}
 use Rattle.pmem_replay.proofs.Table.UnchangedSteps.{lit_in}
-use Rattle.pmem_replay.proofs.Steps.CallSurroundings.{state_going, state_cut, few_steps}
-use Rattle.pmem_replay.proofs.Steps.PartsOfWorld.{EndsCall}
-use Rattle.pmem_replay.proofs.Steps.EngineCalls.{EngineCall, setup_at, first_world, old_world, parts_left, on_before, its_banks, call_to, was_called, returned}
+use Rattle.pmem_replay.proofs.Called.CommandSteps.{Serving, old_of, on_of, few_of, done_as, state_is, stepped_call, ends_as}
 
--- what a flush leaves: it makes no mark, and needs no room for one
-module _ (s : EngineCall) where
-  abbrev setup : Setup
-  setup = setup_at s
+abbrev pub Flushes : Setup → Parts → Parts → Result (Option ℕ) Fault → Type 0
+Flushes setup old new answer = HasFlushed setup old new answer
 
-  abbrev old : WorldState
-  old = old_world s
+module _ (answer : Result (Option ℕ) Fault) (s : Serving Flushes None answer) where
+  done : OneLossEffect s.setup (outcome_of answer) [] (parts_in (old_of s) s.called.engine none_taken) (parts_in s.new s.called.after s.taken)
+  done = s.called.related.done (on_of s).trusted.not_down
 
-  -- the parts where the engine goes on, with other flags of dirty blocks
-  abbrev flagged : Dirtying → WorldParts
-  flagged dirtying = record (parts_left s (Some s.after)) { dirtying = dirtying }
+  answered : AnswersFlush s.setup.shape (parts_in (old_of s) s.called.engine none_taken) (parts_in s.new s.called.after s.taken) answer
+  answered = s.called.related.answered (on_of s).trusted.not_down
 
-  abbrev pub Has : Result (Option ℕ) Fault → Type 0
-  Has answer = HasFlushed setup (parts_in old s.engine none_taken) (parts_in (world_of setup (flagged s.parts.dirtying)) s.after s.taken) answer
+  undecided : decided_answer s.setup.shape s.first.state Do.Flush ≡ None
+  undecided = rw (lit_in s.setup (old_of s) s.called.engine s.called.call.world s.called.call.was_on) refl
 
-  abbrev Ended : Answer → WorldParts → Type 0
-  Ended answer q = EndsCall s.formulas_of s.geometry s.now Do.Flush (without_marks answer) q
+  pub same_shape : s.new.shape ≡ s.setup.shape
+  same_shape = s.called.call.shape ∙ s.called.call.world.its_shape
 
-  on_now : IsOn setup old s.engine
-  on_now = on_before s
+  loss : s.new.board.regs.loss ≡ s.first.state.loss
+  loss = done.loss ∙ s.called.call.world.board.loss
 
-  undecided : decided_answer s.geometry (first_world s).state Do.Flush ≡ None
-  undecided = rw (lit_in setup old s.engine s.served.going.whole s.served.was_on) refl
+-- nothing is dirty
+pub flush_clean_in : (s : Serving Flushes None (Ok None)) → IsCleanIn s.new.shape s.new.engine
+flush_clean_in s =
+    let clean = answered (Ok None) s in
+    subst (λ (g : Shape). IsCleanIn g s.new.engine) (sym (same_shape (Ok None) s))
+    (subst (λ (e : Option EngineState). IsCleanIn s.setup.shape e) (sym s.called.kept)
+    (λ bank x. ap (λ (e : EngineState). is_cached_dirty s.setup.shape e.cache bank x) clean.0.engine ∙ clean.1 bank x))
 
-  few : steps_in s.taken < 2 ^ 64
-  few = few_steps s.parts.board s.board s.taken s.served.watched
+pub flush_clean : (s : Serving Flushes None (Ok None))
+    → HasStepped s.setup s.first Do.Flush (without_marks Say.Clean) (record (s.new) { state = after_clean s.setup.shape s.new.state })
+flush_clean s =
+    let w = s.called in
+    let clean = subst (λ (g : Shape). IsCleanIn g s.new.engine) (same_shape (Ok None) s) (flush_clean_in s) in
+    let marks = (done (Ok None) s).gone.marks in
+    let none : steps_in s.taken ≡ 0 = laws.left_alone-steps s.setup (old_of s) s.new w.engine w.after s.taken (answered (Ok None) s).0 in
+    let state = state_is s going refl refl [] marks s.first.state.loss (loss (Ok None) s)
+    ∙ ap (λ (n : ℕ). called_state s.setup.shape going None [] n s.first.state.loss s.first.state) none in
+    stepped_call s Do.Flush [] Say.Clean (after_clean s.setup.shape s.new.state) (undecided (Ok None) s) marks
+    (laws.clean-good s.setup (old_of s) s.new w.engine w.after s.taken w.call w.related) tt refl
+    (λ quiet. ap (after_clean s.setup.shape) state) (λ quiet. clean_noted s.setup s.new (w.holds w.shown) clean)
+    (done_as s (after_clean s.setup.shape s.new.state) _ (Ok None, w.related, tt) Say.Clean refl (λ quiet. sym none)) tt
 
-  state : (dirtying : Dirtying) → OneLossEffect setup going [] (parts_in old s.engine none_taken) (parts_in (world_of setup (flagged s.parts.dirtying)) s.after s.taken)
-      → (world_of setup (flagged dirtying)).state ≡ with_dirtying (counted_state (state_in setup s.parts) (steps_in s.taken)) dirtying
-  state dirtying done =
-      ap (λ (st : PlainState). with_dirtying st dirtying)
-      (state_going setup s.parts s.keys s.board s.ledger (Some s.after) s.tags s.digests s.steps s.engine s.taken s.served
-      (done.gone.marks ∙ append-nil s.parts.ledger.marks)
-      (done.gone.power.1 (s.served.going.whole.board.power ∙ on_now.powered)) done.loss)
+-- a block is written back, and clean
+pub flush_clean_at : (x : ℕ) (s : Serving Flushes None (Ok (Some x))) → IsCleanAt s.new.shape s.new.engine x
+flush_clean_at x s =
+    subst (λ (g : Shape). IsCleanAt g s.new.engine x) (sym (same_shape (Ok (Some x)) s))
+    (subst (λ (e : Option EngineState). IsCleanAt s.setup.shape e x) (sym s.called.kept)
+    (λ bank.
+    elim (cases_Bool (is_cached_dirty s.setup.shape s.called.after.cache bank x)) [
+      | inl dirty ↦
+          absurd (laws.clean_everywhere s.setup s.new s.called.after bank x x
+          ((done (Ok (Some x)) s).gone.trusted (on_of s).trusted) (answered (Ok (Some x)) s).1 dirty refl)
+      | inr clean ↦ clean
+    ]))
 
-  -- ---- nothing is dirty
+abbrev pub flushed_state : ℕ → PlainState → PlainState
+flushed_state x state = record state { flushed = with_flag state.flushed x }
 
-  pub flush-clean : (dirtying : Dirtying) → Has (Ok None)
-      → ((g : Shape) (st : PlainState) → HasDirtyingOf g s.parts.dirtying → with_dirtying st dirtying ≡ after_clean g (with_dirtying st s.parts.dirtying))
-      → Ended Say.Clean (flagged dirtying)
-  flush-clean dirtying flush cleaned =
-      let q = flagged dirtying in
-      let new = world_of setup q in
-      let call = call_to s q refl refl in
-      let done = flush.done on_now.trusted.not_down in
-      let none : steps_in s.taken ≡ 0 = laws.left_alone-steps setup old new s.engine s.after s.taken (flush.answered on_now.trusted.not_down).0 in
-      let its_state : new.state ≡ state_after s.geometry old.state Do.Flush (without_marks Say.Clean) =
-      state dirtying done
-      ∙ cleaned s.geometry (counted_state (state_in setup s.parts) (steps_in s.taken))
-      (record { touched = s.served.going.whole.flags.touched; flushed = s.served.going.whole.flags.flushed })
-      ∙ ap (λ n. after_clean s.geometry (counted_state (state_in setup s.parts) n)) none in
-      returned s Do.Flush [] (λ n. Say.Clean) q refl refl s.served.going.unshown done.gone.marks undecided
-      (laws.clean-good setup old new s.engine s.after s.taken call flush) tt
-      (λ quiet. its_state)
-      (λ quiet. laws.clean-world setup old new s.engine s.after s.taken call flush its_state refl (its_banks s done.gone.shape))
-      (was_called s _ q Say.Clean refl refl (done.gone.power.1 (s.served.going.whole.board.power ∙ on_now.powered)) (λ quiet. sym none) (Ok None, flush, tt)) tt
+pub flush_flushed : (x : ℕ) (s : Serving Flushes None (Ok (Some x)))
+    → HasStepped s.setup s.first Do.Flush (without_marks (Say.Flushed x (steps_in s.taken))) (record (s.new) { state = flushed_state x s.new.state })
+flush_flushed x s =
+    let w = s.called in
+    let clean = subst (λ (g : Shape). IsCleanAt g s.new.engine x) (same_shape (Ok (Some x)) s) (flush_clean_at x s) in
+    let marks = (done (Ok (Some x)) s).gone.marks in
+    stepped_call s Do.Flush [] (Say.Flushed x (steps_in s.taken)) (flushed_state x s.new.state) (undecided (Ok (Some x)) s) marks
+    (laws.flushed-good s.setup (old_of s) s.new w.engine w.after s.taken w.call x w.related)
+    (small_position s.setup.shape w.call.world.whole_shape x (answered (Ok (Some x)) s).2, few_of s) refl
+    (λ quiet. ap (flushed_state x) (state_is s going refl refl [] marks s.first.state.loss (loss (Ok (Some x)) s))) (λ quiet. flushed_noted s.setup s.new x (w.holds w.shown) clean)
+    (done_as s (flushed_state x s.new.state) _ (Ok (Some x), w.related, refl) (Say.Flushed x (steps_in s.taken)) refl (λ quiet. refl)) tt
 
-  -- ---- a block is written back
-
-  pub flush-flushed : (x : ℕ) (dirtying : Dirtying) → Has (Ok (Some x)) → dirtying ≡ record (s.parts.dirtying) { flushed = with_flag s.parts.dirtying.flushed x }
-      → Ended (Say.Flushed x s.said) (flagged dirtying)
-  flush-flushed x dirtying flush set =
-      let q = flagged dirtying in
-      let new = world_of setup q in
-      let call = call_to s q refl refl in
-      let done = flush.done on_now.trusted.not_down in
-      let answered = flush.answered on_now.trusted.not_down in
-      let its_state : new.state ≡ state_after s.geometry old.state Do.Flush (without_marks (Say.Flushed x (steps_in s.taken))) =
-      state dirtying done
-      ∙ ap (λ (d : Dirtying). with_dirtying (counted_state (state_in setup s.parts) (steps_in s.taken)) d) set in
-      returned s Do.Flush [] (λ n. Say.Flushed x n) q refl refl s.served.going.unshown done.gone.marks undecided
-      (laws.flushed-good setup old new s.engine s.after s.taken call x flush)
-      (small_position setup.shape s.served.going.whole.whole_shape x answered.2, few)
-      (λ quiet. its_state)
-      (λ quiet. laws.flushed-world setup old new s.engine s.after s.taken call x flush its_state refl (its_banks s done.gone.shape))
-      (was_called s _ q (Say.Flushed x (steps_in s.taken)) refl refl (done.gone.power.1 (s.served.going.whole.board.power ∙ on_now.powered)) (λ quiet. refl) (Ok (Some x), flush, refl)) tt
-
-  -- ---- a cut
-
-  -- a flush is done, or cut
-  only_cut : (fault : Fault) → Has (Err fault) → fault ≡ Fail.Cut
-  only_cut Fail.Cut flush = refl
-  only_cut Fail.Down flush = absurd (flush.answered on_now.trusted.not_down)
-  only_cut (Fail.Meta x) flush = absurd (flush.answered on_now.trusted.not_down)
-  only_cut (Fail.Tag at) flush = absurd (flush.answered on_now.trusted.not_down)
-  only_cut (Fail.Spent page) flush = absurd (flush.answered on_now.trusted.not_down)
-  only_cut Fail.Shown flush = absurd (flush.answered on_now.trusted.not_down)
-
-  flush_cut : (queues : List (List Posted)) → queues ≡ no_writes → Has (Err Fail.Cut) → Ended (Say.Cut s.said) (record (parts_left s None) { queues = queues })
-  flush_cut queues empty flush =
-      let q : WorldParts = record (parts_left s None) { queues = queues } in
-      let new = world_of setup q in
-      let call = call_to s q refl refl in
-      let done = flush.done on_now.trusted.not_down in
-      let its_state : new.state ≡ cut_state (state_in setup s.parts) (steps_in s.taken) =
-      state_cut setup s.parts s.keys s.board s.ledger None s.tags s.digests s.steps queues s.engine s.taken s.served
-      (done.gone.marks ∙ append-nil s.parts.ledger.marks) done.gone.power.1 done.loss empty in
-      returned s Do.Flush [] (λ n. Say.Cut n) q refl refl s.served.going.unshown done.gone.marks undecided
-      (laws.cut-good setup old new s.engine s.after s.taken call flush) few
-      (λ quiet. its_state)
-      (λ quiet. quiet-cut setup old new s.engine s.after s.taken call done refl its_state)
-      (was_called s _ q (Say.Cut (steps_in s.taken)) refl refl done.gone.power.1 (λ quiet. refl) (Err Fail.Cut, flush, tt)) tt
-
-  pub flush-cut : (fault : Fault) (queues : List (List Posted)) → queues ≡ no_writes → Has (Err fault)
-      → Ended (Say.Cut s.said) (record (parts_left s None) { queues = queues })
-  flush-cut fault queues empty flush = flush_cut queues empty (subst (λ f. Has (Err f)) (only_cut fault flush) flush)
-
-  -- the block that is named is on the tree
-  pub flush_on_tree : (x : ℕ) → Has (Ok (Some x)) → x < layout.meta_lines s.geometry
-  flush_on_tree x flush = (flush.answered on_now.trusted.not_down).2
+-- a flush that is stopped: it is cut
+pub flush_stopped : (fault : Fault) (s : Serving Flushes None (Err fault)) (said : Answer) → IsStopped s.new.ledger.exhibit None fault (steps_in s.taken) said
+    → HasStepped s.setup s.first Do.Flush (without_marks said) s.new
+flush_stopped Fail.Cut s said is =
+    let w = s.called in
+    subst (λ a. HasStepped s.setup s.first Do.Flush (without_marks a) s.new) (sym is)
+    (ends_as s Do.Flush [] cut_short refl s.first.state.loss (loss (Err Fail.Cut) s) (undecided (Err Fail.Cut) s) (done (Err Fail.Cut) s).gone.marks
+    (λ said p q. (r : Result (Option ℕ) Fault) × HasFlushed s.setup p q r × IsFlushAnswer s.new r said) (λ said it. it)
+    (Say.Cut (steps_in s.taken)) (laws.cut-good s.setup (old_of s) s.new w.engine w.after s.taken w.call w.related)
+    (few_of s) refl refl (λ quiet. refl) (λ quiet. refl) (Err Fail.Cut, w.related, tt) tt)
+flush_stopped Fail.Down s said is = absurd is
+flush_stopped (Fail.Meta x) s said is = absurd (answered (Err (Fail.Meta x)) s)
+flush_stopped (Fail.Tag at) s said is = absurd (answered (Err (Fail.Tag at)) s)
+flush_stopped (Fail.Spent page) s said is = absurd (answered (Err (Fail.Spent page)) s)
+flush_stopped Fail.Shown s said is = absurd (answered (Err Fail.Shown) s)

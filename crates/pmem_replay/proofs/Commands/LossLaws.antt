@@ -24,21 +24,13 @@ use Rattle.watched_board.specs.declared.taken.Taken.{Taken}
 use Rattle.watched_board.specs.Watching.{none_taken, device_during, steps_in}
 use Rattle.watched_board.proofs.StepLaws.{fewer}
 use Rattle.pmem_replay.specs.During.{parts_in}
-use Rattle.pmem_replay.proofs.Steps.WorldsAfterCalls.{on_in, IsCall, IsHealed-same, cut_at_fuse, within_fuse, world-going, world-cut}
+use Rattle.pmem_replay.specs.Called.{IsCall}
+use Rattle.pmem_replay.proofs.Steps.WorldsAfterCalls.{on_in, cut_at_fuse, within_fuse}
 use Rattle.pmem_replay.proofs.Marks.DirtyBlocks.{dirty_blocks-le, dirty_slots-le}
-use Rattle.pmem_replay.proofs.Steps.MarklessCalls.{exactly, cut_state, accounted_in, HasQueues-none, same_flags}
+use Rattle.pmem_replay.proofs.Steps.MarklessCalls.{exactly, cut_state, accounted_in}
 use Rattle.pmem_replay.proofs.Steps.FaultCauses.{counter_position-within}
 use Rattle.pmem_replay.specs.Replies.{without_marks}
 use Rattle.pmem_replay.proofs.Steps.GoodReplies.{IsGood}
-
--- the state with another stop-loss number, and these steps counted
-abbrev pub loss_state : PlainState → ℕ → ℕ → PlainState
-loss_state state n taken =
-    record state {
-      loss = n;
-      steps = steps_with state.steps taken;
-      fuse = option_map (λ left. left - taken) state.fuse;
-    }
 
 -- the slots of a bank are few
 pub few_slots : (g : Shape) → IsShape g → layout.slots g ≤ 512
@@ -119,34 +111,6 @@ module _ (setup : Setup) (old new : WorldState) (engine after : EngineState) (ta
               };
         }
 
-    pub set-world : new.state ≡ loss_state old.state n (steps_in taken) → new.engine ≡ Some after → IsBanksOf setup.shape after.cache
-        → IsWorld setup new
-    set-world state there whole_cache =
-        let gone = set.gone on_now.trusted.not_down in
-        let marks : new.ledger.marks ≡ old.ledger.marks = gone.marks ∙ append-nil old.ledger.marks in
-        world-going setup old new engine after taken [] call gone
-        (record {
-          each =
-              λ tight page within unnamed it.
-              set.counters on_now.trusted.not_down on_now.trusted page within
-              (on_now.metadata tight (counter_position setup.shape page) (counter_position-within setup.shape page within) unnamed) it;
-        })
-        (IsHealed-same setup old.state new.state (ap (λ s. s.named) state) (ap (λ s. s.loose) state) (ap (λ s. s.hurt) state) (ap (λ s. s.spoiled) state))
-        (record { snapped = ap (λ s. s.snapped) state; steps = ap (λ s. s.steps) state })
-        (ap (λ s. s.fuse) state) (ap (λ s. s.power) state ∙ on_now.powered) there
-        ((set.answered on_now.trusted.not_down).2 ∙ sym (ap (λ s. s.loss) state))
-        (subst (λ s. IsMemoryOf setup new.ledger.marks s.memory) (sym state)
-        (subst (λ m. IsMemoryOf setup m old.state.memory) (sym marks) call.world.memory))
-        (subst (λ s. HasFlags setup.shape s) (sym state) (same_flags setup.shape old.state _ call.world.flags refl refl refl refl refl))
-        (subst (λ s. HasQueues setup.shape s) (sym state)
-        (record { ports = call.world.queues.ports; on_memory = call.world.queues.on_memory }))
-        whole_cache
-        (λ bank x now.
-        elim ((gone.metadata on_now.trusted).dirty bank x now) [
-          | inl was ↦ subst (λ s. IsTrue (can_be_dirty setup.shape s x)) (sym state) (on_now.dirty bank x was)
-          | inr touched ↦ absurd (true≢false (sym touched.1))
-        ])
-
   -- ---- a cut
 
   module _ (set : HasSetLoss setup n (parts_in old engine none_taken) (parts_in new after taken) (Err Fail.Cut)) where
@@ -210,23 +174,3 @@ module _ (setup : Setup) (old new : WorldState) (engine after : EngineState) (ta
                     (cut_bounds (nat_lt old.state.loss n) cut_steps);
               };
         }
-
-    pub cut-world : new.state ≡ cut_state old.state (steps_in taken) → new.engine ≡ None → IsWorld setup new
-    cut-world state there =
-        let gone = set.gone on_now.trusted.not_down in
-        let marks : new.ledger.marks ≡ old.ledger.marks = gone.marks ∙ append-nil old.ledger.marks in
-        world-cut setup old new engine after taken [] call gone
-        (record {
-          each =
-              λ tight page within unnamed it.
-              set.counters on_now.trusted.not_down on_now.trusted page within
-              (on_now.metadata tight (counter_position setup.shape page) (counter_position-within setup.shape page within) unnamed) it;
-        })
-        (IsHealed-same setup old.state new.state (ap (λ s. s.named) state) (ap (λ s. s.loose) state) (ap (λ s. s.hurt) state) (ap (λ s. s.spoiled) state))
-        (record { snapped = ap (λ s. s.snapped) state; steps = ap (λ s. s.steps) state })
-        (ap (λ s. s.fuse) state) (ap (λ s. s.power) state) there
-        ((set.answered on_now.trusted.not_down).1 ∙ call.world.board.loss ∙ sym (ap (λ s. s.loss) state))
-        (subst (λ s. IsMemoryOf setup new.ledger.marks s.memory) (sym state)
-        (subst (λ m. IsMemoryOf setup m old.state.memory) (sym marks) call.world.memory))
-        (subst (λ s. HasFlags setup.shape s) (sym state) (same_flags setup.shape old.state _ call.world.flags refl refl refl refl refl))
-        (HasQueues-none setup.shape new.state (ap (λ s. s.queues) state))

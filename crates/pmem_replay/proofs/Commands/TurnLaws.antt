@@ -33,32 +33,14 @@ use Rattle.watched_board.specs.declared.taken.Taken.{Taken}
 use Rattle.watched_board.specs.Watching.{none_taken, steps_in}
 use Rattle.watched_board.proofs.StepLaws.{fewer}
 use Rattle.pmem_replay.specs.During.{parts_in}
-use Rattle.pmem_replay.proofs.Steps.WorldsAfterCalls.{on_in, IsCall, IsHealed, cut_at_fuse, within_fuse, world-going, world-cut}
+use Rattle.pmem_replay.specs.Called.{IsCall}
+use Rattle.pmem_replay.proofs.Steps.WorldsAfterCalls.{on_in, cut_at_fuse, within_fuse}
 use Rattle.pmem_replay.proofs.Steps.FaultCauses.{stored_unspoiled, hurt_before, tag_unstored, forged_unstored, forged_other, zero_within, shown_uncut}
-use Rattle.pmem_replay.proofs.Steps.MarklessCalls.{exactly, counted_state, cut_state, quiet-going, HasQueues-none, same_flags}
+use Rattle.pmem_replay.proofs.Steps.MarklessCalls.{exactly, counted_state, cut_state}
 use Rattle.pmem_replay.proofs.Commands.FlushLaws.{left_alone-steps}
 use Rattle.pmem_replay.proofs.Marks.OpenPages.{IsWholePage, whole_pages, lowest_within, turn_mark, reseal_quiet, reseal_untouching}
 use Rattle.pmem_replay.specs.Replies.{without_marks}
 use Rattle.pmem_replay.proofs.Steps.GoodReplies.{IsGood}
-
--- marks that only seal lines whose last seal was stored, with the flags as they were
-pub healed_by_stored : (setup : Setup) (old new : WorldState) (made : List Mark) → IsWorld setup old
-    → new.state.named ≡ old.state.named → new.state.loose ≡ old.state.loose → new.state.hurt ≡ old.state.hurt → new.state.spoiled ≡ old.state.spoiled
-    → ((a : ℕ) → a < layout.data_lines setup.shape → IsTrue (is_sealed_by made a) → is_flagged old.state.spoiled a ≡ false)
-    → IsHealed setup made old.state new.state
-healed_by_stored setup old new made world named loose hurt spoiled unspoiled =
-    record {
-      named = named;
-      loose = loose;
-      hurt = λ a within whole. inl (subst (λ flags. is_flagged flags a ≡ false) hurt whole);
-      spoiled =
-          λ a within broken.
-          let was = subst (λ flags. is_flagged flags a ≡ true) spoiled broken in
-          elim (cases_Bool (is_sealed_by made a)) [
-            | inl sealed ↦ absurd (true≢false (sym was ∙ unspoiled a within sealed))
-            | inr unsealed ↦ (was, unsealed)
-          ];
-    }
 
 module _ (setup : Setup) (old new : WorldState) (engine after : EngineState) (taken : Taken)
     (call : IsCall setup old new engine after taken) where
@@ -76,26 +58,6 @@ module _ (setup : Setup) (old new : WorldState) (engine after : EngineState) (ta
   module _ (turn : HasTurned setup (parts_in old engine none_taken) (parts_in new after taken) (Ok None)) where
     pub idle-good : IsGood setup old Do.Turn (without_marks Say.Idle)
     idle-good = search (rules, zero_within)
-
-    pub idle-made : turn.made ≡ []
-    idle-made = (turn.marks on_now.trusted.not_down on_now.trusted old.state.memory call.world.memory.each).0
-
-    pub idle-world : new.state ≡ counted_state old.state 0 → new.engine ≡ Some after → IsBanksOf setup.shape after.cache → IsWorld setup new
-    idle-world state there whole_cache =
-        let zero = left_alone-steps setup old new engine after taken (turn.counts on_now.trusted.not_down) in
-        quiet-going setup old new engine after taken call
-        (subst (λ made. OneLossEffect setup going made (parts_in old engine none_taken) (parts_in new after taken)) idle-made
-        (turn.done on_now.trusted.not_down))
-        there whole_cache
-        (subst (λ n. new.state ≡ counted_state old.state n) (sym zero) state)
-
-  -- a sealed line was stored before
-  sealed_unspoiled : (answer : Result (Option (ℕ × ℕ)) Fault)
-      (turn : HasTurned setup (parts_in old engine none_taken) (parts_in new after taken) answer)
-      → (a : ℕ) → a < layout.data_lines setup.shape → IsTrue (is_sealed_by turn.made a) → is_flagged old.state.spoiled a ≡ false
-  sealed_unspoiled answer turn a within sealed =
-      stored_unspoiled setup old.state (lines_in old) old.board.regs.loss old.ledger a call.world.kept within
-      (turn.sealed_before on_now.trusted a within sealed)
 
   -- ---- a line is sealed anew
 
@@ -127,33 +89,6 @@ module _ (setup : Setup) (old new : WorldState) (engine after : EngineState) (ta
                 within_bounds = exactly old.board new.board taken 4 call.follows.few counts.0;
               };
         }
-
-    pub turned-world : new.state ≡ state_after setup.shape old.state Do.Turn (record { marks = turn.made; answer = Say.Turned turned.1 (steps_in taken) })
-        → new.engine ≡ Some after → IsBanksOf setup.shape after.cache → IsWorld setup new
-    turned-world after_state there whole_cache =
-        let done = turn.done on_now.trusted.not_down in
-        let marks = turn.marks on_now.trusted.not_down on_now.trusted old.state.memory call.world.memory.each in
-        let reseal = turn_mark setup.formulas now turn.made marks.0 in
-        let state : new.state ≡ counted_state old.state (steps_in taken) =
-        after_state ∙ reseal_quiet setup.shape setup.formulas now turn.made (counted_state old.state (steps_in taken)) reseal in
-        world-going setup old new engine after taken turn.made call done.gone
-        (record { each = λ tight page within unnamed it. done.counters on_now.trusted page within it })
-        (healed_by_stored setup old new turn.made call.world (ap (λ s. s.named) state) (ap (λ s. s.loose) state) (ap (λ s. s.hurt) state) (ap (λ s. s.spoiled) state)
-        (sealed_unspoiled (Ok (Some turned)) turn))
-        (record { snapped = ap (λ s. s.snapped) state; steps = ap (λ s. s.steps) state })
-        (ap (λ s. s.fuse) state) (ap (λ s. s.power) state ∙ on_now.powered) there
-        (done.loss ∙ call.world.board.loss ∙ sym (ap (λ s. s.loss) state))
-        (subst (λ s. IsMemoryOf setup new.ledger.marks s.memory) (sym state)
-        (record { count = call.world.memory.count; each = turn.memory_kept on_now.trusted old.state.memory call.world.memory.each }))
-        (subst (λ s. HasFlags setup.shape s) (sym state) (same_flags setup.shape old.state _ call.world.flags refl refl refl refl refl))
-        (subst (λ s. HasQueues setup.shape s) (sym state)
-        (record { ports = call.world.queues.ports; on_memory = call.world.queues.on_memory }))
-        whole_cache
-        (λ bank x dirty.
-        elim ((done.gone.metadata on_now.trusted).dirty bank x dirty) [
-          | inl was ↦ subst (λ s. IsTrue (can_be_dirty setup.shape s x)) (sym state) (on_now.dirty bank x was)
-          | inr touched ↦ absurd (reseal_untouching setup.shape setup.formulas now turn.made x reseal touched)
-        ])
 
   -- ---- a refused line
 
@@ -198,10 +133,6 @@ module _ (setup : Setup) (old new : WorldState) (engine after : EngineState) (ta
               };
         }
 
-    pub refused-world : new.state ≡ counted_state old.state (steps_in taken) → new.engine ≡ Some after → IsBanksOf setup.shape after.cache
-        → IsWorld setup new
-    refused-world state there whole_cache = quiet-going setup old new engine after taken call refused_done there whole_cache state
-
   -- ---- a cut
 
   module _ (turn : HasTurned setup (parts_in old engine none_taken) (parts_in new after taken) (Err Fail.Cut)) where
@@ -235,31 +166,6 @@ module _ (setup : Setup) (old new : WorldState) (engine after : EngineState) (ta
                 within_bounds = few;
               };
         }
-
-    pub cut_quiet : (state : PlainState) → after_marks setup.shape state turn.made ≡ state
-    cut_quiet state =
-        elim cut_marks.1 [
-          | inl none ↦ ap (after_marks setup.shape state) none
-          | inr mark ↦ reseal_quiet setup.shape setup.formulas now turn.made state (turn_mark setup.formulas now turn.made mark)
-        ]
-
-    pub cut-world : new.state ≡ state_after setup.shape old.state Do.Turn (record { marks = turn.made; answer = Say.Cut (steps_in taken) })
-        → new.engine ≡ None → IsWorld setup new
-    cut-world after_state there =
-        let done = turn.done on_now.trusted.not_down in
-        let state : new.state ≡ cut_state old.state (steps_in taken) =
-        after_state ∙ cut_quiet (cut_state old.state (steps_in taken)) in
-        world-cut setup old new engine after taken turn.made call done.gone
-        (record { each = λ tight page within unnamed it. done.counters on_now.trusted page within it })
-        (healed_by_stored setup old new turn.made call.world (ap (λ s. s.named) state) (ap (λ s. s.loose) state) (ap (λ s. s.hurt) state) (ap (λ s. s.spoiled) state)
-        (sealed_unspoiled (Err Fail.Cut) turn))
-        (record { snapped = ap (λ s. s.snapped) state; steps = ap (λ s. s.steps) state })
-        (ap (λ s. s.fuse) state) (ap (λ s. s.power) state) there
-        (done.loss ∙ call.world.board.loss ∙ sym (ap (λ s. s.loss) state))
-        (subst (λ s. IsMemoryOf setup new.ledger.marks s.memory) (sym state)
-        (record { count = call.world.memory.count; each = turn.memory_kept on_now.trusted old.state.memory call.world.memory.each }))
-        (subst (λ s. HasFlags setup.shape s) (sym state) (same_flags setup.shape old.state _ call.world.flags refl refl refl refl refl))
-        (HasQueues-none setup.shape new.state (ap (λ s. s.queues) state))
 
   -- ---- an exhibit
 

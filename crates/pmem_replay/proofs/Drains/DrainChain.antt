@@ -13,7 +13,6 @@ use Rattle.pmem_base.specs.Shape.{Shape}
 use Rattle.pmem_base.specs.declared.lines.Line.{Line}
 use Rattle.pmem_base.specs.Ranges.{IsPosted}
 use Rattle.pmem_base.specs.WaitingWrites.{queue_of}
-use Rattle.meta_cache.specs.Banks.{IsBanksOf}
 use Rattle.suite.specs.Setup.{Setup}
 use Rattle.plain_model.specs.State.{PlainState, is_flagged}
 use Rattle.plain_model.specs.View.{DeviceView, start_view, view_of}
@@ -31,7 +30,8 @@ use Rattle.watched_board.specs.declared.taken.Taken.{Taken}
 use Rattle.watched_board.specs.Watching.{none_taken, steps_in}
 use Rattle.watched_board.proofs.StepLaws.{at_most, unburnt}
 use Rattle.pmem_replay.specs.During.{parts_in}
-use Rattle.pmem_replay.proofs.Steps.WorldsAfterCalls.{on_in, IsCall, within_fuse}
+use Rattle.pmem_replay.specs.Called.{IsCall}
+use Rattle.pmem_replay.proofs.Steps.WorldsAfterCalls.{on_in, within_fuse}
 use Rattle.pmem_replay.proofs.Steps.FaultCauses.{stored_unspoiled, zero_within}
 use Rattle.pmem_replay.proofs.Steps.MarklessCalls.{counted_state}
 use Rattle.pmem_replay.proofs.Marks.AfterMarks.{with_flags, touched_after, flushed_after, touched_after_mark, flushed_after_mark}
@@ -39,7 +39,7 @@ use Rattle.pmem_replay.proofs.Marks.OpenPages.{whole_pages}
 use Rattle.pmem_replay.proofs.Marks.AskedMarks.{asked_form, asked_seals}
 use Rattle.plain_model.proofs.WriteMarks.{marks_of_writes-more, moment_view, writing_bound-append}
 use Rattle.pmem_replay.proofs.Drains.DrainLists.{slice_get-drop, take-next, queue_after, drains_more, can_put_more, drains_memory}
-use Rattle.pmem_replay.proofs.Drains.WriteWorlds.{put_state, put-world, front_on_memory}
+use Rattle.pmem_replay.proofs.Drains.WriteWorlds.{put_state, front_on_memory}
 
 -- ---- steps and fuses
 
@@ -214,9 +214,8 @@ module _ (setup : Setup) (old mid : WorldState) (port n : ℕ) (made : List Mark
 
     pub drained-more :
         new.state ≡ put_state mid.state port write later (steps_in taken) (touched_after mid.state.touched written.made) (flushed_after setup.shape mid.state.flushed written.made)
-        → new.engine ≡ Some after → IsBanksOf setup.shape after.cache
-        → IsDrainedTo setup old new port (suc n) (made ++ written.made) (spent + steps_in taken)
-    drained-more state there whole_cache =
+        → IsWorld setup new → IsDrainedTo setup old new port (suc n) (made ++ written.made) (spent + steps_in taken)
+    drained-more state holds =
         let done = written.done on_mid.trusted.not_down in
         let powered = done.gone.power.1 (call.world.board.power ∙ on_mid.powered) in
         let touched : touched_after mid.state.touched written.made ≡ touched_after old.state.touched (made ++ written.made) =
@@ -224,8 +223,7 @@ module _ (setup : Setup) (old mid : WorldState) (port n : ℕ) (made : List Mark
         let flushed : flushed_after setup.shape mid.state.flushed written.made ≡ flushed_after setup.shape old.state.flushed (made ++ written.made) =
         ap (λ (s : PlainState). flushed_after setup.shape s.flushed written.made) drained.state ∙ sym (flushed-append setup.shape old.state.flushed made written.made) in
         record {
-          world =
-              put-world setup mid new engine after taken call port write later small waits (Ok ctr) written refl ok_sealed state there whole_cache;
+          world = holds;
           state =
               state
               ∙ ap₂ (λ t f. put_state mid.state port write later (steps_in taken) t f) touched flushed

@@ -15,7 +15,6 @@ use Rattle.pmem_base.specs.Layout as layout
 use Rattle.pmem_base.specs.declared.answers.Exhibit.{Exhibit}
 use Rattle.pmem_base.specs.Marks.{last_seal}
 use Rattle.pmem_base.specs.Ranges.{IsAnswer, IsExhibitValue}
-use Rattle.meta_cache.specs.Banks.{IsBanksOf}
 use Rattle.seal_ledger.specs.Ledger.{LedgerState}
 use Rattle.seal_ledger.specs.Notes.{HasRoom}
 use Rattle.suite.specs.Formulas.{Formulas}
@@ -33,14 +32,13 @@ use Rattle.pmem_engine.specs.Calls.{IsPartOf}
 use Rattle.pmem_replay.specs.World.{WorldState, IsOn, IsPowered, IsWorld, view_in, setup_of_world}
 use Rattle.watched_board.specs.declared.taken.Taken.{Taken}
 use Rattle.watched_board.specs.Watching.{steps_in}
-use Rattle.pmem_replay.specs.Given.{given_state, WasGiven, IsGiven, IsGivenShown, HasGiven, HasMarkRoom, IsDrainReply}
+use Rattle.pmem_replay.specs.Given.{given_state, WasGiven, IsGiven, IsGivenShown, IsGivenTo, IsSaid, HasGiven, HasMarkRoom}
 use Rattle.pmem_replay.specs.Replies.{with_marks_since}
-use Rattle.pmem_replay.specs.declared.draining.Gave.{Gave}
-use Rattle.pmem_replay.specs.declared.draining.Gave.TheVariants.{Put, Refused, Spent, Kept, Lost, Shown}
 use Rattle.pmem_replay.proofs.Steps.PartsOfWorld.{since}
 use Rattle.pmem_replay.specs.Stepped.{HasStepped, HasDrained, IsDrainAnswer, IsSeenOnDevice, IsExhibitSeen}
 use Rattle.pmem_replay.proofs.Marks.AfterMarks.{touched_after, flushed_after, with_flags, after_marks-is}
-use Rattle.pmem_replay.proofs.Steps.WorldsAfterCalls.{on_in, IsCall, cut_counted, uncut_counted}
+use Rattle.pmem_replay.specs.Called.{IsCall}
+use Rattle.pmem_replay.proofs.Steps.WorldsAfterCalls.{on_in, cut_counted, uncut_counted}
 use Rattle.pmem_replay.proofs.Steps.FaultCauses.{on_path-within, forged_unstored, shown_uncut}
 use Rattle.pmem_replay.proofs.Marks.AskedMarks.{refused_within}
 use Rattle.pmem_replay.proofs.Marks.OpenPages.{whole_pages}
@@ -175,10 +173,9 @@ module _ (setup : Setup) (old new : WorldState) (ledger : LedgerState) (room : H
       → HasStepped setup old (Do.Drain port) (record { marks = is.given.written.made; answer = Say.Drained n }) new
   drain-put ctr n is =
       let g = is.given in
-      let whole_cache : IsBanksOf setup.shape g.after.cache = (on_in setup new g.after is.holds is.engine).whole_cache in
       let more : IsDrainedTo setup mid new port 1 g.written.made (0 + steps_in g.taken) =
       drained-more setup mid mid port 0 [] 0 drained whole small g.write g.later g.waits new g.engine g.after g.taken (call (Ok ctr) g) ctr g.written
-      (state_form (given_state mid.state port g.write g.later (steps_in g.taken) true true) g.written.made is.state) is.engine whole_cache in
+      (state_form (given_state mid.state port g.write g.later (steps_in g.taken) true true) g.written.made is.state) is.holds in
       subst (λ (k : ℕ). HasStepped setup old (Do.Drain port) (record { marks = g.written.made; answer = Say.Drained k }) new) (all_steps n (steps_in g.taken) is.counted)
       (one_step (Ok ctr) g (Say.Drained (0 + steps_in g.taken))
       (drained-good setup mid new port g.written.made (0 + steps_in g.taken) more)
@@ -307,9 +304,9 @@ module _ (setup : Setup) (old new : WorldState) (ledger : LedgerState) (room : H
 
   -- ---- shown
 
-  pub drain-shown : (exhibit : Exhibit) (is : IsGivenShown setup mid port exhibit new)
+  pub drain-shown : (exhibit : Exhibit) (is : IsGivenShown setup mid port new) → new.ledger.exhibit ≡ Some exhibit
       → HasStepped setup old (Do.Drain port) (record { marks = is.given.written.made; answer = Say.Shown exhibit }) new
-  drain-shown exhibit is =
+  drain-shown exhibit is its =
       let g = is.given in
       let c = call (Err Fail.Shown) g in
       let on = on_mid (Err Fail.Shown) g in
@@ -321,7 +318,7 @@ module _ (setup : Setup) (old new : WorldState) (ledger : LedgerState) (room : H
       elim (g.written.answered on.trusted.not_down on.trusted mid.state.memory whole.memory.each) [
         | inl clash ↦
             clash_sight setup mid new g.engine g.after g.taken (layout.page_of g.write.at) exhibit whole.whole_shape (omega (arith, inside))
-            g.each_line on.trusted.anchored.of_shape.truth_lines clash.1 is.its
+            g.each_line on.trusted.anchored.of_shape.truth_lines clash.1 its
         | inr found ↦
             let on_line = refused_within setup.shape setup.formulas (moment_of mid.state (view_in setup mid)) g.write g.written.made found.at pages inside found.refusable in
             let none : new.board.regs.group.items ≡ [] = ap (λ group. group.items) (done.gone.group shown_uncut) ∙ on.trusted.no_group in
@@ -331,52 +328,57 @@ module _ (setup : Setup) (old new : WorldState) (ledger : LedgerState) (room : H
             let its_seal : last_seal new.ledger.marks found.at ≡ last_seal mid.ledger.marks found.at =
             ap (λ marks. last_seal marks found.at) done.gone.marks ∙ last_seal-unsealed mid.ledger.marks g.written.made found.at unsealed in
             forged_sight_by setup new g.after g.taken found.at exhibit whole.whole_shape whole.whole_formulas on_line g.each_line
-            found.forged is.its
+            found.forged its
             (seal_counter setup.shape mid.ledger.marks found.at found.forged.ctr on.trusted.anchored.of_shape.marks_in_range
             (ap (option_map (λ seal. seal.ctr)) (sym its_seal) ∙ found.forged.unsealed.counter))
       ] in
       one_step (Err Fail.Shown) g (Say.Shown exhibit)
-      (shown-good setup mid mid new (Do.Drain port) None port 0 [] 0 writing drained whole small g.write g.later g.waits g.engine g.after g.taken c g.written exhibit is.its
+      (shown-good setup mid mid new (Do.Drain port) None port 0 [] 0 writing drained whole small g.write g.later g.waits g.engine g.after g.taken c g.written exhibit its
       (λ clash. clash.fetched.before) places)
-      sight.0 is.its is.engine (done.gone.power.1 (whole.board.power ∙ on.powered))
+      sight.0 its is.engine (done.gone.power.1 (whole.board.power ∙ on.powered))
       (λ quiet. absurd (true≢false quiet)) is.shown
       (λ quiet. absurd (true≢false quiet))
       (λ quiet. absurd (true≢false quiet))
       sight.1
 
 -- the whole: room was made, the write was given, and the drain answers
-pub drained_as : (formulas_of : List ℕ → Formulas) (old mid new : WorldState) (port : ℕ) → port < 8 → old.shown ≡ false
-    → IsWorld (setup_of_world formulas_of old) old → HasMarkRoom (setup_of_world formulas_of old) old 66 mid → (gave : Gave) (answer : Answer)
-    → HasGiven (setup_of_world formulas_of mid) mid port gave new → IsDrainReply gave answer
-    → HasStepped (setup_of_world formulas_of old) old (Do.Drain port) (with_marks_since old new answer) new
-drained_as formulas_of old mid new port small unshown whole made gave answer given is =
-    by_gave gave (subst (λ (w : WorldState). HasGiven (setup_of_world formulas_of w) w port gave new) made.same given) is
-  where
-    going : IsGoingOn (setup_of_world formulas_of old) old
-    going = record { whole = whole; unshown = unshown }
+module _ (formulas_of : List ℕ → Formulas) (old mid new : WorldState) (port : ℕ) (small : port < 8) (unshown : old.shown ≡ false)
+    (whole : IsWorld (setup_of_world formulas_of old) old) (made : HasMarkRoom (setup_of_world formulas_of old) old 66 mid) (said : Answer) where
+  abbrev its_setup : Setup
+  its_setup = setup_of_world formulas_of old
 
-    its : IsWorld (setup_of_world formulas_of old) (record old { ledger = mid.ledger })
-    its = subst (λ (w : WorldState). IsWorld (setup_of_world formulas_of old) w) made.same made.holds
+  going_on : IsGoingOn its_setup old
+  going_on = record { whole = whole; unshown = unshown }
 
-    since_then : (marks : List Mark) (said : Answer) → HasStepped (setup_of_world formulas_of old) old (Do.Drain port) (record { marks = marks; answer = said }) new
-        → answer ≡ said → HasStepped (setup_of_world formulas_of old) old (Do.Drain port) (with_marks_since old new answer) new
-    since_then marks said step same =
-        subst (λ (a : Answer). HasStepped (setup_of_world formulas_of old) old (Do.Drain port) (with_marks_since old new a) new) (sym same)
-        (since (setup_of_world formulas_of old) old new (Do.Drain port) marks said step)
+  its_world : IsWorld its_setup (record old { ledger = mid.ledger })
+  its_world = subst (λ (w : WorldState). IsWorld its_setup w) made.same made.holds
 
-    by_gave : (gave : Gave) → HasGiven (setup_of_world formulas_of old) (record old { ledger = mid.ledger }) port gave new → IsDrainReply gave answer
-        → HasStepped (setup_of_world formulas_of old) old (Do.Drain port) (with_marks_since old new answer) new
-    by_gave (Put steps) it same =
-        since_then it.1.given.written.made (Say.Drained steps) (drain-put (setup_of_world formulas_of old) old new mid.ledger made.room port small going its it.0 steps it.1) same
-    by_gave (Refused (Place.Meta x) steps) it same =
-        since_then it.given.written.made (Say.Refused None (Place.Meta x) steps) (drain-meta (setup_of_world formulas_of old) old new mid.ledger made.room port small going its x steps it) same
-    by_gave (Refused (Place.Line b) steps) it same =
-        since_then it.given.written.made (Say.Refused None (Place.Line b) steps) (drain-tag (setup_of_world formulas_of old) old new mid.ledger made.room port small going its b steps it) same
-    by_gave (Spent page steps) it same =
-        since_then it.given.written.made (Say.Spent None page steps) (drain-spent (setup_of_world formulas_of old) old new mid.ledger made.room port small going its page steps it) same
-    by_gave (Kept steps) it same =
-        since_then it.given.written.made (Say.CutKept None steps) (drain-kept (setup_of_world formulas_of old) old new mid.ledger made.room port small going its steps it) same
-    by_gave (Lost steps) it same =
-        since_then it.given.written.made (Say.CutLost None steps) (drain-lost (setup_of_world formulas_of old) old new mid.ledger made.room port small going its steps it) same
-    by_gave (Shown exhibit) it same =
-        since_then it.given.written.made (Say.Shown exhibit) (drain-shown (setup_of_world formulas_of old) old new mid.ledger made.room port small going its exhibit it) same
+  since_then : (marks : List Mark) (one : Answer) → HasStepped its_setup old (Do.Drain port) (record { marks = marks; answer = one }) new
+      → said ≡ one → HasStepped its_setup old (Do.Drain port) (with_marks_since old new said) new
+  since_then marks one step same =
+      subst (λ (a : Answer). HasStepped its_setup old (Do.Drain port) (with_marks_since old new a) new) (sym same)
+      (since its_setup old new (Do.Drain port) marks one step)
+
+  by_answer : (answer : Result Ctr Fault) (put : Bool) (n : ℕ) → IsGivenTo its_setup (record old { ledger = mid.ledger }) port n answer put new
+      → IsSaid new answer put n said → HasStepped its_setup old (Do.Drain port) (with_marks_since old new said) new
+  by_answer (Ok ctr) put n it same =
+      since_then it.given.written.made (Say.Drained n) (drain-put its_setup old new mid.ledger made.room port small going_on its_world ctr n it) same
+  by_answer (Err (Fail.Meta x)) put n it same =
+      since_then it.given.written.made (Say.Refused None (Place.Meta x) n) (drain-meta its_setup old new mid.ledger made.room port small going_on its_world x n it) same
+  by_answer (Err (Fail.Tag b)) put n it same =
+      since_then it.given.written.made (Say.Refused None (Place.Line b) n) (drain-tag its_setup old new mid.ledger made.room port small going_on its_world b n it) same
+  by_answer (Err (Fail.Spent page)) put n it same =
+      since_then it.given.written.made (Say.Spent None page n) (drain-spent its_setup old new mid.ledger made.room port small going_on its_world page n it) same
+  by_answer (Err Fail.Cut) true n it same =
+      since_then it.given.written.made (Say.CutKept None n) (drain-kept its_setup old new mid.ledger made.room port small going_on its_world n it) same
+  by_answer (Err Fail.Cut) false n it same =
+      since_then it.given.written.made (Say.CutLost None n) (drain-lost its_setup old new mid.ledger made.room port small going_on its_world n it) same
+  by_answer (Err Fail.Shown) put n it same =
+      since_then it.given.written.made (Say.Shown same.0) (drain-shown its_setup old new mid.ledger made.room port small going_on its_world same.0 it same.1) same.2
+  by_answer (Err Fail.Down) put n it same = absurd same
+
+  pub drained_as : HasGiven (setup_of_world formulas_of mid) mid port said new
+      → HasStepped its_setup old (Do.Drain port) (with_marks_since old new said) new
+  drained_as given =
+      let it = subst (λ (w : WorldState). HasGiven (setup_of_world formulas_of w) w port said new) made.same given in
+      by_answer it.answer it.put it.steps it.given it.says

@@ -1,11 +1,12 @@
 -- A fence: writes drained one by one, and the one that ends it.
 use Rattle.std.proofs.Common.{rules}
 use Rattle.std.proofs.Common.{ℕ, suc, ◌≡◌, ◌<◌, ◌≤◌, ◌+◌, ◌*◌, ◌++◌, true, false, inl, inr, List, [], ◌∷◌, Option, Some, None, refl, sym, ap, subst, ◌∙◌, arith}
-use Rattle.std.specs.Prelude.{MatchOption, length, drop, IsSome}
+use Rattle.std.specs.Prelude.{Bool, Result, Ok, Err, MatchOption, length, drop, IsSome}
 use Rattle.std.proofs.lemmas.Bool.{true≢false}
 use Rattle.std.proofs.lemmas.Option.{none-some}
 use Rattle.std.proofs.lemmas.List.{length-drop}
 use Rattle.pmem_base.specs.declared.commands.Posted.{Posted}
+use Rattle.pmem_base.specs.declared.lines.Ctr.{Ctr}
 use Rattle.pmem_base.specs.declared.commands.Command.TheVariants as Do
 use Rattle.pmem_base.specs.declared.answers.Answer.{Answer}
 use Rattle.pmem_base.specs.declared.answers.Answer.TheVariants as Say
@@ -21,10 +22,10 @@ use Rattle.plain_model.specs.Answers.{decided_answer}
 use Rattle.pmem_engine.specs.Engine.{EngineState}
 use Rattle.pmem_replay.specs.World.{WorldState, IsWorld, view_in, setup_of_world}
 use Rattle.pmem_replay.specs.Replies.{with_marks_since}
-use Rattle.pmem_replay.specs.Given.{HasMarkRoom, HasGiven, IsEnded}
-use Rattle.pmem_replay.specs.declared.draining.Gave.{Gave}
-use Rattle.pmem_replay.specs.declared.draining.Gave.TheVariants.{Put, Refused, Spent, Kept, Lost, Shown}
-use Rattle.pmem_replay.specs.Stepped.{HasStepped, IsByTable, HasDrained, HasFenced, HasSameParts, IsSeenOnDevice}
+use Rattle.pmem_engine.specs.declared.fault.Fault.{Fault}
+use Rattle.pmem_engine.specs.declared.fault.Fault.TheVariants as Fail
+use Rattle.pmem_replay.specs.Given.{HasMarkRoom, HasGiven, IsGiven, IsGivenTo, IsSaid}
+use Rattle.pmem_replay.specs.Stepped.{HasStepped, EndsFence, IsByTable, HasDrained, HasFenced, HasSameParts, IsSeenOnDevice}
 use Rattle.pmem_replay.proofs.Marks.AskedMarks.{asked_form, asked_few}
 use Rattle.pmem_replay.proofs.Steps.WorldsAfterCalls.{on_in}
 use Rattle.pmem_replay.proofs.Drains.DrainChain.{drained_none}
@@ -59,6 +60,9 @@ fenced_before setup old new spare more answer (write ∷ later) it =
 
 -- ---- the loop
 
+steps_alike : (k n : ℕ) → Say.Drained k ≡ Say.Drained n → k ≡ n
+steps_alike k n same = cc
+
 -- what the loop of a fence keeps
 pub record IsDraining (formulas_of : List ℕ → Formulas) (mid now : WorldState) (port count done steps : ℕ) : Type 0 where
   pub made : List Mark
@@ -67,7 +71,7 @@ pub record IsDraining (formulas_of : List ℕ → Formulas) (mid now : WorldStat
   pub room : 66 * count ≤ now.ledger.spare + 66 * done
   pub within : done ≤ count
 
-some_engine : (engine : Option EngineState) → IsSome engine → (found : EngineState) × (engine ≡ Some found)
+pub some_engine : (engine : Option EngineState) → IsSome engine → (found : EngineState) × (engine ≡ Some found)
 some_engine None some = absurd (true≢false (sym some))
 some_engine (Some found) some = (found, refl)
 
@@ -114,10 +118,41 @@ module _ (formulas_of : List ℕ → Formulas) (mid now new : WorldState) (port 
       ap (λ (s : PlainState). queue_of s.queues port) drained.state ∙ queue_after mid.state port done ports in
       omega (arith, ap length rest, length-drop done (queue_of mid.state.queues port), drained.few, counted)
 
-  pub fence_next : (k : ℕ) → HasGiven (setup_of_world formulas_of now) now port (Put k) new → done < count
+  -- a write that was drained
+  put_of : (k : ℕ) (answer : Result Ctr Fault) (put : Bool) (n : ℕ) → IsGivenTo setup now port n answer put new → IsSaid new answer put n (Say.Drained k)
+      → (ctr : Ctr) × IsGiven setup now port k (Ok ctr) true true new
+  put_of k (Ok ctr) put n it same = (ctr, subst (λ (m : ℕ). IsGiven setup now port m (Ok ctr) true true new) (sym (steps_alike k n same)) it)
+  put_of k (Err (Fail.Meta x)) put n it same = absurd (apart same)
+    where
+      apart : Say.Drained k ≡ Say.Refused None (Place.Meta x) n → ⊥
+      apart same = cc
+  put_of k (Err (Fail.Tag at)) put n it same = absurd (apart same)
+    where
+      apart : Say.Drained k ≡ Say.Refused None (Place.Line at) n → ⊥
+      apart same = cc
+  put_of k (Err (Fail.Spent page)) put n it same = absurd (apart same)
+    where
+      apart : Say.Drained k ≡ Say.Spent None page n → ⊥
+      apart same = cc
+  put_of k (Err Fail.Cut) true n it same = absurd (apart same)
+    where
+      apart : Say.Drained k ≡ Say.CutKept None n → ⊥
+      apart same = cc
+  put_of k (Err Fail.Cut) false n it same = absurd (apart same)
+    where
+      apart : Say.Drained k ≡ Say.CutLost None n → ⊥
+      apart same = cc
+  put_of k (Err Fail.Down) put n it same = absurd same
+  put_of k (Err Fail.Shown) put n it same = absurd (apart same.2)
+    where
+      apart : Say.Drained k ≡ Say.Shown same.0 → ⊥
+      apart same = cc
+
+  pub fence_next : (k : ℕ) → HasGiven (setup_of_world formulas_of now) now port (Say.Drained k) new → done < count
       → IsDraining formulas_of mid new port count (done + 1) (steps + k)
   fence_next k given below =
-      let it = subst (λ (s : Setup). HasGiven s now port (Put k) new) same_setup given in
+      let said = subst (λ (s : Setup). HasGiven s now port (Say.Drained k) new) same_setup given in
+      let it = put_of k said.answer said.put said.steps said.given said.says in
       let g = it.1.given in
       let on = on_in setup now g.engine draining.fencing.drained.world g.was_on in
       let asked : marks_of_write setup.formulas (moment_of now.state (view_in setup now)) g.write ≡ Some g.written.made =
@@ -141,32 +176,34 @@ module _ (formulas_of : List ℕ → Formulas) (mid now new : WorldState) (port 
       subst (λ (a : Answer). HasStepped setup mid (Do.Fence port) (with_marks_since mid new a) new) (sym same)
       (since setup mid new (Do.Fence port) marks said step)
 
-  ended_as : (gave : Gave) (answer : Answer) → HasGiven setup now port gave new → IsEnded gave done steps answer
-      → HasStepped setup mid (Do.Fence port) (with_marks_since mid new answer) new
-  ended_as (Put k) answer it same = absurd same
-  ended_as (Refused (Place.Meta x) k) answer it same =
+  ended_as : (one answer : Answer) (r : Result Ctr Fault) (put : Bool) (k : ℕ) → IsGivenTo setup now port k r put new → IsSaid new r put k one
+      → EndsFence done steps one answer → HasStepped setup mid (Do.Fence port) (with_marks_since mid new answer) new
+  ended_as one answer (Ok ctr) put k it is ends = absurd (subst (λ (a : Answer). EndsFence done steps a answer) is ends)
+  ended_as one answer (Err (Fail.Meta x)) put k it is ends =
       said_since (draining.made ++ it.given.written.made) (Say.Refused (Some done) (Place.Meta x) (steps + k)) answer
-      (fence-meta setup mid now new port small done draining.made steps whole draining.fencing x k it) same
-  ended_as (Refused (Place.Line b) k) answer it same =
+      (fence-meta setup mid now new port small done draining.made steps whole draining.fencing x k it) (subst (λ (a : Answer). EndsFence done steps a answer) is ends)
+  ended_as one answer (Err (Fail.Tag b)) put k it is ends =
       said_since (draining.made ++ it.given.written.made) (Say.Refused (Some done) (Place.Line b) (steps + k)) answer
-      (fence-tag setup mid now new port small done draining.made steps whole draining.fencing b k it) same
-  ended_as (Spent page k) answer it same =
+      (fence-tag setup mid now new port small done draining.made steps whole draining.fencing b k it) (subst (λ (a : Answer). EndsFence done steps a answer) is ends)
+  ended_as one answer (Err (Fail.Spent page)) put k it is ends =
       said_since (draining.made ++ it.given.written.made) (Say.Spent (Some done) page (steps + k)) answer
-      (fence-spent setup mid now new port small done draining.made steps whole draining.fencing page k it) same
-  ended_as (Kept k) answer it same =
+      (fence-spent setup mid now new port small done draining.made steps whole draining.fencing page k it) (subst (λ (a : Answer). EndsFence done steps a answer) is ends)
+  ended_as one answer (Err Fail.Cut) true k it is ends =
       said_since (draining.made ++ it.given.written.made) (Say.CutKept (Some done) (steps + k)) answer
-      (fence-kept setup mid now new port small done draining.made steps whole draining.fencing k it) same
-  ended_as (Lost k) answer it same =
+      (fence-kept setup mid now new port small done draining.made steps whole draining.fencing k it) (subst (λ (a : Answer). EndsFence done steps a answer) is ends)
+  ended_as one answer (Err Fail.Cut) false k it is ends =
       said_since (draining.made ++ it.given.written.made) (Say.CutLost (Some done) (steps + k)) answer
-      (fence-lost setup mid now new port small done draining.made steps whole draining.fencing k it) same
-  ended_as (Shown exhibit) answer it same =
-      said_since (draining.made ++ it.given.written.made) (Say.Shown exhibit) answer
-      (fence-shown setup mid now new port small done draining.made steps whole draining.fencing exhibit it) same
+      (fence-lost setup mid now new port small done draining.made steps whole draining.fencing k it) (subst (λ (a : Answer). EndsFence done steps a answer) is ends)
+  ended_as one answer (Err Fail.Shown) put k it is ends =
+      said_since (draining.made ++ it.given.written.made) (Say.Shown is.0) answer
+      (fence-shown setup mid now new port small done draining.made steps whole draining.fencing is.0 it is.1) (subst (λ (a : Answer). EndsFence done steps a answer) is.2 ends)
+  ended_as one answer (Err Fail.Down) put k it is ends = absurd is
 
-  pub fence_ended : (gave : Gave) (answer : Answer) → HasGiven (setup_of_world formulas_of now) now port gave new → IsEnded gave done steps answer
+  pub fence_ended : (one answer : Answer) → HasGiven (setup_of_world formulas_of now) now port one new → EndsFence done steps one answer
       → HasStepped setup mid (Do.Fence port) (with_marks_since mid new answer) new
-  fence_ended gave answer given same =
-      ended_as gave answer (subst (λ (s : Setup). HasGiven s now port gave new) same_setup given) same
+  fence_ended one answer given ends =
+      let it = subst (λ (s : Setup). HasGiven s now port one new) same_setup given in
+      ended_as one answer it.answer it.put it.steps it.given it.says ends
 
 no_writes_left : (queue : List Posted) → length queue ≡ 0 → queue ≡ []
 no_writes_left [] none = refl

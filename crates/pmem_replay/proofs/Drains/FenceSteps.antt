@@ -31,7 +31,8 @@ use Rattle.watched_board.specs.Watching.{steps_in}
 use Rattle.pmem_replay.specs.Given.{given_state, WasGiven, IsGiven, IsGivenShown}
 use Rattle.pmem_replay.specs.Stepped.{HasStepped, HasDrained, HasFenced, EndsFence, IsDrainAnswer, IsSeenOnDevice, IsExhibitSeen}
 use Rattle.pmem_replay.proofs.Marks.AfterMarks.{touched_after, flushed_after, with_flags, after_marks-is}
-use Rattle.pmem_replay.proofs.Steps.WorldsAfterCalls.{on_in, IsCall}
+use Rattle.pmem_replay.specs.Called.{IsCall}
+use Rattle.pmem_replay.proofs.Steps.WorldsAfterCalls.{on_in}
 use Rattle.pmem_replay.proofs.Steps.FaultCauses.{on_path-within, forged_unstored, shown_uncut}
 use Rattle.pmem_replay.proofs.Marks.AskedMarks.{refused_within}
 use Rattle.pmem_replay.proofs.Marks.OpenPages.{whole_pages}
@@ -139,14 +140,13 @@ module _ (setup : Setup) (mid now new : WorldState) (port : ℕ) (small : port <
       → IsFencing setup mid new port (suc n) (made ++ is.given.written.made) (spent + k)
   fence-put ctr k is below =
       let g = is.given in
-      let whole_cache : IsBanksOf setup.shape g.after.cache = (on_in setup new g.after is.holds is.engine).whole_cache in
       let form = state_form (given_state now.state port g.write g.later (steps_in g.taken) true true) g.written.made is.state in
       let waits_then : queue_of new.state.queues port ≡ g.later =
       ap (λ (s : PlainState). queue_of s.queues port) form
       ∙ get_or-set_same now.state.queues port g.later [] (omega (arith, small, whole.queues.ports.eight)) in
       let more : IsDrainedTo setup mid new port (suc n) (made ++ g.written.made) (spent + steps_in g.taken) =
       drained-more setup mid now port n made spent drained whole_mid small g.write g.later g.waits new g.engine g.after g.taken (call (Ok ctr) g) ctr g.written
-      form is.engine whole_cache in
+      form is.holds in
       record {
         drained = subst (λ (s : ℕ). IsDrainedTo setup mid new port (suc n) (made ++ g.written.made) s) (all_steps k (steps_in g.taken) is.counted) more;
         unshown = is.unshown;
@@ -286,9 +286,9 @@ module _ (setup : Setup) (mid now new : WorldState) (port : ℕ) (small : port <
 
   -- ---- shown
 
-  pub fence-shown : (exhibit : Exhibit) (is : IsGivenShown setup now port exhibit new)
+  pub fence-shown : (exhibit : Exhibit) (is : IsGivenShown setup now port new) → new.ledger.exhibit ≡ Some exhibit
       → HasStepped setup mid (Do.Fence port) (record { marks = made ++ is.given.written.made; answer = Say.Shown exhibit }) new
-  fence-shown exhibit is =
+  fence-shown exhibit is its =
       let g = is.given in
       let c = call (Err Fail.Shown) g in
       let on = on_mid (Err Fail.Shown) g in
@@ -300,7 +300,7 @@ module _ (setup : Setup) (mid now new : WorldState) (port : ℕ) (small : port <
       elim (g.written.answered on.trusted.not_down on.trusted now.state.memory whole.memory.each) [
         | inl clash ↦
             clash_sight setup now new g.engine g.after g.taken (layout.page_of g.write.at) exhibit whole.whole_shape (omega (arith, inside))
-            g.each_line on.trusted.anchored.of_shape.truth_lines clash.1 is.its
+            g.each_line on.trusted.anchored.of_shape.truth_lines clash.1 its
         | inr found ↦
             let on_line = refused_within setup.shape setup.formulas (moment_of now.state (view_in setup now)) g.write g.written.made found.at pages inside found.refusable in
             let none : new.board.regs.group.items ≡ [] = ap (λ group. group.items) (done.gone.group shown_uncut) ∙ on.trusted.no_group in
@@ -310,14 +310,14 @@ module _ (setup : Setup) (mid now new : WorldState) (port : ℕ) (small : port <
             let its_seal : last_seal new.ledger.marks found.at ≡ last_seal now.ledger.marks found.at =
             ap (λ marks. last_seal marks found.at) done.gone.marks ∙ last_seal-unsealed now.ledger.marks g.written.made found.at unsealed in
             forged_sight_by setup new g.after g.taken found.at exhibit whole.whole_shape whole.whole_formulas on_line g.each_line
-            found.forged is.its
+            found.forged its
             (seal_counter setup.shape now.ledger.marks found.at found.forged.ctr on.trusted.anchored.of_shape.marks_in_range
             (ap (option_map (λ seal. seal.ctr)) (sym its_seal) ∙ found.forged.unsealed.counter))
       ] in
       one_step (Err Fail.Shown) g (Say.Shown exhibit) (Say.Shown exhibit)
-      (shown-good setup mid now new (Do.Fence port) (Some n) port n made spent writing drained whole_mid small g.write g.later g.waits g.engine g.after g.taken c g.written exhibit is.its
+      (shown-good setup mid now new (Do.Fence port) (Some n) port n made spent writing drained whole_mid small g.write g.later g.waits g.engine g.after g.taken c g.written exhibit its
       (λ clash. clash.fetched.before) places)
-      sight.0 is.its is.engine (done.gone.power.1 (whole.board.power ∙ on.powered))
+      sight.0 its is.engine (done.gone.power.1 (whole.board.power ∙ on.powered))
       (λ quiet. absurd (true≢false quiet)) refl is.shown
       (λ quiet. absurd (true≢false quiet))
       (λ quiet. absurd (true≢false quiet))

@@ -60,37 +60,3 @@ lowest_within g (opened ∷ pages) b whole lowest =
         → opened.page < layout.pages g → b < layout.data_lines g
     go [] small it page = absurd it
     go (i ∷ left) small it page = omega (arith, it, All-head (λ i. i < 64) i left small, page)
-
--- ---- the mark of a turn
-
--- it is one line's, sealed anew
-pub record IsResealOnly (f : Formulas) (now : Moment) (made : List Mark) : Type 0 where
-  pub page : ℕ
-  pub place : ℕ
-  pub marks : made ≡ reseal_mark f now page place ∷ []
-
-pub turn_mark : (f : Formulas) (now : Moment) (made : List Mark) → IsTurnMark f now made → IsResealOnly f now made
-turn_mark f now made it = oldest now.view.open_pages it
-  where
-    of_page : (page : ℕ) (place : Option ℕ) → MatchOption (option_map (reseal_mark f now page) place) ⊥ (λ mark. made ≡ mark ∷ [])
-        → IsResealOnly f now made
-    of_page page None it = absurd it
-    of_page page (Some i) it = record { page = page; place = i; marks = it }
-
-    oldest : (pages : List OpenPage) → MatchOption (option_and_then (mark_of_page_turn f now) (first_of pages)) ⊥ (λ mark. made ≡ mark ∷ [])
-        → IsResealOnly f now made
-    oldest [] it = absurd it
-    oldest (opened ∷ pages) it = of_page opened.page (slice_get opened.left 0) it
-
--- it changes no flag of the state
-pub reseal_quiet : (g : Shape) (f : Formulas) (now : Moment) (made : List Mark) (state : PlainState) → IsResealOnly f now made
-    → after_marks g state made ≡ state
-reseal_quiet g f now made state it = ap (after_marks g state) it.marks
-
--- and touches no page
-pub reseal_untouching : (g : Shape) (f : Formulas) (now : Moment) (made : List Mark) (x : ℕ) → IsResealOnly f now made
-    → IsTouchedBy g made x → ⊥
-reseal_untouching g f now made x it touched =
-    true≢false (sym touched.1 ∙ ap (list_any (is_touching touched.0)) it.marks
-    ∙ or_from (is_touching touched.0 (reseal_mark f now it.page it.place)) false
-    (and_right (layout.page_of (64 * it.page + it.place) == touched.0) false refl) refl)

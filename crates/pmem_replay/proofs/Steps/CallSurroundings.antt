@@ -15,7 +15,7 @@ use Rattle.pmem_engine.specs.Engine.{EngineState}
 use Rattle.pmem_replay.specs.World.{WorldState, WorldParts, state_in, world_of}
 use Rattle.watched_board.specs.declared.taken.Taken.{Taken}
 use Rattle.watched_board.specs.Watching.{steps_in, FollowsOn, IsWatched}
-use Rattle.pmem_replay.proofs.Steps.WorldsAfterCalls.{IsCall}
+use Rattle.pmem_replay.specs.Called.{IsCall}
 use Rattle.pmem_replay.proofs.Steps.MarklessCalls.{counted_state, cut_state}
 use Rattle.pmem_replay.proofs.Table.UnchangedSteps.{IsGoingOn, lit_in}
 
@@ -49,48 +49,3 @@ call_of setup p keys board steps engine after taken served new shape start is =
       in_count = served.watched.in_count;
       each_line = subst (λ (b : BoardMemory). All IsLine b.lines) (sym is) served.watched.each_line;
     }
-
--- the state after a call that goes on
-pub state_called : (setup : Setup) (p : WorldParts) (keys : List ℕ) (board : BoardMemory) (ledger : LedgerState) (engine : Option EngineState)
-    (tags digests steps : ℕ) (before : EngineState) (taken : Taken) (memory : List Line) (loss : ℕ) → IsServed setup p keys board steps before taken
-    → plain_memory setup ledger.marks ≡ memory → board.powered ≡ true → board.regs.loss ≡ loss
-    → state_in setup (called p keys board ledger engine tags digests steps)
-    ≡ record (counted_state (state_in setup p) (steps_in taken)) { memory = memory; loss = loss }
-state_called setup p keys board ledger engine tags digests steps before taken memory loss served its lit its_loss =
-    let power : board.powered ≡ p.board.powered =
-    lit ∙ sym (served.going.whole.board.power ∙ lit_in setup (world_of setup p) before served.going.whole served.was_on) in
-    let fuse : board.fuse ≡ option_map (λ n. n - steps_in taken) p.board.fuse = served.watched.follows.burnt lit in
-    cc (its, power, fuse, served.watched.follows.snapshot, served.counted, its_loss)
-
--- where it makes no mark and the stop-loss number stays
-pub state_going : (setup : Setup) (p : WorldParts) (keys : List ℕ) (board : BoardMemory) (ledger : LedgerState) (engine : Option EngineState)
-    (tags digests steps : ℕ) (before : EngineState) (taken : Taken) → IsServed setup p keys board steps before taken
-    → ledger.marks ≡ p.ledger.marks → board.powered ≡ true → board.regs.loss ≡ p.board.regs.loss
-    → state_in setup (called p keys board ledger engine tags digests steps) ≡ counted_state (state_in setup p) (steps_in taken)
-state_going setup p keys board ledger engine tags digests steps before taken served marks lit loss =
-    state_called setup p keys board ledger engine tags digests steps before taken (plain_memory setup p.ledger.marks) p.board.regs.loss served
-    (ap (plain_memory setup) marks) lit loss
-
--- the state after a call that is cut, where memory stays
-pub state_cut_with : (setup : Setup) (p : WorldParts) (keys : List ℕ) (board : BoardMemory) (ledger : LedgerState) (engine : Option EngineState)
-    (tags digests steps : ℕ) (queues : List (List Posted)) (before : EngineState) (taken : Taken) (memory : List Line) → IsServed setup p keys board steps before taken
-    → plain_memory setup ledger.marks ≡ memory → board.powered ≡ false → board.regs.loss ≡ p.board.regs.loss → queues ≡ no_writes
-    → state_in setup (record (called p keys board ledger engine tags digests steps) { queues = queues })
-    ≡ record (cut_state (state_in setup p) (steps_in taken)) { memory = memory }
-state_cut_with setup p keys board ledger engine tags digests steps queues before taken memory served its dark loss empty =
-    let fuse : board.fuse ≡ None = served.watched.follows.cleared dark in
-    cc (its, dark, fuse, served.watched.follows.snapshot, empty, served.counted, loss)
-
--- where it makes no mark
-pub state_cut : (setup : Setup) (p : WorldParts) (keys : List ℕ) (board : BoardMemory) (ledger : LedgerState) (engine : Option EngineState)
-    (tags digests steps : ℕ) (queues : List (List Posted)) (before : EngineState) (taken : Taken) → IsServed setup p keys board steps before taken
-    → ledger.marks ≡ p.ledger.marks → board.powered ≡ false → board.regs.loss ≡ p.board.regs.loss → queues ≡ no_writes
-    → state_in setup (record (called p keys board ledger engine tags digests steps) { queues = queues })
-    ≡ cut_state (state_in setup p) (steps_in taken)
-state_cut setup p keys board ledger engine tags digests steps queues before taken served marks dark loss empty =
-    state_cut_with setup p keys board ledger engine tags digests steps queues before taken (plain_memory setup p.ledger.marks) served
-    (ap (plain_memory setup) marks) dark loss empty
-
--- a call's steps are in range
-pub few_steps : (old new : BoardMemory) (taken : Taken) → IsWatched old new taken → steps_in taken < 2 ^ 64
-few_steps old new taken watched = omega (arith, watched.follows.few)

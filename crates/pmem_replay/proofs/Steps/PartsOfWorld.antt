@@ -104,12 +104,14 @@ rekeyed formulas_of g p q command reply same step =
     subst (λ (k : List ℕ). HasStepped (setup_in formulas_of g p) (world_of (setup_in formulas_of g p) p) command reply
     (world_of (record { shape = g; formulas = formulas_of k }) q)) (sym same) step
 
--- an engine that was only looked at is as it was
-pub same_engine : (setup : Setup) (p : WorldParts) (engine : EngineState) (command : Command) (reply : Reply) → p.engine ≡ Some engine
-    → HasStepped setup (world_of setup p) command reply (world_of setup p)
-    → HasStepped setup (world_of setup p) command reply (world_of setup (record p { engine = Some engine }))
-same_engine setup p engine command reply there step =
-    subst (λ (e : Option EngineState). HasStepped setup (world_of setup p) command reply (world_of setup (record p { engine = e }))) there step
+-- the keys stay, and the world before is as it was called
+pub moved : (R : Setup → WorldState → WorldState → Type 0) (formulas_of : List ℕ → Formulas) (g : Shape) (p q : WorldParts) (now : WorldState)
+    → world_of (setup_in formulas_of g p) p ≡ now → q.keys ≡ p.keys
+    → R (setup_in formulas_of g p) (world_of (setup_in formulas_of g p) p) (world_of (setup_in formulas_of g p) q)
+    → R (setup_of_world formulas_of now) now (world_of (setup_in formulas_of g q) q)
+moved R formulas_of g p q now is same it =
+    subst (λ (w : WorldState). R (setup_of_world formulas_of w) w (world_of (setup_in formulas_of g q) q)) is
+    (subst (λ (k : List ℕ). R (setup_in formulas_of g p) (world_of (setup_in formulas_of g p) p) (world_of (record { shape = g; formulas = formulas_of k }) q)) (sym same) it)
 
 -- the reply's marks are those made since
 pub since : (setup : Setup) (old new : WorldState) (command : Command) (marks : List Mark) (answer : Answer)

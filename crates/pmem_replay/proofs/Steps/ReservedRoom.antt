@@ -90,14 +90,6 @@ reserved setup p ledger n room going =
     subst (λ l. IsGoingOn setup (world_of setup (record p { ledger = l }))) (sym (room_is p.ledger ledger n room))
     (record { whole = world_spare setup (world_of setup p) ledger.spare going.whole; unshown = going.unshown })
 
--- and what fits it then fits it before
-pub good_before : (setup : Setup) (p : WorldParts) (ledger : LedgerState) (n : ℕ) (command : Command) (reply : Reply) → HasRoom p.ledger ledger n
-    → IsGood setup (world_of setup (record p { ledger = ledger })) command reply → IsGood setup (world_of setup p) command reply
-good_before setup p ledger n command reply room good =
-    let still : IsGood setup (world_of setup (record p { ledger = with_spare p.ledger ledger.spare })) command reply =
-    subst (λ l. IsGood setup (world_of setup (record p { ledger = l })) command reply) (room_is p.ledger ledger n room) good in
-    record { legal = still.legal; fits = still.fits }
-
 -- a world in which room was made
 pub room_made : (setup : Setup) (p : WorldParts) (ledger : LedgerState) (n : ℕ) → HasRoom p.ledger ledger n → IsGoingOn setup (world_of setup p)
     → HasMarkRoom setup (world_of setup p) n (world_of setup (record p { ledger = ledger }))

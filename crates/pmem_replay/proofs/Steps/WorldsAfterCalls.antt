@@ -27,6 +27,7 @@ use Rattle.watched_board.specs.declared.taken.Taken.{Taken}
 use Rattle.watched_board.specs.Watching.{none_taken, steps_in, step_limit, counted, AreInCount, FollowsOn}
 use Rattle.watched_board.proofs.StepLaws.{rose}
 use Rattle.pmem_replay.specs.During.{parts_in}
+use Rattle.pmem_replay.specs.Called.{IsCall}
 use Rattle.pmem_engine.proofs.PostedWrites.WriteParts.{last_seal-unsealed}
 
 -- a world with power on
@@ -46,16 +47,6 @@ pub record IsHealed (setup : Setup) (made : List Mark) (old new : PlainState) : 
   pub spoiled :
       (a : ℕ) → a < layout.data_lines setup.shape → is_flagged new.spoiled a ≡ true
       → (is_flagged old.spoiled a ≡ true) × (is_sealed_by made a ≡ false)
-
--- the flags stay
-pub IsHealed-same : (setup : Setup) (old new : PlainState) → new.named ≡ old.named → new.loose ≡ old.loose → new.hurt ≡ old.hurt → new.spoiled ≡ old.spoiled → IsHealed setup [] old new
-IsHealed-same setup old new named loose hurt spoiled =
-    record {
-      named = named;
-      loose = loose;
-      hurt = λ a within whole. inl (subst (λ flags. is_flagged flags a ≡ false) hurt whole);
-      spoiled = λ a within broken. (subst (λ flags. is_flagged flags a ≡ true) spoiled broken, refl);
-    }
 
 -- what is kept of the counter blocks
 pub record AreCountersKept (setup : Setup) (old new : WorldState) : Type 0 where
@@ -199,16 +190,6 @@ pub uncut_counted : {old new : BoardMemory} {taken : Taken} {cut : Bool} → Fol
 uncut_counted follows power is = follows.uncut (power ∙ ap not is)
 
 -- ---- the whole world
-
--- what surrounds a call of the engine
-pub record IsCall (setup : Setup) (old new : WorldState) (engine after : EngineState) (taken : Taken) : Type 0 where
-  pub world : IsWorld setup old
-  pub was_on : old.engine ≡ Some engine
-  pub shape : new.shape ≡ old.shape
-  pub start : new.start ≡ old.start
-  pub follows : FollowsOn old.board new.board taken
-  pub in_count : AreInCount old.board
-  pub each_line : All IsLine new.board.lines
 
 -- the parts of the state that a call leaves, or counts
 pub record IsCountedOn (old new : PlainState) (taken : ℕ) : Type 0 where

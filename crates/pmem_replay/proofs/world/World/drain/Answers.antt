@@ -9,8 +9,8 @@ use Rattle.pmem_replay.proofs.world.World.drain.Goals as goal
 
 pub returns-clause-stepped : goal.returns-clause-stepped
 returns-clause-stepped g c =
-    drained_as g.S.Suite.formulas_of c.args.self.now c.make_room.new.self c.give-gave.new.self c.args.port c.requires.port c.requires.shown
-    c.holds.ensures c.in_ok-make_room.ensures.ok c.give-gave.result c.drained.result c.give-gave.ensures c.drained.ensures
+    drained_as g.S.Suite.formulas_of c.args.self.now c.make_room.new.self c.give.new.self c.args.port c.requires.port c.requires.shown
+    c.holds.ensures c.in_ok-make_room.ensures.ok c.give.result c.give.ensures
 
 pub returns-in_err-make_room-clause-wanting : goal.returns-in_err-make_room-clause-wanting
 returns-in_err-make_room-clause-wanting g c =

@@ -1,0 +1,6 @@
+-- One call of the engine, and the world after it.
+pub mod Lawful
+pub mod Worlds
+pub mod Made
+pub mod Noted
+pub mod CommandSteps

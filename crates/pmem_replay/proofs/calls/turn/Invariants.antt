@@ -1,6 +1,0 @@
--- The board as the call finds it, and the reference to it.
-use Rattle.board.specs.MemBoard.{memory_of}
-use Rattle.pmem_replay.proofs.calls.turn.Given as goal
-
-abbrev pub ghosts-turn_watched : goal.ghosts-turn_watched
-ghosts-turn_watched g a = record { start = memory_of a.board.now; name = a.board.ghost_name }
