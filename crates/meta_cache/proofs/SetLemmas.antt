@@ -1,6 +1,6 @@
 -- Slots of one set: where a position is, and what a call makes of the set.
 use Rattle.std.proofs.Common.{rules}
-use Rattle.std.proofs.Common.{◌≡◌, ℕ, ◌+◌, ◌-◌, ◌<◌, ◌≤◌, Bool, true, false, cond, List, [], ◌∷◌, ◌++◌, length, get_or, set, take, drop, refl, sym, ap, ap₂, ◌∙◌, inl, inr, arith, Some, None}
+use Rattle.std.proofs.Common.{◌≡◌, ℕ, ◌+◌, ◌-◌, ◌<◌, ◌≤◌, Bool, true, false, cond, List, [], ◌∷◌, ◌++◌, length, get_or, set, take, drop, refl, sym, ap, ap₂, ◌∙◌, inl, inr, subst, arith, Some, None}
 use Rattle.std.specs.Prelude.{◌==◌, ◌||◌, nat_lt, not, is_some, slice_get, remove, All, Any}
 use Rattle.std.specs.List.{list_any, position_or_len, range_with_len}
 use Rattle.std.proofs.lemmas.Bool.{cases_lt, eq-eqb, eqb-true, ne_eqb, cond-true, cond-false, both_ways, lt-ltb, le-ltb, not_from_true, not_from_false}
@@ -95,6 +95,13 @@ pub touched_is : (slots : List Slot) (x i : ℕ) (d : Slot) → IsAlone (λ slot
 unfolding touched
 touched_is slots x i d alone =
     ap₂ (λ a b. a ++ b) (filter_alone (is_of x) slots i d alone) (filter_others (is_of x) slots i d alone)
+
+-- a slot that comes first already stays there
+pub first_stays : (slots : List Slot) (x i : ℕ) → i ≡ 0 → i < length slots → ((d : Slot) → IsAlone (λ slot. slot.position == x) slots i d)
+    → slots ≡ touched slots x
+first_stays [] x i first within alone = absurd (omega (arith, within))
+first_stays (y ∷ ys) x i first within alone =
+    sym (touched_is (y ∷ ys) x 0 y (subst (λ n. IsAlone (λ slot. slot.position == x) (y ∷ ys) n y) first (alone y)))
 
 pub with_line_is : (slots : List Slot) (x i : ℕ) (line : Line) (d : Slot)
     → IsAlone (λ slot. slot.position == x) slots i d

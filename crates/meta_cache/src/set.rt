@@ -81,6 +81,7 @@ impl Set {
     }
 
     /// Position `x` comes first.
+    #[tactic(auto, using(crate::proofs::SetLemmas::first_stays))]
     pub(crate) fn touch(&mut self, x: u32)
         requires room { length self.old ≤ 8 }
         requires holds { IsTrue (holds self.old x) }
@@ -88,6 +89,9 @@ impl Set {
         ensures { self.new ≡ touched self.old x }
     {
         let i = self.own_place(x);
+        if i == 0 {
+            return;
+        }
         let slot = self.slots.remove(i);
         self.slots.insert(0, slot);
     }

@@ -7,7 +7,7 @@ ghost use Rattle.pmem_base.specs.Marks.{last_seal};
 ghost use Rattle.split_counters.specs.Blocks.{IsBlock, block_counter};
 ghost use Rattle.page_reencrypt.specs.Registers.{counter_of};
 ghost use Rattle.seal_ledger.specs.Ledger.{LedgerState};
-ghost use Rattle.meta_path.specs.Blocks.{IsPathCached};
+ghost use Rattle.meta_path.specs.Blocks.{IsPathCached, line_in};
 ghost use Rattle.suite.specs.Setup.{Setup};
 ghost use Rattle.pmem_engine.specs.Invariants.{IsTrusted};
 ghost use Rattle.pmem_engine.specs.Parts.{parts_at, setup_at};
@@ -97,6 +97,20 @@ impl Engine {
         {
             Some(line) => unpack(line),
             None => unpack(&Line::default()),
+        }
+    }
+
+    // The line of the counter block of a page, which is cached.
+    pub(crate) fn counter_line(&self, page: u32) -> Line
+        requires page { page < pages self.now.shape }
+        ensures cached { result ≡ line_in self.now.shape self.now.cache self.now.shape.levels (counter_position self.now.shape page) }
+    {
+        match self
+            .cache
+            .look(self.geo.levels(), self.block_position(page))
+        {
+            Some(line) => *line,
+            None => Line::default(),
         }
     }
 

@@ -23,7 +23,7 @@ use meta_path::{Path, next_path, store_path};
 use page_reencrypt::begin;
 use pmem_base::{Ctr, Cut, Line, Progress, Regs};
 use seal_ledger::Audit;
-use split_counters::pack;
+use split_counters::{pack, raise_at};
 use stop_loss::due;
 use suite::Suite;
 
@@ -69,14 +69,9 @@ impl Engine {
         ensures range { IsCtr result.0 }
         ensures block { result.1 ≡ packed (raised_block self.now.shape self.now at) }
     {
-        let mut block = self.block(at / 64);
-        let i = (at % 64) as usize;
-        block.minors[i] += 1;
-        let ctr = Ctr {
-            major: block.major,
-            minor: block.minors[i],
-        };
-        (ctr, pack(&block))
+        let mut block = self.counter_line(at / 64);
+        let ctr = raise_at(&mut block, (at % 64) as u8);
+        (ctr, block)
     }
 
     // Opens a page for re-encryption: its counter block rolls over, and a register keeps the old one.

@@ -127,22 +127,26 @@ fn read_verb(most: u8, verb: &[u8], text: &[u8]) -> Result<Command, Kind>
     ensures part { IfOk result HasPartAtFront }
 {
     if verb == b"post".as_slice() {
-        read_post(most, text)
-    } else if verb == b"part".as_slice() {
-        read_posted_part(most, text)
-    } else if verb == b"drain".as_slice() {
-        read_drain(most, text)
-    } else if verb == b"fence".as_slice() {
-        read_fence(most, text)
-    } else if verb == b"read".as_slice() {
-        read_read(most, text)
-    } else {
-        read_later_verb(most, verb, text)
+        return read_post(most, text);
     }
+    if verb == b"part".as_slice() {
+        return read_posted_part(most, text);
+    }
+    if verb == b"drain".as_slice() {
+        return read_drain(most, text);
+    }
+    if verb == b"fence".as_slice() {
+        return read_fence(most, text);
+    }
+    if verb == b"read".as_slice() {
+        return read_read(most, text);
+    }
+    read_later_verb(most, verb, text)
 }
 
 /// The command that begins with a first word behind the five that have ports.
 #[tactic(auto, unfolding(plain_model::specs::Grammar::command_among, plain_model::specs::Grammar::command_of))]
+#[inline(never)]
 fn read_later_verb(most: u8, verb: &[u8], text: &[u8]) -> Result<Command, Kind>
     ensures command { result ≡ command_among most later_verbs verb.now (words_of text.now) }
     ensures port { IfOk result (HasPortWithin most) }
