@@ -46,28 +46,6 @@ impl<S: Counted + Drop> World<S> {
     {
         match command {
             Command::Post { port, at, line } => Ok(self.post(*port, *at, line)),
-            Command::Drain { port } => self.drain(*port),
-            Command::Read { port, at } => Ok(self.read(*port, *at)),
-            _ => self.answer_rarer(alloc, command),
-        }
-    }
-
-    /// What a command answers. `answer` takes those that come most often, since a function clears at its entry
-    /// what any of its arms may answer.
-    #[inline(never)]
-    #[tactic(auto, using(crate::proofs::Steps::PartsOfWorld::unmarked))]
-    fn answer_rarer(&mut self, alloc: Global, command: &Command) -> Result<Answer, MemFault>
-        requires running { self.old.shown ≡ false }
-        requires command { IsCommand command.now }
-        ensures stepped { IfOk result (λ answer. HasStepped (setup_of_world S.formulas_of self.old) self.old command.now (with_marks_since self.old self.new answer) self.new) }
-        ensures err { OnErr result (self.new ≡ self.old) }
-        ensures wanting { OnErr result (CanWantMemory self.old.state command.now) }
-        ensures memory { OnErr result (IsTrue (takes_memory command.now)) }
-    {
-        match command {
-            Command::Post { port, at, line } => Ok(self.post(*port, *at, line)),
-            Command::Drain { port } => self.drain(*port),
-            Command::Read { port, at } => Ok(self.read(*port, *at)),
             Command::Part {
                 port,
                 at,
@@ -75,7 +53,9 @@ impl<S: Counted + Drop> World<S> {
                 count,
                 line,
             } => Ok(self.part(*port, *at, *from, *count, line)),
+            Command::Drain { port } => self.drain(*port),
             Command::Fence { port } => self.fence(*port),
+            Command::Read { port, at } => Ok(self.read(*port, *at)),
             Command::Turn => self.turn(),
             Command::Flush => Ok(self.flush()),
             Command::Cut { n } => Ok(self.cut(*n)),
