@@ -81,7 +81,6 @@ impl Set {
     }
 
     /// Position `x` comes first.
-    #[tactic(auto, using(crate::proofs::SetLemmas::first_stays))]
     pub(crate) fn touch(&mut self, x: u32)
         requires room { length self.old ≤ 8 }
         requires holds { IsTrue (holds self.old x) }
