@@ -26,6 +26,11 @@ pub(crate) fn small_world(alloc: Global, major: u64, blur: bool) -> Result<Asked
     Ok(Asked { world })
 }
 
+/// A small world whose pages have all but used up their counters: they begin at the last major.
+pub(crate) fn world_at_the_last_major(alloc: Global) -> Result<Asked, Fail> {
+    small_world(alloc, u64::MAX, false)
+}
+
 /// A line of zeros with a first byte.
 pub(crate) fn first_byte(byte: u8) -> Line
     ensures { IsPartLine 1 result }
