@@ -237,7 +237,9 @@ pub(crate) fn make<C: Call, S: Suite>(
     let mut outcome = None;
     let left = make_watched::<Brand, C, S>(call, engine, board, suite, ledger, &mut outcome);
     let Left {
-        board: _, taken, ..
+        board: _,
+        taken,
+        ..
     } = left;
     match outcome {
         Some(answer) => Done { taken, answer },

@@ -142,14 +142,18 @@ fn ended(one: Answer, done: u8, steps: u64) -> Answer
 {
     match one {
         Answer::Refused {
-            place, steps: more, ..
+            place,
+            steps: more,
+            ..
         } => Answer::Refused {
             drained: Some(done),
             place,
             steps: steps + more,
         },
         Answer::Spent {
-            page, steps: more, ..
+            page,
+            steps: more,
+            ..
         } => Answer::Spent {
             drained: Some(done),
             page,

@@ -38,7 +38,7 @@ use Rattle.pmem_replay.proofs.Steps.WorldsAfterCalls.{on_in, cut_at_fuse, within
 use Rattle.pmem_replay.proofs.Steps.FaultCauses.{stored_unspoiled, hurt_before, tag_unstored, forged_unstored, forged_other, zero_within, shown_uncut}
 use Rattle.pmem_replay.proofs.Steps.MarklessCalls.{exactly, counted_state, cut_state}
 use Rattle.pmem_replay.proofs.Commands.FlushLaws.{left_alone-steps}
-use Rattle.pmem_replay.proofs.Marks.OpenPages.{IsWholePage, whole_pages, lowest_within, turn_mark, reseal_quiet, reseal_untouching}
+use Rattle.pmem_replay.proofs.Marks.OpenPages.{IsWholePage, whole_pages, lowest_within}
 use Rattle.pmem_replay.specs.Replies.{without_marks}
 use Rattle.pmem_replay.proofs.Steps.GoodReplies.{IsGood}
 

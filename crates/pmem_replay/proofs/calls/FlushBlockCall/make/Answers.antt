@@ -8,4 +8,4 @@ pub returns-clause-made : goal.returns-clause-made
 returns-clause-made g c =
     let related = c.flush.ensures.flushed (record { shape = c.args.engine.now.shape; formulas = g.S.Suite.formulas_of (g.S.Suite.keys c.args.suite.now) })
     (ledger_of c.args.ledger.now) (g.S.Suite.tags c.args.suite.now) (g.S.Suite.digests c.args.suite.now) refl in
-    record { related = related; lawful = λ memory begun. flush_lawful _  memory _ _ _ related begun }
+    record { related = related; lawful = λ memory begun. flush_lawful _ memory _ _ _ related begun }
