@@ -24,7 +24,7 @@ use Rattle.pmem_engine.specs.declared.fault.Fault.{Fault}
 use Rattle.pmem_engine.specs.declared.fault.Fault.TheVariants as Fail
 use Rattle.pmem_engine.specs.Engine.{EngineState}
 use Rattle.pmem_engine.specs.Parts.{Parts, AreTrusted, HoldsSeal, HoldsCounters, HoldsMeta}
-use Rattle.pmem_engine.specs.Outcomes.{Outcome, going, cut_short, shown, outcome_of, is_sealed_by, CallEffect}
+use Rattle.pmem_engine.specs.Outcomes.{Outcome, cut_short, shown, outcome_of, is_sealed_by, CallEffect}
 use Rattle.pmem_engine.specs.Calls.{IsDownAnswer, IsMemory, memory_after}
 use Rattle.watched_board.specs.declared.taken.Taken.{Taken}
 use Rattle.watched_board.specs.Watching.{AreInCount, FollowsOn, none_taken, steps_in}

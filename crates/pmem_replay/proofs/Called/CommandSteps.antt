@@ -1,8 +1,6 @@
 -- A command that made a call of the engine: its step, by what it answers.
-use Rattle.std.proofs.Common.{rules}
-use Rattle.std.proofs.Common.{ℕ, ◌≡◌, ◌<◌, ◌^◌, ◌++◌, Bool, true, false, List, [], Option, Some, None, refl, sym, ap, subst, ◌∙◌, arith}
-use Rattle.std.specs.Prelude.{Result, Ok, Err, not, length, drop, if◌then◌else◌}
-use Rattle.std.proofs.lemmas.Bool.{true≢false}
+use Rattle.std.proofs.Common.{ℕ, ◌≡◌, ◌<◌, ◌^◌, ◌++◌, Bool, true, false, List, Option, None, refl, sym, ap, subst, ◌∙◌, arith}
+use Rattle.std.specs.Prelude.{Result, Err, not, length, drop}
 use Rattle.std.proofs.Math.Seq.{drop-append_seam}
 use Rattle.pmem_base.specs.declared.answers.Mark.{Mark}
 use Rattle.pmem_base.specs.declared.answers.Answer.{Answer}
@@ -23,7 +21,7 @@ use Rattle.pmem_engine.specs.Outcomes.{Outcome, going, cut_short, shown, outcome
 use Rattle.watched_board.specs.declared.taken.Taken.{Taken}
 use Rattle.watched_board.specs.Watching.{none_taken, steps_in, device_during}
 use Rattle.pmem_replay.specs.During.{parts_in}
-use Rattle.pmem_replay.specs.Called.{engine_left, is_outcome_shown, is_outcome_cut, called_state, WasCalled, CanStop}
+use Rattle.pmem_replay.specs.Called.{is_outcome_shown, is_outcome_cut, called_state, WasCalled, CanStop}
 use Rattle.pmem_replay.specs.Given.{HasMarkRoom}
 use Rattle.pmem_replay.specs.Stepped.{HasStepped, HasCalled, IsCommandDone, IsSeenOnDevice}
 use Rattle.pmem_replay.specs.World.{WorldState, IsOn, IsWorld, setup_of_world}

@@ -1,6 +1,6 @@
 -- A call of the engine over a world's own parts: the state and the world that it leaves.
-use Rattle.std.proofs.Common.{ℕ, ◌≡◌, ◌<◌, ◌≤◌, ◌-◌, Bool, true, false, List, [], Option, Some, None, refl, sym, ap, subst, ◌∙◌, arith}
-use Rattle.std.specs.Prelude.{Result, All, IfSome, length, drop, option_map, if◌then◌else◌}
+use Rattle.std.proofs.Common.{ℕ, ◌≡◌, ◌<◌, ◌≤◌, Bool, true, false, List, Option, Some, None, refl, sym, ap, subst, ◌∙◌, arith}
+use Rattle.std.specs.Prelude.{Result, All, IfSome, length, drop, if◌then◌else◌}
 use Rattle.std.proofs.lemmas.Bool.{true≢false}
 use Rattle.std.proofs.lemmas.List.{length-append}
 use Rattle.std.proofs.Math.Seq.{drop-append_seam}
@@ -14,18 +14,17 @@ use Rattle.seal_ledger.specs.Ledger.{LedgerState, IsMark}
 use Rattle.suite.specs.Setup.{Setup}
 use Rattle.plain_model.specs.State.{PlainState}
 use Rattle.plain_model.specs.After.{after_marks, steps_with}
-use Rattle.plain_model.specs.View.{plain_memory}
 use Rattle.plain_model.proofs.PlainMemory.{memory_is}
 use Rattle.pmem_engine.specs.declared.fault.Fault.{Fault}
 use Rattle.pmem_engine.specs.Engine.{EngineState}
 use Rattle.pmem_engine.specs.Parts.{Parts, parts_of}
-use Rattle.pmem_engine.specs.Outcomes.{Outcome, going, cut_short, shown, outcome_of, CallEffect, LeavesTrusted, HasPower}
+use Rattle.pmem_engine.specs.Outcomes.{Outcome, going, cut_short, shown, outcome_of, LeavesTrusted, HasPower}
 use Rattle.watched_board.specs.declared.taken.Taken.{Taken}
-use Rattle.watched_board.specs.Watching.{none_taken, steps_in, device_during, FollowsOn}
+use Rattle.watched_board.specs.Watching.{none_taken, steps_in, device_during}
 use Rattle.pmem_replay.specs.During.{parts_in}
 use Rattle.pmem_replay.specs.Flagged.{Tampering, Dirtying, with_dirtying, healed, healed_flags}
-use Rattle.pmem_replay.specs.Called.{memory_put, line_of, engine_left, queues_left, power_left, fuse_left, is_outcome_shown, is_outcome_cut, called_state, IsBegun, IsLawful, IsMade, IsCall, WasCalled}
-use Rattle.pmem_replay.specs.World.{WorldState, WorldParts, IsOn, IsWorld, state_in, world_of}
+use Rattle.pmem_replay.specs.Called.{memory_put, line_of, engine_left, queues_left, power_left, fuse_left, is_outcome_shown, is_outcome_cut, called_state, IsLawful, IsMade, IsCall, WasCalled}
+use Rattle.pmem_replay.specs.World.{WorldState, WorldParts, IsOn, state_in, world_of}
 use Rattle.pmem_replay.proofs.Steps.WorldsAfterCalls.{on_in}
 use Rattle.pmem_replay.proofs.Steps.CallSurroundings.{called, IsServed, call_of}
 use Rattle.pmem_replay.proofs.Called.Worlds.{length-memory_put, world_called}

@@ -10,7 +10,7 @@ use Rattle.pmem_base.specs.WaitingWrites.{queue_of}
 use Rattle.bonsai_tree.specs.Positions.{is_on_path}
 use Rattle.meta_cache.specs.Banks.{is_cached_dirty}
 use Rattle.suite.specs.Setup.{Setup}
-use Rattle.plain_model.specs.State.{PlainState, is_flagged, with_flag, no_flags}
+use Rattle.plain_model.specs.State.{is_flagged, with_flag, no_flags}
 use Rattle.plain_model.specs.After.{after_clean}
 use Rattle.plain_model.specs.Bounds.{can_be_dirty}
 use Rattle.pmem_engine.specs.Engine.{EngineState}

@@ -18,7 +18,7 @@ use Rattle.plain_model.specs.State.{PlainState, Memory, is_flagged, without_flag
 use Rattle.plain_model.specs.Bounds.{can_be_dirty}
 use Rattle.plain_model.specs.View.{IsMemoryOf}
 use Rattle.pmem_engine.specs.Engine.{EngineState}
-use Rattle.pmem_engine.specs.Parts.{Parts, HoldsSeal, HoldsCounters, HoldsMeta}
+use Rattle.pmem_engine.specs.Parts.{HoldsSeal, HoldsCounters, HoldsMeta}
 use Rattle.pmem_engine.specs.Outcomes.{Outcome, going, cut_short, shown, is_sealed_by, CallEffect}
 use Rattle.pmem_engine.specs.Calls.{IsMemory}
 use Rattle.pmem_replay.specs.Flagged.{healed_flags}
@@ -30,7 +30,7 @@ use Rattle.pmem_replay.specs.Called.{memory_put, line_of, engine_left, is_outcom
 use Rattle.pmem_replay.proofs.Steps.WorldsAfterCalls.{on_in, IsHealed, AreCountersKept, world-going, world-cut}
 use Rattle.pmem_replay.proofs.Steps.FaultCauses.{stored_unspoiled, counter_position-within}
 use Rattle.pmem_replay.proofs.Steps.MarklessCalls.{HasQueues-none}
-use Rattle.pmem_replay.proofs.Marks.AfterMarks.{with_flags, after_marks-is, touched_after, flushed_after, length-touched_after, length-flushed_after, may_be, may_be-kept, may_be-touched}
+use Rattle.pmem_replay.proofs.Marks.AfterMarks.{after_marks-is, touched_after, flushed_after, length-touched_after, length-flushed_after, may_be, may_be-kept, may_be-touched}
 
 -- ---- the write's line
 

@@ -1,26 +1,19 @@
 -- Flushes: the engine's answer is legal and fits, and the world goes on.
 use Rattle.std.proofs.Common.{rules}
-use Rattle.std.proofs.Common.{ℕ, ◌≡◌, ◌≢◌, inl, inr, Bool, true, false, IsTrue, Some, None, Ok, Err, refl, sym, ap, subst, ◌∙◌, arith}
-use Rattle.std.specs.Prelude.{not, ◌&&◌}
-use Rattle.std.specs.List.{list_any, range_with_len}
-use Rattle.std.proofs.lemmas.Bool.{true≢false, and_parts, and_from}
-use Rattle.std.proofs.lemmas.List.{length-replicate, length-set, get_or-set_other}
-use Rattle.pmem_base.specs.Layout as layout
+use Rattle.std.proofs.Common.{ℕ, ◌≡◌, ◌≢◌, true, false, Some, None, Ok, Err, refl, sym, ap, subst, ◌∙◌, arith}
+use Rattle.std.proofs.lemmas.Bool.{true≢false}
 use Rattle.pmem_base.specs.declared.commands.Command.TheVariants as Do
 use Rattle.pmem_base.specs.declared.answers.Answer.TheVariants as Say
-use Rattle.bonsai_tree.specs.Positions.{level_of, is_on_path}
+use Rattle.bonsai_tree.specs.Positions.{level_of}
 use Rattle.board.specs.Device.{Device}
-use Rattle.meta_cache.specs.Banks.{set_of, set_index, is_cached_dirty, IsBanksOf}
+use Rattle.meta_cache.specs.Banks.{set_of, set_index, is_cached_dirty}
 use Rattle.meta_cache.proofs.SlotLemmas.{dirty_slot, All-stands}
 use Rattle.suite.specs.Setup.{Setup}
-use Rattle.plain_model.specs.State.{is_flagged, with_flag, no_flags}
-use Rattle.plain_model.specs.After.{state_after}
-use Rattle.plain_model.specs.Bounds.{can_be_dirty}
 use Rattle.pmem_engine.specs.declared.fault.Fault.TheVariants as Fail
 use Rattle.pmem_engine.specs.Engine.{EngineState}
 use Rattle.pmem_engine.specs.Invariants.{IsTrusted, IsTrueSlot}
 use Rattle.pmem_engine.specs.Calls.{HasFlushed, IsLeftAlone}
-use Rattle.pmem_replay.specs.World.{WorldState, IsOn, IsWorld}
+use Rattle.pmem_replay.specs.World.{WorldState, IsOn}
 use Rattle.watched_board.specs.declared.taken.Taken.{Taken}
 use Rattle.watched_board.specs.Watching.{none_taken, steps_in}
 use Rattle.pmem_replay.specs.During.{parts_in}

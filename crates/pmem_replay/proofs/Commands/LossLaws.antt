@@ -1,25 +1,19 @@
 -- The stop-loss number: the engine's answer is legal and fits, and the world goes on.
-use Rattle.std.proofs.Common.{ℕ, mul-le-mul_left, mul-le-mul_right, ◌≡◌, ◌≢◌, ◌<◌, ◌≤◌, ◌+◌, ◌-◌, inl, inr, Bool, true, false, [], ◌∷◌, IsTrue, Some, None, Ok, Err, refl, sym, ap, subst, ◌∙◌, arith, cond}
-use Rattle.std.specs.Prelude.{MatchBool, option_map, nat_lt, ◌==◌}
-use Rattle.std.proofs.lemmas.Bool.{true≢false, ne_eqb, lt-ltb, le-leb}
-use Rattle.std.proofs.lemmas.List.{append-nil}
+use Rattle.std.proofs.Common.{ℕ, mul-le-mul_left, mul-le-mul_right, ◌≡◌, ◌≢◌, ◌<◌, ◌≤◌, ◌+◌, Bool, true, false, [], ◌∷◌, Ok, Err, refl, sym, subst, ◌∙◌, arith, cond}
+use Rattle.std.specs.Prelude.{MatchBool, nat_lt, ◌==◌}
+use Rattle.std.proofs.lemmas.Bool.{ne_eqb, lt-ltb, le-leb}
 use Rattle.pmem_base.specs.Layout as layout
 use Rattle.pmem_base.specs.Shape.{Shape, IsShape}
 use Rattle.pmem_base.specs.declared.commands.Command.TheVariants as Do
 use Rattle.pmem_base.specs.declared.answers.Answer.TheVariants as Say
-use Rattle.bonsai_tree.specs.Positions.{counter_position}
-use Rattle.meta_cache.specs.Banks.{IsBanksOf}
 use Rattle.meta_path.specs.Blocks.{bank_dirty_count}
 use Rattle.suite.specs.Setup.{Setup}
-use Rattle.plain_model.specs.State.{PlainState}
-use Rattle.plain_model.specs.After.{steps_with}
-use Rattle.plain_model.specs.Bounds.{can_be_dirty, dirty_bound, AreAllWithin}
-use Rattle.plain_model.specs.View.{IsMemoryOf}
+use Rattle.plain_model.specs.Bounds.{dirty_bound, AreAllWithin}
 use Rattle.pmem_engine.specs.declared.fault.Fault.TheVariants as Fail
 use Rattle.pmem_engine.specs.Engine.{EngineState}
 use Rattle.pmem_engine.specs.Outcomes.{TakesFewer}
 use Rattle.pmem_engine.specs.Calls.{HasSetLoss}
-use Rattle.pmem_replay.specs.World.{WorldState, HasFlags, HasQueues, IsOn, IsWorld}
+use Rattle.pmem_replay.specs.World.{WorldState, IsOn}
 use Rattle.watched_board.specs.declared.taken.Taken.{Taken}
 use Rattle.watched_board.specs.Watching.{none_taken, device_during, steps_in}
 use Rattle.watched_board.proofs.StepLaws.{fewer}
@@ -27,8 +21,7 @@ use Rattle.pmem_replay.specs.During.{parts_in}
 use Rattle.pmem_replay.specs.Called.{IsCall}
 use Rattle.pmem_replay.proofs.Steps.WorldsAfterCalls.{on_in, cut_at_fuse, within_fuse}
 use Rattle.pmem_replay.proofs.Marks.DirtyBlocks.{dirty_blocks-le, dirty_slots-le}
-use Rattle.pmem_replay.proofs.Steps.MarklessCalls.{exactly, cut_state, accounted_in}
-use Rattle.pmem_replay.proofs.Steps.FaultCauses.{counter_position-within}
+use Rattle.pmem_replay.proofs.Steps.MarklessCalls.{exactly, accounted_in}
 use Rattle.pmem_replay.specs.Replies.{without_marks}
 use Rattle.pmem_replay.proofs.Steps.GoodReplies.{IsGood}
 

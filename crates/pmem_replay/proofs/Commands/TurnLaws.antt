@@ -1,43 +1,33 @@
 -- Turns: the engine's answer is legal and fits, and the world goes on.
 use Rattle.std.proofs.Common.{rules}
-use Rattle.std.proofs.Common.{ℕ, ◌≡◌, ◌≢◌, ◌<◌, ◌⊎◌, inl, inr, true, false, List, [], IsTrue, Option, Some, None, Ok, Err, refl, sym, ap, subst, ◌∙◌, arith}
-use Rattle.std.specs.Prelude.{Result, IfSome, IsSome, option_map, All}
+use Rattle.std.proofs.Common.{ℕ, ◌≡◌, ◌≢◌, ◌⊎◌, [], Some, None, Ok, Err, refl, sym, ap, subst, ◌∙◌, arith}
+use Rattle.std.specs.Prelude.{IfSome, IsSome, option_map, All}
 use Rattle.std.proofs.lemmas.Option.{same_Some}
-use Rattle.std.proofs.lemmas.Bool.{true≢false, cases_Bool}
 use Rattle.std.proofs.lemmas.List.{append-nil}
-use Rattle.pmem_base.specs.declared.answers.Mark.{Mark}
 use Rattle.pmem_base.specs.declared.answers.Exhibit.{Exhibit}
 use Rattle.pmem_base.specs.declared.answers.Exhibit.TheVariants.{Forged}
 use Rattle.pmem_base.specs.declared.answers.Place.{Place}
-use Rattle.pmem_base.specs.Layout as layout
 use Rattle.pmem_base.specs.Marks.{last_seal}
 use Rattle.pmem_base.specs.declared.commands.Command.TheVariants as Do
 use Rattle.pmem_base.specs.declared.answers.Answer.TheVariants as Say
-use Rattle.meta_cache.specs.Banks.{IsBanksOf}
 use Rattle.suite.specs.Setup.{Setup}
-use Rattle.plain_model.specs.State.{PlainState, is_flagged}
 use Rattle.plain_model.proofs.Views.{counter_at-last}
-use Rattle.plain_model.specs.After.{state_after, after_marks}
 use Rattle.plain_model.specs.Asked.{Moment, moment_of}
 use Rattle.plain_model.specs.Shown.{IsShown}
 use Rattle.plain_model.specs.Fits.{IsTurnMark, oldest_page}
-use Rattle.plain_model.specs.Bounds.{can_be_dirty}
-use Rattle.plain_model.specs.View.{IsMemoryOf}
-use Rattle.pmem_engine.specs.declared.fault.Fault.{Fault}
 use Rattle.pmem_engine.specs.declared.fault.Fault.TheVariants as Fail
 use Rattle.pmem_engine.specs.Engine.{EngineState}
-use Rattle.pmem_engine.specs.Outcomes.{going, shown, is_sealed_by, OneLossEffect, KeepsPlaces}
+use Rattle.pmem_engine.specs.Outcomes.{going, shown, OneLossEffect, KeepsPlaces}
 use Rattle.pmem_engine.specs.Calls.{HasTurned}
-use Rattle.pmem_replay.specs.World.{WorldState, HasFlags, HasQueues, IsOn, IsWorld, view_in, lines_in}
+use Rattle.pmem_replay.specs.World.{WorldState, IsOn, view_in}
 use Rattle.watched_board.specs.declared.taken.Taken.{Taken}
 use Rattle.watched_board.specs.Watching.{none_taken, steps_in}
 use Rattle.watched_board.proofs.StepLaws.{fewer}
 use Rattle.pmem_replay.specs.During.{parts_in}
 use Rattle.pmem_replay.specs.Called.{IsCall}
 use Rattle.pmem_replay.proofs.Steps.WorldsAfterCalls.{on_in, cut_at_fuse, within_fuse}
-use Rattle.pmem_replay.proofs.Steps.FaultCauses.{stored_unspoiled, hurt_before, tag_unstored, forged_unstored, forged_other, zero_within, shown_uncut}
-use Rattle.pmem_replay.proofs.Steps.MarklessCalls.{exactly, counted_state, cut_state}
-use Rattle.pmem_replay.proofs.Commands.FlushLaws.{left_alone-steps}
+use Rattle.pmem_replay.proofs.Steps.FaultCauses.{hurt_before, tag_unstored, forged_unstored, forged_other, zero_within, shown_uncut}
+use Rattle.pmem_replay.proofs.Steps.MarklessCalls.{exactly}
 use Rattle.pmem_replay.proofs.Marks.OpenPages.{IsWholePage, whole_pages, lowest_within}
 use Rattle.pmem_replay.specs.Replies.{without_marks}
 use Rattle.pmem_replay.proofs.Steps.GoodReplies.{IsGood}

@@ -11,9 +11,8 @@ use Rattle.pmem_base.specs.declared.answers.Place.{Place}
 use Rattle.pmem_base.specs.Ranges.{IsAnswer, IsExhibitValue}
 use Rattle.seal_ledger.specs.Ledger.{IsMark}
 use Rattle.suite.specs.Setup.{Setup}
-use Rattle.plain_model.specs.State.{PlainState}
-use Rattle.plain_model.specs.After.{after_marks, state_after, steps_of, is_cut}
-use Rattle.plain_model.specs.Answers.{decided_answer, is_shown}
+use Rattle.plain_model.specs.After.{state_after, steps_of, is_cut}
+use Rattle.plain_model.specs.Answers.{is_shown}
 use Rattle.pmem_engine.specs.declared.fault.Fault.{Fault}
 use Rattle.pmem_engine.specs.declared.fault.Fault.TheVariants as Fail
 use Rattle.pmem_engine.specs.Parts.{Parts}

@@ -15,7 +15,6 @@ use Rattle.pmem_base.specs.declared.answers.Exhibit.{Exhibit}
 use Rattle.pmem_base.specs.Marks.{last_seal}
 use Rattle.pmem_base.specs.Ranges.{IsAnswer, IsExhibitValue}
 use Rattle.pmem_base.specs.WaitingWrites.{queue_of}
-use Rattle.meta_cache.specs.Banks.{IsBanksOf}
 use Rattle.suite.specs.Setup.{Setup}
 use Rattle.plain_model.specs.State.{PlainState}
 use Rattle.plain_model.specs.Asked.{moment_of, marks_of_write}

@@ -1,37 +1,18 @@
 -- A waiting write once it was given to the engine: the states that are left, and the queues.
-use Rattle.std.proofs.Common.{ℕ, ◌≡◌, ◌≢◌, ◌<◌, ◌-◌, inl, inr, Bool, true, false, cond, List, [], ◌∷◌, length, IsTrue, Some, None, sym, ap, subst, ◌∙◌, arith}
-use Rattle.std.specs.Prelude.{Result, option_map, All, slice_set, slice_index_or}
-use Rattle.std.proofs.lemmas.Bool.{true≢false, cases_Bool, cases_eq, cases_lt}
-use Rattle.std.proofs.lemmas.List.{length-set, get_or-set_same, get_or-set_other, get_or_past}
+use Rattle.std.proofs.Common.{ℕ, ◌≡◌, ◌<◌, ◌-◌, inl, inr, Bool, false, List, [], ◌∷◌, length, None, sym, ap, subst, ◌∙◌, arith}
+use Rattle.std.specs.Prelude.{option_map, All, slice_set, slice_index_or}
+use Rattle.std.proofs.lemmas.Bool.{cases_eq}
+use Rattle.std.proofs.lemmas.List.{length-set, get_or-set_same, get_or-set_other}
 use Rattle.std.proofs.lemmas.List.Elements.{All-head, All-tail}
-use Rattle.pmem_base.specs.declared.lines.Ctr.{Ctr}
 use Rattle.pmem_base.specs.declared.commands.Posted.{Posted}
 use Rattle.pmem_base.specs.Layout as layout
-use Rattle.pmem_base.specs.Lines.{line_at}
 use Rattle.pmem_base.specs.Ranges.{IsPosted}
-use Rattle.pmem_base.specs.WaitingWrites.{put_write, queue_of, no_writes}
-use Rattle.pmem_base.proofs.ListLaws.{All-append_right}
-use Rattle.meta_cache.specs.Banks.{is_cached_dirty, IsBanksOf}
-use Rattle.seal_ledger.specs.Ledger.{IsMark}
+use Rattle.pmem_base.specs.WaitingWrites.{queue_of, no_writes}
 use Rattle.write_ports.specs.Queues.{IsQueue}
 use Rattle.suite.specs.Setup.{Setup}
-use Rattle.plain_model.specs.State.{PlainState, is_flagged, without_flag, memory_with}
+use Rattle.plain_model.specs.State.{PlainState, without_flag, memory_with}
 use Rattle.plain_model.specs.After.{steps_with}
-use Rattle.plain_model.specs.Bounds.{can_be_dirty}
-use Rattle.plain_model.specs.View.{IsMemoryOf}
-use Rattle.pmem_engine.specs.declared.fault.Fault.{Fault}
-use Rattle.pmem_engine.specs.Engine.{EngineState}
-use Rattle.pmem_engine.specs.Outcomes.{going, cut_short, outcome_of, is_sealed_by, OneLossEffect}
-use Rattle.pmem_engine.specs.Calls.{HasWrittenLine, IsMemory}
-use Rattle.pmem_replay.specs.World.{WorldState, HasFlags, HasQueues, IsOn, IsWorld, lines_in}
-use Rattle.watched_board.specs.declared.taken.Taken.{Taken}
-use Rattle.watched_board.specs.Watching.{none_taken, steps_in}
-use Rattle.pmem_replay.specs.During.{parts_in}
-use Rattle.pmem_replay.specs.Called.{IsCall}
-use Rattle.pmem_replay.proofs.Steps.WorldsAfterCalls.{on_in, IsHealed, world-going, world-cut}
-use Rattle.pmem_replay.proofs.Steps.FaultCauses.{stored_unspoiled}
-use Rattle.pmem_replay.proofs.Steps.MarklessCalls.{HasQueues-none}
-use Rattle.pmem_replay.proofs.Marks.AfterMarks.{touched_after, flushed_after, length-touched_after, length-flushed_after, may_be, may_be-kept, may_be-touched}
+use Rattle.pmem_replay.specs.World.{HasQueues}
 
 -- ---- states
 

@@ -1,10 +1,7 @@
 -- The open pages of the view of a chip that is anchored, and the mark of a turn.
-use Rattle.std.proofs.Common.{ℕ, ◌≡◌, ◌<◌, ◌≤◌, ◌+◌, ◌*◌, List, [], ◌∷◌, length, map, Option, Some, None, false, refl, sym, ap, subst, ◌∙◌, arith}
-use Rattle.std.specs.Prelude.{All, MatchOption, option_map, option_and_then, slice_get, ◌==◌}
-use Rattle.std.specs.List.{list_any}
-use Rattle.std.proofs.lemmas.Bool.{true≢false, and_right, or_from}
+use Rattle.std.proofs.Common.{ℕ, ◌≡◌, ◌<◌, ◌≤◌, ◌+◌, ◌*◌, List, [], ◌∷◌, length, map, sym, subst, arith}
+use Rattle.std.specs.Prelude.{All, MatchOption, slice_get}
 use Rattle.std.proofs.lemmas.List.Elements.{All-head, All-tail, All-cons, All-nil}
-use Rattle.pmem_base.specs.declared.answers.Mark.{Mark}
 use Rattle.pmem_base.specs.declared.answers.Place.{Place}
 use Rattle.pmem_base.specs.declared.registers.Progress.{Progress}
 use Rattle.pmem_base.specs.declared.registers.Regs.{Regs}
@@ -14,14 +11,10 @@ use Rattle.pmem_base.specs.Registers.{IsProgress}
 use Rattle.pmem_engine.proofs.PostedWrites.WritePremises.{few_left}
 use Rattle.page_reencrypt.proofs.DoneBits.{not_done-small}
 use Rattle.seal_ledger.specs.Ledger.{LedgerState}
-use Rattle.suite.specs.Formulas.{Formulas}
 use Rattle.suite.specs.Setup.{Setup}
-use Rattle.plain_model.specs.State.{PlainState}
-use Rattle.plain_model.specs.After.{after_marks}
 use Rattle.plain_model.specs.View.{OpenPage, view_of}
-use Rattle.plain_model.specs.Asked.{Moment, reseal_mark, mark_of_page_turn, first_of}
-use Rattle.plain_model.specs.Fits.{IsTurnMark, IsLowestLeft}
-use Rattle.pmem_engine.specs.Outcomes.{is_touching, IsTouchedBy}
+use Rattle.plain_model.specs.Asked.{first_of}
+use Rattle.plain_model.specs.Fits.{IsLowestLeft}
 use Rattle.pmem_engine.specs.Invariants.{IsAnchored, register_page}
 
 -- an open page is one of the memory, and its lines not done are lines of a page

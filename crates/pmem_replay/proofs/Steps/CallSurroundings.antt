@@ -1,23 +1,17 @@
 -- What surrounds a call of the engine in the world's own parts.
-use Rattle.std.proofs.Common.{ℕ, ◌≡◌, ◌<◌, ◌-◌, ◌^◌, true, false, List, Option, Some, None, sym, ap, subst, ◌∙◌, arith}
-use Rattle.std.specs.Prelude.{All, option_map}
-use Rattle.pmem_base.specs.declared.lines.Line.{Line}
-use Rattle.pmem_base.specs.declared.commands.Posted.{Posted}
-use Rattle.pmem_base.specs.Layout as layout
+use Rattle.std.proofs.Common.{ℕ, ◌≡◌, List, Option, Some, sym, subst}
+use Rattle.std.specs.Prelude.{All}
 use Rattle.pmem_base.specs.Lines.{IsLine}
-use Rattle.pmem_base.specs.WaitingWrites.{no_writes}
 use Rattle.board.specs.Memory.{BoardMemory}
 use Rattle.seal_ledger.specs.Ledger.{LedgerState}
 use Rattle.suite.specs.Setup.{Setup}
-use Rattle.plain_model.specs.View.{plain_memory}
 use Rattle.plain_model.specs.After.{steps_with}
 use Rattle.pmem_engine.specs.Engine.{EngineState}
-use Rattle.pmem_replay.specs.World.{WorldState, WorldParts, state_in, world_of}
+use Rattle.pmem_replay.specs.World.{WorldState, WorldParts, world_of}
 use Rattle.watched_board.specs.declared.taken.Taken.{Taken}
 use Rattle.watched_board.specs.Watching.{steps_in, FollowsOn, IsWatched}
 use Rattle.pmem_replay.specs.Called.{IsCall}
-use Rattle.pmem_replay.proofs.Steps.MarklessCalls.{counted_state, cut_state}
-use Rattle.pmem_replay.proofs.Table.UnchangedSteps.{IsGoingOn, lit_in}
+use Rattle.pmem_replay.proofs.Table.UnchangedSteps.{IsGoingOn}
 
 -- ---- after a call
 

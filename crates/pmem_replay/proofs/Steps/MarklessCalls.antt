@@ -1,34 +1,27 @@
 -- Calls that make no mark: the state stays but for its counts, or power is cut.
-use Rattle.std.proofs.Common.{rules}
-use Rattle.std.proofs.Common.{ℕ, ◌≡◌, ◌<◌, ◌≤◌, ◌+◌, ◌-◌, refl, inl, inr, Bool, true, false, List, [], length, IsTrue, Some, None, sym, ap, subst, ◌∙◌, arith}
+use Rattle.std.proofs.Common.{ℕ, ◌≡◌, ◌<◌, ◌≤◌, ◌+◌, ◌-◌, false, List, [], length, None, sym, ap, subst, ◌∙◌, arith}
 use Rattle.std.specs.Prelude.{MatchOption, option_map, All}
-use Rattle.std.proofs.lemmas.Bool.{true≢false}
-use Rattle.std.proofs.lemmas.List.{append-nil, length-replicate, get_or-replicate}
+use Rattle.std.proofs.lemmas.List.{length-replicate, get_or-replicate}
 use Rattle.pmem_base.specs.declared.commands.Posted.{Posted}
 use Rattle.pmem_base.specs.declared.commands.Command.{Command}
 use Rattle.pmem_base.specs.Shape.{Shape}
 use Rattle.pmem_base.specs.Layout as layout
 use Rattle.pmem_base.specs.WaitingWrites.{no_writes}
 use Rattle.board.specs.Memory.{BoardMemory}
-use Rattle.meta_cache.specs.Banks.{IsBanksOf, is_cached_dirty}
 use Rattle.write_ports.specs.Queues.{IsQueue}
 use Rattle.suite.specs.Setup.{Setup}
 use Rattle.plain_model.specs.State.{PlainState}
 use Rattle.plain_model.specs.After.{steps_with}
-use Rattle.plain_model.specs.Bounds.{can_be_dirty}
 use Rattle.plain_model.specs.Shown.{IsLegal, IsEngineReply}
 use Rattle.plain_model.specs.Answers.{decided_answer}
 use Rattle.plain_model.specs.State.{Reply}
-use Rattle.plain_model.specs.View.{DeviceView, IsMemoryOf}
+use Rattle.plain_model.specs.View.{DeviceView}
 use Rattle.pmem_engine.specs.Engine.{EngineState}
-use Rattle.pmem_engine.specs.Outcomes.{going, cut_short, OneLossEffect, TakesSteps}
-use Rattle.pmem_replay.specs.World.{WorldState, HasFlags, HasQueues, IsOn, IsWorld}
+use Rattle.pmem_engine.specs.Outcomes.{TakesSteps}
+use Rattle.pmem_replay.specs.World.{WorldState, HasQueues, IsOn, IsWorld}
 use Rattle.watched_board.specs.declared.taken.Taken.{Taken}
 use Rattle.watched_board.specs.Watching.{none_taken, device_during, steps_in, step_limit}
 use Rattle.watched_board.proofs.StepLaws.{few_exact}
-use Rattle.pmem_replay.specs.During.{parts_in}
-use Rattle.pmem_replay.specs.Called.{IsCall}
-use Rattle.pmem_replay.proofs.Steps.WorldsAfterCalls.{on_in}
 use Rattle.pmem_replay.proofs.Marks.DirtyBlocks.{AreAccounted}
 
 -- where the table decides nothing, the engine's reply is legal

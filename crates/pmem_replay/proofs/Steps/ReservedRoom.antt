@@ -5,17 +5,14 @@ use Rattle.pmem_base.specs.declared.lines.Line.{Line}
 use Rattle.pmem_base.specs.declared.registers.Regs.{Regs}
 use Rattle.pmem_base.specs.declared.answers.Mark.{Mark}
 use Rattle.pmem_base.specs.declared.answers.Exhibit.{Exhibit}
-use Rattle.pmem_base.specs.declared.commands.Command.{Command}
 use Rattle.seal_ledger.specs.Ledger.{LedgerState}
 use Rattle.seal_ledger.specs.Notes.{HasRoom}
 use Rattle.suite.specs.Setup.{Setup}
-use Rattle.plain_model.specs.State.{Reply}
 use Rattle.plain_model.specs.View.{plain_memory}
 use Rattle.pmem_engine.specs.Engine.{EngineState}
 use Rattle.pmem_engine.specs.Invariants.{IsAnchored, IsTrusted, IsMendable, IsDurable, IsSound}
 use Rattle.pmem_replay.specs.World.{WorldState, WorldParts, IsWorld, IsPowered, state_in, world_of}
 use Rattle.pmem_replay.specs.Given.{HasMarkRoom}
-use Rattle.pmem_replay.proofs.Steps.GoodReplies.{IsGood}
 use Rattle.pmem_replay.proofs.Table.UnchangedSteps.{IsGoingOn}
 
 abbrev pub with_spare : LedgerState → ℕ → LedgerState

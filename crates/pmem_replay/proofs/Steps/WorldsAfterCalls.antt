@@ -1,7 +1,7 @@
 -- What a world still holds after a call of the engine that goes on, or that is cut.
 use Rattle.std.proofs.Common.{rules}
-use Rattle.std.proofs.Common.{ℕ, ◌≡◌, ◌≢◌, ◌<◌, ◌≤◌, ◌+◌, ◌-◌, ◌++◌, ◌⊎◌, inl, inr, true, false, List, [], length, IsTrue, Some, None, refl, sym, ap, subst, subst₂, ◌∙◌, arith}
-use Rattle.std.specs.Prelude.{Bool, not, IfSome, option_map, All}
+use Rattle.std.proofs.Common.{ℕ, ◌≡◌, ◌≢◌, ◌<◌, ◌≤◌, ◌+◌, ◌-◌, ◌++◌, ◌⊎◌, inl, inr, true, false, List, length, IsTrue, Some, None, sym, ap, subst, subst₂, ◌∙◌, arith}
+use Rattle.std.specs.Prelude.{Bool, not, IfSome, option_map}
 use Rattle.std.proofs.lemmas.Option.{same_Some}
 use Rattle.std.proofs.lemmas.Bool.{true≢false}
 use Rattle.pmem_base.specs.declared.answers.Mark.{Mark}
@@ -9,7 +9,7 @@ use Rattle.pmem_base.specs.Counts.{last_count, HasRisen}
 use Rattle.pmem_base.specs.Layout as layout
 use Rattle.pmem_base.specs.declared.answers.Stat.{Stat}
 use Rattle.board.specs.Memory.{BoardMemory}
-use Rattle.pmem_base.specs.Lines.{line_at, IsLine}
+use Rattle.pmem_base.specs.Lines.{line_at}
 use Rattle.pmem_base.specs.Marks.{last_seal}
 use Rattle.bonsai_tree.specs.Positions.{counter_position}
 use Rattle.meta_cache.specs.Banks.{IsBanksOf, is_cached_dirty}

@@ -1,6 +1,6 @@
 -- A call of the engine was made over the world's parts: it went on, or was cut or shown.
 use Rattle.std.proofs.Common.{ℕ, ◌≡◌, ◌<◌, ◌≤◌, arith, sym, ap, subst, ◌∙◌}
-use Rattle.std.specs.Prelude.{List, Option, Some, true, Result, IfSome, drop, length, false, option_map}
+use Rattle.std.specs.Prelude.{List, Option, Some, true, IfSome, drop, length, false}
 use Rattle.pmem_base.specs.declared.commands.Posted.{Posted}
 use Rattle.pmem_base.specs.Geo.{shape_of}
 use Rattle.pmem_base.specs.Layout as layout

@@ -1,11 +1,11 @@
 -- A waiting write is given to the engine.
-use Rattle.std.proofs.Common.{◌≡◌, refl, sym, ap, subst, ◌∙◌, Some, Ok, Err}
+use Rattle.std.proofs.Common.{refl, ap, subst, ◌∙◌, Some, Ok, Err}
 use Rattle.std.specs.Prelude.{Result, drop, length}
 use Rattle.pmem_base.specs.declared.lines.Ctr.{Ctr}
 use Rattle.pmem_engine.specs.declared.fault.Fault.{Fault}
 use Rattle.pmem_engine.specs.Outcomes.{is_sealed_by}
 use Rattle.pmem_replay.specs.Called.{WasCalled}
-use Rattle.pmem_replay.specs.World.{WorldState, setup_of_world}
+use Rattle.pmem_replay.specs.World.{setup_of_world}
 use Rattle.pmem_replay.proofs.Drains.GivenWrites.{Writes, gives}
 use Rattle.pmem_replay.proofs.world.World.give.Goals as goal
 

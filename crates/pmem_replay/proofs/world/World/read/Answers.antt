@@ -11,7 +11,7 @@ use Rattle.pmem_engine.specs.declared.fault.Fault.{Fault}
 use Rattle.pmem_replay.specs.Called.{WasCalled, IsStopped}
 use Rattle.pmem_replay.specs.Replies.{without_marks}
 use Rattle.pmem_replay.specs.Stepped.{HasStepped}
-use Rattle.pmem_replay.specs.World.{WorldState, setup_of_world}
+use Rattle.pmem_replay.specs.World.{setup_of_world}
 use Rattle.pmem_replay.proofs.Called.CommandSteps.{Serving, serving, can_stop}
 use Rattle.pmem_replay.proofs.Commands.ReadSteps.{Reads, read_got, read_stopped}
 use Rattle.pmem_replay.proofs.Drains.FenceLaws.{some_engine}
