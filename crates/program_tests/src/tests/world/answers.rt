@@ -1,7 +1,7 @@
 //! A world's answers to commands, as another program gives them.
 ghost use Rattle.std.specs.Prelude.{◌<◌};
 
-use super::asked::{Asked, first_byte, small_world, world_at_the_last_major};
+use super::asked::{Asked, first_byte, last_major, small_world};
 use pmem_base::{Answer, Command, Ctr, Exhibit, Line, Place, Stat, Tag};
 use std::process::Abort;
 use std::test::Fail;
@@ -272,7 +272,7 @@ fn pages_are_sealed_anew(rt: HostRuntime) -> Result<(), Fail> {
 
 #[test]
 fn counters_are_used_up(rt: HostRuntime) -> Result<(), Fail> {
-    let mut world = world_at_the_last_major(rt.alloc())?;
+    let mut world = small_world(rt.alloc(), last_major(), false)?;
     world.wear(&rt)?;
     world.ask(&rt, post(0, 8), 0, Answer::Ok)?;
     world.ask(&rt, post(0, 7), 0, Answer::Ok)?;

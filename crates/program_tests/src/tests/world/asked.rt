@@ -26,9 +26,9 @@ pub(crate) fn small_world(alloc: Global, major: u64, blur: bool) -> Result<Asked
     Ok(Asked { world })
 }
 
-/// A small world whose pages have all but used up their counters: they begin at the last major.
-pub(crate) fn world_at_the_last_major(alloc: Global) -> Result<Asked, Fail> {
-    small_world(alloc, u64::MAX, false)
+/// The greatest major, after which a page has used up its counters.
+pub(crate) fn last_major() -> u64 {
+    u64::MAX
 }
 
 /// A line of zeros with a first byte.
