@@ -117,42 +117,58 @@ fn counts(reads: u64, writes: u64, latches: u64, tags: u64, digests: u64) -> Ans
     })
 }
 
-#[test]
-fn commands_are_answered(rt: HostRuntime) -> Result<(), Fail> {
+/// Waiting writes are seen by their own port.
+fn read_waiting_writes<R: Abort + AllocGlobal>(rt: &R, world: &mut Asked) -> Result<(), Fail> {
     let mixed = with_byte(NINES, 2, 0xaa);
     let ended = with_byte(ZEROS, 63, 0xbb);
-    let mut world = small_world(rt.alloc(), 0, false)?;
-    world.ask(&rt, Command::Stat, 0, counts(0, 0, 0, 0, 0))?;
-    world.ask(&rt, post(0, 7), 0, Answer::Ok)?;
-    world.ask(&rt, read(0, 7), 0, got(NINES))?;
-    world.ask(&rt, read(1, 7), 0, got(ZEROS))?;
-    world.ask(&rt, part(0, 7, 2, 0xaa), 0, Answer::Ok)?;
-    world.ask(&rt, read(0, 7), 0, got(mixed))?;
-    world.ask(&rt, part(1, 8, 63, 0xbb), 0, Answer::Ok)?;
-    world.ask(&rt, read(1, 8), 0, got(ended))?;
-    world.ask(&rt, read(0, 8), 0, got(ZEROS))?;
-    world.ask(&rt, drain(0), 1, drained(6))?;
-    world.ask(&rt, read(0, 7), 0, got(mixed))?;
-    world.ask(&rt, drain(0), 1, drained(5))?;
-    world.ask(&rt, drain(0), 0, Answer::Empty)?;
-    world.ask(&rt, read(1, 7), 0, got(mixed))?;
-    world.ask(&rt, Command::Fence { port: 1 }, 1, fenced(1, 4))?;
-    world.ask(&rt, Command::Fence { port: 1 }, 0, fenced(0, 0))?;
-    world.ask(&rt, read(0, 8), 0, got(ended))?;
-    world.ask(&rt, Command::Turn, 0, Answer::Idle)?;
-    world.ask(&rt, Command::Flush, 0, Answer::Flushed { x: 0, steps: 1 })?;
-    world.ask(&rt, Command::Flush, 0, Answer::Flushed { x: 1, steps: 1 })?;
-    world.ask(&rt, Command::Flush, 0, Answer::Clean)?;
-    world.ask(&rt, Command::Flush, 0, Answer::Clean)?;
-    world.ask(&rt, Command::Loss { n: 3 }, 0, Answer::Range)?;
-    world.ask(&rt, Command::Loss { n: 2 }, 0, Answer::LossSet { steps: 0 })?;
-    world.ask(&rt, Command::Loss { n: 8 }, 0, Answer::LossSet { steps: 1 })?;
-    world.ask(&rt, Command::Loss { n: 2 }, 0, Answer::LossSet { steps: 1 })?;
-    world.ask(&rt, post(2, 9), 0, Answer::Ok)?;
-    world.ask(&rt, post(2, 10), 0, Answer::Ok)?;
-    world.ask(&rt, Command::Cut { n: 5 }, 0, Answer::Ok)?;
+    world.ask(rt, Command::Stat, 0, counts(0, 0, 0, 0, 0))?;
+    world.ask(rt, post(0, 7), 0, Answer::Ok)?;
+    world.ask(rt, read(0, 7), 0, got(NINES))?;
+    world.ask(rt, read(1, 7), 0, got(ZEROS))?;
+    world.ask(rt, part(0, 7, 2, 0xaa), 0, Answer::Ok)?;
+    world.ask(rt, read(0, 7), 0, got(mixed))?;
+    world.ask(rt, part(1, 8, 63, 0xbb), 0, Answer::Ok)?;
+    world.ask(rt, read(1, 8), 0, got(ended))?;
+    world.ask(rt, read(0, 8), 0, got(ZEROS))?;
+    Ok(())
+}
+
+/// They are drained, the oldest first, and seen by each port.
+fn drain_writes<R: Abort + AllocGlobal>(rt: &R, world: &mut Asked) -> Result<(), Fail> {
+    let mixed = with_byte(NINES, 2, 0xaa);
+    let ended = with_byte(ZEROS, 63, 0xbb);
+    world.ask(rt, drain(0), 1, drained(6))?;
+    world.ask(rt, read(0, 7), 0, got(mixed))?;
+    world.ask(rt, drain(0), 1, drained(5))?;
+    world.ask(rt, drain(0), 0, Answer::Empty)?;
+    world.ask(rt, read(1, 7), 0, got(mixed))?;
+    world.ask(rt, Command::Fence { port: 1 }, 1, fenced(1, 4))?;
+    world.ask(rt, Command::Fence { port: 1 }, 0, fenced(0, 0))?;
+    world.ask(rt, read(0, 8), 0, got(ended))?;
+    Ok(())
+}
+
+/// Blocks are flushed, and the stop-loss number is set.
+fn flush_and_set_loss<R: Abort + AllocGlobal>(rt: &R, world: &mut Asked) -> Result<(), Fail> {
+    world.ask(rt, Command::Turn, 0, Answer::Idle)?;
+    world.ask(rt, Command::Flush, 0, Answer::Flushed { x: 0, steps: 1 })?;
+    world.ask(rt, Command::Flush, 0, Answer::Flushed { x: 1, steps: 1 })?;
+    world.ask(rt, Command::Flush, 0, Answer::Clean)?;
+    world.ask(rt, Command::Flush, 0, Answer::Clean)?;
+    world.ask(rt, Command::Loss { n: 3 }, 0, Answer::Range)?;
+    world.ask(rt, Command::Loss { n: 2 }, 0, Answer::LossSet { steps: 0 })?;
+    world.ask(rt, Command::Loss { n: 8 }, 0, Answer::LossSet { steps: 1 })?;
+    world.ask(rt, Command::Loss { n: 2 }, 0, Answer::LossSet { steps: 1 })?;
+    Ok(())
+}
+
+/// Power is cut in a fence, and comes on again.
+fn cut_in_a_fence<R: Abort + AllocGlobal>(rt: &R, world: &mut Asked) -> Result<(), Fail> {
+    world.ask(rt, post(2, 9), 0, Answer::Ok)?;
+    world.ask(rt, post(2, 10), 0, Answer::Ok)?;
+    world.ask(rt, Command::Cut { n: 5 }, 0, Answer::Ok)?;
     world.ask(
-        &rt,
+        rt,
         Command::Fence { port: 2 },
         2,
         Answer::CutKept {
@@ -160,41 +176,64 @@ fn commands_are_answered(rt: HostRuntime) -> Result<(), Fail> {
             steps: 5,
         },
     )?;
-    world.ask(&rt, Command::Fence { port: 2 }, 0, Answer::Off)?;
-    world.ask(&rt, read(2, 9), 0, Answer::Off)?;
-    world.ask(&rt, Command::On, 0, recovered(127, 5, 7))?;
-    world.ask(&rt, Command::On, 0, Answer::Already)?;
-    world.ask(&rt, read(2, 9), 0, got(NINES))?;
-    world.ask(&rt, read(2, 10), 0, got(NINES))?;
-    world.ask(&rt, Command::Snap, 0, Answer::Ok)?;
-    world.ask(&rt, Command::Poke { at: 5, line: NINES }, 0, Answer::Ok)?;
-    world.ask(&rt, read(0, 5), 0, refused(Place::Line { at: 5 }))?;
-    world.ask(&rt, read(0, 6), 0, got(ZEROS))?;
-    world.ask(&rt, Command::Back { at: 5 }, 0, Answer::Ok)?;
-    world.ask(&rt, read(0, 5), 0, got(ZEROS))?;
-    world.ask(&rt, Command::Flip { at: 260, bit: 0 }, 0, Answer::Ok)?;
-    world.ask(&rt, read(0, 16), 0, refused(Place::Line { at: 16 }))?;
-    world.ask(&rt, Command::Fence { port: 0 }, 0, fenced(0, 0))?;
-    world.ask(&rt, Command::Flip { at: 260, bit: 0 }, 0, Answer::Ok)?;
-    world.ask(&rt, read(0, 16), 0, got(ZEROS))?;
-    world.ask(&rt, Command::Move { from: 7, to: 68 }, 0, Answer::Ok)?;
-    world.ask(&rt, read(3, 68), 0, refused(Place::Line { at: 68 }))?;
-    world.ask(&rt, Command::Back { at: 68 }, 0, Answer::Ok)?;
-    world.ask(&rt, read(3, 68), 0, got(ZEROS))?;
+    world.ask(rt, Command::Fence { port: 2 }, 0, Answer::Off)?;
+    world.ask(rt, read(2, 9), 0, Answer::Off)?;
+    world.ask(rt, Command::On, 0, recovered(127, 5, 7))?;
+    world.ask(rt, Command::On, 0, Answer::Already)?;
+    world.ask(rt, read(2, 9), 0, got(NINES))?;
+    world.ask(rt, read(2, 10), 0, got(NINES))?;
+    Ok(())
+}
+
+/// A line and a tag line are changed on the bus, and put back.
+fn change_lines<R: Abort + AllocGlobal>(rt: &R, world: &mut Asked) -> Result<(), Fail> {
+    world.ask(rt, Command::Snap, 0, Answer::Ok)?;
+    world.ask(rt, Command::Poke { at: 5, line: NINES }, 0, Answer::Ok)?;
+    world.ask(rt, read(0, 5), 0, refused(Place::Line { at: 5 }))?;
+    world.ask(rt, read(0, 6), 0, got(ZEROS))?;
+    world.ask(rt, Command::Back { at: 5 }, 0, Answer::Ok)?;
+    world.ask(rt, read(0, 5), 0, got(ZEROS))?;
+    world.ask(rt, Command::Flip { at: 260, bit: 0 }, 0, Answer::Ok)?;
+    world.ask(rt, read(0, 16), 0, refused(Place::Line { at: 16 }))?;
+    world.ask(rt, Command::Fence { port: 0 }, 0, fenced(0, 0))?;
+    world.ask(rt, Command::Flip { at: 260, bit: 0 }, 0, Answer::Ok)?;
+    world.ask(rt, read(0, 16), 0, got(ZEROS))?;
+    Ok(())
+}
+
+/// A line is moved over another one, and put back.
+fn move_lines<R: Abort + AllocGlobal>(rt: &R, world: &mut Asked) -> Result<(), Fail> {
+    world.ask(rt, Command::Move { from: 7, to: 68 }, 0, Answer::Ok)?;
+    world.ask(rt, read(3, 68), 0, refused(Place::Line { at: 68 }))?;
+    world.ask(rt, Command::Back { at: 68 }, 0, Answer::Ok)?;
+    world.ask(rt, read(3, 68), 0, got(ZEROS))?;
     world.ask(
-        &rt,
+        rt,
         Command::Peek { at: 68 },
         0,
         Answer::Raw { line: rising(68) },
     )?;
-    world.ask(&rt, Command::Peek { at: 405 }, 0, Answer::Range)?;
-    world.ask(&rt, Command::Flip { at: 323, bit: 0 }, 0, Answer::Ok)?;
-    world.ask(&rt, read(0, 128), 0, refused(Place::Meta { x: 3 }))?;
-    world.ask(&rt, read(0, 4), 0, got(ZEROS))?;
-    world.ask(&rt, Command::Flip { at: 323, bit: 0 }, 0, Answer::Ok)?;
-    world.ask(&rt, read(0, 128), 0, got(ZEROS))?;
+    world.ask(rt, Command::Peek { at: 405 }, 0, Answer::Range)?;
+    Ok(())
+}
+
+/// A node is changed on the bus, and put back.
+fn change_nodes<R: Abort + AllocGlobal>(rt: &R, world: &mut Asked) -> Result<(), Fail> {
+    world.ask(rt, Command::Flip { at: 323, bit: 0 }, 0, Answer::Ok)?;
+    world.ask(rt, read(0, 128), 0, refused(Place::Meta { x: 3 }))?;
+    world.ask(rt, read(0, 4), 0, got(ZEROS))?;
+    world.ask(rt, Command::Flip { at: 323, bit: 0 }, 0, Answer::Ok)?;
+    world.ask(rt, read(0, 128), 0, got(ZEROS))?;
+    Ok(())
+}
+
+/// A changed counter block is found by a recovery, and put back.
+fn recover_from_a_changed_block<R: Abort + AllocGlobal>(
+    rt: &R,
+    world: &mut Asked,
+) -> Result<(), Fail> {
     world.ask(
-        &rt,
+        rt,
         Command::Poke {
             at: 320,
             line: NINES,
@@ -202,14 +241,32 @@ fn commands_are_answered(rt: HostRuntime) -> Result<(), Fail> {
         0,
         Answer::Ok,
     )?;
-    world.ask(&rt, Command::Off, 0, Answer::Ok)?;
-    world.ask(&rt, Command::Off, 0, Answer::Off)?;
-    world.ask(&rt, Command::On, 0, wrong_root(9, 1))?;
-    world.ask(&rt, Command::Back { at: 320 }, 0, Answer::Ok)?;
-    world.ask(&rt, Command::Cut { n: 0 }, 0, Answer::Ok)?;
-    world.ask(&rt, Command::On, 0, recovered(0, 1, 0))?;
-    world.ask(&rt, Command::Stat, 0, counts(192, 19, 12, 151, 25))?;
+    world.ask(rt, Command::Off, 0, Answer::Ok)?;
+    world.ask(rt, Command::Off, 0, Answer::Off)?;
+    world.ask(rt, Command::On, 0, wrong_root(9, 1))?;
+    world.ask(rt, Command::Back { at: 320 }, 0, Answer::Ok)?;
+    world.ask(rt, Command::Cut { n: 0 }, 0, Answer::Ok)?;
+    world.ask(rt, Command::On, 0, recovered(0, 1, 0))?;
+    world.ask(rt, Command::Stat, 0, counts(192, 19, 12, 151, 25))?;
     Ok(())
+}
+
+/// All kinds of commands are answered.
+fn answer_commands<R: Abort + AllocGlobal>(rt: &R, world: &mut Asked) -> Result<(), Fail> {
+    read_waiting_writes(rt, world)?;
+    drain_writes(rt, world)?;
+    flush_and_set_loss(rt, world)?;
+    cut_in_a_fence(rt, world)?;
+    change_lines(rt, world)?;
+    move_lines(rt, world)?;
+    change_nodes(rt, world)?;
+    recover_from_a_changed_block(rt, world)
+}
+
+#[test]
+fn commands_are_answered(rt: HostRuntime) -> Result<(), Fail> {
+    let mut world = small_world(rt.alloc(), 0, false)?;
+    answer_commands(&rt, &mut world)
 }
 
 impl Asked {
@@ -250,40 +307,55 @@ fn seal_anew_to_a_cut<R: Abort + AllocGlobal>(rt: &R, world: &mut Asked) -> Resu
     Ok(())
 }
 
+/// A page whose counter is used up is sealed anew, by turns and by writes, up to a cut within a turn.
+fn seal_anew<R: Abort + AllocGlobal>(rt: &R, world: &mut Asked) -> Result<(), Fail> {
+    world.wear(rt)?;
+    world.ask(rt, post(0, 7), 0, Answer::Ok)?;
+    world.ask(rt, drain(0), 2, drained(7))?;
+    world.ask(rt, read(0, 7), 0, got(NINES))?;
+    world.ask(rt, Command::Turn, 1, Answer::Turned { left: 62, steps: 4 })?;
+    world.ask(rt, post(0, 9), 0, Answer::Ok)?;
+    world.ask(rt, drain(0), 1, drained(4))?;
+    world.ask(rt, Command::Turn, 1, Answer::Turned { left: 60, steps: 4 })?;
+    world.ask(rt, Command::Cut { n: 2 }, 0, Answer::Ok)?;
+    world.ask(rt, Command::Turn, 1, Answer::Cut { steps: 2 })?;
+    world.ask(rt, Command::Turn, 0, Answer::Off)?;
+    world.ask(rt, Command::On, 0, recovered(10, 5, 7))?;
+    Ok(())
+}
+
+/// A page is sealed anew, before a cut, after it, and up to the next one.
+fn seal_pages<R: Abort + AllocGlobal>(rt: &R, world: &mut Asked) -> Result<(), Fail> {
+    seal_anew(rt, world)?;
+    seal_anew_to_a_cut(rt, world)?;
+    world.ask(rt, Command::Stat, 0, counts(169, 343, 273, 155, 271))
+}
+
 #[test]
 fn pages_are_sealed_anew(rt: HostRuntime) -> Result<(), Fail> {
     let mut world = small_world(rt.alloc(), 0, false)?;
-    world.wear(&rt)?;
-    world.ask(&rt, post(0, 7), 0, Answer::Ok)?;
-    world.ask(&rt, drain(0), 2, drained(7))?;
-    world.ask(&rt, read(0, 7), 0, got(NINES))?;
-    world.ask(&rt, Command::Turn, 1, Answer::Turned { left: 62, steps: 4 })?;
-    world.ask(&rt, post(0, 9), 0, Answer::Ok)?;
-    world.ask(&rt, drain(0), 1, drained(4))?;
-    world.ask(&rt, Command::Turn, 1, Answer::Turned { left: 60, steps: 4 })?;
-    world.ask(&rt, Command::Cut { n: 2 }, 0, Answer::Ok)?;
-    world.ask(&rt, Command::Turn, 1, Answer::Cut { steps: 2 })?;
-    world.ask(&rt, Command::Turn, 0, Answer::Off)?;
-    world.ask(&rt, Command::On, 0, recovered(10, 5, 7))?;
-    seal_anew_to_a_cut(&rt, &mut world)?;
-    world.ask(&rt, Command::Stat, 0, counts(169, 343, 273, 155, 271))?;
+    seal_pages(&rt, &mut world)
+}
+
+/// The last counters of a page are used up, by a fence and by a drain.
+fn use_up_counters<R: Abort + AllocGlobal>(rt: &R, world: &mut Asked) -> Result<(), Fail> {
+    world.wear(rt)?;
+    world.ask(rt, post(0, 8), 0, Answer::Ok)?;
+    world.ask(rt, post(0, 7), 0, Answer::Ok)?;
+    world.ask(rt, post(0, 10), 0, Answer::Ok)?;
+    world.ask(rt, Command::Fence { port: 0 }, 1, spent(Some(1), 4))?;
+    world.ask(rt, drain(0), 1, drained(4))?;
+    world.ask(rt, post(0, 7), 0, Answer::Ok)?;
+    world.ask(rt, drain(0), 0, spent(None, 0))?;
+    world.ask(rt, drain(0), 0, Answer::Empty)?;
+    world.ask(rt, read(0, 7), 0, got(NINES))?;
     Ok(())
 }
 
 #[test]
 fn counters_are_used_up(rt: HostRuntime) -> Result<(), Fail> {
     let mut world = small_world(rt.alloc(), last_major(), false)?;
-    world.wear(&rt)?;
-    world.ask(&rt, post(0, 8), 0, Answer::Ok)?;
-    world.ask(&rt, post(0, 7), 0, Answer::Ok)?;
-    world.ask(&rt, post(0, 10), 0, Answer::Ok)?;
-    world.ask(&rt, Command::Fence { port: 0 }, 1, spent(Some(1), 4))?;
-    world.ask(&rt, drain(0), 1, drained(4))?;
-    world.ask(&rt, post(0, 7), 0, Answer::Ok)?;
-    world.ask(&rt, drain(0), 0, spent(None, 0))?;
-    world.ask(&rt, drain(0), 0, Answer::Empty)?;
-    world.ask(&rt, read(0, 7), 0, got(NINES))?;
-    Ok(())
+    use_up_counters(&rt, &mut world)
 }
 
 #[test]
