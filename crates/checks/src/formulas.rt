@@ -1,11 +1,12 @@
 //! Pads, tags, digests, counter blocks, paths and the layout at worked values.
-ghost use Rattle.std.specs.Prelude.{ℕ, ◌≡◌, ◌+◌, ◌^◌, List, [], ◌∷◌, ◌++◌, replicate, slice_index};
+ghost use Rattle.std.specs.Prelude.{true, ℕ, ◌≡◌, ◌+◌, ◌-◌, ◌/◌, ◌^◌, ◌≤◌, ◌<◌, List, [], ◌∷◌, ◌++◌, replicate, slice_index};
 ghost use Rattle.std.specs.List.{range_with_len};
 ghost use Rattle.pmem_base.specs.Lines.{line_of, zero_line, filled_line};
 ghost use Rattle.pmem_base.specs.Layout as layout;
+ghost use Rattle.pmem_base.specs.Shape.{Shape};
 ghost use Rattle.suite.specs.Formulas.{cipher_of};
 ghost use Rattle.split_counters.specs.Blocks.{packed, unpacked};
-ghost use Rattle.bonsai_tree.specs.Positions.{path_of, level_of, parent, child_slot};
+ghost use Rattle.bonsai_tree.specs.Positions.{path_of, level_of, parent, child_slot, is_on_path};
 ghost use Rattle.plain_model.specs.Defaults.{default_shape};
 ghost use Rattle.checks.specs.Samples.{small_shape, three_levels, weak, blur, ctr, counting_line, short_tag, one_byte_line};
 
@@ -27,8 +28,10 @@ pub fn block_examples()
     ensures back { unpacked (line_of (replicate 13 0 ++ 0x40 ∷ replicate 50 0)) ≡ record { major = 0; minors = replicate 5 0 ++ 1 ∷ replicate 58 0 } }
 {}
 
-/// Paths of the tree.
+/// Paths of the tree; a position on one lies as far into its level as there are whole subtrees before the page.
 pub fn path_examples()
+    ensures at_its_level { (shape : Shape) (page x : ℕ) → shape.levels ≤ 6 → page < layout.pages shape → is_on_path shape page x ≡ true
+        → x ≡ layout.level_start (level_of x) + page / 4 ^ (shape.levels - level_of x) }
     ensures two { path_of default_shape 0 ≡ 0 ∷ 1 ∷ 5 ∷ [] }
     ensures three { path_of three_levels 0 ≡ 0 ∷ 1 ∷ 5 ∷ 21 ∷ [] }
     ensures last { path_of three_levels 63 ≡ 0 ∷ 4 ∷ 20 ∷ 84 ∷ [] }
