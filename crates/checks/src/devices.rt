@@ -1,5 +1,5 @@
 //! What recovery makes of a whole small device.
-ghost use Rattle.std.specs.Prelude.{true, false, ℕ, ◌≡◌, ◌≢◌, ◌+◌, ◌-◌, ◌^◌, List, [], ◌∷◌, ◌++◌, replicate, Some, None, length};
+ghost use Rattle.std.specs.Prelude.{true, false, ℕ, ◌≡◌, ◌≢◌, ◌+◌, ◌-◌, ◌^◌, List, [], ◌∷◌, ◌++◌, replicate, Some, None, length, take};
 ghost use Rattle.pmem_base.specs.declared.lines.Line.{Line};
 ghost use Rattle.pmem_base.specs.Lines.{zero_line, filled_line, line_at};
 ghost use Rattle.pmem_base.specs.Layout as layout;
@@ -35,9 +35,10 @@ pub fn refused_devices()
     ensures two_minors { tried_minors small_blur (device_sealed small_blur) (regs_sealed small_blur) 0 ≡ 0 ∷ 1 ∷ [] }
 {}
 
-/// A group is written in its order; to write it once more changes nothing, so that a recovery that is cut may
-/// begin anew.
+/// A group is written in its order; to write it anew, after all or the first of its lines were written, gives the
+/// same lines.
 pub fn group_redone()
     ensures again { (group : List (ℕ × Line)) (lines : List Line) → redone group (redone group lines) ≡ redone group lines }
+    ensures after_a_part { (group : List (ℕ × Line)) (n : ℕ) (lines : List Line) → redone group (redone (take n group) lines) ≡ redone group lines }
     ensures in_order { redone ((1, filled_line 7) ∷ (0, filled_line 8) ∷ (1, filled_line 9) ∷ []) (zero_line ∷ zero_line ∷ zero_line ∷ []) ≡ filled_line 8 ∷ filled_line 9 ∷ zero_line ∷ [] }
 {}

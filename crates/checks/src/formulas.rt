@@ -28,10 +28,8 @@ pub fn block_examples()
     ensures back { unpacked (line_of (replicate 13 0 ++ 0x40 ∷ replicate 50 0)) ≡ record { major = 0; minors = replicate 5 0 ++ 1 ∷ replicate 58 0 } }
 {}
 
-/// Paths of the tree; a position on one lies as far into its level as there are whole subtrees before the page.
+/// Paths of the tree.
 pub fn path_examples()
-    ensures at_its_level { (shape : Shape) (page x : ℕ) → shape.levels ≤ 6 → page < layout.pages shape → is_on_path shape page x ≡ true
-        → x ≡ layout.level_start (level_of x) + page / 4 ^ (shape.levels - level_of x) }
     ensures two { path_of default_shape 0 ≡ 0 ∷ 1 ∷ 5 ∷ [] }
     ensures three { path_of three_levels 0 ≡ 0 ∷ 1 ∷ 5 ∷ 21 ∷ [] }
     ensures last { path_of three_levels 63 ≡ 0 ∷ 4 ∷ 20 ∷ 84 ∷ [] }
@@ -39,6 +37,12 @@ pub fn path_examples()
     ensures deepest { level_of 5460 ≡ 6 }
     ensures above { parent 5 ≡ 1 }
     ensures slot { child_slot 84 ≡ 3 }
+{}
+
+/// A position on a page's path lies as far into its level as there are whole subtrees of that level before the page.
+pub fn path_positions()
+    ensures { (shape : Shape) (page x : ℕ) → shape.levels ≤ 6 → page < layout.pages shape → is_on_path shape page x ≡ true
+        → x ≡ layout.level_start (level_of x) + page / 4 ^ (shape.levels - level_of x) }
 {}
 
 /// The default device: its parts and its size.

@@ -1,4 +1,4 @@
-//! Evidence for the definitions: they compute to worked values, two of them meet a law that is expected of
+//! Evidence for the definitions: they compute to worked values, two of them meet laws that are expected of
 //! them, traces with their replies are chains of legal and fitting replies, and wrong replies are refuted. Of
 //! 41 traces 28 are whole, from a formatted machine on; 8 begin with a view that is set by hand; and of 5 the
 //! last 64 to 70 commands are proved, after others whose replies nothing checks, of one of them without the
