@@ -21,7 +21,7 @@ use Rattle.meta_cache.specs.Sets.{holds, lined, slot_marked, with_slot_line, wit
 use Rattle.meta_cache.specs.State.{CacheState, ChangesSet}
 use Rattle.meta_cache.proofs.WayLemmas.{KeepsWays-with_slot_line, KeepsWays-with_mark}
 use Rattle.meta_path.specs.Blocks.{path_at, slots_at, IsPathCached, IsOfItsBank, AreInTheirBanks}
-use Rattle.meta_path.specs.Storing.{new_line, IsPathOf, stored_set, stored_mark, IsStoredTo, AreTold, IsStoredSlot, KeepsSlots}
+use Rattle.meta_path.specs.Storing.{new_line, IsPathOf, stored_set, stored_mark, IsStoredTo, HasMetaLines, IsStoredSlot, KeepsSlots}
 use Rattle.meta_path.proofs.SetFacts.{slots_from, slots_to, holds-with_line, holds-with_mark}
 use Rattle.meta_path.proofs.PathFacts.{AreSets, its_bank_of, path_at-lt}
 use Rattle.meta_path.proofs.KeepLemmas.{path_set_or_not}
@@ -146,13 +146,13 @@ mark_is levels n last persisted mark same is = is ∙ ap (λ k. nat_lt n k || no
 
 -- ---- the ledger
 
-pub AreTold-none : (ledger : LedgerState) → AreTold [] ledger ledger
-AreTold-none ledger = search rules
+pub HasMetaLines-none : (ledger : LedgerState) → HasMetaLines [] ledger ledger
+HasMetaLines-none ledger = search rules
 
-pub AreTold-more : (lines : List (ℕ × Line)) (n x : ℕ) (line : Line) (d : ℕ × Line) (old mid new : LedgerState)
-    → n < length lines → get_or lines n d ≡ (x, line) → AreTold (take n lines) old mid → HasMeta mid new x line
-    → AreTold (take (n + 1) lines) old new
-AreTold-more lines n x line d old mid new h is before more =
+pub HasMetaLines-more : (lines : List (ℕ × Line)) (n x : ℕ) (line : Line) (d : ℕ × Line) (old mid new : LedgerState)
+    → n < length lines → get_or lines n d ≡ (x, line) → HasMetaLines (take n lines) old mid → HasMeta mid new x line
+    → HasMetaLines (take (n + 1) lines) old new
+HasMetaLines-more lines n x line d old mid new h is before more =
     record {
       truth =
           more.truth ∙ ap (λ truth. set truth x line) before.truth

@@ -62,7 +62,7 @@ pub record IsStoredTo (g : Shape) (page : ℕ) (persisted : Bool) (lines : List 
       → set_of new.banks bank set ≡ set_of old.banks bank set
 
 -- these lines are the true ones of their positions now
-pub record AreTold (lines : List (ℕ × Line)) (old new : LedgerState) : Type 0 where
+pub record HasMetaLines (lines : List (ℕ × Line)) (old new : LedgerState) : Type 0 where
   pub truth : new.truth ≡ put_lines lines old.truth
   pub count : length new.truth ≡ length old.truth
   pub marks : new.marks ≡ old.marks

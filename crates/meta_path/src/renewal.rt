@@ -11,7 +11,7 @@ ghost use Rattle.seal_ledger.specs.Notes.{HasMeta};
 ghost use Rattle.meta_cache.specs.Banks.{set_index, is_cached};
 ghost use Rattle.meta_cache.specs.State.{ChangesSet};
 ghost use Rattle.meta_path.specs.Blocks.{slots_at, cached_line, line_in, IsPathCached, AreInTheirBanks, AreCachedTrue};
-ghost use Rattle.meta_path.specs.Storing.{stored_set, IsPathOf, IsOfCachedPath, IsRenewed, IsStoredTo, AreTold, KeepsSlots};
+ghost use Rattle.meta_path.specs.Storing.{stored_set, IsPathOf, IsOfCachedPath, IsRenewed, IsStoredTo, HasMetaLines, KeepsSlots};
 
 use crate::writing::cached_line;
 use arrayvec::ArrayVec;
@@ -100,7 +100,7 @@ pub fn store_path<A: Audit>(cache: &mut Cache, audit: &mut A, path: &Path, persi
         → IsPathCached cache.old.shape cache.new.banks page }
     ensures banks { AreInTheirBanks cache.old.shape cache.old.banks → AreInTheirBanks cache.old.shape cache.new.banks }
     ensures shape { cache.new.shape ≡ cache.old.shape }
-    ensures ledger { AreTold path.now.lines.items (A.ledger audit.old) (A.ledger audit.new) }
+    ensures ledger { HasMetaLines path.now.lines.items (A.ledger audit.old) (A.ledger audit.new) }
 {
     cache.are_banks();
     let last = path.lines.len() - 1;

@@ -13,7 +13,7 @@ use Rattle.plain_model.specs.declared.Stop.{Stop}
 use Rattle.plain_model.specs.declared.Stop.TheVariants.{Finished, ReadFault, Refused, TooManyLines}
 use Rattle.plain_model.specs.Lines.{lines_of, ended, IsWithin}
 use Rattle.plain_model.specs.Run.{line_limit}
-use Rattle.pmem_cli.specs.Checked.{is_skipped, found_with, found_on, found_in_lines, IsRefusedIn, IsBrokenOff, LooksTo, HasLooked, ChecksLine, ChecksNext}
+use Rattle.pmem_cli.specs.Checked.{is_skipped, found_with, found_on, found_in_lines, IsRefusedIn, IsBrokenOff, LooksTo, HasCheckedLines, ChecksLine, ChecksNext}
 use Rattle.pmem_cli.proofs.LineLemmas.{lines_ahead, lines_of-last, lines_of-begins, lines_of-some}
 use Rattle.pmem_cli.proofs.TurnLemmas.{IfSome-ahead, all_unread}
 
@@ -77,9 +77,9 @@ if_looks stop f g served None behind left line after taken within first looks = 
 if_looks stop f g served (Some bytes) None left line after taken within first looks = absurd taken
 if_looks stop f g served (Some bytes) (Some rest) left line after taken within first looks = looks_after stop f g served bytes rest line left after taken within first looks
 
-pub HasLooked-after : (stop : Stop) (f g : Option Exhibit) (served : ℕ) (ahead behind left : Option (List ℕ)) (line : List ℕ) (after : Option Exhibit)
-    → Consumes ahead behind (ended line) → IsWithin line → found_with f line ≡ Ok g → HasLooked stop behind left g after (served + 1) → HasLooked stop ahead left f after served
-HasLooked-after stop f g served ahead behind left line after taken within first looked =
+pub HasCheckedLines-after : (stop : Stop) (f g : Option Exhibit) (served : ℕ) (ahead behind left : Option (List ℕ)) (line : List ℕ) (after : Option Exhibit)
+    → Consumes ahead behind (ended line) → IsWithin line → found_with f line ≡ Ok g → HasCheckedLines stop behind left g after (served + 1) → HasCheckedLines stop ahead left f after served
+HasCheckedLines-after stop f g served ahead behind left line after taken within first looked =
     (looked.0, looked.1, if_looks stop f g served ahead behind left line after taken within first looked.2)
 
 -- ---- stops at the next line
@@ -112,10 +112,10 @@ ChecksNext-line (Some (Refused n kind)) ahead behind left before after line serv
 ChecksNext-line (Some stop) ahead behind left before after line served number taken within numbered limit checked = absurd checked
 
 -- the last line
-pub HasLooked-last : (ahead behind left : Option (List ℕ)) (before after : Option Exhibit) (line : List ℕ) (served : ℕ)
+pub HasCheckedLines-last : (ahead behind left : Option (List ℕ)) (before after : Option Exhibit) (line : List ℕ) (served : ℕ)
     → Consumes ahead behind line → IsWithin line → 0 < length line → IsAtEnd behind → served < line_limit → found_with before line ≡ Ok after
-    → HasLooked Finished ahead left before after served
-HasLooked-last ahead behind left before after line served taken within some end limit checked =
+    → HasCheckedLines Finished ahead left before after served
+HasCheckedLines-last ahead behind left before after line served taken within some end limit checked =
     let cut = lines_of-last line within some in (
       λ same. cc,
       λ same. cc,
@@ -124,16 +124,16 @@ HasLooked-last ahead behind left before after line served taken within some end 
     )
 
 -- the last line, at which the check stops
-pub HasLooked-at_last : (stop : Stop) (ahead behind left : Option (List ℕ)) (before after : Option Exhibit) (line : List ℕ) (served number : ℕ)
+pub HasCheckedLines-at_last : (stop : Stop) (ahead behind left : Option (List ℕ)) (before after : Option Exhibit) (line : List ℕ) (served number : ℕ)
     → Consumes ahead behind line → IsWithin line → 0 < length line → IsAtEnd behind → number ≡ served + 1 → served < line_limit → ChecksLine (Some stop) line number before after
-    → HasLooked stop ahead left before after served
-HasLooked-at_last (Refused n kind) ahead behind left before after line served number taken within some end numbered limit checked = (
+    → HasCheckedLines stop ahead left before after served
+HasCheckedLines-at_last (Refused n kind) ahead behind left before after line served number taken within some end numbered limit checked = (
   λ same. cc,
   λ same. cc,
   Consumes-whole ahead behind line (λ bytes. LooksTo before served (Refused n kind) bytes left after) taken end
       (refused_here before served n kind line line [] (lines_of-last line within some) checked.1 (checked.0 ∙ numbered) limit),
 )
-HasLooked-at_last stop ahead behind left before after line served number taken within some end numbered limit checked = absurd checked
+HasCheckedLines-at_last stop ahead behind left before after line served number taken within some end numbered limit checked = absurd checked
 
 -- a line that is too long is refused whatever it holds
 long_refused : (found : Option Exhibit) (line : List ℕ) → 1024 < length line → found_with found line ≡ Err Kind.Long
@@ -141,9 +141,9 @@ unfolding found_with is_skipped exhibit_of_line
 long_refused None line long = rw (lt-leb (length line) 1024 long, lt-ltb 1024 (length line) long) refl
 long_refused (Some shown) line long = rw (lt-leb (length line) 1024 long, lt-ltb 1024 (length line) long) refl
 
-pub HasLooked-long : (ahead behind left : Option (List ℕ)) (found : Option Exhibit) (part : List ℕ) (served number : ℕ)
-    → Consumes ahead behind part → IsWithin part → 1024 < length part → number ≡ served + 1 → served < line_limit → HasLooked (Refused number Kind.Long) ahead left found found served
-HasLooked-long ahead behind left found part served number taken within long numbered limit = (
+pub HasCheckedLines-long : (ahead behind left : Option (List ℕ)) (found : Option Exhibit) (part : List ℕ) (served number : ℕ)
+    → Consumes ahead behind part → IsWithin part → 1024 < length part → number ≡ served + 1 → served < line_limit → HasCheckedLines (Refused number Kind.Long) ahead left found found served
+HasCheckedLines-long ahead behind left found part served number taken within long numbered limit = (
   λ same. cc,
   λ same. cc,
   IfSome-ahead ahead behind part (λ bytes. LooksTo found served (Refused number Kind.Long) bytes left found) taken
@@ -154,10 +154,10 @@ HasLooked-long ahead behind left found part served number taken within long numb
 )
 
 -- nothing is ahead
-pub HasLooked-end : (ahead behind left : Option (List ℕ)) (found : Option Exhibit) (served : ℕ) → Consumes ahead behind [] → IsAtEnd behind → served ≤ line_limit
-    → HasLooked Finished ahead left found found served
+pub HasCheckedLines-end : (ahead behind left : Option (List ℕ)) (found : Option Exhibit) (served : ℕ) → Consumes ahead behind [] → IsAtEnd behind → served ≤ line_limit
+    → HasCheckedLines Finished ahead left found found served
 unfolding lines_of
-HasLooked-end ahead behind left found served taken end limit = search rules
+HasCheckedLines-end ahead behind left found served taken end limit = search rules
 
 broken_here : (ahead left : Option (List ℕ)) (found : Option Exhibit) (part : List ℕ) (served : ℕ) → Consumes ahead left part → IsWithin part → length part ≤ 1024 → served ≤ line_limit
     → (served ≡ line_limit → part ≡ []) → IfSome ahead (λ bytes. IsBrokenOff found served bytes left found)
@@ -175,14 +175,14 @@ broken_here (Some bytes) left found part served taken within short counted limit
 }
 
 -- a read fault in the middle of a line
-pub HasLooked-fault : (ahead left : Option (List ℕ)) (found : Option Exhibit) (part : List ℕ) (served : ℕ) → Consumes ahead left part → IsWithin part → length part ≤ 1024 → served ≤ line_limit
-    → (served ≡ line_limit → part ≡ []) → HasLooked ReadFault ahead left found found served
-HasLooked-fault ahead left found part served taken within short counted limit = (λ same. cc, λ same. cc, broken_here ahead left found part served taken within short counted limit)
+pub HasCheckedLines-fault : (ahead left : Option (List ℕ)) (found : Option Exhibit) (part : List ℕ) (served : ℕ) → Consumes ahead left part → IsWithin part → length part ≤ 1024 → served ≤ line_limit
+    → (served ≡ line_limit → part ≡ []) → HasCheckedLines ReadFault ahead left found found served
+HasCheckedLines-fault ahead left found part served taken within short counted limit = (λ same. cc, λ same. cc, broken_here ahead left found part served taken within short counted limit)
 
 -- the limit is reached, and a byte follows
-pub HasLooked-limit : (known left : Option (List ℕ)) (unread : List ℕ) (found : Option Exhibit) (served : ℕ) → 0 < length unread → served ≡ line_limit
-    → HasLooked TooManyLines (prepend_known unread known) left found found served
-HasLooked-limit known left unread found served some limit = (
+pub HasCheckedLines-limit : (known left : Option (List ℕ)) (unread : List ℕ) (found : Option Exhibit) (served : ℕ) → 0 < length unread → served ≡ line_limit
+    → HasCheckedLines TooManyLines (prepend_known unread known) left found found served
+HasCheckedLines-limit known left unread found served some limit = (
   λ same. cc,
   λ same. cc,
   IfSome-ahead (prepend_known unread known) known unread (λ bytes. LooksTo found served TooManyLines bytes left found) (all_unread known unread)
@@ -197,7 +197,7 @@ HasLooked-limit known left unread found served some limit = (
 )
 
 -- what was ahead may be at hand now
-pub HasLooked-kept : (stop : Stop) (a b left : Option (List ℕ)) (found after : Option Exhibit) (served : ℕ) → Keeps a b → HasLooked stop b left found after served → HasLooked stop a left found after served
-HasLooked-kept stop None b left found after served kept looked = (looked.0, looked.1, tt)
-HasLooked-kept stop (Some x) None left found after served kept looked = absurd kept
-HasLooked-kept stop (Some x) (Some y) left found after served kept looked = (looked.0, looked.1, subst (λ bytes. LooksTo found served stop bytes left after) kept looked.2)
+pub HasCheckedLines-kept : (stop : Stop) (a b left : Option (List ℕ)) (found after : Option Exhibit) (served : ℕ) → Keeps a b → HasCheckedLines stop b left found after served → HasCheckedLines stop a left found after served
+HasCheckedLines-kept stop None b left found after served kept looked = (looked.0, looked.1, tt)
+HasCheckedLines-kept stop (Some x) None left found after served kept looked = absurd kept
+HasCheckedLines-kept stop (Some x) (Some y) left found after served kept looked = (looked.0, looked.1, subst (λ bytes. LooksTo found served stop bytes left after) kept looked.2)

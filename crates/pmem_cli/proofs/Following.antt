@@ -5,10 +5,10 @@ use Rattle.std.proofs.lemmas.List.Concat.{flat_map-append}
 use Rattle.plain_model.specs.declared.Stop.{Stop}
 use Rattle.plain_model.specs.declared.Stop.TheVariants.{Finished, Words, Memory, ReadFault, WriteFault, Refused, Shown, TooManyLines}
 use Rattle.plain_model.specs.Lines.{lines_of}
-use Rattle.trace_text.specs.Conversations.{Protocol, line_sort, texts_of, AnswersOne, IsTalk, AreGiven, IsShownTalk, TalkEnds}
+use Rattle.trace_text.specs.Conversations.{Protocol, line_sort, texts_of, AnswersOne, IsTalk, AreRepliesGiven, IsShownTalk, TalkEnds}
 use Rattle.pmem_cli.specs.Printed.{Output, PutsAtLeast}
 use Rattle.pmem_cli.specs.Talked.{HasToldFirst}
-use Rattle.pmem_cli.proofs.TalkLemmas.{AreGiven-all, AreGiven-after, AreGiven-shown}
+use Rattle.pmem_cli.proofs.TalkLemmas.{AreRepliesGiven-all, AreRepliesGiven-after, AreRepliesGiven-shown}
 
 -- each reply by the first is one by the second with the same text, where an invariant of the states holds and stays
 pub record Follows {S X Y : Type 0} (p : Protocol S X) (q : Protocol S Y) (I : S → Type 0) : Type 0 where
@@ -52,8 +52,8 @@ module _ {S X Y : Type 0} (p : Protocol S X) (q : Protocol S Y) (I : S → Type 
         rest.3,
       )
 
-  pub follow_given : (first : S) (xs : List X) → I first → AreGiven p first xs
-      → (ys : List Y) × AreGiven q first ys × (texts_of q ys ≡ texts_of p xs)
+  pub follow_given : (first : S) (xs : List X) → I first → AreRepliesGiven p first xs
+      → (ys : List Y) × AreRepliesGiven q first ys × (texts_of q ys ≡ texts_of p xs)
   follow_given first [] i given = ([], tt, refl)
   follow_given first (x ∷ xs) i (line, its_sort, inl (next, answered, more)) =
       let one = f.answered first next line x i answered in
@@ -73,7 +73,7 @@ module _ {S X Y : Type 0} (p : Protocol S X) (q : Protocol S Y) (I : S → Type 
 
   -- what a stop says, with replies that have these texts
   abbrev Followed : (S → List Y → Type 0) → S → List X → Type 0
-  Followed P first xs = (ys : List Y) × P first ys × AreGiven q first ys × (texts_of q ys ≡ texts_of p xs)
+  Followed P first xs = (ys : List Y) × P first ys × AreRepliesGiven q first ys × (texts_of q ys ≡ texts_of p xs)
 
   follow_shown : (first : S) (served : ℕ) (lines : List (List ℕ)) (xs : List X) → I first → IsShownTalk p first served lines xs
       → Followed (λ s ys. IsShownTalk q s served lines ys) first xs
@@ -96,18 +96,18 @@ module _ {S X Y : Type 0} (p : Protocol S X) (q : Protocol S Y) (I : S → Type 
           shown = one.1;
           counted = ends.counted;
         },
-        AreGiven-after q first ends.middle ends.before talk.0 (one.0 ∷ []) talk.1 (AreGiven-shown q ends.middle ends.line one.0 its_sort one.1),
+        AreRepliesGiven-after q first ends.middle ends.before talk.0 (one.0 ∷ []) talk.1 (AreRepliesGiven-shown q ends.middle ends.line one.0 its_sort one.1),
         rw (ends.all, flat_map-append q.text_of talk.0 (one.0 ∷ []), flat_map-append p.text_of ends.earlier (ends.last ∷ []), talk.2, one.2) refl,
       )
 
   pub follow_ends : (stop : Stop) (first : S) (served : ℕ) (trace : List ℕ) (left : Option (List ℕ)) (xs : List X) → I first
       → TalkEnds p first served stop trace left xs
-      → (ys : List Y) × TalkEnds q first served stop trace left ys × AreGiven q first ys × (texts_of q ys ≡ texts_of p xs)
+      → (ys : List Y) × TalkEnds q first served stop trace left ys × AreRepliesGiven q first ys × (texts_of q ys ≡ texts_of p xs)
   follow_ends Finished first served trace left xs i ends =
       let talk = follow_talk first ends.last (lines_of trace) xs i ends.talk in (
         talk.0,
         record { last = ends.last; talk = talk.1; counted = ends.counted },
-        AreGiven-all q first ends.last (lines_of trace) talk.0 talk.1,
+        AreRepliesGiven-all q first ends.last (lines_of trace) talk.0 talk.1,
         talk.2,
       )
   follow_ends Memory first served trace left xs i ends =
@@ -124,7 +124,7 @@ module _ {S X Y : Type 0} (p : Protocol S X) (q : Protocol S Y) (I : S → Type 
           wanted = f.wants ends.last ends.line talk.3 ends.wanted;
           counted = ends.counted;
         },
-        AreGiven-all q first ends.last ends.before talk.0 talk.1,
+        AreRepliesGiven-all q first ends.last ends.before talk.0 talk.1,
         talk.2,
       )
   follow_ends Words first served trace left xs i ends = absurd ends
@@ -143,7 +143,7 @@ module _ {S X Y : Type 0} (p : Protocol S X) (q : Protocol S Y) (I : S → Type 
           counted = ends.counted;
           at_limit = ends.at_limit;
         },
-        AreGiven-all q first ends.last ends.before talk.0 talk.1,
+        AreRepliesGiven-all q first ends.last ends.before talk.0 talk.1,
         talk.2,
       )
   follow_ends WriteFault first served trace left xs i (inl ends) =
@@ -153,7 +153,7 @@ module _ {S X Y : Type 0} (p : Protocol S X) (q : Protocol S Y) (I : S → Type 
           front = record { before = ends.front.before; behind = ends.front.behind; cut = ends.front.cut; last = ends.front.last; talk = talk.1 };
           counted = ends.counted;
         }),
-        AreGiven-all q first ends.front.last ends.front.before talk.0 talk.1,
+        AreRepliesGiven-all q first ends.front.last ends.front.before talk.0 talk.1,
         talk.2,
       )
   follow_ends WriteFault first served trace left xs i (inr ends) =
@@ -172,7 +172,7 @@ module _ {S X Y : Type 0} (p : Protocol S X) (q : Protocol S Y) (I : S → Type 
           numbered = ends.numbered;
           counted = ends.counted;
         },
-        AreGiven-all q first ends.last ends.before talk.0 talk.1,
+        AreRepliesGiven-all q first ends.last ends.before talk.0 talk.1,
         talk.2,
       )
   follow_ends Shown first served trace left xs i ends = follow_shown first served (lines_of trace) xs i ends
@@ -184,14 +184,14 @@ module _ {S X Y : Type 0} (p : Protocol S X) (q : Protocol S Y) (I : S → Type 
           counted = ends.counted;
           more = ends.more;
         },
-        AreGiven-all q first ends.front.last ends.front.before talk.0 talk.1,
+        AreRepliesGiven-all q first ends.front.last ends.front.before talk.0 talk.1,
         talk.2,
       )
 
   -- so it is where the source tells its bytes; and if it doesn't, of the replies alone
   pub follow_all : (stop : Stop) (first : S) (trace left : Option (List ℕ)) (xs : List X) → I first
-      → IfSome trace (λ bytes. TalkEnds p first 0 stop bytes left xs) → AreGiven p first xs
-      → (ys : List Y) × IfSome trace (λ bytes. TalkEnds q first 0 stop bytes left ys) × AreGiven q first ys × (texts_of q ys ≡ texts_of p xs)
+      → IfSome trace (λ bytes. TalkEnds p first 0 stop bytes left xs) → AreRepliesGiven p first xs
+      → (ys : List Y) × IfSome trace (λ bytes. TalkEnds q first 0 stop bytes left ys) × AreRepliesGiven q first ys × (texts_of q ys ≡ texts_of p xs)
   follow_all stop first None left xs i ends given =
       let its = follow_given first xs i given in (its.0, tt, its.1, its.2)
   follow_all stop first (Some bytes) left xs i ends given = follow_ends stop first 0 bytes left xs i ends

@@ -23,7 +23,7 @@ use Rattle.pmem_cli.specs.Printed.{Output, Prints}
 use Rattle.pmem_cli.specs.Standing.{Standing, standing_of, AreStepped, IsReplayed, StandingAfter}
 use Rattle.pmem_cli.specs.Sums.{AreStepSums}
 use Rattle.pmem_cli.specs.Replies.{HasReplied}
-use Rattle.pmem_cli.specs.Sampled.{IsLastAnswer, SampleEnds, HasCome, HasReached, HasToldSample}
+use Rattle.pmem_cli.specs.Sampled.{IsLastAnswer, SampleEnds, HasAnsweredFront, HasReachedAnswer, HasToldSample}
 use Rattle.pmem_cli.specs.HasRun.{HasRunSample}
 use Rattle.pmem_cli.proofs.PrintLemmas.{Prints-front}
 use Rattle.pmem_cli.proofs.RunLemmas.{AreAnswered-append}
@@ -40,20 +40,20 @@ sample_is seed count = refl
 
 -- ---- one command after the other
 
-pub HasCome-nil : (s : Standing) (commands : List Command) → s.world.shown ≡ false → HasCome s s commands commands []
-HasCome-nil s commands running = search rules
+pub HasAnsweredFront-nil : (s : Standing) (commands : List Command) → s.world.shown ≡ false → HasAnsweredFront s s commands commands []
+HasAnsweredFront-nil s commands running = search rules
 
 -- the next command is the first of those left
 pub come_first : (s t : Standing) (commands : List Command) (steps : List Step) (state number left m : ℕ) (command : Command) → left ≡ m + 1
-    → command ≡ sample_command number (word_at state) → HasCome s t commands (commands_from state number left ++ Do.Stat ∷ []) steps
-    → HasCome s t commands (command ∷ (commands_from (state_after_word state) (number + 1) m ++ Do.Stat ∷ [])) steps
+    → command ≡ sample_command number (word_at state) → HasAnsweredFront s t commands (commands_from state number left ++ Do.Stat ∷ []) steps
+    → HasAnsweredFront s t commands (command ∷ (commands_from (state_after_word state) (number + 1) m ++ Do.Stat ∷ [])) steps
 come_first s t commands steps state number left m command more is come = search rules
 
 -- only the counts are left
 pub come_last : (s t : Standing) (commands : List Command) (steps : List Step) (state number left : ℕ) → left ≡ 0
-    → HasCome s t commands (commands_from state number left ++ Do.Stat ∷ []) steps → HasCome s t commands (Do.Stat ∷ []) steps
+    → HasAnsweredFront s t commands (commands_from state number left ++ Do.Stat ∷ []) steps → HasAnsweredFront s t commands (Do.Stat ∷ []) steps
 come_last s t commands steps state number left none come =
-    subst (λ n. HasCome s t commands (commands_from state number n ++ Do.Stat ∷ []) steps) none come
+    subst (λ n. HasAnsweredFront s t commands (commands_from state number n ++ Do.Stat ∷ []) steps) none come
 
 -- one more answered, in the order of the commands
 one_more_in_order : (commands behind : List Command) (command : Command) (steps : List Step) (step : Step) → map (λ step. step.command) steps ++ command ∷ behind ≡ commands
@@ -67,9 +67,9 @@ one_more_answered s t steps step answered on last =
     AreAnswered-append s.setup s.machine steps (step ∷ []) answered
     (subst (λ machine. IsAnswered s.setup machine step) on.machine (subst (λ setup. IsAnswered setup t.machine step) on.setup last), tt)
 
-pub HasCome-next : (s t u : Standing) (commands behind : List Command) (command : Command) (steps : List Step) (step : Step) → HasCome s t commands (command ∷ behind) steps
-    → HasReplied t command step → is_shown step.reply.answer ≡ false → StandingAfter t u (step ∷ []) → HasCome s u commands behind (steps ++ step ∷ [])
-HasCome-next s t u commands behind command steps step come replied hidden on = record {
+pub HasAnsweredFront-next : (s t u : Standing) (commands behind : List Command) (command : Command) (steps : List Step) (step : Step) → HasAnsweredFront s t commands (command ∷ behind) steps
+    → HasReplied t command step → is_shown step.reply.answer ≡ false → StandingAfter t u (step ∷ []) → HasAnsweredFront s u commands behind (steps ++ step ∷ [])
+HasAnsweredFront-next s t u commands behind command steps step come replied hidden on = record {
   in_order = one_more_in_order commands behind command steps step come.in_order replied.asked;
   answered = one_more_answered s t steps step come.answered come.on replied.answered;
   none_shown =
@@ -79,9 +79,9 @@ HasCome-next s t u commands behind command steps step come replied hidden on = r
 }
 
 -- the last answer
-pub HasReached-of : (s t : Standing) (commands behind : List Command) (command : Command) (steps : List Step) (step : Step) → HasCome s t commands (command ∷ behind) steps
-    → HasReplied t command step → (is_shown step.reply.answer ≡ true) ⊎ (behind ≡ []) → HasReached s commands step.reply.answer
-HasReached-of s t commands behind command steps step come replied ends = (
+pub HasReachedAnswer-of : (s t : Standing) (commands behind : List Command) (command : Command) (steps : List Step) (step : Step) → HasAnsweredFront s t commands (command ∷ behind) steps
+    → HasReplied t command step → (is_shown step.reply.answer ≡ true) ⊎ (behind ≡ []) → HasReachedAnswer s commands step.reply.answer
+HasReachedAnswer-of s t commands behind command steps step come replied ends = (
   steps ++ step ∷ [],
   record {
     first = steps;
@@ -104,7 +104,7 @@ last_answered : (setup : Setup) (machine : Machine) (steps : List Step) (step : 
 last_answered setup machine [] step answered = answered.0
 last_answered setup machine (x ∷ steps) step answered = last_answered setup (machine_after setup machine x) steps step answered.1
 
-pub told-shown : (s : Standing) (commands : List Command) (answer : Answer) (p q : Output) → HasReached s commands answer → is_shown answer ≡ true
+pub told-shown : (s : Standing) (commands : List Command) (answer : Answer) (p q : Output) → HasReachedAnswer s commands answer → is_shown answer ≡ true
     → Prints p q (as_line (answer_text answer)) → HasToldSample Shown s commands p q
 told-shown s commands answer p q reached shown printed =
     let found = exhibit_of answer shown in

@@ -6,7 +6,7 @@ use Rattle.suite.specs.Formulas.{Formulas}
 use Rattle.suite.specs.Setup.{Setup}
 use Rattle.plain_model.specs.declared.Stop.{Stop}
 use Rattle.plain_model.specs.declared.Stop.TheVariants.{Memory}
-use Rattle.trace_text.specs.Conversations.{Protocol, AreGiven}
+use Rattle.trace_text.specs.Conversations.{Protocol, AreRepliesGiven}
 use Rattle.pmem_cli.specs.declared.options.Choices.{Choices}
 use Rattle.pmem_cli.specs.Keys.{shape_chosen, formulas_of, setup_chosen}
 use Rattle.pmem_cli.specs.Printed.{Output, Prints, PrintsFront}
@@ -28,7 +28,7 @@ HasConversed-memory session trace o = record {
 -- whatever it says from a new state on is as it promises
 abbrev pub Keeps : {S R : Type 0} → Session S R → Type 0
 Keeps {S} {R} session =
-    (first : S) (said : List (Said R)) → session.begins first → AreGiven (session_protocol session) first said
+    (first : S) (said : List (Said R)) → session.begins first → AreRepliesGiven (session_protocol session) first said
     → session.promises first said
 
 module _ {S R X : Type 0} (session : Session S R) (p : Protocol S X) (I : S → Type 0) (f : Follows p (session_protocol session) I) where

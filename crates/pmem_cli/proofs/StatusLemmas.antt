@@ -11,7 +11,7 @@ use Rattle.std.specs.Io.KnownBytes.{Appends}
 use Rattle.pmem_cli.specs.Causes.{CountsFault}
 use Rattle.pmem_cli.specs.Printed.{Output, AppendsFront, Prints, PrintsFront, with_waiting}
 use Rattle.pmem_cli.specs.Keys.{setup_chosen}
-use Rattle.pmem_cli.specs.Sampled.{HasSaid}
+use Rattle.pmem_cli.specs.Sampled.{HasSaidText}
 use Rattle.plain_model.specs.Defaults.{default_setup}
 use Rattle.trace_text.specs.Samples.{sample_trace, commands_text}
 use Rattle.pmem_cli.specs.declared.options.Choices.{Choices}
@@ -19,7 +19,7 @@ use Rattle.pmem_cli.specs.declared.options.Task.{Task}
 use Rattle.pmem_cli.specs.declared.ending.Ending.{Ending}
 use Rattle.pmem_cli.specs.declared.ending.Ending.TheVariants.{Stopped}
 use Rattle.pmem_cli.specs.Endings.{ending_text, ending_status}
-use Rattle.pmem_cli.specs.HasRun.{HasRun, HasTextPut, HasSampled, HasTold, TaskOutcome, TextOutcome, HasReplayed, HasRunSample, CheckEnds, HasEnded}
+use Rattle.pmem_cli.specs.HasRun.{HasRun, HasTextPut, HasSampled, HasCheckedTrace, TaskOutcome, TextOutcome, HasReplayed, HasRunSample, CheckEnds, HasEnded}
 use Rattle.trace_text.specs.Conversations.{Protocol, texts_of}
 use Rattle.pmem_cli.specs.Sessions.{Session, session_protocol, HasConversed, HasSession}
 use Rattle.pmem_cli.specs.Sums.{AreStepSums}
@@ -47,11 +47,11 @@ pub record IsFinished (ending : Ending) (status : ℕ) (between : Output) (after
   pub front : ending ≢ Stopped WriteFault → PrintsFront between (with_waiting after []) (ending_text ending)
 
 -- what was said, and the stop's line after it
-said_whole : (stop : Stop) (status : ℕ) (before after : Option (List ℕ)) (between : Output) (text : List ℕ) → HasSaid stop (with_waiting before []) between text
+said_whole : (stop : Stop) (status : ℕ) (before after : Option (List ℕ)) (between : Output) (text : List ℕ) → HasSaidText stop (with_waiting before []) between text
     → IsFinished (Stopped stop) status between after → status ≢ 4 → Appends before after (text ++ stop_text stop)
 said_whole stop status before after between text said finished told = grind (arith, common_steps)
 
-said_front : (stop : Stop) (status : ℕ) (before after : Option (List ℕ)) (between : Output) (text : List ℕ) → HasSaid stop (with_waiting before []) between text
+said_front : (stop : Stop) (status : ℕ) (before after : Option (List ℕ)) (between : Output) (text : List ℕ) → HasSaidText stop (with_waiting before []) between text
     → IsFinished (Stopped stop) status between after → AppendsFront before after (text ++ stop_text stop)
 said_front stop status before after between text said finished = grind (arith, common_steps)
 
@@ -80,7 +80,7 @@ pub talk_done : {S X : Type 0} (p : Protocol S X) (first : S) (stop : Stop) (sta
     → HasStopped p stop trace left first (with_waiting before []) between 0 → (Stopped stop ≡ Stopped ReadFault → pull_failed) → IsFinished (Stopped stop) status between after
     → HasTalked p first status pull_failed trace left before after
 talk_done p first stop status pull_failed trace left before after between stopped read finished =
-    let said : HasSaid stop (with_waiting before []) between (texts_of p stopped.replies) = record { whole = stopped.whole; front = stopped.front } in
+    let said : HasSaidText stop (with_waiting before []) between (texts_of p stopped.replies) = record { whole = stopped.whole; front = stopped.front } in
     record {
       stop = stop;
       replies = stopped.replies;
@@ -128,7 +128,7 @@ put_done text v1 status before after between made finished = grind (arith, commo
 
 told_done : (choices : Choices) (ending : Ending) (status : ℕ) (pull_failed : Type 0) (trace left before after : Option (List ℕ)) (between : Output)
     → CheckEnds choices ending trace left (with_waiting before []) between → (ending ≡ Stopped ReadFault → pull_failed) → IsFinished ending status between after
-    → HasTold choices status pull_failed trace left before after
+    → HasCheckedTrace choices status pull_failed trace left before after
 told_done choices ending status pull_failed trace left before after between ended read finished = search rules
 
 -- what was asked for is done

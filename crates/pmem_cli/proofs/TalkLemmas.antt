@@ -13,7 +13,7 @@ use Rattle.plain_model.specs.declared.Stop.TheVariants.{Finished, Words, Memory,
 use Rattle.plain_model.specs.Lines.{lines_of, ended, IsWithin}
 use Rattle.plain_model.specs.Run.{line_limit}
 use Rattle.trace_text.specs.Talks.{Sort, asked, faulty}
-use Rattle.trace_text.specs.Conversations.{Protocol, line_sort, AnswersOne, IsTalk, AreGiven, IsTalkFront, IsCutShortTalk, IsShownTalk, TalkEnds}
+use Rattle.trace_text.specs.Conversations.{Protocol, line_sort, AnswersOne, IsTalk, AreRepliesGiven, IsTalkFront, IsCutShortTalk, IsShownTalk, TalkEnds}
 use Rattle.pmem_cli.proofs.LineLemmas.{lines_of-begins, lines_of-all_ended}
 
 short_sort : (b : Bool) (s : Sort) → b ≡ false → (if b then faulty Long else s) ≡ s
@@ -53,25 +53,25 @@ module _ {S X : Type 0} (p : Protocol S X) where
   )
 
   -- one reply, and more
-  given_one : (first next : S) (line : List ℕ) (here later : List X) → AnswersOne p first line here next → AreGiven p next later → AreGiven p first (here ++ later)
+  given_one : (first next : S) (line : List ℕ) (here later : List X) → AnswersOne p first line here next → AreRepliesGiven p next later → AreRepliesGiven p first (here ++ later)
   given_one first next line here later (inl skip) g =
-      subst (λ s. AreGiven p s (here ++ later)) skip.2 (subst (λ zs. AreGiven p next (zs ++ later)) (sym skip.1) g)
+      subst (λ s. AreRepliesGiven p s (here ++ later)) skip.2 (subst (λ zs. AreRepliesGiven p next (zs ++ later)) (sym skip.1) g)
   given_one first next line here later (inr one) g =
-      subst (λ zs. AreGiven p first (zs ++ later)) (sym one.2) (line, one.1, inl (next, one.3, g))
+      subst (λ zs. AreRepliesGiven p first (zs ++ later)) (sym one.2) (line, one.1, inl (next, one.3, g))
 
   -- replies that follow those to some lines
-  pub AreGiven-after : (first middle : S) (ls : List (List ℕ)) (xs ys : List X) → IsTalk p first ls xs middle → AreGiven p middle ys → AreGiven p first (xs ++ ys)
-  AreGiven-after first middle [] xs ys a g = subst (λ s. AreGiven p s (xs ++ ys)) a.1 (subst (λ zs. AreGiven p middle (zs ++ ys)) (sym a.0) g)
-  AreGiven-after first middle (line ∷ ls) xs ys a g =
-      subst (λ zs. AreGiven p first zs) (sym (ap (λ l. l ++ ys) a.4 ∙ append_assoc a.1 a.2 ys))
-      (given_one first a.0 line a.1 (a.2 ++ ys) a.3 (AreGiven-after a.0 middle ls a.2 ys a.5 g))
+  pub AreRepliesGiven-after : (first middle : S) (ls : List (List ℕ)) (xs ys : List X) → IsTalk p first ls xs middle → AreRepliesGiven p middle ys → AreRepliesGiven p first (xs ++ ys)
+  AreRepliesGiven-after first middle [] xs ys a g = subst (λ s. AreRepliesGiven p s (xs ++ ys)) a.1 (subst (λ zs. AreRepliesGiven p middle (zs ++ ys)) (sym a.0) g)
+  AreRepliesGiven-after first middle (line ∷ ls) xs ys a g =
+      subst (λ zs. AreRepliesGiven p first zs) (sym (ap (λ l. l ++ ys) a.4 ∙ append_assoc a.1 a.2 ys))
+      (given_one first a.0 line a.1 (a.2 ++ ys) a.3 (AreRepliesGiven-after a.0 middle ls a.2 ys a.5 g))
 
-  pub AreGiven-all : (first last : S) (ls : List (List ℕ)) (xs : List X) → IsTalk p first ls xs last → AreGiven p first xs
-  AreGiven-all first last ls xs a = subst (λ zs. AreGiven p first zs) (append-nil xs) (AreGiven-after first last ls xs [] a tt)
+  pub AreRepliesGiven-all : (first last : S) (ls : List (List ℕ)) (xs : List X) → IsTalk p first ls xs last → AreRepliesGiven p first xs
+  AreRepliesGiven-all first last ls xs a = subst (λ zs. AreRepliesGiven p first zs) (append-nil xs) (AreRepliesGiven-after first last ls xs [] a tt)
 
   -- a reply that is an exhibit
-  pub AreGiven-shown : (first : S) (line : List ℕ) (x : X) → line_sort p line ≡ asked → p.shows first line x → AreGiven p first (x ∷ [])
-  AreGiven-shown first line x its_sort shown = (line, its_sort, inr (shown, refl))
+  pub AreRepliesGiven-shown : (first : S) (line : List ℕ) (x : X) → line_sort p line ≡ asked → p.shows first line x → AreRepliesGiven p first (x ∷ [])
+  AreRepliesGiven-shown first line x its_sort shown = (line, its_sort, inr (shown, refl))
 
   -- ---- what a stop says after some lines, it says from the lines before them on
 
@@ -259,6 +259,6 @@ module _ {S X : Type 0} (p : Protocol S X) where
       inr (TalkEnds-shown first served left trace line behind x cut its_sort shown limit)
 
   -- so its reply was given
-  pub AreGiven-untold : (first next : S) (line : List ℕ) (x : X) → line_sort p line ≡ asked → p.answers first line x next ⊎ p.shows first line x → AreGiven p first (x ∷ [])
-  AreGiven-untold first next line x its_sort (inl replied) = (line, its_sort, inl (next, replied, tt))
-  AreGiven-untold first next line x its_sort (inr shown) = AreGiven-shown first line x its_sort shown
+  pub AreRepliesGiven-untold : (first next : S) (line : List ℕ) (x : X) → line_sort p line ≡ asked → p.answers first line x next ⊎ p.shows first line x → AreRepliesGiven p first (x ∷ [])
+  AreRepliesGiven-untold first next line x its_sort (inl replied) = (line, its_sort, inl (next, replied, tt))
+  AreRepliesGiven-untold first next line x its_sort (inr shown) = AreRepliesGiven-shown first line x its_sort shown

@@ -7,7 +7,7 @@ use Rattle.pmem_base.specs.Shape.{Shape}
 use Rattle.suite.specs.Formulas.{Formulas}
 use Rattle.suite.specs.Setup.{Setup}
 use Rattle.plain_model.specs.Texts.{as_line}
-use Rattle.trace_text.specs.Conversations.{Protocol, talk_protocol, AreGiven}
+use Rattle.trace_text.specs.Conversations.{Protocol, talk_protocol, AreRepliesGiven}
 use Rattle.tree_session.specs.declared.commands.TreeCommand.{TreeCommand}
 use Rattle.tree_session.specs.declared.answers.TreeAnswer.{TreeAnswer}
 use Rattle.tree_session.specs.Answered.{IsTreeAnswered, IsEngineShown, IsTreeShownBy, IsTreeTalkedOf, IsTreeShownOf, IsTreeStarvedOf}
@@ -93,7 +93,7 @@ record IsTreeChain (setup : Setup) (first : SessionState) (said : List (Said Tre
   shown : All (IsShownBefore setup last) (exhibits_among said)
 
 chain_of_given : (setup : Setup) (first : SessionState) (said : List (Said TreeReply))
-    → AreGiven (session_protocol (counter_tree_session setup)) first said → IsTreeChain setup first said
+    → AreRepliesGiven (session_protocol (counter_tree_session setup)) first said → IsTreeChain setup first said
 chain_of_given setup first [] given = record { last = first; answered = refl; shown = All-nil _ }
 chain_of_given setup first (reply its ∷ said) (line, its_sort, inl (next, answered, more)) =
     let rest = chain_of_given setup next said more in

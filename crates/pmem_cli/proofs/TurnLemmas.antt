@@ -16,7 +16,7 @@ use Rattle.pmem_cli.specs.Printed.{Output, Prints, PrintsFront}
 use Rattle.pmem_cli.specs.Turns.{HasServed, HasStopped, AnswersLine, Turns}
 use Rattle.pmem_cli.proofs.LineLemmas.{lines_ahead, lines_of-last, lines_of-some}
 use Rattle.pmem_cli.proofs.PrintLemmas.{Prints-nil, Prints-trans, Prints-front, PrintsFront-trans}
-use Rattle.pmem_cli.proofs.TalkLemmas.{sort_within, IsTalk-one, IsTalk-append, AreGiven-after, AreGiven-all, AreGiven-shown, AreGiven-untold, front_nil, TalkEnds-after, TalkEnds-refused, TalkEnds-long, TalkEnds-wanting, TalkEnds-shown, TalkEnds-untold}
+use Rattle.pmem_cli.proofs.TalkLemmas.{sort_within, IsTalk-one, IsTalk-append, AreRepliesGiven-after, AreRepliesGiven-all, AreRepliesGiven-shown, AreRepliesGiven-untold, front_nil, TalkEnds-after, TalkEnds-refused, TalkEnds-long, TalkEnds-wanting, TalkEnds-shown, TalkEnds-untold}
 
 -- what holds of all bytes that begin so holds of those that were ahead
 pub IfSome-ahead : (a b : Option (List ℕ)) (front : List ℕ) (P : List ℕ → Type 0) → Consumes a b front → ((rest : List ℕ) → P (front ++ rest)) → IfSome a P
@@ -81,7 +81,7 @@ module _ {S X : Type 0} (p : Protocol S X) where
       record {
         replies = xs ++ stopped.replies;
         ends = ends_after left a b s t o q ls xs stopped.replies stop k served stopped.ends;
-        given = AreGiven-after p s t ls xs stopped.replies served.talk stopped.given;
+        given = AreRepliesGiven-after p s t ls xs stopped.replies served.talk stopped.given;
         front = rw flat_map-append (PrintsFront-trans o q r (texts_of p xs) (texts_of p stopped.replies) served.printed stopped.front);
         whole = λ told. rw flat_map-append (Prints-trans o q r (texts_of p xs) (texts_of p stopped.replies) served.printed (stopped.whole told));
       }
@@ -129,7 +129,7 @@ module _ {S X : Type 0} (p : Protocol S X) where
       record {
         replies = x ∷ [];
         ends = ends (x ∷ []) (λ trace behind cut. TalkEnds-untold p s t served left trace line behind x cut here replied limit);
-        given = AreGiven-untold p s t line x here replied;
+        given = AreRepliesGiven-untold p s t line x here replied;
         front = rw append-nil front;
         whole = λ told. absurd (told refl);
       }
@@ -138,7 +138,7 @@ module _ {S X : Type 0} (p : Protocol S X) where
       record {
         replies = x ∷ [];
         ends = ends (x ∷ []) (λ trace behind cut. TalkEnds-shown p s served left trace line behind x cut here shown limit);
-        given = AreGiven-shown p s line x here shown;
+        given = AreRepliesGiven-shown p s line x here shown;
         front = rw append-nil (Prints-front o q (p.text_of x) printed);
         whole = λ told. rw append-nil printed;
       }
@@ -205,7 +205,7 @@ module _ {S X : Type 0} (p : Protocol S X) where
         ends =
             Consumes-whole a b line (λ bytes. TalkEnds p s served Finished bytes left one.replies) taken end
             (record { last = t; talk = rw cut one.talk; counted = rw cut (omega (arith, limit)) });
-        given = AreGiven-all p s t (line ∷ []) one.replies one.talk;
+        given = AreRepliesGiven-all p s t (line ∷ []) one.replies one.talk;
         front = Prints-front o q (texts_of p one.replies) one.printed;
         whole = λ told. one.printed;
       }

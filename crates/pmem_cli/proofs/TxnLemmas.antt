@@ -16,7 +16,7 @@ use Rattle.txn_session.specs.Guarantees.{TxnReply, AreTxnAnswered, AreTxnsKept, 
 use Rattle.txn_session.specs.State.{TxnState, Entries, IsNewTxn, txn_setup_in}
 use Rattle.plain_model.specs.State.{Memory}
 use Rattle.plain_model.specs.Texts.{as_line}
-use Rattle.trace_text.specs.Conversations.{Protocol, talk_protocol, AreGiven}
+use Rattle.trace_text.specs.Conversations.{Protocol, talk_protocol, AreRepliesGiven}
 use Rattle.pmem_cli.specs.Sessions.{Said, reply, exhibit, session_protocol, replies_among}
 use Rattle.pmem_cli.specs.Txn.{transactions_session}
 use Rattle.pmem_cli.proofs.Following.{Follows}
@@ -118,7 +118,7 @@ follows_txn f setup =
 -- ---- what its replies promise
 
 answered_of_given : (setup : Setup) (first : TxnState) (said : List (Said TxnReply))
-    → AreGiven (session_protocol (transactions_session setup)) first said → (last : TxnState) × AreTxnAnswered setup first (replies_among said) last
+    → AreRepliesGiven (session_protocol (transactions_session setup)) first said → (last : TxnState) × AreTxnAnswered setup first (replies_among said) last
 answered_of_given setup first [] given = (first, refl)
 answered_of_given setup first (reply its ∷ said) (line, its_sort, inl (next, answered, more)) =
     let rest = answered_of_given setup next said more in (rest.0, (next, answered.1, rest.1))

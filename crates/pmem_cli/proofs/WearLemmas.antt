@@ -17,7 +17,7 @@ use Rattle.wear_session.specs.State.{WearState, IsNewWear, wear_setup_in, wear_w
 use Rattle.plain_model.specs.State.{Memory}
 use Rattle.plain_model.specs.Texts.{as_line}
 use Rattle.start_gap.specs.declared.wear.Wear.{Wear}
-use Rattle.trace_text.specs.Conversations.{Protocol, talk_protocol, AreGiven}
+use Rattle.trace_text.specs.Conversations.{Protocol, talk_protocol, AreRepliesGiven}
 use Rattle.pmem_cli.specs.Sessions.{Said, reply, exhibit, session_protocol, replies_among}
 use Rattle.pmem_cli.specs.Wear.{levelled_session}
 use Rattle.pmem_cli.proofs.Following.{Follows}
@@ -113,7 +113,7 @@ follows_wear f setup every =
 -- ---- what its replies promise
 
 answered_of_given : (setup : Setup) (every : ℕ) (first : WearState) (said : List (Said WearReply))
-    → AreGiven (session_protocol (levelled_session setup every)) first said → (last : WearState) × AreWearAnswered setup first (replies_among said) last
+    → AreRepliesGiven (session_protocol (levelled_session setup every)) first said → (last : WearState) × AreWearAnswered setup first (replies_among said) last
 answered_of_given setup every first [] given = (first, refl)
 answered_of_given setup every first (reply its ∷ said) (line, its_sort, inl (next, answered, more)) =
     let rest = answered_of_given setup every next said more in (rest.0, (next, answered.1, rest.1))

@@ -17,7 +17,7 @@ use Rattle.plain_model.specs.Grammar.{Reading, verbs, reading_of, reading_among,
 use Rattle.plain_model.specs.Run.{Machine, Step, machine_after_all, IsAnswered, IsRunFrom, IsShownFrom, EndsFrom}
 use Rattle.pmem_replay.specs.World.{WorldState}
 use Rattle.trace_text.specs.Talks.{skipped, faulty}
-use Rattle.trace_text.specs.Conversations.{line_sort, AnswersOne, IsTalk, AreGiven, IsShownTalk, TalkEnds}
+use Rattle.trace_text.specs.Conversations.{line_sort, AnswersOne, IsTalk, AreRepliesGiven, IsShownTalk, TalkEnds}
 use Rattle.pmem_cli.specs.Printed.{Output}
 use Rattle.pmem_cli.specs.Standing.{Standing, standing_of, AreStepped, StandingAfter}
 use Rattle.trace_text.specs.Entries.{sort_of_reading}
@@ -134,7 +134,7 @@ run_of_talk f old new (line ∷ ls) xs running (next, here, later, answered, spl
 
 -- ---- the chain of worlds
 
-pub stepped_of_given : (f : List ℕ → Formulas) (world : WorldState) (xs : List Step) → AreGiven (world_protocol f) world xs
+pub stepped_of_given : (f : List ℕ → Formulas) (world : WorldState) (xs : List Step) → AreRepliesGiven (world_protocol f) world xs
     → (last : WorldState) × AreStepped (standing_of f world).setup world xs last
 stepped_of_given f world [] given = (world, refl)
 stepped_of_given f world (step ∷ xs) (line, its_sort, inl (next, goes, more)) =

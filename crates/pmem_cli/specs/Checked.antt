@@ -98,8 +98,8 @@ LooksTo found served Shown bytes left after = ⊥
 LooksTo found served TooManyLines bytes left after = IsPastLimit found served (lines_of bytes) after
 
 -- the same where the source may tell no bytes
-abbrev pub HasLooked : Stop → Option (List ℕ) → Option (List ℕ) → Option Exhibit → Option Exhibit → ℕ → Type 0
-HasLooked stop ahead left before after served = (stop ≢ Words) × (stop ≢ WriteFault) × IfSome ahead (λ bytes. LooksTo before served stop bytes left after)
+abbrev pub HasCheckedLines : Stop → Option (List ℕ) → Option (List ℕ) → Option Exhibit → Option Exhibit → ℕ → Type 0
+HasCheckedLines stop ahead left before after served = (stop ≢ Words) × (stop ≢ WriteFault) × IfSome ahead (λ bytes. LooksTo before served stop bytes left after)
 
 -- one line was looked at, or it is refused
 abbrev pub ChecksLine : Option Stop → List ℕ → ℕ → Option Exhibit → Option Exhibit → Type 0
@@ -111,7 +111,7 @@ ChecksLine (Some stop) line number before after = ⊥
 abbrev pub ChecksNext : Option Stop → Option (List ℕ) → Option (List ℕ) → Option (List ℕ) → Option Exhibit → Option Exhibit → ℕ → Type 0
 ChecksNext None ahead behind left before after served =
     (line : List ℕ) × Consumes ahead behind (ended line) × IsWithin line × (found_with before line ≡ Ok after)
-ChecksNext (Some stop) ahead behind left before after served = HasLooked stop ahead left before after served
+ChecksNext (Some stop) ahead behind left before after served = HasCheckedLines stop ahead left before after served
 
 -- ---- the whole check
 

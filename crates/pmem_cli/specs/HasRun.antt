@@ -19,7 +19,7 @@ use Rattle.pmem_cli.specs.Checked.{IsChecked}
 use Rattle.pmem_cli.specs.Endings.{ending_text, ending_status}
 use Rattle.pmem_cli.specs.Keys.{formulas_of, setup_chosen}
 use Rattle.pmem_cli.specs.Printed.{Output, AppendsFront}
-use Rattle.pmem_cli.specs.Sampled.{HasSaid, SampleEnds}
+use Rattle.pmem_cli.specs.Sampled.{HasSaidText, SampleEnds}
 use Rattle.pmem_cli.specs.Sessions.{session_protocol, HasSession, SessionEnds}
 use Rattle.pmem_cli.specs.Standing.{IsReplayed}
 use Rattle.pmem_cli.specs.Sums.{AreStepSums}
@@ -68,7 +68,7 @@ pub record HasSampled (setup : Setup) (commands : List Command) (status : ℕ) (
 
 -- The source was checked to an ending, and its line was put: the whole of it, with the ending's own
 -- status, or a front of it, with status 4. Whatever the status, the ending is a failed pull only where one failed.
-pub record HasTold (choices : Choices) (status : ℕ) (pull_failed : Type 0) (trace left put_before put_after : Option (List ℕ)) : Type 0 where
+pub record HasCheckedTrace (choices : Choices) (status : ℕ) (pull_failed : Type 0) (trace left put_before put_after : Option (List ℕ)) : Type 0 where
   pub ending : Ending
   pub checked : IfSome trace (λ bytes. IsChecked (formulas_of choices) ending bytes left)
   pub read : ending ≡ Stopped ReadFault → pull_failed
@@ -82,7 +82,7 @@ TaskOutcome (Task.Run c) status pull_failed trace left before after = HasRun (se
 TaskOutcome (Task.Make seed count) status pull_failed trace left before after = HasTextPut (commands_text (sample_trace seed count)) status before after
 TaskOutcome (Task.Sample seed count) status pull_failed trace left before after =
     HasSampled default_setup (sample_trace seed count) status before after
-TaskOutcome (Task.Check c) status pull_failed trace left before after = HasTold c status pull_failed trace left before after
+TaskOutcome (Task.Check c) status pull_failed trace left before after = HasCheckedTrace c status pull_failed trace left before after
 TaskOutcome (Task.Wear c) status pull_failed trace left before after = HasSession (wear_chosen c) status pull_failed trace left before after
 TaskOutcome (Task.Tree c) status pull_failed trace left before after = HasSession (tree_chosen c) status pull_failed trace left before after
 TaskOutcome (Task.Txn c) status pull_failed trace left before after = HasSession (txn_chosen c) status pull_failed trace left before after
@@ -110,14 +110,14 @@ AreRefusedWords put_before put_after faults_before faults_after =
 -- a text was printed, or the sink failed at it
 pub record TextOutcome (stop : Stop) (from to : Output) (text : List ℕ) : Type 0 where
   pub its_stop : (stop ≡ Finished) ⊎ (stop ≡ WriteFault)
-  pub said : HasSaid stop from to text
+  pub said : HasSaidText stop from to text
 
 -- a trace was run to a stop, with all replies printed
 pub record HasReplayed (setup : Setup) (stop : Stop) (trace left : Option (List ℕ)) (from to : Output) : Type 0 where
   pub steps : List Step
   pub ends : IfSome trace (λ bytes. Ends setup stop bytes left steps)
   pub replayed : IsReplayed setup steps
-  pub said : HasSaid stop from to (steps_text steps)
+  pub said : HasSaidText stop from to (steps_text steps)
 
 -- commands were run to a stop, with the last answer printed
 pub record HasRunSample (setup : Setup) (commands : List Command) (stop : Stop) (from to : Output) : Type 0 where
@@ -126,7 +126,7 @@ pub record HasRunSample (setup : Setup) (commands : List Command) (stop : Stop) 
   pub ends : SampleEnds setup (start setup) commands stop steps text
   pub replayed : IsReplayed setup steps
   pub summed : AreStepSums setup (start setup) steps
-  pub said : HasSaid stop from to text
+  pub said : HasSaidText stop from to text
 
 -- a run came to its stop
 pub record RunEnds (setup : Setup) (ending : Ending) (trace left : Option (List ℕ)) (from to : Output) : Type 0 where

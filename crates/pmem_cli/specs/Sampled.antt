@@ -56,7 +56,7 @@ SampleEnds setup machine commands TooManyLines steps text = ⊥
 -- ---- by a world
 
 -- the commands before these were answered, none by an exhibit
-pub record HasCome (before after : Standing) (commands behind : List Command) (steps : List Step) : Type 0 where
+pub record HasAnsweredFront (before after : Standing) (commands behind : List Command) (steps : List Step) : Type 0 where
   pub in_order : map (λ step. step.command) steps ++ behind ≡ commands
   pub answered : AreAnswered before.setup before.machine steps
   pub none_shown : All (λ step. is_shown step.reply.answer ≡ false) steps
@@ -66,12 +66,12 @@ pub record HasCome (before after : Standing) (commands behind : List Command) (s
 abbrev pub LeadsOn : Standing → List Step → Type 0
 LeadsOn before steps = (last : WorldState) × AreStepped before.setup before.world steps last
 
-abbrev pub HasReached : Standing → List Command → Answer → Type 0
-HasReached before commands answer =
+abbrev pub HasReachedAnswer : Standing → List Command → Answer → Type 0
+HasReachedAnswer before commands answer =
     (steps : List Step) × IsLastAnswer before.setup before.machine commands steps answer × LeadsOn before steps
 
 -- a text was printed, or a front of it where the sink failed
-pub record HasSaid (stop : Stop) (from to : Output) (text : List ℕ) : Type 0 where
+pub record HasSaidText (stop : Stop) (from to : Output) (text : List ℕ) : Type 0 where
   pub whole : stop ≢ WriteFault → Prints from to text
   pub front : PrintsFront from to text
 
@@ -81,4 +81,4 @@ pub record HasToldSample (stop : Stop) (before : Standing) (commands : List Comm
   pub text : List ℕ
   pub ends : SampleEnds before.setup before.machine commands stop steps text
   pub leads : LeadsOn before steps
-  pub said : HasSaid stop from to text
+  pub said : HasSaidText stop from to text

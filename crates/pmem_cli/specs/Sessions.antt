@@ -8,11 +8,11 @@ use Rattle.plain_model.specs.declared.Stop.TheVariants.{Memory, ReadFault}
 use Rattle.plain_model.specs.Run.{stop_text, status_of}
 use Rattle.plain_model.specs.Texts.{as_line, answer_text}
 use Rattle.trace_text.specs.Talks.{Sort}
-use Rattle.trace_text.specs.Conversations.{Protocol, texts_of, AreGiven, TalkEnds}
+use Rattle.trace_text.specs.Conversations.{Protocol, texts_of, AreRepliesGiven, TalkEnds}
 use Rattle.pmem_cli.specs.declared.ending.Ending.{Ending}
 use Rattle.pmem_cli.specs.declared.ending.Ending.TheVariants.{Stopped}
 use Rattle.pmem_cli.specs.Printed.{Output, AppendsFront}
-use Rattle.pmem_cli.specs.Sampled.{HasSaid}
+use Rattle.pmem_cli.specs.Sampled.{HasSaidText}
 use Rattle.pmem_cli.specs.Talked.{HasToldFirst}
 
 -- ---- a session
@@ -81,7 +81,7 @@ pub record IsConversation {S R : Type 0} (session : Session S R) (stop : Stop) (
   pub first : S
   pub begins : session.begins first
   pub ends : IfSome trace (λ bytes. TalkEnds (session_protocol session) first 0 stop bytes left said)
-  pub given : AreGiven (session_protocol session) first said
+  pub given : AreRepliesGiven (session_protocol session) first said
   pub promised : session.promises first said
 
 -- Memory was wanted for the session itself, and nothing was taken; or it came to the stop.
@@ -113,7 +113,7 @@ HasSaidFirst {S} session trace left_before from put =
 pub record HasConversed {S R : Type 0} (session : Session S R) (stop : Stop) (trace left : Option (List ℕ)) (from to : Output) : Type 0 where
   pub said : List (Said R)
   pub talked : Converses session stop trace left said
-  pub printed : HasSaid stop from to (texts_of (session_protocol session) said)
+  pub printed : HasSaidText stop from to (texts_of (session_protocol session) said)
 
 pub record SessionEnds {S R : Type 0} (session : Session S R) (ending : Ending) (trace left : Option (List ℕ)) (from to : Output) : Type 0 where
   pub stop : Stop

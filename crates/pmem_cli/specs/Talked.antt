@@ -7,7 +7,7 @@ use Rattle.plain_model.specs.declared.Stop.TheVariants.{ReadFault}
 use Rattle.plain_model.specs.Lines.{lines_of, IsWithin, ended}
 use Rattle.plain_model.specs.Run.{line_limit, stop_text, status_of}
 use Rattle.trace_text.specs.Talks.{Sort, skipped, asked, faulty}
-use Rattle.trace_text.specs.Conversations.{Protocol, line_sort, texts_of, IsTalk, AreGiven, TalkEnds}
+use Rattle.trace_text.specs.Conversations.{Protocol, line_sort, texts_of, IsTalk, AreRepliesGiven, TalkEnds}
 use Rattle.pmem_cli.specs.Printed.{Output, AppendsFront, PutsAtLeast}
 
 -- The trace ends by a stop, and its replies and the stop's line were put: the whole of them, with the
@@ -18,7 +18,7 @@ pub record HasTalked {S X : Type 0} (protocol : Protocol S X) (first : S) (statu
   pub stop : Stop
   pub replies : List X
   pub ends : IfSome trace (λ bytes. TalkEnds protocol first 0 stop bytes left replies)
-  pub given : AreGiven protocol first replies
+  pub given : AreRepliesGiven protocol first replies
   pub read : stop ≡ ReadFault → pull_failed
   pub its_status : status ≢ 4 → status ≡ status_of stop
   pub whole : status ≢ 4 → Appends put_before put_after (texts_of protocol replies ++ stop_text stop)

@@ -7,7 +7,7 @@ use Rattle.plain_model.specs.declared.Stop.{Stop}
 use Rattle.plain_model.specs.declared.Stop.TheVariants.{Finished, Memory, Words, ReadFault, WriteFault, Refused, Shown, TooManyLines}
 use Rattle.plain_model.specs.Lines.{IsWithin, ended}
 use Rattle.trace_text.specs.Talks.{skipped, asked, faulty}
-use Rattle.trace_text.specs.Conversations.{Protocol, texts_of, IsTalk, AreGiven, TalkEnds}
+use Rattle.trace_text.specs.Conversations.{Protocol, texts_of, IsTalk, AreRepliesGiven, TalkEnds}
 use Rattle.pmem_cli.specs.Causes.{CountsFault}
 use Rattle.pmem_cli.specs.Printed.{Output, Prints, PrintsFront}
 
@@ -26,7 +26,7 @@ pub record HasStopped {S X : Type 0} (protocol : Protocol S X) (stop : Stop) (ah
     (served : ℕ) : Type 0 where
   pub replies : List X
   pub ends : IfSome ahead (λ bytes. TalkEnds protocol before served stop bytes left replies)
-  pub given : AreGiven protocol before replies
+  pub given : AreRepliesGiven protocol before replies
   pub front : PrintsFront from to (texts_of protocol replies)
   pub whole : stop ≢ WriteFault → Prints from to (texts_of protocol replies)
 

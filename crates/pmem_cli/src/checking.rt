@@ -8,7 +8,7 @@ ghost use Rattle.pmem_cli.specs.Pulling.{IsInTime, PullsInTime};
 ghost use Rattle.pmem_cli.specs.declared.ending.Ending.TheVariants.{Stopped};
 ghost use Rattle.pmem_cli.specs.Words.{AreChosen};
 ghost use Rattle.pmem_cli.specs.Keys.{formulas_of};
-ghost use Rattle.pmem_cli.specs.Checked.{is_skipped, found_with, ChecksLine, ChecksNext, HasLooked, IsChecked};
+ghost use Rattle.pmem_cli.specs.Checked.{is_skipped, found_with, ChecksLine, ChecksNext, HasCheckedLines, IsChecked};
 
 use crate::ending::Ending;
 use crate::lines::{Found, LINE_BYTES, LineReader};
@@ -94,7 +94,7 @@ fn check_next<S: Source>(
 
 /// Looks at all lines for the one exhibit, and says why that stops.
 fn look<S: Source>(found: &mut Option<Exhibit>, trace: &mut S) -> Stop
-    ensures looked { HasLooked result (S.left trace.old) (S.left trace.new) found.old found.new 0 }
+    ensures looked { HasCheckedLines result (S.left trace.old) (S.left trace.new) found.old found.new 0 }
     ensures reads { CountsFault (result ≡ Stop.ReadFault) (S.faults trace.old) (S.faults trace.new) }
     ensures in_time { IsInTime (S.pulls trace.old) (S.pulls trace.new) }
 {

@@ -6,7 +6,7 @@ ghost use Rattle.trace_text.specs.Answers.{HasSmallMinors};
 ghost use Rattle.trace_text.specs.Samples.{sample_trace};
 ghost use Rattle.pmem_cli.specs.HasRun.{HasRunSample};
 ghost use Rattle.pmem_cli.specs.Printed.{with_waiting};
-ghost use Rattle.pmem_cli.specs.Sampled.{HasReached, HasToldSample};
+ghost use Rattle.pmem_cli.specs.Sampled.{HasReachedAnswer, HasToldSample};
 ghost use Rattle.pmem_cli.specs.Turns.{StopsByCause};
 ghost use Rattle.pmem_cli.specs.Standing.{standing_of};
 
@@ -32,7 +32,7 @@ fn replay_sample<U: Counted + Drop>(
     world: &mut World<U>,
 ) -> Result<Answer, MemFault>
     requires running { world.old.shown ≡ false }
-    ensures reached { IfOk result (HasReached (standing_of U.formulas_of world.old) (sample_trace seed count)) }
+    ensures reached { IfOk result (HasReachedAnswer (standing_of U.formulas_of world.old) (sample_trace seed count)) }
     ensures minors { IfOk result HasSmallMinors }
 {
     let mut maker = Maker::new(seed);

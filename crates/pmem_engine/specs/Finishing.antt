@@ -24,9 +24,9 @@ pub record IsClosed (old new : Parts) (n : ℕ) : Type 0 where
   pub gone : register_of (regs_of new).progress.items (register_in old n).page ≡ None
   pub one_less : length (regs_of new).progress.items + 1 ≡ length (regs_of old).progress.items
 
-abbrev pub HasLeft : Parts → Parts → ℕ → List ℕ → Type 0
-HasLeft old new n [] = IsClosed old new n
-HasLeft old new n (i ∷ left) = IsStillOpen old new n (i ∷ left)
+abbrev pub HasPlacesLeft : Parts → Parts → ℕ → List ℕ → Type 0
+HasPlacesLeft old new n [] = IsClosed old new n
+HasPlacesLeft old new n (i ∷ left) = IsStillOpen old new n (i ∷ left)
 
 -- the lines at the first places not done of register n's page were sealed anew; the others are left
 pub record HasResealedFirst (setup : Setup) (n number : ℕ) (old new : Parts) : Type 0 where
@@ -49,7 +49,7 @@ pub record HasResealedFirst (setup : Setup) (n number : ℕ) (old new : Parts) :
   pub sealed_before :
       AreTrusted setup old → (a : ℕ) → a < layout.data_lines setup.shape → IsTrue (is_sealed_by made a)
       → HoldsSeal setup.shape old a
-  pub registers : HasLeft old new n left
+  pub registers : HasPlacesLeft old new n left
   pub others :
       (page : ℕ) → register_of (regs_of old).progress.items page ≡ None
       → register_of (regs_of new).progress.items page ≡ None

@@ -6,7 +6,7 @@ ghost use Rattle.pmem_base.specs.Layout.{page_of, index_in_page, data_lines, dev
 ghost use Rattle.pmem_base.specs.Registers.{IsGroup, IsValidRegs};
 ghost use Rattle.bonsai_tree.specs.Positions.{counter_position};
 ghost use Rattle.meta_path.specs.Blocks.{IsPathCached};
-ghost use Rattle.meta_path.specs.Storing.{IsPathOf, AreTold};
+ghost use Rattle.meta_path.specs.Storing.{IsPathOf, HasMetaLines};
 ghost use Rattle.page_reencrypt.specs.Registers.{registers_with_done, register_of};
 ghost use Rattle.split_counters.specs.Blocks.{packed, minor_of, next_block};
 ghost use Rattle.pmem_engine.specs.Parts.{parts_at, setup_at};
@@ -221,7 +221,7 @@ impl Engine {
         requires cached { IsPathCached self.old.shape self.old.cache page }
         requires truth { length (A.ledger audit.old).truth ≡ meta_lines self.old.shape }
         ensures stored { HasStoredPath self.old.shape page persisted path.now.lines.items self.old self.new }
-        ensures told { AreTold path.now.lines.items (A.ledger audit.old) (A.ledger audit.new) }
+        ensures told { HasMetaLines path.now.lines.items (A.ledger audit.old) (A.ledger audit.new) }
     {
         self.cache.are_banks();
         store_path(&mut self.cache, audit, path, persisted);

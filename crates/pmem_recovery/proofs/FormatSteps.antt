@@ -23,8 +23,8 @@ use Rattle.suite.specs.Formulas.{Formulas}
 use Rattle.suite.specs.Setup.{Setup}
 use Rattle.seal_ledger.specs.Ledger.{LedgerState}
 use Rattle.pmem_engine.specs.Formatted.{first_seal, first_block}
-use Rattle.pmem_recovery.specs.Parts.{Told}
-use Rattle.pmem_recovery.specs.Writing.{BothTold}
+use Rattle.pmem_recovery.specs.Parts.{IfLinesTold}
+use Rattle.pmem_recovery.specs.Writing.{IfBothLinesTold}
 use Rattle.pmem_recovery.specs.Formatting.{first_cipher, first_tag, IsFirstSealed, HasSealedFrom, StaysSteady, HasSealedGroup, HasSealedAll}
 use Rattle.pmem_recovery.proofs.WriteSteps.{told_earlier}
 
@@ -89,10 +89,10 @@ HasSealedFrom-then setup a k b m old mid new e x y =
 -- the first i of a group are written
 pub record IsGroupTo (setup : Setup) (group i : ℕ) (old new : Device) : Type 0 where
   pub written :
-      Told new.lines (λ now. length now ≡ layout.device_lines setup.shape
+      IfLinesTold new.lines (λ now. length now ≡ layout.device_lines setup.shape
       → (j : ℕ) → j < i → line_at now (4 * group + j) ≡ first_cipher setup (4 * group + j))
   pub others :
-      BothTold old new (λ lines now. (d : ℕ) → (d < 4 * group) ⊎ (4 * group + i ≤ d) → line_at now d ≡ line_at lines d)
+      IfBothLinesTold old new (λ lines now. (d : ℕ) → (d < 4 * group) ⊎ (4 * group + i ≤ d) → line_at now d ≡ line_at lines d)
 
 pub IsGroupTo-more : (setup : Setup) (group i at : ℕ) (old mid new : Device) → group < 16 * layout.pages setup.shape → i < 4 → at ≡ 4 * group + i → IsGroupTo setup group i old mid → HasWritten mid at (first_cipher setup at) new → IsGroupTo setup group (i + 1) old new
 IsGroupTo-more setup group i at old mid new inside small here g w =

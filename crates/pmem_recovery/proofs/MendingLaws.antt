@@ -17,10 +17,10 @@ use Rattle.suite.specs.Setup.{Setup}
 use Rattle.pmem_engine.specs.Mendable.{IsShadowZero}
 use Rattle.pmem_engine.proofs.Laws.MendableLaws.{line_at-shadow_of, shadow_of-same}
 use Rattle.pmem_recovery.specs.declared.entries.Made.{Made}
-use Rattle.pmem_recovery.specs.Parts.{Told, KeepsDevice, HasRoot}
+use Rattle.pmem_recovery.specs.Parts.{IfLinesTold, KeepsDevice, HasRoot}
 use Rattle.pmem_recovery.specs.Upward.{is_other, IsMadeLine}
 use Rattle.pmem_recovery.specs.Written.{AreWritten, IsRecovered, count_changed, count_nonzero, differing}
-use Rattle.pmem_recovery.specs.Writing.{BothTold, HasWrittenTo, HasWrittenSome, HasZeroedTo, HasZeroedSome}
+use Rattle.pmem_recovery.specs.Writing.{IfBothLinesTold, HasWrittenTo, HasWrittenSome, HasZeroedTo, HasZeroedSome}
 use Rattle.pmem_recovery.specs.Mending.{HasMadeAll, most_reads, most_writes, HasMadeWrites, WritesFewer}
 use Rattle.pmem_recovery.proofs.WrittenLaws.{differing-none, is_other-same, off_tree_same, made_on_tree, AreCompared-made}
 use Rattle.pmem_recovery.proofs.WriteSteps.{told_earlier}
@@ -28,7 +28,7 @@ use Rattle.pmem_recovery.proofs.EndLaws.{nothing_made}
 
 -- what is known of the lines made
 pub record IsMadeFor (setup : Setup) (regs : Regs) (old : Device) (shadow : List Line) (made : List Made) : Type 0 where
-  pub told : Told old.lines (λ lines. length lines ≡ layout.device_lines setup.shape → HasMadeAll setup lines regs shadow made)
+  pub told : IfLinesTold old.lines (λ lines. length lines ≡ layout.device_lines setup.shape → HasMadeAll setup lines regs shadow made)
   pub few : length made ≤ (setup.shape.levels + 1) * layout.slots setup.shape
   pub long : length shadow ≡ layout.shadow_lines setup.shape
 
@@ -214,7 +214,7 @@ stopped-zeroed setup regs old mid late new shadow made r m w z =
 
 -- ---- at the end
 
-pub made_writes-recovered : (setup : Setup) (regs : Regs) (old mid late new : Device) (shadow : List Line) (made : List Made) → KeepsDevice old mid → IsMadeFor setup regs old shadow made → HasWrittenTo setup.shape made (length made) mid late → HasZeroedTo setup.shape shadow (layout.shadow_lines setup.shape) late new → BothTold old new (λ lines now. length lines ≡ layout.device_lines setup.shape → IsRecovered setup lines regs now × HasRoot setup lines regs)
+pub made_writes-recovered : (setup : Setup) (regs : Regs) (old mid late new : Device) (shadow : List Line) (made : List Made) → KeepsDevice old mid → IsMadeFor setup regs old shadow made → HasWrittenTo setup.shape made (length made) mid late → HasZeroedTo setup.shape shadow (layout.shadow_lines setup.shape) late new → IfBothLinesTold old new (λ lines now. length lines ≡ layout.device_lines setup.shape → IsRecovered setup lines regs now × HasRoot setup lines regs)
 made_writes-recovered setup regs old mid late new shadow made r m w z lines told now after whole =
     let earlier = told_earlier late new now z.steps.told after in
     let b = between_is setup regs old mid late shadow made lines earlier.0 r m w told earlier.1 whole in

@@ -18,7 +18,7 @@ use Rattle.suite.specs.Formulas.{Formulas}
 use Rattle.pmem_recovery.specs.declared.faults.RecFault.{RecFault}
 use Rattle.pmem_recovery.specs.declared.faults.RecFault.TheVariants.{Cut}
 use Rattle.pmem_recovery.specs.declared.entries.Made.{Made}
-use Rattle.pmem_recovery.specs.Parts.{Told, KeepsDevice, IsUncut, IsCutOff, StopsBy, SuiteState, SuiteWork, SuiteRise, SuiteWorkAtMost, AddsLine, IsStageStopped}
+use Rattle.pmem_recovery.specs.Parts.{IfLinesTold, KeepsDevice, IsUncut, IsCutOff, StopsBy, SuiteState, SuiteWork, SuiteRise, SuiteWorkAtMost, AddsLine, IsStageStopped}
 
 -- ---- the device
 
@@ -44,7 +44,7 @@ KeepsDevice-read old at line new r = search rules
 pub IsUncut-read : (old : Device) (at : ℕ) (line : Line) (new : Device) → HasRead old at line new → IsUncut old new
 IsUncut-read old at line new r = record { cuts = r.cuts; steady = r.steady; live = r.live }
 
-pub told-read : (old : Device) (at : ℕ) (line : Line) (new : Device) → HasRead old at line new → Told old.lines (λ lines. line ≡ line_at lines at)
+pub told-read : (old : Device) (at : ℕ) (line : Line) (new : Device) → HasRead old at line new → IfLinesTold old.lines (λ lines. line ≡ line_at lines at)
 told-read old at line new r lines told = subst (λ o. Tells o at line) told r.tells
 
 pub IsCutOff-cut : (old new : Device) → WasCut old new → IsCutOff old new

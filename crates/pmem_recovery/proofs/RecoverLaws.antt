@@ -22,8 +22,8 @@ use Rattle.pmem_recovery.specs.declared.faults.RecFault.{RecFault}
 use Rattle.pmem_recovery.specs.declared.faults.RecFault.TheVariants.{Memory, Cut, NoCounter, Root, Twin}
 use Rattle.pmem_recovery.specs.Trials.{IsTwinOfLastSeal}
 use Rattle.pmem_recovery.specs.Written.{IsRecovered, differing}
-use Rattle.pmem_recovery.specs.Parts.{Told, KeepsDevice, IsUncut, StopsBy, SuiteState, SuiteWork, SuiteWorkAtMost, HasRoot, IsFaultShown, IsRefusal, IsStageStopped, StoppedWork, IsAllWork}
-use Rattle.pmem_recovery.specs.Writing.{BothTold}
+use Rattle.pmem_recovery.specs.Parts.{IfLinesTold, KeepsDevice, IsUncut, StopsBy, SuiteState, SuiteWork, SuiteWorkAtMost, HasRoot, IsFaultShown, IsRefusal, IsStageStopped, StoppedWork, IsAllWork}
+use Rattle.pmem_recovery.specs.Writing.{IfBothLinesTold}
 use Rattle.pmem_recovery.specs.Mending.{IsPartlyMended, most_reads, most_writes, HasMadeWrites, IsStoppedShort}
 use Rattle.pmem_recovery.specs.Recovered.{RegsAfter, PowerAfter, HasOnlyRedone, IsUnchanged, most_recovery_steps, StepsAfter, CountsAtMost, IsTwinValid, IsNoCounterUnmendable, IsMendedAs, HasRecovered, IsUncounted}
 use Rattle.pmem_recovery.specs.Fronts.{IsFrontWritten}
@@ -63,7 +63,7 @@ pub record IsRecoveryRun (setup : Setup) (old mid new : Device) : Type 0 where
   pub idle : old.regs.group.items ≡ [] → mid ≡ old
   pub written : HasMadeWrites setup mid.regs mid new
   pub few_reads :
-      Told mid.lines
+      IfLinesTold mid.lines
       (λ lines. length lines ≡ layout.device_lines setup.shape
       → RisesAtMost (named_reads setup.shape (shadow_of setup.shape lines)) mid.reads new.reads)
 
@@ -223,7 +223,7 @@ module _ (setup : Setup) (ledger : LedgerState) (old mid new : Device) (run : Is
   uncounted_after suite_old suite_new Memory shown = absurd shown
   uncounted_after suite_old suite_new fault shown = tt
 
-  pub recovered_fault : (suite_old suite_new : SuiteState) (fault : RecFault) → Told mid.lines (λ lines. length lines ≡ layout.device_lines setup.shape → IsReadUntil setup.shape (shadow_of setup.shape lines) mid.regs fault mid.reads new.reads) → IsStageStopped setup.formulas fault (λ lines. length lines ≡ layout.device_lines setup.shape → IsRefusal setup lines mid.regs fault) mid new → IsStoppedShort setup.shape fault mid new → Told mid.lines (λ lines. length lines ≡ layout.device_lines setup.shape → StoppedWork setup.shape lines mid.regs fault suite_old suite_new) → SuiteWorkAtMost (64 * mid.regs.loss * layout.slots setup.shape) (4 * setup.shape.levels * layout.slots setup.shape + 1) suite_old suite_new → HasRecovered setup ledger old new suite_old suite_new (Err fault)
+  pub recovered_fault : (suite_old suite_new : SuiteState) (fault : RecFault) → IfLinesTold mid.lines (λ lines. length lines ≡ layout.device_lines setup.shape → IsReadUntil setup.shape (shadow_of setup.shape lines) mid.regs fault mid.reads new.reads) → IsStageStopped setup.formulas fault (λ lines. length lines ≡ layout.device_lines setup.shape → IsRefusal setup lines mid.regs fault) mid new → IsStoppedShort setup.shape fault mid new → IfLinesTold mid.lines (λ lines. length lines ≡ layout.device_lines setup.shape → StoppedWork setup.shape lines mid.regs fault suite_old suite_new) → SuiteWorkAtMost (64 * mid.regs.loss * layout.slots setup.shape) (4 * setup.shape.levels * layout.slots setup.shape + 1) suite_old suite_new → HasRecovered setup ledger old new suite_old suite_new (Err fault)
   recovered_fault suite_old suite_new fault reads s short stopped work =
       record {
         size = run.written.size ∙ run.finished.size;
@@ -280,7 +280,7 @@ module _ (setup : Setup) (ledger : LedgerState) (old mid new : Device) (run : Is
 
   -- ---- a new engine
 
-  pub recovered_ok : (suite_old suite_new : SuiteState) (work : Work) → Told mid.lines (λ lines. length lines ≡ layout.device_lines setup.shape → RisesBy (all_reads setup.shape (shadow_of setup.shape lines) mid.regs) mid.reads new.reads) → IsUncut mid new → BothTold mid new (λ lines now. length lines ≡ layout.device_lines setup.shape → IsRecovered setup lines mid.regs now × HasRoot setup lines mid.regs) → Told mid.lines (λ lines. length lines ≡ layout.device_lines setup.shape → IsAllWork setup.shape lines mid.regs work.trials work.digests) → SuiteWork work.trials work.digests suite_old suite_new → work.trials ≤ 64 * mid.regs.loss * layout.slots setup.shape → work.digests ≤ 4 * setup.shape.levels * layout.slots setup.shape + 1 → HasRecovered setup ledger old new suite_old suite_new (Ok (new_engine setup.shape, work))
+  pub recovered_ok : (suite_old suite_new : SuiteState) (work : Work) → IfLinesTold mid.lines (λ lines. length lines ≡ layout.device_lines setup.shape → RisesBy (all_reads setup.shape (shadow_of setup.shape lines) mid.regs) mid.reads new.reads) → IsUncut mid new → IfBothLinesTold mid new (λ lines now. length lines ≡ layout.device_lines setup.shape → IsRecovered setup lines mid.regs now × HasRoot setup lines mid.regs) → IfLinesTold mid.lines (λ lines. length lines ≡ layout.device_lines setup.shape → IsAllWork setup.shape lines mid.regs work.trials work.digests) → SuiteWork work.trials work.digests suite_old suite_new → work.trials ≤ 64 * mid.regs.loss * layout.slots setup.shape → work.digests ≤ 4 * setup.shape.levels * layout.slots setup.shape + 1 → HasRecovered setup ledger old new suite_old suite_new (Ok (new_engine setup.shape, work))
   recovered_ok suite_old suite_new work reads goes recovered all_work worked few_trials few_digests =
       let few : work.trials ≤ 64 * old.regs.loss * layout.slots setup.shape = subst (λ n. work.trials ≤ 64 * n * layout.slots setup.shape) mid_emptied.same_loss few_trials in
       record {

@@ -19,8 +19,8 @@ use Rattle.pmem_engine.specs.Engine.{EngineState}
 use Rattle.pmem_engine.specs.Invariants.{IsAnchored, IsTrusted, IsSound, stored_meta}
 use Rattle.pmem_engine.specs.Mendable.{new_engine}
 use Rattle.pmem_engine.specs.Formatted.{first_seal}
-use Rattle.pmem_recovery.specs.Parts.{Told}
-use Rattle.pmem_recovery.specs.Writing.{BothTold}
+use Rattle.pmem_recovery.specs.Parts.{IfLinesTold}
+use Rattle.pmem_recovery.specs.Writing.{IfBothLinesTold}
 
 -- ---- the first seals
 
@@ -64,16 +64,16 @@ pub record StaysSteady (n : ℕ) (old new : Device) : Type 0 where
 -- four lines are sealed, and all others but their tag line are as they were
 pub record HasSealedGroup (setup : Setup) (group : ℕ) (old new : Device) : Type 0 where
   pub sealed :
-      Told new.lines (λ now. length now ≡ layout.device_lines setup.shape
+      IfLinesTold new.lines (λ now. length now ≡ layout.device_lines setup.shape
       → (a : ℕ) → 4 * group ≤ a → a < 4 * group + 4 → IsFirstSealed setup now a)
   pub others :
-      BothTold old new (λ lines now. (d : ℕ) → (d < 4 * group) ⊎ (4 * group + 4 ≤ d)
+      IfBothLinesTold old new (λ lines now. (d : ℕ) → (d < 4 * group) ⊎ (4 * group + 4 ≤ d)
       → d ≢ layout.data_lines setup.shape + group → line_at now d ≡ line_at lines d)
 
 -- the first n lines are sealed
 abbrev pub HasSealedAll : Setup → ℕ → Device → Type 0
 HasSealedAll setup n new =
-    Told new.lines (λ now. length now ≡ layout.device_lines setup.shape
+    IfLinesTold new.lines (λ now. length now ≡ layout.device_lines setup.shape
     → (a : ℕ) → a < n → IsFirstSealed setup now a)
 
 -- the first n metadata lines are told
@@ -88,19 +88,19 @@ pub record HasToldMeta (g : Shape) (truth : List Line) (n : ℕ) (old new : Ledg
 -- and written; data lines and tag lines are as they were
 pub record HasWrittenMeta (g : Shape) (truth : List Line) (n : ℕ) (old new : Device) : Type 0 where
   pub meta :
-      Told new.lines (λ now. length now ≡ layout.device_lines g
+      IfLinesTold new.lines (λ now. length now ≡ layout.device_lines g
       → (x : ℕ) → x < n → stored_meta g now x ≡ line_at truth x)
   pub others :
-      BothTold old new (λ lines now. (d : ℕ) → d < 80 * layout.pages g
+      IfBothLinesTold old new (λ lines now. (d : ℕ) → d < 80 * layout.pages g
       → line_at now d ≡ line_at lines d)
 
 -- the first n shadow lines are zero; all lines before the shadow lines are as they were
 pub record HasClearedTables (g : Shape) (n : ℕ) (old new : Device) : Type 0 where
   pub zero :
-      Told new.lines (λ now. length now ≡ layout.device_lines g
+      IfLinesTold new.lines (λ now. length now ≡ layout.device_lines g
       → (m : ℕ) → m < n → line_at now (layout.shadow_line g m) ≡ zero_line)
   pub others :
-      BothTold old new (λ lines now. (d : ℕ) → d < layout.shadow_line g 0
+      IfBothLinesTold old new (λ lines now. (d : ℕ) → d < layout.shadow_line g 0
       → line_at now d ≡ line_at lines d)
 
 -- the root of a top line, and the geometry's stop-loss number
@@ -117,7 +117,7 @@ pub record HasFormatted (setup : Setup) (ledger : LedgerState) (old new : Device
   pub engine_new : engine ≡ new_engine setup.shape
   pub anchored : IsAnchored setup new.regs ledger
   pub trusted : IsTrusted setup engine new.regs ledger
-  pub sound : Told new.lines (λ now. IsSound setup engine now new.regs ledger)
+  pub sound : IfLinesTold new.lines (λ now. IsSound setup engine now new.regs ledger)
   pub marks : ledger.marks ≡ map (first_seal setup) (range_with_len 0 (layout.data_lines setup.shape))
   pub seals : length ledger.marks ≡ layout.data_lines setup.shape
   pub last_counters :

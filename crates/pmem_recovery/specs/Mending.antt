@@ -17,7 +17,7 @@ use Rattle.pmem_recovery.specs.declared.faults.RecFault.TheVariants.{Cut}
 use Rattle.pmem_recovery.specs.Upward.{AreAllMade}
 use Rattle.pmem_recovery.specs.Written.{AreWritten, AreZeroed, differing}
 use Rattle.pmem_recovery.specs.Parts.{KeepsDevice, HasRoot}
-use Rattle.pmem_recovery.specs.Writing.{BothTold}
+use Rattle.pmem_recovery.specs.Writing.{IfBothLinesTold}
 
 -- all named lines are made, and the root is right
 pub record HasMadeAll (setup : Setup) (lines : List Line) (regs : Regs) (shadow : List Line)
@@ -73,7 +73,7 @@ pub record HasMadeWrites (setup : Setup) (regs : Regs) (old new : Device) : Type
   pub writes : RisesBy count old.writes new.writes
   pub none : count ≡ 0 → new.writes ≡ old.writes
   pub lines :
-      BothTold old new
+      IfBothLinesTold old new
       (λ lines now.
       length lines ≡ layout.device_lines setup.shape
       → IsPartlyMended setup lines regs now × (differing lines now ≡ count)

@@ -27,8 +27,8 @@ abbrev pub setup_of : Geo → Formulas → Setup
 setup_of geo formulas = record { shape = shape_of geo; formulas = formulas }
 
 -- what holds of the lines, where they are told
-abbrev pub Told : Option (List Line) → (List Line → Type 0) → Type 0
-Told told P = (lines : List Line) → told ≡ Some lines → P lines
+abbrev pub IfLinesTold : Option (List Line) → (List Line → Type 0) → Type 0
+IfLinesTold told P = (lines : List Line) → told ≡ Some lines → P lines
 
 -- ---- the device
 
@@ -281,4 +281,4 @@ pub record IsStageStopped (f : Formulas) (fault : RecFault) (why : List Line →
     (old new : Device) : Type 0 where
   pub device : StopsBy fault old new
   pub shown : IsFaultShown f fault
-  pub reason : Told old.lines why
+  pub reason : IfLinesTold old.lines why

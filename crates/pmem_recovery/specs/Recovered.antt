@@ -24,9 +24,9 @@ use Rattle.pmem_recovery.specs.declared.faults.RecFault.{RecFault}
 use Rattle.pmem_recovery.specs.declared.faults.RecFault.TheVariants.{Memory, Cut, NoCounter, Root, Twin}
 use Rattle.pmem_recovery.specs.Trials.{IsTwinOfLastSeal}
 use Rattle.pmem_recovery.specs.Written.{differing}
-use Rattle.pmem_recovery.specs.Parts.{Told, IsUncut, IsCutOff, SuiteState, HasRoot, IsRefusal, IsAllWork, StoppedWork}
+use Rattle.pmem_recovery.specs.Parts.{IfLinesTold, IsUncut, IsCutOff, SuiteState, HasRoot, IsRefusal, IsAllWork, StoppedWork}
 use Rattle.pmem_recovery.specs.Reads.{all_reads, named_reads, IsReadUntil}
-use Rattle.pmem_recovery.specs.Writing.{BothTold}
+use Rattle.pmem_recovery.specs.Writing.{IfBothLinesTold}
 use Rattle.pmem_recovery.specs.Mending.{most_reads, most_writes}
 use Rattle.pmem_recovery.specs.Fronts.{IsFrontWritten, AreFixed}
 
@@ -183,10 +183,10 @@ pub record HasRecovered (setup : Setup) (ledger : LedgerState) (old new : Device
   pub told : is_some new.lines ≡ is_some old.lines
   pub reads : RisesAtMost (most_reads setup.shape) old.reads new.reads
   pub few_reads :
-      Told old.lines
+      IfLinesTold old.lines
       (λ lines. RisesAtMost (named_reads setup.shape (shadow_of setup.shape (redone old.regs.group.items lines))) old.reads new.reads)
   pub exact_reads :
-      Told old.lines
+      IfLinesTold old.lines
       (λ lines. ReadsAfter setup (redone old.regs.group.items lines) old.regs answer old.reads new.reads)
   pub regs : RegsAfter answer old.regs new.regs
   pub valid : IsValidRegs setup.shape new.regs
@@ -202,7 +202,7 @@ pub record HasRecovered (setup : Setup) (ledger : LedgerState) (old new : Device
   pub digests : DigestsCounted answer suite_old.digests suite_new.digests
   pub uncounted : IsUncounted answer suite_old suite_new
   pub work :
-      Told old.lines
+      IfLinesTold old.lines
       (λ lines. WorkAfter setup (redone old.regs.group.items lines) old.regs answer suite_old suite_new)
   pub few_work : IfOk answer (λ done. IsFewWork setup old.regs.loss done.1)
   pub few_trials :
@@ -215,4 +215,4 @@ pub record HasRecovered (setup : Setup) (ledger : LedgerState) (old new : Device
   pub trusted :
       IsAnchored setup old.regs ledger → IfOk answer (λ done. IsTrusted setup done.0 new.regs ledger)
   pub twin : IfErr answer (IsTwinValid setup.formulas)
-  pub lines : BothTold old new (λ lines now. HasMended setup ledger old new lines now answer)
+  pub lines : IfBothLinesTold old new (λ lines now. HasMended setup ledger old new lines now answer)

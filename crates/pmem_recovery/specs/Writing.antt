@@ -8,7 +8,7 @@ use Rattle.board.specs.Device.{Device}
 use Rattle.board.specs.Steps.{HasWritten}
 use Rattle.shadow_tables.specs.Entries.{shadow_of}
 use Rattle.pmem_recovery.specs.declared.entries.Made.{Made}
-use Rattle.pmem_recovery.specs.Parts.{Told}
+use Rattle.pmem_recovery.specs.Parts.{IfLinesTold}
 use Rattle.pmem_recovery.specs.Written.{AreCompared, AreWritten, AreZeroed, count_changed, count_nonzero, differing}
 
 -- so many lines are written, and nothing else but lines is changed
@@ -22,8 +22,8 @@ pub record HasOnlyWritten (n : ℕ) (old new : Device) : Type 0 where
   pub told : is_some new.lines ≡ is_some old.lines
 
 -- what holds of the lines before and after, where they are told
-abbrev pub BothTold : Device → Device → (List Line → List Line → Type 0) → Type 0
-BothTold old new P = Told old.lines (λ lines. Told new.lines (λ now. P lines now))
+abbrev pub IfBothLinesTold : Device → Device → (List Line → List Line → Type 0) → Type 0
+IfBothLinesTold old new P = IfLinesTold old.lines (λ lines. IfLinesTold new.lines (λ now. P lines now))
 
 -- a line is written where it is another one than the device's
 abbrev pub HasWrittenIf : Bool → Device → ℕ → Line → Device → Type 0
@@ -34,7 +34,7 @@ HasWrittenIf false old at line new = new ≡ old
 pub record HasWrittenTo (g : Shape) (made : List Made) (i : ℕ) (old new : Device) : Type 0 where
   pub steps : HasOnlyWritten (count_changed (take i made)) old new
   pub lines :
-      BothTold old new
+      IfBothLinesTold old new
       (λ lines now.
       length lines ≡ layout.device_lines g → AreCompared g lines made
       → AreWritten g lines (take i made) now × (differing lines now ≡ count_changed (take i made)))
@@ -49,7 +49,7 @@ pub record HasWrittenSome (g : Shape) (made : List Made) (old new : Device) : Ty
 pub record HasZeroedTo (g : Shape) (shadow : List Line) (n : ℕ) (old new : Device) : Type 0 where
   pub steps : HasOnlyWritten (count_nonzero (take n shadow)) old new
   pub lines :
-      BothTold old new
+      IfBothLinesTold old new
       (λ lines now.
       length lines ≡ layout.device_lines g → shadow ≡ shadow_of g lines
       → AreZeroed g lines n now

@@ -17,7 +17,7 @@ ghost use Rattle.board.specs.Counts.{RisesBy};
 ghost use Rattle.commit_regs.specs.Groups.{RisesAtMost};
 ghost use Rattle.pmem_recovery.specs.Named.{count_named};
 ghost use Rattle.pmem_recovery.specs.Reads.{sum_named, line_reads, page_reads, block_reads, reads_to, IsReadToStop};
-ghost use Rattle.pmem_recovery.specs.Parts.{setup_of, Told, KeepsDevice, IsUncut, IsCutOff, suite_state, SuiteWork, SuiteWorkAtMost, decided_of, IsDecided, AreOneTried, IsLineRefusal, IsPageRefusal, IsRefusal, IsStageStopped, line_tries, TriesUntil, AddsLine};
+ghost use Rattle.pmem_recovery.specs.Parts.{setup_of, IfLinesTold, KeepsDevice, IsUncut, IsCutOff, suite_state, SuiteWork, SuiteWorkAtMost, decided_of, IsDecided, AreOneTried, IsLineRefusal, IsPageRefusal, IsRefusal, IsStageStopped, line_tries, TriesUntil, AddsLine};
 
 use crate::RecFault;
 use crate::entries::{Made, is_other};
@@ -57,12 +57,12 @@ pub(crate) fn fix_counters<B: Board, S: Suite>(
     ensures few_made { OnOk result (length made.new.items ≤ slots (shape_of geo.now)) }
     ensures on_tree { OnOk result (All (λ entry. entry.at < meta_lines (shape_of geo.now)) made.new.items) }
     ensures capacity { vec_capacity made.new ≡ vec_capacity made.old }
-    ensures told { OnOk result (Told (B.device board.old).lines (λ lines. shadow.now ≡ shadow_of (shape_of geo.now) lines
+    ensures told { OnOk result (IfLinesTold (B.device board.old).lines (λ lines. shadow.now ≡ shadow_of (shape_of geo.now) lines
         → AreDecided (setup_of geo.now (S.formulas_of (S.keys suite.old))) lines regs.now (pages (shape_of geo.now))
         × AreMadeTo (setup_of geo.now (S.formulas_of (S.keys suite.old))) lines regs.now (shape_of geo.now).levels (meta_lines (shape_of geo.now)) made.new.items)) }
-    ensures trials { IfOk result (λ trials. Told (B.device board.old).lines (λ lines. shadow.now ≡ shadow_of (shape_of geo.now) lines
+    ensures trials { IfOk result (λ trials. IfLinesTold (B.device board.old).lines (λ lines. shadow.now ≡ shadow_of (shape_of geo.now) lines
         → trials ≡ trials_below (shape_of geo.now) lines regs.now (data_lines (shape_of geo.now)))) }
-    ensures tries { IfErr result (λ fault. Told (B.device board.old).lines (λ lines. shadow.now ≡ shadow_of (shape_of geo.now) lines
+    ensures tries { IfErr result (λ fault. IfLinesTold (B.device board.old).lines (λ lines. shadow.now ≡ shadow_of (shape_of geo.now) lines
         → TriesUntil (shape_of geo.now) lines regs.now 0 (data_lines (shape_of geo.now)) fault (suite_state (S.keys suite.old) (S.pads suite.old) (S.tags suite.old) (S.digests suite.old))
         (suite_state (S.keys suite.new) (S.pads suite.new) (S.tags suite.new) (S.digests suite.new)))) }
     ensures stopped { IfErr result (λ fault. IsStageStopped (S.formulas_of (S.keys suite.old)) fault
@@ -103,12 +103,12 @@ fn fix_counter<B: Board, S: Suite>(
     ensures few { IfOk result (λ trials. trials ≤ 64 * regs.now.loss) }
     ensures made { OnOk result (AddsLine x made.old.items made.new.items) }
     ensures capacity { vec_capacity made.new ≡ vec_capacity made.old }
-    ensures told { OnOk result (Told (B.device board.old).lines (λ lines. (page : ℕ) → page < pages (shape_of geo.now) → x ≡ counter_position (shape_of geo.now) page
+    ensures told { OnOk result (IfLinesTold (B.device board.old).lines (λ lines. (page : ℕ) → page < pages (shape_of geo.now) → x ≡ counter_position (shape_of geo.now) page
         → (made.new.items ≡ made.old.items ++ block_made (setup_of geo.now (S.formulas_of (S.keys suite.old))) lines regs.now page ∷ [])
         × AreOneTried (setup_of geo.now (S.formulas_of (S.keys suite.old))) lines regs.now page)) }
-    ensures trials { IfOk result (λ trials. Told (B.device board.old).lines (λ lines. (page : ℕ) → page < pages (shape_of geo.now) → x ≡ counter_position (shape_of geo.now) page
+    ensures trials { IfOk result (λ trials. IfLinesTold (B.device board.old).lines (λ lines. (page : ℕ) → page < pages (shape_of geo.now) → x ≡ counter_position (shape_of geo.now) page
         → is_named (shape_of geo.now) lines x ≡ true → trials + trials_below (shape_of geo.now) lines regs.now (64 * page) ≡ trials_below (shape_of geo.now) lines regs.now (64 * page + 64))) }
-    ensures tries { IfErr result (λ fault. Told (B.device board.old).lines (λ lines. (page : ℕ) → page < pages (shape_of geo.now) → x ≡ counter_position (shape_of geo.now) page
+    ensures tries { IfErr result (λ fault. IfLinesTold (B.device board.old).lines (λ lines. (page : ℕ) → page < pages (shape_of geo.now) → x ≡ counter_position (shape_of geo.now) page
         → is_named (shape_of geo.now) lines x ≡ true → TriesUntil (shape_of geo.now) lines regs.now (64 * page) (64 * page + 64) fault (suite_state (S.keys suite.old) (S.pads suite.old) (S.tags suite.old) (S.digests suite.old))
         (suite_state (S.keys suite.new) (S.pads suite.new) (S.tags suite.new) (S.digests suite.new)))) }
     ensures stopped { IfErr result (λ fault. IsStageStopped (S.formulas_of (S.keys suite.old)) fault
@@ -151,11 +151,11 @@ fn fix_minors<B: Board, S: Suite>(
         (suite_state (S.keys suite.new) (S.pads suite.new) (S.tags suite.new) (S.digests suite.new)) }
     ensures few { IfOk result (λ fixed. fixed.1 ≤ 64 * regs.now.loss) }
     ensures small { IfOk result (λ fixed. All (λ m. m ≤ 127) fixed.0.minors) }
-    ensures told { IfOk result (λ fixed. Told (B.device board.old).lines (λ lines. stored.now ≡ stored_block (shape_of geo.now) lines page
+    ensures told { IfOk result (λ fixed. IfLinesTold (B.device board.old).lines (λ lines. stored.now ≡ stored_block (shape_of geo.now) lines page
         → (fixed.0 ≡ fixed_block (setup_of geo.now (S.formulas_of (S.keys suite.old))) lines regs.now page) × AreOneTried (setup_of geo.now (S.formulas_of (S.keys suite.old))) lines regs.now page)) }
-    ensures trials { IfOk result (λ fixed. Told (B.device board.old).lines (λ lines. stored.now ≡ stored_block (shape_of geo.now) lines page
+    ensures trials { IfOk result (λ fixed. IfLinesTold (B.device board.old).lines (λ lines. stored.now ≡ stored_block (shape_of geo.now) lines page
         → is_named (shape_of geo.now) lines (counter_position (shape_of geo.now) page) ≡ true → fixed.1 + trials_below (shape_of geo.now) lines regs.now (64 * page) ≡ trials_below (shape_of geo.now) lines regs.now (64 * page + 64))) }
-    ensures tries { IfErr result (λ fault. Told (B.device board.old).lines (λ lines. stored.now ≡ stored_block (shape_of geo.now) lines page
+    ensures tries { IfErr result (λ fault. IfLinesTold (B.device board.old).lines (λ lines. stored.now ≡ stored_block (shape_of geo.now) lines page
         → is_named (shape_of geo.now) lines (counter_position (shape_of geo.now) page) ≡ true → TriesUntil (shape_of geo.now) lines regs.now (64 * page) (64 * page + 64) fault (suite_state (S.keys suite.old) (S.pads suite.old) (S.tags suite.old) (S.digests suite.old))
         (suite_state (S.keys suite.new) (S.pads suite.new) (S.tags suite.new) (S.digests suite.new)))) }
     ensures stopped { IfErr result (λ fault. IsStageStopped (S.formulas_of (S.keys suite.old)) fault
@@ -197,11 +197,11 @@ fn try_line<B: Board, S: Suite>(
         (suite_state (S.keys suite.new) (S.pads suite.new) (S.tags suite.new) (S.digests suite.new)) }
     ensures few { IfOk result (λ tried. tried.1 ≤ regs.now.loss) }
     ensures small { IfOk result (λ tried. tried.0 ≤ 127) }
-    ensures told { IfOk result (λ tried. Told (B.device board.old).lines (λ lines. stored.now ≡ stored_block (shape_of geo.now) lines (page_of at)
+    ensures told { IfOk result (λ tried. IfLinesTold (B.device board.old).lines (λ lines. stored.now ≡ stored_block (shape_of geo.now) lines (page_of at)
         → tried_minors (setup_of geo.now (S.formulas_of (S.keys suite.old))) lines regs.now at ≡ tried.0 ∷ [])) }
-    ensures trials { IfOk result (λ tried. Told (B.device board.old).lines (λ lines. stored.now ≡ stored_block (shape_of geo.now) lines (page_of at)
+    ensures trials { IfOk result (λ tried. IfLinesTold (B.device board.old).lines (λ lines. stored.now ≡ stored_block (shape_of geo.now) lines (page_of at)
         → tried.1 ≡ length (candidates_of (shape_of geo.now) lines regs.now at))) }
-    ensures tries { IfErr result (λ fault. Told (B.device board.old).lines (λ lines. stored.now ≡ stored_block (shape_of geo.now) lines (page_of at)
+    ensures tries { IfErr result (λ fault. IfLinesTold (B.device board.old).lines (λ lines. stored.now ≡ stored_block (shape_of geo.now) lines (page_of at)
         → SuiteWork (line_tries fault (length (candidates_of (shape_of geo.now) lines regs.now at))) 0 (suite_state (S.keys suite.old) (S.pads suite.old) (S.tags suite.old) (S.digests suite.old))
         (suite_state (S.keys suite.new) (S.pads suite.new) (S.tags suite.new) (S.digests suite.new)))) }
     ensures stopped { IfErr result (λ fault. IsStageStopped (S.formulas_of (S.keys suite.old)) fault
@@ -227,7 +227,7 @@ fn read_sealed<B: Board>(board: &mut B, geo: &Geo, at: u32) -> Result<(Line, Tag
     ensures exact_reads { OnOk result (RisesBy 2 (B.device board.old).reads (B.device board.new).reads) }
     ensures ok { OnOk result (IsUncut (B.device board.old) (B.device board.new)) }
     ensures cut { OnErr result (IsCutOff (B.device board.old) (B.device board.new)) }
-    ensures told { IfOk result (λ sealed. Told (B.device board.old).lines (λ lines. (sealed.0 ≡ line_at lines at)
+    ensures told { IfOk result (λ sealed. IfLinesTold (B.device board.old).lines (λ lines. (sealed.0 ≡ line_at lines at)
         × (sealed.1 ≡ tag_slot (line_at lines (tag_line (shape_of geo.now) at)) at))) }
 {
     let cipher = board.read_line(at)?;

@@ -10,7 +10,7 @@ ghost use Rattle.pmem_recovery.specs.Upward.{made_or_stored, node_made, AreMadeT
 ghost use Rattle.board.specs.Counts.{RisesBy};
 ghost use Rattle.commit_regs.specs.Groups.{RisesAtMost};
 ghost use Rattle.pmem_recovery.specs.Reads.{sum_named, unmade_reads, children_reads, node_reads, IsRootRead};
-ghost use Rattle.pmem_recovery.specs.Parts.{setup_of, Told, KeepsDevice, IsUncut, IsCutOff, suite_state, SuiteWork, SuiteWorkAtMost, IsCompared, IsRootAnswer, IsRootFault, root_digests, StopsBy, AddsLine};
+ghost use Rattle.pmem_recovery.specs.Parts.{setup_of, IfLinesTold, KeepsDevice, IsUncut, IsCutOff, suite_state, SuiteWork, SuiteWorkAtMost, IsCompared, IsRootAnswer, IsRootFault, root_digests, StopsBy, AddsLine};
 
 use crate::RecFault;
 use crate::entries::{Made, is_other, line_made};
@@ -34,7 +34,7 @@ pub(crate) fn fix_nodes<B: Board, S: Suite>(
     requires room { length made.old.items + count_named (shape_of geo.now) shadow.now 0 (level_start (shape_of geo.now).levels) ≤ vec_capacity made.old }
     ensures read { KeepsDevice (B.device board.old) (B.device board.new) }
     ensures reads { RisesAtMost (5 * count_named (shape_of geo.now) shadow.now 0 (level_start (shape_of geo.now).levels)) (B.device board.old).reads (B.device board.new).reads }
-    ensures exact_reads { OnOk result (Told (B.device board.old).lines (λ lines. (regs : Regs) → shadow.now ≡ shadow_of (shape_of geo.now) lines
+    ensures exact_reads { OnOk result (IfLinesTold (B.device board.old).lines (λ lines. (regs : Regs) → shadow.now ≡ shadow_of (shape_of geo.now) lines
         → AreMadeTo (setup_of geo.now (S.formulas_of (S.keys suite.old))) lines regs (shape_of geo.now).levels (meta_lines (shape_of geo.now)) made.old.items
         → RisesBy (sum_named (shape_of geo.now) shadow.now (node_reads (shape_of geo.now) shadow.now) 0 (level_start (shape_of geo.now).levels)) (B.device board.old).reads (B.device board.new).reads)) }
     ensures goes { OnOk result (IsUncut (B.device board.old) (B.device board.new)) }
@@ -48,7 +48,7 @@ pub(crate) fn fix_nodes<B: Board, S: Suite>(
         ≡ length made.old.items + count_named (shape_of geo.now) shadow.now 0 (level_start (shape_of geo.now).levels)) }
     ensures on_tree { OnOk result (All (λ entry. entry.at < meta_lines (shape_of geo.now)) made.old.items
         → All (λ entry. entry.at < meta_lines (shape_of geo.now)) made.new.items) }
-    ensures told { OnOk result (Told (B.device board.old).lines (λ lines. (regs : Regs) → shadow.now ≡ shadow_of (shape_of geo.now) lines
+    ensures told { OnOk result (IfLinesTold (B.device board.old).lines (λ lines. (regs : Regs) → shadow.now ≡ shadow_of (shape_of geo.now) lines
         → AreMadeTo (setup_of geo.now (S.formulas_of (S.keys suite.old))) lines regs (shape_of geo.now).levels (meta_lines (shape_of geo.now)) made.old.items
         → AreMadeTo (setup_of geo.now (S.formulas_of (S.keys suite.old))) lines regs 0 1 made.new.items)) }
 {
@@ -75,7 +75,7 @@ fn fix_level<B: Board, S: Suite>(
     requires room { length made.old.items + count_named (shape_of geo.now) shadow.now (level_start level) (level_start (suc level)) ≤ vec_capacity made.old }
     ensures read { KeepsDevice (B.device board.old) (B.device board.new) }
     ensures reads { RisesAtMost (5 * count_named (shape_of geo.now) shadow.now (level_start level) (level_start (suc level))) (B.device board.old).reads (B.device board.new).reads }
-    ensures exact_reads { OnOk result (Told (B.device board.old).lines (λ lines. (regs : Regs) → shadow.now ≡ shadow_of (shape_of geo.now) lines
+    ensures exact_reads { OnOk result (IfLinesTold (B.device board.old).lines (λ lines. (regs : Regs) → shadow.now ≡ shadow_of (shape_of geo.now) lines
         → AreMadeTo (setup_of geo.now (S.formulas_of (S.keys suite.old))) lines regs level (level_start level) made.old.items
         → RisesBy (sum_named (shape_of geo.now) shadow.now (node_reads (shape_of geo.now) shadow.now) (level_start level) (level_start (suc level))) (B.device board.old).reads (B.device board.new).reads)) }
     ensures goes { OnOk result (IsUncut (B.device board.old) (B.device board.new)) }
@@ -90,7 +90,7 @@ fn fix_level<B: Board, S: Suite>(
     ensures on_tree { OnOk result (All (λ entry. entry.at < meta_lines (shape_of geo.now)) made.old.items
         → All (λ entry. entry.at < meta_lines (shape_of geo.now)) made.new.items) }
     ensures capacity { vec_capacity made.new ≡ vec_capacity made.old }
-    ensures told { OnOk result (Told (B.device board.old).lines (λ lines. (regs : Regs) → shadow.now ≡ shadow_of (shape_of geo.now) lines
+    ensures told { OnOk result (IfLinesTold (B.device board.old).lines (λ lines. (regs : Regs) → shadow.now ≡ shadow_of (shape_of geo.now) lines
         → AreMadeTo (setup_of geo.now (S.formulas_of (S.keys suite.old))) lines regs level (level_start level) made.old.items
         → AreMadeTo (setup_of geo.now (S.formulas_of (S.keys suite.old))) lines regs level (level_start (suc level)) made.new.items)) }
 {
@@ -137,7 +137,7 @@ fn fix_node<B: Board, S: Suite>(
         (suite_state (S.keys suite.new) (S.pads suite.new) (S.tags suite.new) (S.digests suite.new)) }
     ensures made { OnOk result (AddsLine x made.old.items made.new.items) }
     ensures capacity { vec_capacity made.new ≡ vec_capacity made.old }
-    ensures told { OnOk result (Told (B.device board.old).lines (λ lines.
+    ensures told { OnOk result (IfLinesTold (B.device board.old).lines (λ lines.
         made.new.items ≡ made.old.items ++ node_made (setup_of geo.now (S.formulas_of (S.keys suite.old))) lines made.old.items x ∷ [])) }
 {
     let read = board.read_line(geo.meta_line(x))?;
@@ -169,7 +169,7 @@ fn node_line<B: Board, S: Suite>(
         (suite_state (S.keys suite.new) (S.pads suite.new) (S.tags suite.new) (S.digests suite.new))) }
     ensures at_most { SuiteWorkAtMost 0 4 (suite_state (S.keys suite.old) (S.pads suite.old) (S.tags suite.old) (S.digests suite.old))
         (suite_state (S.keys suite.new) (S.pads suite.new) (S.tags suite.new) (S.digests suite.new)) }
-    ensures told { IfOk result (λ line. Told (B.device board.old).lines (λ lines.
+    ensures told { IfOk result (λ line. IfLinesTold (B.device board.old).lines (λ lines.
         line ≡ node_over (S.formulas_of (S.keys suite.old)) x (made_or_stored (shape_of geo.now) lines made.now))) }
 {
     let mut digests = [[0; 16]; 4];
@@ -190,7 +190,7 @@ fn made_or_read<B: Board>(board: &mut B, geo: &Geo, x: u32, made: &[Made]) -> Re
     ensures exact_reads { OnOk result (RisesBy (unmade_reads made.now x) (B.device board.old).reads (B.device board.new).reads) }
     ensures goes { OnOk result (IsUncut (B.device board.old) (B.device board.new)) }
     ensures cut { OnErr result (IsCutOff (B.device board.old) (B.device board.new)) }
-    ensures told { IfOk result (λ line. Told (B.device board.old).lines (λ lines. line ≡ made_or_stored (shape_of geo.now) lines made.now x)) }
+    ensures told { IfOk result (λ line. IfLinesTold (B.device board.old).lines (λ lines. line ≡ made_or_stored (shape_of geo.now) lines made.now x)) }
 {
     match line_made(made, x) {
         Some(line) => Ok(line),
@@ -220,7 +220,7 @@ pub(crate) fn check_root<B: Board, S: Suite>(
         (suite_state (S.keys suite.new) (S.pads suite.new) (S.tags suite.new) (S.digests suite.new)) }
     ensures refused { IfErr result (λ fault. SuiteWork 0 (root_digests fault) (suite_state (S.keys suite.old) (S.pads suite.old) (S.tags suite.old) (S.digests suite.old))
         (suite_state (S.keys suite.new) (S.pads suite.new) (S.tags suite.new) (S.digests suite.new))) }
-    ensures told { Told (B.device board.old).lines (λ lines.
+    ensures told { IfLinesTold (B.device board.old).lines (λ lines.
         IsRootAnswer (S.formulas_of (S.keys suite.old)) (made_or_stored (shape_of geo.now) lines made.now 0) regs.now.root result) }
 {
     let top = made_or_read(board, geo, 0, made)?;

@@ -8,8 +8,8 @@ ghost use Rattle.shadow_tables.specs.Entries.{shadow_of};
 ghost use Rattle.board.specs.Counts.{RisesBy};
 ghost use Rattle.commit_regs.specs.Groups.{RisesAtMost};
 ghost use Rattle.pmem_recovery.specs.Reads.{all_reads, named_reads, IsReadUntil};
-ghost use Rattle.pmem_recovery.specs.Parts.{setup_of, Told, KeepsDevice, IsUncut, IsCutOff, StopsBy, suite_state, SuiteWork, SuiteWorkAtMost, HasRoot, IsRefusal, IsStageStopped, IsAllWork, StoppedWork};
-ghost use Rattle.pmem_recovery.specs.Writing.{BothTold};
+ghost use Rattle.pmem_recovery.specs.Parts.{setup_of, IfLinesTold, KeepsDevice, IsUncut, IsCutOff, StopsBy, suite_state, SuiteWork, SuiteWorkAtMost, HasRoot, IsRefusal, IsStageStopped, IsAllWork, StoppedWork};
+ghost use Rattle.pmem_recovery.specs.Writing.{IfBothLinesTold};
 ghost use Rattle.pmem_recovery.specs.Written.{IsRecovered};
 ghost use Rattle.pmem_recovery.specs.Mending.{most_reads, HasMadeAll, HasMadeWrites, IsStoppedShort};
 ghost use Rattle.pmem_recovery.specs.Recovered.{HasRecovered};
@@ -94,11 +94,11 @@ fn mend<B: Board, S: Suite>(
     requires shadow_room { shadow_lines (shape_of geo.now) ≤ vec_capacity room.old.shadow }
     requires made_room { ((shape_of geo.now).levels + 1) * slots (shape_of geo.now) ≤ vec_capacity room.old.made }
     ensures written { HasMadeWrites (setup_of geo.now (S.formulas_of (S.keys suite.old))) (B.device board.old).regs (B.device board.old) (B.device board.new) }
-    ensures few_reads { Told (B.device board.old).lines (λ lines. length lines ≡ device_lines (shape_of geo.now)
+    ensures few_reads { IfLinesTold (B.device board.old).lines (λ lines. length lines ≡ device_lines (shape_of geo.now)
         → RisesAtMost (named_reads (shape_of geo.now) (shadow_of (shape_of geo.now) lines)) (B.device board.old).reads (B.device board.new).reads) }
-    ensures exact_reads { OnOk result (Told (B.device board.old).lines (λ lines. length lines ≡ device_lines (shape_of geo.now)
+    ensures exact_reads { OnOk result (IfLinesTold (B.device board.old).lines (λ lines. length lines ≡ device_lines (shape_of geo.now)
         → RisesBy (all_reads (shape_of geo.now) (shadow_of (shape_of geo.now) lines) (B.device board.old).regs) (B.device board.old).reads (B.device board.new).reads)) }
-    ensures stopped_reads { IfErr result (λ fault. Told (B.device board.old).lines (λ lines. length lines ≡ device_lines (shape_of geo.now)
+    ensures stopped_reads { IfErr result (λ fault. IfLinesTold (B.device board.old).lines (λ lines. length lines ≡ device_lines (shape_of geo.now)
         → IsReadUntil (shape_of geo.now) (shadow_of (shape_of geo.now) lines) (B.device board.old).regs fault (B.device board.old).reads (B.device board.new).reads)) }
     ensures goes { OnOk result (IsUncut (B.device board.old) (B.device board.new)) }
     ensures worked { IfOk result (λ work. SuiteWork work.trials work.digests (suite_state (S.keys suite.old) (S.pads suite.old) (S.tags suite.old) (S.digests suite.old))
@@ -107,12 +107,12 @@ fn mend<B: Board, S: Suite>(
         (suite_state (S.keys suite.new) (S.pads suite.new) (S.tags suite.new) (S.digests suite.new)) }
     ensures few_trials { IfOk result (λ work. work.trials ≤ 64 * (B.device board.old).regs.loss * slots (shape_of geo.now)) }
     ensures few_digests { IfOk result (λ work. work.digests ≤ 4 * (shape_of geo.now).levels * slots (shape_of geo.now) + 1) }
-    ensures recovered { OnOk result (BothTold (B.device board.old) (B.device board.new) (λ lines now. length lines ≡ device_lines (shape_of geo.now)
+    ensures recovered { OnOk result (IfBothLinesTold (B.device board.old) (B.device board.new) (λ lines now. length lines ≡ device_lines (shape_of geo.now)
         → IsRecovered (setup_of geo.now (S.formulas_of (S.keys suite.old))) lines (B.device board.old).regs now
         × HasRoot (setup_of geo.now (S.formulas_of (S.keys suite.old))) lines (B.device board.old).regs)) }
-    ensures all_work { IfOk result (λ work. Told (B.device board.old).lines (λ lines. length lines ≡ device_lines (shape_of geo.now)
+    ensures all_work { IfOk result (λ work. IfLinesTold (B.device board.old).lines (λ lines. length lines ≡ device_lines (shape_of geo.now)
         → IsAllWork (shape_of geo.now) lines (B.device board.old).regs work.trials work.digests)) }
-    ensures stopped_work { IfErr result (λ fault. Told (B.device board.old).lines (λ lines. length lines ≡ device_lines (shape_of geo.now)
+    ensures stopped_work { IfErr result (λ fault. IfLinesTold (B.device board.old).lines (λ lines. length lines ≡ device_lines (shape_of geo.now)
         → StoppedWork (shape_of geo.now) lines (B.device board.old).regs fault (suite_state (S.keys suite.old) (S.pads suite.old) (S.tags suite.old) (S.digests suite.old))
         (suite_state (S.keys suite.new) (S.pads suite.new) (S.tags suite.new) (S.digests suite.new)))) }
     ensures stopped { IfErr result (λ fault. IsStageStopped (S.formulas_of (S.keys suite.old)) fault (λ lines. length lines ≡ device_lines (shape_of geo.now)
@@ -142,11 +142,11 @@ fn make_lines<B: Board, S: Suite>(
     requires made_room { ((shape_of geo.now).levels + 1) * slots (shape_of geo.now) ≤ vec_capacity room.old.made }
     ensures read { KeepsDevice (B.device board.old) (B.device board.new) }
     ensures reads { RisesAtMost (most_reads (shape_of geo.now)) (B.device board.old).reads (B.device board.new).reads }
-    ensures few_reads { Told (B.device board.old).lines (λ lines. length lines ≡ device_lines (shape_of geo.now)
+    ensures few_reads { IfLinesTold (B.device board.old).lines (λ lines. length lines ≡ device_lines (shape_of geo.now)
         → RisesAtMost (named_reads (shape_of geo.now) (shadow_of (shape_of geo.now) lines)) (B.device board.old).reads (B.device board.new).reads) }
-    ensures exact_reads { OnOk result (Told (B.device board.old).lines (λ lines. length lines ≡ device_lines (shape_of geo.now)
+    ensures exact_reads { OnOk result (IfLinesTold (B.device board.old).lines (λ lines. length lines ≡ device_lines (shape_of geo.now)
         → RisesBy (all_reads (shape_of geo.now) (shadow_of (shape_of geo.now) lines) regs.now) (B.device board.old).reads (B.device board.new).reads)) }
-    ensures stopped_reads { IfErr result (λ fault. Told (B.device board.old).lines (λ lines. length lines ≡ device_lines (shape_of geo.now)
+    ensures stopped_reads { IfErr result (λ fault. IfLinesTold (B.device board.old).lines (λ lines. length lines ≡ device_lines (shape_of geo.now)
         → IsReadUntil (shape_of geo.now) (shadow_of (shape_of geo.now) lines) regs.now fault (B.device board.old).reads (B.device board.new).reads)) }
     ensures goes { OnOk result (IsUncut (B.device board.old) (B.device board.new)) }
     ensures worked { IfOk result (λ work. SuiteWork work.trials work.digests (suite_state (S.keys suite.old) (S.pads suite.old) (S.tags suite.old) (S.digests suite.old))
@@ -158,11 +158,11 @@ fn make_lines<B: Board, S: Suite>(
     ensures shadow { OnOk result (length room.new.shadow.items ≡ shadow_lines (shape_of geo.now)) }
     ensures few_made { OnOk result (length room.new.made.items ≤ ((shape_of geo.now).levels + 1) * slots (shape_of geo.now)) }
     ensures on_tree { OnOk result (All (λ entry. entry.at < meta_lines (shape_of geo.now)) room.new.made.items) }
-    ensures told { OnOk result (Told (B.device board.old).lines (λ lines. length lines ≡ device_lines (shape_of geo.now)
+    ensures told { OnOk result (IfLinesTold (B.device board.old).lines (λ lines. length lines ≡ device_lines (shape_of geo.now)
         → HasMadeAll (setup_of geo.now (S.formulas_of (S.keys suite.old))) lines regs.now room.new.shadow.items room.new.made.items)) }
-    ensures all_work { IfOk result (λ work. Told (B.device board.old).lines (λ lines. length lines ≡ device_lines (shape_of geo.now)
+    ensures all_work { IfOk result (λ work. IfLinesTold (B.device board.old).lines (λ lines. length lines ≡ device_lines (shape_of geo.now)
         → IsAllWork (shape_of geo.now) lines regs.now work.trials work.digests)) }
-    ensures stopped_work { IfErr result (λ fault. Told (B.device board.old).lines (λ lines. length lines ≡ device_lines (shape_of geo.now)
+    ensures stopped_work { IfErr result (λ fault. IfLinesTold (B.device board.old).lines (λ lines. length lines ≡ device_lines (shape_of geo.now)
         → StoppedWork (shape_of geo.now) lines regs.now fault (suite_state (S.keys suite.old) (S.pads suite.old) (S.tags suite.old) (S.digests suite.old))
         (suite_state (S.keys suite.new) (S.pads suite.new) (S.tags suite.new) (S.digests suite.new)))) }
     ensures stopped { IfErr result (λ fault. IsStageStopped (S.formulas_of (S.keys suite.old)) fault (λ lines. length lines ≡ device_lines (shape_of geo.now)
@@ -189,7 +189,7 @@ fn read_shadow<B: Board>(board: &mut B, geo: &Geo, shadow: &mut Vec<Line>) -> Re
     ensures goes { OnOk result (IsUncut (B.device board.old) (B.device board.new)) }
     ensures cut { OnErr result (IsCutOff (B.device board.old) (B.device board.new)) }
     ensures long { OnOk result (length shadow.new.items ≡ shadow_lines (shape_of geo.now)) }
-    ensures told { OnOk result (Told (B.device board.old).lines (λ lines. length lines ≡ device_lines (shape_of geo.now)
+    ensures told { OnOk result (IfLinesTold (B.device board.old).lines (λ lines. length lines ≡ device_lines (shape_of geo.now)
         → shadow.new.items ≡ shadow_of (shape_of geo.now) lines)) }
 {
     'lines: for n in 0..geo.shadows() {

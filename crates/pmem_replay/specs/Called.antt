@@ -39,13 +39,13 @@ abbrev pub memory_put : Option Posted → List Mark → Memory → Memory
 memory_put None made memory = memory
 memory_put (Some write) made memory = memory_after memory write made
 
-abbrev pub line_of : Option Posted → Option ℕ
-line_of write = option_map (λ w. w.at) write
+abbrev pub written_line : Option Posted → Option ℕ
+written_line write = option_map (λ w. w.at) write
 
 -- ---- what every call owes
 
 -- the parts that a call begins with: trusted, with this memory, in which the write has its line
-pub record IsBegun (setup : Setup) (write : Option Posted) (memory : Memory) (old : Parts) : Type 0 where
+pub record IsCallStart (setup : Setup) (write : Option Posted) (memory : Memory) (old : Parts) : Type 0 where
   pub trusted : AreTrusted setup old
   pub its_memory : IsMemory setup memory old
   pub within : IfSome write (λ w. w.at < length memory)
@@ -59,7 +59,7 @@ pub record IsLawful {T : Type 0} (setup : Setup) (write : Option Posted) (memory
   pub effect : CallEffect setup (outcome_of answer) made old new
   pub its_memory : IsMemory setup (memory_put write made memory) new
   pub sealed_before :
-      (a : ℕ) → a < layout.data_lines setup.shape → IsTrue (is_sealed_by made a) → line_of write ≢ Some a
+      (a : ℕ) → a < layout.data_lines setup.shape → IsTrue (is_sealed_by made a) → written_line write ≢ Some a
       → HoldsSeal setup.shape old a
   pub counters :
       (page : ℕ) → page < layout.pages setup.shape → HoldsMeta setup.shape old (counter_position setup.shape page)
@@ -67,10 +67,10 @@ pub record IsLawful {T : Type 0} (setup : Setup) (write : Option Posted) (memory
   pub exhibit : answer ≡ Err Fail.Shown → IsSome new.ledger.exhibit
 
 -- a call by its relation, with its law
-pub record IsMade {T : Type 0} (relation : Setup → Parts → Parts → Result T Fault → Type 0) (write : Option Posted) (setup : Setup)
+pub record IsLawfulCall {T : Type 0} (relation : Setup → Parts → Parts → Result T Fault → Type 0) (write : Option Posted) (setup : Setup)
     (old new : Parts) (answer : Result T Fault) : Type 0 where
   pub related : relation setup old new answer
-  pub lawful : (memory : Memory) → IsBegun setup write memory old → IsLawful setup write memory old new answer
+  pub lawful : (memory : Memory) → IsCallStart setup write memory old → IsLawful setup write memory old new answer
 
 -- ---- the world afterwards
 
@@ -110,8 +110,8 @@ called_state g outcome write made taken loss state =
       power = power_left outcome state.power;
       fuse = fuse_left outcome taken state.fuse;
       steps = steps_with state.steps taken;
-      hurt = healed_flags (line_of write) made state.hurt;
-      spoiled = healed_flags (line_of write) made state.spoiled;
+      hurt = healed_flags (written_line write) made state.hurt;
+      spoiled = healed_flags (written_line write) made state.spoiled;
       loss = loss;
     })
     made
@@ -151,13 +151,13 @@ cut_answer (Some true) steps = Say.CutKept None steps
 cut_answer (Some false) steps = Say.CutLost None steps
 
 -- a fault as the world answers it
-abbrev pub IsStopped : Option Exhibit → Option Bool → Fault → ℕ → Answer → Type 0
-IsStopped exhibit put Fail.Cut steps said = said ≡ cut_answer put steps
-IsStopped exhibit put (Fail.Meta x) steps said = said ≡ Say.Refused None (Place.Meta x) steps
-IsStopped exhibit put (Fail.Tag at) steps said = said ≡ Say.Refused None (Place.Line at) steps
-IsStopped exhibit put (Fail.Spent page) steps said = said ≡ Say.Spent None page steps
-IsStopped exhibit put Fail.Shown steps said = (its : Exhibit) × (exhibit ≡ Some its) × (said ≡ Say.Shown its)
-IsStopped exhibit put Fail.Down steps said = ⊥
+abbrev pub IsFaultAnswered : Option Exhibit → Option Bool → Fault → ℕ → Answer → Type 0
+IsFaultAnswered exhibit put Fail.Cut steps said = said ≡ cut_answer put steps
+IsFaultAnswered exhibit put (Fail.Meta x) steps said = said ≡ Say.Refused None (Place.Meta x) steps
+IsFaultAnswered exhibit put (Fail.Tag at) steps said = said ≡ Say.Refused None (Place.Line at) steps
+IsFaultAnswered exhibit put (Fail.Spent page) steps said = said ≡ Say.Spent None page steps
+IsFaultAnswered exhibit put Fail.Shown steps said = (its : Exhibit) × (exhibit ≡ Some its) × (said ≡ Say.Shown its)
+IsFaultAnswered exhibit put Fail.Down steps said = ⊥
 
 -- the engine isn't down, and an exhibit is there where one stopped it
 abbrev pub CanStop : Option Exhibit → Fault → Type 0
@@ -168,7 +168,7 @@ CanStop exhibit fault = ⊤
 -- ---- what a command looks at, and notes
 
 -- what these waiting writes show of their line
-pub record IsLook (waiting : List Posted) (seen : Seen) : Type 0 where
+pub record IsOverlayOf (waiting : List Posted) (seen : Seen) : Type 0 where
   pub newest : seen.line ≡ put_writes zero_line waiting
   pub over : (line : Line) → length line.0 ≡ 64 → overlaid line seen ≡ put_writes line waiting
   pub full : (seen.mask ≡ 2 ^ 64 - 1) ↔ IsTrue (cover_line waiting)
@@ -181,7 +181,7 @@ abbrev pub IsCleanAt : Shape → Option EngineState → ℕ → Type 0
 IsCleanAt g engine x = IfSome engine (λ e. (bank : ℕ) → is_cached_dirty g e.cache bank x ≡ false)
 
 -- the port's oldest write waits no more, and nothing else is changed
-pub record IsTaken (old : WorldState) (port : ℕ) (write : Posted) (new : WorldState) : Type 0 where
+pub record IsWriteTaken (old : WorldState) (port : ℕ) (write : Posted) (new : WorldState) : Type 0 where
   pub later : List Posted
   pub waits : queue_of old.state.queues port ≡ write ∷ later
   pub posted : IsPosted write

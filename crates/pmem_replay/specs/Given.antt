@@ -19,7 +19,7 @@ use Rattle.pmem_replay.specs.World.{WorldState, IsWorld}
 use Rattle.watched_board.specs.declared.taken.Taken.{Taken}
 use Rattle.watched_board.specs.Watching.{AreInCount, FollowsOn, none_taken, steps_in}
 use Rattle.pmem_replay.specs.During.{parts_in}
-use Rattle.pmem_replay.specs.Called.{IsStopped}
+use Rattle.pmem_replay.specs.Called.{IsFaultAnswered}
 
 -- the front write is put or not, and power stays on or not; what its marks leave dirty comes after
 abbrev pub given_state : PlainState → ℕ → Posted → List Posted → ℕ → Bool → Bool → PlainState
@@ -52,7 +52,7 @@ given_state state port write later taken false false =
     record state { queues = no_writes; power = false; fuse = None; steps = steps_with state.steps taken }
 
 -- the call
-pub record WasGiven (setup : Setup) (old : WorldState) (port : ℕ) (answer : Result Ctr Fault) (new : WorldState) : Type 0 where
+pub record WasWriteGiven (setup : Setup) (old : WorldState) (port : ℕ) (answer : Result Ctr Fault) (new : WorldState) : Type 0 where
   pub write : Posted
   pub later : List Posted
   pub waits : queue_of old.state.queues port ≡ write ∷ later
@@ -70,9 +70,9 @@ pub record WasGiven (setup : Setup) (old : WorldState) (port : ℕ) (answer : Re
   pub marks : new.ledger.marks ≡ old.ledger.marks ++ written.made
 
 -- and the world after it
-pub record IsGiven (setup : Setup) (old : WorldState) (port steps : ℕ) (answer : Result Ctr Fault) (put goes : Bool) (new : WorldState) :
+pub record IsWriteGiven (setup : Setup) (old : WorldState) (port steps : ℕ) (answer : Result Ctr Fault) (put goes : Bool) (new : WorldState) :
     Type 0 where
-  pub given : WasGiven setup old port answer new
+  pub given : WasWriteGiven setup old port answer new
   pub counted : steps ≡ steps_in given.taken
   pub sealed : is_sealed_by given.written.made given.write.at ≡ put
   pub state :
@@ -83,30 +83,30 @@ pub record IsGiven (setup : Setup) (old : WorldState) (port steps : ℕ) (answer
   pub holds : IsWorld setup new
 
 -- the engine has an exhibit
-pub record IsGivenShown (setup : Setup) (old : WorldState) (port : ℕ) (new : WorldState) : Type 0 where
-  pub given : WasGiven setup old port (Err Fail.Shown) new
+pub record IsWriteGivenShown (setup : Setup) (old : WorldState) (port : ℕ) (new : WorldState) : Type 0 where
+  pub given : WasWriteGiven setup old port (Err Fail.Shown) new
   pub engine : new.engine ≡ Some given.after
   pub shown : new.shown ≡ true
 
 -- by what the engine answered: the write was put where it was done, and in a cut where its own seal was made
-abbrev pub IsGivenTo : Setup → WorldState → ℕ → ℕ → Result Ctr Fault → Bool → WorldState → Type 0
-IsGivenTo setup old port steps (Ok ctr) put new = IsGiven setup old port steps (Ok ctr) true true new
-IsGivenTo setup old port steps (Err Fail.Cut) put new = IsGiven setup old port steps (Err Fail.Cut) put false new
-IsGivenTo setup old port steps (Err Fail.Down) put new = ⊥
-IsGivenTo setup old port steps (Err Fail.Shown) put new = IsGivenShown setup old port new
-IsGivenTo setup old port steps (Err fault) put new = IsGiven setup old port steps (Err fault) false true new
+abbrev pub IsWriteGivenTo : Setup → WorldState → ℕ → ℕ → Result Ctr Fault → Bool → WorldState → Type 0
+IsWriteGivenTo setup old port steps (Ok ctr) put new = IsWriteGiven setup old port steps (Ok ctr) true true new
+IsWriteGivenTo setup old port steps (Err Fail.Cut) put new = IsWriteGiven setup old port steps (Err Fail.Cut) put false new
+IsWriteGivenTo setup old port steps (Err Fail.Down) put new = ⊥
+IsWriteGivenTo setup old port steps (Err Fail.Shown) put new = IsWriteGivenShown setup old port new
+IsWriteGivenTo setup old port steps (Err fault) put new = IsWriteGiven setup old port steps (Err fault) false true new
 
 -- and what a drain says of it
-abbrev pub IsSaid : WorldState → Result Ctr Fault → Bool → ℕ → Answer → Type 0
-IsSaid new (Ok ctr) put steps said = said ≡ Say.Drained steps
-IsSaid new (Err fault) put steps said = IsStopped new.ledger.exhibit (Some put) fault steps said
+abbrev pub IsDrainSaid : WorldState → Result Ctr Fault → Bool → ℕ → Answer → Type 0
+IsDrainSaid new (Ok ctr) put steps said = said ≡ Say.Drained steps
+IsDrainSaid new (Err fault) put steps said = IsFaultAnswered new.ledger.exhibit (Some put) fault steps said
 
-pub record HasGiven (setup : Setup) (old : WorldState) (port : ℕ) (said : Answer) (new : WorldState) : Type 0 where
+pub record HasWriteGiven (setup : Setup) (old : WorldState) (port : ℕ) (said : Answer) (new : WorldState) : Type 0 where
   pub answer : Result Ctr Fault
   pub put : Bool
   pub steps : ℕ
-  pub given : IsGivenTo setup old port steps answer put new
-  pub says : IsSaid new answer put steps said
+  pub given : IsWriteGivenTo setup old port steps answer put new
+  pub says : IsDrainSaid new answer put steps said
 
 -- a fence can end with a drain that answers so
 abbrev pub CanEndFence : Answer → Type 0

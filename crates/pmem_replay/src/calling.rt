@@ -5,7 +5,7 @@ ghost use Rattle.pmem_base.specs.Layout.{data_lines};
 ghost use Rattle.pmem_base.specs.WaitingWrites.{no_writes};
 ghost use Rattle.seal_ledger.specs.View.{ledger_of};
 ghost use Rattle.pmem_engine.specs.Outcomes.{is_sealed_by};
-ghost use Rattle.pmem_replay.specs.Called.{WasCalled, CanStop, IsStopped, cut_answer};
+ghost use Rattle.pmem_replay.specs.Called.{WasCalled, CanStop, IsFaultAnswered, cut_answer};
 ghost use Rattle.pmem_replay.specs.Flagged.{healed};
 ghost use Rattle.pmem_replay.specs.Given.{HasMarkRoom};
 ghost use Rattle.pmem_replay.specs.World.{IsWorld, setup_of_world};
@@ -85,7 +85,7 @@ impl<S: Counted + Drop> World<S> {
     /// What a fault answers, after so many steps. A write says whether it was put.
     pub(crate) fn stopped(&self, fault: Fault, put: Option<bool>, steps: u64) -> Answer
         requires { CanStop self.now.ledger.exhibit fault }
-        ensures { IsStopped self.now.ledger.exhibit put fault steps result }
+        ensures { IsFaultAnswered self.now.ledger.exhibit put fault steps result }
     {
         match fault {
             Fault::Cut => cut(put, steps),

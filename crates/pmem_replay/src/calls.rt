@@ -20,7 +20,7 @@ ghost use Rattle.pmem_engine.specs.Calls.{IsUsable, HasReadLine, HasTurned, HasF
 ghost use Rattle.pmem_recovery.specs.Parts.{suite_state};
 ghost use Rattle.watched_board.specs.Watching.{IsWatched, device_during, none_taken};
 ghost use Rattle.pmem_replay.specs.During.{WasFormatted, IsTakenApart, WasRecovered};
-ghost use Rattle.pmem_replay.specs.Called.{IsMade, is_outcome_shown, is_outcome_cut};
+ghost use Rattle.pmem_replay.specs.Called.{IsLawfulCall, is_outcome_shown, is_outcome_cut};
 
 use board::{Board, MemBoard};
 use pmem_base::{Ctr, Geo, Line, MemFault, Posted};
@@ -61,7 +61,7 @@ pub(crate) trait Call {
     ) -> Result<Self::Value, Fault>
         requires can { can self.now engine.old.shape (ledger_of ledger.old).spare }
         requires usable { IsUsable engine.old.shape engine.old (B.device board.old) (ledger_of ledger.old) }
-        ensures made { IsMade (relation self.now) (write self.now) (record { shape = engine.old.shape; formulas = S.formulas_of (S.keys suite.old) })
+        ensures made { IsLawfulCall (relation self.now) (write self.now) (record { shape = engine.old.shape; formulas = S.formulas_of (S.keys suite.old) })
             (parts_of engine.old (B.device board.old) (ledger_of ledger.old) (S.tags suite.old) (S.digests suite.old))
             (parts_of engine.new (B.device board.new) (ledger_of ledger.new) (S.tags suite.new) (S.digests suite.new)) result }
         ensures keys { S.keys suite.new ≡ S.keys suite.old };
@@ -228,7 +228,7 @@ pub(crate) fn make<C: Call, S: Suite>(
     requires can { C.can call.now engine.old.shape (ledger_of ledger.old).spare }
     requires on { (memory_of board.old).powered ≡ true }
     requires usable { IsUsable engine.old.shape engine.old (device_during (memory_of board.old) none_taken) (ledger_of ledger.old) }
-    ensures made { IsMade (C.relation call.now) (C.write call.now) (record { shape = engine.old.shape; formulas = S.formulas_of (S.keys suite.old) })
+    ensures made { IsLawfulCall (C.relation call.now) (C.write call.now) (record { shape = engine.old.shape; formulas = S.formulas_of (S.keys suite.old) })
         (parts_of engine.old (device_during (memory_of board.old) none_taken) (ledger_of ledger.old) (S.tags suite.old) (S.digests suite.old))
         (parts_of engine.new (device_during (memory_of board.new) result.taken) (ledger_of ledger.new) (S.tags suite.new) (S.digests suite.new)) result.answer }
     ensures watched { IsWatched (memory_of board.old) (memory_of board.new) result.taken }
@@ -261,7 +261,7 @@ fn make_watched<'a, K: Start, C: Call, S: Suite>(
     requires on { (memory_of board.old).powered ≡ true }
     requires usable { IsUsable engine.old.shape engine.old (device_during (memory_of board.old) none_taken) (ledger_of ledger.old) }
     ensures name { result.board.ghost_name ≡ K.name }
-    ensures made { IfSome outcome.new (λ answer. IsMade (C.relation call.now) (C.write call.now) (record { shape = engine.old.shape; formulas = S.formulas_of (S.keys suite.old) })
+    ensures made { IfSome outcome.new (λ answer. IsLawfulCall (C.relation call.now) (C.write call.now) (record { shape = engine.old.shape; formulas = S.formulas_of (S.keys suite.old) })
         (parts_of engine.old (device_during (memory_of board.old) none_taken) (ledger_of ledger.old) (S.tags suite.old) (S.digests suite.old))
         (parts_of engine.new (device_during (memory_of result.board.now) result.taken) (ledger_of ledger.new) (S.tags suite.new) (S.digests suite.new)) answer) }
     ensures some { IsSome outcome.new }

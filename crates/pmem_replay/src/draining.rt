@@ -4,8 +4,8 @@ ghost use Rattle.pmem_base.specs.declared.commands.Command.TheVariants as Do;
 ghost use Rattle.pmem_base.specs.WaitingWrites.{queue_of};
 ghost use Rattle.plain_model.specs.After.{steps_of};
 ghost use Rattle.pmem_engine.specs.Outcomes.{is_sealed_by};
-ghost use Rattle.pmem_replay.specs.Called.{IsTaken};
-ghost use Rattle.pmem_replay.specs.Given.{HasGiven, CanEndFence};
+ghost use Rattle.pmem_replay.specs.Called.{IsWriteTaken};
+ghost use Rattle.pmem_replay.specs.Given.{HasWriteGiven, CanEndFence};
 ghost use Rattle.pmem_replay.specs.Replies.{with_marks_since};
 ghost use Rattle.pmem_replay.specs.Stepped.{HasStepped, CanWantMemory, EndsFence};
 ghost use Rattle.pmem_replay.specs.World.{setup_of_world};
@@ -96,7 +96,7 @@ impl<S: Counted + Drop> World<S> {
         requires on { IsSome self.old.engine }
         requires some { 0 < length (queue_of self.old.state.queues port) }
         requires room { 66 ≤ self.old.ledger.spare }
-        ensures { HasGiven (setup_of_world S.formulas_of self.old) self.old port result self.new }
+        ensures { HasWriteGiven (setup_of_world S.formulas_of self.old) self.old port result self.new }
     {
         self.holds();
         let write = self.take(port);
@@ -115,7 +115,7 @@ impl<S: Counted + Drop> World<S> {
         requires shown { self.old.shown ≡ false }
         requires port { port < 8 }
         requires some { 0 < length (queue_of self.old.state.queues port) }
-        ensures { IsTaken self.old port result self.new }
+        ensures { IsWriteTaken self.old port result self.new }
     {
         let Some(write) = self.ports.front(port) else {
             unreachable!()

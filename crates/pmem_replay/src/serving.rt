@@ -9,7 +9,7 @@ ghost use Rattle.plain_model.specs.After.{after_clean};
 ghost use Rattle.pmem_replay.specs.World.{setup_of_world};
 ghost use Rattle.pmem_replay.specs.Replies.{without_marks, with_marks_since};
 ghost use Rattle.pmem_replay.specs.Stepped.{HasStepped, CanWantMemory};
-ghost use Rattle.pmem_replay.specs.Called.{IsLook, IsCleanIn, IsCleanAt};
+ghost use Rattle.pmem_replay.specs.Called.{IsOverlayOf, IsCleanIn, IsCleanAt};
 
 use crate::World;
 use crate::calls::{FlushBlock, ReadLine, SetLoss, TurnPage};
@@ -30,7 +30,7 @@ impl<S: Counted + Drop> World<S> {
     /// What the port's waiting writes to data line `at` show of it.
     fn look(&self, port: u8, at: u32) -> Seen
         requires { port < 8 }
-        ensures { IsLook (writes_to (queue_of self.now.state.queues port) at) result }
+        ensures { IsOverlayOf (writes_to (queue_of self.now.state.queues port) at) result }
     {
         self.ports.look(port, at)
     }

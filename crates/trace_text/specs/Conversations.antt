@@ -68,11 +68,11 @@ IsTalk {S} {X} protocol first (line ∷ lines) replies last =
 
 -- Each of these replies was given to a line that asked, in the state that those before it left. Only the last
 -- may be an exhibit.
-abbrev pub AreGiven : {S X : Type 0} → Protocol S X → S → List X → Type 0
-AreGiven protocol first [] = ⊤
-AreGiven {S} protocol first (reply ∷ replies) =
+abbrev pub AreRepliesGiven : {S X : Type 0} → Protocol S X → S → List X → Type 0
+AreRepliesGiven protocol first [] = ⊤
+AreRepliesGiven {S} protocol first (reply ∷ replies) =
     (line : List ℕ) × (line_sort protocol line ≡ asked)
-    × (((next : S) × protocol.answers first line reply next × AreGiven protocol next replies) ⊎ (protocol.shows first line reply × (replies ≡ [])))
+    × (((next : S) × protocol.answers first line reply next × AreRepliesGiven protocol next replies) ⊎ (protocol.shows first line reply × (replies ≡ [])))
 
 -- ---- stops
 

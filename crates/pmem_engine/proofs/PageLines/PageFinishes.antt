@@ -23,7 +23,7 @@ use Rattle.pmem_engine.specs.Calls.{IsUsable, IsMemory, moment_in, IsWork, resea
 use Rattle.pmem_engine.specs.Still.{HasOnlyRead}
 use Rattle.pmem_engine.specs.Resealing.{register_in, line_of_page, HasResealed}
 use Rattle.pmem_engine.specs.Writing.{reseals_of, HasFinishedPage}
-use Rattle.pmem_engine.specs.Finishing.{IsStillOpen, IsClosed, HasLeft, HasResealedFirst}
+use Rattle.pmem_engine.specs.Finishing.{IsStillOpen, IsClosed, HasPlacesLeft, HasResealedFirst}
 use Rattle.pmem_engine.proofs.CallEnds.CallChains.{done_chained, still_unarmed, sealed_by_either, going_unshown}
 use Rattle.pmem_engine.proofs.CallEnds.StillParts.{done_reading}
 use Rattle.pmem_engine.proofs.CallEnds.ExactWork.{work_then, work_alone, reseal_more}
@@ -54,7 +54,7 @@ sealed_before_both setup made more old mid done trusted a within first second by
 -- ---- none sealed yet
 
 left_at_first : (old : Parts) (n : ℕ) (left : List ℕ) → not_done (register_in old n) ≡ left → 0 < length left
-    → HasLeft old old n left
+    → HasPlacesLeft old old n left
 left_at_first old n v2 is some = search rules
 
 pub same_parts : (setup : Setup) (old : Parts) → HasOnlyRead old old
@@ -127,7 +127,7 @@ module _ (setup : Setup) (n number : ℕ) (old mid : Parts) (valid : IsValidRegs
   total : length first.left + number ≡ length (not_done (register_in old n))
   total = search (rules, length-append)
 
-  open_by : (left : List ℕ) → 0 < length left → HasLeft old mid n left → IsStillOpen old mid n left
+  open_by : (left : List ℕ) → 0 < length left → HasPlacesLeft old mid n left → IsStillOpen old mid n left
   open_by v0 more it = search rules
 
   pub still_open : IsStillOpen old mid n first.left
@@ -220,7 +220,7 @@ module _ (setup : Setup) (n number : ℕ) (old mid new : Parts) (valid : IsValid
       ≡ registers_with_done (regs_of mid).progress.items (line_of_page (register_in mid n) it.place)
   line_done = it.line_sealed.line_done.progress
 
-  has_left : (left : List ℕ) → after ≡ left → HasLeft old new n left
+  has_left : (left : List ℕ) → after ≡ left → HasPlacesLeft old new n left
   has_left [] none =
       record {
         gone =
@@ -364,4 +364,4 @@ finished setup n number old new first whole =
     none_left = no_places first.left (let all = total in let count = first.count in omega (arith, all, count, whole))
 
     closed : IsClosed old new n
-    closed = subst (HasLeft old new n) none_left first.registers
+    closed = subst (HasPlacesLeft old new n) none_left first.registers

@@ -20,7 +20,7 @@ use Rattle.pmem_engine.specs.Parts.{Parts, HoldsCounters, HoldsMeta}
 use Rattle.pmem_engine.specs.Outcomes.{outcome_of, CallEffect}
 use Rattle.pmem_engine.specs.Calls.{AnswersDown, IsDownAnswer, moment_in, HasReadLine, HasTurned, HasFlushed, HasSetLoss, HasWrittenLine, AnswersRead, AnswersTurn, AnswersFlush, AnswersLoss, AnswersWrite}
 use Rattle.plain_model.specs.Asked.{marks_of_write}
-use Rattle.pmem_replay.specs.Called.{IsBegun, IsLawful}
+use Rattle.pmem_replay.specs.Called.{IsCallStart, IsLawful}
 
 -- an exhibit is there
 there : (exhibit : Option Exhibit) (its : Exhibit) → exhibit ≡ Some its → IsSome exhibit
@@ -31,7 +31,7 @@ up_of : {T : Type 0} (old new : Parts) (answer : Result T Fault) → AnswersDown
 up_of old new answer down up is = true≢false (sym (down.exactly.0 is) ∙ up)
 
 -- a call that makes no mark
-markless : {T : Type 0} (setup : Setup) (memory : Memory) (old new : Parts) (answer : Result T Fault) → IsBegun setup None memory old
+markless : {T : Type 0} (setup : Setup) (memory : Memory) (old new : Parts) (answer : Result T Fault) → IsCallStart setup None memory old
     → AnswersDown old new answer → CallEffect setup (outcome_of answer) [] old new
     → ((page : ℕ) → page < layout.pages setup.shape → HoldsMeta setup.shape old (counter_position setup.shape page)
     → HoldsCounters setup old page → HoldsCounters setup new page)
@@ -51,7 +51,7 @@ markless setup memory old new answer begun down effect counters exhibit =
     }
 
 pub read_lawful : (setup : Setup) (a : ℕ) (memory : Memory) (old new : Parts) (answer : Result Line Fault) → HasReadLine setup a old new answer
-    → IsBegun setup None memory old → IsLawful setup None memory old new answer
+    → IsCallStart setup None memory old → IsLawful setup None memory old new answer
 read_lawful setup a memory old new answer read begun =
     let up = begun.trusted.not_down in
     let done = read.done up in
@@ -64,7 +64,7 @@ read_lawful setup a memory old new answer read begun =
     ])
 
 pub flush_lawful : (setup : Setup) (memory : Memory) (old new : Parts) (answer : Result (Option ℕ) Fault) → HasFlushed setup old new answer
-    → IsBegun setup None memory old → IsLawful setup None memory old new answer
+    → IsCallStart setup None memory old → IsLawful setup None memory old new answer
 flush_lawful setup memory old new answer flush begun =
     let up = begun.trusted.not_down in
     let done = flush.done up in
@@ -73,7 +73,7 @@ flush_lawful setup memory old new answer flush begun =
     (λ is. absurd (subst (λ (r : Result (Option ℕ) Fault). AnswersFlush setup.shape old new r) is (flush.answered up)))
 
 pub loss_lawful : (setup : Setup) (n : ℕ) (memory : Memory) (old new : Parts) (answer : Result ℕ Fault) → HasSetLoss setup n old new answer
-    → IsBegun setup None memory old → IsLawful setup None memory old new answer
+    → IsCallStart setup None memory old → IsLawful setup None memory old new answer
 loss_lawful setup n memory old new answer set begun =
     let up = begun.trusted.not_down in
     markless setup memory old new answer begun set.down (set.gone up)
@@ -81,7 +81,7 @@ loss_lawful setup n memory old new answer set begun =
     (λ is. absurd (subst (λ (r : Result ℕ Fault). AnswersLoss setup.shape n old new r) is (set.answered up)))
 
 pub turn_lawful : (setup : Setup) (memory : Memory) (old new : Parts) (answer : Result (Option (ℕ × ℕ)) Fault) → HasTurned setup old new answer
-    → IsBegun setup None memory old → IsLawful setup None memory old new answer
+    → IsCallStart setup None memory old → IsLawful setup None memory old new answer
 turn_lawful setup memory old new answer turn begun =
     let up = begun.trusted.not_down in
     let done = turn.done up in
@@ -99,7 +99,7 @@ turn_lawful setup memory old new answer turn begun =
     }
 
 pub write_lawful : (setup : Setup) (write : Posted) (memory : Memory) (old new : Parts) (answer : Result Ctr Fault) → HasWrittenLine setup write old new answer
-    → IsBegun setup (Some write) memory old → IsLawful setup (Some write) memory old new answer
+    → IsCallStart setup (Some write) memory old → IsLawful setup (Some write) memory old new answer
 write_lawful setup write memory old new answer written begun =
     let up = begun.trusted.not_down in
     let done = written.done up in

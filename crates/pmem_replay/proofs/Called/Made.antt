@@ -23,7 +23,7 @@ use Rattle.watched_board.specs.declared.taken.Taken.{Taken}
 use Rattle.watched_board.specs.Watching.{none_taken, steps_in, device_during}
 use Rattle.pmem_replay.specs.During.{parts_in}
 use Rattle.pmem_replay.specs.Flagged.{Tampering, Dirtying, with_dirtying, healed, healed_flags}
-use Rattle.pmem_replay.specs.Called.{memory_put, line_of, engine_left, queues_left, power_left, fuse_left, is_outcome_shown, is_outcome_cut, called_state, IsLawful, IsMade, IsCall, WasCalled}
+use Rattle.pmem_replay.specs.Called.{memory_put, written_line, engine_left, queues_left, power_left, fuse_left, is_outcome_shown, is_outcome_cut, called_state, IsLawful, IsLawfulCall, IsCall, WasCalled}
 use Rattle.pmem_replay.specs.World.{WorldState, WorldParts, IsOn, state_in, world_of}
 use Rattle.pmem_replay.proofs.Steps.WorldsAfterCalls.{on_in}
 use Rattle.pmem_replay.proofs.Steps.CallSurroundings.{called, IsServed, call_of}
@@ -49,7 +49,7 @@ parts_made p keys board ledger e tags digests steps queues tampering dirtying =
 module _ {T : Type 0} (setup : Setup) (p : WorldParts) (keys : List ℕ) (board : BoardMemory) (ledger : LedgerState) (tags digests steps : ℕ)
     (engine after : EngineState) (taken : Taken) (served : IsServed setup p keys board steps engine taken)
     (relation : Setup → Parts → Parts → Result T Fault → Type 0) (write : Option Posted) (answer : Result T Fault)
-    (made : IsMade relation write setup (parts_in (world_of setup p) engine none_taken) (parts_of after (device_during board taken) ledger tags digests) answer)
+    (made : IsLawfulCall relation write setup (parts_in (world_of setup p) engine none_taken) (parts_of after (device_during board taken) ledger tags digests) answer)
     (within : IfSome write (λ w. w.at < layout.data_lines setup.shape)) where
   abbrev old : WorldState
   old = world_of setup p
@@ -110,7 +110,7 @@ module _ {T : Type 0} (setup : Setup) (p : WorldParts) (keys : List ℕ) (board 
     state_made : (o : Outcome) → is_outcome_shown o ≡ false
         → HasPower o (device_during p.board none_taken) (device_during board taken)
         → queues ≡ queues_left o p.queues
-        → tampering ≡ healed (line_of write) (drop (length p.ledger.marks) ledger.marks) p.tampering
+        → tampering ≡ healed (written_line write) (drop (length p.ledger.marks) ledger.marks) p.tampering
         → ((st : PlainState) → with_dirtying st dirtying ≡ after_marks setup.shape (with_dirtying st p.dirtying) (drop (length p.ledger.marks) ledger.marks))
         → new.state ≡ called_state setup.shape o write lawful.made (steps_in taken) board.regs.loss old.state
     state_made o quiet power moved heals noted =
@@ -118,8 +118,8 @@ module _ {T : Type 0} (setup : Setup) (p : WorldParts) (keys : List ℕ) (board 
         (record { count = length-memory_put write lawful.made old.state.memory ∙ served.going.whole.memory.count; each = lawful.its_memory }) in
         let its_power = power_by o power in
         let fuse = fuse_by o quiet its_power in
-        let healing : tampering ≡ healed (line_of write) lawful.made p.tampering =
-        heals ∙ ap (λ (ms : List Mark). healed (line_of write) ms p.tampering) marks_since in
+        let healing : tampering ≡ healed (written_line write) lawful.made p.tampering =
+        heals ∙ ap (λ (ms : List Mark). healed (written_line write) ms p.tampering) marks_since in
         let named = ap (λ (t : Tampering). t.named) healing in
         let hurt = ap (λ (t : Tampering). t.hurt) healing in
         let spoiled = ap (λ (t : Tampering). t.spoiled) healing in
@@ -130,8 +130,8 @@ module _ {T : Type 0} (setup : Setup) (p : WorldParts) (keys : List ℕ) (board 
           power = power_left o p.board.powered;
           fuse = fuse_left o (steps_in taken) p.board.fuse;
           steps = steps_with p.steps (steps_in taken);
-          hurt = healed_flags (line_of write) lawful.made p.tampering.hurt;
-          spoiled = healed_flags (line_of write) lawful.made p.tampering.spoiled;
+          hurt = healed_flags (written_line write) lawful.made p.tampering.hurt;
+          spoiled = healed_flags (written_line write) lawful.made p.tampering.spoiled;
           loss = board.regs.loss;
         } in
         let same : new.state ≡ with_dirtying st dirtying =
@@ -141,7 +141,7 @@ module _ {T : Type 0} (setup : Setup) (p : WorldParts) (keys : List ℕ) (board 
     -- no exhibit ended it
     pub was_called : (cut : Bool) → is_outcome_shown (outcome_of answer) ≡ false → cut ≡ is_outcome_cut (outcome_of answer)
         → e ≡ (if cut then None else Some after) → queues ≡ (if cut then no_writes else p.queues)
-        → tampering ≡ healed (line_of write) (drop (length p.ledger.marks) ledger.marks) p.tampering
+        → tampering ≡ healed (written_line write) (drop (length p.ledger.marks) ledger.marks) p.tampering
         → ((st : PlainState) → with_dirtying st dirtying ≡ after_marks setup.shape (with_dirtying st p.dirtying) (drop (length p.ledger.marks) ledger.marks))
         → IsBanksOf after.shape after.cache
         → WasCalled setup relation write old taken answer new

@@ -26,7 +26,7 @@ use Rattle.pmem_replay.specs.World.{WorldState, HasFlags, HasQueues, IsOn, IsWor
 use Rattle.watched_board.specs.declared.taken.Taken.{Taken}
 use Rattle.watched_board.specs.Watching.{none_taken, steps_in}
 use Rattle.pmem_replay.specs.During.{parts_in}
-use Rattle.pmem_replay.specs.Called.{memory_put, line_of, engine_left, is_outcome_shown, called_state, IsCall}
+use Rattle.pmem_replay.specs.Called.{memory_put, written_line, engine_left, is_outcome_shown, called_state, IsCall}
 use Rattle.pmem_replay.proofs.Steps.WorldsAfterCalls.{on_in, IsHealed, AreCountersKept, world-going, world-cut}
 use Rattle.pmem_replay.proofs.Steps.FaultCauses.{stored_unspoiled, counter_position-within}
 use Rattle.pmem_replay.proofs.Steps.MarklessCalls.{HasQueues-none}
@@ -99,7 +99,7 @@ still_set (Some at) made flags a set = one (is_sealed_by made at) refl set
 module _ (setup : Setup) (old new : WorldState) (engine after : EngineState) (taken : Taken) (call : IsCall setup old new engine after taken)
     (write : Option Posted) (made : List Mark)
     (memory : IsMemory setup (memory_put write made old.state.memory) (parts_in new after taken))
-    (sealed_before : (a : ℕ) → a < layout.data_lines setup.shape → IsTrue (is_sealed_by made a) → line_of write ≢ Some a
+    (sealed_before : (a : ℕ) → a < layout.data_lines setup.shape → IsTrue (is_sealed_by made a) → written_line write ≢ Some a
     → HoldsSeal setup.shape (parts_in old engine none_taken) a)
     (counters : (page : ℕ) → page < layout.pages setup.shape → HoldsMeta setup.shape (parts_in old engine none_taken) (counter_position setup.shape page)
     → HoldsCounters setup (parts_in old engine none_taken) page → HoldsCounters setup (parts_in new after taken) page) where
@@ -128,16 +128,16 @@ module _ (setup : Setup) (old new : WorldState) (engine after : EngineState) (ta
   memory_now = record { count = length-memory_put write made old.state.memory ∙ call.world.memory.count; each = memory }
 
   healed_now : new.state.named ≡ old.state.named → new.state.loose ≡ old.state.loose
-      → new.state.hurt ≡ healed_flags (line_of write) made old.state.hurt → new.state.spoiled ≡ healed_flags (line_of write) made old.state.spoiled
+      → new.state.hurt ≡ healed_flags (written_line write) made old.state.hurt → new.state.spoiled ≡ healed_flags (written_line write) made old.state.spoiled
       → IsHealed setup made old.state new.state
   healed_now named loose hurt spoiled =
       record {
         named = named;
         loose = loose;
-        hurt = λ a within whole. cleared (line_of write) made old.state.hurt a (sym (ap (λ flags. is_flagged flags a) hurt) ∙ whole);
+        hurt = λ a within whole. cleared (written_line write) made old.state.hurt a (sym (ap (λ flags. is_flagged flags a) hurt) ∙ whole);
         spoiled =
             λ a within broken.
-            let was = still_set (line_of write) made old.state.spoiled a (sym (ap (λ flags. is_flagged flags a) spoiled) ∙ broken) in
+            let was = still_set (written_line write) made old.state.spoiled a (sym (ap (λ flags. is_flagged flags a) spoiled) ∙ broken) in
             elim (cases_Bool (is_sealed_by made a)) [
               | inl sealed ↦
                   absurd (true≢false (sym was.0
@@ -147,14 +147,14 @@ module _ (setup : Setup) (old new : WorldState) (engine after : EngineState) (ta
             ];
       }
 
-  flags_now : (state : PlainState) → state.named ≡ old.state.named → state.hurt ≡ healed_flags (line_of write) made old.state.hurt
-      → state.spoiled ≡ healed_flags (line_of write) made old.state.spoiled → state.touched ≡ touched_now → state.flushed ≡ flushed_now
+  flags_now : (state : PlainState) → state.named ≡ old.state.named → state.hurt ≡ healed_flags (written_line write) made old.state.hurt
+      → state.spoiled ≡ healed_flags (written_line write) made old.state.spoiled → state.touched ≡ touched_now → state.flushed ≡ flushed_now
       → HasFlags setup.shape state
   flags_now state named hurt spoiled touched flushed =
       record {
         named = ap length named ∙ call.world.flags.named;
-        hurt = ap length hurt ∙ length-healed (line_of write) made old.state.hurt ∙ call.world.flags.hurt;
-        spoiled = ap length spoiled ∙ length-healed (line_of write) made old.state.spoiled ∙ call.world.flags.spoiled;
+        hurt = ap length hurt ∙ length-healed (written_line write) made old.state.hurt ∙ call.world.flags.hurt;
+        spoiled = ap length spoiled ∙ length-healed (written_line write) made old.state.spoiled ∙ call.world.flags.spoiled;
         touched = ap length touched ∙ length-touched_after old.state.touched made ∙ call.world.flags.touched;
         flushed = ap length flushed ∙ length-flushed_after setup.shape old.state.flushed made call.world.flags.flushed;
       }

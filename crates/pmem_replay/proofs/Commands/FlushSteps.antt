@@ -19,7 +19,7 @@ use Rattle.pmem_engine.specs.Outcomes.{going, cut_short, outcome_of, OneLossEffe
 use Rattle.pmem_engine.specs.Calls.{HasFlushed, AnswersFlush}
 use Rattle.watched_board.specs.Watching.{none_taken, steps_in}
 use Rattle.pmem_replay.specs.During.{parts_in}
-use Rattle.pmem_replay.specs.Called.{called_state, IsStopped, IsCleanIn, IsCleanAt}
+use Rattle.pmem_replay.specs.Called.{called_state, IsFaultAnswered, IsCleanIn, IsCleanAt}
 use Rattle.pmem_replay.specs.Replies.{without_marks}
 use Rattle.pmem_replay.specs.Stepped.{HasStepped, IsFlushAnswer}
 use Rattle.pmem_replay.proofs.Called.Noted.{clean_noted, flushed_noted}
@@ -98,7 +98,7 @@ flush_flushed x s =
     (done_as s (flushed_state x s.new.state) _ (Ok (Some x), w.related, refl) (Say.Flushed x (steps_in s.taken)) refl (λ quiet. refl)) tt
 
 -- a flush that is stopped: it is cut
-pub flush_stopped : (fault : Fault) (s : Serving Flushes None (Err fault)) (said : Answer) → IsStopped s.new.ledger.exhibit None fault (steps_in s.taken) said
+pub flush_stopped : (fault : Fault) (s : Serving Flushes None (Err fault)) (said : Answer) → IsFaultAnswered s.new.ledger.exhibit None fault (steps_in s.taken) said
     → HasStepped s.setup s.first Do.Flush (without_marks said) s.new
 flush_stopped Fail.Cut s said is =
     let w = s.called in

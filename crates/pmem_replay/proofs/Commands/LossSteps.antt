@@ -15,7 +15,7 @@ use Rattle.pmem_engine.specs.Outcomes.{going, cut_short, outcome_of, CallEffect}
 use Rattle.pmem_engine.specs.Calls.{HasSetLoss, AnswersLoss}
 use Rattle.watched_board.specs.Watching.{none_taken, steps_in}
 use Rattle.pmem_replay.specs.During.{parts_in}
-use Rattle.pmem_replay.specs.Called.{IsStopped}
+use Rattle.pmem_replay.specs.Called.{IsFaultAnswered}
 use Rattle.pmem_replay.specs.Replies.{without_marks}
 use Rattle.pmem_replay.specs.Stepped.{HasStepped, IsLossAnswer}
 use Rattle.pmem_replay.proofs.Commands.LossLaws as laws
@@ -49,7 +49,7 @@ loss_set n steps s some other =
 
 -- or power is cut
 pub loss_stopped : (n : ℕ) (fault : Fault) (s : Serving (Sets n) None (Err fault)) → IsTrue (is_loss n) → n ≢ s.first.state.loss → (said : Answer)
-    → IsStopped s.new.ledger.exhibit None fault (steps_in s.taken) said → HasStepped s.setup s.first (Do.Loss n) (without_marks said) s.new
+    → IsFaultAnswered s.new.ledger.exhibit None fault (steps_in s.taken) said → HasStepped s.setup s.first (Do.Loss n) (without_marks said) s.new
 loss_stopped n Fail.Cut s some other said is =
     let w = s.called in
     subst (λ a. HasStepped s.setup s.first (Do.Loss n) (without_marks a) s.new) (sym is)

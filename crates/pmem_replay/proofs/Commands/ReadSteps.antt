@@ -26,7 +26,7 @@ use Rattle.pmem_engine.specs.Invariants.{IsSealStored}
 use Rattle.pmem_engine.specs.Calls.{HasReadLine}
 use Rattle.watched_board.specs.Watching.{none_taken, steps_in}
 use Rattle.pmem_replay.specs.During.{parts_in}
-use Rattle.pmem_replay.specs.Called.{is_outcome_shown, is_outcome_cut, called_state, IsStopped}
+use Rattle.pmem_replay.specs.Called.{is_outcome_shown, is_outcome_cut, called_state, IsFaultAnswered}
 use Rattle.pmem_replay.specs.Replies.{without_marks}
 use Rattle.pmem_replay.specs.Stepped.{HasStepped, IsReadAnswer, IsSeenOnDevice, IsTagWrong, IsExhibitSeen}
 use Rattle.pmem_replay.proofs.Steps.FaultCauses.{on_path-within}
@@ -91,7 +91,7 @@ read_got port at line shown s within uncovered is its =
 
 -- a read that is stopped
 pub read_stopped : (port at : ℕ) (fault : Fault) (s : Serving (Reads at) None (Err fault)) (within : at < layout.data_lines s.setup.shape)
-    → is_covered s.first.state port at ≡ false → (said : Answer) → IsStopped s.new.ledger.exhibit None fault (steps_in s.taken) said
+    → is_covered s.first.state port at ≡ false → (said : Answer) → IsFaultAnswered s.new.ledger.exhibit None fault (steps_in s.taken) said
     → HasStepped s.setup s.first (Do.Read port at) (without_marks said) s.new
 read_stopped port at (Fail.Meta x) s within uncovered said is =
     let w = s.called in

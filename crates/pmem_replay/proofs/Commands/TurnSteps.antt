@@ -20,7 +20,7 @@ use Rattle.pmem_engine.specs.Outcomes.{Outcome, going, outcome_of, OneLossEffect
 use Rattle.pmem_engine.specs.Calls.{HasTurned, AreMarksOfTurn, moment_in}
 use Rattle.watched_board.specs.Watching.{none_taken, steps_in}
 use Rattle.pmem_replay.specs.During.{parts_in}
-use Rattle.pmem_replay.specs.Called.{is_outcome_shown, is_outcome_cut, called_state, IsStopped}
+use Rattle.pmem_replay.specs.Called.{is_outcome_shown, is_outcome_cut, called_state, IsFaultAnswered}
 use Rattle.pmem_replay.specs.World.{view_in}
 use Rattle.pmem_replay.specs.Stepped.{HasStepped, IsTurnAnswer, IsSeenOnDevice, IsExhibitSeen}
 use Rattle.pmem_replay.proofs.Steps.GoodReplies.{IsGood}
@@ -79,7 +79,7 @@ turn_turned turned s small =
     (λ quiet. refl) refl tt
 
 -- a turn that is stopped
-pub turn_stopped : (fault : Fault) (s : Serving Turns None (Err fault)) (said : Answer) → IsStopped s.new.ledger.exhibit None fault (steps_in s.taken) said
+pub turn_stopped : (fault : Fault) (s : Serving Turns None (Err fault)) (said : Answer) → IsFaultAnswered s.new.ledger.exhibit None fault (steps_in s.taken) said
     → HasStepped s.setup s.first Do.Turn (record { marks = s.called.related.made; answer = said }) s.new
 turn_stopped (Fail.Tag b) s said is =
     let w = s.called in

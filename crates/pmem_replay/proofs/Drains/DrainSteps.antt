@@ -32,7 +32,7 @@ use Rattle.pmem_engine.specs.Calls.{IsPartOf}
 use Rattle.pmem_replay.specs.World.{WorldState, IsOn, IsPowered, IsWorld, view_in, setup_of_world}
 use Rattle.watched_board.specs.declared.taken.Taken.{Taken}
 use Rattle.watched_board.specs.Watching.{steps_in}
-use Rattle.pmem_replay.specs.Given.{given_state, WasGiven, IsGiven, IsGivenShown, IsGivenTo, IsSaid, HasGiven, HasMarkRoom}
+use Rattle.pmem_replay.specs.Given.{given_state, WasWriteGiven, IsWriteGiven, IsWriteGivenShown, IsWriteGivenTo, IsDrainSaid, HasWriteGiven, HasMarkRoom}
 use Rattle.pmem_replay.specs.Replies.{with_marks_since}
 use Rattle.pmem_replay.proofs.Steps.PartsOfWorld.{since}
 use Rattle.pmem_replay.specs.Stepped.{HasStepped, HasDrained, IsDrainAnswer, IsSeenOnDevice, IsExhibitSeen}
@@ -62,7 +62,7 @@ some_long write later = ne_eqb (length (write ∷ later)) 0 zero_not
 
 -- a write that was given, once room was made, is drained as a drain answers it
 pub given_drained : (setup : Setup) (old new : WorldState) (ledger : LedgerState) (more : ℕ) → HasRoom old.ledger ledger more → (port : ℕ) (answer : Result Ctr Fault)
-    → (given : WasGiven setup (record old { ledger = ledger }) port answer new) (said : Answer) → IsDrainAnswer new answer said
+    → (given : WasWriteGiven setup (record old { ledger = ledger }) port answer new) (said : Answer) → IsDrainAnswer new answer said
     → new.engine ≡ (if is_cut said then None else Some given.after)
     → new.board.powered ≡ not (is_cut said)
     → (is_shown said ≡ false → steps_of said ≡ steps_in given.taken)
@@ -72,7 +72,7 @@ given_drained setup old new ledger more room port answer given said says kept po
 
 -- power is on afterwards where the write wasn't cut
 pub power_after : (setup : Setup) (old new : WorldState) (port steps : ℕ) (answer : Result Ctr Fault) (put goes : Bool)
-    → IsGiven setup old port steps answer put goes new → new.board.powered ≡ goes
+    → IsWriteGiven setup old port steps answer put goes new → new.board.powered ≡ goes
 power_after setup old new port steps answer put true is =
     is.holds.board.power ∙ (on_in setup new is.given.after is.holds is.engine).powered
 power_after setup old new port steps answer put false is =
@@ -95,7 +95,7 @@ module _ (setup : Setup) (old new : WorldState) (ledger : LedgerState) (room : H
       subst (λ (ms : List Mark). IsGood setup (record old { ledger = record ledger { marks = ms } }) (Do.Drain port) reply) room.marks good in
       record { legal = still.legal; fits = still.fits }
 
-  module _ (answer : Result Ctr Fault) (given : WasGiven setup mid port answer new) where
+  module _ (answer : Result Ctr Fault) (given : WasWriteGiven setup mid port answer new) where
     abbrev call : IsCall setup mid new given.engine given.after given.taken
     call =
         record {
@@ -169,7 +169,7 @@ module _ (setup : Setup) (old new : WorldState) (ledger : LedgerState) (room : H
       → new.state ≡ with_flags s (touched_after s.touched made) (flushed_after setup.shape s.flushed made)
   state_form s made is = is ∙ after_marks-is setup.shape s made
 
-  pub drain-put : (ctr : Ctr) (n : ℕ) (is : IsGiven setup mid port n (Ok ctr) true true new)
+  pub drain-put : (ctr : Ctr) (n : ℕ) (is : IsWriteGiven setup mid port n (Ok ctr) true true new)
       → HasStepped setup old (Do.Drain port) (record { marks = is.given.written.made; answer = Say.Drained n }) new
   drain-put ctr n is =
       let g = is.given in
@@ -185,10 +185,10 @@ module _ (setup : Setup) (old new : WorldState) (ledger : LedgerState) (room : H
 
   -- ---- refused
 
-  within : (answer : Result Ctr Fault) (g : WasGiven setup mid port answer new) → g.write.at < layout.data_lines setup.shape
+  within : (answer : Result Ctr Fault) (g : WasWriteGiven setup mid port answer new) → g.write.at < layout.data_lines setup.shape
   within answer g = front_on_memory setup mid.state port g.write g.later whole.queues small g.waits
 
-  pub drain-meta : (x n : ℕ) (is : IsGiven setup mid port n (Err (Fail.Meta x)) false true new)
+  pub drain-meta : (x n : ℕ) (is : IsWriteGiven setup mid port n (Err (Fail.Meta x)) false true new)
       → HasStepped setup old (Do.Drain port) (record { marks = is.given.written.made; answer = Say.Refused None (Place.Meta x) n }) new
   drain-meta x n is =
       let g = is.given in
@@ -211,7 +211,7 @@ module _ (setup : Setup) (old new : WorldState) (ledger : LedgerState) (room : H
       (same_truth setup old.board.regs new.board.regs ledger new.ledger whole.whole_shape on.trusted.anchored
       (done.gone.trusted on.trusted).anchored marks) refused.other_digest))
 
-  pub drain-tag : (b n : ℕ) (is : IsGiven setup mid port n (Err (Fail.Tag b)) false true new)
+  pub drain-tag : (b n : ℕ) (is : IsWriteGiven setup mid port n (Err (Fail.Tag b)) false true new)
       → HasStepped setup old (Do.Drain port) (record { marks = is.given.written.made; answer = Say.Refused None (Place.Line b) n }) new
   drain-tag b n is =
       let g = is.given in
@@ -230,7 +230,7 @@ module _ (setup : Setup) (old new : WorldState) (ledger : LedgerState) (room : H
       (λ quiet. is.holds)
       (tag_wrong setup new g.after g.taken b (g.written.answered on.trusted.not_down on.trusted mid.state.memory whole.memory.each)))
 
-  pub drain-spent : (page n : ℕ) (is : IsGiven setup mid port n (Err (Fail.Spent page)) false true new)
+  pub drain-spent : (page n : ℕ) (is : IsWriteGiven setup mid port n (Err (Fail.Spent page)) false true new)
       → HasStepped setup old (Do.Drain port) (record { marks = is.given.written.made; answer = Say.Spent None page n }) new
   drain-spent page n is =
       let g = is.given in
@@ -251,7 +251,7 @@ module _ (setup : Setup) (old new : WorldState) (ledger : LedgerState) (room : H
 
   -- ---- cut
 
-  pub drain-kept : (n : ℕ) (is : IsGiven setup mid port n (Err Fail.Cut) true false new)
+  pub drain-kept : (n : ℕ) (is : IsWriteGiven setup mid port n (Err Fail.Cut) true false new)
       → HasStepped setup old (Do.Drain port) (record { marks = is.given.written.made; answer = Say.CutKept None n }) new
   drain-kept n is =
       let g = is.given in
@@ -276,7 +276,7 @@ module _ (setup : Setup) (old new : WorldState) (ledger : LedgerState) (room : H
       ∙ after_kept setup mid mid (Do.Drain port) None port 0 [] g.written.made 0 (steps_in g.taken) writing drained g.write g.later g.waits)
       (λ quiet. is.holds) tt)
 
-  pub drain-lost : (n : ℕ) (is : IsGiven setup mid port n (Err Fail.Cut) false false new)
+  pub drain-lost : (n : ℕ) (is : IsWriteGiven setup mid port n (Err Fail.Cut) false false new)
       → HasStepped setup old (Do.Drain port) (record { marks = is.given.written.made; answer = Say.CutLost None n }) new
   drain-lost n is =
       let g = is.given in
@@ -304,7 +304,7 @@ module _ (setup : Setup) (old new : WorldState) (ledger : LedgerState) (room : H
 
   -- ---- shown
 
-  pub drain-shown : (exhibit : Exhibit) (is : IsGivenShown setup mid port new) → new.ledger.exhibit ≡ Some exhibit
+  pub drain-shown : (exhibit : Exhibit) (is : IsWriteGivenShown setup mid port new) → new.ledger.exhibit ≡ Some exhibit
       → HasStepped setup old (Do.Drain port) (record { marks = is.given.written.made; answer = Say.Shown exhibit }) new
   drain-shown exhibit is its =
       let g = is.given in
@@ -359,8 +359,8 @@ module _ (formulas_of : List ℕ → Formulas) (old mid new : WorldState) (port 
       subst (λ (a : Answer). HasStepped its_setup old (Do.Drain port) (with_marks_since old new a) new) (sym same)
       (since its_setup old new (Do.Drain port) marks one step)
 
-  by_answer : (answer : Result Ctr Fault) (put : Bool) (n : ℕ) → IsGivenTo its_setup (record old { ledger = mid.ledger }) port n answer put new
-      → IsSaid new answer put n said → HasStepped its_setup old (Do.Drain port) (with_marks_since old new said) new
+  by_answer : (answer : Result Ctr Fault) (put : Bool) (n : ℕ) → IsWriteGivenTo its_setup (record old { ledger = mid.ledger }) port n answer put new
+      → IsDrainSaid new answer put n said → HasStepped its_setup old (Do.Drain port) (with_marks_since old new said) new
   by_answer (Ok ctr) put n it same =
       since_then it.given.written.made (Say.Drained n) (drain-put its_setup old new mid.ledger made.room port small going_on its_world ctr n it) same
   by_answer (Err (Fail.Meta x)) put n it same =
@@ -377,8 +377,8 @@ module _ (formulas_of : List ℕ → Formulas) (old mid new : WorldState) (port 
       since_then it.given.written.made (Say.Shown same.0) (drain-shown its_setup old new mid.ledger made.room port small going_on its_world same.0 it same.1) same.2
   by_answer (Err Fail.Down) put n it same = absurd same
 
-  pub drained_as : HasGiven (setup_of_world formulas_of mid) mid port said new
+  pub drained_as : HasWriteGiven (setup_of_world formulas_of mid) mid port said new
       → HasStepped its_setup old (Do.Drain port) (with_marks_since old new said) new
   drained_as given =
-      let it = subst (λ (w : WorldState). HasGiven (setup_of_world formulas_of w) w port said new) made.same given in
+      let it = subst (λ (w : WorldState). HasWriteGiven (setup_of_world formulas_of w) w port said new) made.same given in
       by_answer it.answer it.put it.steps it.given it.says

@@ -24,7 +24,7 @@ use Rattle.pmem_replay.specs.World.{WorldState, IsWorld, view_in, setup_of_world
 use Rattle.pmem_replay.specs.Replies.{with_marks_since}
 use Rattle.pmem_engine.specs.declared.fault.Fault.{Fault}
 use Rattle.pmem_engine.specs.declared.fault.Fault.TheVariants as Fail
-use Rattle.pmem_replay.specs.Given.{HasMarkRoom, HasGiven, IsGiven, IsGivenTo, IsSaid}
+use Rattle.pmem_replay.specs.Given.{HasMarkRoom, HasWriteGiven, IsWriteGiven, IsWriteGivenTo, IsDrainSaid}
 use Rattle.pmem_replay.specs.Stepped.{HasStepped, EndsFence, IsByTable, HasDrained, HasFenced, HasSameParts, IsSeenOnDevice}
 use Rattle.pmem_replay.proofs.Marks.AskedMarks.{asked_form, asked_few}
 use Rattle.pmem_replay.proofs.Steps.WorldsAfterCalls.{on_in}
@@ -119,9 +119,9 @@ module _ (formulas_of : List ℕ → Formulas) (mid now new : WorldState) (port 
       omega (arith, ap length rest, length-drop done (queue_of mid.state.queues port), drained.few, counted)
 
   -- a write that was drained
-  put_of : (k : ℕ) (answer : Result Ctr Fault) (put : Bool) (n : ℕ) → IsGivenTo setup now port n answer put new → IsSaid new answer put n (Say.Drained k)
-      → (ctr : Ctr) × IsGiven setup now port k (Ok ctr) true true new
-  put_of k (Ok ctr) put n it same = (ctr, subst (λ (m : ℕ). IsGiven setup now port m (Ok ctr) true true new) (sym (steps_alike k n same)) it)
+  put_of : (k : ℕ) (answer : Result Ctr Fault) (put : Bool) (n : ℕ) → IsWriteGivenTo setup now port n answer put new → IsDrainSaid new answer put n (Say.Drained k)
+      → (ctr : Ctr) × IsWriteGiven setup now port k (Ok ctr) true true new
+  put_of k (Ok ctr) put n it same = (ctr, subst (λ (m : ℕ). IsWriteGiven setup now port m (Ok ctr) true true new) (sym (steps_alike k n same)) it)
   put_of k (Err (Fail.Meta x)) put n it same = absurd (apart same)
     where
       apart : Say.Drained k ≡ Say.Refused None (Place.Meta x) n → ⊥
@@ -148,10 +148,10 @@ module _ (formulas_of : List ℕ → Formulas) (mid now new : WorldState) (port 
       apart : Say.Drained k ≡ Say.Shown same.0 → ⊥
       apart same = cc
 
-  pub fence_next : (k : ℕ) → HasGiven (setup_of_world formulas_of now) now port (Say.Drained k) new → done < count
+  pub fence_next : (k : ℕ) → HasWriteGiven (setup_of_world formulas_of now) now port (Say.Drained k) new → done < count
       → IsDraining formulas_of mid new port count (done + 1) (steps + k)
   fence_next k given below =
-      let said = subst (λ (s : Setup). HasGiven s now port (Say.Drained k) new) same_setup given in
+      let said = subst (λ (s : Setup). HasWriteGiven s now port (Say.Drained k) new) same_setup given in
       let it = put_of k said.answer said.put said.steps said.given said.says in
       let g = it.1.given in
       let on = on_in setup now g.engine draining.fencing.drained.world g.was_on in
@@ -176,7 +176,7 @@ module _ (formulas_of : List ℕ → Formulas) (mid now new : WorldState) (port 
       subst (λ (a : Answer). HasStepped setup mid (Do.Fence port) (with_marks_since mid new a) new) (sym same)
       (since setup mid new (Do.Fence port) marks said step)
 
-  ended_as : (one answer : Answer) (r : Result Ctr Fault) (put : Bool) (k : ℕ) → IsGivenTo setup now port k r put new → IsSaid new r put k one
+  ended_as : (one answer : Answer) (r : Result Ctr Fault) (put : Bool) (k : ℕ) → IsWriteGivenTo setup now port k r put new → IsDrainSaid new r put k one
       → EndsFence done steps one answer → HasStepped setup mid (Do.Fence port) (with_marks_since mid new answer) new
   ended_as one answer (Ok ctr) put k it is ends = absurd (subst (λ (a : Answer). EndsFence done steps a answer) is ends)
   ended_as one answer (Err (Fail.Meta x)) put k it is ends =
@@ -199,10 +199,10 @@ module _ (formulas_of : List ℕ → Formulas) (mid now new : WorldState) (port 
       (fence-shown setup mid now new port small done draining.made steps whole draining.fencing is.0 it is.1) (subst (λ (a : Answer). EndsFence done steps a answer) is.2 ends)
   ended_as one answer (Err Fail.Down) put k it is ends = absurd is
 
-  pub fence_ended : (one answer : Answer) → HasGiven (setup_of_world formulas_of now) now port one new → EndsFence done steps one answer
+  pub fence_ended : (one answer : Answer) → HasWriteGiven (setup_of_world formulas_of now) now port one new → EndsFence done steps one answer
       → HasStepped setup mid (Do.Fence port) (with_marks_since mid new answer) new
   fence_ended one answer given ends =
-      let it = subst (λ (s : Setup). HasGiven s now port one new) same_setup given in
+      let it = subst (λ (s : Setup). HasWriteGiven s now port one new) same_setup given in
       ended_as one answer it.answer it.put it.steps it.given it.says ends
 
 no_writes_left : (queue : List Posted) → length queue ≡ 0 → queue ≡ []

@@ -27,7 +27,7 @@ use Rattle.pmem_engine.specs.Calls.{IsPartOf}
 use Rattle.pmem_replay.specs.World.{WorldState, IsOn, IsWorld, view_in}
 use Rattle.watched_board.specs.declared.taken.Taken.{Taken}
 use Rattle.watched_board.specs.Watching.{steps_in}
-use Rattle.pmem_replay.specs.Given.{given_state, WasGiven, IsGiven, IsGivenShown}
+use Rattle.pmem_replay.specs.Given.{given_state, WasWriteGiven, IsWriteGiven, IsWriteGivenShown}
 use Rattle.pmem_replay.specs.Stepped.{HasStepped, HasDrained, HasFenced, EndsFence, IsDrainAnswer, IsSeenOnDevice, IsExhibitSeen}
 use Rattle.pmem_replay.proofs.Marks.AfterMarks.{touched_after, flushed_after, with_flags, after_marks-is}
 use Rattle.pmem_replay.specs.Called.{IsCall}
@@ -73,7 +73,7 @@ module _ (setup : Setup) (mid now new : WorldState) (port : ℕ) (small : port <
   writing : IsReplayWriting setup mid (Do.Fence port) (Some n) port n
   writing = fence_is_writing setup mid port n
 
-  module _ (answer : Result Ctr Fault) (given : WasGiven setup now port answer new) where
+  module _ (answer : Result Ctr Fault) (given : WasWriteGiven setup now port answer new) where
     abbrev call : IsCall setup now new given.engine given.after given.taken
     call =
         record {
@@ -135,7 +135,7 @@ module _ (setup : Setup) (mid now new : WorldState) (port : ℕ) (small : port <
       → new.state ≡ with_flags s (touched_after s.touched made) (flushed_after setup.shape s.flushed made)
   state_form s made is = is ∙ after_marks-is setup.shape s made
 
-  pub fence-put : (ctr : Ctr) (k : ℕ) (is : IsGiven setup now port k (Ok ctr) true true new) → n < 16
+  pub fence-put : (ctr : Ctr) (k : ℕ) (is : IsWriteGiven setup now port k (Ok ctr) true true new) → n < 16
       → IsFencing setup mid new port (suc n) (made ++ is.given.written.made) (spent + k)
   fence-put ctr k is below =
       let g = is.given in
@@ -170,10 +170,10 @@ module _ (setup : Setup) (mid now new : WorldState) (port : ℕ) (small : port <
 
   -- ---- refused
 
-  within : (answer : Result Ctr Fault) (g : WasGiven setup now port answer new) → g.write.at < layout.data_lines setup.shape
+  within : (answer : Result Ctr Fault) (g : WasWriteGiven setup now port answer new) → g.write.at < layout.data_lines setup.shape
   within answer g = front_on_memory setup now.state port g.write g.later whole.queues small g.waits
 
-  pub fence-meta : (x k : ℕ) (is : IsGiven setup now port k (Err (Fail.Meta x)) false true new)
+  pub fence-meta : (x k : ℕ) (is : IsWriteGiven setup now port k (Err (Fail.Meta x)) false true new)
       → HasStepped setup mid (Do.Fence port) (record { marks = made ++ is.given.written.made; answer = Say.Refused (Some n) (Place.Meta x) (spent + k) }) new
   fence-meta x k is =
       let g = is.given in
@@ -197,7 +197,7 @@ module _ (setup : Setup) (mid now new : WorldState) (port : ℕ) (small : port <
       (same_truth setup now.board.regs new.board.regs now.ledger new.ledger whole.whole_shape on.trusted.anchored
       (done.gone.trusted on.trusted).anchored marks) refused.other_digest))
 
-  pub fence-tag : (b k : ℕ) (is : IsGiven setup now port k (Err (Fail.Tag b)) false true new)
+  pub fence-tag : (b k : ℕ) (is : IsWriteGiven setup now port k (Err (Fail.Tag b)) false true new)
       → HasStepped setup mid (Do.Fence port) (record { marks = made ++ is.given.written.made; answer = Say.Refused (Some n) (Place.Line b) (spent + k) }) new
   fence-tag b k is =
       let g = is.given in
@@ -217,7 +217,7 @@ module _ (setup : Setup) (mid now new : WorldState) (port : ℕ) (small : port <
       (λ quiet. is.holds)
       (tag_wrong setup new g.after g.taken b (g.written.answered on.trusted.not_down on.trusted now.state.memory whole.memory.each)))
 
-  pub fence-spent : (page k : ℕ) (is : IsGiven setup now port k (Err (Fail.Spent page)) false true new)
+  pub fence-spent : (page k : ℕ) (is : IsWriteGiven setup now port k (Err (Fail.Spent page)) false true new)
       → HasStepped setup mid (Do.Fence port) (record { marks = made ++ is.given.written.made; answer = Say.Spent (Some n) page (spent + k) }) new
   fence-spent page k is =
       let g = is.given in
@@ -238,7 +238,7 @@ module _ (setup : Setup) (mid now new : WorldState) (port : ℕ) (small : port <
 
   -- ---- cut
 
-  pub fence-kept : (k : ℕ) (is : IsGiven setup now port k (Err Fail.Cut) true false new)
+  pub fence-kept : (k : ℕ) (is : IsWriteGiven setup now port k (Err Fail.Cut) true false new)
       → HasStepped setup mid (Do.Fence port) (record { marks = made ++ is.given.written.made; answer = Say.CutKept (Some n) (spent + k) }) new
   fence-kept k is =
       let g = is.given in
@@ -260,7 +260,7 @@ module _ (setup : Setup) (mid now new : WorldState) (port : ℕ) (small : port <
       ∙ after_kept setup mid now (Do.Fence port) (Some n) port n made g.written.made spent (steps_in g.taken) writing drained g.write g.later g.waits)
       (λ quiet. is.holds) tt)
 
-  pub fence-lost : (k : ℕ) (is : IsGiven setup now port k (Err Fail.Cut) false false new)
+  pub fence-lost : (k : ℕ) (is : IsWriteGiven setup now port k (Err Fail.Cut) false false new)
       → HasStepped setup mid (Do.Fence port) (record { marks = made ++ is.given.written.made; answer = Say.CutLost (Some n) (spent + k) }) new
   fence-lost k is =
       let g = is.given in
@@ -285,7 +285,7 @@ module _ (setup : Setup) (mid now new : WorldState) (port : ℕ) (small : port <
 
   -- ---- shown
 
-  pub fence-shown : (exhibit : Exhibit) (is : IsGivenShown setup now port new) → new.ledger.exhibit ≡ Some exhibit
+  pub fence-shown : (exhibit : Exhibit) (is : IsWriteGivenShown setup now port new) → new.ledger.exhibit ≡ Some exhibit
       → HasStepped setup mid (Do.Fence port) (record { marks = made ++ is.given.written.made; answer = Say.Shown exhibit }) new
   fence-shown exhibit is its =
       let g = is.given in

@@ -23,8 +23,8 @@ use Rattle.pmem_engine.specs.Calls.{HasWrittenLine}
 use Rattle.watched_board.specs.declared.taken.Taken.{Taken}
 use Rattle.watched_board.specs.Watching.{none_taken, steps_in}
 use Rattle.pmem_replay.specs.During.{parts_in}
-use Rattle.pmem_replay.specs.Called.{engine_left, is_outcome_shown, called_state, IsCall, WasCalled, IsTaken}
-use Rattle.pmem_replay.specs.Given.{given_state, WasGiven, IsGiven, IsGivenTo, IsSaid, HasGiven, CanEndFence}
+use Rattle.pmem_replay.specs.Called.{engine_left, is_outcome_shown, called_state, IsCall, WasCalled, IsWriteTaken}
+use Rattle.pmem_replay.specs.Given.{given_state, WasWriteGiven, IsWriteGiven, IsWriteGivenTo, IsDrainSaid, HasWriteGiven, CanEndFence}
 use Rattle.pmem_replay.specs.World.{WorldState, IsOn, IsWorld, setup_of_world}
 use Rattle.pmem_replay.proofs.Steps.WorldsAfterCalls.{on_in}
 use Rattle.pmem_replay.proofs.Drains.DrainChain.{IsDrainedTo, drained_none, ok_sealed}
@@ -109,7 +109,7 @@ module _ (setup : Setup) (old new : WorldState) (port : ℕ) (small : port < 8) 
     done : OneLossEffect setup (outcome_of answer) w.related.made (parts_in old w.engine none_taken) (parts_in new w.after taken)
     done = w.related.done on_now.trusted.not_down
 
-    abbrev was_given : WasGiven setup old port answer new
+    abbrev was_given : WasWriteGiven setup old port answer new
     was_given =
         record {
           write = write;
@@ -151,7 +151,7 @@ module _ (setup : Setup) (old new : WorldState) (port : ℕ) (small : port < 8) 
 
     -- where the engine goes on, and where it was cut
     as_on : (put : Bool) (n : ℕ) → outcome_of answer ≡ going → is_sealed_by w.related.made write.at ≡ put → n ≡ steps_in taken
-        → IsGiven setup old port n answer put true new
+        → IsWriteGiven setup old port n answer put true new
     as_on put n ends sealed counted =
         record {
           given = was_given;
@@ -164,7 +164,7 @@ module _ (setup : Setup) (old new : WorldState) (port : ℕ) (small : port < 8) 
         }
 
     as_off : (put : Bool) (n : ℕ) → outcome_of answer ≡ cut_short → is_sealed_by w.related.made write.at ≡ put → n ≡ steps_in taken
-        → IsGiven setup old port n answer put false new
+        → IsWriteGiven setup old port n answer put false new
     as_off put n ends sealed counted =
         record {
           given = was_given;
@@ -178,7 +178,7 @@ module _ (setup : Setup) (old new : WorldState) (port : ℕ) (small : port < 8) 
 
   -- by what the engine answers
   given_to : (answer : Result Ctr Fault) (w : WasCalled setup (Writes write) (Some write) popped taken answer new) (put : Bool)
-      → put ≡ is_sealed_by (drop (length old.ledger.marks) new.ledger.marks) write.at → (n : ℕ) → n ≡ steps_in taken → IsGivenTo setup old port n answer put new
+      → put ≡ is_sealed_by (drop (length old.ledger.marks) new.ledger.marks) write.at → (n : ℕ) → n ≡ steps_in taken → IsWriteGivenTo setup old port n answer put new
   given_to (Ok ctr) w put its n counted =
       as_on (Ok ctr) w true n refl
       (ok_sealed setup old old port 0 [] 0 drained whole small write later waits new w.engine w.after taken (call (Ok ctr) w) ctr w.related) counted
@@ -202,10 +202,10 @@ module _ (setup : Setup) (old new : WorldState) (port : ℕ) (small : port < 8) 
 
 -- the port's oldest write was taken and given to the engine
 pub gives : (formulas_of : List ℕ → Formulas) (old mid new : WorldState) (port : ℕ) (write : Posted) (taken : Taken) (answer : Result Ctr Fault) (put : Bool) (n : ℕ)
-    (said : Answer) → port < 8 → IsWorld (setup_of_world formulas_of old) old → old.shown ≡ false → IsTaken old port write mid
+    (said : Answer) → port < 8 → IsWorld (setup_of_world formulas_of old) old → old.shown ≡ false → IsWriteTaken old port write mid
     → WasCalled (setup_of_world formulas_of mid) (Writes write) (Some write) mid taken answer new
-    → put ≡ is_sealed_by (drop (length mid.ledger.marks) new.ledger.marks) write.at → n ≡ steps_in taken → IsSaid new answer put n said
-    → HasGiven (setup_of_world formulas_of old) old port said new
+    → put ≡ is_sealed_by (drop (length mid.ledger.marks) new.ledger.marks) write.at → n ≡ steps_in taken → IsDrainSaid new answer put n said
+    → HasWriteGiven (setup_of_world formulas_of old) old port said new
 gives formulas_of old mid new port write taken answer put n said small whole unshown took w its counted says =
     let called = subst (λ (world : WorldState). WasCalled (setup_of_world formulas_of world) (Writes write) (Some write) world taken answer new) took.same w in
     let sealed = its ∙ ap (λ (world : WorldState). is_sealed_by (drop (length world.ledger.marks) new.ledger.marks) write.at) took.same in
@@ -218,8 +218,8 @@ gives formulas_of old mid new port write taken answer put n said small whole uns
     }
 
 -- a drain that isn't done can end a fence
-ends_fence : (setup : Setup) (old new : WorldState) (port : ℕ) (said : Answer) (answer : Result Ctr Fault) (put : Bool) (n : ℕ) → IsGivenTo setup old port n answer put new
-    → IsSaid new answer put n said → ((k : ℕ) → said ≡ Say.Drained k → ⊥) → (steps_of said ≤ 65536) × CanEndFence said
+ends_fence : (setup : Setup) (old new : WorldState) (port : ℕ) (said : Answer) (answer : Result Ctr Fault) (put : Bool) (n : ℕ) → IsWriteGivenTo setup old port n answer put new
+    → IsDrainSaid new answer put n said → ((k : ℕ) → said ≡ Say.Drained k → ⊥) → (steps_of said ≤ 65536) × CanEndFence said
 ends_fence setup old new port said (Ok ctr) put n it is undrained = absurd (undrained n is)
 ends_fence setup old new port said (Err (Fail.Meta x)) put n it is undrained =
     subst (λ a. (steps_of a ≤ 65536) × CanEndFence a) (sym is) (omega (arith, it.counted, it.given.follows.few), tt)
@@ -235,7 +235,7 @@ ends_fence setup old new port said (Err Fail.Down) put n it is undrained = absur
 ends_fence setup old new port said (Err Fail.Shown) put n it is undrained =
     subst (λ a. (steps_of a ≤ 65536) × CanEndFence a) (sym is.2) (omega arith, tt)
 
-pub ends_with : (setup : Setup) (old new : WorldState) (port : ℕ) (said : Answer) → HasGiven setup old port said new → ((k : ℕ) → said ≡ Say.Drained k → ⊥)
+pub ends_with : (setup : Setup) (old new : WorldState) (port : ℕ) (said : Answer) → HasWriteGiven setup old port said new → ((k : ℕ) → said ≡ Say.Drained k → ⊥)
     → (steps_of said ≤ 65536) × CanEndFence said
 ends_with setup old new port said given undrained =
     ends_fence setup old new port said given.answer given.put given.steps given.given given.says undrained

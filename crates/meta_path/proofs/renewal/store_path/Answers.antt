@@ -2,8 +2,8 @@
 use Rattle.std.proofs.Common.{◌≡◌, ℕ, ◌+◌, ◌-◌, ◌<◌, List, [], take, length, get_or, refl, sym, ap, subst, ◌∙◌, arith}
 use Rattle.std.proofs.Math.Seq.{take-length}
 use Rattle.pmem_base.specs.declared.lines.Line.{Line}
-use Rattle.meta_path.specs.Storing.{IsStoredTo, AreTold}
-use Rattle.meta_path.proofs.StoreLemmas.{IsStoredTo-none, IsStoredTo-more, AreTold-none, AreTold-more, level_stored, next_cached, next_on_tree, mark_is, length-path_lines, KeepsSlots-stored, IsPathCached-stored, AreInTheirBanks-stored}
+use Rattle.meta_path.specs.Storing.{IsStoredTo, HasMetaLines}
+use Rattle.meta_path.proofs.StoreLemmas.{IsStoredTo-none, IsStoredTo-more, HasMetaLines-none, HasMetaLines-more, level_stored, next_cached, next_on_tree, mark_is, length-path_lines, KeepsSlots-stored, IsPathCached-stored, AreInTheirBanks-stored}
 use Rattle.meta_path.proofs.renewal.store_path.Goals as goal
 
 -- what stands past the last entry
@@ -14,7 +14,7 @@ pub levels-init : goal.levels-init
 levels-init g c =
     record {
       stored = λ page path. IsStoredTo-none c.args.cache.now.shape page c.args.persisted c.args.path.now.lines.items c.args.cache.now;
-      told = AreTold-none (g.A.Audit.ledger c.args.audit.now);
+      told = HasMetaLines-none (g.A.Audit.ledger c.args.audit.now);
     }
 
 pub store_level-requires-clause-bank : goal.store_level-requires-clause-bank
@@ -70,7 +70,7 @@ levels-preserved g c =
           (omega (arith, c.len-last.ensures.value, length-path_lines shape page lines path)) c.is_left_dirty-dirty.ensures)
           c.store_level.ensures.cache);
       told =
-          AreTold-more lines c.levels.bank _ _ past _ _ _ within (sym entry) c.levels.invariant.told c.store_level.ensures.ledger;
+          HasMetaLines-more lines c.levels.bank _ _ past _ _ _ within (sym entry) c.levels.invariant.told c.store_level.ensures.ledger;
     }
 
 pub returns-clause-cache : goal.returns-clause-cache
@@ -111,5 +111,5 @@ returns-clause-ledger g c =
       c.levels.auto.bank-end,
       ap (λ (xs : List (ℕ × Line)). length xs) c.as_slice-x-items.ensures.value,
     ) in
-    subst (λ entries. AreTold entries (g.A.Audit.ledger c.args.audit.now) (g.A.Audit.ledger c.levels.audit))
+    subst (λ entries. HasMetaLines entries (g.A.Audit.ledger c.args.audit.now) (g.A.Audit.ledger c.levels.audit))
     (ap (λ n. take n lines) all ∙ take-length lines) c.levels.invariant.told

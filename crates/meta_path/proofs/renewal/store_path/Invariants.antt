@@ -1,5 +1,5 @@
 use Rattle.std.proofs.Common.{ℕ, take}
-use Rattle.meta_path.specs.Storing.{IsPathOf, IsStoredTo, AreTold}
+use Rattle.meta_path.specs.Storing.{IsPathOf, IsStoredTo, HasMetaLines}
 use Rattle.meta_path.proofs.renewal.store_path.Given as goal
 
 abbrev pub invariant-levels : goal.invariant-levels
@@ -9,5 +9,5 @@ invariant-levels g l =
     record {
       stored :
           (page : ℕ) → IsPathOf shape page lines → IsStoredTo shape page l.fn.persisted lines l.bank l.fn.cache l.cache;
-      told : AreTold (take l.bank lines) (g.A.Audit.ledger l.fn.audit) (g.A.Audit.ledger l.audit);
+      told : HasMetaLines (take l.bank lines) (g.A.Audit.ledger l.fn.audit) (g.A.Audit.ledger l.audit);
     }

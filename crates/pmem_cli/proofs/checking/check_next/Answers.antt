@@ -1,23 +1,23 @@
 use Rattle.std.proofs.Common.{rules, ◌≡◌, refl, arith}
 use Rattle.plain_model.specs.declared.Stop.TheVariants.{ReadFault}
-use Rattle.pmem_cli.proofs.CheckLemmas.{ChecksNext-line, HasLooked-last, HasLooked-at_last, HasLooked-long, HasLooked-end, HasLooked-fault}
+use Rattle.pmem_cli.proofs.CheckLemmas.{ChecksNext-line, HasCheckedLines-last, HasCheckedLines-at_last, HasCheckedLines-long, HasCheckedLines-end, HasCheckedLines-fault}
 use Rattle.pmem_cli.proofs.FaultLemmas.{CountsFault-none, CountsFault-err}
 use Rattle.pmem_cli.proofs.checking.check_next.Goals as goal
 
 pub returns-in-Err-clause-turn : goal.returns-in-Err-clause-turn
 returns-in-Err-clause-turn g c =
     let (taken, within, short) = c.in-Err.ensures.fault in
-    HasLooked-fault _ _ _ _ _ taken within short (omega (arith, c.requires)) (λ full. absurd (omega (arith, full, c.requires)))
+    HasCheckedLines-fault _ _ _ _ _ taken within short (omega (arith, c.requires)) (λ full. absurd (omega (arith, full, c.requires)))
 
 pub returns-in-Ok-End-clause-turn : goal.returns-in-Ok-End-clause-turn
 returns-in-Ok-End-clause-turn g c =
     let found = rw c.in-Ok-End.field-0-is at c.in-Ok-End.ensures.found in
-    HasLooked-end _ _ (g.S.Source.left c.next_line.new.source) _ _ found.0 found.1 (omega (arith, c.requires))
+    HasCheckedLines-end _ _ (g.S.Source.left c.next_line.new.source) _ _ found.0 found.1 (omega (arith, c.requires))
 
 pub returns-in-Ok-Long-clause-turn : goal.returns-in-Ok-Long-clause-turn
 returns-in-Ok-Long-clause-turn g c =
     let found = rw c.in-Ok-Long.field-0-is at c.in-Ok-Long.ensures.found in
-    HasLooked-long _ _ (g.S.Source.left c.next_line.new.source) _ _ _ _ found.1 found.2 found.3 refl c.requires
+    HasCheckedLines-long _ _ (g.S.Source.left c.next_line.new.source) _ _ _ _ found.1 found.2 found.3 refl c.requires
 
 pub returns-in-Ok-Line-clause-turn : goal.returns-in-Ok-Line-clause-turn
 returns-in-Ok-Line-clause-turn g c =
@@ -28,13 +28,13 @@ returns-in-Ok-Line-clause-turn g c =
 pub returns-in-None-clause-turn : goal.returns-in-None-clause-turn
 returns-in-None-clause-turn g c =
     let found = rw c.in-Ok-Last.field-0-is at c.in-Ok-Last.ensures.found in
-    HasLooked-last _ _ (g.S.Source.left c.next_line.new.source) _ _ _ _ (rw c.as_slice-in-Ok-Last.ensures.value found.0) (rw c.as_slice-in-Ok-Last.ensures.value found.1)
+    HasCheckedLines-last _ _ (g.S.Source.left c.next_line.new.source) _ _ _ _ (rw c.as_slice-in-Ok-Last.ensures.value found.0) (rw c.as_slice-in-Ok-Last.ensures.value found.1)
     (rw c.as_slice-in-Ok-Last.ensures.value found.2) found.3 c.requires c.in-None.ensures
 
 pub returns-in-Some-clause-turn : goal.returns-in-Some-clause-turn
 returns-in-Some-clause-turn g c =
     let found = rw c.in-Ok-Last.field-0-is at c.in-Ok-Last.ensures.found in
-    HasLooked-at_last _ _ _ _ _ _ _ _ _ (rw c.as_slice-in-Ok-Last.ensures.value found.0) (rw c.as_slice-in-Ok-Last.ensures.value found.1)
+    HasCheckedLines-at_last _ _ _ _ _ _ _ _ _ (rw c.as_slice-in-Ok-Last.ensures.value found.0) (rw c.as_slice-in-Ok-Last.ensures.value found.1)
     (rw c.as_slice-in-Ok-Last.ensures.value found.2) found.3 refl c.requires c.in-Some.ensures
 
 -- ---- faults and pulls

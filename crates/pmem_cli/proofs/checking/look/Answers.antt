@@ -6,7 +6,7 @@ use Rattle.std.proofs.lemmas.List.Elements.{All-nil}
 use Rattle.plain_model.specs.declared.Stop.TheVariants.{Finished, ReadFault, TooManyLines}
 use Rattle.plain_model.specs.Lines.{is_line_end}
 use Rattle.pmem_cli.proofs.FaultLemmas.{CountsFault-none, CountsFault-err, CountsFault-map}
-use Rattle.pmem_cli.proofs.CheckLemmas.{HasLooked-after, HasLooked-fault, HasLooked-end, HasLooked-limit, HasLooked-kept}
+use Rattle.pmem_cli.proofs.CheckLemmas.{HasCheckedLines-after, HasCheckedLines-fault, HasCheckedLines-end, HasCheckedLines-limit, HasCheckedLines-kept}
 use Rattle.pmem_cli.proofs.checking.look.Goals as goal
 
 pub lines-init : goal.lines-init
@@ -33,7 +33,7 @@ lines-preserved g c =
     let (line, taken, within, checked) = c.in_default.ensures.turn in record {
       looks = λ stop left after looked.
           c.lines.invariant.looks stop left after
-          (HasLooked-after stop c.lines.found c.check_next.new.found c.lines.served (prepend_known c.lines.reader (g.S.Source.left c.lines.trace))
+          (HasCheckedLines-after stop c.lines.found c.check_next.new.found c.lines.served (prepend_known c.lines.reader (g.S.Source.left c.lines.trace))
           (prepend_known c.check_next.new.reader (g.S.Source.left c.check_next.new.trace)) left line after taken within checked looked);
       kept = c.check_next.ensures.reads.kept (λ same. cc (c.in_default.is, same)) ∙ c.lines.invariant.kept;
       may_pull = λ held. c.check_next.ensures.pulls.may_pull c.in_default.is (c.lines.invariant.may_pull held);
@@ -44,7 +44,7 @@ returns-in-Err-clause-looked g c =
     let ahead = prepend_known c.lines.reader (g.S.Source.left c.lines.trace) in
     let left = g.S.Source.left c.is_ended.new.source in
     c.lines.invariant.looks ReadFault left c.lines.found
-    (HasLooked-fault ahead left c.lines.found [] c.lines.served (Consumes-kept ahead ahead left [] (Consumes-nil ahead) c.in-Err.ensures.fault)
+    (HasCheckedLines-fault ahead left c.lines.found [] c.lines.served (Consumes-kept ahead ahead left [] (Consumes-nil ahead) c.in-Err.ensures.fault)
     (All-nil (λ b. is_line_end b ≡ false)) (omega arith) (omega arith) (λ full. refl))
 
 pub returns-in-Ok-true-clause-looked : goal.returns-in-Ok-true-clause-looked
@@ -53,8 +53,8 @@ returns-in-Ok-true-clause-looked g c =
     let left = g.S.Source.left c.is_ended.new.source in
     let now = prepend_known c.is_ended.new.self left in
     c.lines.invariant.looks Finished left c.lines.found
-    (HasLooked-kept Finished ahead now left c.lines.found c.lines.found c.lines.served c.is_ended.ensures.ahead
-    (HasLooked-end now now left c.lines.found c.lines.served (Consumes-nil now) (c.in-Ok-true.ensures.end c.in-Ok-true.field-0-test) (omega arith)))
+    (HasCheckedLines-kept Finished ahead now left c.lines.found c.lines.found c.lines.served c.is_ended.ensures.ahead
+    (HasCheckedLines-end now now left c.lines.found c.lines.served (Consumes-nil now) (c.in-Ok-true.ensures.end c.in-Ok-true.field-0-test) (omega arith)))
 
 pub returns-in-Ok-false-clause-looked : goal.returns-in-Ok-false-clause-looked
 returns-in-Ok-false-clause-looked g c =
@@ -62,5 +62,5 @@ returns-in-Ok-false-clause-looked g c =
     let left = g.S.Source.left c.is_ended.new.source in
     let now = prepend_known c.is_ended.new.self left in
     c.lines.invariant.looks TooManyLines left c.lines.found
-    (HasLooked-kept TooManyLines ahead now left c.lines.found c.lines.found c.lines.served c.is_ended.ensures.ahead
-    (HasLooked-limit left left c.is_ended.new.self c.lines.found c.lines.served (c.in-Ok-false.ensures.more c.in-Ok-false.field-0-test) (omega arith)))
+    (HasCheckedLines-kept TooManyLines ahead now left c.lines.found c.lines.found c.lines.served c.is_ended.ensures.ahead
+    (HasCheckedLines-limit left left c.is_ended.new.self c.lines.found c.lines.served (c.in-Ok-false.ensures.more c.in-Ok-false.field-0-test) (omega arith)))

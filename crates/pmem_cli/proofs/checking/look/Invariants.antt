@@ -3,7 +3,7 @@ use Rattle.std.specs.Prelude.{Option}
 use Rattle.std.specs.Io.KnownBytes.{prepend_known}
 use Rattle.pmem_base.specs.declared.answers.Exhibit.{Exhibit}
 use Rattle.plain_model.specs.declared.Stop.{Stop}
-use Rattle.pmem_cli.specs.Checked.{HasLooked}
+use Rattle.pmem_cli.specs.Checked.{HasCheckedLines}
 use Rattle.pmem_cli.specs.Pulling.{StaysOpen}
 use Rattle.pmem_cli.proofs.checking.look.Given as goal
 
@@ -12,8 +12,8 @@ invariant-lines g l =
     record {
       looks :
           (stop : Stop) (left : Option (List ℕ)) (after : Option Exhibit)
-          → HasLooked stop (prepend_known l.reader (g.S.Source.left l.trace)) left l.found after l.served
-          → HasLooked stop (g.S.Source.left l.initial.trace) left l.initial.found after 0;
+          → HasCheckedLines stop (prepend_known l.reader (g.S.Source.left l.trace)) left l.found after l.served
+          → HasCheckedLines stop (g.S.Source.left l.initial.trace) left l.initial.found after 0;
       kept : g.S.Source.faults l.trace ≡ g.S.Source.faults l.initial.trace;
       may_pull : StaysOpen (g.S.Source.pulls l.initial.trace) (g.S.Source.pulls l.trace);
     }

@@ -6,9 +6,9 @@ use Rattle.plain_model.specs.Run.{Step}
 use Rattle.trace_text.specs.Samples.{sample_trace, commands_from}
 use Rattle.pmem_replay.specs.Stepped.{reply_in}
 use Rattle.pmem_cli.specs.Standing.{standing_of}
-use Rattle.pmem_cli.specs.Sampled.{HasCome}
+use Rattle.pmem_cli.specs.Sampled.{HasAnsweredFront}
 use Rattle.pmem_cli.proofs.MakeLemmas.{one_more}
-use Rattle.pmem_cli.proofs.SampleLemmas.{sample_is, come_first, come_last, HasCome-nil, HasCome-next, HasReached-of}
+use Rattle.pmem_cli.proofs.SampleLemmas.{sample_is, come_first, come_last, HasAnsweredFront-nil, HasAnsweredFront-next, HasReachedAnswer-of}
 use Rattle.pmem_cli.proofs.StandingLemmas.{HasReplied-step, StandingAfter-step}
 use Rattle.pmem_cli.proofs.sampling.replay_sample.Goals as goal
 
@@ -22,14 +22,14 @@ commands-init g c =
       counted = omega arith;
       number = rw c.new-maker.ensures refl;
       running = c.requires.running;
-      come = subst (λ (behind : List Command). HasCome s s (sample_trace c.args.seed c.args.count) behind []) all (HasCome-nil s _ c.requires.running);
+      come = subst (λ (behind : List Command). HasAnsweredFront s s (sample_trace c.args.seed c.args.count) behind []) all (HasAnsweredFront-nil s _ c.requires.running);
     }
 
 pub returns-then-is_shown-clause-reached : goal.returns-then-is_shown-clause-reached
 returns-then-is_shown-clause-reached g c =
     let before = c.commands.invariant in
     let more = one_more before.left (omega (arith, before.counted, c.commands-test.true)) in
-    HasReached-of _ _ _ _ _ before.steps _ (come_first _ _ _ before.steps _ _ before.left more.0 _ more.1 c.next-command.ensures.command before.come)
+    HasReachedAnswer-of _ _ _ _ _ before.steps _ (come_first _ _ _ before.steps _ _ before.left more.0 _ more.1 c.next-command.ensures.command before.come)
     (HasReplied-step g.U.Suite.formulas_of _ _ c.next-command.result _ c.in_ok-reply.ensures.stepped c.in_ok-reply.ensures.few) (inl (sym c.is_shown.ensures ∙ c.if-is_shown.true))
 
 pub commands-preserved : goal.commands-preserved
@@ -49,12 +49,12 @@ commands-preserved g c =
       running = on.running;
       come =
           rw (c.next-command.ensures.state, c.next-command.ensures.number, small)
-          (HasCome-next _ _ _ _ _ _ before.steps step come (HasReplied-step g.U.Suite.formulas_of _ _ _ _ c.in_ok-reply.ensures.stepped c.in_ok-reply.ensures.few) hidden on);
+          (HasAnsweredFront-next _ _ _ _ _ _ before.steps step come (HasReplied-step g.U.Suite.formulas_of _ _ _ _ c.in_ok-reply.ensures.stepped c.in_ok-reply.ensures.few) hidden on);
     }
 
 pub returns-clause-reached : goal.returns-clause-reached
 returns-clause-reached g c =
     let before = c.commands.invariant in
-    HasReached-of _ _ _ [] Do.Stat before.steps _
+    HasReachedAnswer-of _ _ _ [] Do.Stat before.steps _
     (come_last _ _ _ before.steps _ _ before.left (omega (arith, before.counted, c.commands-test.false)) before.come)
     (HasReplied-step g.U.Suite.formulas_of _ _ Do.Stat _ c.in_ok-reply-2.ensures.stepped c.in_ok-reply-2.ensures.few) (inr refl)

@@ -3,7 +3,7 @@ use Rattle.pmem_base.specs.declared.commands.Command.TheVariants as Do
 use Rattle.plain_model.specs.Run.{Step}
 use Rattle.trace_text.specs.Samples.{sample_trace, commands_from}
 use Rattle.pmem_cli.specs.Standing.{standing_of}
-use Rattle.pmem_cli.specs.Sampled.{HasCome}
+use Rattle.pmem_cli.specs.Sampled.{HasAnsweredFront}
 use Rattle.pmem_cli.proofs.sampling.replay_sample.Given as goal
 
 abbrev pub invariant-commands : goal.invariant-commands
@@ -15,6 +15,6 @@ invariant-commands g l =
       number : l.maker.number ≡ l.made + 1;
       running : l.world.shown ≡ false;
       come :
-          HasCome (standing_of g.U.Suite.formulas_of l.initial.world) (standing_of g.U.Suite.formulas_of l.world) (sample_trace l.seed l.count)
+          HasAnsweredFront (standing_of g.U.Suite.formulas_of l.initial.world) (standing_of g.U.Suite.formulas_of l.world) (sample_trace l.seed l.count)
           (commands_from l.maker.state l.maker.number left ++ Do.Stat ∷ []) steps;
     }

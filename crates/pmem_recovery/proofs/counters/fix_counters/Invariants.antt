@@ -7,7 +7,7 @@ use Rattle.pmem_recovery.specs.Trials.{trials_below}
 use Rattle.board.specs.Counts.{RisesBy}
 use Rattle.commit_regs.specs.Groups.{RisesAtMost}
 use Rattle.pmem_recovery.specs.Reads.{sum_named, block_reads}
-use Rattle.pmem_recovery.specs.Parts.{setup_of, Told, KeepsDevice, IsUncut, suite_state, SuiteWork}
+use Rattle.pmem_recovery.specs.Parts.{setup_of, IfLinesTold, KeepsDevice, IsUncut, suite_state, SuiteWork}
 use Rattle.pmem_recovery.proofs.CounterSteps.{AreBlocksTo}
 use Rattle.pmem_recovery.proofs.counters.fix_counters.Given as goal
 
@@ -30,9 +30,9 @@ invariant-positions g l =
       few : l.trials ≤ length l.made.items * (64 * l.regs.loss);
       on_tree : All (λ entry. entry.at < meta_lines shape) l.made.items;
       capacity : vec_capacity l.made ≡ vec_capacity l.initial.made;
-      told : Told start.lines (λ lines. l.shadow ≡ shadow_of shape lines
+      told : IfLinesTold start.lines (λ lines. l.shadow ≡ shadow_of shape lines
           → AreBlocksTo (setup_of l.geo (g.S.Suite.formulas_of (g.S.Suite.keys l.initial.suite))) lines l.regs (l.from - level_start shape.levels) l.made.items);
-      tried : Told start.lines (λ lines. l.shadow ≡ shadow_of shape lines
+      tried : IfLinesTold start.lines (λ lines. l.shadow ≡ shadow_of shape lines
           → l.trials ≡ trials_below shape lines l.regs (64 * (l.from - level_start shape.levels)));
     }
 

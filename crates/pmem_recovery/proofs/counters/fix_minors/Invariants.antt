@@ -6,7 +6,7 @@ use Rattle.pmem_recovery.specs.Trials.{stored_block, tried_minors, trials_below}
 use Rattle.board.specs.Counts.{RisesBy}
 use Rattle.commit_regs.specs.Groups.{RisesAtMost}
 use Rattle.pmem_recovery.specs.Reads.{page_reads}
-use Rattle.pmem_recovery.specs.Parts.{setup_of, Told, KeepsDevice, IsUncut, suite_state, SuiteWork}
+use Rattle.pmem_recovery.specs.Parts.{setup_of, IfLinesTold, KeepsDevice, IsUncut, suite_state, SuiteWork}
 use Rattle.pmem_recovery.proofs.counters.fix_minors.Given as goal
 
 abbrev pub invariant-lines : goal.invariant-lines
@@ -26,9 +26,9 @@ invariant-lines g l =
       major : l.fixed.major ≡ l.stored.major;
       long : length l.fixed.minors ≡ 64;
       small : All (λ m. m ≤ 127) l.fixed.minors;
-      told : Told start.lines (λ lines. l.stored ≡ stored_block (shape_of l.geo) lines l.page
+      told : IfLinesTold start.lines (λ lines. l.stored ≡ stored_block (shape_of l.geo) lines l.page
           → (k : ℕ) → k < l.i → tried_minors setup lines l.regs (64 * l.page + k) ≡ get_or l.fixed.minors k 0 ∷ []);
-      tried : Told start.lines (λ lines. l.stored ≡ stored_block (shape_of l.geo) lines l.page
+      tried : IfLinesTold start.lines (λ lines. l.stored ≡ stored_block (shape_of l.geo) lines l.page
           → is_named (shape_of l.geo) lines (counter_position (shape_of l.geo) l.page) ≡ true
           → l.trials + trials_below (shape_of l.geo) lines l.regs (64 * l.page) ≡ trials_below (shape_of l.geo) lines l.regs (64 * l.page + l.i));
     }

@@ -8,7 +8,7 @@ use Rattle.pmem_recovery.specs.Upward.{AreMadeTo}
 use Rattle.board.specs.Counts.{RisesBy}
 use Rattle.commit_regs.specs.Groups.{RisesAtMost}
 use Rattle.pmem_recovery.specs.Reads.{sum_named, node_reads}
-use Rattle.pmem_recovery.specs.Parts.{setup_of, Told, KeepsDevice, IsUncut, suite_state, SuiteWork}
+use Rattle.pmem_recovery.specs.Parts.{setup_of, IfLinesTold, KeepsDevice, IsUncut, suite_state, SuiteWork}
 use Rattle.pmem_recovery.proofs.nodes.fix_level.Given as goal
 
 abbrev pub invariant-positions : goal.invariant-positions
@@ -21,7 +21,7 @@ invariant-positions g l =
       read : KeepsDevice start now;
       goes : IsUncut start now;
       reads : RisesAtMost (5 * count_named shape l.shadow (level_start l.level) l.from) start.reads now.reads;
-      exact_reads : Told start.lines (λ lines. (regs : Regs) → l.shadow ≡ shadow_of shape lines
+      exact_reads : IfLinesTold start.lines (λ lines. (regs : Regs) → l.shadow ≡ shadow_of shape lines
           → AreMadeTo setup lines regs l.level (level_start l.level) l.initial.made.items
           → RisesBy (sum_named shape l.shadow (node_reads shape l.shadow) (level_start l.level) l.from) start.reads now.reads);
       low : level_start l.level ≤ l.from;
@@ -34,7 +34,7 @@ invariant-positions g l =
       on_tree : All (λ entry. entry.at < meta_lines shape) l.initial.made.items
           → All (λ entry. entry.at < meta_lines shape) l.made.items;
       capacity : vec_capacity l.made ≡ vec_capacity l.initial.made;
-      told : Told start.lines (λ lines. (regs : Regs) → l.shadow ≡ shadow_of shape lines
+      told : IfLinesTold start.lines (λ lines. (regs : Regs) → l.shadow ≡ shadow_of shape lines
           → AreMadeTo setup lines regs l.level (level_start l.level) l.initial.made.items
           → AreMadeTo setup lines regs l.level l.from l.made.items);
     }

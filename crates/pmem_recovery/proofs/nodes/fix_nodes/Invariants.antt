@@ -8,7 +8,7 @@ use Rattle.pmem_recovery.specs.Upward.{AreMadeTo}
 use Rattle.board.specs.Counts.{RisesBy}
 use Rattle.commit_regs.specs.Groups.{RisesAtMost}
 use Rattle.pmem_recovery.specs.Reads.{sum_named, node_reads}
-use Rattle.pmem_recovery.specs.Parts.{setup_of, Told, KeepsDevice, IsUncut, suite_state, SuiteWork}
+use Rattle.pmem_recovery.specs.Parts.{setup_of, IfLinesTold, KeepsDevice, IsUncut, suite_state, SuiteWork}
 use Rattle.pmem_recovery.proofs.nodes.fix_nodes.Given as goal
 
 abbrev pub invariant-upward : goal.invariant-upward
@@ -22,7 +22,7 @@ invariant-upward g l =
       read : KeepsDevice start now;
       goes : IsUncut start now;
       reads : RisesAtMost (5 * count_named shape l.shadow (level_start (shape.levels - l.above)) (level_start shape.levels)) start.reads now.reads;
-      exact_reads : Told start.lines (λ lines. (regs : Regs) → l.shadow ≡ shadow_of shape lines
+      exact_reads : IfLinesTold start.lines (λ lines. (regs : Regs) → l.shadow ≡ shadow_of shape lines
           → AreMadeTo setup lines regs shape.levels (meta_lines shape) l.initial.made.items
           → RisesBy (sum_named shape l.shadow (node_reads shape l.shadow) (level_start (shape.levels - l.above)) (level_start shape.levels)) start.reads now.reads);
       counted : length l.made.items ≡ length l.initial.made.items + count_named shape l.shadow (level_start (shape.levels - l.above)) (level_start shape.levels);
@@ -33,7 +33,7 @@ invariant-upward g l =
       on_tree : All (λ entry. entry.at < meta_lines shape) l.initial.made.items
           → All (λ entry. entry.at < meta_lines shape) l.made.items;
       capacity : vec_capacity l.made ≡ vec_capacity l.initial.made;
-      told : Told start.lines (λ lines. (regs : Regs) → l.shadow ≡ shadow_of shape lines
+      told : IfLinesTold start.lines (λ lines. (regs : Regs) → l.shadow ≡ shadow_of shape lines
           → AreMadeTo setup lines regs shape.levels (meta_lines shape) l.initial.made.items
           → AreMadeTo setup lines regs (shape.levels - l.above) (level_start (suc (shape.levels - l.above))) l.made.items);
     }

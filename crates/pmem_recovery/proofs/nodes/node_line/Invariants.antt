@@ -5,7 +5,7 @@ use Rattle.pmem_recovery.specs.Upward.{made_or_stored}
 use Rattle.board.specs.Counts.{RisesBy}
 use Rattle.commit_regs.specs.Groups.{RisesAtMost}
 use Rattle.pmem_recovery.specs.Reads.{children_reads}
-use Rattle.pmem_recovery.specs.Parts.{Told, KeepsDevice, IsUncut, suite_state, SuiteWork}
+use Rattle.pmem_recovery.specs.Parts.{IfLinesTold, KeepsDevice, IsUncut, suite_state, SuiteWork}
 use Rattle.pmem_recovery.proofs.nodes.node_line.Given as goal
 
 abbrev pub invariant-children : goal.invariant-children
@@ -21,6 +21,6 @@ invariant-children g l =
           (suite_state (g.S.Suite.keys l.initial.suite) (g.S.Suite.pads l.initial.suite) (g.S.Suite.tags l.initial.suite) (g.S.Suite.digests l.initial.suite))
           (suite_state (g.S.Suite.keys l.suite) (g.S.Suite.pads l.suite) (g.S.Suite.tags l.suite) (g.S.Suite.digests l.suite));
       long : length l.digests ≡ 4;
-      told : Told start.lines (λ lines. (k : ℕ) → k < l.i
+      told : IfLinesTold start.lines (λ lines. (k : ℕ) → k < l.i
           → get_or l.digests k [] ≡ child_digest_over (g.S.Suite.formulas_of (g.S.Suite.keys l.initial.suite)) l.x (made_or_stored (shape_of l.geo) lines l.made) k);
     }

@@ -4,7 +4,7 @@ use Rattle.pmem_base.specs.Layout.{shadow_line}
 use Rattle.pmem_base.specs.Lines.{line_at}
 use Rattle.board.specs.Counts.{RisesBy}
 use Rattle.commit_regs.specs.Groups.{RisesAtMost}
-use Rattle.pmem_recovery.specs.Parts.{Told, KeepsDevice, IsUncut}
+use Rattle.pmem_recovery.specs.Parts.{IfLinesTold, KeepsDevice, IsUncut}
 use Rattle.pmem_recovery.proofs.recovery.read_shadow.Given as goal
 
 abbrev pub invariant-lines : goal.invariant-lines
@@ -18,5 +18,5 @@ invariant-lines g l =
       exact_reads : RisesBy l.n start.reads now.reads;
       long : length l.shadow.items ≡ l.n;
       capacity : vec_capacity l.shadow ≡ vec_capacity l.initial.shadow;
-      told : Told start.lines (λ lines. (k : ℕ) → k < l.n → line_at l.shadow.items k ≡ line_at lines (shadow_line (shape_of l.geo) k));
+      told : IfLinesTold start.lines (λ lines. (k : ℕ) → k < l.n → line_at l.shadow.items k ≡ line_at lines (shadow_line (shape_of l.geo) k));
     }

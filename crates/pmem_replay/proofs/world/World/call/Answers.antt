@@ -14,7 +14,7 @@ use Rattle.pmem_engine.specs.Engine.{EngineState}
 use Rattle.pmem_engine.specs.Parts.{parts_of}
 use Rattle.watched_board.specs.Watching.{none_taken, device_during}
 use Rattle.pmem_replay.specs.During.{parts_in}
-use Rattle.pmem_replay.specs.Called.{line_of, IsMade, WasCalled}
+use Rattle.pmem_replay.specs.Called.{written_line, IsLawfulCall, WasCalled}
 use Rattle.pmem_replay.specs.Flagged.{Tampering, Dirtying, with_dirtying, healed}
 use Rattle.pmem_replay.specs.World.{WorldParts, WorldState, IsWorld, world_of}
 use Rattle.pmem_replay.proofs.Steps.PartsOfWorld.{held, setup_in, going_in, shape_in, moved}
@@ -51,11 +51,11 @@ module _ (g : Over) (c : After-saturating_add-self-inside g) where
       subst (λ (world : WorldState). IfSome (g.C.Call.write c.args.call.now) (λ w. w.at < layout.data_lines world.shape)) (sym c.self.view_is)
       c.requires.within
 
-  made : IsMade (g.C.Call.relation c.args.call.now) (g.C.Call.write c.args.call.now) setup (parts_in (world_of setup p) c.in-Some.engine none_taken)
+  made : IsLawfulCall (g.C.Call.relation c.args.call.now) (g.C.Call.write c.args.call.now) setup (parts_in (world_of setup p) c.in-Some.engine none_taken)
       (parts_of c.make-done.new.engine (device_during (memory_of c.make-done.new.board) c.make-done.result.taken) (ledger_of c.make-done.new.ledger)
       (g.S.Suite.tags c.make-done.new.suite) (g.S.Suite.digests c.make-done.new.suite)) c.make-done.result.answer
   made =
-      subst (λ (shape : Shape). IsMade (g.C.Call.relation c.args.call.now) (g.C.Call.write c.args.call.now) (record { shape = shape; formulas = setup.formulas })
+      subst (λ (shape : Shape). IsLawfulCall (g.C.Call.relation c.args.call.now) (g.C.Call.write c.args.call.now) (record { shape = shape; formulas = setup.formulas })
       (parts_in (world_of setup p) c.in-Some.engine none_taken)
       (parts_of c.make-done.new.engine (device_during (memory_of c.make-done.new.board) c.make-done.result.taken) (ledger_of c.make-done.new.ledger)
       (g.S.Suite.tags c.make-done.new.suite) (g.S.Suite.digests c.make-done.new.suite)) c.make-done.result.answer)
@@ -111,7 +111,7 @@ invariant_of-self-2 g c =
     c.lose_if.new.engine c.lose_if.new.ports c.heal.new.tampered c.note_since.new.self
     c.is_cut.result (sym c.is_shown.ensures ∙ c.if-is_shown.false) c.is_cut.ensures c.lose_if.ensures.engine c.lose_if.ensures.ports
     (c.heal.ensures ∙ ap (λ l. healed l (drop (length c.marks-from.result.now) (ledger_of c.make-done.new.ledger).marks) (p g at).tampering) c.line.ensures
-    ∙ ap (λ k. healed (line_of (g.C.Call.write c.args.call.now)) (drop k (ledger_of c.make-done.new.ledger).marks) (p g at).tampering) n)
+    ∙ ap (λ k. healed (written_line (g.C.Call.write c.args.call.now)) (drop k (ledger_of c.make-done.new.ledger).marks) (p g at).tampering) n)
     (subst (λ k. (s : PlainState) → with_dirtying s c.note_since.new.self
     ≡ after_marks (shape_of c.self.inside.geo) (with_dirtying s (p g at).dirtying) (drop k (ledger_of c.make-done.new.ledger).marks)) n c.note_since.ensures)
     c.has_banks.ensures).holds
@@ -129,7 +129,7 @@ returns g c =
     c.lose_if.new.engine c.lose_if.new.ports c.heal.new.tampered c.note_since.new.self
     c.is_cut.result (sym c.is_shown.ensures ∙ c.if-is_shown.false) c.is_cut.ensures c.lose_if.ensures.engine c.lose_if.ensures.ports
     (c.heal.ensures ∙ ap (λ l. healed l (drop (length c.marks-from.result.now) (ledger_of c.make-done.new.ledger).marks) (p g at).tampering) c.line.ensures
-    ∙ ap (λ k. healed (line_of (g.C.Call.write c.args.call.now)) (drop k (ledger_of c.make-done.new.ledger).marks) (p g at).tampering) n)
+    ∙ ap (λ k. healed (written_line (g.C.Call.write c.args.call.now)) (drop k (ledger_of c.make-done.new.ledger).marks) (p g at).tampering) n)
     (subst (λ k. (s : PlainState) → with_dirtying s c.note_since.new.self
     ≡ after_marks (shape_of c.self.inside.geo) (with_dirtying s (p g at).dirtying) (drop k (ledger_of c.make-done.new.ledger).marks)) n c.note_since.ensures)
     c.has_banks.ensures)

@@ -5,7 +5,7 @@ use Rattle.pmem_base.specs.declared.commands.Command.TheVariants as Do
 use Rattle.pmem_base.specs.declared.answers.Answer.TheVariants as Say
 use Rattle.suite.specs.Setup.{Setup}
 use Rattle.pmem_engine.specs.declared.fault.Fault.{Fault}
-use Rattle.pmem_replay.specs.Called.{WasCalled, IsStopped}
+use Rattle.pmem_replay.specs.Called.{WasCalled, IsFaultAnswered}
 use Rattle.pmem_replay.specs.Replies.{with_marks_since}
 use Rattle.pmem_replay.specs.Stepped.{HasStepped}
 use Rattle.pmem_replay.specs.World.{setup_of_world}
@@ -45,4 +45,4 @@ returns-in-Err-clause-stepped g c =
     let at = (goal.at.returns-in-Err-clause-stepped g c).After-steps-steps in
     since _ c.args.self.now _ Do.Turn _ _
     (turn_stopped c.in-Err.fault (served g at (Err c.in-Err.fault) c.in-Err.is) c.stopped.result
-    (subst (λ n. IsStopped c.call-done.new.self.ledger.exhibit None c.in-Err.fault n c.stopped.result) c.steps-steps.ensures c.stopped.ensures))
+    (subst (λ n. IsFaultAnswered c.call-done.new.self.ledger.exhibit None c.in-Err.fault n c.stopped.result) c.steps-steps.ensures c.stopped.ensures))
