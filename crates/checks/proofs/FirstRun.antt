@@ -32,8 +32,8 @@ all_of_three : {X : Type 0} (P : X → Type 0) (a b c : X) → P a → P b → P
 all_of_three P a b c has_a has_b has_c =
     All-cons P a (b ∷ c ∷ []) has_a (All-cons P b (c ∷ []) has_b (All-cons P c [] has_c (All-nil P)))
 
-abbrev IsInGrammar : List ℕ → Type 0
-IsInGrammar line = IsOk (reading_of line)
+abbrev IsLineInGrammar : List ℕ → Type 0
+IsLineInGrammar line = IsOk (reading_of line)
 
 abbrev IsNotShown : Step → Type 0
 IsNotShown step = is_shown step.reply.answer ≡ false
@@ -42,7 +42,7 @@ pub first_run : IsRunFrom weak_setup (start weak_setup) first_lines first_steps
 unfolding zero_line decode_pairs default_shape default_keys no_flags no_writes start_state start_view lines_of without_return words_of number_up_to port_of hex_bytes command_of command_among reading_of_words reading_among start machine_after
 first_run =
     record {
-      in_grammar = all_of_five IsInGrammar _ _ _ _ _ refl refl refl refl refl;
+      in_grammar = all_of_five IsLineInGrammar _ _ _ _ _ refl refl refl refl refl;
       commands_in_order = refl;
       answered = search rules;
       none_shown = all_of_three IsNotShown _ _ _ refl refl refl;

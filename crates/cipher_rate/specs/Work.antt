@@ -10,16 +10,16 @@ use Rattle.cipher_rate.specs.declared.work.Work.{Work}
 use Rattle.cipher_rate.specs.declared.work.Work.TheVariants.{Hash, Encrypt}
 
 -- what is asked for by a name and a count
-abbrev pub named_work : Word → Result ℕ Kind → Option Work
-named_work name (Ok count) =
+abbrev pub work_asked : Word → Result ℕ Kind → Option Work
+work_asked name (Ok count) =
     if bytes_eq name (codes "hash")
     then Some (Hash count)
     else if bytes_eq name (codes "encrypt") then Some (Encrypt count) else None
-named_work name (Err kind) = None
+work_asked name (Err kind) = None
 
 -- two words: a name and a number
 abbrev pub work_of : List Word → Option Work
-work_of (name ∷ number ∷ []) = named_work name (number_of number)
+work_of (name ∷ number ∷ []) = work_asked name (number_of number)
 work_of words = None
 
 -- a block of zeros, encrypted so often under a key of zeros

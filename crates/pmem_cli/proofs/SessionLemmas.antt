@@ -26,13 +26,13 @@ HasConversed-memory session trace o = record {
 }
 
 -- whatever it says from a new state on is as it promises
-abbrev pub Keeps : {S R : Type 0} → Session S R → Type 0
-Keeps {S} {R} session =
+abbrev pub KeepsPromise : {S R : Type 0} → Session S R → Type 0
+KeepsPromise {S} {R} session =
     (first : S) (said : List (Said R)) → session.begins first → AreRepliesGiven (session_protocol session) first said
     → session.promises first said
 
 module _ {S R X : Type 0} (session : Session S R) (p : Protocol S X) (I : S → Type 0) (f : Follows p (session_protocol session) I) where
-  pub HasConversed-stopped : (first : S) (stop : Stop) (trace left : Option (List ℕ)) (a b : Output) → Keeps session → session.begins first → I first
+  pub HasConversed-stopped : (first : S) (stop : Stop) (trace left : Option (List ℕ)) (a b : Output) → KeepsPromise session → session.begins first → I first
       → HasStopped p stop trace left first a b 0 → HasConversed session stop trace left a b
   HasConversed-stopped first stop trace left a b keeps begins i stopped =
       let its = follow_all p (session_protocol session) I f stop first trace left stopped.replies i stopped.ends stopped.given in

@@ -17,7 +17,7 @@ use Rattle.tree_session.specs.State.{SessionState, IsNewTree, tree_setup_in}
 use Rattle.pmem_cli.specs.Sessions.{Said, reply, exhibit, session_protocol, replies_among, exhibits_among}
 use Rattle.pmem_cli.specs.Tree.{IsShownAfter, counter_tree_session}
 use Rattle.pmem_cli.proofs.Following.{Follows}
-use Rattle.pmem_cli.proofs.SessionLemmas.{Keeps}
+use Rattle.pmem_cli.proofs.SessionLemmas.{KeepsPromise}
 
 -- ---- states in a run
 
@@ -109,7 +109,7 @@ none_of : {T : Type 0} (P : T → Type 0) (xs : List T) → All P xs → ((x : T
 none_of P [] all none = refl
 none_of P (x ∷ xs) all none = absurd (none x (All-head P x xs all))
 
-pub keeps_tree : (setup : Setup) → IsTreeKept setup → IsTreeShown setup → IsTreeUntouched setup → Keeps (counter_tree_session setup)
+pub keeps_tree : (setup : Setup) → IsTreeKept setup → IsTreeShown setup → IsTreeUntouched setup → KeepsPromise (counter_tree_session setup)
 keeps_tree setup kept shown untouched first said begins given =
     let chain = chain_of_given setup first said given in
     let replies = replies_among said in

@@ -108,14 +108,14 @@ module _ {S X : Type 0} (p : Protocol S X) where
       }
 
   -- the run stops at a line, of which this is known where the bytes are told
-  abbrev StopsAt : Stop → Option (List ℕ) → Option (List ℕ) → S → ℕ → List ℕ → List X → Type 0
-  StopsAt stop a left s served line xs =
+  abbrev StopsAtLine : Stop → Option (List ℕ) → Option (List ℕ) → S → ℕ → List ℕ → List X → Type 0
+  StopsAtLine stop a left s served line xs =
       ((trace : List ℕ) (behind : List (List ℕ)) → lines_of trace ≡ line ∷ behind → TalkEnds p s served stop trace left xs)
       → IfSome a (λ bytes. TalkEnds p s served stop bytes left xs)
 
   -- so it does by its answer
   stopped_at : (stop : Stop) (a left : Option (List ℕ)) (s t : S) (o q : Output) (line : List ℕ) (served number : ℕ) → number ≡ served + 1 → served < line_limit
-      → length line ≤ 1024 → ((xs : List X) → StopsAt stop a left s served line xs) → AnswersLine p (Some stop) line number s t o q → HasStopped p stop a left s o q served
+      → length line ≤ 1024 → ((xs : List X) → StopsAtLine stop a left s served line xs) → AnswersLine p (Some stop) line number s t o q → HasStopped p stop a left s o q served
   stopped_at (Refused n kind) a left s t o q line served number numbered limit short ends (same, refused, kept) =
       subst (λ out. HasStopped p (Refused n kind) a left s o out served) (sym kept)
       (HasStopped-quiet (Refused n kind) a left s o served
@@ -145,13 +145,13 @@ module _ {S X : Type 0} (p : Protocol S X) where
   stopped_at stop a left s t o q line served number numbered limit short ends answered = absurd answered
 
   stops_ahead : (stop : Stop) (a b left : Option (List ℕ)) (s : S) (line : List ℕ) (served : ℕ) (xs : List X)
-      → Consumes a b (ended line) → IsWithin line → StopsAt stop a left s served line xs
+      → Consumes a b (ended line) → IsWithin line → StopsAtLine stop a left s served line xs
   stops_ahead stop a b left s line served xs taken within ends =
       IfSome-ahead a b (ended line) (λ bytes. TalkEnds p s served stop bytes left xs) taken
       (λ rest. ends (ended line ++ rest) (lines_of rest) (lines_ahead line rest within))
 
   stops_last : (stop : Stop) (a b left : Option (List ℕ)) (s : S) (line : List ℕ) (served : ℕ) (xs : List X)
-      → Consumes a b line → IsWithin line → 0 < length line → IsAtEnd b → StopsAt stop a left s served line xs
+      → Consumes a b line → IsWithin line → 0 < length line → IsAtEnd b → StopsAtLine stop a left s served line xs
   stops_last stop a b left s line served xs taken within some end ends =
       Consumes-whole a b line (λ bytes. TalkEnds p s served stop bytes left xs) taken end
       (ends line [] (lines_of-last line within some))

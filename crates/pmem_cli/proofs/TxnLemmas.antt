@@ -20,7 +20,7 @@ use Rattle.trace_text.specs.Conversations.{Protocol, talk_protocol, AreRepliesGi
 use Rattle.pmem_cli.specs.Sessions.{Said, reply, exhibit, session_protocol, replies_among}
 use Rattle.pmem_cli.specs.Txn.{transactions_session}
 use Rattle.pmem_cli.proofs.Following.{Follows}
-use Rattle.pmem_cli.proofs.SessionLemmas.{Keeps}
+use Rattle.pmem_cli.proofs.SessionLemmas.{KeepsPromise}
 
 -- ---- geometry and keys stay
 
@@ -127,7 +127,7 @@ answered_of_given setup first (exhibit its ∷ said) (line, its_sort, inl (next,
 answered_of_given setup first (exhibit its ∷ said) (line, its_sort, inr (shown, none)) =
     (first, subst (λ (zs : List (Said TxnReply)). AreTxnAnswered setup first (replies_among zs) first) (sym none) refl)
 
-pub keeps_txn : (setup : Setup) → AreTxnsKept setup → AreTxnsSpent setup → Keeps (transactions_session setup)
+pub keeps_txn : (setup : Setup) → AreTxnsKept setup → AreTxnsSpent setup → KeepsPromise (transactions_session setup)
 keeps_txn setup kept spent first said begins given =
     let chain = answered_of_given setup first said given in (
       kept (replies_among said) chain.0 (record { first = first; is_new = begins; answered = chain.1 }),

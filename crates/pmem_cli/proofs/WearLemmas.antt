@@ -21,7 +21,7 @@ use Rattle.trace_text.specs.Conversations.{Protocol, talk_protocol, AreRepliesGi
 use Rattle.pmem_cli.specs.Sessions.{Said, reply, exhibit, session_protocol, replies_among}
 use Rattle.pmem_cli.specs.Wear.{levelled_session}
 use Rattle.pmem_cli.proofs.Following.{Follows}
-use Rattle.pmem_cli.proofs.SessionLemmas.{Keeps}
+use Rattle.pmem_cli.proofs.SessionLemmas.{KeepsPromise}
 
 -- ---- geometry and keys stay
 
@@ -122,7 +122,7 @@ answered_of_given setup every first (exhibit its ∷ said) (line, its_sort, inl 
 answered_of_given setup every first (exhibit its ∷ said) (line, its_sort, inr (shown, none)) =
     (first, subst (λ (zs : List (Said WearReply)). AreWearAnswered setup first (replies_among zs) first) (sym none) refl)
 
-pub keeps_wear : (setup : Setup) (every : ℕ) → IsWearKept setup → IsWearSpent setup → Keeps (levelled_session setup every)
+pub keeps_wear : (setup : Setup) (every : ℕ) → IsWearKept setup → IsWearSpent setup → KeepsPromise (levelled_session setup every)
 keeps_wear setup every kept spent first said begins given =
     let chain = answered_of_given setup every first said given in (
       kept every (replies_among said) chain.0 (record { first = first; is_new = begins; answered = chain.1 }),

@@ -28,10 +28,10 @@ use Rattle.pmem_replay.proofs.Steps.DeviceEvidence.{small_position}
 use Rattle.pmem_replay.proofs.Table.UnchangedSteps.{lit_in}
 use Rattle.pmem_replay.proofs.Called.CommandSteps.{Serving, old_of, on_of, few_of, done_as, state_is, stepped_call, ends_as}
 
-abbrev pub Flushes : Setup → Parts → Parts → Result (Option ℕ) Fault → Type 0
-Flushes setup old new answer = HasFlushed setup old new answer
+abbrev pub FlushesBlock : Setup → Parts → Parts → Result (Option ℕ) Fault → Type 0
+FlushesBlock setup old new answer = HasFlushed setup old new answer
 
-module _ (answer : Result (Option ℕ) Fault) (s : Serving Flushes None answer) where
+module _ (answer : Result (Option ℕ) Fault) (s : Serving FlushesBlock None answer) where
   done : OneLossEffect s.setup (outcome_of answer) [] (parts_in (old_of s) s.called.engine none_taken) (parts_in s.new s.called.after s.taken)
   done = s.called.related.done (on_of s).trusted.not_down
 
@@ -48,14 +48,14 @@ module _ (answer : Result (Option ℕ) Fault) (s : Serving Flushes None answer) 
   loss = done.loss ∙ s.called.call.world.board.loss
 
 -- nothing is dirty
-pub flush_clean_in : (s : Serving Flushes None (Ok None)) → IsCleanIn s.new.shape s.new.engine
+pub flush_clean_in : (s : Serving FlushesBlock None (Ok None)) → IsCleanIn s.new.shape s.new.engine
 flush_clean_in s =
     let clean = answered (Ok None) s in
     subst (λ (g : Shape). IsCleanIn g s.new.engine) (sym (same_shape (Ok None) s))
     (subst (λ (e : Option EngineState). IsCleanIn s.setup.shape e) (sym s.called.kept)
     (λ bank x. ap (λ (e : EngineState). is_cached_dirty s.setup.shape e.cache bank x) clean.0.engine ∙ clean.1 bank x))
 
-pub flush_clean : (s : Serving Flushes None (Ok None))
+pub flush_clean : (s : Serving FlushesBlock None (Ok None))
     → HasStepped s.setup s.first Do.Flush (without_marks Say.Clean) (record (s.new) { state = after_clean s.setup.shape s.new.state })
 flush_clean s =
     let w = s.called in
@@ -70,7 +70,7 @@ flush_clean s =
     (done_as s (after_clean s.setup.shape s.new.state) _ (Ok None, w.related, tt) Say.Clean refl (λ quiet. sym none)) tt
 
 -- a block is written back, and clean
-pub flush_clean_at : (x : ℕ) (s : Serving Flushes None (Ok (Some x))) → IsCleanAt s.new.shape s.new.engine x
+pub flush_clean_at : (x : ℕ) (s : Serving FlushesBlock None (Ok (Some x))) → IsCleanAt s.new.shape s.new.engine x
 flush_clean_at x s =
     subst (λ (g : Shape). IsCleanAt g s.new.engine x) (sym (same_shape (Ok (Some x)) s))
     (subst (λ (e : Option EngineState). IsCleanAt s.setup.shape e x) (sym s.called.kept)
@@ -85,7 +85,7 @@ flush_clean_at x s =
 abbrev pub flushed_state : ℕ → PlainState → PlainState
 flushed_state x state = record state { flushed = with_flag state.flushed x }
 
-pub flush_flushed : (x : ℕ) (s : Serving Flushes None (Ok (Some x)))
+pub flush_flushed : (x : ℕ) (s : Serving FlushesBlock None (Ok (Some x)))
     → HasStepped s.setup s.first Do.Flush (without_marks (Say.Flushed x (steps_in s.taken))) (record (s.new) { state = flushed_state x s.new.state })
 flush_flushed x s =
     let w = s.called in
@@ -98,7 +98,7 @@ flush_flushed x s =
     (done_as s (flushed_state x s.new.state) _ (Ok (Some x), w.related, refl) (Say.Flushed x (steps_in s.taken)) refl (λ quiet. refl)) tt
 
 -- a flush that is stopped: it is cut
-pub flush_stopped : (fault : Fault) (s : Serving Flushes None (Err fault)) (said : Answer) → IsFaultAnswered s.new.ledger.exhibit None fault (steps_in s.taken) said
+pub flush_stopped : (fault : Fault) (s : Serving FlushesBlock None (Err fault)) (said : Answer) → IsFaultAnswered s.new.ledger.exhibit None fault (steps_in s.taken) said
     → HasStepped s.setup s.first Do.Flush (without_marks said) s.new
 flush_stopped Fail.Cut s said is =
     let w = s.called in

@@ -37,13 +37,13 @@ use Rattle.pmem_replay.proofs.Commands.ReadLaws as laws
 use Rattle.pmem_replay.proofs.Table.UnchangedSteps.{lit_in}
 use Rattle.pmem_replay.proofs.Called.CommandSteps.{Serving, old_of, on_of, few_of, ends_as}
 
-abbrev pub Reads : ℕ → Setup → Parts → Parts → Result Line Fault → Type 0
-Reads at setup old new answer = HasReadLine setup at old new answer
+abbrev pub ReadsLine : ℕ → Setup → Parts → Parts → Result Line Fault → Type 0
+ReadsLine at setup old new answer = HasReadLine setup at old new answer
 
-module _ (port at : ℕ) (answer : Result Line Fault) (s : Serving (Reads at) None answer) (within : at < layout.data_lines s.setup.shape)
+module _ (port at : ℕ) (answer : Result Line Fault) (s : Serving (ReadsLine at) None answer) (within : at < layout.data_lines s.setup.shape)
     (uncovered : is_covered s.first.state port at ≡ false) where
-  abbrev Ended : Answer → Type 0
-  Ended said = HasStepped s.setup s.first (Do.Read port at) (without_marks said) s.new
+  abbrev EndsRead : Answer → Type 0
+  EndsRead said = HasStepped s.setup s.first (Do.Read port at) (without_marks said) s.new
 
   read : HasReadLine s.setup at (parts_in (old_of s) s.called.engine none_taken) (parts_in s.new s.called.after s.taken) answer
   read = s.called.related
@@ -67,14 +67,14 @@ module _ (port at : ℕ) (answer : Result Line Fault) (s : Serving (Reads at) No
       → called_state s.setup.shape o None [] (steps_in s.taken) s.first.state.loss s.first.state
       ≡ state_after s.setup.shape s.first.state (Do.Read port at) (without_marks said))
       → IsReadAnswer s.new answer said → IsSeenOnDevice s.setup s.first (Do.Read port at) said s.new
-      → Ended said
+      → EndsRead said
   read_ends o ends said good in_range shown cut steps after says seen =
       ends_as s (Do.Read port at) [] o ends s.first.state.loss (done.loss ∙ s.called.call.world.board.loss) undecided done.gone.marks
       (λ said p q. (r : Result Line Fault) × HasReadLine s.setup at p q r × IsReadAnswer s.new r said) (λ said it. it)
       said good in_range shown cut steps after (answer, read, says) seen
 
 -- a line
-pub read_got : (port at : ℕ) (line shown : Line) (s : Serving (Reads at) None (Ok line)) (within : at < layout.data_lines s.setup.shape)
+pub read_got : (port at : ℕ) (line shown : Line) (s : Serving (ReadsLine at) None (Ok line)) (within : at < layout.data_lines s.setup.shape)
     → is_covered s.first.state port at ≡ false → shown ≡ put_writes line (writes_to (queue_of s.first.state.queues port) at) → IsLine shown
     → HasStepped s.setup s.first (Do.Read port at) (without_marks (Say.Got shown (steps_in s.taken))) s.new
 read_got port at line shown s within uncovered is its =
@@ -90,7 +90,7 @@ read_got port at line shown s within uncovered is its =
     (laws.read-stored s.setup (old_of s) s.new w.engine w.after s.taken w.call port at within line w.related))
 
 -- a read that is stopped
-pub read_stopped : (port at : ℕ) (fault : Fault) (s : Serving (Reads at) None (Err fault)) (within : at < layout.data_lines s.setup.shape)
+pub read_stopped : (port at : ℕ) (fault : Fault) (s : Serving (ReadsLine at) None (Err fault)) (within : at < layout.data_lines s.setup.shape)
     → is_covered s.first.state port at ≡ false → (said : Answer) → IsFaultAnswered s.new.ledger.exhibit None fault (steps_in s.taken) said
     → HasStepped s.setup s.first (Do.Read port at) (without_marks said) s.new
 read_stopped port at (Fail.Meta x) s within uncovered said is =

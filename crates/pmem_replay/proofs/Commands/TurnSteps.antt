@@ -31,10 +31,10 @@ use Rattle.pmem_replay.proofs.Steps.DeviceEvidence.{tag_wrong, small_line, forge
 use Rattle.pmem_replay.proofs.Table.UnchangedSteps.{lit_in}
 use Rattle.pmem_replay.proofs.Called.CommandSteps.{Serving, old_of, on_of, few_of, ends_as}
 
-abbrev pub Turns : Setup → Parts → Parts → Result (Option (ℕ × ℕ)) Fault → Type 0
-Turns setup old new answer = HasTurned setup old new answer
+abbrev pub TurnsPage : Setup → Parts → Parts → Result (Option (ℕ × ℕ)) Fault → Type 0
+TurnsPage setup old new answer = HasTurned setup old new answer
 
-module _ (answer : Result (Option (ℕ × ℕ)) Fault) (s : Serving Turns None answer) where
+module _ (answer : Result (Option (ℕ × ℕ)) Fault) (s : Serving TurnsPage None answer) where
   abbrev turn : HasTurned s.setup (parts_in (old_of s) s.called.engine none_taken) (parts_in s.new s.called.after s.taken) answer
   turn = s.called.related
 
@@ -61,7 +61,7 @@ module _ (answer : Result (Option (ℕ × ℕ)) Fault) (s : Serving Turns None a
       said good in_range shown cut steps after (answer, turn, says) seen
 
 -- no page is open
-pub turn_idle : (s : Serving Turns None (Ok None)) → HasStepped s.setup s.first Do.Turn (record { marks = []; answer = Say.Idle }) s.new
+pub turn_idle : (s : Serving TurnsPage None (Ok None)) → HasStepped s.setup s.first Do.Turn (record { marks = []; answer = Say.Idle }) s.new
 turn_idle s =
     let w = s.called in
     let none : steps_in s.taken ≡ 0 = left_alone-steps s.setup (old_of s) s.new w.engine w.after s.taken (w.related.counts (on_of s).trusted.not_down) in
@@ -70,7 +70,7 @@ turn_idle s =
     (λ quiet. ap (λ (n : ℕ). called_state s.setup.shape going None [] n s.first.state.loss s.first.state) none) tt tt
 
 -- a line is sealed anew
-pub turn_turned : (turned : ℕ × ℕ) (s : Serving Turns None (Ok (Some turned))) → turned.1 < 2 ^ 8
+pub turn_turned : (turned : ℕ × ℕ) (s : Serving TurnsPage None (Ok (Some turned))) → turned.1 < 2 ^ 8
     → HasStepped s.setup s.first Do.Turn (record { marks = s.called.related.made; answer = Say.Turned turned.1 (steps_in s.taken) }) s.new
 turn_turned turned s small =
     let w = s.called in
@@ -79,7 +79,7 @@ turn_turned turned s small =
     (λ quiet. refl) refl tt
 
 -- a turn that is stopped
-pub turn_stopped : (fault : Fault) (s : Serving Turns None (Err fault)) (said : Answer) → IsFaultAnswered s.new.ledger.exhibit None fault (steps_in s.taken) said
+pub turn_stopped : (fault : Fault) (s : Serving TurnsPage None (Err fault)) (said : Answer) → IsFaultAnswered s.new.ledger.exhibit None fault (steps_in s.taken) said
     → HasStepped s.setup s.first Do.Turn (record { marks = s.called.related.made; answer = said }) s.new
 turn_stopped (Fail.Tag b) s said is =
     let w = s.called in

@@ -40,8 +40,8 @@ front_is (first ∷ later) write is = ap (λ (w : Posted). w ∷ later) (same_So
 no_seal : (made : List Mark) (at : ℕ) → made ≡ [] → is_sealed_by made at ≡ false
 no_seal made at none = ap (λ marks. is_sealed_by marks at) none
 
-abbrev pub Writes : Posted → Setup → Parts → Parts → Result Ctr Fault → Type 0
-Writes write setup old new answer = HasWrittenLine setup write old new answer
+abbrev pub WritesLine : Posted → Setup → Parts → Parts → Result Ctr Fault → Type 0
+WritesLine write setup old new answer = HasWrittenLine setup write old new answer
 
 -- a state whose port has these writes still
 abbrev pub with_later : PlainState → ℕ → List Posted → PlainState
@@ -90,7 +90,7 @@ module _ (setup : Setup) (old new : WorldState) (port : ℕ) (small : port < 8) 
   drained : IsDrainedTo setup old old port 0 [] 0
   drained = drained_none setup old port whole
 
-  module _ (answer : Result Ctr Fault) (w : WasCalled setup (Writes write) (Some write) popped taken answer new) where
+  module _ (answer : Result Ctr Fault) (w : WasCalled setup (WritesLine write) (Some write) popped taken answer new) where
     abbrev call : IsCall setup old new w.engine w.after taken
     call =
         record {
@@ -177,7 +177,7 @@ module _ (setup : Setup) (old new : WorldState) (port : ℕ) (small : port < 8) 
         }
 
   -- by what the engine answers
-  given_to : (answer : Result Ctr Fault) (w : WasCalled setup (Writes write) (Some write) popped taken answer new) (put : Bool)
+  given_to : (answer : Result Ctr Fault) (w : WasCalled setup (WritesLine write) (Some write) popped taken answer new) (put : Bool)
       → put ≡ is_sealed_by (drop (length old.ledger.marks) new.ledger.marks) write.at → (n : ℕ) → n ≡ steps_in taken → IsWriteGivenTo setup old port n answer put new
   given_to (Ok ctr) w put its n counted =
       as_on (Ok ctr) w true n refl
@@ -203,11 +203,11 @@ module _ (setup : Setup) (old new : WorldState) (port : ℕ) (small : port < 8) 
 -- the port's oldest write was taken and given to the engine
 pub gives : (formulas_of : List ℕ → Formulas) (old mid new : WorldState) (port : ℕ) (write : Posted) (taken : Taken) (answer : Result Ctr Fault) (put : Bool) (n : ℕ)
     (said : Answer) → port < 8 → IsWorld (setup_of_world formulas_of old) old → old.shown ≡ false → IsWriteTaken old port write mid
-    → WasCalled (setup_of_world formulas_of mid) (Writes write) (Some write) mid taken answer new
+    → WasCalled (setup_of_world formulas_of mid) (WritesLine write) (Some write) mid taken answer new
     → put ≡ is_sealed_by (drop (length mid.ledger.marks) new.ledger.marks) write.at → n ≡ steps_in taken → IsDrainSaid new answer put n said
     → HasWriteGiven (setup_of_world formulas_of old) old port said new
 gives formulas_of old mid new port write taken answer put n said small whole unshown took w its counted says =
-    let called = subst (λ (world : WorldState). WasCalled (setup_of_world formulas_of world) (Writes write) (Some write) world taken answer new) took.same w in
+    let called = subst (λ (world : WorldState). WasCalled (setup_of_world formulas_of world) (WritesLine write) (Some write) world taken answer new) took.same w in
     let sealed = its ∙ ap (λ (world : WorldState). is_sealed_by (drop (length world.ledger.marks) new.ledger.marks) write.at) took.same in
     record {
       answer = answer;

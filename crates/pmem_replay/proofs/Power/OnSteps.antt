@@ -159,13 +159,13 @@ module _ (s : RecoveryCall) where
       seen
 
   -- the answer as the program has it, with the engine in its place
-  abbrev Ended : Answer → WorldParts → Type 0
-  Ended answer q = EndsCall s.formulas_of s.geometry s.now Do.On (without_marks answer) q
+  abbrev EndsOn : Answer → WorldParts → Type 0
+  EndsOn answer q = EndsCall s.formulas_of s.geometry s.now Do.On (without_marks answer) q
 
   ended : (say : ℕ → Answer) (to : Option EngineState → BoardMemory → WorldParts) (engine : Option EngineState) (left board : BoardMemory)
       → (to s.engine left).keys ≡ s.keys → s.engine ≡ engine → left ≡ board
       → HasStepped setup old Do.On (without_marks (say (steps_in s.taken))) (world_of setup (to engine board))
-      → Ended (say s.said) (to s.engine left)
+      → EndsOn (say s.said) (to s.engine left)
   ended say to engine left board keys same same_board step =
       ends s.formulas_of s.geometry s.parts (to s.engine left) s.now Do.On (without_marks (say s.said)) s.is (keys ∙ s.was.recovered.keys)
       (numbered setup old (world_of setup (to s.engine left)) Do.On [] say s.said (steps_in s.taken) s.counted
@@ -212,7 +212,7 @@ module _ (s : RecoveryCall) where
       → ((st : PlainState) → with_tampering st tampering ≡ after_loosening (with_tampering st s.parts.tampering))
       → ((g : Shape) (st : PlainState) → HasDirtyingOf g s.parts.dirtying → with_dirtying st dirtying ≡ after_clean g (with_dirtying st s.parts.dirtying))
       → work.trials < 2 ^ 64 → work.digests < 2 ^ 64
-      → Ended (Say.Recovered work.trials work.digests s.said) (record (left_with s.engine s.board) { tampering = tampering; dirtying = dirtying })
+      → EndsOn (Say.Recovered work.trials work.digests s.said) (record (left_with s.engine s.board) { tampering = tampering; dirtying = dirtying })
   on-recovered work tampering dirtying is loosened cleaned few_trials few_digests =
       let apart = apart_ok s.was.answer s.engine work (subst (IsTakenApart s.was.answer s.engine) is s.was.apart) in
       ended (λ n. Say.Recovered work.trials work.digests n) (λ e board. record (left_with e board) { tampering = tampering; dirtying = dirtying })
@@ -254,7 +254,7 @@ module _ (s : RecoveryCall) where
       tt
 
   pub on-cut : (tampering : Tampering) (queues : List (List Posted)) → s.outcome ≡ Err Fail.Cut → ((st : PlainState) → with_tampering st tampering ≡ after_loosening (with_tampering st s.parts.tampering)) → queues ≡ no_writes
-      → Ended (Say.Cut s.said) (record (left_with s.engine s.board) { tampering = tampering; queues = queues })
+      → EndsOn (Say.Cut s.said) (record (left_with s.engine s.board) { tampering = tampering; queues = queues })
   on-cut tampering queues is loosened empty =
       let apart = refused_as Fail.Cut is in
       ended (λ n. Say.Cut n) (λ e board. record (left_with e board) { tampering = tampering; queues = queues }) None s.board s.board refl apart.0 refl
@@ -298,7 +298,7 @@ module _ (s : RecoveryCall) where
       there
 
   pub on-counter : (rested : BoardMemory) (at : ℕ) → s.outcome ≡ Err (Fail.NoCounter at) → rested ≡ dim
-      → Ended (Say.NoCounter at s.said) (record (left_with s.engine rested) { shown = s.parts.shown })
+      → EndsOn (Say.NoCounter at s.said) (record (left_with s.engine rested) { shown = s.parts.shown })
   on-counter rested at is rest =
       let apart = refused_as (Fail.NoCounter at) is in
       ended (λ n. Say.NoCounter at n) (λ e board. record (left_with e board) { shown = s.parts.shown }) None rested dim refl apart.0 rest
@@ -328,7 +328,7 @@ module _ (s : RecoveryCall) where
       there
 
   pub on-root : (rested : BoardMemory) (kept found : List ℕ) → s.outcome ≡ Err (Fail.Root kept found) → rested ≡ dim → IsTag kept → IsTag found
-      → Ended (Say.WrongRoot kept found s.said) (record (left_with s.engine rested) { shown = s.parts.shown })
+      → EndsOn (Say.WrongRoot kept found s.said) (record (left_with s.engine rested) { shown = s.parts.shown })
   on-root rested kept found is rest kept_tag found_tag =
       let apart = refused_as (Fail.Root kept found) is in
       ended (λ n. Say.WrongRoot kept found n) (λ e board. record (left_with e board) { shown = s.parts.shown }) None rested dim refl apart.0 rest
@@ -374,7 +374,7 @@ module _ (s : RecoveryCall) where
 
   pub on-twin : (rested : BoardMemory) (at major low high : ℕ) (cipher : Line) (tag : List ℕ)
       → s.outcome ≡ Err (Fail.Twin at major low high cipher tag) → rested ≡ dim → major < 2 ^ 64 → IsLine cipher → IsTag tag
-      → Ended (Say.Shown (Show.Twin at major low high cipher tag)) (record (left_with s.engine rested) { shown = true })
+      → EndsOn (Say.Shown (Show.Twin at major low high cipher tag)) (record (left_with s.engine rested) { shown = true })
   on-twin rested at major low high cipher tag is rest small_major whole_cipher whole_tag =
       let apart = refused_as (Fail.Twin at major low high cipher tag) is in
       ended (λ n. Say.Shown (Show.Twin at major low high cipher tag)) (λ e board. record (left_with e board) { shown = true }) None rested dim refl apart.0 rest

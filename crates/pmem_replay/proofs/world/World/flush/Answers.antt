@@ -12,7 +12,7 @@ use Rattle.pmem_replay.specs.Replies.{without_marks}
 use Rattle.pmem_replay.specs.Stepped.{HasStepped}
 use Rattle.pmem_replay.specs.World.{WorldState, setup_of_world}
 use Rattle.pmem_replay.proofs.Called.CommandSteps.{Serving, serving}
-use Rattle.pmem_replay.proofs.Commands.FlushSteps.{Flushes, same_shape, flush_clean_in, flush_clean_at, flush_clean, flushed_state, flush_flushed, flush_stopped}
+use Rattle.pmem_replay.proofs.Commands.FlushSteps.{FlushesBlock, same_shape, flush_clean_in, flush_clean_at, flush_clean, flushed_state, flush_flushed, flush_stopped}
 use Rattle.pmem_replay.proofs.world.World.flush.Given.{Over}
 use Rattle.pmem_replay.proofs.world.World.flush.Goals.{After-steps-steps}
 use Rattle.pmem_replay.proofs.world.World.flush.Goals as goal
@@ -22,10 +22,10 @@ module _ (g : Over) (c : After-steps-steps g) where
   abbrev setup : Setup
   setup = setup_of_world g.S.Suite.formulas_of c.args.self.now
 
-  abbrev served : (answer : Result (Option ℕ) Fault) → c.call-done.result.answer ≡ answer → Serving Flushes None answer
+  abbrev served : (answer : Result (Option ℕ) Fault) → c.call-done.result.answer ≡ answer → Serving FlushesBlock None answer
   served answer is =
       serving setup c.args.self.now c.call-done.result.taken c.call-done.new.self
-      (subst (λ (r : Result (Option ℕ) Fault). WasCalled setup Flushes None c.args.self.now c.call-done.result.taken r c.call-done.new.self) is c.call-done.ensures)
+      (subst (λ (r : Result (Option ℕ) Fault). WasCalled setup FlushesBlock None c.args.self.now c.call-done.result.taken r c.call-done.new.self) is c.call-done.ensures)
 
 pub note_clean-requires-clause-clean : goal.note_clean-requires-clause-clean
 note_clean-requires-clause-clean g c =

@@ -6,7 +6,7 @@ use Rattle.pmem_engine.specs.declared.fault.Fault.{Fault}
 use Rattle.pmem_engine.specs.Outcomes.{is_sealed_by}
 use Rattle.pmem_replay.specs.Called.{WasCalled}
 use Rattle.pmem_replay.specs.World.{setup_of_world}
-use Rattle.pmem_replay.proofs.Drains.GivenWrites.{Writes, gives}
+use Rattle.pmem_replay.proofs.Drains.GivenWrites.{WritesLine, gives}
 use Rattle.pmem_replay.proofs.world.World.give.Goals as goal
 
 pub returns-in-Ok : goal.returns-in-Ok
@@ -16,7 +16,7 @@ returns-in-Ok g c =
     let write = c.take-write.result in
     gives g.S.Suite.formulas_of c.args.self.now mid new c.args.port write c.call-done.result.taken (Ok c.in-Ok.field-0)
     (is_sealed_by (drop (length mid.ledger.marks) new.ledger.marks) write.at) c.steps-steps.result _ c.requires.port c.holds.ensures c.requires.shown c.take-write.ensures
-    (subst (λ (r : Result Ctr Fault). WasCalled (setup_of_world g.S.Suite.formulas_of mid) (Writes write) (Some write) mid c.call-done.result.taken r new) c.in-Ok.is c.call-done.ensures)
+    (subst (λ (r : Result Ctr Fault). WasCalled (setup_of_world g.S.Suite.formulas_of mid) (WritesLine write) (Some write) mid c.call-done.result.taken r new) c.in-Ok.is c.call-done.ensures)
     refl c.steps-steps.ensures refl
 
 pub returns-in-Err : goal.returns-in-Err
@@ -26,6 +26,6 @@ returns-in-Err g c =
     let write = c.take-write.result in
     gives g.S.Suite.formulas_of c.args.self.now mid new c.args.port write c.call-done.result.taken (Err c.in-Err.fault)
     c.has_sealed.result c.steps-steps.result c.stopped.result c.requires.port c.holds.ensures c.requires.shown c.take-write.ensures
-    (subst (λ (r : Result Ctr Fault). WasCalled (setup_of_world g.S.Suite.formulas_of mid) (Writes write) (Some write) mid c.call-done.result.taken r new) c.in-Err.is c.call-done.ensures)
+    (subst (λ (r : Result Ctr Fault). WasCalled (setup_of_world g.S.Suite.formulas_of mid) (WritesLine write) (Some write) mid c.call-done.result.taken r new) c.in-Err.is c.call-done.ensures)
     (c.has_sealed.ensures ∙ ap (λ ms. is_sealed_by (drop (length ms) new.ledger.marks) write.at) c.marks-from.ensures)
     c.steps-steps.ensures c.stopped.ensures

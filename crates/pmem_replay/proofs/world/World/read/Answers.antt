@@ -13,7 +13,7 @@ use Rattle.pmem_replay.specs.Replies.{without_marks}
 use Rattle.pmem_replay.specs.Stepped.{HasStepped}
 use Rattle.pmem_replay.specs.World.{setup_of_world}
 use Rattle.pmem_replay.proofs.Called.CommandSteps.{Serving, serving, can_stop}
-use Rattle.pmem_replay.proofs.Commands.ReadSteps.{Reads, read_got, read_stopped}
+use Rattle.pmem_replay.proofs.Commands.ReadSteps.{ReadsLine, read_got, read_stopped}
 use Rattle.pmem_replay.proofs.Drains.FenceLaws.{some_engine}
 use Rattle.pmem_replay.proofs.Table.ForwardedReads.{covered_by, uncovered_by, read-forwarded}
 use Rattle.pmem_replay.proofs.world.World.read.Given.{Over}
@@ -25,10 +25,10 @@ module _ (g : Over) (c : After-steps-steps g) where
   abbrev setup : Setup
   setup = setup_of_world g.S.Suite.formulas_of c.args.self.now
 
-  abbrev served : (answer : Result Line Fault) → c.call-done.result.answer ≡ answer → Serving (Reads c.args.at) None answer
+  abbrev served : (answer : Result Line Fault) → c.call-done.result.answer ≡ answer → Serving (ReadsLine c.args.at) None answer
   served answer is =
       serving setup c.args.self.now c.call-done.result.taken c.call-done.new.self
-      (subst (λ (r : Result Line Fault). WasCalled setup (Reads c.args.at) None c.args.self.now c.call-done.result.taken r c.call-done.new.self) is c.call-done.ensures)
+      (subst (λ (r : Result Line Fault). WasCalled setup (ReadsLine c.args.at) None c.args.self.now c.call-done.result.taken r c.call-done.new.self) is c.call-done.ensures)
 
   within : c.args.at < layout.data_lines setup.shape
   within = omega (arith, c.if-at-from.false, c.from.ensures, c.lines.ensures)
