@@ -8,8 +8,6 @@ mod bytes;
 mod fast;
 mod keys;
 mod tables;
-#[cfg(test)]
-mod tests;
 mod words;
 
 use bytes::{add_round_key, mix_columns, shift_rows, sub_bytes};

@@ -2,7 +2,7 @@
 use counter_tree::Node;
 
 /// A cached node, and whether the device may have an older one.
-#[derive(Clone, Copy, Debug, PartialEq, Eq)]
+#[derive(Clone, Copy)]
 pub struct CachedNode {
     pub x: u32,
     pub node: Node,

@@ -3,8 +3,6 @@
 
 mod device;
 mod memory;
-#[cfg(test)]
-mod tests;
 mod tripped;
 
 pub use device::Board;

@@ -65,6 +65,3 @@ fn write_all<B: Board>(board: &mut B, group: &[(u32, Line)]) -> Result<(), Cut>
     }
     Ok(())
 }
-
-#[cfg(test)]
-mod tests;

@@ -9,8 +9,6 @@ mod layout;
 mod nodes;
 mod shadow;
 mod slots;
-#[cfg(test)]
-mod tests;
 mod watch;
 
 pub use accepted::{FetchFault, fetch_line, fetch_node};

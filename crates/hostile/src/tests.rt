@@ -6,7 +6,6 @@ mod durable;
 mod failing;
 mod runs;
 mod tampering;
-mod texts;
 mod tripping;
 
 use std::fmt::Debug;

@@ -8,8 +8,6 @@ ghost use Rattle.pmem_base.specs.declared.lines.Line.{Line};
 ghost use Rattle.line_seal.specs.Seals.{sealed, unsealed};
 
 mod tags;
-#[cfg(test)]
-mod tests;
 
 use pmem_base::{Ctr, Line, Tag};
 use suite::{Suite, xor_lines};

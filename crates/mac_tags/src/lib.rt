@@ -111,6 +111,3 @@ pub fn tag16(full: &[u8; 32]) -> [u8; 16]
     tag.copy_from_slice(&full[..16]);
     tag
 }
-
-#[cfg(test)]
-mod tests;

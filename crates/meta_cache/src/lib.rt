@@ -5,8 +5,6 @@ mod bank;
 mod cache;
 mod set;
 mod slot;
-#[cfg(test)]
-mod tests;
 
 pub use cache::Cache;
 pub use slot::Slot;

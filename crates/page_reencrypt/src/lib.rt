@@ -129,6 +129,3 @@ pub fn mark(progress: &Progress, i: u8) -> Option<Progress>
     }
     Some(Progress { done, ..*progress })
 }
-
-#[cfg(test)]
-mod tests;

@@ -7,8 +7,6 @@ mod faults;
 mod geometry;
 mod lines;
 mod registers;
-#[cfg(test)]
-mod tests;
 
 pub use answers::{Answer, Exhibit, Mark, Place, Stat};
 pub use commands::{Command, Kind, Posted};

@@ -1,6 +1,7 @@
 -- What the world's replies to the lines of a trace mean.
 use Rattle.std.specs.Prelude.{◌≡◌, ◌⊎◌, ℕ, true, false, List, [], ◌∷◌, IsTrue, Option, Some, None, Ok, Err}
 use Rattle.pmem_base.specs.declared.commands.Command.{Command}
+use Rattle.pmem_base.specs.declared.answers.Answer.{Answer}
 use Rattle.suite.specs.Formulas.{Formulas}
 use Rattle.plain_model.specs.declared.Stop.{Stop}
 use Rattle.plain_model.specs.declared.Stop.TheVariants.{Finished, Memory, Words, ReadFault, WriteFault, Refused, Shown, TooManyLines}
@@ -21,6 +22,13 @@ pub record HasReplied (before : Standing) (command : Command) (step : Step) : Ty
   pub answered : IsAnswered before.setup before.machine step
   pub next : WorldState
   pub stepped : IsWorldStep before.setup before.world step next
+
+-- the command was answered so, and the run goes on unless the answer is an exhibit
+pub record IsExecuted (before after : Standing) (command : Command) (answer : Answer) : Type 0 where
+  pub step : Step
+  pub replied : HasReplied before command step
+  pub its_answer : step.reply.answer ≡ answer
+  pub on : is_shown answer ≡ false → StandingAfter before after (step ∷ [])
 
 -- how one command was answered, or why the run stops at it
 abbrev pub AnswersCommand : Option Stop → Command → Standing → Standing → Output → Output → Type 0

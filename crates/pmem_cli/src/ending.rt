@@ -16,7 +16,7 @@ use pmem_base::Kind;
 use trace_text::{push_bytes, push_number};
 
 /// How the program ends.
-#[derive(Clone, Copy, Debug, PartialEq, Eq)]
+#[derive(Clone, Copy)]
 pub(crate) enum Ending {
     /// It stopped, as a run does.
     Stopped(Stop),

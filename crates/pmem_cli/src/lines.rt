@@ -22,7 +22,7 @@ const CHUNK_BYTES: usize = 16_384;
 const LANES: usize = 16;
 
 /// What ended a piece of a line.
-#[derive(Clone, Copy, Debug, PartialEq, Eq)]
+#[derive(Clone, Copy)]
 enum Piece {
     /// Its LF.
     Ended,
@@ -33,7 +33,7 @@ enum Piece {
 }
 
 /// What stands ahead.
-#[derive(Clone, Copy, Debug, PartialEq, Eq)]
+#[derive(Clone, Copy)]
 pub(crate) enum Found {
     /// A line with its LF.
     Line,

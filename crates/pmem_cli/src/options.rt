@@ -24,7 +24,7 @@ const DEFAULT_TAG_KEY: [u8; 64] = [
 ];
 
 /// Which suite is used.
-#[derive(Clone, Copy, Debug, PartialEq, Eq)]
+#[derive(Clone, Copy)]
 pub(crate) enum SuiteName {
     Aes,
     Weak,
@@ -32,7 +32,7 @@ pub(crate) enum SuiteName {
 }
 
 /// What was chosen by options. A tag key is a number of bytes at the front of a line.
-#[derive(Clone, Copy, Debug, PartialEq, Eq)]
+#[derive(Clone, Copy)]
 pub(crate) struct Choices {
     pub levels: Option<u8>,
     pub sets: Option<u8>,
@@ -46,7 +46,7 @@ pub(crate) struct Choices {
 }
 
 /// Which options a task takes: each kind takes those of the kinds before it, and more.
-#[derive(Clone, Copy, Debug, PartialEq, Eq)]
+#[derive(Clone, Copy)]
 pub(crate) enum Allowed {
     /// Those of the suite.
     Suite,
@@ -59,7 +59,7 @@ pub(crate) enum Allowed {
 }
 
 /// What the program is to do.
-#[derive(Clone, Copy, Debug, PartialEq, Eq)]
+#[derive(Clone, Copy)]
 pub(crate) enum Task {
     /// Run a trace.
     Run(Choices),

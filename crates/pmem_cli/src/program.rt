@@ -49,7 +49,7 @@ fn run_with<U: Counted + Drop, S: Source, K: Sink>(
         ⊎ HasRepliedFirst setup (start setup) (S.left trace.old) (S.left_before trace.new) (with_waiting (K.put out.old) printer.old) (K.put out.new) }
 {
     match World::new(alloc, geo, suite) {
-        Ok(mut world) => serve_all(alloc, &mut world, trace, printer, out),
+        Ok(world) => serve_all(alloc, world, trace, printer, out),
         Err(_) => Stop::Memory,
     }
 }

@@ -1,7 +1,9 @@
 //! The run of a trace, whoever answers its lines.
-ghost use Rattle.std.specs.Prelude.{◌≡◌, ◌<◌, ◌≤◌, ◌⊎◌, [], OnOk, OnErr, Some, None, Contains};
+ghost use Rattle.std.specs.Prelude.{◌≡◌, ◌<◌, ◌≤◌, ◌⊎◌, ℕ, List, [], length, OnOk, OnErr, Option, Some, None, Contains};
 ghost use Rattle.std.specs.Io.KnownBytes.{prepend_known};
+ghost use Rattle.pmem_cli.specs.declared.lines.Found.TheVariants.{Line};
 ghost use Rattle.pmem_cli.specs.Causes.{HasCause};
+ghost use Rattle.pmem_cli.specs.Pieces.{Finds};
 ghost use Rattle.pmem_cli.specs.Pulling.{IsInTime, PullsInTime};
 ghost use Rattle.pmem_cli.specs.Printed.{Prints, PrintsFront, PutsAtLeast, with_waiting};
 ghost use Rattle.pmem_cli.specs.RepliesFirst.{PullsWithinLine};
@@ -20,6 +22,40 @@ use std::alloc::Global;
 
 /// The lines that a trace may have.
 pub(crate) const LINE_LIMIT: u32 = 1_000_000;
+
+/// Answers what was found behind so many lines, and says why the run stops, where it does.
+fn answer_found<W: Serve, K: Sink>(
+    alloc: Global,
+    found: Found,
+    served: u32,
+    line: &[u8],
+    server: &mut W,
+    printer: &mut Printer,
+    out: &mut K,
+) -> Option<Stop>
+    requires within { served < 1000000 }
+    requires short { length line.now ≤ 1024 }
+    requires running { W.protocol.runs server.old }
+    ensures turn { (ahead behind left : Option (List ℕ)) → Finds found ahead behind line.now
+        → Turns W.protocol result ahead behind left server.old server.new
+        (with_waiting (K.put out.old) printer.old) (with_waiting (K.put out.new) printer.new) served }
+    ensures cause { StopsByCause result 0 0 (K.faults out.old) (K.faults out.new) }
+    ensures goes_on { result ≡ None → found ≡ Line }
+{
+    let number = served + 1;
+    match found {
+        Found::End => Some(Stop::Finished),
+        Found::Long => Some(Stop::Refused {
+            number,
+            kind: Kind::Long,
+        }),
+        Found::Line => server.serve_line(alloc, number, line, printer, out),
+        Found::Last => match server.serve_line(alloc, number, line, printer, out) {
+            None => Some(Stop::Finished),
+            Some(stop) => Some(stop),
+        },
+    }
+}
 
 /// Takes and answers the next line, and says why the run stops, where it does: at the limit of lines it looks
 /// for more. No reply waits where that may pull.
@@ -52,19 +88,9 @@ fn answer_next<W: Serve, S: Source, K: Sink>(
             Ok(false) => Some(Stop::TooManyLines),
         };
     }
-    let number = served + 1;
     match reader.next_line(trace, line) {
         Err(Failed) => Some(Stop::ReadFault),
-        Ok(Found::End) => Some(Stop::Finished),
-        Ok(Found::Long) => Some(Stop::Refused {
-            number,
-            kind: Kind::Long,
-        }),
-        Ok(Found::Line) => server.serve_line(alloc, number, line.as_slice(), printer, out),
-        Ok(Found::Last) => match server.serve_line(alloc, number, line.as_slice(), printer, out) {
-            None => Some(Stop::Finished),
-            Some(stop) => Some(stop),
-        },
+        Ok(found) => answer_found(alloc, found, served, line.as_slice(), server, printer, out),
     }
 }
 
@@ -114,21 +140,22 @@ fn serve_next<W: Serve, S: Source, K: Sink>(
 }
 
 /// Answers a trace, and says why the run stops.
-pub(crate) fn serve_all<W: Serve, S: Source, K: Sink>(
+pub(crate) fn serve_all<W: Serve + Drop, S: Source, K: Sink>(
     alloc: Global,
-    server: &mut W,
+    server: W,
     trace: &mut S,
     printer: &mut Printer,
     out: &mut K,
 ) -> Stop
-    requires running { W.protocol.runs server.old }
-    ensures stopped { HasStopped W.protocol result (S.left trace.old) (S.left trace.new) server.old
+    requires running { W.protocol.runs server }
+    ensures stopped { HasStopped W.protocol result (S.left trace.old) (S.left trace.new) server
         (with_waiting (K.put out.old) printer.old) (with_waiting (K.put out.new) printer.new) 0 }
     ensures cause { StopsByCause (Some result) (S.faults trace.old) (S.faults trace.new) (K.faults out.old) (K.faults out.new) }
     ensures in_time { IsInTime (S.pulls trace.old) (S.pulls trace.new) }
-    ensures replies_first { (trace.new ≡ trace.old) ⊎ HasToldFirst W.protocol server.old (S.left trace.old) (S.left_before trace.new)
+    ensures replies_first { (trace.new ≡ trace.old) ⊎ HasToldFirst W.protocol server (S.left trace.old) (S.left_before trace.new)
         (with_waiting (K.put out.old) printer.old) (K.put out.new) }
 {
+    let mut server = server;
     let mut reader = LineReader::new();
     let mut line = ArrayVec::new();
     let mut served = 0;
@@ -138,7 +165,7 @@ pub(crate) fn serve_all<W: Serve, S: Source, K: Sink>(
             served,
             &mut reader,
             &mut line,
-            server,
+            &mut server,
             trace,
             printer,
             out,

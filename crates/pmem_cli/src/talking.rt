@@ -79,8 +79,7 @@ pub(crate) fn talk_trace<T: Talk + Drop, S: Source, K: Sink>(
     ensures replies_first { (trace.new ≡ trace.old) ⊎ HasToldFirst (talk_protocol T.sort_of T.answers T.shows T.wants_memory) session
         (S.left trace.old) (S.left_before trace.new) (with_waiting (K.put out.old) printer.old) (K.put out.new) }
 {
-    let mut talker = Talker { session };
-    serve_all(alloc, &mut talker, trace, printer, out)
+    serve_all(alloc, Talker { session }, trace, printer, out)
 }
 
 /// Answers a trace by a session, prints the last line, and gives the status: each as `run` does with a world.

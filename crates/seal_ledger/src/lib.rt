@@ -9,8 +9,6 @@ ghost use Rattle.seal_ledger.specs.Ledger.{LedgerState, IsSealValue};
 ghost use Rattle.seal_ledger.specs.Notes.{HasRoom, HasMark, HasSameSeals, HasLastSeal, HasMeta, IsFetchNoted, IsUnsealNoted};
 
 mod ledger;
-#[cfg(test)]
-mod tests;
 
 pub use ledger::Ledger;
 use pmem_base::{Ctr, Line, MemFault, Tag};

@@ -3,8 +3,6 @@
 
 mod entries;
 mod mirror;
-#[cfg(test)]
-mod tests;
 
 pub use entries::{entry, named};
 pub use mirror::Mirror;

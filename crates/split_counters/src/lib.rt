@@ -58,6 +58,3 @@ pub fn roll(block: &Block, page: u32) -> Result<Block, Spent>
         None => Err(Spent { page }),
     }
 }
-
-#[cfg(test)]
-mod tests;

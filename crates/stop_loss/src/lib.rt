@@ -88,6 +88,3 @@ fn is_same(first: &Tag, second: &Tag) -> bool
 {
     first == second
 }
-
-#[cfg(test)]
-mod tests;

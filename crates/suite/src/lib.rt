@@ -8,8 +8,6 @@ ghost use Rattle.suite.specs.Formulas.{Formulas, AreInRange};
 mod aes;
 mod ciphers;
 mod shared;
-#[cfg(test)]
-mod tests;
 mod weak;
 
 pub use aes::AesSuite;

@@ -7,7 +7,7 @@ use collision_witness::{push_bytes, push_count, push_counts, push_line, push_tag
 use pmem_base::{Line, Tag};
 
 /// What a command is answered. Steps are the line writes and latches that it took.
-#[derive(Clone, Copy, Debug, PartialEq, Eq)]
+#[derive(Clone, Copy)]
 pub enum TreeAnswer {
     /// A cut is set, power is off, a snapshot is taken, or a device line was changed.
     Ok,

@@ -7,7 +7,7 @@ use collision_witness::{push_bytes, push_count, push_counts, push_line};
 use pmem_base::Line;
 
 /// What a command is answered. Steps are the line writes and latches that it took.
-#[derive(Clone, Copy, Debug, PartialEq, Eq)]
+#[derive(Clone, Copy)]
 pub enum TxnAnswer {
     /// It is done, with no step.
     Ok,

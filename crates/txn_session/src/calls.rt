@@ -43,7 +43,7 @@ pub(crate) struct Called<T> {
 }
 
 /// Why power didn't come on.
-#[derive(Clone, Copy, Debug, PartialEq, Eq)]
+#[derive(Clone, Copy)]
 pub(crate) enum StartFault {
     /// The device wasn't recovered.
     Recovery(RecFault),

@@ -37,7 +37,7 @@ pub(crate) struct Done<T> {
 }
 
 /// Why power didn't come on.
-#[derive(Clone, Copy, Debug, PartialEq, Eq)]
+#[derive(Clone, Copy)]
 pub(crate) enum StartFault {
     /// The device wasn't recovered.
     Recovery(RecFault),

@@ -4,8 +4,6 @@
 mod ports;
 mod queue;
 mod seen;
-#[cfg(test)]
-mod tests;
 
 pub use ports::Ports;
 pub use seen::{Seen, overlay};

@@ -53,9 +53,9 @@ struct Chip {
 }
 
 impl Bench {
-    /// Nothing is sealed yet, for sets of so many ways.
-    fn new(alloc: Global, ways: u8) -> Result<Bench, Fail> {
-        let geo = Geo::new(1, 1, ways, 4, 0)?;
+    /// Nothing is sealed yet, for so many levels and one set of so many ways in each bank.
+    fn new(alloc: Global, levels: u8, ways: u8) -> Result<Bench, Fail> {
+        let geo = Geo::new(levels, 1, ways, 4, 0)?;
         Ok(Bench {
             geo,
             board: MemBoard::new(alloc, geo.size())?,
@@ -204,7 +204,7 @@ impl Bench {
 }
 
 fn formatted(rt: &impl Abort, alloc: Global, opened: bool, ways: u8) -> Result<Chip, Fail> {
-    Bench::new(alloc, ways)?.formatted(rt, alloc, opened)
+    Bench::new(alloc, 1, ways)?.formatted(rt, alloc, opened)
 }
 
 /// Persist steps, reads, tags and digests.

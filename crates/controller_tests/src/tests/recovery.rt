@@ -49,9 +49,9 @@ struct Bench {
     ghost each_sealed: { (a : ℕ) → a < data_lines (shape_of geo) → IsSome (last_seal (ledger_of ledger).marks a) },
 }
 
-/// A new memory.
-fn fresh(alloc: Global, blur: bool, loss: u8) -> Result<Bench, Fail> {
-    let geo = Geo::new(2, 4, 2, loss, 0)?;
+/// A new memory with so many sets and ways in each bank.
+fn fresh_with(alloc: Global, (sets, ways): (u8, u8), blur: bool, loss: u8) -> Result<Bench, Fail> {
+    let geo = Geo::new(2, sets, ways, loss, 0)?;
     let mut board = MemBoard::new(alloc, geo.size())?;
     let mut suite = WeakSuite::new(&[0; 16], &[0x10], blur);
     let mut ledger = Ledger::new(alloc, &geo)?;
@@ -62,6 +62,11 @@ fn fresh(alloc: Global, blur: bool, loss: u8) -> Result<Bench, Fail> {
         suite,
         ledger,
     })
+}
+
+/// A new memory.
+fn fresh(alloc: Global, blur: bool, loss: u8) -> Result<Bench, Fail> {
+    fresh_with(alloc, (4, 2), blur, loss)
 }
 
 /// The device line `at`.

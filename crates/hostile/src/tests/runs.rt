@@ -1,111 +1,19 @@
-//! Traces run by the whole program and answered by a world, a command at a time.
-ghost use Rattle.std.specs.Prelude.{◌≡◌, None, IfOk, OnOk, false, true};
+//! Traces answered by a world, a command at a time.
+ghost use Rattle.std.specs.Prelude.{◌≡◌, IfOk, false, true};
 ghost use Rattle.plain_model.specs.Answers as answers;
 ghost use Rattle.pmem_replay.specs.World.{WorldState};
 ghost use Rattle.trace_text.specs.Answers.{HasSmallMinors};
 
-use super::texts::words_of;
 use arrayvec::ArrayVec;
 use pmem_base::{Answer, Command, Exhibit, Geo};
-use pmem_cli::{Failed, MemSink, MemSource, Sink, Source, run};
 use pmem_replay::World;
 use std::process::Abort;
 use std::test::Fail;
 use suite::{AesSuite, Counted, WeakSuite};
 use trace_text::{push_answer, read_command, write_mark};
 
-/// The number of a call that never comes.
-pub(crate) const NEVER: u64 = 1_000_000_000;
-
-/// Room for the output of every run.
-pub(crate) const PLACES: usize = 400_000;
-
-/// A source over memory that gives a byte a pull.
-#[derive(Drop)]
-struct ByteSource {
-    inner: MemSource,
-}
-
-impl Source for ByteSource {
-    ghost left = { λ source. None };
-
-    ghost faults = { λ source. source.inner.faults };
-
-    ghost pulls = { λ source. source.inner.pulls };
-
-    fn pull(&mut self, buf: &mut [u8]) -> Result<usize, Failed> {
-        let most = buf.len().min(1);
-        self.inner.pull(buf.split_at_mut(most).0)
-    }
-}
-
-/// A sink over memory that takes a byte a push.
-#[derive(Drop)]
-struct ByteSink {
-    inner: MemSink,
-}
-
-impl Sink for ByteSink {
-    ghost put = { λ sink. None };
-
-    ghost faults = { λ sink. sink.inner.faults };
-
-    fn push(&mut self, buf: &[u8]) -> Result<usize, Failed> {
-        self.inner.push(buf.split_at(buf.len().min(1)).0)
-    }
-}
-
-/// Runs the program over memory. Of the pulls and of the pushes those of these numbers fail. Gives the status and
-/// what was put into so many places.
-pub(crate) fn ran<R: AllocGlobal>(
-    rt: &R,
-    words: &str,
-    trace: &[u8],
-    (pull, push): (u64, u64),
-    places: usize,
-) -> Result<(u8, Vec<u8>), Fail> {
-    let alloc = rt.alloc();
-    let mut source = MemSource::new(trace.to_vec(alloc)?, vec![in alloc; pull]?);
-    let mut sink = MemSink::new(vec![in alloc; 0u8; places]?, vec![in alloc; push]?);
-    let words = words_of(alloc, words)?;
-    let status = run(alloc, words.as_slice(), &mut source, &mut sink);
-    Ok((status, sink.put().to_vec(alloc)?))
-}
-
-/// The same a byte at a time.
-pub(crate) fn ran_by_bytes<R: AllocGlobal>(
-    rt: &R,
-    words: &str,
-    trace: &[u8],
-    (pull, push): (u64, u64),
-) -> Result<(u8, Vec<u8>), Fail> {
-    let alloc = rt.alloc();
-    let mut source = ByteSource {
-        inner: MemSource::new(trace.to_vec(alloc)?, vec![in alloc; pull]?),
-    };
-    let mut sink = ByteSink {
-        inner: MemSink::new(vec![in alloc; 0u8; PLACES]?, vec![in alloc; push]?),
-    };
-    let words = words_of(alloc, words)?;
-    let status = run(alloc, words.as_slice(), &mut source, &mut sink);
-    Ok((status, sink.inner.put().to_vec(alloc)?))
-}
-
-/// Compares the status and the output of a run with those that are due.
-pub(crate) fn check_end<R: Abort>(
-    rt: &R,
-    at: &str,
-    found: (u8, Vec<u8>),
-    status: u8,
-    output: &[u8],
-) {
-    let (ended, put) = found;
-    assert_eq!(rt; ended, status, "the status at {at}");
-    assert_eq!(rt; put.as_slice(), output, "the output at {at}");
-}
-
 /// Which suite a run has, the sets and ways of its banks, and its stop-loss number.
-#[derive(Clone, Copy, Debug)]
+#[derive(Clone, Copy)]
 pub(crate) struct Setting {
     suite: Keyed,
     sets: u8,
@@ -114,40 +22,31 @@ pub(crate) struct Setting {
 }
 
 /// A suite under the keys where none is chosen.
-#[derive(Clone, Copy, Debug, PartialEq)]
+#[derive(Clone, Copy, PartialEq)]
 enum Keyed {
     Aes,
     Weak,
     Blur,
 }
 
-pub(crate) const AES: Setting = Setting {
-    suite: Keyed::Aes,
-    sets: 4,
-    ways: 2,
-    loss: 4,
-};
-
-/// One way and one set in each bank.
-pub(crate) const NARROW: Setting = Setting {
-    sets: 1,
-    ways: 1,
-    ..AES
-};
-
-pub(crate) const WEAK: Setting = Setting {
-    suite: Keyed::Weak,
-    ..AES
-};
-
-/// Each write has its counter block in the group.
-pub(crate) const EACH: Setting = Setting { loss: 1, ..WEAK };
-
-pub(crate) const BLUR: Setting = Setting {
-    suite: Keyed::Blur,
-    loss: 2,
-    ..AES
-};
+/// The setting of this name, where there is one: `aes`, `weak` or `blur` for a suite, `narrow` for one way and one set in
+/// each bank, or `each` for the weak suite where each write has its counter block in the group.
+pub(crate) fn setting_of(name: &str) -> Option<Setting> {
+    let (suite, sets, ways, loss) = match name {
+        "aes" => (Keyed::Aes, 4, 2, 4),
+        "narrow" => (Keyed::Aes, 1, 1, 4),
+        "weak" => (Keyed::Weak, 4, 2, 4),
+        "each" => (Keyed::Weak, 4, 2, 1),
+        "blur" => (Keyed::Blur, 4, 2, 2),
+        _ => return None,
+    };
+    Some(Setting {
+        suite,
+        sets,
+        ways,
+        loss,
+    })
+}
 
 /// The words of a run with this setting.
 pub(crate) fn words_with<R: AllocGlobal>(rt: &R, setting: &Setting) -> Result<String, Fail> {

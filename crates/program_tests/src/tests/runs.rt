@@ -1,684 +1,315 @@
 //! Whole runs over memory.
-ghost use Rattle.std.specs.Prelude.{None};
-
 use crate::tests::equal;
-use pmem_cli::{Failed, MemSink, MemSource, Sink, Source, StdSink, StdSource, run};
+use pmem_cli::{StdSink, StdSource, run};
 use sha2::{Digest, Sha256};
-use std::alloc::Global;
 use std::process::Abort;
 use std::test::Fail;
-
-/// The number of a call that never comes.
-pub(crate) const NEVER: u64 = 1_000_000_000;
-
-/// Room for the output of every run.
-pub(crate) const PLACES: usize = 400_000;
-
-/// A source over memory that gives a byte a pull.
-#[derive(Drop)]
-pub(crate) struct ByteSource {
-    pub(crate) inner: MemSource,
-}
-
-impl Source for ByteSource {
-    ghost left = { λ source. None };
-
-    ghost faults = { λ source. source.inner.faults };
-
-    ghost pulls = { λ source. source.inner.pulls };
-
-    fn pull(&mut self, buf: &mut [u8]) -> Result<usize, Failed> {
-        let most = buf.len().min(1);
-        self.inner.pull(buf.split_at_mut(most).0)
-    }
-}
-
-/// A sink over memory that takes a byte a push.
-#[derive(Drop)]
-pub(crate) struct ByteSink {
-    pub(crate) inner: MemSink,
-}
-
-impl Sink for ByteSink {
-    ghost put = { λ sink. None };
-
-    ghost faults = { λ sink. sink.inner.faults };
-
-    fn push(&mut self, buf: &[u8]) -> Result<usize, Failed> {
-        self.inner.push(buf.split_at(buf.len().min(1)).0)
-    }
-}
-
-/// Appends a text several times.
-fn push_times(text: &str, times: u32, bytes: &mut Vec<u8>) -> Result<(), Fail> {
-    for _ in 0..times {
-        bytes.extend_from_slice(text.as_bytes())?;
-    }
-    Ok(())
-}
-
-/// Appends 64 bytes in hex, each one greater than the last.
-fn push_rising<R: AllocGlobal>(rt: &R, first: u8, bytes: &mut Vec<u8>) -> Result<(), Fail> {
-    for more in 0..64_u8 {
-        let digits = format!(in rt.alloc(); "{:02x}", first.wrapping_add(more))?;
-        bytes.extend_from_slice(digits.as_bytes())?;
-    }
-    Ok(())
-}
-
-/// What stands between an opening and a closing sign.
-fn within<'a>(word: &'a str, opening: char, closing: &str) -> Option<&'a str> {
-    word.strip_prefix(opening)?.strip_suffix(closing)
-}
-
-/// Appends one word in shorthand.
-fn push_word<R: AllocGlobal>(rt: &R, word: &str, bytes: &mut Vec<u8>) -> Result<(), Fail> {
-    if let Some(first) = within(word, '[', "..]") {
-        push_rising(rt, u8::from_str_radix(first, 16).unwrap_or(0), bytes)
-    } else if let Some(byte) = within(word, '[', "]") {
-        push_times(byte, 64, bytes)
-    } else if let Some(byte) = within(word, '{', "}") {
-        push_times("0", 30, bytes)?;
-        push_times(byte, 1, bytes)
-    } else if let Some((times, text)) = word.split_once("*") {
-        push_times(text, times.parse::<u32>().unwrap_or(0), bytes)
-    } else {
-        push_times(word, 1, bytes)
-    }
-}
-
-/// Appends one line in shorthand, with its LF.
-fn push_line<R: AllocGlobal>(rt: &R, line: &str, bytes: &mut Vec<u8>) -> Result<(), Fail> {
-    for (number, word) in line.split(' ').enumerate() {
-        if number > 0 {
-            bytes.push(b' ')?;
-        }
-        push_word(rt, word, bytes)?;
-    }
-    bytes.push(b'\n')?;
-    Ok(())
-}
-
-/// Appends a group of lines in shorthand: `3x LINE & LINE` stands for these lines three times, and `-` takes
-/// the last LF away.
-fn push_lines<R: AllocGlobal>(rt: &R, text: &str, bytes: &mut Vec<u8>) -> Result<(), Fail> {
-    if text == "-" {
-        let _ = bytes.pop();
-        return Ok(());
-    }
-    let (times, lines) = match text.split_once("x ") {
-        Some((digits, rest)) => match digits.parse::<u32>() {
-            Ok(times) => (times, rest),
-            Err(_) => (1, text),
-        },
-        None => (1, text),
-    };
-    for _ in 0..times {
-        for line in lines.split(" & ") {
-            push_line(rt, line, bytes)?;
-        }
-    }
-    Ok(())
-}
-
-/// The bytes of so many groups of lines in shorthand, set apart by ` / `. `[aa]` stands for the byte aa 64 times,
-/// `[01..]` for 64 bytes, each one greater than the last, `{51}` for 30 zeros and 51, and `9*ab` for nine times ab.
-fn front_of<R: AllocGlobal>(rt: &R, text: &str, groups: usize) -> Result<Vec<u8>, Fail> {
-    let mut bytes = Vec::new(rt.alloc());
-    if text.is_empty() {
-        return Ok(bytes);
-    }
-    for (number, group) in text.split(" / ").enumerate() {
-        if number < groups {
-            push_lines(rt, group, &mut bytes)?;
-        }
-    }
-    Ok(bytes)
-}
-
-/// The bytes of lines in shorthand.
-pub(crate) fn spelled<R: AllocGlobal>(rt: &R, text: &str) -> Result<Vec<u8>, Fail> {
-    front_of(rt, text, usize::MAX)
-}
-
-/// The words of a command line.
-fn words_of(alloc: Global, line: &str) -> Result<Vec<String>, Fail> {
-    let mut words = Vec::new(alloc);
-    for word in line.split(' ') {
-        if !word.is_empty() {
-            words.push(String::from_str(alloc, word)?)?;
-        }
-    }
-    Ok(words)
-}
-
-/// The command line of a run with these options.
-fn run_with<R: AllocGlobal>(rt: &R, options: &str) -> Result<String, Fail> {
-    Ok(format!(in rt.alloc(); "run {options}")?)
-}
-
-/// Runs the program over memory. Of the pulls and of the pushes those of these numbers fail. Gives the status and
-/// what was put into so many places.
-pub(crate) fn ran<R: AllocGlobal>(
-    rt: &R,
-    words: &str,
-    trace: &[u8],
-    (pull, push): (u64, u64),
-    places: usize,
-) -> Result<(u8, Vec<u8>), Fail> {
-    let alloc = rt.alloc();
-    let mut source = MemSource::new(trace.to_vec(alloc)?, vec![in alloc; pull]?);
-    let mut sink = MemSink::new(vec![in alloc; 0u8; places]?, vec![in alloc; push]?);
-    let words = words_of(alloc, words)?;
-    let status = run(alloc, words.as_slice(), &mut source, &mut sink);
-    Ok((status, sink.put().to_vec(alloc)?))
-}
-
-/// The same a byte at a time.
-fn ran_by_bytes<R: AllocGlobal>(
-    rt: &R,
-    words: &str,
-    trace: &[u8],
-    (pull, push): (u64, u64),
-) -> Result<(u8, Vec<u8>), Fail> {
-    let alloc = rt.alloc();
-    let mut source = ByteSource {
-        inner: MemSource::new(trace.to_vec(alloc)?, vec![in alloc; pull]?),
-    };
-    let mut sink = ByteSink {
-        inner: MemSink::new(vec![in alloc; 0u8; PLACES]?, vec![in alloc; push]?),
-    };
-    let words = words_of(alloc, words)?;
-    let status = run(alloc, words.as_slice(), &mut source, &mut sink);
-    Ok((status, sink.inner.put().to_vec(alloc)?))
-}
-
-/// Compares the status and the output of a run with those that are due.
-pub(crate) fn check_end<R: Abort>(
-    rt: &R,
-    at: &str,
-    found: (u8, Vec<u8>),
-    status: u8,
-    output: &[u8],
-) {
-    let (ended, put) = found;
-    assert_eq!(rt; ended, status, "the status at {at}");
-    assert_eq!(rt; put.as_slice(), output, "the output at {at}");
-}
-
-/// Whether this was put, or where the output begins with `..` ends so.
-fn is_output<R: AllocGlobal>(rt: &R, output: &str, put: &[u8]) -> Result<bool, Fail> {
-    match output.strip_prefix(".. / ") {
-        Some(end) => Ok(put.ends_with(spelled(rt, end)?.as_slice())),
-        None => Ok(put == spelled(rt, output)?.as_slice()),
-    }
-}
-
-/// A worked trace: the words behind `run`, the trace, the status, and the output, or where it begins with `..`
-/// the end of it.
-fn check_run<R: Abort + AllocGlobal>(
-    rt: &R,
-    options: &str,
-    trace: &str,
-    status: u8,
-    output: &str,
-) -> Result<(), Fail> {
-    let words = run_with(rt, options)?;
-    let given = spelled(rt, trace)?;
-    let (ended, put) = ran(rt, words.as_str(), given.as_slice(), (NEVER, NEVER), PLACES)?;
-    assert_eq!(rt; ended, status, "the status of {trace}");
-    let is_as_worked = is_output(rt, output, put.as_slice())?;
-    assert!(rt; is_as_worked, "the output of {trace}");
-    Ok(())
-}
+use test_support::{
+    NEVER, PLACES, check_end, check_faults, check_rows, ran, row_of, spelled, words_of,
+};
 
 #[test]
 fn answers_traces(rt: HostRuntime) -> Result<(), Fail> {
-    check_run(&rt, "", "", 0, "")?;
-    check_run(&rt, "", "read 0 0", 0, "line [00] 0")?;
-    check_run(
+    check_rows(
         &rt,
-        "--suite weak",
-        "post 0 3 [aa] / read 0 3 / read 1 3",
-        0,
-        "ok / line [aa] 0 / line [00] 0",
-    )?;
-    check_run(
-        &rt,
-        "",
-        "17x post 2 0 [00] / drain 5",
-        0,
-        "16x ok / full / empty",
-    )?;
-    check_run(
-        &rt,
-        "--suite weak",
-        "peek 0 / post 0 0 [00] / drain 0 / peek 0 / peek 1024 / stat",
-        0,
-        "raw [00..] / ok / seal 0 0.1 {51} / ok 7 / raw [01..] / raw 00000000000000000000000000000051000000000000000000000000000000510000000000000000000000000000001200000000000000000000000000000053 / stat 4 5 2 1 6",
-    )?;
-    check_run(
-        &rt,
-        "--suite weak",
-        "post 0 0 [11] / cut 0 / drain 0 / on / read 0 0",
-        0,
-        "ok / ok / cut lost 0 / on 0 1 0 / line [00] 0",
-    )?;
-    check_run(
-        &rt,
-        "--suite weak",
-        "post 0 0 [11] / cut 4 / drain 0 / on / read 0 0",
-        0,
-        "ok / ok / seal 0 0.1 {51} / cut kept 4 / on 256 9 8 / line [11] 0",
-    )?;
-    check_run(
-        &rt,
-        "--suite weak",
-        "post 0 0 [11] / cut 3 / drain 0 / on / read 0 0",
-        0,
-        "ok / ok / cut lost 3 / on 256 9 2 / line [00] 0",
-    )?;
-    check_run(
-        &rt,
-        "--suite weak",
-        "post 0 0 [11] / cut 4 / drain 0 / cut 3 / on / on / read 0 0 / post 0 0 [11] / drain 0",
-        0,
-        "ok / ok / seal 0 0.1 {51} / cut kept 4 / ok / cut 3 / on 256 9 5 / line [11] 0 / ok / seal 0 0.2 {12} / ok 7",
-    )?;
-    check_run(
-        &rt,
-        "--suite weak",
-        "post 0 0 [00] / drain 0 / post 0 0 [00] / drain 0 / post 0 0 [00] / drain 0 / off / on / post 0 0 [00] / drain 0",
-        0,
-        "ok / seal 0 0.1 {51} / ok 7 / ok / seal 0 0.2 {12} / ok 4 / ok / seal 0 0.3 {53} / ok 4 / ok / on 256 9 5 / ok / seal 0 0.4 {14} / ok 8",
-    )?;
-    check_run(
-        &rt,
-        "--suite weak",
-        "128x post 0 0 [00] & drain 0 / 64x turn",
-        0,
-        ".. / ok 3 4 / seal 61 1.0 {2c} / ok 2 4 / seal 62 1.0 {6f} / ok 1 4 / seal 63 1.0 {2e} / ok 0 4 / idle",
-    )?;
-    check_run(
-        &rt,
-        "--suite weak",
-        "128x post 0 0 [00] & drain 0 / turn / post 0 5 [55] / drain 0 / cut 0 / turn / on / read 0 1 / read 0 2 / read 0 5 / turn",
-        0,
-        ".. / ok / cut 0 / on 12 9 5 / line [00] 0 / line [00] 0 / line [55] 0 / seal 2 1.0 {53} / ok 60 4",
-    )?;
-    check_run(
-        &rt,
-        "--suite weak",
-        "flip 5 0 / read 0 5 / post 0 5 [77] / drain 0 / read 0 5",
-        0,
-        "ok / refused data 5 0 / ok / seal 5 0.1 {14} / ok 7 / line [77] 0",
-    )?;
-    check_run(
-        &rt,
-        "--suite weak",
-        "snap / post 0 0 [00] / drain 0 / 4x flush / back 0 / back 1024 / back 1285 / off / on",
-        0,
-        "ok / ok / seal 0 0.1 {51} / ok 7 / ok 0 1 / ok 1 1 / ok 5 1 / clean / 4x ok / refused root {17} {15} 0",
-    )?;
-    check_run(
-        &rt,
-        "--suite weak",
-        "flip 5 0 / flip 5 8 / read 0 5",
-        6,
-        "ok / ok / forged 5 0.0 04070708090a0b0c0d0e0f101112131415161718191a1b1c1d1e1f202122232425262728292a2b2c2d2e2f303132333435363738393a3b3c3d3e3f4041424344 {55}",
-    )?;
-    check_run(
-        &rt,
-        "--suite weak --major 1",
-        "poke 1285 01000000000000000000000000000000000000000000000000000000000000000000000000000000000000000000000000000000000000000000000000000000 / read 0 0",
-        6,
-        "ok / clash 5 01000000000000000000000000000000000000000000000000000000000000000000000000000000000000000000000000000000000000000000000000000000 00000000000000010000000000000000000000000000000000000000000000000000000000000000000000000000000000000000000000000000000000000000",
-    )?;
-    check_run(
-        &rt,
-        "--suite blur --loss 2",
-        "post 0 0 [00] / drain 0 / off / on",
-        6,
-        "ok / seal 0 0.1 {50} / ok 7 / ok / twin 0 0 0 1 [01..] {50}",
-    )?;
-    Ok(())
+        "
+        run
+        -
+        0: -
+
+        run
+        read 0 0
+        0: line [00] 0
+
+        run --suite weak
+        post 0 3 [aa] / read 0 3 / read 1 3
+        0: ok / line [aa] 0 / line [00] 0
+
+        run
+        17x post 2 0 [00] / drain 5
+        0: 16x ok / full / empty
+
+        run --suite weak
+        peek 0 / post 0 0 [00] / drain 0 / peek 0 / peek 1024 / stat
+        0: raw [00..] / ok / seal 0 0.1 {51} / ok 7 / raw [01..] / raw 00000000000000000000000000000051000000000000000000000000000000510000000000000000000000000000001200000000000000000000000000000053 / stat 4 5 2 1 6
+
+        run --suite weak
+        post 0 0 [11] / cut 0 / drain 0 / on / read 0 0
+        0: ok / ok / cut lost 0 / on 0 1 0 / line [00] 0
+
+        run --suite weak
+        post 0 0 [11] / cut 4 / drain 0 / on / read 0 0
+        0: ok / ok / seal 0 0.1 {51} / cut kept 4 / on 256 9 8 / line [11] 0
+
+        run --suite weak
+        post 0 0 [11] / cut 3 / drain 0 / on / read 0 0
+        0: ok / ok / cut lost 3 / on 256 9 2 / line [00] 0
+
+        run --suite weak
+        post 0 0 [11] / cut 4 / drain 0 / cut 3 / on / on / read 0 0 / post 0 0 [11] / drain 0
+        0: ok / ok / seal 0 0.1 {51} / cut kept 4 / ok / cut 3 / on 256 9 5 / line [11] 0 / ok / seal 0 0.2 {12} / ok 7
+
+        run --suite weak
+        post 0 0 [00] / drain 0 / post 0 0 [00] / drain 0 / post 0 0 [00] / drain 0 / off / on / post 0 0 [00] / drain 0
+        0: ok / seal 0 0.1 {51} / ok 7 / ok / seal 0 0.2 {12} / ok 4 / ok / seal 0 0.3 {53} / ok 4 / ok / on 256 9 5 / ok / seal 0 0.4 {14} / ok 8
+
+        run --suite weak
+        128x post 0 0 [00] & drain 0 / 64x turn
+        0: .. / ok 3 4 / seal 61 1.0 {2c} / ok 2 4 / seal 62 1.0 {6f} / ok 1 4 / seal 63 1.0 {2e} / ok 0 4 / idle
+
+        run --suite weak
+        128x post 0 0 [00] & drain 0 / turn / post 0 5 [55] / drain 0 / cut 0 / turn / on / read 0 1 / read 0 2 / read 0 5 / turn
+        0: .. / ok / cut 0 / on 12 9 5 / line [00] 0 / line [00] 0 / line [55] 0 / seal 2 1.0 {53} / ok 60 4
+
+        run --suite weak
+        flip 5 0 / read 0 5 / post 0 5 [77] / drain 0 / read 0 5
+        0: ok / refused data 5 0 / ok / seal 5 0.1 {14} / ok 7 / line [77] 0
+
+        run --suite weak
+        snap / post 0 0 [00] / drain 0 / 4x flush / back 0 / back 1024 / back 1285 / off / on
+        0: ok / ok / seal 0 0.1 {51} / ok 7 / ok 0 1 / ok 1 1 / ok 5 1 / clean / 4x ok / refused root {17} {15} 0
+
+        run --suite weak
+        flip 5 0 / flip 5 8 / read 0 5
+        6: ok / ok / forged 5 0.0 04070708090a0b0c0d0e0f101112131415161718191a1b1c1d1e1f202122232425262728292a2b2c2d2e2f303132333435363738393a3b3c3d3e3f4041424344 {55}
+
+        run --suite weak --major 1
+        poke 1285 01000000000000000000000000000000000000000000000000000000000000000000000000000000000000000000000000000000000000000000000000000000 / read 0 0
+        6: ok / clash 5 01000000000000000000000000000000000000000000000000000000000000000000000000000000000000000000000000000000000000000000000000000000 00000000000000010000000000000000000000000000000000000000000000000000000000000000000000000000000000000000000000000000000000000000
+
+        run --suite blur --loss 2
+        post 0 0 [00] / drain 0 / off / on
+        6: ok / seal 0 0.1 {50} / ok 7 / ok / twin 0 0 0 1 [01..] {50}",
+    )
 }
 
 #[test]
 fn answers_traces_that_are_cut_at_each_step(rt: HostRuntime) -> Result<(), Fail> {
-    check_run(
+    check_rows(
         &rt,
-        "--suite weak --sets 1 --ways 1 --levels 3",
-        "post 0 0 [00] / drain 0 / post 0 4032 [00] / drain 0 / post 0 0 [99] / drain 0",
-        0,
-        "ok / seal 0 0.1 {51} / ok 8 / ok / seal 4032 0.1 {1e} / ok 10 / ok / seal 0 0.2 {12} / ok 10",
-    )?;
-    check_run(
-        &rt,
-        "--suite weak --sets 1 --ways 1 --levels 3",
-        "post 0 0 [00] / drain 0 / post 0 4032 [00] / drain 0 / post 0 0 [99] / cut 0 / drain 0 / on / read 0 4032 / read 0 0",
-        0,
-        "ok / seal 0 0.1 {51} / ok 8 / ok / seal 4032 0.1 {1e} / ok 10 / ok / ok / cut lost 0 / on 256 13 6 / line [00] 0 / line [00] 0",
-    )?;
-    check_run(
-        &rt,
-        "--suite weak --sets 1 --ways 1 --levels 3",
-        "post 0 0 [00] / drain 0 / post 0 4032 [00] / drain 0 / post 0 0 [99] / cut 1 / drain 0 / on / read 0 4032 / read 0 0",
-        0,
-        "ok / seal 0 0.1 {51} / ok 8 / ok / seal 4032 0.1 {1e} / ok 10 / ok / ok / cut lost 1 / on 256 13 5 / line [00] 0 / line [00] 0",
-    )?;
-    check_run(
-        &rt,
-        "--suite weak --sets 1 --ways 1 --levels 3",
-        "post 0 0 [00] / drain 0 / post 0 4032 [00] / drain 0 / post 0 0 [99] / cut 2 / drain 0 / on / read 0 4032 / read 0 0",
-        0,
-        "ok / seal 0 0.1 {51} / ok 8 / ok / seal 4032 0.1 {1e} / ok 10 / ok / ok / cut lost 2 / on 256 13 4 / line [00] 0 / line [00] 0",
-    )?;
-    check_run(
-        &rt,
-        "--suite weak --sets 1 --ways 1 --levels 3",
-        "post 0 0 [00] / drain 0 / post 0 4032 [00] / drain 0 / post 0 0 [99] / cut 3 / drain 0 / on / read 0 4032 / read 0 0",
-        0,
-        "ok / seal 0 0.1 {51} / ok 8 / ok / seal 4032 0.1 {1e} / ok 10 / ok / ok / cut lost 3 / on 255 13 3 / line [00] 0 / line [00] 0",
-    )?;
-    check_run(
-        &rt,
-        "--suite weak --sets 1 --ways 1 --levels 3",
-        "post 0 0 [00] / drain 0 / post 0 4032 [00] / drain 0 / post 0 0 [99] / cut 4 / drain 0 / on / read 0 4032 / read 0 0",
-        0,
-        "ok / seal 0 0.1 {51} / ok 8 / ok / seal 4032 0.1 {1e} / ok 10 / ok / ok / cut lost 4 / on 255 13 3 / line [00] 0 / line [00] 0",
-    )?;
-    check_run(
-        &rt,
-        "--suite weak --sets 1 --ways 1 --levels 3",
-        "post 0 0 [00] / drain 0 / post 0 4032 [00] / drain 0 / post 0 0 [99] / cut 5 / drain 0 / on / read 0 4032 / read 0 0",
-        0,
-        "ok / seal 0 0.1 {51} / ok 8 / ok / seal 4032 0.1 {1e} / ok 10 / ok / ok / cut lost 5 / on 255 13 3 / line [00] 0 / line [00] 0",
-    )?;
-    check_run(
-        &rt,
-        "--suite weak --sets 1 --ways 1 --levels 3",
-        "post 0 0 [00] / drain 0 / post 0 4032 [00] / drain 0 / post 0 0 [99] / cut 6 / drain 0 / on / read 0 4032 / read 0 0",
-        0,
-        "ok / seal 0 0.1 {51} / ok 8 / ok / seal 4032 0.1 {1e} / ok 10 / ok / ok / cut lost 6 / on 255 13 3 / line [00] 0 / line [00] 0",
-    )?;
-    check_run(
-        &rt,
-        "--suite weak --sets 1 --ways 1 --levels 3",
-        "post 0 0 [00] / drain 0 / post 0 4032 [00] / drain 0 / post 0 0 [99] / cut 7 / drain 0 / on / read 0 4032 / read 0 0",
-        0,
-        "ok / seal 0 0.1 {51} / ok 8 / ok / seal 4032 0.1 {1e} / ok 10 / ok / ok / seal 0 0.2 {12} / cut kept 7 / on 255 13 9 / line [00] 0 / line [99] 0",
-    )?;
-    check_run(
-        &rt,
-        "--suite weak --sets 1 --ways 1 --levels 3",
-        "post 0 0 [00] / drain 0 / post 0 4032 [00] / drain 0 / post 0 0 [99] / cut 8 / drain 0 / on / read 0 4032 / read 0 0",
-        0,
-        "ok / seal 0 0.1 {51} / ok 8 / ok / seal 4032 0.1 {1e} / ok 10 / ok / ok / seal 0 0.2 {12} / cut kept 8 / on 255 13 9 / line [00] 0 / line [99] 0",
-    )?;
-    check_run(
-        &rt,
-        "--suite weak --sets 1 --ways 1 --levels 3",
-        "post 0 0 [00] / drain 0 / post 0 4032 [00] / drain 0 / post 0 0 [99] / cut 9 / drain 0 / on / read 0 4032 / read 0 0",
-        0,
-        "ok / seal 0 0.1 {51} / ok 8 / ok / seal 4032 0.1 {1e} / ok 10 / ok / ok / seal 0 0.2 {12} / cut kept 9 / on 255 13 9 / line [00] 0 / line [99] 0",
-    )?;
-    check_run(
-        &rt,
-        "--suite weak --sets 1 --ways 1 --levels 3",
-        "post 0 0 [00] / drain 0 / post 0 4032 [00] / drain 0 / post 0 0 [99] / cut 10 / drain 0",
-        0,
-        "ok / seal 0 0.1 {51} / ok 8 / ok / seal 4032 0.1 {1e} / ok 10 / ok / ok / seal 0 0.2 {12} / ok 10",
-    )?;
-    Ok(())
+        "
+        run --suite weak --sets 1 --ways 1 --levels 3
+        post 0 0 [00] / drain 0 / post 0 4032 [00] / drain 0 / post 0 0 [99] / drain 0
+        0: ok / seal 0 0.1 {51} / ok 8 / ok / seal 4032 0.1 {1e} / ok 10 / ok / seal 0 0.2 {12} / ok 10
+
+        run --suite weak --sets 1 --ways 1 --levels 3
+        post 0 0 [00] / drain 0 / post 0 4032 [00] / drain 0 / post 0 0 [99] / cut 0 / drain 0 / on / read 0 4032 / read 0 0
+        0: ok / seal 0 0.1 {51} / ok 8 / ok / seal 4032 0.1 {1e} / ok 10 / ok / ok / cut lost 0 / on 256 13 6 / line [00] 0 / line [00] 0
+
+        run --suite weak --sets 1 --ways 1 --levels 3
+        post 0 0 [00] / drain 0 / post 0 4032 [00] / drain 0 / post 0 0 [99] / cut 1 / drain 0 / on / read 0 4032 / read 0 0
+        0: ok / seal 0 0.1 {51} / ok 8 / ok / seal 4032 0.1 {1e} / ok 10 / ok / ok / cut lost 1 / on 256 13 5 / line [00] 0 / line [00] 0
+
+        run --suite weak --sets 1 --ways 1 --levels 3
+        post 0 0 [00] / drain 0 / post 0 4032 [00] / drain 0 / post 0 0 [99] / cut 2 / drain 0 / on / read 0 4032 / read 0 0
+        0: ok / seal 0 0.1 {51} / ok 8 / ok / seal 4032 0.1 {1e} / ok 10 / ok / ok / cut lost 2 / on 256 13 4 / line [00] 0 / line [00] 0
+
+        run --suite weak --sets 1 --ways 1 --levels 3
+        post 0 0 [00] / drain 0 / post 0 4032 [00] / drain 0 / post 0 0 [99] / cut 3 / drain 0 / on / read 0 4032 / read 0 0
+        0: ok / seal 0 0.1 {51} / ok 8 / ok / seal 4032 0.1 {1e} / ok 10 / ok / ok / cut lost 3 / on 255 13 3 / line [00] 0 / line [00] 0
+
+        run --suite weak --sets 1 --ways 1 --levels 3
+        post 0 0 [00] / drain 0 / post 0 4032 [00] / drain 0 / post 0 0 [99] / cut 4 / drain 0 / on / read 0 4032 / read 0 0
+        0: ok / seal 0 0.1 {51} / ok 8 / ok / seal 4032 0.1 {1e} / ok 10 / ok / ok / cut lost 4 / on 255 13 3 / line [00] 0 / line [00] 0
+
+        run --suite weak --sets 1 --ways 1 --levels 3
+        post 0 0 [00] / drain 0 / post 0 4032 [00] / drain 0 / post 0 0 [99] / cut 5 / drain 0 / on / read 0 4032 / read 0 0
+        0: ok / seal 0 0.1 {51} / ok 8 / ok / seal 4032 0.1 {1e} / ok 10 / ok / ok / cut lost 5 / on 255 13 3 / line [00] 0 / line [00] 0
+
+        run --suite weak --sets 1 --ways 1 --levels 3
+        post 0 0 [00] / drain 0 / post 0 4032 [00] / drain 0 / post 0 0 [99] / cut 6 / drain 0 / on / read 0 4032 / read 0 0
+        0: ok / seal 0 0.1 {51} / ok 8 / ok / seal 4032 0.1 {1e} / ok 10 / ok / ok / cut lost 6 / on 255 13 3 / line [00] 0 / line [00] 0
+
+        run --suite weak --sets 1 --ways 1 --levels 3
+        post 0 0 [00] / drain 0 / post 0 4032 [00] / drain 0 / post 0 0 [99] / cut 7 / drain 0 / on / read 0 4032 / read 0 0
+        0: ok / seal 0 0.1 {51} / ok 8 / ok / seal 4032 0.1 {1e} / ok 10 / ok / ok / seal 0 0.2 {12} / cut kept 7 / on 255 13 9 / line [00] 0 / line [99] 0
+
+        run --suite weak --sets 1 --ways 1 --levels 3
+        post 0 0 [00] / drain 0 / post 0 4032 [00] / drain 0 / post 0 0 [99] / cut 8 / drain 0 / on / read 0 4032 / read 0 0
+        0: ok / seal 0 0.1 {51} / ok 8 / ok / seal 4032 0.1 {1e} / ok 10 / ok / ok / seal 0 0.2 {12} / cut kept 8 / on 255 13 9 / line [00] 0 / line [99] 0
+
+        run --suite weak --sets 1 --ways 1 --levels 3
+        post 0 0 [00] / drain 0 / post 0 4032 [00] / drain 0 / post 0 0 [99] / cut 9 / drain 0 / on / read 0 4032 / read 0 0
+        0: ok / seal 0 0.1 {51} / ok 8 / ok / seal 4032 0.1 {1e} / ok 10 / ok / ok / seal 0 0.2 {12} / cut kept 9 / on 255 13 9 / line [00] 0 / line [99] 0
+
+        run --suite weak --sets 1 --ways 1 --levels 3
+        post 0 0 [00] / drain 0 / post 0 4032 [00] / drain 0 / post 0 0 [99] / cut 10 / drain 0
+        0: ok / seal 0 0.1 {51} / ok 8 / ok / seal 4032 0.1 {1e} / ok 10 / ok / ok / seal 0 0.2 {12} / ok 10",
+    )
 }
 
 #[test]
 fn answers_traces_that_are_stopped_or_refused(rt: HostRuntime) -> Result<(), Fail> {
-    check_run(
+    check_rows(
         &rt,
-        "--suite weak",
-        "post 0 0 [00] / drain 0 / off / snap / poke 1301 [00] / poke 1302 [00] / on / back 1301 / back 1302 / on / read 0 0",
-        0,
-        "ok / seal 0 0.1 {51} / ok 7 / 4x ok / refused root {17} {15} 0 / ok / ok / on 256 9 5 / line [00] 0",
-    )?;
-    check_run(
-        &rt,
-        "--major 18446744073709551615",
-        "128x post 0 0 [33] & drain 0 / drain 0 / read 0 0",
-        0,
-        ".. / ok 4 / ok / seal 0 18446744073709551615.127 d4c1fe8561113d75dda9d546e4ee804e / ok 4 / ok / spent 0 0 / empty / line [33] 0",
-    )?;
-    check_run(&rt, "", "read 8 0", 5, "stop line 1 4")?;
-    check_run(&rt, "", "post 0 0 127*0", 5, "stop line 1 5")?;
-    check_run(&rt, "", "1025*a", 5, "stop line 1 6")?;
-    check_run(
-        &rt,
-        "",
-        "read 0 0 / reed 0 0",
-        5,
-        "line [00] 0 / stop line 2 1",
-    )?;
-    check_run(&rt, "", "read 0 1024", 0, "range")?;
-    check_run(
-        &rt,
-        "",
-        "flush / post 7 357 [78] / flush / read 6 129 / drain 1 / stat",
-        0,
-        "clean / ok / clean / line [00] 0 / empty / stat 5 0 0 1 3",
-    )?;
-    check_run(
-        &rt,
-        "--suite weak",
-        "post 3 0 [00] / post 3 64 [00] / post 3 0 [22] / fence 3 / fence 3",
-        0,
-        "ok / ok / ok / seal 0 0.1 {51} / seal 64 0.1 {91} / seal 0 0.2 {12} / ok 3 16 / ok 0 0",
-    )?;
-    check_run(
-        &rt,
-        "",
-        "back 0 / poke 1303 [00] / flip 0 512 / on / turn / flush / off / off / read 0 0 / stat",
-        0,
-        "none / range / range / already / idle / clean / ok / off / off / stat 0 0 0 0 0",
-    )?;
-    check_run(
-        &rt,
-        "--suite weak",
-        "flip 1281 0 / read 0 0 / read 0 256",
-        0,
-        "ok / refused meta 1 0 / line [00] 0",
-    )?;
-    check_run(
-        &rt,
-        "--suite weak",
-        "post 0 0 [00] / drain 0 / off / flip 0 7 / on / flip 0 7 / on",
-        0,
-        "ok / seal 0 0.1 {51} / ok 7 / ok / ok / refused counter 0 0 / ok / on 256 9 5",
-    )?;
-    check_run(
-        &rt,
-        "",
-        "# note\r / \r /   read\t0  0\r / stat / -",
-        0,
-        "line [00] 0 / stat 5 0 0 1 3",
-    )?;
-    check_run(
-        &rt,
-        "--suite weak",
-        "flip 5 0 / flip 5 0 / read 0 5",
-        0,
-        "ok / ok / line [00] 0",
-    )?;
-    check_run(&rt, "", "17x post 0 0 [00]", 0, "16x ok / full")?;
-    check_run(
-        &rt,
-        "--levels 6",
-        "read 0 262143 / read 0 262144",
-        0,
-        "line [00] 0 / range",
-    )?;
-    check_run(
-        &rt,
-        "--suite weak",
-        "snap / post 0 0 [00] / drain 0 / back 0 / back 1024 / back 1285 / off / on / read 0 0",
-        0,
-        "ok / ok / seal 0 0.1 {51} / ok 7 / 4x ok / refused root {17} {15} 0 / off",
-    )?;
-    Ok(())
+        "
+        run --suite weak
+        post 0 0 [00] / drain 0 / off / snap / poke 1301 [00] / poke 1302 [00] / on / back 1301 / back 1302 / on / read 0 0
+        0: ok / seal 0 0.1 {51} / ok 7 / 4x ok / refused root {17} {15} 0 / ok / ok / on 256 9 5 / line [00] 0
+
+        run --major 18446744073709551615
+        128x post 0 0 [33] & drain 0 / drain 0 / read 0 0
+        0: .. / ok 4 / ok / seal 0 18446744073709551615.127 d4c1fe8561113d75dda9d546e4ee804e / ok 4 / ok / spent 0 0 / empty / line [33] 0
+
+        run
+        read 8 0
+        5: stop line 1 4
+
+        run
+        post 0 0 127*0
+        5: stop line 1 5
+
+        run
+        1025*a
+        5: stop line 1 6
+
+        run
+        read 0 0 / reed 0 0
+        5: line [00] 0 / stop line 2 1
+
+        run
+        read 0 1024
+        0: range
+
+        run
+        flush / post 7 357 [78] / flush / read 6 129 / drain 1 / stat
+        0: clean / ok / clean / line [00] 0 / empty / stat 5 0 0 1 3
+
+        run --suite weak
+        post 3 0 [00] / post 3 64 [00] / post 3 0 [22] / fence 3 / fence 3
+        0: ok / ok / ok / seal 0 0.1 {51} / seal 64 0.1 {91} / seal 0 0.2 {12} / ok 3 16 / ok 0 0
+
+        run
+        back 0 / poke 1303 [00] / flip 0 512 / on / turn / flush / off / off / read 0 0 / stat
+        0: none / range / range / already / idle / clean / ok / off / off / stat 0 0 0 0 0
+
+        run --suite weak
+        flip 1281 0 / read 0 0 / read 0 256
+        0: ok / refused meta 1 0 / line [00] 0
+
+        run --suite weak
+        post 0 0 [00] / drain 0 / off / flip 0 7 / on / flip 0 7 / on
+        0: ok / seal 0 0.1 {51} / ok 7 / ok / ok / refused counter 0 0 / ok / on 256 9 5
+
+        run
+        # note\r / \r /   read\t0  0\r / stat / -
+        0: line [00] 0 / stat 5 0 0 1 3
+
+        run --suite weak
+        flip 5 0 / flip 5 0 / read 0 5
+        0: ok / ok / line [00] 0
+
+        run
+        17x post 0 0 [00]
+        0: 16x ok / full
+
+        run --levels 6
+        read 0 262143 / read 0 262144
+        0: line [00] 0 / range
+
+        run --suite weak
+        snap / post 0 0 [00] / drain 0 / back 0 / back 1024 / back 1285 / off / on / read 0 0
+        0: ok / ok / seal 0 0.1 {51} / ok 7 / 4x ok / refused root {17} {15} 0 / off",
+    )
 }
 
 #[test]
 fn answers_traces_of_recoveries_and_parts(rt: HostRuntime) -> Result<(), Fail> {
-    check_run(
+    check_rows(
         &rt,
-        "--suite weak",
-        "read 0 0 / stat / read 0 1 / stat",
-        0,
-        "line [00] 0 / stat 5 0 0 1 3 / line [00] 0 / stat 7 0 0 2 3",
-    )?;
-    check_run(
-        &rt,
-        "--suite weak",
-        "post 0 0 [00] / drain 0 / flush / flush / flush",
-        0,
-        "ok / seal 0 0.1 {51} / ok 7 / ok 0 1 / ok 1 1 / ok 5 1",
-    )?;
-    check_run(
-        &rt,
-        "--suite weak",
-        "post 0 0 [00] / drain 0 / off / flip 1024 127 / on",
-        0,
-        "ok / seal 0 0.1 {51} / ok 7 / ok / ok / refused counter 0 0",
-    )?;
-    check_run(
-        &rt,
-        "--suite weak",
-        "post 0 0 [00] / drain 0 / off / flip 1024 120 / on",
-        0,
-        "ok / seal 0 0.1 {51} / ok 7 / ok / ok / refused root {17} {15} 0",
-    )?;
-    check_run(
-        &rt,
-        "--suite weak",
-        "post 0 0 [00] / drain 0 / off / flip 1285 0 / on",
-        0,
-        "ok / seal 0 0.1 {51} / ok 7 / ok / ok / refused root {17} {16} 0",
-    )?;
-    check_run(
-        &rt,
-        "--suite weak",
-        "post 0 0 [00] / drain 0 / off / flip 1281 0 / on",
-        0,
-        "ok / seal 0 0.1 {51} / ok 7 / ok / ok / on 256 9 5",
-    )?;
-    check_run(
-        &rt,
-        "--suite weak",
-        "post 0 0 [00] / drain 0 / off / flip 1282 0 / on",
-        0,
-        "ok / seal 0 0.1 {51} / ok 7 / ok / ok / refused root {17} {16} 0",
-    )?;
-    check_run(
-        &rt,
-        "--suite weak",
-        "post 0 0 [00] / drain 0 / off / poke 1301 [00] / on",
-        0,
-        "ok / seal 0 0.1 {51} / ok 7 / ok / ok / refused root {17} {15} 0",
-    )?;
-    check_run(
-        &rt,
-        "--suite weak",
-        "post 0 0 [00] / drain 0 / off / poke 1302 [00] / on",
-        0,
-        "ok / seal 0 0.1 {51} / ok 7 / ok / ok / refused root {17} {15} 0",
-    )?;
-    check_run(
-        &rt,
-        "--suite weak",
-        "post 0 0 [00] / drain 0 / off / move 2 0 / on",
-        0,
-        "ok / seal 0 0.1 {51} / ok 7 / ok / ok / refused counter 0 0",
-    )?;
-    check_run(
-        &rt,
-        "--suite weak",
-        "post 0 0 [00] / drain 0 / off / move 1 0 / on",
-        0,
-        "ok / seal 0 0.1 {51} / ok 7 / ok / ok / on 256 9 5",
-    )?;
-    check_run(
-        &rt,
-        "--suite weak",
-        "post 0 0 [11] / cut 4 / drain 0 / poke 0 [ff] / on / read 0 0",
-        0,
-        "ok / ok / seal 0 0.1 {51} / cut kept 4 / ok / on 256 9 8 / line [11] 0",
-    )?;
-    check_run(
-        &rt,
-        "--suite weak",
-        "flip 1024 0 / read 0 0",
-        0,
-        "ok / refused data 0 0",
-    )?;
-    check_run(
-        &rt,
-        "--suite weak",
-        "post 0 0 [00] / drain 0 / flip 1285 0 / read 0 0",
-        0,
-        "ok / seal 0 0.1 {51} / ok 7 / ok / line [00] 0",
-    )?;
-    check_run(
-        &rt,
-        "--suite weak",
-        "post 0 0 [11] / drain 0 / part 0 0 2 aabb / read 0 0 / drain 0 / read 0 0",
-        0,
-        "ok / seal 0 0.1 {51} / ok 7 / ok / line 1111aabb111111111111111111111111111111111111111111111111111111111111111111111111111111111111111111111111111111111111111111111111 0 / seal 0 0.2 {03} / ok 4 / line 1111aabb111111111111111111111111111111111111111111111111111111111111111111111111111111111111111111111111111111111111111111111111 0",
-    )?;
-    check_run(
-        &rt,
-        "--suite weak",
-        "flip 0 0 / part 0 0 0 ff / read 0 0 / drain 0 / read 0 0",
-        0,
-        "ok / ok / refused data 0 0 / refused data 0 0 / refused data 0 0",
-    )?;
-    check_run(&rt, "--suite weak", "part 0 0 60 0011223344", 0, "range")?;
-    check_run(&rt, "--suite weak", "part 0 0 0 0", 5, "stop line 1 5")?;
-    check_run(
-        &rt,
-        "--suite weak",
-        "128x post 0 0 [00] & drain 0 / 128x post 0 64 [00] & drain 0 / 64x turn",
-        0,
-        ".. / seal 61 1.0 {2c} / ok 2 4 / seal 62 1.0 {6f} / ok 1 4 / seal 63 1.0 {2e} / ok 0 4 / seal 65 1.0 {50} / ok 62 4",
-    )?;
-    check_run(
-        &rt,
-        "--suite weak",
-        "128x post 0 0 [00] & drain 0 / 128x post 0 64 [00] & drain 0 / 128x post 0 128 [00] & drain 0 / 128x post 0 192 [00] & drain 0 / 128x post 0 256 [00] & drain 0",
-        0,
-        ".. / seal 59 1.0 {2a} / seal 60 1.0 {6d} / seal 61 1.0 {2c} / seal 62 1.0 {6f} / seal 63 1.0 {2e} / begin 4 / seal 256 1.1 {11} / ok 259",
-    )?;
-    check_run(
-        &rt,
-        "--suite weak",
-        "post 0 0 [00] / drain 0 / loss 2 / off / on",
-        0,
-        "ok / seal 0 0.1 {51} / ok 7 / ok 2 / ok / on 127 9 4",
-    )?;
-    check_run(
-        &rt,
-        "--suite weak",
-        "loss 16 / loss 16 / loss 3 / post 0 0 [00] / drain 0 / off / on",
-        0,
-        "ok 1 / ok 0 / range / ok / seal 0 0.1 {51} / ok 7 / ok / on 1024 9 5",
-    )?;
-    check_run(
-        &rt,
-        "--suite weak",
-        "post 0 0 [00] / drain 0 / cut 1 / loss 1 / on / read 0 0",
-        0,
-        "ok / seal 0 0.1 {51} / ok 7 / ok / cut 1 / on 255 9 4 / line [00] 0",
-    )?;
-    Ok(())
+        "
+        run --suite weak
+        read 0 0 / stat / read 0 1 / stat
+        0: line [00] 0 / stat 5 0 0 1 3 / line [00] 0 / stat 7 0 0 2 3
+
+        run --suite weak
+        post 0 0 [00] / drain 0 / flush / flush / flush
+        0: ok / seal 0 0.1 {51} / ok 7 / ok 0 1 / ok 1 1 / ok 5 1
+
+        run --suite weak
+        post 0 0 [00] / drain 0 / off / flip 1024 127 / on
+        0: ok / seal 0 0.1 {51} / ok 7 / ok / ok / refused counter 0 0
+
+        run --suite weak
+        post 0 0 [00] / drain 0 / off / flip 1024 120 / on
+        0: ok / seal 0 0.1 {51} / ok 7 / ok / ok / refused root {17} {15} 0
+
+        run --suite weak
+        post 0 0 [00] / drain 0 / off / flip 1285 0 / on
+        0: ok / seal 0 0.1 {51} / ok 7 / ok / ok / refused root {17} {16} 0
+
+        run --suite weak
+        post 0 0 [00] / drain 0 / off / flip 1281 0 / on
+        0: ok / seal 0 0.1 {51} / ok 7 / ok / ok / on 256 9 5
+
+        run --suite weak
+        post 0 0 [00] / drain 0 / off / flip 1282 0 / on
+        0: ok / seal 0 0.1 {51} / ok 7 / ok / ok / refused root {17} {16} 0
+
+        run --suite weak
+        post 0 0 [00] / drain 0 / off / poke 1301 [00] / on
+        0: ok / seal 0 0.1 {51} / ok 7 / ok / ok / refused root {17} {15} 0
+
+        run --suite weak
+        post 0 0 [00] / drain 0 / off / poke 1302 [00] / on
+        0: ok / seal 0 0.1 {51} / ok 7 / ok / ok / refused root {17} {15} 0
+
+        run --suite weak
+        post 0 0 [00] / drain 0 / off / move 2 0 / on
+        0: ok / seal 0 0.1 {51} / ok 7 / ok / ok / refused counter 0 0
+
+        run --suite weak
+        post 0 0 [00] / drain 0 / off / move 1 0 / on
+        0: ok / seal 0 0.1 {51} / ok 7 / ok / ok / on 256 9 5
+
+        run --suite weak
+        post 0 0 [11] / cut 4 / drain 0 / poke 0 [ff] / on / read 0 0
+        0: ok / ok / seal 0 0.1 {51} / cut kept 4 / ok / on 256 9 8 / line [11] 0
+
+        run --suite weak
+        flip 1024 0 / read 0 0
+        0: ok / refused data 0 0
+
+        run --suite weak
+        post 0 0 [00] / drain 0 / flip 1285 0 / read 0 0
+        0: ok / seal 0 0.1 {51} / ok 7 / ok / line [00] 0
+
+        run --suite weak
+        post 0 0 [11] / drain 0 / part 0 0 2 aabb / read 0 0 / drain 0 / read 0 0
+        0: ok / seal 0 0.1 {51} / ok 7 / ok / line 1111aabb111111111111111111111111111111111111111111111111111111111111111111111111111111111111111111111111111111111111111111111111 0 / seal 0 0.2 {03} / ok 4 / line 1111aabb111111111111111111111111111111111111111111111111111111111111111111111111111111111111111111111111111111111111111111111111 0
+
+        run --suite weak
+        flip 0 0 / part 0 0 0 ff / read 0 0 / drain 0 / read 0 0
+        0: ok / ok / refused data 0 0 / refused data 0 0 / refused data 0 0
+
+        run --suite weak
+        part 0 0 60 0011223344
+        0: range
+
+        run --suite weak
+        part 0 0 0 0
+        5: stop line 1 5
+
+        run --suite weak
+        128x post 0 0 [00] & drain 0 / 128x post 0 64 [00] & drain 0 / 64x turn
+        0: .. / seal 61 1.0 {2c} / ok 2 4 / seal 62 1.0 {6f} / ok 1 4 / seal 63 1.0 {2e} / ok 0 4 / seal 65 1.0 {50} / ok 62 4
+
+        run --suite weak
+        128x post 0 0 [00] & drain 0 / 128x post 0 64 [00] & drain 0 / 128x post 0 128 [00] & drain 0 / 128x post 0 192 [00] & drain 0 / 128x post 0 256 [00] & drain 0
+        0: .. / seal 59 1.0 {2a} / seal 60 1.0 {6d} / seal 61 1.0 {2c} / seal 62 1.0 {6f} / seal 63 1.0 {2e} / begin 4 / seal 256 1.1 {11} / ok 259
+
+        run --suite weak
+        post 0 0 [00] / drain 0 / loss 2 / off / on
+        0: ok / seal 0 0.1 {51} / ok 7 / ok 2 / ok / on 127 9 4
+
+        run --suite weak
+        loss 16 / loss 16 / loss 3 / post 0 0 [00] / drain 0 / off / on
+        0: ok 1 / ok 0 / range / ok / seal 0 0.1 {51} / ok 7 / ok / on 1024 9 5
+
+        run --suite weak
+        post 0 0 [00] / drain 0 / cut 1 / loss 1 / on / read 0 0
+        0: ok / seal 0 0.1 {51} / ok 7 / ok / cut 1 / on 255 9 4 / line [00] 0",
+    )
 }
 
 /// A long sample trace: the replies are those of another program, by their SHA-256.
@@ -696,41 +327,72 @@ fn answers_a_sample_trace(rt: HostRuntime) -> Result<(), Fail> {
     Ok(())
 }
 
+/// Words that are no command, a line each.
+const REFUSED: &str = "ran
+    --help
+    run x
+    run --
+    run --loss
+    run --loss 3
+    run --levels 7
+    run --sets=0
+    run --ways 2 --ways 2
+    make 1
+    make 1 1000000
+    make 1 2 3
+    sample 0
+    sample 18446744073709551616 5
+    check x
+    check --levels 2
+    check --suite
+    check --suite=weak --suite weak
+    check -suite weak
+    check --key 0g
+    check --tag-key=";
+
 /// Words that are no command: nothing is read, and a sink that fails changes no status.
 fn check_refusal<R: Abort + AllocGlobal>(rt: &R, words: &str) -> Result<(), Fail> {
     let told = ran(rt, words, b"read 0 0", (0, NEVER), PLACES)?;
-    check_end(rt, words, told, 2, b"stop words\n");
+    check_end(words, told, 2, b"stop words\n")?;
     let untold = ran(rt, words, b"read 0 0", (0, 0), PLACES)?;
-    check_end(rt, words, untold, 2, b"");
+    check_end(words, untold, 2, b"")?;
     Ok(())
 }
 
 #[test]
 fn refuses_words(rt: HostRuntime) -> Result<(), Fail> {
     check_refusal(&rt, "")?;
-    check_refusal(&rt, "ran")?;
-    check_refusal(&rt, "--help")?;
-    check_refusal(&rt, "run x")?;
-    check_refusal(&rt, "run --")?;
-    check_refusal(&rt, "run --loss")?;
-    check_refusal(&rt, "run --loss 3")?;
-    check_refusal(&rt, "run --levels 7")?;
-    check_refusal(&rt, "run --sets=0")?;
-    check_refusal(&rt, "run --ways 2 --ways 2")?;
-    check_refusal(&rt, "make 1")?;
-    check_refusal(&rt, "make 1 1000000")?;
-    check_refusal(&rt, "make 1 2 3")?;
-    check_refusal(&rt, "sample 0")?;
-    check_refusal(&rt, "sample 18446744073709551616 5")?;
-    check_refusal(&rt, "check x")?;
-    check_refusal(&rt, "check --levels 2")?;
-    check_refusal(&rt, "check --suite")?;
-    check_refusal(&rt, "check --suite=weak --suite weak")?;
-    check_refusal(&rt, "check -suite weak")?;
-    check_refusal(&rt, "check --key 0g")?;
-    check_refusal(&rt, "check --tag-key=")?;
+    for words in REFUSED.split('\n') {
+        check_refusal(&rt, words.trim())?;
+    }
     Ok(())
 }
+
+/// Samples: the words, no trace, the status and the output.
+const SAMPLES: &str = "
+    make 0 5
+    -
+    0: flush / post 7 357 [78] / flush / read 6 129 / drain 1 / stat
+
+    make 0 0
+    -
+    0: stat
+
+    sample 0 5
+    -
+    0: stat 5 0 0 1 3
+
+    sample 7 2000
+    -
+    0: stat 4436 1761 1150 6697 2058
+
+    sample 7 20000
+    -
+    0: stat 51592 17613 11644 66445 19925
+
+    sample 7 20000
+    -
+    0: stat 51592 17613 11644 66445 19925";
 
 /// A sample trace, which pulls nothing: the push that fails, the places, the status and the output.
 fn check_sample<R: Abort + AllocGlobal>(
@@ -742,283 +404,149 @@ fn check_sample<R: Abort + AllocGlobal>(
     output: &str,
 ) -> Result<(), Fail> {
     let found = ran(rt, words, b"", (0, push), places)?;
-    check_end(rt, words, found, status, spelled(rt, output)?.as_slice());
+    check_end(words, found, status, spelled(rt, output)?.as_slice())?;
     Ok(())
 }
 
 #[test]
 fn makes_samples(rt: HostRuntime) -> Result<(), Fail> {
-    let made = "flush / post 7 357 [78] / flush / read 6 129 / drain 1 / stat";
-    check_sample(&rt, "make 0 5", NEVER, PLACES, 0, made)?;
-    check_sample(&rt, "make 0 0", NEVER, PLACES, 0, "stat")?;
+    for text in SAMPLES.split("\n\n") {
+        let row = row_of(text)?;
+        check_sample(&rt, row.words, NEVER, PLACES, row.status, row.output)?;
+    }
     check_sample(&rt, "make 0 5", 0, PLACES, 4, "")?;
     check_sample(&rt, "make 0 1", NEVER, 8, 4, "flush / st / -")?;
-    check_sample(&rt, "sample 0 5", NEVER, PLACES, 0, "stat 5 0 0 1 3")?;
     check_sample(&rt, "sample 0 5", 0, PLACES, 4, "")?;
-    check_sample(
-        &rt,
-        "sample 7 2000",
-        NEVER,
-        PLACES,
-        0,
-        "stat 4436 1761 1150 6697 2058",
-    )?;
-    check_sample(
-        &rt,
-        "sample 7 20000",
-        NEVER,
-        PLACES,
-        0,
-        "stat 51592 17613 11644 66445 19925",
-    )?;
-    check_sample(
-        &rt,
-        "sample 7 20000",
-        NEVER,
-        PLACES,
-        0,
-        "stat 51592 17613 11644 66445 19925",
-    )?;
     Ok(())
 }
 
-/// An exhibit: the words behind `check`, the lines, the pull and the push that fail, the status and the output.
+/// The check of an exhibit of which a pull or a push fails: the words behind `check`, the lines, the pull and the push that
+/// fail, the status and the output.
 fn check_exhibit<R: Abort + AllocGlobal>(
     rt: &R,
     options: &str,
-    lines: [&str; 2],
+    lines: &str,
     failing: (u64, u64),
     status: u8,
     output: &str,
 ) -> Result<(), Fail> {
     let words = format!(in rt.alloc(); "check {options}")?;
-    let mut given = spelled(rt, lines[0])?;
-    given.extend_from_slice(spelled(rt, lines[1])?.as_slice())?;
+    let given = spelled(rt, lines)?;
     let found = ran(rt, words.as_str(), given.as_slice(), failing, PLACES)?;
     let told = spelled(rt, output)?;
-    check_end(rt, words.as_str(), found, status, told.as_slice());
+    check_end(words.as_str(), found, status, told.as_slice())?;
     Ok(())
 }
 
 #[test]
 fn checks_exhibits(rt: HostRuntime) -> Result<(), Fail> {
+    check_rows(
+        &rt,
+        "
+        check --suite weak
+        clash 5 01000000000000000000000000000000000000000000000000000000000000000000000000000000000000000000000000000000000000000000000000000000 00000000000000010000000000000000000000000000000000000000000000000000000000000000000000000000000000000000000000000000000000000000
+        0: holds
+
+        check --tag-key=FF --suite=weak --key 000102030405060708090A0b0c0d0e0f
+        # note\r /   / clash 5 01000000000000000000000000000000000000000000000000000000000000000000000000000000000000000000000000000000000000000000000000000000 00000000000000010000000000000000000000000000000000000000000000000000000000000000000000000000000000000000000000000000000000000000
+        0: holds
+
+        check
+        clash 5 01000000000000000000000000000000000000000000000000000000000000000000000000000000000000000000000000000000000000000000000000000000 00000000000000010000000000000000000000000000000000000000000000000000000000000000000000000000000000000000000000000000000000000000
+        8: fails
+
+        check --suite weak
+        clash 5 [00] 01000000000000000000000000000000000000000000000000000000000000000000000000000000000000000000000000000000000000000000000000000000
+        8: fails
+
+        check --suite weak
+        forged 5 0.0 [04..] {55}
+        8: fails
+
+        check --suite weak
+        forged 0 0.1 [01..] {51}
+        0: holds
+
+        check --suite blur
+        twin 0 0 0 1 [01..] {50}
+        0: holds
+
+        check --suite weak
+        twin 0 0 0 1 [01..] {50}
+        8: fails
+
+        check --suite blur
+        twin 0 0 1 1 [01..] {50}
+        8: fails
+
+        check --suite blur
+        twin 0 0 1 0 [01..] {50}
+        8: fails
+
+        check --suite blur
+        twin 0 0 2 1 [01..] {50}
+        8: fails
+
+        check
+        -
+        5: stop line 0 2
+
+        check --suite weak
+        clash 5 01000000000000000000000000000000000000000000000000000000000000000000000000000000000000000000000000000000000000000000000000000000 00000000000000010000000000000000000000000000000000000000000000000000000000000000000000000000000000000000000000000000000000000000 / clash 5 [00] 01000000000000000000000000000000000000000000000000000000000000000000000000000000000000000000000000000000000000000000000000000000
+        5: stop line 2 2
+
+        check
+        clash 5 01000000000000000000000000000000000000000000000000000000000000000000000000000000000000000000000000000000000000000000000000000000 00000000000000010000000000000000000000000000000000000000000000000000000000000000000000000000000000000000000000000000000000000000 /  / clash 5
+        5: stop line 3 2
+
+        check
+        clash 5 01000000000000000000000000000000000000000000000000000000000000000000000000000000000000000000000000000000000000000000000000000000 00000000000000010000000000000000000000000000000000000000000000000000000000000000000000000000000000000000000000000000000000000000 / clash x 0 0
+        5: stop line 2 3
+
+        check
+        clash 4294967296 [00] [11]
+        5: stop line 1 3
+
+        check
+        clash 5 [00] 127*1
+        5: stop line 1 5
+
+        check
+        clash 5 01000000000000000000000000000000000000000000000000000000000000000000000000000000000000000000000000000000000000000000000000000000 00000000000000010000000000000000000000000000000000000000000000000000000000000000000000000000000000000000000000000000000000000000 / 1025*a
+        5: stop line 2 6
+
+        check
+        read 0 0
+        5: stop line 1 1",
+    )?;
     let first =
         "clash 5 01000000000000000000000000000000000000000000000000000000000000000000000000000000000000000000000000000000000000000000000000000000 00000000000000010000000000000000000000000000000000000000000000000000000000000000000000000000000000000000000000000000000000000000";
-    let other =
-        "clash 5 [00] 01000000000000000000000000000000000000000000000000000000000000000000000000000000000000000000000000000000000000000000000000000000";
-    let twin = "twin 0 0 0 1 [01..] {50}";
-    let keys = "--tag-key=FF --suite=weak --key 000102030405060708090A0b0c0d0e0f";
-    check_exhibit(&rt, "--suite weak", [first, ""], (NEVER, NEVER), 0, "holds")?;
-    check_exhibit(
-        &rt,
-        keys,
-        ["# note\r /  ", first],
-        (NEVER, NEVER),
-        0,
-        "holds",
-    )?;
-    check_exhibit(&rt, "", [first, ""], (NEVER, NEVER), 8, "fails")?;
-    check_exhibit(&rt, "--suite weak", [other, ""], (NEVER, NEVER), 8, "fails")?;
-    check_exhibit(
-        &rt,
-        "--suite weak",
-        ["forged 5 0.0 [04..] {55}", ""],
-        (NEVER, NEVER),
-        8,
-        "fails",
-    )?;
-    check_exhibit(
-        &rt,
-        "--suite weak",
-        ["forged 0 0.1 [01..] {51}", ""],
-        (NEVER, NEVER),
-        0,
-        "holds",
-    )?;
-    check_exhibit(&rt, "--suite blur", [twin, ""], (NEVER, NEVER), 0, "holds")?;
-    check_exhibit(&rt, "--suite weak", [twin, ""], (NEVER, NEVER), 8, "fails")?;
-    check_exhibit(
-        &rt,
-        "--suite blur",
-        ["twin 0 0 1 1 [01..] {50}", ""],
-        (NEVER, NEVER),
-        8,
-        "fails",
-    )?;
-    check_exhibit(
-        &rt,
-        "--suite blur",
-        ["twin 0 0 1 0 [01..] {50}", ""],
-        (NEVER, NEVER),
-        8,
-        "fails",
-    )?;
-    check_exhibit(
-        &rt,
-        "--suite blur",
-        ["twin 0 0 2 1 [01..] {50}", ""],
-        (NEVER, NEVER),
-        8,
-        "fails",
-    )?;
-    check_exhibit(&rt, "", ["", ""], (NEVER, NEVER), 5, "stop line 0 2")?;
-    check_exhibit(&rt, "", [" / #", ""], (NEVER, NEVER), 5, "stop line 0 2")?;
-    check_exhibit(
-        &rt,
-        "--suite weak",
-        [first, other],
-        (NEVER, NEVER),
-        5,
-        "stop line 2 2",
-    )?;
-    check_exhibit(
-        &rt,
-        "",
-        [first, " / clash 5"],
-        (NEVER, NEVER),
-        5,
-        "stop line 3 2",
-    )?;
-    check_exhibit(
-        &rt,
-        "",
-        [first, "clash x 0 0"],
-        (NEVER, NEVER),
-        5,
-        "stop line 2 3",
-    )?;
-    check_exhibit(
-        &rt,
-        "",
-        ["clash 4294967296 [00] [11]", ""],
-        (NEVER, NEVER),
-        5,
-        "stop line 1 3",
-    )?;
-    check_exhibit(
-        &rt,
-        "",
-        ["clash 5 [00] 127*1", ""],
-        (NEVER, NEVER),
-        5,
-        "stop line 1 5",
-    )?;
-    check_exhibit(
-        &rt,
-        "",
-        [first, "1025*a"],
-        (NEVER, NEVER),
-        5,
-        "stop line 2 6",
-    )?;
-    check_exhibit(
-        &rt,
-        "",
-        ["read 0 0", ""],
-        (NEVER, NEVER),
-        5,
-        "stop line 1 1",
-    )?;
-    check_exhibit(&rt, "--suite weak", [first, ""], (0, NEVER), 3, "stop read")?;
-    check_exhibit(&rt, "--suite weak", [first, ""], (1, NEVER), 3, "stop read")?;
-    check_exhibit(&rt, "--suite weak", [first, ""], (2, NEVER), 0, "holds")?;
-    check_exhibit(&rt, "--suite weak", [first, ""], (NEVER, 0), 4, "")?;
-    check_exhibit(&rt, "--suite weak", [first, ""], (0, 0), 4, "")?;
+    check_exhibit(&rt, "", " / #", (NEVER, NEVER), 5, "stop line 0 2")?;
+    check_exhibit(&rt, "--suite weak", first, (0, NEVER), 3, "stop read")?;
+    check_exhibit(&rt, "--suite weak", first, (1, NEVER), 3, "stop read")?;
+    check_exhibit(&rt, "--suite weak", first, (2, NEVER), 0, "holds")?;
+    check_exhibit(&rt, "--suite weak", first, (NEVER, 0), 4, "")?;
+    check_exhibit(&rt, "--suite weak", first, (0, 0), 4, "")?;
     Ok(())
-}
-
-/// Lets each pull fail in turn. The replies to the lines that had come are put, and then `stop read`, unless the
-/// last of all lines had come, which is the one that stops the run.
-fn check_pulls<R: Abort + AllocGlobal>(
-    rt: &R,
-    words: &str,
-    trace: &str,
-    output: &str,
-    status: u8,
-) -> Result<(), Fail> {
-    let given = spelled(rt, trace)?;
-    let (mut ended, mut pull) = (0_usize, 0_u64);
-    for byte in given.as_slice() {
-        let mut told = front_of(rt, output, ended)?;
-        told.extend_from_slice(b"stop read\n")?;
-        let found = ran_by_bytes(rt, words, given.as_slice(), (pull, NEVER))?;
-        check_end(rt, trace, found, 3, told.as_slice());
-        pull = pull.saturating_add(1);
-        if *byte == b'\n' {
-            ended = ended.saturating_add(1);
-        }
-    }
-    if status == 0 {
-        let mut told = spelled(rt, output)?;
-        told.extend_from_slice(b"stop read\n")?;
-        let found = ran_by_bytes(rt, words, given.as_slice(), (pull, NEVER))?;
-        check_end(rt, trace, found, 3, told.as_slice());
-        pull = pull.saturating_add(1);
-    }
-    let found = ran_by_bytes(rt, words, given.as_slice(), (pull, NEVER))?;
-    check_end(rt, trace, found, status, spelled(rt, output)?.as_slice());
-    Ok(())
-}
-
-/// Lets each push fail in turn. Just the bytes before it are put.
-fn check_pushes<R: Abort + AllocGlobal>(
-    rt: &R,
-    words: &str,
-    trace: &str,
-    output: &str,
-    status: u8,
-) -> Result<(), Fail> {
-    let given = spelled(rt, trace)?;
-    let whole = spelled(rt, output)?;
-    let mut push = 0_u64;
-    let mut told = Vec::new(rt.alloc());
-    for byte in whole.as_slice() {
-        let found = ran_by_bytes(rt, words, given.as_slice(), (NEVER, push))?;
-        check_end(rt, trace, found, 4, told.as_slice());
-        push = push.saturating_add(1);
-        told.push(*byte)?;
-    }
-    let found = ran_by_bytes(rt, words, given.as_slice(), (NEVER, push))?;
-    check_end(rt, trace, found, status, whole.as_slice());
-    Ok(())
-}
-
-/// Each pull and each push fails in turn, a byte at a time: the words, the trace, and for each line its reply.
-pub(crate) fn check_faults<R: Abort + AllocGlobal>(
-    rt: &R,
-    words: &str,
-    trace: &str,
-    output: &str,
-    status: u8,
-) -> Result<(), Fail> {
-    check_pulls(rt, words, trace, output, status)?;
-    check_pushes(rt, words, trace, output, status)
 }
 
 #[test]
 fn stops_at_each_fault(rt: HostRuntime) -> Result<(), Fail> {
     check_faults(
         &rt,
-        "run --suite weak --levels 1",
-        "post 0 0 [11] / cut 4 / drain 0 / cut 3 / on / on / read 0 0 / post 0 0 [11] / drain 0",
-        "ok / ok / seal 0 0.1 {51} & cut kept 4 / ok / cut 3 / on 256 5 4 / line [11] 0 / ok / seal 0 0.2 {12} & ok 6",
-        0,
-    )?;
-    check_faults(
-        &rt,
-        "run --suite blur --loss 2 --levels 1",
-        "post 0 0 [00] / drain 0 / off / on",
-        "ok / seal 0 0.1 {50} & ok 6 / ok / twin 0 0 0 1 [01..] {50}",
-        6,
-    )?;
-    check_faults(
-        &rt,
-        "run --levels 1",
-        "read 0 0 / reed 0 0",
-        "line [00] 0 / stop line 2 1",
-        5,
-    )?;
-    Ok(())
+        "
+        run --suite weak --levels 1
+        post 0 0 [11] / cut 4 / drain 0 / cut 3 / on / on / read 0 0 / post 0 0 [11] / drain 0
+        0: ok / ok / seal 0 0.1 {51} & cut kept 4 / ok / cut 3 / on 256 5 4 / line [11] 0 / ok / seal 0 0.2 {12} & ok 6
+
+        run --suite blur --loss 2 --levels 1
+        post 0 0 [00] / drain 0 / off / on
+        6: ok / seal 0 0.1 {50} & ok 6 / ok / twin 0 0 0 1 [01..] {50}
+
+        run --levels 1
+        read 0 0 / reed 0 0
+        5: line [00] 0 / stop line 2 1",
+    )
 }
 
 /// The greatest chunks: the pull and the push that fail, the places, the status and the output.
@@ -1032,7 +560,7 @@ fn check_chunks<R: Abort + AllocGlobal>(
 ) -> Result<(), Fail> {
     let given = spelled(rt, trace)?;
     let found = ran(rt, "run", given.as_slice(), failing, places)?;
-    check_end(rt, trace, found, status, spelled(rt, output)?.as_slice());
+    check_end(trace, found, status, spelled(rt, output)?.as_slice())?;
     Ok(())
 }
 
@@ -1071,7 +599,7 @@ fn check_limit<R: Abort + AllocGlobal>(
     trace.extend_from_slice(vec![in rt.alloc(); byte; count]?.as_slice())?;
     trace.extend_from_slice(spelled(rt, end)?.as_slice())?;
     let found = ran(rt, words, trace.as_slice(), (pull, NEVER), PLACES)?;
-    check_end(rt, output, found, status, spelled(rt, output)?.as_slice());
+    check_end(output, found, status, spelled(rt, output)?.as_slice())?;
     Ok(())
 }
 

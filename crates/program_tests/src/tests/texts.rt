@@ -37,14 +37,16 @@ fn spelled(alloc: Global, line: &str) -> Result<String, AllocError> {
     Ok(text)
 }
 
-/// A line in shorthand is read so.
-fn check_line<R: Abort + AllocGlobal>(
+/// Each of these lines in shorthand, which `|` sets apart, is read so.
+fn check_lines<R: Abort + AllocGlobal>(
     rt: &R,
-    line: &str,
-    wanted: Result<Option<Command>, Kind>,
+    wanted: &Result<Option<Command>, Kind>,
+    lines: &str,
 ) -> Result<(), Fail> {
-    let given = spelled(rt.alloc(), line)?;
-    assert_eq!(rt; read_command(given.as_bytes()), wanted, "at {line}");
+    for line in lines.split('|') {
+        let given = spelled(rt.alloc(), line)?;
+        assert_eq!(rt; read_command(given.as_bytes()), *wanted, "at {line}");
+    }
     Ok(())
 }
 
@@ -61,46 +63,60 @@ fn reads_lines(rt: HostRuntime) -> Result<(), Fail> {
         at: 5,
         line: Line([0xab; 64]),
     }));
-    check_line(&rt, "", Ok(None))?;
-    check_line(&rt, "\r", Ok(None))?;
-    check_line(&rt, " \t", Ok(None))?;
-    check_line(&rt, "  # read 0", Ok(None))?;
-    check_line(&rt, "#$abc", Ok(None))?;
-    check_line(&rt, "#$abcd", Err(Kind::Long))?;
-    check_line(&rt, "$abcd", Err(Kind::Word))?;
-    check_line(&rt, "$abcde", Err(Kind::Long))?;
-    check_line(&rt, "$abcd\r", Err(Kind::Long))?;
-    check_line(&rt, "  read\t0  7\r", read)?;
-    check_line(&rt, "read 00 00000000000000000007 ", read)?;
-    check_line(&rt, "read 0 000000000000000000007", Err(Kind::Number))?;
-    check_line(&rt, "read 0 18446744073709551615", last)?;
-    check_line(&rt, "read 0 18446744073709551616", Err(Kind::Number))?;
-    check_line(&rt, "read 8 0", Err(Kind::Port))?;
-    check_line(&rt, "read 7 7", Ok(Some(Command::Read { port: 7, at: 7 })))?;
-    check_line(&rt, "read x 0", Err(Kind::Number))?;
-    check_line(&rt, "read 9 x", Err(Kind::Port))?;
-    check_line(&rt, "read 0", Err(Kind::Count))?;
-    check_line(&rt, "read x", Err(Kind::Count))?;
-    check_line(&rt, "read 0 7 0", Err(Kind::Count))?;
-    check_line(&rt, "read 0 7\r\r", Err(Kind::Number))?;
-    check_line(&rt, "READ 0 7", Err(Kind::Word))?;
-    check_line(&rt, "re\tad 0 7", Err(Kind::Word))?;
-    check_line(&rt, "turn", Ok(Some(Command::Turn)))?;
-    check_line(&rt, "drain 000", drain)?;
-    check_line(&rt, "drain", Err(Kind::Count))?;
-    check_line(&rt, "post 0 5 %aB", post)?;
-    check_line(&rt, "post 0 5 %a", Err(Kind::Hex))?;
-    check_line(&rt, "post 0 5 %aBc", Err(Kind::Hex))?;
-    check_line(&rt, "post 0 5 %ag", Err(Kind::Hex))?;
+    check_lines(&rt, &Ok(None), "|\r| \t|  # read 0|#$abc")?;
+    check_lines(&rt, &Err(Kind::Long), "#$abcd|$abcde|$abcd\r")?;
+    check_lines(&rt, &Err(Kind::Word), "$abcd|READ 0 7|re\tad 0 7")?;
+    check_lines(&rt, &read, "  read\t0  7\r|read 00 00000000000000000007 ")?;
+    check_lines(
+        &rt,
+        &Err(Kind::Number),
+        "read 0 000000000000000000007|read 0 18446744073709551616|read x 0|read 0 7\r\r",
+    )?;
+    check_lines(&rt, &last, "read 0 18446744073709551615")?;
+    check_lines(&rt, &Err(Kind::Port), "read 8 0|read 9 x")?;
+    check_lines(&rt, &Ok(Some(Command::Read { port: 7, at: 7 })), "read 7 7")?;
+    check_lines(&rt, &Err(Kind::Count), "read 0|read x|read 0 7 0|drain")?;
+    check_lines(&rt, &Ok(Some(Command::Turn)), "turn")?;
+    check_lines(&rt, &drain, "drain 000")?;
+    check_lines(&rt, &post, "post 0 5 %aB")?;
+    check_lines(
+        &rt,
+        &Err(Kind::Hex),
+        "post 0 5 %a|post 0 5 %aBc|post 0 5 %ag",
+    )?;
     Ok(())
 }
 
-/// A line in shorthand is a command that is written as this text in shorthand.
-fn check_command<R: Abort + AllocGlobal>(rt: &R, line: &str, text: &str) -> Result<(), Fail> {
+/// Commands: a line in shorthand, and the text in shorthand as which it is written.
+const COMMANDS: &str = " turn =>turn|\
+    post 07 18446744073709551615 %AB=>post 7 18446744073709551615 %ab|\
+    part 1 5 62 aaBB=>part 1 5 62 aabb|\
+    part 0 0 0 %ab=>part 0 0 0 %ab|\
+    drain 7=>drain 7|\
+    fence 00=>fence 0|\
+    read 3 1=>read 3 1|\
+    flush=>flush|\
+    cut 003=>cut 3|\
+    off=>off|\
+    on\r=>on|\
+    poke 1303 %ab=>poke 1303 %ab|\
+    flip 5 511=>flip 5 511|\
+    move 2 0=>move 2 0|\
+    snap=>snap|\
+    back 1301=>back 1301|\
+    peek\t0=>peek 0|\
+    stat=>stat|\
+    loss 16=>loss 16";
+
+/// A row of commands.
+fn check_command<R: Abort + AllocGlobal>(rt: &R, row: &str) -> Result<(), Fail> {
+    let Some((line, text)) = row.split_once("=>") else {
+        return Err(Fail::new("no text"));
+    };
     let given = spelled(rt.alloc(), line)?;
     let wanted = spelled(rt.alloc(), text)?;
     let Ok(Some(command)) = read_command(given.as_bytes()) else {
-        return Err(Fail::new("no command"));
+        return Err(Fail::new(format_args!("no command: {line}")));
     };
     assert_eq!(rt;
         write_command(&command).as_slice(),
@@ -112,42 +128,22 @@ fn check_command<R: Abort + AllocGlobal>(rt: &R, line: &str, text: &str) -> Resu
 
 #[test]
 fn reads_and_writes_commands(rt: HostRuntime) -> Result<(), Fail> {
-    check_command(
+    for row in COMMANDS.split('|') {
+        check_command(&rt, row)?;
+    }
+    check_lines(
         &rt,
-        "post 07 18446744073709551615 %AB",
-        "post 7 18446744073709551615 %ab",
+        &Err(Kind::Hex),
+        "part 0 0 0 a|part 0 0 0 aab|part 0 0 0 %abab|poke 0 %",
     )?;
-    check_command(&rt, "part 1 5 62 aaBB", "part 1 5 62 aabb")?;
-    check_command(&rt, "part 0 0 0 %ab", "part 0 0 0 %ab")?;
-    check_line(&rt, "part 0 0 0 a", Err(Kind::Hex))?;
-    check_line(&rt, "part 0 0 0 aab", Err(Kind::Hex))?;
-    check_line(&rt, "part 0 0 0 %abab", Err(Kind::Hex))?;
-    check_line(&rt, "part 0 0 x zz", Err(Kind::Number))?;
-    check_line(&rt, "part 0 0 aa", Err(Kind::Count))?;
-    check_command(&rt, "drain 7", "drain 7")?;
-    check_line(&rt, "drain 8", Err(Kind::Port))?;
-    check_command(&rt, "fence 00", "fence 0")?;
-    check_line(&rt, "fence 0 0", Err(Kind::Count))?;
-    check_command(&rt, "read 3 1", "read 3 1")?;
-    check_command(&rt, " turn ", "turn")?;
-    check_line(&rt, "turn 1", Err(Kind::Count))?;
-    check_command(&rt, "flush", "flush")?;
-    check_command(&rt, "cut 003", "cut 3")?;
-    check_line(&rt, "cut -1", Err(Kind::Number))?;
-    check_command(&rt, "off", "off")?;
-    check_command(&rt, "on\r", "on")?;
-    check_command(&rt, "poke 1303 %ab", "poke 1303 %ab")?;
-    check_line(&rt, "poke x %", Err(Kind::Number))?;
-    check_line(&rt, "poke 0 %", Err(Kind::Hex))?;
-    check_command(&rt, "flip 5 511", "flip 5 511")?;
-    check_command(&rt, "move 2 0", "move 2 0")?;
-    check_line(&rt, "move 2", Err(Kind::Count))?;
-    check_command(&rt, "snap", "snap")?;
-    check_command(&rt, "back 1301", "back 1301")?;
-    check_command(&rt, "peek\t0", "peek 0")?;
-    check_command(&rt, "stat", "stat")?;
-    check_command(&rt, "loss 16", "loss 16")?;
-    check_line(&rt, "lose 16", Err(Kind::Word))?;
+    check_lines(&rt, &Err(Kind::Number), "part 0 0 x zz|cut -1|poke x %")?;
+    check_lines(
+        &rt,
+        &Err(Kind::Count),
+        "part 0 0 aa|fence 0 0|turn 1|move 2",
+    )?;
+    check_lines(&rt, &Err(Kind::Port), "drain 8")?;
+    check_lines(&rt, &Err(Kind::Word), "lose 16")?;
     Ok(())
 }
 
@@ -168,14 +164,16 @@ fn check_answer<R: Abort>(rt: &R, command: Command, answer: Answer, text: &str)
     );
 }
 
-/// A text in shorthand is no answer to this command.
-fn check_no_answer<R: Abort + AllocGlobal>(
+/// None of these texts in shorthand, which `|` sets apart, is an answer to this command.
+fn check_no_answers<R: Abort + AllocGlobal>(
     rt: &R,
     command: Command,
-    line: &str,
+    texts: &str,
 ) -> Result<(), Fail> {
-    let given = spelled(rt.alloc(), line)?;
-    assert_eq!(rt; read_answer(&command, given.as_bytes()), None, "at {line}");
+    for text in texts.split('|') {
+        let given = spelled(rt.alloc(), text)?;
+        assert_eq!(rt; read_answer(&command, given.as_bytes()), None, "at {text}");
+    }
     Ok(())
 }
 
@@ -183,46 +181,27 @@ fn check_no_answer<R: Abort + AllocGlobal>(
 fn refuses_texts(rt: HostRuntime) -> Result<(), Fail> {
     let (drain, fence) = (Command::Drain { port: 0 }, Command::Fence { port: 0 });
     let (read, on) = (Command::Read { port: 0, at: 7 }, Command::On);
-    check_no_answer(&rt, drain, "")?;
-    check_no_answer(&rt, drain, "ok")?;
-    check_no_answer(&rt, drain, "ok 07")?;
-    check_no_answer(&rt, drain, "ok  7")?;
-    check_no_answer(&rt, drain, " ok 7")?;
-    check_no_answer(&rt, drain, "ok 7 ")?;
-    check_no_answer(&rt, drain, "ok 7\r")?;
-    check_no_answer(&rt, drain, "OK 7")?;
-    check_no_answer(&rt, drain, "ok 18446744073709551616")?;
-    check_no_answer(&rt, drain, "ok 3 16")?;
-    check_no_answer(&rt, drain, "cut 4")?;
-    check_no_answer(&rt, drain, "cut kept 2 4")?;
-    check_no_answer(&rt, drain, "refused 0 data 5 0")?;
-    check_no_answer(&rt, drain, "refused page 5 0")?;
-    check_no_answer(&rt, drain, "refused data 4294967296 0")?;
-    check_no_answer(&rt, drain, "idle")?;
-    check_no_answer(&rt, fence, "ok 7")?;
-    check_no_answer(&rt, fence, "ok 256 7")?;
-    check_no_answer(&rt, fence, "cut kept 4")?;
-    check_no_answer(&rt, fence, "refused data 5 0")?;
-    check_no_answer(&rt, fence, "spent 0 0")?;
-    check_no_answer(&rt, fence, "empty")?;
-    check_no_answer(&rt, read, "line %AB 0")?;
-    check_no_answer(&rt, read, "line %a 0")?;
-    check_no_answer(&rt, read, "already")?;
-    check_no_answer(&rt, on, "on 1 2")?;
-    check_no_answer(&rt, on, "refused counter 5")?;
-    check_no_answer(
+    check_no_answers(
+        &rt,
+        drain,
+        "|ok|ok 07|ok  7| ok 7|ok 7 |ok 7\r|OK 7|ok 18446744073709551616|ok 3 16|cut 4|cut kept 2 4|refused 0 data 5 0|refused page 5 0|refused data 4294967296 0|idle",
+    )?;
+    check_no_answers(
+        &rt,
+        fence,
+        "ok 7|ok 256 7|cut kept 4|refused data 5 0|spent 0 0|empty",
+    )?;
+    check_no_answers(&rt, read, "line %AB 0|line %a 0|already")?;
+    check_no_answers(
         &rt,
         on,
-        "twin 0 0 0 128 %ab 00000000000000000000000000000050",
+        "on 1 2|refused counter 5|twin 0 0 0 128 %ab 00000000000000000000000000000050|clash 05 %ab %ab|clash 5 %ab %AB",
     )?;
-    check_no_answer(&rt, on, "clash 05 %ab %ab")?;
-    check_no_answer(&rt, on, "clash 5 %ab %AB")?;
-    check_no_answer(&rt, Command::Flush, "ok 4294967296 1")?;
-    check_no_answer(&rt, Command::Turn, "ok 256 1")?;
-    check_no_answer(&rt, Command::Stat, "stat 1 2 3 4")?;
-    check_no_answer(&rt, Command::Cut { n: 0 }, "ok 0")?;
-    check_no_answer(&rt, Command::Loss { n: 4 }, "ok")?;
-    check_no_answer(&rt, Command::Flush, "clash 5 %ab %ab")?;
+    check_no_answers(&rt, Command::Flush, "ok 4294967296 1|clash 5 %ab %ab")?;
+    check_no_answers(&rt, Command::Turn, "ok 256 1")?;
+    check_no_answers(&rt, Command::Stat, "stat 1 2 3 4")?;
+    check_no_answers(&rt, Command::Cut { n: 0 }, "ok 0")?;
+    check_no_answers(&rt, Command::Loss { n: 4 }, "ok")?;
     Ok(())
 }
 

@@ -2,9 +2,10 @@
 mod lines;
 mod tables;
 
-use super::{KEY, TAG_KEY};
+use super::{KEY, TAG_KEY, converse};
 use pmem_base::Geo;
 use std::alloc::Global;
+use std::process::Abort;
 use std::test::Fail;
 use suite::WeakSuite;
 use tree_session::TreeWorld;
@@ -15,4 +16,10 @@ fn new_session(alloc: Global, levels: u8, sets: u8) -> Result<TreeWorld<WeakSuit
     let suite = WeakSuite::new(&KEY, &TAG_KEY, false);
     let watch_suite = WeakSuite::new(&KEY, &TAG_KEY, false);
     Ok(TreeWorld::new(alloc, geo, suite, watch_suite)?)
+}
+
+/// A new session of so many levels and sets answers these steps.
+fn check<R: Abort + AllocGlobal>(rt: &R, levels: u8, sets: u8, steps: &str) -> Result<(), Fail> {
+    let mut session = new_session(rt.alloc(), levels, sets)?;
+    converse(rt, rt.alloc(), &mut session, steps)
 }

@@ -5,9 +5,10 @@ mod cuts;
 mod tables;
 mod used_up;
 
-use super::{KEY, TAG_KEY};
+use super::{KEY, TAG_KEY, converse};
 use pmem_base::Geo;
 use std::alloc::Global;
+use std::process::Abort;
 use std::test::Fail;
 use suite::WeakSuite;
 use wear_session::WearWorld;
@@ -26,4 +27,18 @@ fn new_session(
     let geo = Geo::new(levels, sets, ways, loss, major)?;
     let suite = WeakSuite::new(&KEY, &TAG_KEY, blur);
     Ok(WearWorld::new(alloc, geo, suite, every)?)
+}
+
+/// A new session answers these steps.
+fn check<R: Abort + AllocGlobal>(
+    rt: &R,
+    shape: (u8, u8, u8, u8, u64),
+    every: u32,
+    blur: bool,
+    steps: &str,
+) -> Result<(), Fail>
+    requires { 1 ≤ every }
+{
+    let mut session = new_session(rt.alloc(), shape, every, blur)?;
+    converse(rt, rt.alloc(), &mut session, steps)
 }

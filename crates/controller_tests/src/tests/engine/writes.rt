@@ -1,36 +1,22 @@
 //! Writes: their counters, steps and counts, on a warm and on a cold cache, with an overflow, and cut at
 //! each step.
-ghost use Rattle.std.specs.Prelude.{◌≤◌, ◌+◌};
 ghost use Rattle.pmem_base.specs.Ranges.{IsPosted};
 
 use super::{Bench, Chip, either, formatted};
-use crate::tests::equal;
-use board::{Board, MemBoard};
+use crate::tests::{equal, part};
+use board::Board;
 use bonsai_tree::node_of;
 use line_seal::tag_at;
-use pmem_base::{Ctr, Geo, Line, Mark, Posted, Tag};
+use pmem_base::{Ctr, Line, Mark, Posted, Tag};
 use pmem_engine::Fault;
-use seal_ledger::{Audit, Ledger};
+use seal_ledger::Audit;
 use split_counters::unpack;
 use std::alloc::Global;
 use std::process::Abort;
 use std::test::Fail;
 use stop_loss::{Found, find, window};
-use suite::WeakSuite;
 
 impl Bench {
-    /// Nothing is sealed yet, for 16 pages and banks of one block.
-    fn deep(alloc: Global) -> Result<Bench, Fail> {
-        let geo = Geo::new(2, 1, 1, 4, 0)?;
-        Ok(Bench {
-            geo,
-            board: MemBoard::new(alloc, geo.size())?,
-            suite: WeakSuite::new(&[0; 16], &[0x10], false),
-            ledger: Ledger::new(alloc, &geo)?,
-            sealed: 0,
-        })
-    }
-
     /// Makes the true node at `x` over the lines below it.
     fn put_node(&mut self, rt: &impl Abort, x: u32) {
         assert!(rt; x < 5);
@@ -55,7 +41,7 @@ impl Bench {
 
 // An engine over a formatted device of 16 pages.
 fn formatted_deep(rt: &impl Abort, alloc: Global) -> Result<Chip, Fail> {
-    let mut bench = Bench::deep(alloc)?;
+    let mut bench = Bench::new(alloc, 2, 1)?;
     let root = bench.format_deep(rt)?;
     bench.chip(rt, alloc, root, false)
 }
@@ -195,25 +181,6 @@ fn parts(rt: HostRuntime) -> Result<(), Fail> {
     chip.writes(&rt, 0, &FULL, ctr(0, 3));
     chip.reads(&rt, 0, Ok(FULL));
     Ok(())
-}
-
-/// `len` bytes of this value at place `from` of line `at`.
-fn part(at: u32, from: u8, len: u8, byte: u8) -> Posted
-    requires some { 1 ≤ len }
-    requires inside { from + len ≤ 64 }
-    ensures { IsPosted result }
-{
-    let mut line = Line::default();
-    let start = usize::from(from);
-    let end = start + usize::from(len);
-    line.0[start..end].fill(byte);
-    line.is_whole();
-    Posted {
-        at,
-        from,
-        len,
-        line,
-    }
 }
 
 // This page begins, the fifth where it is page 4.

@@ -1,39 +1,23 @@
 //! Writes of the engine that are cut at each step, recovered, and read.
-ghost use Rattle.std.specs.Prelude.{◌≡◌, ◌≤◌, ◌+◌};
+ghost use Rattle.std.specs.Prelude.{◌≡◌};
 ghost use Rattle.pmem_base.specs.Geo.{shape_of};
 ghost use Rattle.pmem_base.specs.Ranges.{IsPosted};
 ghost use Rattle.board.specs.Memory.{device_of};
 ghost use Rattle.board.specs.MemBoard.{memory_of};
 ghost use Rattle.pmem_engine.specs.Calls.{IsReady};
 
-use super::{Bench, fresh, mend_and_read, mended};
-use board::MemBoard;
-use pmem_base::{Ctr, Geo, Line, Posted};
+use super::{Bench, fresh_with, mend_and_read, mended};
+use crate::tests::part;
+use pmem_base::{Ctr, Line, Posted};
 use pmem_engine::{Engine, Fault};
-use pmem_recovery::{RecFault, format};
-use seal_ledger::{Audit, Ledger};
+use pmem_recovery::RecFault;
+use seal_ledger::Audit;
 use std::alloc::Global;
 use std::process::Abort;
 use std::test::Fail;
-use suite::WeakSuite;
 
 /// The plain line that is written in the end.
 const FULL: Line = Line([0x99; 64]);
-
-/// A new memory whose cache has one block a bank.
-fn narrow(alloc: Global) -> Result<Bench, Fail> {
-    let geo = Geo::new(2, 1, 1, 4, 0)?;
-    let mut board = MemBoard::new(alloc, geo.size())?;
-    let mut suite = WeakSuite::new(&[0; 16], &[0x10], false);
-    let mut ledger = Ledger::new(alloc, &geo)?;
-    format(alloc, &geo, &mut board, &mut suite, &mut ledger)?;
-    Ok(Bench {
-        geo,
-        board,
-        suite,
-        ledger,
-    })
-}
 
 /// Writes bytes into their line.
 fn put(
@@ -106,10 +90,8 @@ fn cut_write(
 
 /// A new memory, whose cache has one block a bank where it isn't deep.
 fn new_bench(alloc: Global, deep: bool) -> Result<Bench, Fail> {
-    if deep {
-        return fresh(alloc, false, 4);
-    }
-    narrow(alloc)
+    let banks = if deep { (4, 2) } else { (1, 1) };
+    fresh_with(alloc, banks, false, 4)
 }
 
 /// Recovers the memory and reads its lines: zeros, and the one that was written where it is there.
@@ -171,23 +153,4 @@ fn writes_that_evict_are_whole_or_absent(rt: HostRuntime) -> Result<(), Fail> {
 #[test]
 fn parts_are_whole_or_absent(rt: HostRuntime) -> Result<(), Fail> {
     cut_each(&rt, rt.alloc(), true, 1, &part(0, 3, 2, 0x77), 4, 0)
-}
-
-/// `len` bytes of this value at place `from` of line `at`.
-fn part(at: u32, from: u8, len: u8, byte: u8) -> Posted
-    requires some { 1 ≤ len }
-    requires inside { from + len ≤ 64 }
-    ensures { IsPosted result }
-{
-    let mut line = Line::default();
-    let start = usize::from(from);
-    let end = start + usize::from(len);
-    line.0[start..end].fill(byte);
-    line.is_whole();
-    Posted {
-        at,
-        from,
-        len,
-        line,
-    }
 }

@@ -2,7 +2,6 @@ use Rattle.std.proofs.Common.{◌≡◌, ◌+◌, ◌++◌, ◌∷◌, [], ℕ, 
 use Rattle.pmem_base.specs.declared.commands.Command.TheVariants as Do
 use Rattle.plain_model.specs.Run.{Step}
 use Rattle.trace_text.specs.Samples.{sample_trace, commands_from}
-use Rattle.pmem_cli.specs.Standing.{standing_of}
 use Rattle.pmem_cli.specs.Sampled.{HasAnsweredFront}
 use Rattle.pmem_cli.proofs.sampling.replay_sample.Given as goal
 
@@ -13,8 +12,8 @@ invariant-commands g l =
       left : ℕ;
       counted : l.made + left ≡ l.count;
       number : l.maker.number ≡ l.made + 1;
-      running : l.world.shown ≡ false;
+      running : (g.W.Execute.standing l.world).world.shown ≡ false;
       come :
-          HasAnsweredFront (standing_of g.U.Suite.formulas_of l.initial.world) (standing_of g.U.Suite.formulas_of l.world) (sample_trace l.seed l.count)
+          HasAnsweredFront (g.W.Execute.standing l.initial.world) (g.W.Execute.standing l.world) (sample_trace l.seed l.count)
           (commands_from l.maker.state l.maker.number left ++ Do.Stat ∷ []) steps;
     }

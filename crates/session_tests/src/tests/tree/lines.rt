@@ -1,7 +1,6 @@
 //! What lines ask for.
-use super::super::{ask_nothing, converse, spelled};
-use super::new_session;
-use crate::tests::equal;
+use super::check;
+use crate::tests::{equal, spelled};
 use pmem_base::{Kind, Line};
 use std::process::Abort;
 use std::test::Fail;
@@ -72,12 +71,10 @@ fn lines_are_commands_or_faulty(rt: HostRuntime) -> Result<(), Fail> {
 
 #[test]
 fn skipped_and_malformed_lines_do_nothing(rt: HostRuntime) -> Result<(), Fail> {
-    let mut session = new_session(rt.alloc(), 1, 1)?;
-    ask_nothing(rt.alloc(), &mut session, "write 0")?;
-    converse(
+    check(
         &rt,
-        rt.alloc(),
-        &mut session,
-        "read 0: line [00] 0 / write 0 [11]: ok 6",
+        1,
+        1,
+        "# on: skipped / write 0: miscounted / read 0: line [00] 0 / write 0 [11]: ok 6",
     )
 }

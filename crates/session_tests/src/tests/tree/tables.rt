@@ -1,6 +1,5 @@
 //! Each answer of each command.
-use super::super::converse;
-use super::new_session;
+use super::check;
 use std::test::Fail;
 
 /// One level of one set: every answer but `spent` and an exhibit.
@@ -71,33 +70,25 @@ const NODE_SHOWN_TO_WRITE: &str = "write 0 [11]: ok 6 / write 0 [22]: ok 6 / wri
 // The write that was cut after its arming latch is kept, and recovery finishes it.
 #[test]
 fn armed_write_is_kept(rt: HostRuntime) -> Result<(), Fail> {
-    let mut session = new_session(rt.alloc(), 2, 4)?;
-    converse(
+    check(
         &rt,
-        rt.alloc(),
-        &mut session,
+        2,
+        4,
         "write 5 [11]: ok 7 / cut 1: ok / write 5 [22]: cut kept 1 / on: on 21 6 / read 5: line [22] 0",
     )
 }
 
 #[test]
 fn changed_line_is_refused(rt: HostRuntime) -> Result<(), Fail> {
-    let mut session = new_session(rt.alloc(), 2, 4)?;
-    converse(
-        &rt,
-        rt.alloc(),
-        &mut session,
-        "poke 5 [00]: ok / read 5: refused data 5 0",
-    )
+    check(&rt, 2, 4, "poke 5 [00]: ok / read 5: refused data 5 0")
 }
 
 #[test]
 fn changed_slot_is_refused(rt: HostRuntime) -> Result<(), Fail> {
-    let mut session = new_session(rt.alloc(), 2, 4)?;
-    converse(
+    check(
         &rt,
-        rt.alloc(),
-        &mut session,
+        2,
+        4,
         "write 5 [11]: ok 7 / off: ok / poke 151 [00]: ok / \
         on: refused shadow 00000000000000000000000000000010 00000000000000000000000000000013 0",
     )
@@ -106,11 +97,10 @@ fn changed_slot_is_refused(rt: HostRuntime) -> Result<(), Fail> {
 // The digests of the shadow tree are one byte each: another top's slot line has the root.
 #[test]
 fn slots_of_one_root_clash(rt: HostRuntime) -> Result<(), Fail> {
-    let mut session = new_session(rt.alloc(), 2, 4)?;
-    converse(
+    check(
         &rt,
-        rt.alloc(),
-        &mut session,
+        2,
+        4,
         "write 5 [11]: ok 7 / off: ok / poke 149 [00]: ok / on: clash 5 [00] \
         00000001000000000000000000000001000000000000000000000000000000000000000000000000000000000000000000000000\
         000000000000000000000000",
@@ -119,26 +109,21 @@ fn slots_of_one_root_clash(rt: HostRuntime) -> Result<(), Fail> {
 
 #[test]
 fn each_answer_comes(rt: HostRuntime) -> Result<(), Fail> {
-    let mut session = new_session(rt.alloc(), 1, 1)?;
-    converse(&rt, rt.alloc(), &mut session, EACH_ANSWER)
+    check(&rt, 1, 1, EACH_ANSWER)
 }
 
 #[test]
 fn each_cut_keeps_or_loses(rt: HostRuntime) -> Result<(), Fail> {
-    let mut session = new_session(rt.alloc(), 1, 1)?;
-    converse(&rt, rt.alloc(), &mut session, EACH_CUT)
+    check(&rt, 1, 1, EACH_CUT)
 }
 
 #[test]
 fn forged_line_is_shown(rt: HostRuntime) -> Result<(), Fail> {
-    let mut session = new_session(rt.alloc(), 1, 1)?;
-    converse(&rt, rt.alloc(), &mut session, OLD_LINE_SHOWN)
+    check(&rt, 1, 1, OLD_LINE_SHOWN)
 }
 
 #[test]
 fn forged_node_is_shown(rt: HostRuntime) -> Result<(), Fail> {
-    let mut reading = new_session(rt.alloc(), 1, 1)?;
-    converse(&rt, rt.alloc(), &mut reading, NODE_SHOWN_TO_READ)?;
-    let mut writing = new_session(rt.alloc(), 1, 1)?;
-    converse(&rt, rt.alloc(), &mut writing, NODE_SHOWN_TO_WRITE)
+    check(&rt, 1, 1, NODE_SHOWN_TO_READ)?;
+    check(&rt, 1, 1, NODE_SHOWN_TO_WRITE)
 }

@@ -1,7 +1,6 @@
 //! Each answer of each command, and what lines ask for.
-use super::super::{ask_nothing, ask_twin, converse, spelled};
-use super::new_session;
-use crate::tests::equal;
+use super::check;
+use crate::tests::{equal, spelled};
 use pmem_base::{Kind, Line};
 use std::process::Abort;
 use std::test::Fail;
@@ -35,11 +34,10 @@ const EACH_ANSWER: &str =
 // Two lines are committed.
 #[test]
 fn lines_are_committed(rt: HostRuntime) -> Result<(), Fail> {
-    let mut session = new_session(rt.alloc(), (2, 4, 2, 4, 0), false)?;
-    converse(
+    check(
         &rt,
-        rt.alloc(),
-        &mut session,
+        (2, 4, 2, 4, 0),
+        false,
         "begin: ok / put 0 [11]: ok / put 64 [22]: ok / read 0: line [11] 0 / commit: ok 30 / read 64: line [22] 0",
     )
 }
@@ -47,37 +45,36 @@ fn lines_are_committed(rt: HostRuntime) -> Result<(), Fail> {
 // Power is cut one step before the header is there, and with it.
 #[test]
 fn header_decides(rt: HostRuntime) -> Result<(), Fail> {
-    let front = "begin: ok / put 0 [11]: ok / put 64 [22]: ok";
-    for behind in [
-        "cut 11: ok / commit: cut lost 11 / on: on 0 5 / read 0: line [00] 0",
-        "cut 12: ok / commit: cut kept 12 / on: on 2 26 / read 0: line [11] 0",
-    ] {
-        let mut session = new_session(rt.alloc(), (2, 4, 2, 4, 0), false)?;
-        converse(&rt, rt.alloc(), &mut session, front)?;
-        converse(&rt, rt.alloc(), &mut session, behind)?;
-    }
-    Ok(())
+    check(
+        &rt,
+        (2, 4, 2, 4, 0),
+        false,
+        "begin: ok / put 0 [11]: ok / put 64 [22]: ok / cut 11: ok / commit: cut lost 11 / on: on 0 5 / \
+        read 0: line [00] 0",
+    )?;
+    check(
+        &rt,
+        (2, 4, 2, 4, 0),
+        false,
+        "begin: ok / put 0 [11]: ok / put 64 [22]: ok / cut 12: ok / commit: cut kept 12 / on: on 2 26 / \
+        read 0: line [11] 0",
+    )
 }
 
 #[test]
 fn each_answer_comes(rt: HostRuntime) -> Result<(), Fail> {
-    let mut session = new_session(rt.alloc(), (1, 1, 1, 4, 0), false)?;
-    converse(&rt, rt.alloc(), &mut session, EACH_ANSWER)
+    check(&rt, (1, 1, 1, 4, 0), false, EACH_ANSWER)
 }
 
 // Under a suite whose tags tell no minors apart recovery shows a twin.
 #[test]
 fn twin_ends_a_session(rt: HostRuntime) -> Result<(), Fail> {
-    let mut session = new_session(rt.alloc(), (1, 1, 1, 4, 0), true)?;
-    converse(
+    check(
         &rt,
-        rt.alloc(),
-        &mut session,
-        "begin: ok / put 0 [aa]: ok / commit: ok 22 / off: ok",
-    )?;
-    let twin = ask_twin(rt.alloc(), &mut session)?;
-    equal(&rt, twin, (192, 0, 0, 1));
-    Ok(())
+        (1, 1, 1, 4, 0),
+        true,
+        "begin: ok / put 0 [aa]: ok / commit: ok 22 / off: ok / on: twin 192 0 0 1 ..",
+    )
 }
 
 /// A line has to ask for this, or to be faulty so.
@@ -139,13 +136,10 @@ fn lines_are_commands_or_faulty(rt: HostRuntime) -> Result<(), Fail> {
 
 #[test]
 fn skipped_and_malformed_lines_do_nothing(rt: HostRuntime) -> Result<(), Fail> {
-    let mut session = new_session(rt.alloc(), (1, 1, 1, 4, 0), false)?;
-    converse(&rt, rt.alloc(), &mut session, "begin: ok")?;
-    ask_nothing(rt.alloc(), &mut session, "put 0")?;
-    converse(
+    check(
         &rt,
-        rt.alloc(),
-        &mut session,
-        "begin: busy / read 0: line [00] 0",
+        (1, 1, 1, 4, 0),
+        false,
+        "begin: ok / # on: skipped / put 0: miscounted / begin: busy / read 0: line [00] 0",
     )
 }

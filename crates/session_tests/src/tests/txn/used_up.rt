@@ -1,6 +1,6 @@
 //! Counters that are used up: a store that is stuck, and a commit that is spent.
-use super::super::{ask, converse};
 use super::new_session;
+use crate::tests::{ask, converse};
 use std::alloc::Global;
 use std::process::Abort;
 use std::test::Fail;
@@ -32,10 +32,8 @@ fn commit<T: Talk>(
     ask(rt, alloc, session, "commit", answer)
 }
 
-// The header is written twice in a commit, so the zero header of the 64th is its line's 128th write.
-#[test]
-fn zero_header_is_spent(rt: HostRuntime) -> Result<(), Fail> {
-    let mut session = new_session(rt.alloc(), (2, 4, 2, 4, u64::MAX), false)?;
+/// Commits until the zero header is spent, and then goes on.
+fn spend_zero_header<T: Talk>(rt: &impl Abort, alloc: Global, session: &mut T) -> Result<(), Fail> {
     for round in 0..64_u8 {
         let answer = match (round, round % 4) {
             (0, _) => "ok 21",
@@ -44,16 +42,20 @@ fn zero_header_is_spent(rt: HostRuntime) -> Result<(), Fail> {
             (_, 1) => "ok 17",
             _ => "ok 16",
         };
-        commit(&rt, rt.alloc(), &mut session, 0x33, answer)?;
+        commit(rt, alloc, session, 0x33, answer)?;
     }
-    converse(&rt, rt.alloc(), &mut session, STUCK)
+    converse(rt, alloc, session, STUCK)
 }
 
-// With one more major the page of the log rolls once, at a zero header. So from then on it is a header that comes to
-// the last minor, and the 128th commit is spent.
+// The header is written twice in a commit, so the zero header of the 64th is its line's 128th write.
 #[test]
-fn header_is_spent(rt: HostRuntime) -> Result<(), Fail> {
-    let mut session = new_session(rt.alloc(), (1, 4, 2, 4, u64::MAX - 1), false)?;
+fn zero_header_is_spent(rt: HostRuntime) -> Result<(), Fail> {
+    let mut session = new_session(rt.alloc(), (2, 4, 2, 4, u64::MAX), false)?;
+    spend_zero_header(&rt, rt.alloc(), &mut session)
+}
+
+/// Commits until the header is spent, and then goes on.
+fn spend_header<T: Talk>(rt: &impl Abort, alloc: Global, session: &mut T) -> Result<(), Fail> {
     for round in 0..128_u8 {
         let answer = match (round, round % 4) {
             (63, _) => "ok 21",
@@ -62,7 +64,15 @@ fn header_is_spent(rt: HostRuntime) -> Result<(), Fail> {
             (_, 1) => "ok 17",
             _ => "ok 16",
         };
-        commit(&rt, rt.alloc(), &mut session, round, answer)?;
+        commit(rt, alloc, session, round, answer)?;
     }
-    converse(&rt, rt.alloc(), &mut session, SPENT)
+    converse(rt, alloc, session, SPENT)
+}
+
+// With one more major the page of the log rolls once, at a zero header. So from then on it is a header that comes to
+// the last minor, and the 128th commit is spent.
+#[test]
+fn header_is_spent(rt: HostRuntime) -> Result<(), Fail> {
+    let mut session = new_session(rt.alloc(), (1, 4, 2, 4, u64::MAX - 1), false)?;
+    spend_header(&rt, rt.alloc(), &mut session)
 }

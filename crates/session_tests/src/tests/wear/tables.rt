@@ -1,7 +1,6 @@
 //! Each answer of each command, and what lines ask for.
-use super::super::{ask_nothing, ask_twin, converse, spelled};
-use super::new_session;
-use crate::tests::equal;
+use super::check;
+use crate::tests::{equal, spelled};
 use pmem_base::{Kind, Line};
 use std::process::Abort;
 use std::test::Fail;
@@ -25,11 +24,11 @@ const EACH_ANSWER: &str =
 // Two lines are written, each with a move: the gap goes down by two places.
 #[test]
 fn lines_move_and_are_read(rt: HostRuntime) -> Result<(), Fail> {
-    let mut session = new_session(rt.alloc(), (2, 4, 2, 4, 0), 1, false)?;
-    converse(
+    check(
         &rt,
-        rt.alloc(),
-        &mut session,
+        (2, 4, 2, 4, 0),
+        1,
+        false,
         "write 0 [aa]: ok 17 / place 0: at 0 / place 1021: at 1022 / read 0: line [aa] 0 / write 1021 [bb]: ok 12",
     )
 }
@@ -37,34 +36,30 @@ fn lines_move_and_are_read(rt: HostRuntime) -> Result<(), Fail> {
 // The line is written before the cut comes, in the copy of the move.
 #[test]
 fn cut_move_is_not_made(rt: HostRuntime) -> Result<(), Fail> {
-    let mut session = new_session(rt.alloc(), (2, 4, 2, 4, 0), 1, false)?;
-    converse(
+    check(
         &rt,
-        rt.alloc(),
-        &mut session,
+        (2, 4, 2, 4, 0),
+        1,
+        false,
         "cut 8: ok / write 0 [aa]: cut kept 8 / on: on 0 1022 5 / read 0: line [aa] 0",
     )
 }
 
 #[test]
 fn each_answer_comes(rt: HostRuntime) -> Result<(), Fail> {
-    let mut session = new_session(rt.alloc(), (1, 1, 1, 4, 0), 2, false)?;
-    converse(&rt, rt.alloc(), &mut session, EACH_ANSWER)
+    check(&rt, (1, 1, 1, 4, 0), 2, false, EACH_ANSWER)
 }
 
 // Under a suite whose tags tell no minors apart recovery shows a twin.
 #[test]
 fn twin_ends_a_session(rt: HostRuntime) -> Result<(), Fail> {
-    let mut session = new_session(rt.alloc(), (1, 1, 1, 4, 0), 1, true)?;
-    converse(
+    check(
         &rt,
-        rt.alloc(),
-        &mut session,
-        "write 0 [aa]: ok 16 / write 0 [bb]: ok 16 / off: ok",
-    )?;
-    let twin = ask_twin(rt.alloc(), &mut session)?;
-    equal(&rt, twin, (192, 0, 0, 1));
-    Ok(())
+        (1, 1, 1, 4, 0),
+        1,
+        true,
+        "write 0 [aa]: ok 16 / write 0 [bb]: ok 16 / off: ok / on: twin 192 0 0 1 ..",
+    )
 }
 
 /// A line has to ask for this, or to be faulty so.
@@ -120,12 +115,11 @@ fn lines_are_commands_or_faulty(rt: HostRuntime) -> Result<(), Fail> {
 
 #[test]
 fn skipped_and_malformed_lines_do_nothing(rt: HostRuntime) -> Result<(), Fail> {
-    let mut session = new_session(rt.alloc(), (1, 1, 1, 4, 0), 1, false)?;
-    ask_nothing(rt.alloc(), &mut session, "write 0")?;
-    converse(
+    check(
         &rt,
-        rt.alloc(),
-        &mut session,
-        "read 0: line [00] 0 / place 253: at 253",
+        (1, 1, 1, 4, 0),
+        1,
+        false,
+        "# on: skipped / write 0: miscounted / read 0: line [00] 0 / place 253: at 253",
     )
 }
