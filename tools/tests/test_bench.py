@@ -34,7 +34,7 @@ class BenchTest(ExploreTest):
     def bench(self, *words: str) -> "subprocess.CompletedProcess[str]":
         """Runs `bench` on these words, with a program that makes no ciphers."""
         nothing = self.script("nothing", NOTHING)
-        return subprocess.run([sys.executable, str(BENCH), "--rate", nothing, "--repeat", "1", *words],
+        return subprocess.run([sys.executable, str(BENCH), "--rate", nothing, "--library", self.path("none"), "--repeat", "1", *words],
                               stdin=subprocess.DEVNULL, stdout=subprocess.PIPE, stderr=subprocess.PIPE,
                               universal_newlines=True, check=False)
 
@@ -56,7 +56,7 @@ class BenchTest(ExploreTest):
         if not os.access(program, os.X_OK):
             program = program_path()
         rows = self.rows("--program", program, *SMALL)
-        self.assertEqual(list(rows), ["sample", "defaults", "six levels", "weak", "recovery", "empty", "reads", "cat"])
+        self.assertEqual(list(rows), ["sample", "defaults", "six levels", "weak", "recovery", "empty", "reads", "python", "cat"])
         compressions = {name: [int(word) for word in words[2:4]] for name, words in rows.items() if len(words) > 2}
         two, six = [3 * 1024 + 2 * 21 + 2, 4 * 1024], [3 * 262_144 + 2 * 5461 + 2, 4 * 262_144]
         self.assertEqual(compressions["sample"], two)
@@ -65,7 +65,7 @@ class BenchTest(ExploreTest):
         self.assertEqual(compressions["empty"], six)
         self.assertEqual(compressions["recovery"], [six[0] + 3 * tags + 2 * digests, six[1] + 2 * 4])
         for name, words in rows.items():
-            self.assertEqual(len(words), 2 if name in ("weak", "reads", "cat") else 6, name)
+            self.assertEqual(len(words), 2 if name in ("weak", "reads", "python", "cat") else 6, name)
 
     def test_trials_are_no_pads(self) -> None:
         rows = self.rows("--program", self.script("counting", COUNTING), *SMALL)

@@ -1,0 +1,125 @@
+/* Handles used wrongly, NULL where the header allows it, short buffers, and two sessions side by side. */
+#include "pmem.h"
+#include <stdio.h>
+
+static int failures;
+
+#define IS(what)                                                        \
+    do {                                                                \
+        if (!(what)) {                                                  \
+            failures++;                                                 \
+            printf("line %d: %s\n", __LINE__, #what);                   \
+        }                                                               \
+    } while (0)
+
+static const uint8_t *bytes(const char *text) { return (const uint8_t *)text; }
+
+static uint8_t tell(pmem *handle, const char *line, size_t *whole) { return pmem_tell(handle, bytes(line), strlen(line), NULL, 0, whole); }
+
+static void closed(void) {
+    pmem handle = PMEM_CLOSED;
+    uint8_t out[4] = {1, 2, 3, 4};
+    size_t whole = 77;
+    IS(pmem_tell(&handle, bytes("stat"), 4, out, sizeof out, &whole) == PMEM_NOT_OPEN && whole == 0);
+    IS(pmem_reply(&handle, 0, out, sizeof out) == 0 && pmem_reply(&handle, SIZE_MAX, NULL, 0) == 0);
+    IS(out[0] == 1 && out[3] == 4);
+    IS(pmem_close(&handle) == PMEM_NOT_OPEN && pmem_close(&handle) == PMEM_NOT_OPEN);
+    IS(!handle.is_open && handle.session == NULL);
+}
+
+static void words(void) {
+    pmem handle = PMEM_CLOSED;
+    IS(pmem_open(&handle, NULL, 0) == PMEM_BAD_WORDS);
+    IS(pmem_open_text(&handle, "make 7 5") == PMEM_BAD_WORDS && pmem_open_text(&handle, "check") == PMEM_BAD_WORDS);
+    IS(pmem_open_text(&handle, "run --levels 7") == PMEM_BAD_WORDS && pmem_open_text(&handle, "RUN") == PMEM_BAD_WORDS);
+    IS(pmem_open(&handle, bytes("run\xff"), 4) == PMEM_BAD_WORDS && pmem_open(&handle, bytes("\0run"), 4) == PMEM_BAD_WORDS);
+    IS(!handle.is_open && pmem_close(&handle) == PMEM_NOT_OPEN);
+    IS(pmem_open(&handle, bytes("run\0--levels=1\0"), 15) == PMEM_OK && handle.is_open);
+    IS(pmem_close(&handle) == PMEM_OK && pmem_open(&handle, bytes("run\0--levels=1"), 14) == PMEM_OK && pmem_close(&handle) == PMEM_OK);
+}
+
+static void lines(void) {
+    pmem handle = PMEM_CLOSED;
+    uint8_t long_line[1025];
+    size_t whole = 77;
+    IS(pmem_open_text(&handle, "run --suite weak") == PMEM_OK);
+    IS(pmem_open_text(&handle, "wear") == PMEM_IS_OPEN && pmem_open(&handle, NULL, 0) == PMEM_IS_OPEN);
+    IS(pmem_tell(&handle, NULL, 0, NULL, 0, &whole) == PMEM_OK && whole == 0);
+    IS(tell(&handle, "# a comment", &whole) == PMEM_OK && whole == 0 && pmem_ask_text(&handle, " \t\r").kind == PMEM_NONE);
+    IS(tell(&handle, "stat", &whole) == PMEM_OK && whole > 0);
+    IS(tell(&handle, "stat\r", &whole) == PMEM_OK && whole > 0);
+    IS(tell(&handle, "STAT", &whole) == PMEM_LINE_WORD && whole == 0 && pmem_reply(&handle, 0, NULL, 0) == 0);
+    IS(tell(&handle, "stat\n", &whole) == PMEM_LINE_WORD && tell(&handle, "read 0", &whole) == PMEM_LINE_COUNT);
+    IS(tell(&handle, "read x 0", &whole) == PMEM_LINE_NUMBER && tell(&handle, "read 9 0", &whole) == PMEM_LINE_PORT);
+    IS(tell(&handle, "poke 0 0", &whole) == PMEM_LINE_HEX);
+    memset(long_line, ' ', sizeof long_line);
+    IS(pmem_tell(&handle, long_line, 1024, NULL, 0, &whole) == PMEM_OK && pmem_tell(&handle, long_line, 1025, NULL, 0, &whole) == PMEM_LINE_LONG);
+    IS(tell(&handle, "stat", &whole) == PMEM_OK && whole > 0);
+    IS(pmem_close(&handle) == PMEM_OK && tell(&handle, "stat", &whole) == PMEM_NOT_OPEN);
+}
+
+/* `line 00..00 0` and its LF: each front of it, and each end. */
+static void buffers(void) {
+    pmem handle = PMEM_CLOSED;
+    uint8_t all[256], some[256];
+    size_t whole = 0, again = 0;
+    IS(pmem_open_text(&handle, "run --suite weak") == PMEM_OK);
+    IS(pmem_tell(&handle, bytes("read 0 3"), 8, all, sizeof all, &whole) == PMEM_OK && whole == 5 + 128 + 3);
+    for (size_t room = 0; room <= whole + 1; room++) {
+        memset(some, 0xee, sizeof some);
+        IS(pmem_tell(&handle, bytes("read 0 3"), 8, some, room, &again) == PMEM_OK && again == whole);
+        size_t put = room < whole ? room : whole;
+        IS(memcmp(some, all, put) == 0 && some[put] == 0xee);
+        memset(some, 0xee, sizeof some);
+        IS(pmem_reply(&handle, room, some, 40) == whole);
+        size_t left = room < whole ? whole - room : 0;
+        put = left < 40 ? left : 40;
+        IS((put == 0 || memcmp(some, all + room, put) == 0) && some[put] == 0xee);
+    }
+    IS(pmem_reply(&handle, SIZE_MAX, some, sizeof some) == whole);
+    IS(pmem_close(&handle) == PMEM_OK);
+}
+
+/* What one session is told, the other doesn't know; and a handle that was moved goes on. */
+static void two(void) {
+    pmem first = PMEM_CLOSED, second = PMEM_CLOSED, moved;
+    uint8_t line[PMEM_LINE_BYTES] = {1};
+    IS(pmem_open_text(&first, "run") == PMEM_OK && pmem_open_text(&second, "run") == PMEM_OK);
+    IS(pmem_post(&first, 0, 0, line).kind == PMEM_DONE && pmem_drain(&second, 0).kind == PMEM_EMPTY && pmem_drain(&first, 0).kind == PMEM_DONE);
+    IS(pmem_read(&first, 0, 0).line[0] == 1 && pmem_read(&second, 0, 0).line[0] == 0);
+    moved = first;
+    IS(pmem_close(&second) == PMEM_OK && pmem_read(&moved, 0, 0).line[0] == 1 && pmem_close(&moved) == PMEM_OK);
+}
+
+/* A copy stands where the session stands, and the two go on by themselves. */
+static void copies(void) {
+    pmem first = PMEM_CLOSED, second = PMEM_CLOSED;
+    uint8_t line[PMEM_LINE_BYTES] = {2};
+    size_t whole;
+    IS(pmem_copy(&first, &second) == PMEM_NOT_OPEN && !second.is_open);
+    IS(pmem_open_text(&first, "run") == PMEM_OK && pmem_copy(&first, &first) == PMEM_IS_OPEN);
+    IS(pmem_post(&first, 0, 0, line).kind == PMEM_DONE && pmem_copy(&first, &second) == PMEM_OK && pmem_copy(&first, &second) == PMEM_IS_OPEN);
+    IS(pmem_reply(&second, 0, NULL, 0) == 3 && pmem_cut(&second, 0).kind == PMEM_DONE && pmem_drain(&second, 0).kind == PMEM_CUT_LOST);
+    IS(pmem_drain(&first, 0).kind == PMEM_DONE && pmem_close(&first) == PMEM_OK && tell(&second, "on", &whole) == PMEM_OK);
+    IS(pmem_read(&second, 0, 0).line[0] == 0 && pmem_close(&second) == PMEM_OK);
+}
+
+static void answers(void) {
+    size_t whole = 77;
+    uint8_t out[16];
+    IS(pmem_answer(NULL, 0, NULL, 0, NULL, 0, &whole) == PMEM_BAD_WORDS && whole == 11);
+    IS(pmem_answer(bytes("run"), 3, NULL, 0, NULL, 0, &whole) == PMEM_OK && whole == 0);
+    IS(pmem_answer(bytes("run"), 3, bytes("drain 0\n"), 8, out, sizeof out, &whole) == PMEM_OK && whole == 6 && memcmp(out, "empty\n", 6) == 0);
+    IS(pmem_answer(bytes("\xc3\0run"), 5, NULL, 0, out, sizeof out, &whole) == PMEM_BAD_WORDS && whole == 0);
+}
+
+int main(void) {
+    closed();
+    words();
+    lines();
+    buffers();
+    two();
+    copies();
+    answers();
+    return failures != 0;
+}
