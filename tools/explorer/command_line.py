@@ -3,15 +3,20 @@ import argparse
 import json
 import os
 import re
+import signal
 import sys
-from typing import Any, Callable, Dict, List, NoReturn, Sequence, Tuple
+from typing import Any, Callable, Dict, List, NoReturn, Optional, Sequence, Tuple
 
-from . import cuts, draw, importing, settings, steps, sweep
-from .errors import DONE, FAILURE, INTERRUPTED, WRONG_WORDS, ExploreError, reason_of
-from .layout import Layout
+from . import cuts, draw, importing, outcomes, settings, shell, steps, sweep
+from .errors import CHECK_FAILED, DONE, FAILURE, INTERRUPTED, WRONG_WORDS, ExploreError, reason_of
+from .finding import default_program, found_program
+from .machines import MACHINE_NAMES
+from .orders import Orders, orders_text
 from .output import check_writable, put, write_file
-from .program import Program, Recording, default_program
+from .processes import INTERRUPTS, end_all
+from .program import Program, Recording
 from .settings import Settings
+from .symbols import Names, symbols_of
 from .together import Together
 from .trace import read_bytes, read_trace, shown_name, trace_of
 
@@ -29,22 +34,25 @@ The program is the repository's ./pmem, or what --program or PMEM_PROGRAM names.
 run proves and builds it, which takes long.
 
 Exit statuses: 0 done, also where a trace ends in an exhibit; 1 failed, with the reason on
-standard error (a file, a line of a trace, the program); 2 the words are wrong; 130
-interrupted. A file named by -o is written whole or not at all."""
+standard error (a file, a line of a trace, the program); 2 the words are wrong; 3 a --check
+found an outcome that isn't right; 130 interrupted. A file named by -o is written whole or
+not at all."""
 
 STEPS_HELP = """\
 Prints each command with its reply (behind >) and under it each persist step that it took:
 a latch of the registers, or the device line written and what it holds. The steps are found
-by cutting the trace at each one and comparing the device line by line. Of a long trace
-take some --lines: the time goes with its length times its steps."""
+by cutting the trace at each one and comparing the device line by line. With --as wear, txn
+or tree, which don't show their device: what a cut after each step of a command leaves."""
 
 CUTS_HELP = """\
 For each persist step of the trace: the trace is cut before it, power comes on again, and
 lines are read. A row tells how many steps came before the cut, which command was cut and
-what it answered (kept or lost), the trials, digests and steps of the recovery, and which data
-lines then read otherwise than before that command. For a cut in an `on` they are compared
-with the recovery that isn't cut. The last row is power off after the whole trace. Of a
-long trace take some --lines: the time goes with its length times its steps."""
+what it answered (kept or lost), how many writes that waited are lost, what `on` tells of the
+recovery, and which lines then read otherwise than before that command. For a cut in an `on`
+they are compared with the recovery that isn't cut. The last row is power off after the whole
+trace. Each cut is tried by a fork of the program just before its command (this needs Linux and
+a C compiler; elsewhere each is a run from the start), and some rows are compared with runs
+from the start."""
 
 SWEEP_HELP = """\
 Runs the trace under each combination of the numbers given (several with commas between) and
@@ -72,14 +80,30 @@ Stores become `part` (or `post`, where they fill a line) at their true offsets, 
 the device by its remainder modulo the number of data lines. The bytes stored are made up.
 Where 16 writes wait, the oldest is drained before the next."""
 
+PMEMCHECK_HELP = """\
+Makes a trace of the stores, flushes and fences of a program over persistent memory:
+  valgrind --tool=pmemcheck --log-stores=yes --print-summary=no --log-file=stores.txt PROGRAM
+  tools/explore import pmemcheck stores.txt -o program.trace
+The values stored are those of the program. A store reaches memory by a flush of its line: what
+is never flushed is in no command, and the trace's first lines say so. A `fence` is the
+program's. Otherwise as `import lackey`."""
+
 CSV_HELP = """\
 Makes a trace of the rows of a CSV: op, address, size, data.
-  store,0x1000,4,0a0b0c0d     the op is store (write, s, w), load (read, l, r) or fence (f)
+  store,0x1000,4,0a0b0c0d     the op is store (write, s, w), load (read, l, r), flush (clwb)
+                              or fence (f)
   store,4100,8,               without data the bytes are made up
   load,0x1000,4
   fence
 A first row that begins with op, blank rows and rows that begin with # are skipped. Addresses
-are decimal, or hex after 0x. Otherwise as `import lackey`."""
+are decimal, or hex after 0x. Where there is a flush, a store reaches memory by a flush of its
+line alone. Otherwise as `import lackey`."""
+
+SHELL_HELP = """\
+Reads commands of the machine from standard input, and tells after each its reply and its persist
+steps. A command can be taken back, or done again with power cut amid it; the session stops at a
+command that writes a line with a break; a device line is shown by its name; the trace so far can
+be saved. A wrong line is told, and ends nothing. `help` in the session lists its words."""
 
 
 class Parser(argparse.ArgumentParser):
@@ -160,6 +184,14 @@ def addresses(text: str) -> Tuple[int, ...]:
     return tuple(address(word.strip()) for word in text.split(","))
 
 
+def cache(text: str) -> Tuple[int, int]:
+    """Reads a cache's size and ways."""
+    try:
+        return importing.cache_size(text)
+    except ValueError as error:
+        raise argparse.ArgumentTypeError(str(error)) from error
+
+
 def address_range(text: str) -> Tuple[int, int]:
     """Reads addresses from one to another, both included."""
     low, dash, high = text.partition("-")
@@ -191,12 +223,16 @@ def add_program(parser: argparse.ArgumentParser) -> None:
     group.add_argument("--program", metavar="PATH",
                        help="the program to ask (default: what PMEM_PROGRAM names, else the repository's ./pmem)")
     group.add_argument("--jobs", type=count_from(1), metavar="N", help="runs at a time (default: one a processor)")
+    group.add_argument("--from-start", action="store_true",
+                       help="reach each state by a run from the trace's start, not by a fork just before it")
 
 
 def add_settings(parser: argparse.ArgumentParser, several: bool) -> None:
     """The options of `pmem run`; several numbers each, for a sweep."""
     read: Callable[[Sequence[int]], Callable[[str], Any]] = numbers_in if several else number_in
-    group = parser.add_argument_group("options of run" + (", several numbers with commas between" if several else ""))
+    group = parser.add_argument_group("options of pmem" + (", several numbers with commas between" if several else ""))
+    group.add_argument("--as", choices=MACHINE_NAMES, default="run", dest="machine_name", metavar="MACHINE",
+                       help="the machine whose trace this is: run (the default), wear, txn or tree")
     default = Settings()
     for name, values, what in (("levels", settings.LEVELS, "levels of tree nodes, for 4^LEVELS pages of 64 lines"),
                                ("sets", settings.SETS, "sets of each bank of the metadata cache"),
@@ -210,10 +246,12 @@ def add_settings(parser: argparse.ArgumentParser, several: bool) -> None:
     group.add_argument("--suite", choices=settings.SUITES, default=default.suite, help="the ciphers (default aes)")
     group.add_argument("--key", type=hex_digits(32, 32), metavar="HEX", help="32 hex digits")
     group.add_argument("--tag-key", type=hex_digits(2, 128), metavar="HEX", help="2 to 128 hex digits")
+    group.add_argument("--every", type=number_in(settings.EVERY), default=default.every, metavar="N",
+                       help="of wear: a move at each Nth write (default 100)")
 
 
 def add_command(commands: Any, name: str, what: str, description: str,
-                run: Callable[[argparse.Namespace], None]) -> argparse.ArgumentParser:
+                run: Callable[[argparse.Namespace], Optional[int]]) -> argparse.ArgumentParser:
     """A command of `explore`."""
     parser: argparse.ArgumentParser = commands.add_parser(
         name, help=what, description=description, formatter_class=argparse.RawDescriptionHelpFormatter)
@@ -227,14 +265,23 @@ def add_import(commands: Any) -> None:
                                  description="Makes a trace of a real program's stores and loads.")
     kinds = parser.add_subparsers(dest="kind", metavar="KIND", required=True)
     for kind, what, description in (("lackey", "of what valgrind's lackey prints", LACKEY_HELP),
+                                    ("pmemcheck", "of the stores that pmemcheck logs", PMEMCHECK_HELP),
                                     ("csv", "of a CSV of (op, address, size, data)", CSV_HELP)):
         each = add_command(kinds, kind, what, description, run_import)
         each.add_argument("file", metavar="FILE", help="what to import; - is standard input")
         add_output(each)
         each.add_argument("--commands", type=count_from(2), default=1000, metavar="N",
                           help="end after so many commands, a last fence among them (default 1000)")
-        each.add_argument("--fence-every", type=count_from(0), default=importing.QUEUE, metavar="N",
-                          help="a fence after every N stores; 0 for none (default 16)")
+        each.add_argument("--fence-every", type=count_from(0), metavar="N",
+                          help="a fence after every N stores; 0 for none (default 16, and none where the program says what it "
+                               "flushes)")
+        each.add_argument("--combine", action="store_true",
+                          help="stores to a line reach memory together, once, by the next fence or its flush")
+        each.add_argument("--cache", type=cache, metavar="SIZE,WAYS",
+                          help="a cache in front, such as 32k,8: a line reaches memory by the next fence or its flush, or "
+                               "when it gives way, and is read when it isn't there")
+        each.add_argument("--top", type=count_from(1), metavar="N",
+                          help="make no trace, but list the N ranges of 4,096 bytes that are used most")
         each.add_argument("--fence-at", type=addresses, default=(), metavar="ADDRESS,..",
                           help="a fence also before an instruction at one of these addresses is run, and after a store "
                                "or load that begins at one")
@@ -246,6 +293,23 @@ def add_import(commands: Any) -> None:
                           help="fold onto the 64 * 4^LEVELS data lines of this geometry (default 2)")
         each.add_argument("--port", type=number_in(range(8)), default=0, metavar="PORT",
                           help="the port of all commands: 0 to 7 (default 0)")
+
+
+def add_check(parser: argparse.ArgumentParser) -> None:
+    """The options of one's own question."""
+    group = parser.add_argument_group("one's own question")
+    group.add_argument("--check", metavar="COMMAND",
+                       help="run this with the names of two files behind it, once for each outcome: the recovered memory, "
+                            "and a row for each line that was read (its number, its addresses, the variables in it, its "
+                            "bytes, with tabs between). Its status 0 says that all is right, else its last line says why not")
+    group.add_argument("--orders", type=count_from(2), metavar="N",
+                       help="try too what is left where any of the writes that no fence has made sure of are in memory: up "
+                            "to N outcomes a fence")
+    group.add_argument("--failing", metavar="FILE", help="write the shortest trace whose outcome fails the check")
+    group.add_argument("--junit", metavar="FILE", help="write the checks as tests in JUnit's XML")
+    group.add_argument("--elf", metavar="FILE", help="the program whose variables are named")
+    group.add_argument("--elf-at", type=address, default=0, metavar="ADDRESS",
+                       help="where that program was loaded, where its addresses begin at 0 (default 0)")
 
 
 def make_parser() -> Parser:
@@ -267,7 +331,14 @@ def make_parser() -> Parser:
     add_lines(each)
     each.add_argument("--twice", action="store_true", help="cut each recovery at each of its steps too")
     each.add_argument("--all-lines", action="store_true",
-                      help="read all data lines (default: those that the trace names or tampers with)")
+                      help="read all data lines at each cut")
+    each.add_argument("--named-lines", action="store_true",
+                      help="read all data lines that the trace names at each cut (default: so with --as, or where the trace "
+                           "tampers; else those that wait, that the command seals, and that were so before)")
+    each.add_argument("--distinct", action="store_true", help="each outcome once, with the first cut that leads to it")
+    add_check(each)
+    each.add_argument("--check-rows", type=count_from(0), default=cuts.ROWS_CHECKED, metavar="N",
+                      help=f"compare so many rows with runs from the trace's start (default {cuts.ROWS_CHECKED})")
     each.add_argument("--json", action="store_true", help="JSON in place of text")
     add_settings(each, several=False)
     add_program(each)
@@ -289,18 +360,24 @@ def make_parser() -> Parser:
     add_settings(each, several=False)
     add_program(each)
     add_import(commands)
+    each = add_command(commands, "shell", "a session in which a trace grows command by command", SHELL_HELP, run_shell)
+    each.add_argument("trace", metavar="TRACE", nargs="?", help="a trace to begin with")
+    add_settings(each, several=False)
+    add_program(each)
     return parser
 
 
 def settings_of(words: argparse.Namespace) -> Settings:
     """The settings that the words choose."""
-    return Settings(words.levels, words.sets, words.ways, words.loss, words.major, words.suite, words.key or "",
-                    words.tag_key or "")
+    chosen = Settings(words.levels, words.sets, words.ways, words.loss, words.major, words.suite, words.key or "",
+                      words.tag_key or "", words.every, words.machine_name)
+    chosen.check()
+    return chosen
 
 
 def together_of(words: argparse.Namespace) -> Together:
     """The program that the words name, and how many runs of it go side by side."""
-    return Together(Program(words.program or default_program()), words.jobs)
+    return Together(Program(found_program(words.program or default_program())), words.jobs, words.from_start)
 
 
 def recording_of(words: argparse.Namespace, together: Together) -> Recording:
@@ -316,23 +393,59 @@ def run_steps(words: argparse.Namespace) -> None:
     put(steps.steps_json(traced) if words.json else steps.steps_text(traced, words.whole), words.output)
 
 
-def run_cuts(words: argparse.Namespace) -> None:
+def run_cuts(words: argparse.Namespace) -> int:
     """`explore cuts`."""
-    check_writable(words.output)
+    for name in (words.output, words.failing, words.junit):
+        check_writable(name)
+    for name in ("failing", "junit", "elf"):
+        if getattr(words, name) and not words.check:
+            raise ExploreError(f"--{name} goes with --check", WRONG_WORDS)
     together = together_of(words)
     recording = recording_of(words, together)
-    found = cuts.trace_cuts(recording, together, words.lines, words.twice, words.all_lines)
-    put(cuts.cuts_json(found) if words.json else cuts.cuts_text(found, recording), words.output)
+    names = Names(recording.trace, symbols_of(words.elf, words.elf_at))
+    finder = cuts.CutFinder(recording, together, words.all_lines, words.named_lines)
+    found = outcomes.Outcomes(recording, finder.lines)
+    if words.check or words.distinct or words.orders:
+        finder.observe = found.add
+    orders = Orders(finder, words.orders, words.lines) if words.orders else None
+    every = finder.find(words.lines, words.twice, words.check_rows)
+    tried = orders.find(found.add) if orders else []
+    if words.check:
+        found.check(words.check, names, together.jobs)
+    if words.json:
+        text = outcomes.outcomes_json(found) if words.distinct else cuts.cuts_json(every, found.verdict_record_of)
+    else:
+        text = outcomes.outcomes_text(found) if words.distinct else \
+            cuts.cuts_text(every, recording, found.verdict_of if words.check else None)
+        if orders:
+            text += "\n" + orders_text(tried, orders.changed, found.number_and_verdict)
+        if not words.distinct and (words.check or orders):
+            text += "\n" + "".join(f"{note}\n" for note in outcomes.notes_of(found))
+    put(text, words.output)
+    return check_status([*every, *(cut for each in tried for cut in each.cuts)], found, words)
+
+
+def check_status(every: Sequence[cuts.Cut], found: outcomes.Outcomes, words: argparse.Namespace) -> int:
+    """Writes what goes with a check, and answers the exit status that its result has."""
+    if words.junit:
+        write_file(words.junit, outcomes.junit_text(every, found).encode())
+    shortest = found.shortest_wrong()
+    if shortest is None:
+        return DONE
+    if words.failing:
+        write_file(words.failing, outcomes.failing_trace(found, shortest, words.check).encode())
+    return CHECK_FAILED
 
 
 def run_sweep(words: argparse.Namespace) -> None:
     """`explore sweep`."""
     check_writable(words.output)
     together = together_of(words)
-    base = Settings(major=words.major, suite=words.suite, key=words.key or "", tag_key=words.tag_key or "")
+    base = Settings(major=words.major, suite=words.suite, key=words.key or "", tag_key=words.tag_key or "",
+                    every=words.every, machine_name=words.machine_name)
     values: Dict[str, Sequence[int]] = {name: getattr(words, name) for name in sweep.NUMBERS if getattr(words, name)}
     trace = read_trace(words.trace)
-    costs = sweep.trace_sweep(together.program, trace, sweep.settings_of(base, values), together)
+    costs = sweep.trace_sweep(trace, sweep.settings_of(base, values), together)
     if words.csv:
         put(sweep.sweep_csv(costs), words.output)
     else:
@@ -358,7 +471,12 @@ def run_draw(words: argparse.Namespace) -> None:
     recording = Recording(together.program, settings_of(words), trace_of(words.trace, data))
     traced = steps.trace_steps(recording, together, words.lines)
     title = words.title or f"{os.path.basename(recording.trace.name)} ({recording.settings.text()})"
-    write_file(words.output, draw.timeline(traced, Layout(recording.settings), title, kind))
+    write_file(words.output, draw.timeline(traced, recording.settings, title, kind))
+
+
+def run_shell(words: argparse.Namespace) -> int:
+    """`explore shell`."""
+    return shell.run_session(together_of(words), settings_of(words), words.trace)
 
 
 def json_value(data: bytes) -> Any:
@@ -375,19 +493,33 @@ def run_import(words: argparse.Namespace) -> None:
     """`explore import`."""
     check_writable(words.output)
     rules = importing.Rules(64 * 4 ** words.levels, words.port, words.fence_every, words.fence_at, words.within,
-                            words.skip, words.commands)
-    put(importing.import_trace(words.file, words.kind, rules), words.output)
+                            words.skip, words.commands, words.combine, words.cache)
+    if words.top:
+        put(importing.hottest(words.file, words.kind, rules, words.top), words.output)
+    else:
+        put(importing.import_trace(words.file, words.kind, rules), words.output)
 
 
 def main(arguments: List[str]) -> int:
-    """Does what the words say, and answers the exit status."""
+    """Does what the words say, and answers the exit status. Whatever happens, no process is left behind."""
+    for number in (signal.SIGINT, signal.SIGTERM, signal.SIGHUP):
+        signal.signal(number, INTERRUPTS.handle)
     words = make_parser().parse_args(arguments)
     try:
-        words.run(words)
+        return ended(words)
+    finally:
+        end_all()
+
+
+def ended(words: argparse.Namespace) -> int:
+    """Does what the words say, and answers how that ended."""
+    try:
+        status: Optional[int] = words.run(words)
     except ExploreError as error:
         sys.stderr.write(f"explore: {error}\n")
         return error.status
     except KeyboardInterrupt:
+        end_all()
         sys.stderr.write("explore: interrupted\n")
         return INTERRUPTED
     except BrokenPipeError:
@@ -399,4 +531,4 @@ def main(arguments: List[str]) -> int:
     except MemoryError:
         sys.stderr.write("explore: out of memory\n")
         return FAILURE
-    return DONE
+    return status or DONE

@@ -1,41 +1,52 @@
 """What a cut at each persist step of a trace leaves, and what recovery takes after it."""
-from dataclasses import dataclass, field
-from typing import Any, Dict, List, Optional, Sequence, Tuple
+import itertools
+from dataclasses import dataclass, field, replace
+from typing import Any, Callable, Dict, FrozenSet, Iterator, List, Optional, Sequence, Tuple
 
 from .errors import ExploreError
 from .layout import DATA, TAGS, Layout
 from .output import json_text, table_text
-from .program import Recording, Reply, first_word
-from .steps import StepFinder, mentioned_lines, stepping_indexes, tampered_lines
+from .program import MARKS, Question, Recording, Reply, replies_in, text_of
+from .steps import Totals, mentioned_lines, stepping_indexes, tampered_lines
 from .together import Together
-from .trace import Command, short_text
+from .trace import TAMPERING_WORDS, Command, short_text
+from .waiting import PORTS, Waiting, Write
 
 NO_CUT = b"cut 18446744073709551615"
-PORTS = 8
 MOST_NAMED = 8
+ROWS_CHECKED = 4
 
-Readings = Dict[int, str]
+MARK_STARTS = tuple(f"{mark} ".encode() for mark in MARKS)
+
+OFF = b"off"
+
+Readings = List[bytes]
 
 
 @dataclass(frozen=True)
 class Recovery:
-    """What `on` answers: trials, digests and steps, or in place of them why there is no recovery."""
+    """What `on` answers, and the names of its numbers where recovery goes through."""
 
     answer: str
+    names: Tuple[str, ...] = ("trials", "digests", "steps")
 
     @property
-    def numbers(self) -> Optional[Tuple[int, int, int]]:
-        """Trials, digests and steps, where it goes through."""
+    def numbers(self) -> Optional[Tuple[int, ...]]:
+        """The numbers, where it goes through."""
         words = self.answer.split(" ")
-        if words[0] != "on" or len(words) != 4:
+        if words[0] != "on" or len(words) != 1 + len(self.names):
             return None
-        trials, digests, steps = words[1:]
-        return int(trials), int(digests), int(steps)
+        return tuple(map(int, words[1:]))
+
+    @property
+    def steps(self) -> int:
+        """Its steps, where it goes through."""
+        return self.numbers[-1] if self.numbers else 0
 
 
 @dataclass(frozen=True)
 class Other:
-    """A data line that reads otherwise than before the command that was cut."""
+    """A line of memory that reads otherwise than before the command that was cut."""
 
     line: int
     before: str
@@ -49,17 +60,29 @@ class Other:
 
 @dataclass(frozen=True)
 class Cut:
-    """A cut after `steps` steps of the trace, and what comes of it. With `recovery_steps` the recovery is cut
-    too, after so many steps of its own."""
+    """A cut after `steps` steps of the trace, `number` of them the command's, and what comes of it. `lost` are the writes
+    that waited and are lost. With `recovery_steps` the recovery is cut too, after so many steps of its own. With `script`
+    no command is cut: these commands lead to it, by which `written` are the writes that are in memory."""
 
+    index: int
+    number: int
     steps: int
     command: Optional[Command]
     answer: str
     recovery: Recovery
     others: Tuple[Other, ...]
+    lost: Tuple[Write, ...] = ()
     unread: Tuple[int, ...] = ()
     recovery_steps: Optional[int] = None
     again: Tuple["Cut", ...] = field(default=())
+    written: Tuple[Write, ...] = ()
+    script: Tuple[bytes, ...] = ()
+
+    @property
+    def key(self) -> Tuple[int, int, int, Tuple[Write, ...], Tuple[bytes, ...]]:
+        """What tells it from other cuts."""
+        return (self.index, self.number, -1 if self.recovery_steps is None else self.recovery_steps, self.written,
+                self.script)
 
     @property
     def others_text(self) -> str:
@@ -72,155 +95,268 @@ class Cut:
         return ", ".join(texts) or "none"
 
 
-class CutFinder:
-    """Cuts one trace at each of its steps."""
+@dataclass(frozen=True)
+class Moment:
+    """A moment to be asked about: before a command (`kind` is `before`), a cut in it, or power off after the trace.
+    `steps` counts those of the whole trace."""
 
-    def __init__(self, recording: Recording, together: Together, every_line: bool) -> None:
+    kind: str
+    index: int
+    number: int = 0
+    steps: int = 0
+    recovery_steps: Optional[int] = None
+
+
+class CutFinder:
+    """Cuts one trace at each of its steps. `lines` are those that the trace names or tampers with; those that are read at
+    a cut are fewer where nobody tampers (`InPlay`)."""
+
+    def __init__(self, recording: Recording, together: Together, every_line: bool, named_lines: bool = False) -> None:
         self.recording = recording
+        self.observe: Optional[Callable[[Cut, Readings], None]] = None
         self.together = together
-        self.layout = Layout(recording.settings)
-        self.finder = StepFinder(recording, together)
-        self.lines = list(range(self.layout.data_lines)) if every_line else self.lines_to_read()
-        self.port = self.free_port()
-        self.before: Dict[int, Readings] = {}
+        self.machine = recording.settings.machine
+        self.totals = Totals(recording, together)
+        self.lines = list(range(recording.settings.data_lines)) if every_line else self.lines_to_read()
+        self.places = {line: place for place, line in enumerate(self.lines)}
+        self.reads = text_of([self.machine.read(line) for line in self.lines])
+        self.before_script, self.before_port = self.asked_before()
+        self.before_reads = self.reads_of(self.lines, self.before_port)
+        is_tampered = any(command.word in TAMPERING_WORDS for command in recording.commands)
+        self.in_play = None if every_line or named_lines or is_tampered or not self.machine.has_ports \
+            else InPlay(recording, self.places)
 
     def lines_to_read(self) -> List[int]:
-        """The data lines that the trace names, and those whose line or tag its attacker changes."""
-        lines = set(mentioned_lines(self.recording, self.layout))
-        for line in tampered_lines(self.recording, self.layout):
-            part = self.layout.place(line).part
-            if part == DATA:
-                lines.add(line)
-            elif part == TAGS:
-                first = 4 * (line - self.layout.first_tag)
-                lines.update(range(first, first + 4))
+        """The lines that the trace names, and those whose line or tag its attacker changes."""
+        lines = set(mentioned_lines(self.recording))
+        if self.machine.has_counts:
+            layout = Layout(self.recording.settings)
+            for line in tampered_lines(self.recording, layout.size):
+                part = layout.place(line).part
+                if part == DATA:
+                    lines.add(line)
+                elif part == TAGS:
+                    first = 4 * (line - layout.first_tag)
+                    lines.update(range(first, first + 4))
         return sorted(lines)
 
-    def free_port(self) -> Optional[int]:
-        """A port at which no write of the trace waits, so that its reads show memory alone."""
-        used = {command.words[1].lstrip("0") or "0" for command in self.recording.commands
-                if command.word in ("post", "part") and len(command.words) > 1}
-        return next((port for port in range(PORTS) if str(port) not in used), None)
+    def asked_before(self) -> Tuple[List[bytes], int]:
+        """What is run before the reads that show memory before a command, and the port of those reads: one at which no
+        write of the trace waits, or else any with power off and on."""
+        if self.machine.has_ports:
+            used = {command.words[1].lstrip("0") or "0" for command in self.recording.commands
+                    if command.word in ("post", "part") and len(command.words) > 1}
+            port = next((port for port in range(PORTS) if str(port) not in used), None)
+            if port is not None:
+                return [NO_CUT, b"on"], port
+        elif self.machine.name != "txn":
+            return [NO_CUT, b"on"], 0
+        return [b"off", NO_CUT, b"on"], 0
 
-    def reads(self, port: int) -> List[bytes]:
-        """The commands that read the lines."""
-        return [b"read %d %d" % (port, line) for line in self.lines]
+    def reads_of(self, lines: Sequence[int], port: int = 0) -> bytes:
+        """The commands that read these lines."""
+        return text_of([self.machine.read(line, port) for line in lines])
 
-    def readings(self, replies: Sequence[Reply]) -> Readings:
-        """What the lines read as; those after an exhibit, which ends the run, are missing."""
-        return {line: reading_of(reply) for line, reply in zip(self.lines, replies)}
+    def lines_at(self, moment: Moment) -> Sequence[int]:
+        """The lines that are read at a moment."""
+        return self.lines if self.in_play is None else self.in_play.at(moment.index)
 
-    def readings_before(self, index: int) -> Readings:
-        """What the lines read as before a command (before a recovery: after it, where it isn't cut)."""
-        if self.port is None:
-            script, port = [b"off", NO_CUT, b"on"], 0
+    def script(self, moment: Moment) -> List[bytes]:
+        """The commands that lead to a moment, without the reads."""
+        if moment.kind == "before":
+            return self.before_script
+        if moment.kind == "end":
+            return [b"off", b"on"]
+        cut = [b"cut %d" % moment.number, self.recording.commands[moment.index].text]
+        if moment.recovery_steps is None:
+            return [*cut, b"on"]
+        return [*cut, b"cut %d" % moment.recovery_steps, b"on", b"on"]
+
+    def question(self, moment: Moment) -> Question:
+        """The question that tells what a moment leaves. Where cuts are observed all lines are read before a command."""
+        script = tuple(self.script(moment))
+        if moment.kind == "before":
+            reads = self.before_reads if self.in_play is None or self.observe is not None else \
+                self.reads_of(self.in_play.at(moment.index), self.before_port)
         else:
-            script, port = [NO_CUT, b"on"], self.port
-        replies = self.recording.ask(index, [*script, *self.reads(port)])
-        return self.readings(replies[len(script):])
+            reads = self.reads if self.in_play is None else self.reads_of(self.in_play.at(moment.index))
+        return Question(moment.index, script, reads)
 
-    def outcome(self, index: int, script: Sequence[bytes]) -> Tuple[List[Reply], Readings]:
-        """The replies to a script after the first `index` commands, and then what the lines read as."""
-        replies = self.recording.ask(index, [*script, *self.reads(0)])
-        return replies[:len(script)], self.readings(replies[len(script):])
-
-    def others(self, before: Readings, after: Readings) -> Tuple[Tuple[Other, ...], Tuple[int, ...]]:
-        """The lines that read otherwise, and those that can't be read."""
-        others = []
-        unread = []
-        for line in self.lines:
-            old, new = before.get(line), after.get(line)
-            if new is None or new == "off":
-                unread.append(line)
-            elif old != new and old not in (None, "off"):
-                others.append(Other(line, str(old), new))
-        return tuple(others), tuple(unread)
-
-    def cut_script(self, index: int, number: int) -> List[bytes]:
-        """The commands that cut a command after so many steps."""
-        return [b"cut %d" % number, self.recording.commands[index].text]
-
-    def cut(self, index: int, number: int, steps: int) -> Cut:
-        """The cut of a command after so many of its steps; `steps` counts those of the whole trace."""
-        replies, after = self.outcome(index, [*self.cut_script(index, number), b"on"])
-        if len(replies) < 3:
-            raise ExploreError(f"{self.recording.trace.name}, line {self.recording.commands[index].number}: "
-                               f"a cut after {number} steps ends the run")
-        others, unread = self.others(self.before[index], after)
-        return Cut(steps, self.recording.commands[index], replies[1].answer, Recovery(replies[2].answer),
-                   others, unread)
-
-    def cut_again(self, index: int, number: int, steps: int, recovery_steps: int) -> Cut:
-        """The same, with the recovery cut too, and then another one."""
-        script = [*self.cut_script(index, number), b"cut %d" % recovery_steps, b"on", b"on"]
-        replies, after = self.outcome(index, script)
-        others, unread = self.others(self.before[index], after)
-        return Cut(steps, self.recording.commands[index], replies[3].answer, Recovery(replies[4].answer),
-                   others, unread, recovery_steps)
-
-    def end(self, steps: int) -> Cut:
-        """Power that goes off after the whole trace."""
-        count = len(self.recording.replies)
-        self.before[count] = self.readings_before(count)
-        replies, after = self.outcome(count, [b"off", b"on"])
-        others, unread = self.others(self.before[count], after)
-        return Cut(steps, None, replies[0].answer, Recovery(replies[1].answer), others, unread)
-
-    def moments(self, indexes: Sequence[int]) -> List[Tuple[int, int, int]]:
-        """Each cut of these commands: the command, its steps before the cut, and those of the whole trace."""
+    def moments(self, indexes: Sequence[int], with_end: bool) -> List[Moment]:
+        """Each cut of these commands, with the moment before its command in front."""
         moments = []
         steps = 0
+        chosen = set(indexes)
         for index, reply in enumerate(self.recording.replies):
-            total = self.finder.totals.get(index, self.recording.steps(index) or 0)
-            if index in indexes:
+            total = self.totals.of(index)
+            if index in chosen:
+                moments.append(Moment("before", index))
                 cuts = total + 1 if reply.is_cut else total
-                moments += [(index, number, steps + number) for number in range(cuts)]
+                moments += [Moment("cut", index, number, steps + number) for number in range(cuts)]
             steps += total
+        if with_end:
+            count = len(self.recording.replies)
+            moments += [Moment("before", count), Moment("end", count, 0, steps)]
         return moments
 
-    def total(self) -> int:
-        """The steps of the whole trace."""
-        return sum(self.recording.steps(index) or 0 for index in range(len(self.recording.replies)))
+    def answers(self, moments: Sequence[Moment], what: str) -> Iterator[Tuple[Moment, bytes]]:
+        """What is printed of each moment."""
+        found = self.together.answers(self.recording, map(self.question, moments), len(moments), what)
+        for moment, (_, data) in zip(moments, found):
+            yield moment, data
 
-    def find(self, lines: Optional[range], twice: bool) -> List[Cut]:
-        """All cuts of the commands on these lines of the trace."""
+    def cuts(self, moments: Sequence[Moment], what: str) -> Iterator[Cut]:
+        """The cuts of these moments."""
+        before: Readings = []
+        waiting, done = Waiting(), 0
+        for moment, data in self.answers(moments, what):
+            while done < moment.index:
+                waiting.go_on(self.recording.commands[done], self.recording.replies[done])
+                done += 1
+            if moment.kind == "before":
+                before = readings_in(data, len(self.before_script))[1]
+            else:
+                yield self.cut(moment, data, before, waiting)
+
+    def cut(self, moment: Moment, data: bytes, before: Readings, waiting: Waiting) -> Cut:
+        """The cut that the answers to a moment's question tell."""
+        count = len(self.script(moment))
+        replies, after = readings_in(data, count)
+        if len(replies) < count:
+            raise ExploreError(f"{self.recording.trace.name}, line {self.recording.commands[moment.index].number}: "
+                               f"a cut after {moment.number} steps ends the run")
+        command = None if moment.kind == "end" else self.recording.commands[moment.index]
+        first = replies[0 if command is None else 1]
+        lost = waiting.all() if command is None else waiting.lost(command, first)
+        recovery = Recovery(replies[-1].answer, self.machine.recovery)
+        lines = self.lines_at(moment)
+        old = [before[self.places[line]] for line in lines] if len(before) > len(lines) else before
+        others, unread = self.others(lines, old, after)
+        cut = Cut(moment.index, moment.number, moment.steps, command, replies[-2].answer, recovery, others, tuple(lost),
+                  unread, moment.recovery_steps)
+        if self.observe is not None:
+            self.observe(cut, self.whole(lines, before, after))
+        return cut
+
+    def whole(self, lines: Sequence[int], before: Readings, after: Readings) -> Readings:
+        """What all lines read as, those that weren't read as before."""
+        if len(lines) == len(self.lines) or len(after) < len(lines):
+            return list(map(reading_of, after))
+        readings = list(map(reading_of, before))
+        for line, reading in zip(lines, after):
+            readings[self.places[line]] = reading_of(reading)
+        return readings
+
+    def others(self, lines: Sequence[int], before: Readings, after: Readings) -> Tuple[Tuple[Other, ...], Tuple[int, ...]]:
+        """The lines that read otherwise, and those that can't be read. What is missing stands after an exhibit, which
+        ends the run."""
+        if len(after) < len(lines):
+            after = [*after, *(OFF for _ in range(len(lines) - len(after)))]
+        others, unread = [], []
+        for place, (old, new) in enumerate(itertools.zip_longest(before, after, fillvalue=OFF)):
+            if new == OFF:
+                unread.append(lines[place])
+            elif old not in (new, OFF):
+                was, is_now = reading_of(old), reading_of(new)
+                if was != is_now:
+                    others.append(Other(lines[place], was.decode(), is_now.decode()))
+        return tuple(others), self.lines_unread(lines, unread)
+
+    def lines_unread(self, lines: Sequence[int], unread: Sequence[int]) -> Tuple[int, ...]:
+        """All lines that can't be read, where those that were read are some of them."""
+        return tuple(self.lines) if len(unread) == len(lines) and unread else tuple(unread)
+
+    def find(self, lines: Optional[range], twice: bool, rows_checked: int) -> List[Cut]:
+        """All cuts of the commands on these lines of the trace. So many of them are compared with those of a run from
+        the trace's start."""
         indexes = stepping_indexes(self.recording, lines)
-        self.finder.count(indexes)
-        self.before.update(zip(indexes, self.together.map(self.readings_before, indexes, "readings before")))
-        moments = self.moments(set(indexes))
-        cuts = self.together.map(lambda moment: self.cut(*moment), moments, "cuts")
-        if twice:
-            cuts = self.find_again(moments, cuts)
-        if lines is None and not self.ends_in_exhibit():
-            cuts.append(self.end(self.total()))
-        return cuts
+        self.totals.count(indexes)
+        moments = self.moments(indexes, lines is None and not self.recording.ends_in_exhibit)
+        cuts = list(self.cuts(moments, "cuts"))
+        self.check(cuts, rows_checked)
+        return self.with_second_cuts(cuts) if twice else cuts
 
-    def ends_in_exhibit(self) -> bool:
-        """Whether the trace ends in an exhibit, after which nothing can be asked."""
-        return bool(self.recording.replies) and self.recording.replies[-1].is_exhibit
+    def check(self, cuts: Sequence[Cut], count: int) -> None:
+        """Compares so many cuts, spread over the trace, with those of runs from its start that read all lines that the
+        trace names."""
+        finder = CutFinder(self.recording, Together(self.together.program, self.together.jobs, True), False, True)
+        finder.lines, finder.places = self.lines, self.places
+        finder.reads, finder.before_reads = self.reads, self.before_reads
+        finder.totals = self.totals
+        some = spread(cuts, count) if self.together.library_for(self.recording, len(cuts)) else []
+        moments = [moment for cut in some for moment in (
+            Moment("before", cut.index), Moment("cut" if cut.command else "end", cut.index, cut.number, cut.steps))]
+        for cut, other in zip(some, finder.cuts(moments, "rows compared")):
+            if cut != other:
+                raise ExploreError(f"{self.recording.trace.name}: a cut after {cut.steps} steps isn't answered the same by a "
+                                   "fork of a run and by a run from the start: use --from-start")
 
-    def find_again(self, moments: Sequence[Tuple[int, int, int]], cuts: Sequence[Cut]) -> List[Cut]:
+    def with_second_cuts(self, cuts: Sequence[Cut]) -> List[Cut]:
         """The cuts with those of each recovery."""
-        wanted = [(place, recovery_steps) for place, cut in enumerate(cuts)
-                  for recovery_steps in range(cut.recovery.numbers[2] if cut.recovery.numbers else 0)]
-        found = self.together.map(lambda item: self.cut_again(*moments[item[0]], item[1]), wanted, "cuts of recovery")
-        again: Dict[int, List[Cut]] = {}
-        for (place, _), cut in zip(wanted, found):
-            again.setdefault(place, []).append(cut)
-        return [Cut(cut.steps, cut.command, cut.answer, cut.recovery, cut.others, cut.unread, None,
-                    tuple(again.get(place, ()))) for place, cut in enumerate(cuts)]
+        moments: List[Moment] = []
+        for cut in cuts:
+            if not moments or moments[-1].index != cut.index:
+                moments.append(Moment("before", cut.index))
+            if cut.command is not None:
+                moments += [Moment("cut", cut.index, cut.number, cut.steps, number)
+                            for number in range(cut.recovery.steps)]
+        again: Dict[Tuple[int, int], List[Cut]] = {}
+        for second in self.cuts(moments, "cuts of recovery"):
+            again.setdefault((second.index, second.number), []).append(second)
+        return [replace(cut, again=tuple(again.get((cut.index, cut.number), ()))) for cut in cuts]
 
 
-def reading_of(reply: Reply) -> str:
+class InPlay:
+    """The lines that a cut of `run` can leave otherwise where nobody tampers: those of the writes that wait, those that
+    the command seals, and those that were so before the last command that had such lines."""
+
+    def __init__(self, recording: Recording, places: Dict[int, int]) -> None:
+        self.lines: List[Tuple[int, ...]] = []
+        waiting, last = Waiting(), frozenset()  # type: Waiting, FrozenSet[int]
+        for command, reply in zip(recording.commands, recording.replies):
+            now = {line for _, line, _ in waiting.all()}
+            now.update(int(mark.split(" ")[1]) for mark in reply.marks if mark.startswith("seal "))
+            now.intersection_update(places)
+            self.lines.append(tuple(sorted(now | last)))
+            if now:
+                last = frozenset(now)
+            waiting.go_on(command, reply)
+        self.lines.append(tuple(sorted(last | {line for _, line, _ in waiting.all()})))
+
+    def at(self, index: int) -> Tuple[int, ...]:
+        """Those before and in a command."""
+        return self.lines[index]
+
+
+def spread(cuts: Sequence[Cut], count: int) -> List[Cut]:
+    """So many of the cuts, from the first to the last."""
+    if count >= len(cuts):
+        return list(cuts)
+    return [cuts[place * (len(cuts) - 1) // max(1, count - 1)] for place in range(count)]
+
+
+def readings_in(data: bytes, count: int) -> Tuple[List[Reply], Readings]:
+    """The first `count` replies of what was printed, and what the reads after them answer."""
+    at = 0
+    for _ in range(count):
+        while True:
+            end = data.find(b"\n", at)
+            if end < 0:
+                return replies_in(data), []
+            is_mark = data.startswith(MARK_STARTS, at)
+            at = end + 1
+            if not is_mark:
+                break
+    readings = data[at:].split(b"\n")
+    readings.pop()
+    if any(start in data for start in MARK_STARTS):
+        readings = [line for line in readings if not line.startswith(MARK_STARTS)]
+    return replies_in(data[:at]), readings
+
+
+def reading_of(line: bytes) -> bytes:
     """What a read answers, without its number of steps."""
-    answer = reply.answer
-    return answer.rsplit(" ", 1)[0] if first_word(answer) in ("line", "refused") else answer
-
-
-def trace_cuts(recording: Recording, together: Together, lines: Optional[range] = None, twice: bool = False,
-               every_line: bool = False) -> List[Cut]:
-    """What a cut at each step of the commands on these lines of the trace leaves."""
-    return CutFinder(recording, together, every_line).find(lines, twice)
+    return line.rsplit(b" ", 1)[0] if line.startswith((b"line ", b"refused ")) else line
 
 
 def all_cuts(cuts: Sequence[Cut]) -> List[Cut]:
@@ -230,37 +366,56 @@ def all_cuts(cuts: Sequence[Cut]) -> List[Cut]:
 
 def row_of(cut: Cut) -> List[str]:
     """A cut's row of the table."""
-    if cut.recovery_steps is not None:
+    if cut.script:
+        head = ["", str(cut.command.number), f"before {cut.command.short}"] if cut.command else ["", "", "end of the trace"]
+        head.append(cut.answer)
+    elif cut.recovery_steps is not None:
         head = ["", "", f"  on, cut after {cut.recovery_steps}", cut.answer]
     elif cut.command is None:
         head = [str(cut.steps), "", "end of the trace", "off"]
     else:
         head = [str(cut.steps), str(cut.command.number), cut.command.short, cut.answer]
+    head.append(str(len(cut.lost)))
     numbers = cut.recovery.numbers
     if numbers is None:
-        return [*head, "", "", "", f"{cut.others_text}; on answers {short_text(cut.recovery.answer)}"]
+        return [*head, *("" for _ in cut.recovery.names),
+                f"{cut.others_text}; on answers {short_text(cut.recovery.answer)}"]
     return [*head, *map(str, numbers), cut.others_text]
 
 
-def summary_lines(cuts: Sequence[Cut]) -> List[str]:
-    """The greatest and the mean recovery."""
+def summary_lines(cuts: Sequence[Cut], names: Sequence[str]) -> List[str]:
+    """How many cuts there are, and the greatest and the mean recovery, but for where lines lie."""
     every = all_cuts(cuts)
-    numbers = [cut.recovery.numbers for cut in every if cut.recovery.numbers]
-    lines = [f"{len(every)} cuts, {len(numbers)} recovered"]
-    if numbers:
-        greatest = [max(column) for column in zip(*numbers)]
-        means = [sum(column) / len(numbers) for column in zip(*numbers)]
-        lines.append("greatest recovery: {} trials, {} digests, {} steps".format(*greatest))
-        lines.append("mean recovery: {:.1f} trials, {:.1f} digests, {:.1f} steps".format(*means))
+    found = [cut.recovery.numbers for cut in every if cut.recovery.numbers]
+    lines = [f"{len(every)} cuts, {len(found)} recovered"]
+    if found:
+        columns = [(name, [numbers[place] for numbers in found]) for place, name in enumerate(names)
+                   if name not in ("start", "gap")]
+        lines.append("greatest recovery: " + ", ".join(f"{max(column)} {name}" for name, column in columns))
+        lines.append("mean recovery: " + ", ".join(f"{sum(column) / len(found):.1f} {name}"
+                                                   for name, column in columns))
+    most = max((len(cut.lost) for cut in every), default=0)
+    if most:
+        lines.append(f"most writes lost by a cut: {most}")
     return lines
 
 
-def cuts_text(cuts: Sequence[Cut], recording: Recording) -> str:
-    """The cuts for people."""
-    heads = [["steps", "trace", "command", "answer", "recovery:", "", "", "lines that read"],
-             ["before", "line", "", "", "trials", "digests", "steps", "otherwise"]]
-    table = table_text(heads, [row_of(cut) for cut in all_cuts(cuts)], left=(2, 3, 7))
-    notes = summary_lines(cuts)
+def heads_of(names: Sequence[str]) -> List[List[str]]:
+    """The heads of the table."""
+    return [["steps", "trace", "command", "answer", "writes", "recovery:", *("" for _ in names[1:]), "lines that read"],
+            ["before", "line", "", "", "lost", *names, "otherwise"]]
+
+
+def cuts_text(cuts: Sequence[Cut], recording: Recording,
+              verdict_of: Optional[Callable[[Cut], str]] = None) -> str:
+    """The cuts for people, each with its verdict where it was checked."""
+    names = recording.settings.machine.recovery
+    heads, rows = heads_of(names), [row_of(cut) for cut in all_cuts(cuts)]
+    if verdict_of is not None:
+        heads = [[*heads[0], ""], [*heads[1], "check"]]
+        rows = [[*row, verdict_of(cut)] for row, cut in zip(rows, all_cuts(cuts))]
+    table = table_text(heads, rows, left=(2, 3, 5 + len(names), 6 + len(names)))
+    notes = summary_lines(cuts, names)
     last = recording.replies[-1] if recording.replies else None
     if last is not None and last.is_exhibit:
         command = recording.commands[len(recording.replies) - 1]
@@ -270,21 +425,24 @@ def cuts_text(cuts: Sequence[Cut], recording: Recording) -> str:
 
 def cut_record(cut: Cut) -> Dict[str, Any]:
     """A cut for scripts."""
-    numbers = cut.recovery.numbers or (None, None, None)
+    numbers: Sequence[Optional[int]] = cut.recovery.numbers or [None for _ in cut.recovery.names]
     record: Dict[str, Any] = {
         "steps_before": cut.steps, "trace_line": cut.command.number if cut.command else None,
         "command": " ".join(cut.command.words) if cut.command else "off", "answer": cut.answer,
-        "recovery": cut.recovery.answer, "trials": numbers[0], "digests": numbers[1], "steps": numbers[2],
+        "recovery": cut.recovery.answer, **dict(zip(cut.recovery.names, numbers)),
         "read_otherwise": [{"line": other.line, "before": other.before, "after": other.after}
                            for other in cut.others],
+        "writes_lost": [{"port": port, "line": line, "trace_line": number} for port, line, number in cut.lost],
         "unread": list(cut.unread)}
     if cut.recovery_steps is not None:
         record["recovery_cut_after"] = cut.recovery_steps
+    if cut.script:
+        record["written"] = [{"port": port, "line": line, "trace_line": number} for port, line, number in cut.written]
     if cut.again:
         record["cuts_of_recovery"] = [cut_record(each) for each in cut.again]
     return record
 
 
-def cuts_json(cuts: Sequence[Cut]) -> str:
-    """The cuts for scripts."""
-    return json_text([cut_record(cut) for cut in cuts])
+def cuts_json(cuts: Sequence[Cut], more: Callable[[Cut], Dict[str, Any]]) -> str:
+    """The cuts for scripts; `more` has what else is told of each."""
+    return json_text([{**cut_record(cut), **more(cut)} for cut in cuts])

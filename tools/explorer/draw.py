@@ -1,12 +1,14 @@
 """Pictures of a trace's persist steps, and of a sweep's curves. Only this needs matplotlib."""
 import io
+import sys
 from dataclasses import dataclass
 from typing import Any, Dict, List, Optional, Sequence, Tuple
 
 from .errors import WRONG_WORDS, ExploreError
 from .layout import CHIP, COUNTERS, DATA, NODES, PARTS, SHADOWS, TAGS, Layout, Place
 from .program import first_word
-from .steps import UNSEEN, Step, Traced
+from .settings import Settings
+from .steps import KEPT, LOST, UNSEEN, UNTOLD, Step, Traced
 from .sweep import NUMBERS
 from .trace import TAMPERING_WORDS, number_of
 
@@ -23,6 +25,14 @@ MARKS: Dict[str, Tuple[str, str, str]] = {
     NODES: ("v", GREEN, "tree node written"),
     SHADOWS: ("P", PURPLE, "shadow line written"),
 }
+
+# Of a machine that doesn't show its device: what a cut just before a step does to the command's write.
+FATES: Dict[str, Tuple[str, str, str, str]] = {
+    LOST: ("o", VERMILION, "write lost", "a cut just before this step loses the write"),
+    KEPT: ("s", BLUE, "write kept", "a cut just before this step keeps the write"),
+    "": ("^", BLACK, "no write", "a step of a read or a recovery"),
+}
+ATTACKER = "attacker"
 
 MOST_ROWS = 8
 WIDE, DENSE = (1.0, 0.5), (0.3, 0.25)
@@ -65,8 +75,9 @@ def load_matplotlib() -> Any:
         matplotlib.use("Agg")
         from matplotlib import pyplot
     except ImportError as error:
-        raise ExploreError("pictures need the package matplotlib (Debian: apt-get install python3-matplotlib; "
-                           f"else: pip install matplotlib): {error}") from error
+        raise ExploreError(f"pictures need the package matplotlib, which {sys.executable} hasn't (Debian's own python3: "
+                           f"apt-get install python3-matplotlib; else: {sys.executable} -m pip install matplotlib): "
+                           f"{error}") from error
     matplotlib.rcParams.update({"svg.hashsalt": "pmem", "font.size": 9, "font.family": "DejaVu Sans",
                                 "axes.spines.top": False, "axes.spines.right": False})
     return pyplot
@@ -121,10 +132,15 @@ def placed_spans(traced: Sequence[Traced], idle: float, gap: float) -> List[Span
     return spans
 
 
+def is_tampering(entry: Traced) -> bool:
+    """Whether a command changes a device line behind the controller's back."""
+    return entry.command.word in TAMPERING_WORDS and entry.reply.answer == "ok"
+
+
 def tampered_place(entry: Traced, layout: Layout) -> Optional[Place]:
     """The device line that a tamper command changes."""
     words = entry.command.words
-    if words[0] not in TAMPERING_WORDS or entry.reply.answer != "ok":
+    if not is_tampering(entry):
         return None
     number = number_of(words[2] if words[0] == "move" else words[1])
     return None if number is None else layout.place(number)
@@ -145,15 +161,27 @@ def short_place(place: Place) -> str:
 class Lanes:
     """The lanes from the top down, and in each of them a row for each device line that the trace changes."""
 
-    def __init__(self, places: Sequence[Place]) -> None:
+    def __init__(self) -> None:
         self.rows: Dict[int, float] = {}
+        self.fates: Dict[str, float] = {}
         self.labels: List[Tuple[float, str]] = []
         self.bounds: List[Tuple[str, float, float]] = []
         self.bottom = 0.0
+        self.chip = 0.0
+
+    def add_device(self, places: Sequence[Place]) -> None:
+        """The lanes of the chip and of the parts of the device."""
         self.chip = self.add_lane(CHIP, [])
         for part in PARTS:
             self.add_lane(part, sorted({place.line: place for place in places if place.part == part}.values(),
                                        key=lambda place: place.line))
+
+    def add_fates(self, has_attacker: bool) -> None:
+        """The lanes of a machine that doesn't show its device: one for each thing that a cut before a step does."""
+        for fate, (_, _, name, _) in FATES.items():
+            self.fates[fate] = self.add_lane(name, [])
+        if has_attacker:
+            self.fates[ATTACKER] = self.add_lane(ATTACKER, [])
 
     def add_lane(self, part: str, places: Sequence[Place]) -> float:
         """Adds a lane below the others, and answers the height of its first row."""
@@ -245,7 +273,7 @@ def draw_marks(axes: Any, spans: Sequence[Span], lanes: Lanes, size: float) -> L
         for again in (False, True):
             points = [(span.step_at(number), lanes.height_of(step)) for span in spans
                       for number, step in enumerate(span.traced.steps)
-                      if step.kind != UNSEEN and step.part == part and step.again == again
+                      if step.kind not in (UNSEEN, UNTOLD) and step.part == part and step.again == again
                       and (step.place is not None or part == CHIP) and not (part == CHIP and step.again)]
             if points:
                 axes.scatter(*zip(*points), marker=marker, s=size, facecolor="white" if again else colour,
@@ -259,10 +287,27 @@ def draw_marks(axes: Any, spans: Sequence[Span], lanes: Lanes, size: float) -> L
     return drawn
 
 
-def draw_tampering(axes: Any, spans: Sequence[Span], lanes: Lanes, layout: Layout, size: float) -> bool:
+def draw_fates(axes: Any, spans: Sequence[Span], lanes: Lanes, size: float) -> List[str]:
+    """A mark for each persist step of a machine that doesn't show its device; answers which kinds there are."""
+    drawn = []
+    for fate, (marker, colour, _, _) in FATES.items():
+        points = [(span.step_at(number), lanes.fates[fate]) for span in spans
+                  for number, step in enumerate(span.traced.steps) if step.kind == UNTOLD and step.fate == fate]
+        if points:
+            axes.scatter(*zip(*points), marker=marker, s=size, facecolor=colour, edgecolor="white", linewidth=0.4,
+                         zorder=3)
+            drawn.append(f"fate {fate}")
+    return drawn
+
+
+def draw_tampering(axes: Any, spans: Sequence[Span], lanes: Lanes, layout: Optional[Layout], size: float) -> bool:
     """A cross where the attacker changes a device line."""
     points = []
     for span in spans:
+        if layout is None:
+            if is_tampering(span.traced):
+                points.append((span.middle, lanes.fates[ATTACKER]))
+            continue
         place = tampered_place(span.traced, layout)
         if place is not None:
             points.append((span.middle, lanes.rows[place.line]))
@@ -302,7 +347,7 @@ def command_label(entry: Traced) -> str:
     words = entry.command.words
     if words[0] in ("post", "part"):
         return " ".join(words[:3])
-    return " ".join(words[:2] if words[0] == "poke" else words)
+    return " ".join(words[:2] if words[0] in ("poke", "write", "put") else words)
 
 
 def draw_axis(axes: Any, spans: Sequence[Span], width: float) -> None:
@@ -324,6 +369,9 @@ def legend_handles(drawn: Sequence[str], tampered: bool) -> List[Any]:
     handles: List[Any] = []
     for part, (marker, colour, text) in MARKS.items():
         if part in drawn:
+            handles.append(Line2D([], [], marker=marker, color=colour, linestyle="", label=text))
+    for fate, (marker, colour, _, text) in FATES.items():
+        if f"fate {fate}" in drawn:
             handles.append(Line2D([], [], marker=marker, color=colour, linestyle="", label=text))
     if "again" in drawn:
         handles.append(Line2D([], [], marker="o", markerfacecolor="white", markeredgecolor=BLACK, linestyle="",
@@ -349,12 +397,17 @@ def changed_places(spans: Sequence[Span], layout: Layout) -> List[Place]:
     return [*places, *(place for place in tampered if place is not None)]
 
 
-def timeline(traced: Sequence[Traced], layout: Layout, title: str, kind: str) -> bytes:
+def timeline(traced: Sequence[Traced], settings: Settings, title: str, kind: str) -> bytes:
     """The picture of a trace."""
     pyplot = load_matplotlib()
     spans = spans_of(traced)
     end = spans[-1].end if spans else 1.0
-    lanes = Lanes(changed_places(spans, layout))
+    layout = Layout(settings) if settings.machine.has_counts else None
+    lanes = Lanes()
+    if layout is not None:
+        lanes.add_device(changed_places(spans, layout))
+    else:
+        lanes.add_fates(any(is_tampering(entry) for entry in traced))
     width = min(WIDEST, max(NARROWEST, LEFT + RIGHT + UNIT * end))
     unit = (width - LEFT - RIGHT) / (end + 1)
     labels = labels_of(spans, unit)
@@ -363,7 +416,8 @@ def timeline(traced: Sequence[Traced], layout: Layout, title: str, kind: str) ->
     figure, axes = pyplot.subplots(figsize=(width, height))
     size = min(42.0, max(9.0, 42.0 * unit / UNIT))
     draw_lanes(axes, lanes, end, (LEFT - 0.15) / (width - LEFT - RIGHT))
-    drawn = [*draw_power(axes, spans, 0.0, lanes.bottom), *draw_marks(axes, spans, lanes, size)]
+    drawn = draw_power(axes, spans, 0.0, lanes.bottom)
+    drawn += draw_marks(axes, spans, lanes, size) if layout is not None else draw_fates(axes, spans, lanes, size)
     tampered = draw_tampering(axes, spans, lanes, layout, size)
     draw_commands(axes, spans, labels, 0.0)
     draw_axis(axes, spans, width)
@@ -440,7 +494,12 @@ def draw_panel(axes: Any, name: str, title: str, drawn: Curves) -> None:
                   if record[name] is not None]
         if points:
             highest = max(highest or 0, *(value for _, value in points))
-            axes.plot(*zip(*points), clip_on=False, **drawn.curve_style(number))
+            style = drawn.curve_style(number)
+            axes.plot(*zip(*points), clip_on=False, **style)
+            short = [(drawn.values.index(record[drawn.along]), record[name]) for record in group
+                     if record[name] is not None and record["out_of_range"]]
+            if short:
+                axes.plot(*zip(*short), clip_on=False, **{**style, "linestyle": "", "markerfacecolor": "white"})
     axes.set_title(title, fontsize=9, loc="left")
     axes.set_xticks(range(len(drawn.values)))
     axes.set_xticklabels([str(value) for value in drawn.values], fontsize=8)
@@ -466,7 +525,8 @@ def curves(records: Sequence[Dict[str, Any]], title: str, along: Optional[str], 
     drawn = curves_of(records, chosen_number(records, along))
     pyplot = load_matplotlib()
     columns = legend_columns(drawn)
-    below = 0.15 + 0.3 * len(columns)
+    notes = dropped_notes(records)
+    below = 0.15 + 0.3 * len(columns) + 0.16 * len(notes)
     height = 7.0 + below
     figure, panels = pyplot.subplots(3, 3, figsize=(9.5, height))
     for axes, (name, text) in zip(panels.flat, PANELS):
@@ -479,7 +539,25 @@ def curves(records: Sequence[Dict[str, Any]], title: str, along: Optional[str], 
     for place, handles in enumerate(columns):
         figure.legend(handles=handles, loc="lower center", ncol=min(8, len(handles)), frameon=False, fontsize=8,
                       bbox_to_anchor=(0.5, (below - 0.3 * (place + 1)) / height))
+    for place, note in enumerate(reversed(notes)):
+        figure.text(0.02, (0.06 + 0.16 * place) / height, note, ha="left", va="bottom", fontsize=7.5, color=VERMILION)
     return picture(pyplot, figure, kind)
+
+
+def dropped_notes(records: Sequence[Dict[str, Any]]) -> List[str]:
+    """Which settings leave commands out, since these name a place that a smaller memory hasn't: their points are hollow,
+    and stand for another workload."""
+    dropped: Dict[Any, List[Dict[str, Any]]] = {}
+    for record in records:
+        if record["out_of_range"]:
+            dropped.setdefault(record["levels"], []).append(record)
+    notes = []
+    for levels, some in dropped.items():
+        most = max(record["out_of_range"] for record in some)
+        total = some[0].get("commands")
+        notes.append(f"levels {levels} (hollow): {most}{f' of {total}' if total else ''} commands name a place that isn't "
+                     "there and are left out")
+    return notes
 
 
 def label_of(name: str) -> str:
@@ -489,5 +567,6 @@ def label_of(name: str) -> str:
 
 def title_of(records: Sequence[Dict[str, Any]], title: str) -> str:
     """The title, with the numbers that don't vary."""
-    fixed = [f"{label_of(name)} {records[0][name]}" for name in NUMBERS if name not in varied(records)]
+    fixed = [f"{label_of(name)} {records[0][name]}" for name in NUMBERS
+             if name not in varied(records) and records[0][name] is not None]
     return title + (f" ({', '.join(fixed)})" if fixed else "")

@@ -2,9 +2,8 @@
 from dataclasses import dataclass
 from typing import List
 
+from .machines import LINES_OF_PAGE
 from .settings import Settings
-
-LINES_OF_PAGE = 64
 
 CHIP = "chip"
 DATA = "data lines"
@@ -29,7 +28,7 @@ class Layout:
 
     def __init__(self, settings: Settings) -> None:
         self.levels = settings.levels
-        self.pages = 4 ** self.levels
+        self.pages = 1 << 2 * self.levels
         self.data_lines = LINES_OF_PAGE * self.pages
         self.first_tag = self.data_lines
         self.first_meta = 80 * self.pages

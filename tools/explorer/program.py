@@ -1,28 +1,18 @@
 """Running the program and reading what it answers."""
-import os
 import signal
 import subprocess
-import threading
 from dataclasses import dataclass
-from pathlib import Path
-from typing import Dict, List, Optional, Sequence, Set, Tuple
+from typing import Dict, List, Optional, Sequence, Tuple
 
 from .errors import INTERRUPTED, WRONG_WORDS, ExploreError, reason_of
+from .processes import end, start
 from .settings import Settings
-from .trace import STEPPING_WORDS, Trace, shown_line
+from .stops import KINDS
+from .trace import Trace, shown_line
 
 MARKS = ("seal", "begin")
 EXHIBITS = ("clash", "forged", "twin")
-WITHOUT_STEPS = ("off", "range", "empty", "idle", "clean", "already")
-
-KINDS: Dict[str, str] = {
-    "1": "no such command",
-    "2": "too few or too many words",
-    "3": "a word that should be a number isn't one",
-    "4": "a port above 7",
-    "5": "a word with the wrong hex digits",
-    "6": "more than 1,024 bytes",
-}
+WITHOUT_STEPS = ("off", "range", "empty", "idle", "clean", "already", "closed")
 
 STATUS_EXHIBIT = 6
 
@@ -112,6 +102,11 @@ def counts_of(answer: str) -> Counts:
     return Counts(*(int(word) for word in answer.split(" ")[1:]))
 
 
+def replies_in(data: bytes) -> List[Reply]:
+    """The replies in what the program printed."""
+    return replies_of(Output(data, 0).lines)
+
+
 def replies_of(lines: Sequence[str]) -> List[Reply]:
     """The replies that these lines are: an answer ends each."""
     replies: List[Reply] = []
@@ -125,51 +120,69 @@ def replies_of(lines: Sequence[str]) -> List[Reply]:
     return replies
 
 
+@dataclass(frozen=True)
+class Run:
+    """A script that is run from its start."""
+
+    script: bytes
+    settings: Settings
+
+
+@dataclass(frozen=True)
+class Question:
+    """Commands that go on from the state after the first `index` commands of a trace. `tail` is the text of the last ones,
+    which many questions share."""
+
+    index: int
+    script: Tuple[bytes, ...]
+    tail: bytes = b""
+
+    @property
+    def text(self) -> bytes:
+        """The commands as a trace."""
+        return text_of(self.script) + self.tail
+
+
+def text_of(script: Sequence[bytes]) -> bytes:
+    """Commands as a trace."""
+    return b"".join(line + b"\n" for line in script)
+
+
 class Program:
-    """The program's file, and the runs of it that are under way."""
+    """The program's file."""
 
     def __init__(self, path: str) -> None:
         self.path = path
-        self.lock = threading.Lock()
-        self.running: Set["subprocess.Popen[bytes]"] = set()
-        self.stopped = False
 
-    def stop(self) -> None:
-        """Ends all runs, and lets no more begin."""
-        with self.lock:
-            self.stopped = True
-            for process in self.running:
-                process.kill()
-
-    def start(self, settings: Settings) -> "subprocess.Popen[bytes]":
+    def start(self, settings: Settings, environment: Optional[Dict[str, str]] = None) -> "subprocess.Popen[bytes]":
         """Begins a run."""
-        with self.lock:
-            if self.stopped:
-                raise ExploreError("stopped")
-            try:
-                process = subprocess.Popen([self.path, "run", *settings.words()],
-                                           stdin=subprocess.PIPE, stdout=subprocess.PIPE)
-            except OSError as error:
-                raise ExploreError(f"cannot run the program {self.path}: {reason_of(error)}") from error
-            self.running.add(process)
-            return process
+        try:
+            return start([self.path, *settings.words()], environment)
+        except OSError as error:
+            raise ExploreError(f"cannot run the program {self.path}: {reason_of(error)}") from error
+
+    def begin(self, run: Run) -> Tuple["subprocess.Popen[bytes]", bytes]:
+        """Begins a run, and answers what it is to be given."""
+        return self.start(run.settings), run.script
+
+    def output(self, run: Run) -> Output:
+        """What the program prints in a run, and how it ends."""
+        process = self.start(run.settings)
+        try:
+            data, _ = process.communicate(run.script)
+        finally:
+            status = end(process)
+        return Output(data, status)
 
     def run(self, script: bytes, settings: Settings) -> Output:
         """What the program prints on this trace."""
-        process = self.start(settings)
-        try:
-            data, _ = process.communicate(script)
-        finally:
-            if process.poll() is None:
-                process.kill()
-                process.wait()
-            with self.lock:
-                self.running.discard(process)
-        self.check_status(process.returncode, data, settings)
-        return Output(data, process.returncode)
+        output = self.output(Run(script, settings))
+        self.check(output, settings)
+        return output
 
-    def check_status(self, status: int, data: bytes, settings: Settings) -> None:
+    def check(self, output: Output, settings: Settings) -> None:
         """Tells what is wrong where a run didn't answer to its end."""
+        status, data = output.status, output.data
         if status in (0, STATUS_EXHIBIT):
             return
         if status in (-signal.SIGINT, INTERRUPTED):
@@ -188,11 +201,6 @@ class Program:
             raise ExploreError(f"the program {self.path} was ended by signal {-status}")
         raise ExploreError(f"the program {self.path} ended with status {status}"
                            + (f", its last line: {shown_line(last.encode())}" if last else ""))
-
-
-def default_program() -> str:
-    """The program that is asked where no option names one."""
-    return os.environ.get("PMEM_PROGRAM") or str(Path(__file__).resolve().parents[2] / "pmem")
 
 
 class Recording:
@@ -228,25 +236,44 @@ class Recording:
             raise ExploreError(f"{self.program.path} doesn't answer as pmem does: "
                                f"{len(self.replies)} answers to {len(self.commands)} commands")
         for index, command in enumerate(self.commands[:len(self.replies)]):
-            if command.word in STEPPING_WORDS and not self.replies[index].has_steps:
+            if command.word in self.settings.machine.stepping and not self.replies[index].has_steps:
                 raise ExploreError(f"{self.program.path} doesn't answer as pmem does: "
                                    f"{shown_line(self.replies[index].answer.encode())!r} to {command.short!r}")
 
-    def ask(self, index: int, script: Sequence[bytes]) -> List[Reply]:
-        """The replies to further commands after the first `index` ones of the trace."""
-        end = self.script_ends[index]
-        before = self.output[:self.output_ends[index]]
+    def run_of(self, question: Question) -> Run:
+        """The run from the trace's start that comes to a question's answer."""
+        return Run(self.script[:self.script_ends[question.index]] + question.text, self.settings)
+
+    def begin(self, question: Question) -> Tuple["subprocess.Popen[bytes]", bytes]:
+        """Begins that run, and answers what it is to be given."""
+        return self.program.begin(self.run_of(question))
+
+    def answer(self, question: Question, output: Output, is_whole: bool = True) -> bytes:
+        """What is printed to a question, of an output that `is_whole` where it begins with the replies to the trace."""
         try:
-            output = self.program.run(self.script[:end] + b"".join(line + b"\n" for line in script), self.settings)
+            self.program.check(output, self.settings)
         except StopLine as stop:
             raise ExploreError(f"{self.program.path} doesn't take a command that it should: {stop}") from stop
+        if not is_whole:
+            return output.data
+        before = self.output[:self.output_ends[question.index]]
         if not output.data.startswith(before):
             raise ExploreError(f"{self.program.path} doesn't answer the same in two runs of {self.trace.name}")
-        return replies_of(Output(output.data[len(before):], output.status).lines)
+        return output.data[len(before):]
+
+    def ask(self, index: int, script: Sequence[bytes]) -> List[Reply]:
+        """The replies to further commands after the first `index` ones of the trace, by a run from its start."""
+        question = Question(index, tuple(script))
+        return replies_in(self.answer(question, self.program.output(self.run_of(question))))
+
+    @property
+    def ends_in_exhibit(self) -> bool:
+        """Whether the trace ends in an exhibit, after which nothing can be asked."""
+        return bool(self.replies) and self.replies[-1].is_exhibit
 
     def steps(self, index: int) -> Optional[int]:
         """The persist steps of a command, as its answer tells them; None with an exhibit."""
-        if self.commands[index].word not in STEPPING_WORDS:
+        if self.commands[index].word not in self.settings.machine.stepping:
             return 0
         return self.replies[index].steps
 

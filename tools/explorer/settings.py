@@ -1,12 +1,16 @@
-"""The options of `pmem run`, as they are passed on to it."""
-from dataclasses import dataclass, replace
+"""The machine and its options, as they are passed on to the program."""
+from dataclasses import dataclass, fields, replace
 from typing import Any, Dict, List
+
+from .errors import WRONG_WORDS, ExploreError
+from .machines import MACHINES, Machine
 
 LEVELS = range(1, 7)
 SETS = range(1, 65)
 WAYS = range(1, 9)
 LOSSES = (1, 2, 4, 8, 16)
 SUITES = ("aes", "weak", "blur")
+EVERY = range(1, 1_000_001)
 
 
 @dataclass(frozen=True)
@@ -21,26 +25,48 @@ class Settings:
     suite: str = "aes"
     key: str = ""
     tag_key: str = ""
+    every: int = 100
+    machine_name: str = "run"
+
+    @property
+    def machine(self) -> Machine:
+        """The machine that runs."""
+        return MACHINES[self.machine_name]
 
     def words(self) -> List[str]:
         """The words that say so on the program's command line."""
-        words = [f"--levels={self.levels}", f"--sets={self.sets}", f"--ways={self.ways}",
-                 f"--loss={self.loss}", f"--major={self.major}", f"--suite={self.suite}"]
-        if self.key:
-            words.append(f"--key={self.key}")
-        if self.tag_key:
-            words.append(f"--tag-key={self.tag_key}")
+        words = [self.machine_name]
+        for name in self.machine.options:
+            value = getattr(self, name)
+            if value != "":
+                words.append(f"--{name.replace('_', '-')}={value}")
         return words
 
-    def changed(self, **fields: Any) -> "Settings":
+    def check(self) -> None:
+        """That no option is chosen which the machine hasn't."""
+        for field in fields(self):
+            if field.name not in (*self.machine.options, "machine_name") and getattr(self, field.name) != field.default:
+                raise ExploreError(f"pmem {self.machine_name} has no option --{field.name.replace('_', '-')}",
+                                   WRONG_WORDS)
+
+    @property
+    def data_lines(self) -> int:
+        """How many lines of memory there are."""
+        return self.machine.data_lines(self.levels)
+
+    def changed(self, **values: Any) -> "Settings":
         """The same settings but for these fields."""
-        return replace(self, **fields)
+        return replace(self, **values)
 
     def geometry(self) -> Dict[str, int]:
         """The numbers that a sweep varies."""
-        return {"levels": self.levels, "sets": self.sets, "ways": self.ways, "loss": self.loss}
+        return {name: getattr(self, name) for name in ("levels", "sets", "ways", "loss")
+                if name in self.machine.options}
 
     def text(self) -> str:
         """The geometry in words, for titles."""
-        return (f"levels {self.levels}, sets {self.sets}, ways {self.ways}, stop-loss {self.loss}, "
-                f"suite {self.suite}")
+        named = {"loss": "stop-loss"}
+        texts = [f"{named.get(name, name)} {value}" for name, value in self.geometry().items()]
+        if "every" in self.machine.options:
+            texts.append(f"a move every {self.every} writes")
+        return ", ".join([*texts, f"suite {self.suite}"])

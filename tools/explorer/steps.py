@@ -1,32 +1,37 @@
 """Each persist step of a trace, found by cutting it at each step and comparing the device with `peek`."""
 from dataclasses import dataclass
-from typing import Any, Dict, List, Optional, Sequence, Tuple
+from typing import Any, Dict, Iterable, Iterator, List, Optional, Sequence, Tuple
 
-from .errors import ExploreError
-from .layout import CHIP, LINES_OF_PAGE, Layout, Place
+from .errors import WRONG_WORDS, ExploreError
+from .layout import CHIP, Layout, Place
+from .machines import LINES_OF_PAGE
 from .output import json_text
-from .program import Counts, Recording, Reply, counts_of
+from .program import Counts, Question, Recording, Reply, counts_of, replies_in, text_of
 from .together import Together
-from .trace import STEPPING_WORDS, TAMPERING_WORDS, Command, number_of, short_text
+from .trace import TAMPERING_WORDS, Command, number_of, short_text
 
-MOST_LINES_ASKED = 100_000
 LINES_AT_ONCE = 500_000
 TRIED_AT_ONCE = 8
 MOST_TURNED = 500
+SHOWN_BYTES = len("raw ") + 128 + len("\n")
 
 LATCH = "latch"
 WRITE = "write"
 UNSEEN = "unseen"
+UNTOLD = "untold"
+LOST, KEPT = "lost", "kept"
 
 
 @dataclass(frozen=True)
 class Step:
-    """One persist step: a latch, or a write of a device line. `again`: with the bytes that it had."""
+    """One persist step: a latch, or a write of a device line. `again`: with the bytes that it had. Of a machine that
+    doesn't show its device `fate` is what a cut just before the step answers: `lost`, `kept` or nothing."""
 
     number: int
     kind: str
     place: Optional[Place] = None
     again: bool = False
+    fate: str = ""
 
     @property
     def part(self) -> str:
@@ -46,42 +51,64 @@ class Step:
 
 
 @dataclass(frozen=True)
+class Fate:
+    """What cuts after `first` to `last` steps of a command answer, and then `on`, both without their steps."""
+
+    first: int
+    last: int
+    answer: str
+    recovery: str
+
+    @property
+    def text(self) -> str:
+        """It in words."""
+        numbers = f"{self.first}" if self.first == self.last else f"{self.first} to {self.last}"
+        return f"{numbers} of its steps: {self.answer}, then {short_text(self.recovery)}"
+
+
+@dataclass(frozen=True)
 class Traced:
-    """A command, its reply, and its persist steps."""
+    """A command, its reply, and its persist steps, or of a machine that doesn't show its device what cuts in it leave."""
 
     command: Command
     reply: Reply
     steps: Tuple[Step, ...]
+    fates: Tuple[Fate, ...] = ()
 
 
 @dataclass(frozen=True)
 class State:
-    """What the program shows at one moment: its counts and some device lines."""
+    """What the program shows at one moment: its counts, and the text of some device lines."""
 
     counts: Counts
-    lines: Dict[int, str]
+    text: bytes
+
+    @property
+    def lines(self) -> List[bytes]:
+        """The device lines, each as it is shown."""
+        return self.text.split(b"\n")[:-1]
 
 
-def mentioned_lines(recording: Recording, layout: Layout) -> List[int]:
-    """The data lines that the trace's writes and reads name."""
+def mentioned_lines(recording: Recording) -> List[int]:
+    """The lines of memory that the trace's writes and reads name."""
     lines = set()
+    names = recording.settings.machine.names
     for command in recording.commands[:len(recording.replies)]:
-        words = command.words
-        if words[0] in ("post", "part", "read"):
-            number = number_of(words[2])
-            if number is not None and number < layout.data_lines:
+        if command.word in names:
+            number = number_of(command.words[names[command.word]])
+            if number is not None and number < recording.settings.data_lines:
                 lines.add(number)
     return sorted(lines)
 
 
-def tampered_lines(recording: Recording, layout: Layout) -> List[int]:
+def tampered_lines(recording: Recording, size: int) -> List[int]:
     """The device lines that the trace's attacker changes."""
     lines = set()
+    tampers = recording.settings.machine.tampers
     for command in recording.commands[:len(recording.replies)]:
-        words = command.words
-        if words[0] in TAMPERING_WORDS:
-            number = number_of(words[2] if words[0] == "move" else words[1])
-            if number is not None and number < layout.size:
+        if command.word in tampers:
+            number = number_of(command.words[tampers[command.word]])
+            if number is not None and number < size:
                 lines.add(number)
     return sorted(lines)
 
@@ -90,7 +117,7 @@ def likely_places(recording: Recording, layout: Layout) -> List[int]:
     """The device lines that steps of the trace are looked for at first: those of the data lines that it
     names, and all of a page that is re-encrypted."""
     places = set(layout.shadow_lines())
-    for line in mentioned_lines(recording, layout):
+    for line in mentioned_lines(recording):
         places.update((line, layout.tag_line(line)))
         places.update(layout.path(line // LINES_OF_PAGE))
     for reply in recording.replies:
@@ -105,26 +132,72 @@ def asks(places: Sequence[int]) -> List[bytes]:
     return [b"stat", *(b"peek %d" % place for place in places)]
 
 
-def state_of(replies: Sequence[Reply], places: Sequence[int]) -> State:
-    """The state that the replies to `asks` tell."""
-    if len(replies) != len(places) + 1:
-        raise ExploreError("the program doesn't answer each command")
-    lines = {place: reply.answer for place, reply in zip(places, replies[1:])}
-    if any(not answer.startswith("raw ") for answer in lines.values()):
-        raise ExploreError("the device isn't laid out as docs/MACHINE.md says: a peek is out of range")
-    return State(counts_of(replies[0].answer), lines)
+def state_in(data: bytes, count: int) -> State:
+    """The state that the end of what was printed tells: the counts and `count` lines."""
+    start = len(data) - SHOWN_BYTES * count
+    before = data[:max(0, start)].rsplit(b"\n", 2)
+    if start < 0 or data.count(b"raw ", start) != count or len(before) < 2 or not before[-2].startswith(b"stat "):
+        raise ExploreError("the program doesn't show the counts and each device line: is the device laid out as "
+                           "docs/MACHINE.md says?")
+    return State(counts_of(before[-2].decode()), data[start:])
+
+
+def first_difference(old: State, new: State, count: int) -> int:
+    """Which of `count` device lines is the first that differs in two states that aren't the same."""
+    low, high = 0, count
+    while high - low > 1:
+        middle = (low + high) // 2
+        part = slice(SHOWN_BYTES * low, SHOWN_BYTES * middle)
+        if old.text[part] == new.text[part]:
+            low = middle
+        else:
+            high = middle
+    return low
+
+
+class Totals:
+    """How many persist steps each command takes."""
+
+    def __init__(self, recording: Recording, together: Together) -> None:
+        self.recording = recording
+        self.together = together
+        self.before_exhibit: Dict[int, int] = {}
+
+    def of(self, index: int) -> int:
+        """The steps of a command, as its answer tells them or as they were counted."""
+        return self.before_exhibit.get(index, self.recording.steps(index) or 0)
+
+    def count(self, indexes: Sequence[int]) -> None:
+        """Counts the steps of a command among these that ends the run with an exhibit: the least cut that it isn't cut
+        by."""
+        for index in indexes:
+            if self.recording.steps(index) is None:
+                self.before_exhibit[index] = self.steps_before_exhibit(index)
+
+    def steps_before_exhibit(self, index: int) -> int:
+        """The steps of a command before its exhibit."""
+        first = 0
+        while True:
+            questions = [Question(index, (b"cut %d" % number, self.recording.commands[index].text))
+                         for number in range(first, first + TRIED_AT_ONCE)]
+            found = self.together.answers(self.recording, questions, len(questions), "steps before the exhibit")
+            for number, (_, data) in enumerate(list(found), first):
+                if replies_in(data)[1].is_exhibit:
+                    return number
+            first += TRIED_AT_ONCE
 
 
 class StepFinder:
-    """Finds the steps of one trace."""
+    """Finds the steps of one trace of `run`."""
 
     def __init__(self, recording: Recording, together: Together) -> None:
         self.recording = recording
         self.together = together
         self.layout = Layout(recording.settings)
         self.likely = likely_places(recording, self.layout)
-        self.states: Dict[Tuple[int, int], State] = {}
-        self.totals: Dict[int, int] = {}
+        self.asked = text_of(asks(self.likely))
+        self.totals = Totals(recording, together)
+        self.places: Dict[int, Place] = {}
 
     def check_layout(self) -> None:
         """That the device ends where the layout says."""
@@ -134,184 +207,218 @@ class StepFinder:
             raise ExploreError(f"{self.recording.program.path} doesn't answer as pmem does: its device hasn't the "
                                f"{size} lines that docs/MACHINE.md lists")
 
-    def steps_before_exhibit(self, index: int) -> int:
-        """The steps that a command took before it ended the run with an exhibit: the least cut that it isn't
-        cut by."""
-        first = 0
-        while True:
-            numbers = list(range(first, first + TRIED_AT_ONCE))
-            for number, reply in zip(numbers, self.together.map(
-                    lambda n: self.cut_reply(index, n), numbers, "steps before the exhibit")):
-                if reply.is_exhibit:
-                    return number
-            first += TRIED_AT_ONCE
-
-    def cut_reply(self, index: int, number: int) -> Reply:
-        """A command's reply where it is cut after so many steps."""
-        return self.recording.ask(index, [b"cut %d" % number, self.recording.commands[index].text])[1]
-
-    def count(self, indexes: Sequence[int]) -> None:
-        """Notes how many steps each of these commands takes."""
-        for index in indexes:
-            steps = self.recording.steps(index)
-            self.totals[index] = self.steps_before_exhibit(index) if steps is None else steps
-
     def script_to(self, index: int, number: int) -> List[bytes]:
         """What is run after the first `index` commands to stop at a step of the next one."""
         text = self.recording.commands[index].text
         if number == 0:
             return []
-        if number == self.totals[index]:
+        if number == self.totals.of(index):
             return [text]
         return [b"cut %d" % number, text]
 
-    def state_at(self, index: int, number: int, places: Sequence[int]) -> State:
-        """The state after so many steps of a command."""
-        script = self.script_to(index, number)
-        lines: Dict[int, str] = {}
-        counts = Counts()
-        for start in range(0, len(places), LINES_AT_ONCE):
-            some = places[start:start + LINES_AT_ONCE]
-            state = state_of(self.recording.ask(index, [*script, *asks(some)])[len(script):], some)
-            lines.update(state.lines)
-            counts = state.counts
-        return State(counts, lines)
+    def question(self, index: int, number: int, asked: bytes, turned: Sequence[int] = ()) -> Question:
+        """The question that shows lines after so many steps of a command before which a bit of some was turned."""
+        return Question(index, (*(b"flip %d 0" % place for place in turned), *self.script_to(index, number)), asked)
 
-    def moments_between(self, indexes: Sequence[int]) -> List[Tuple[int, int]]:
-        """The moments within commands, which only a cut shows."""
-        return [(index, number) for index in indexes for number in range(1, self.totals[index])]
+    def states(self, questions: Iterable[Question], total: int, count: int, what: str) -> Iterator[State]:
+        """The states of `count` lines that these questions show."""
+        for _, data in self.together.answers(self.recording, questions, total, what):
+            yield state_in(data, count)
 
-    def find_ends(self, indexes: Sequence[int]) -> None:
-        """Finds the states before and after each of these commands, many of them in one run."""
-        size = max(1, MOST_LINES_ASKED // (2 * len(self.likely) + 3))
-        groups = [indexes[start:start + size] for start in range(0, len(indexes), size)]
-        for states in self.together.map(self.ends_of_group, groups, "states between commands"):
-            self.states.update(states)
+    def shown(self, indexes: Sequence[int]) -> List[Tuple[int, int]]:
+        """The moments that are asked about: after each step of these commands, and before the first, where the device may
+        be another than after the last one. After an exhibit nothing can be asked."""
+        moments = []
+        last = -1
+        for index in indexes:
+            between = range(last + 1, index)
+            if last < 0 or any(self.changes_device(each) for each in between):
+                moments.append((index, 0))
+            total = self.totals.of(index)
+            seen = total if self.recording.replies[index].is_exhibit else total + 1
+            moments += [(index, number) for number in range(1, seen)]
+            last = index
+        return moments
 
-    def ends_of_group(self, indexes: Sequence[int]) -> Dict[Tuple[int, int], State]:
-        """The states before and after each of these commands, found in one run."""
-        first, script, wanted = indexes[0], [], []
-        chosen = set(indexes)
-        position = 0
-        for index in range(first, indexes[-1] + 1):
-            command = self.recording.commands[index]
-            if index in chosen:
-                wanted.append(((index, 0), position))
-                script += asks(self.likely)
-                position += len(self.likely) + 1
-            script.append(command.text)
-            position += 1
-            if index in chosen and not self.recording.replies[index].is_exhibit:
-                wanted.append(((index, self.totals[index]), position))
-                script += asks(self.likely)
-                position += len(self.likely) + 1
-        replies = self.recording.ask(first, script)
-        return {moment: state_of(replies[start:start + len(self.likely) + 1], self.likely)
-                for moment, start in wanted}
+    def changes_device(self, index: int) -> bool:
+        """Whether a command may change the device, which isn't looked into itself."""
+        command = self.recording.commands[index]
+        return command.word in TAMPERING_WORDS or self.recording.steps(index) != 0
 
-    def find(self, indexes: Sequence[int]) -> None:
-        """Finds the states at each step of these commands."""
-        moments = self.moments_between(indexes)
-        self.find_ends(indexes)
-        found = self.together.map(lambda moment: self.state_at(*moment, self.likely), moments, "steps")
-        self.states.update(zip(moments, found))
+    def found(self, indexes: Sequence[int]) -> Dict[Tuple[int, int], Step]:
+        """The steps of these commands by their command and their number in it, those aside that need a closer look."""
+        moments = self.shown(indexes)
+        questions = (self.question(index, number, self.asked) for index, number in moments)
+        steps: Dict[Tuple[int, int], Step] = {}
+        old: Optional[State] = None
+        for (index, number), new in zip(moments, self.states(questions, len(moments), len(self.likely), "steps")):
+            if number and old is not None:
+                step = self.step(old, new, self.likely, index, number)
+                if step is not None:
+                    steps[index, number] = step
+            old = new
+        return steps
 
-    def step(self, number: int, index: int, after: int) -> Step:
-        """The step that a command takes as its step `after`, counted from 1."""
-        old = self.states[index, after - 1]
-        new = self.states.get((index, after))
-        if new is None:
-            return Step(number, UNSEEN)
+    def step(self, old: State, new: State, places: Sequence[int], index: int, number: int) -> Optional[Step]:
+        """The step between two states, where these places show it."""
         risen = new.counts.since(old.counts)
         if (risen.writes, risen.latches) == (0, 1):
-            return Step(number, LATCH)
+            return Step(0, LATCH)
         if (risen.writes, risen.latches) != (1, 0):
             raise ExploreError(f"{self.recording.trace.name}, line {self.recording.commands[index].number}: step "
-                               f"{after} is {risen.writes} line writes and {risen.latches} latches by the counts")
-        changed = changed_lines(old, new)
-        if changed:
-            return Step(number, WRITE, self.layout.place(changed[0]))
-        return self.hidden_step(number, index, after)
+                               f"{number} is {risen.writes} line writes and {risen.latches} latches by the counts")
+        if old.text == new.text:
+            return None
+        return Step(0, WRITE, self.place(places[first_difference(old, new, len(places))]))
 
-    def hidden_step(self, number: int, index: int, after: int) -> Step:
-        """A line write that the likely places don't show: looked for on the whole device, and where no line differs,
-        by turning bits."""
+    def place(self, line: int) -> Place:
+        """A device line's name, made once."""
+        if line not in self.places:
+            self.places[line] = self.layout.place(line)
+        return self.places[line]
+
+    def look_everywhere(self, hidden: Sequence[Tuple[int, int]]) -> Dict[Tuple[int, int], Step]:
+        """The steps that the likely places don't show: looked for on the whole device."""
         everything = range(self.layout.size)
-        states = self.together.map(lambda n: self.state_at(index, n, everything), [after - 1, after], "whole device")
-        changed = changed_lines(*states)
-        if changed:
-            return Step(number, WRITE, self.layout.place(changed[0]))
-        written = self.written_again(index, after)
-        return Step(number, WRITE, self.layout.place(written[0]) if len(written) == 1 else None, True)
+        steps: Dict[Tuple[int, int], Step] = {}
+        for start in range(0, len(everything), LINES_AT_ONCE):
+            some = everything[start:start + LINES_AT_ONCE]
+            asked = text_of(asks(some))
+            questions = (self.question(index, number, asked) for index, after in hidden for number in (after - 1, after))
+            states = self.states(questions, 2 * len(hidden), len(some), "whole device")
+            for (index, after), old, new in zip(hidden, states, states):
+                step = self.step(old, new, some, index, after)
+                if step is not None:
+                    steps[index, after] = step
+        return steps
 
-    def written_again(self, index: int, after: int) -> List[int]:
-        """The likely places that a step writes with the bytes that they had. A bit of each is turned before the
-        command: what the step writes is whole again. Nothing that is read may be turned with it, so this is done
-        with all places at once only where none is read before such a step: by a recovery's redo, and by a flush."""
-        if self.recording.commands[index].word in ("on", "flush"):
-            return self.made_whole(index, after, self.likely)
-        if len(self.likely) > MOST_TURNED:
+    def turn_bits(self, hidden: Sequence[Tuple[int, int]]) -> Dict[Tuple[int, int], Step]:
+        """The steps that write a likely place with the bytes that it had. A bit of each is turned before the command:
+        what the step writes is whole again. Nothing that is read may be turned with it, so this is done with all places
+        at once only where none is read before such a step: by a recovery's redo, and by a flush."""
+        trials = [self.turned_at(moment) for moment in hidden]
+        questions = (self.question(index, number, self.asked, turned)
+                     for (index, after), turns in zip(hidden, trials) for turned in ((), *turns)
+                     for number in (after - 1, after))
+        total = 2 * sum(len(turns) + 1 for turns in trials)
+        states = (self.state_of(data) for _, data in self.together.answers(self.recording, questions, total, "turned bits"))
+        steps: Dict[Tuple[int, int], Step] = {}
+        for moment, turns in zip(hidden, trials):
+            plain = (next(states), next(states))
+            written = [place for turned in turns for place in self.made_whole(turned, *plain, next(states), next(states))]
+            steps[moment] = Step(0, WRITE, self.place(written[0]) if len(written) == 1 else None, True)
+        return steps
+
+    def turned_at(self, moment: Tuple[int, int]) -> List[Sequence[int]]:
+        """The places that are turned together to see which of them a step writes."""
+        if self.recording.commands[moment[0]].word in ("on", "flush"):
+            return [self.likely]
+        return [[place] for place in self.likely] if len(self.likely) <= MOST_TURNED else []
+
+    def state_of(self, data: bytes) -> Optional[State]:
+        """A state, or None where the run ended before it."""
+        return state_in(data, len(self.likely)) if data.count(b"\n") > len(self.likely) else None
+
+    def made_whole(self, turned: Sequence[int], plain_old: Optional[State], plain_new: Optional[State],
+                   old: Optional[State], new: Optional[State]) -> List[int]:
+        """Those of the turned lines that a step makes whole, where all else is as it is without turned bits. The states
+        are those before and after the step, and those with turned bits."""
+        if plain_old is None or plain_new is None or old is None or new is None:
             return []
-        found = self.together.map(lambda place: self.made_whole(index, after, [place]), self.likely, "turned bits")
-        return [place for places in found for place in places]
-
-    def made_whole(self, index: int, after: int, turned: Sequence[int]) -> List[int]:
-        """Those of the turned lines that a step makes whole, where all else is as it is without turned bits."""
-        old, new = (self.turned_state(index, number, turned) for number in (after - 1, after))
-        if old is None or new is None:
-            return []
-        plain_old, plain_new = self.states[index, after - 1], self.states[index, after]
-        whole = [place for place in turned
-                 if old.lines[place] != plain_old.lines[place] and new.lines[place] == plain_new.lines[place]]
-        others = set(self.likely) - set(turned)
-        same = all(state.counts == plain.counts and all(state.lines[place] == plain.lines[place] for place in others)
-                   for state, plain in ((old, plain_old), (new, plain_new)))
-        return whole if same else []
-
-    def turned_state(self, index: int, number: int, turned: Sequence[int]) -> Optional[State]:
-        """The state after so many steps of a command before which a bit of some lines was turned; None where the run
-        ends before it."""
-        script = [*(b"flip %d 0" % place for place in turned), *self.script_to(index, number)]
-        replies = self.recording.ask(index, [*script, *asks(self.likely)])[len(script):]
-        return state_of(replies, self.likely) if len(replies) == len(self.likely) + 1 else None
+        chosen = set(turned)
+        whole = []
+        for place, *lines in zip(self.likely, plain_old.lines, plain_new.lines, old.lines, new.lines):
+            was, is_now, was_turned, is_turned = lines
+            if place in chosen:
+                if was_turned != was and is_turned == is_now:
+                    whole.append(place)
+            elif was_turned != was or is_turned != is_now:
+                return []
+        return whole if (plain_old.counts, plain_new.counts) == (old.counts, new.counts) else []
 
     def traced(self, indexes: Sequence[int]) -> List[Traced]:
-        """All commands up to the last of these, and the steps of these."""
+        """All commands with their replies, and the steps of these."""
+        steps = self.found(indexes)
+        every = [(index, after) for index in indexes for after in range(1, self.totals.of(index) + 1)]
+        unseen = {(index, self.totals.of(index)) for index in indexes if self.recording.replies[index].is_exhibit}
+        for look in (self.look_everywhere, self.turn_bits):
+            hidden = [moment for moment in every if moment not in steps and moment not in unseen]
+            if hidden:
+                steps.update(look(hidden))
         number = 1
         traced = []
         chosen = set(indexes)
         for index, reply in enumerate(self.recording.replies):
-            steps: List[Step] = []
-            if index in chosen:
-                for after in range(1, self.totals[index] + 1):
-                    steps.append(self.step(number, index, after))
-                    number += 1
-            else:
-                number += self.recording.steps(index) or 0
-            traced.append(Traced(self.recording.commands[index], reply, tuple(steps)))
+            total = self.totals.of(index)
+            found = [steps.get((index, after)) for after in range(1, total + 1)] if index in chosen else []
+            traced.append(Traced(self.recording.commands[index], reply, tuple(
+                Step(number + place, step.kind, step.place, step.again) if step else
+                Step(number + place, UNSEEN if (index, place + 1) in unseen else WRITE, None, True)
+                for place, step in enumerate(found))))
+            number += total
         return traced
-
-
-def changed_lines(old: State, new: State) -> List[int]:
-    """The lines in which two states differ."""
-    return [place for place, line in old.lines.items() if new.lines[place] != line]
 
 
 def stepping_indexes(recording: Recording, lines: Optional[range]) -> List[int]:
     """The commands that took steps, or may have, among those on these lines of the trace."""
+    if lines is not None and lines.start > recording.trace.line_count:
+        raise ExploreError(f"there is no line {lines.start} in {recording.trace.name}: it has "
+                           f"{recording.trace.line_count} lines", WRONG_WORDS)
     return [index for index in range(len(recording.replies))
-            if recording.commands[index].word in STEPPING_WORDS and recording.steps(index) != 0
+            if recording.commands[index].word in recording.settings.machine.stepping and recording.steps(index) != 0
             and (lines is None or recording.commands[index].number in lines)]
 
 
 def trace_steps(recording: Recording, together: Together, lines: Optional[range] = None) -> List[Traced]:
     """The commands on these lines of the trace with their replies and steps."""
-    finder = StepFinder(recording, together)
-    finder.check_layout()
     indexes = stepping_indexes(recording, lines)
-    finder.count(indexes)
-    finder.find(indexes)
-    return [traced for traced in finder.traced(indexes) if lines is None or traced.command.number in lines]
+    if recording.settings.machine.has_counts:
+        finder = StepFinder(recording, together)
+        finder.check_layout()
+        finder.totals.count(indexes)
+        traced = finder.traced(indexes)
+    else:
+        traced = fates_traced(recording, together, indexes)
+    return [each for each in traced if lines is None or each.command.number in lines]
+
+
+def fates_traced(recording: Recording, together: Together, indexes: Sequence[int]) -> List[Traced]:
+    """The same of a machine that doesn't show its device: what a cut after each step of a command answers, and the
+    recovery after it."""
+    totals = Totals(recording, together)
+    totals.count(indexes)
+    moments = [(index, number) for index in indexes
+               for number in range(totals.of(index) + recording.replies[index].is_cut)]
+    questions = [Question(index, (b"cut %d" % number, recording.commands[index].text, b"on"))
+                 for index, number in moments]
+    answers = together.answers(recording, questions, len(questions), "cuts")
+    found: Dict[int, List[Fate]] = {}
+    for (index, number), (_, data) in zip(moments, answers):
+        _, cut, on = (without_steps(reply.answer) for reply in replies_in(data))
+        fates = found.setdefault(index, [])
+        if fates and (fates[-1].answer, fates[-1].recovery) == (cut, on):
+            fates[-1] = Fate(fates[-1].first, number, cut, on)
+        else:
+            fates.append(Fate(number, number, cut, on))
+    traced, number = [], 1
+    for index, reply in enumerate(recording.replies):
+        total, fates = totals.of(index), found.get(index, [])
+        steps = [Step(number + place, UNTOLD, fate=fate_of(fates, place)) for place in range(total)] if fates else []
+        traced.append(Traced(recording.commands[index], reply, tuple(steps), tuple(fates)))
+        number += total
+    return traced
+
+
+def fate_of(fates: Sequence[Fate], number: int) -> str:
+    """What becomes of a write whose command is cut after so many steps: `lost`, `kept`, or nothing where none is cut."""
+    answer = next(fate.answer for fate in fates if fate.first <= number <= fate.last)
+    return answer.rsplit(" ", 1)[-1] if answer.startswith("cut ") else ""
+
+
+def without_steps(answer: str) -> str:
+    """An answer without the number of its steps."""
+    words = answer.split(" ")
+    return " ".join(words[:-1]) if len(words) > 1 and words[-1].isdigit() else answer
 
 
 def steps_text(traced: Sequence[Traced], whole: bool) -> str:
@@ -327,15 +434,22 @@ def steps_text(traced: Sequence[Traced], whole: bool) -> str:
         for text in entry.reply.lines:
             lines.append(f"{indent}> {text if whole else short_text(text)}")
         for step in entry.steps:
-            lines.append(f"{indent}  step {step.number:>{places}}  {step.text}")
+            if step.kind != UNTOLD:
+                lines.append(f"{indent}  step {step.number:>{places}}  {step.text}")
+        for fate in entry.fates:
+            lines.append(f"{indent}  cut after {fate.text}")
     taken = sum(len(entry.steps) for entry in traced)
     lines.append(f"{len(traced)} commands, {taken} persist steps")
+    if any(entry.fates for entry in traced):
+        lines.append("which device line a step writes can't be told: this machine shows neither its device nor its counts")
     return "\n".join(lines) + "\n"
 
 
 def step_record(step: Step) -> Dict[str, Any]:
     """A step for scripts."""
     place = step.place
+    if step.kind == UNTOLD:
+        return {"step": step.number, "kind": step.kind, "cut_before": step.fate or None}
     return {"step": step.number, "kind": step.kind, "device_line": place.line if place else None,
             "part": step.part if step.kind != UNSEEN else None, "name": place.name if place else None,
             "same_bytes": step.again}
@@ -345,4 +459,11 @@ def steps_json(traced: Sequence[Traced]) -> str:
     """The steps for scripts."""
     return json_text([{"trace_line": entry.command.number, "command": " ".join(entry.command.words),
                        "marks": list(entry.reply.marks), "answer": entry.reply.answer,
-                       "steps": [step_record(step) for step in entry.steps]} for entry in traced])
+                       "steps": [step_record(step) for step in entry.steps],
+                       **({"cuts": [fate_record(fate) for fate in entry.fates]} if entry.fates else {})}
+                      for entry in traced])
+
+
+def fate_record(fate: Fate) -> Dict[str, Any]:
+    """What some cuts leave, for scripts."""
+    return {"first": fate.first, "last": fate.last, "answer": fate.answer, "recovery": fate.recovery}

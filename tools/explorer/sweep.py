@@ -1,19 +1,21 @@
 """What a trace costs under different settings."""
 import itertools
-from dataclasses import dataclass
+from dataclasses import dataclass, replace
 from typing import Any, Dict, List, Optional, Sequence, Tuple
 
 from .cuts import Recovery
 from .output import csv_text, json_text, table_text
-from .program import Counts, Program, Recording, Reply, counts_of, first_word
+from .program import Counts, Output, Recording, Reply, Run, counts_of, first_word, replies_of, text_of
 from .settings import Settings
 from .together import Together
 from .trace import Command, Trace
+from .waiting import Waiting
 
 NUMBERS = ("levels", "sets", "ways", "loss")
 FIELDS = ("levels", "sets", "ways", "loss", "writes", "reads", "out_of_range", "steps_per_write",
           "write_amplification", "metadata_reads_per_write", "digests_per_write", "metadata_reads_per_read",
           "digests_per_read", "recovery", "recovery_trials", "recovery_digests", "recovery_steps", "end")
+MORE_FIELDS = ("machine", "commands")
 
 
 @dataclass
@@ -41,18 +43,27 @@ class Cost:
     out_of_range: int
     recovery: Optional[Recovery]
     end: str
+    commands: int
 
     def record(self) -> Dict[str, Any]:
-        """The numbers by name, in the order of `FIELDS`."""
-        numbers = (self.recovery.numbers if self.recovery else None) or (None, None, None)
+        """The numbers by name, in the order of `FIELDS` and `MORE_FIELDS`. What a machine hasn't, or doesn't show, is
+        None."""
         writes, reads = self.writes, self.reads
+        has_counts = self.settings.machine.has_counts
+        recovery = {}
+        if self.recovery is not None and self.recovery.numbers is not None:
+            recovery = dict(zip(self.recovery.names, self.recovery.numbers))
+        geometry = self.settings.geometry()
         values: List[Any] = [
-            *self.settings.geometry().values(), writes.done, reads.done, self.out_of_range,
-            rounded(writes.mean(writes.steps)), rounded(writes.mean(self.line_writes)),
-            rounded(writes.mean(writes.metadata_reads)), rounded(writes.mean(writes.digests)),
-            rounded(reads.mean(reads.metadata_reads)), rounded(reads.mean(reads.digests)),
-            self.recovery.answer if self.recovery else None, *numbers, self.end]
-        return dict(zip(FIELDS, values))
+            *(geometry.get(name) for name in NUMBERS), writes.done, reads.done, self.out_of_range,
+            rounded(writes.mean(writes.steps)),
+            *(rounded(value) if has_counts else None for value in (
+                writes.mean(self.line_writes), writes.mean(writes.metadata_reads), writes.mean(writes.digests),
+                reads.mean(reads.metadata_reads), reads.mean(reads.digests))),
+            self.recovery.answer if self.recovery else None,
+            *(recovery.get(name) for name in ("trials", "digests", "steps")), self.end,
+            self.settings.machine_name, self.commands]
+        return dict(zip((*FIELDS, *MORE_FIELDS), values))
 
 
 def rounded(value: Optional[float]) -> Optional[float]:
@@ -91,10 +102,8 @@ def add_read(tally: Tally, reply: Reply, cost: Counts) -> None:
 def cost_of(settings: Settings, commands: Sequence[Command], replies: Sequence[Reply],
             counts: Sequence[Counts]) -> Cost:
     """The costs of a run; `counts` are those before each command, and at the end."""
-    writes, reads, line_writes, out_of_range = Tally(), Tally(), 0, 0
+    writes, reads, line_writes = Tally(), Tally(), 0
     for number, (command, reply) in enumerate(zip(commands, replies)):
-        if reply.answer == "range":
-            out_of_range += 1
         if number + 1 >= len(counts):
             break
         cost = counts[number + 1].since(counts[number])
@@ -105,22 +114,46 @@ def cost_of(settings: Settings, commands: Sequence[Command], replies: Sequence[R
             add_read(reads, reply, cost)
         if command.word != "on" and not reply.is_cut:
             line_writes += cost.writes
-    return Cost(settings, writes, reads, line_writes, out_of_range, None, "")
+    return Cost(settings, writes, reads, line_writes, 0, None, "", len(commands))
 
 
-def run_cost(program: Program, trace: Trace, settings: Settings) -> Cost:
-    """What a trace costs under one setting, with a cut at its end."""
-    recording = Recording(program, settings, trace)
-    script = [b"stat"]
-    for command in recording.commands:
-        script += [command.text, b"stat"]
-    replies = recording.ask(0, [*script, b"off", b"on"])
-    answered, counts = replies[1:len(script):2], [counts_of(reply.answer) for reply in replies[:len(script):2]]
-    cost = cost_of(settings, recording.commands, answered, counts)
-    ended = len(replies) < len(script) + 2
-    recovery = None if ended else Recovery(replies[-1].answer)
+def cost_by_replies(settings: Settings, commands: Sequence[Command], replies: Sequence[Reply]) -> Cost:
+    """The costs of a run of a machine that doesn't show its counts: those of a transaction are of all its lines."""
+    writes, reads, waiting = Tally(), Tally(), Waiting()
+    for command, reply in zip(commands, replies):
+        word = first_word(reply.answer)
+        if command.word in settings.machine.writes and word in ("ok", "held"):
+            writes.done += len(waiting.all()) if command.word == "commit" else 1
+            writes.steps += reply.steps or 0
+        elif command.word == "read" and word == "line":
+            reads.done += 1
+            reads.steps += reply.steps or 0
+        waiting.go_on(command, reply)
+    return Cost(settings, writes, reads, 0, 0, None, "", len(commands))
+
+
+def script_of(settings: Settings, commands: Sequence[Command]) -> List[bytes]:
+    """The trace, with `stat` before and after each command where that is had, and a cut at its end."""
+    script = [command.text for command in commands]
+    if settings.machine.has_counts:
+        script = [line for text in script for line in (b"stat", text)] + [b"stat"]
+    return [*script, b"off", b"on"]
+
+
+def cost_in(output: Output, settings: Settings, commands: Sequence[Command]) -> Cost:
+    """What a trace costs, as the output of its script tells."""
+    replies = replies_of(output.lines)
+    count = len(script_of(settings, commands)) - 2
+    if settings.machine.has_counts:
+        answered = replies[1:count:2]
+        cost = cost_of(settings, commands, answered, [counts_of(reply.answer) for reply in replies[:count:2]])
+    else:
+        answered = replies[:count]
+        cost = cost_by_replies(settings, commands, answered)
+    out_of_range = sum(reply.answer == "range" for reply in answered)
+    recovery = Recovery(replies[-1].answer, settings.machine.recovery) if len(replies) == count + 2 else None
     end = first_word(replies[-1].answer) if replies and replies[-1].is_exhibit else "end"
-    return Cost(settings, cost.writes, cost.reads, cost.line_writes, cost.out_of_range, recovery, end)
+    return replace(cost, out_of_range=out_of_range, recovery=recovery, end=end)
 
 
 def settings_of(base: Settings, values: Dict[str, Sequence[int]]) -> List[Settings]:
@@ -129,10 +162,13 @@ def settings_of(base: Settings, values: Dict[str, Sequence[int]]) -> List[Settin
     return [base.changed(**dict(zip(NUMBERS, numbers))) for numbers in itertools.product(*lists)]
 
 
-def trace_sweep(program: Program, trace: Trace, settings: Sequence[Settings], together: Together) -> List[Cost]:
-    """What a trace costs under each setting. The first run stands alone, in case the program is built by it."""
-    Recording(program, settings[0], trace)
-    return together.map(lambda each: run_cost(program, trace, each), settings, "settings")
+def trace_sweep(trace: Trace, settings: Sequence[Settings], together: Together) -> List[Cost]:
+    """What a trace costs under each setting. The first run stands alone: it tells what is wrong with the trace."""
+    for each in settings:
+        each.check()
+    commands = Recording(together.program, settings[0], trace).commands
+    runs = [Run(text_of(script_of(each, commands)), each) for each in settings]
+    return [cost_in(output, each, commands) for output, each in zip(together.runs(runs, "settings"), settings)]
 
 
 def cell(value: Any) -> str:
@@ -171,7 +207,7 @@ def notes_of(costs: Sequence[Cost]) -> List[str]:
 
 def sweep_csv(costs: Sequence[Cost]) -> str:
     """The sweep as CSV."""
-    return csv_text(FIELDS, [list(cost.record().values()) for cost in costs])
+    return csv_text((*FIELDS, *MORE_FIELDS), [list(cost.record().values()) for cost in costs])
 
 
 def sweep_json(costs: Sequence[Cost], trace: Trace) -> str:

@@ -1,37 +1,68 @@
-"""Work side by side on all processors, with progress where standard error is a terminal."""
+"""Runs of the program side by side on all processors, with progress where standard error is a terminal."""
 import os
+import selectors
+import subprocess
 import sys
-from concurrent.futures import FIRST_COMPLETED, Future, ThreadPoolExecutor, wait
-from typing import Callable, Dict, List, Optional, Sequence, Set, TypeVar
+import time
+from collections import deque
+from typing import Callable, Deque, Dict, Generic, Iterable, Iterator, List, Optional, Sequence, Tuple, TypeVar
 
-from .program import Program
+from . import fork_server
+from .errors import ExploreError
+from .processes import INTERRUPTS, Channel
+from .program import Output, Program, Question, Recording, Run
 
-Item = TypeVar("Item")
-Result = TypeVar("Result")
+Task = TypeVar("Task")
 
 CLEAR = "\r\x1b[K"
+BETWEEN_TOLD = 0.1
+AT_ONCE = 8
+WINDOW = 256
+SECONDS_TO_ANSWER = 10.0
+COMMANDS_TRIED = 3
+LONG = 1_000_000
+
+# What fork_server.c adds to the program's output.
+BEGUN, FORKED, ENDED = b"\1H\n", b"\1F\n", b"\1E"
 
 
 class Progress:
-    """A line on standard error that tells how far long work is; nothing where that is no terminal."""
+    """A line on standard error that tells how far long work is, and how long it will yet take; nothing where that is no
+    terminal."""
 
     def __init__(self, what: str, total: Optional[int] = None) -> None:
         self.what = what
         self.total = total
         self.shown = sys.stderr.isatty()
+        self.begun = self.told = time.monotonic()
 
     def reach(self, done: int) -> None:
-        """Writes the line anew."""
-        if self.shown:
+        """Writes the line anew, not too often."""
+        now = time.monotonic()
+        if self.shown and (now - self.told >= BETWEEN_TOLD or done in (0, self.total)):
+            self.told = now
             of = "" if self.total is None else f" of {self.total}"
-            sys.stderr.write(f"{CLEAR}{self.what}: {done}{of}")
+            sys.stderr.write(f"{CLEAR}{self.what}: {done}{of}{self.left(done, now - self.begun)}")
             sys.stderr.flush()
+
+    def left(self, done: int, seconds: float) -> str:
+        """The time left, once it can be told."""
+        if self.total is None or not done or seconds < 1 or done >= self.total:
+            return ""
+        return f", {time_text(seconds / done * (self.total - done))} left"
 
     def end(self) -> None:
         """Takes the line away."""
         if self.shown:
             sys.stderr.write(CLEAR)
             sys.stderr.flush()
+
+
+def time_text(seconds: float) -> str:
+    """A time in words."""
+    if seconds < 100:
+        return f"{max(1, round(seconds))} s"
+    return f"{round(seconds / 60)} min" if seconds < 6000 else f"{seconds / 3600:.1f} h"
 
 
 def processors() -> int:
@@ -41,35 +72,230 @@ def processors() -> int:
     return os.cpu_count() or 1
 
 
-class Together:
-    """Runs of one program, several at a time."""
+class Worker(Generic[Task]):
+    """Does tasks by a process, and notes the output of each under its number."""
 
-    def __init__(self, program: Program, jobs: Optional[int] = None) -> None:
+    def __init__(self, done: Dict[int, Output], room: int) -> None:
+        self.done = done
+        self.load = 0
+        self.room = room
+
+    def give(self, number: int, task: Task) -> None:
+        """Begins a task."""
+        raise NotImplementedError
+
+    def told(self, channel: Channel, data: bytes) -> None:
+        """What its process told: nothing (`b""`) at its end."""
+        raise NotImplementedError
+
+    def close(self) -> None:
+        """Ends its process."""
+
+
+class FromStart(Worker[Task]):
+    """Does each task by a process of its own, one after the other. `begin` starts it, and has what it is given."""
+
+    def __init__(self, selector: selectors.BaseSelector, done: Dict[int, Output],
+                 begin: Callable[[Task], Tuple["subprocess.Popen[bytes]", bytes]]) -> None:
+        super().__init__(done, 1)
+        self.selector = selector
+        self.begin = begin
+        self.number = 0
+        self.pieces: List[bytes] = []
+
+    def give(self, number: int, task: Task) -> None:
+        self.load, self.number, self.pieces = 1, number, []
+        process, given = self.begin(task)
+        Channel(self.selector, process, self).send(given, last=True)
+
+    def told(self, channel: Channel, data: bytes) -> None:
+        if data:
+            self.pieces.append(data)
+            return
+        self.done[self.number] = Output(b"".join(self.pieces), channel.finish())
+        self.load = 0
+
+
+class NotForked(ExploreError):
+    """A program can't be asked by forks of it."""
+
+
+class Forked(Worker[Question]):
+    """Asks a process that goes along the trace and answers each question by a fork of itself."""
+
+    def __init__(self, selector: selectors.BaseSelector, recording: Recording, library: str,
+                 done: Dict[int, Output]) -> None:
+        super().__init__(done, AT_ONCE)
+        self.recording = recording
+        environment = {**os.environ, "LD_PRELOAD": library}
+        self.channel = Channel(selector, recording.program.start(recording.settings, environment), self)
+        self.position = 0
+        self.waiting: Deque[Tuple[int, bytes]] = deque()
+        self.received = bytearray()
+        self.has_begun = False
+
+    def give(self, number: int, task: Question) -> None:
+        recording, frames = self.recording, b""
+        if task.index > self.position:
+            commands = recording.script[recording.script_ends[self.position]:recording.script_ends[task.index]]
+            frames = b"L%d\n" % len(commands) + commands
+        before = recording.output[recording.output_ends[self.position]:recording.output_ends[task.index]]
+        self.position = task.index
+        self.waiting.append((number, before))
+        self.load += 1
+        script = task.text
+        self.channel.send(frames + b"F%d\n" % len(script) + script)
+
+    def told(self, channel: Channel, data: bytes) -> None:
+        self.received += data
+        if not self.has_begun and self.received.startswith(BEGUN):
+            del self.received[:len(BEGUN)]
+            self.has_begun = True
+        while self.waiting and self.take(*self.waiting[0]):
+            self.waiting.popleft()
+            self.load -= 1
+        if not data:
+            status = channel.finish()
+            raise NotForked(f"{self.recording.program.path} ended with status {status} while it was asked")
+
+    def take(self, number: int, before: bytes) -> bool:
+        """Takes the answer to the first question, where it is there whole."""
+        first = self.received.find(FORKED)
+        if first < 0:
+            return False
+        if not self.has_begun or self.received[:first] != before:
+            raise NotForked(f"{self.recording.program.path} doesn't answer the same in two runs of "
+                            f"{self.recording.trace.name}")
+        last = self.received.find(ENDED, first)
+        end = self.received.find(b"\n", last) if last >= 0 else -1
+        if end < 0:
+            return False
+        status = int(self.received[last + len(ENDED):end])
+        self.done[number] = Output(bytes(self.received[first + len(FORKED):last]),
+                                   os.WEXITSTATUS(status) if os.WIFEXITED(status) else -os.WTERMSIG(status))
+        del self.received[:end + 1]
+        return True
+
+    def close(self) -> None:
+        self.channel.close()
+
+
+def serve(selector: selectors.BaseSelector, timeout: Optional[float] = None) -> None:
+    """Waits until a process tells something or takes something, and serves it."""
+    INTERRUPTS.check()
+    for key, events in selector.select(timeout):
+        channel: Channel = key.data
+        if events & selectors.EVENT_WRITE:
+            channel.write()
+        else:
+            data = channel.read()
+            if data is not None:
+                channel.owner.told(channel, data)
+
+
+def in_order(selector: selectors.BaseSelector, tasks: Iterable[Task], workers: Sequence[Worker[Task]],
+             done: Dict[int, Output], progress: Progress) -> Iterator[Tuple[Task, Output]]:
+    """The tasks with their outputs, in their order. Only so many are begun as are soon needed."""
+    source = iter(tasks)
+    under_way: Deque[Task] = deque()
+    given = taken = 0
+    is_over = False
+    try:
+        progress.reach(0)
+        while True:
+            while not is_over and given - taken < WINDOW:
+                worker = min(workers, key=lambda each: each.load / each.room)
+                if worker.load == worker.room:
+                    break
+                try:
+                    task = next(source)
+                except StopIteration:
+                    is_over = True
+                    break
+                under_way.append(task)
+                worker.give(given, task)
+                given += 1
+            while taken in done:
+                taken += 1
+                progress.reach(taken)
+                yield under_way.popleft(), done.pop(taken - 1)
+            if is_over and taken == given:
+                return
+            if taken < given and taken not in done:
+                serve(selector)
+    finally:
+        progress.end()
+        for worker in workers:
+            worker.close()
+
+
+class Together:
+    """Runs of one program, several at a time. A failure or an interrupt ends them all (`processes.end_all`)."""
+
+    def __init__(self, program: Program, jobs: Optional[int] = None, from_start: bool = False) -> None:
         self.program = program
         self.jobs = jobs or processors()
+        self.why_from_start = "it is so chosen" if from_start else ""
+        self.library: Optional[str] = None
+        self.is_told = from_start
 
-    def map(self, work: Callable[[Item], Result], items: Sequence[Item], what: str) -> List[Result]:
-        """The results of the work on each item, in the items' order. A failure or an interrupt ends all."""
-        progress = Progress(what, len(items))
-        pool = ThreadPoolExecutor(max_workers=self.jobs)
-        pending: Dict["Future[Result]", int] = {}
-        results: Dict[int, Result] = {}
+    def runs(self, tasks: Sequence[Run], what: str) -> Iterator[Output]:
+        """The outputs of runs, in their order."""
+        done: Dict[int, Output] = {}
+        with selectors.DefaultSelector() as selector:
+            workers = [FromStart[Run](selector, done, self.program.begin)
+                       for _ in range(min(self.jobs, max(1, len(tasks))))]
+            for run, output in in_order(selector, tasks, workers, done, Progress(what, len(tasks))):
+                self.program.check(output, run.settings)
+                yield output
+
+    def answers(self, recording: Recording, questions: Iterable[Question], total: int,
+                what: str) -> Iterator[Tuple[Question, bytes]]:
+        """Each of the questions with what the program prints to it, in their order: each goes on from the state after so
+        many commands of the trace, and those numbers don't fall. `total` is how many questions there are."""
+        done: Dict[int, Output] = {}
+        jobs = min(self.jobs, max(1, total))
+        library = self.library_for(recording, total)
+        with selectors.DefaultSelector() as selector:
+            workers: List[Worker[Question]]
+            if library is None:
+                workers = [FromStart(selector, done, recording.begin) for _ in range(jobs)]
+            else:
+                workers = [Forked(selector, recording, library, done) for _ in range(jobs)]
+            for question, output in in_order(selector, questions, workers, done, Progress(what, total)):
+                yield question, recording.answer(question, output, library is None)
+
+    def library_for(self, recording: Recording, total: int) -> Optional[str]:
+        """The library by which the program is asked, once it is seen to work; None where each question is a run from
+        the trace's start, which is told where that takes long."""
+        if self.library is None and not self.why_from_start:
+            self.library, self.why_from_start = fork_server.library()
+            if self.library is not None:
+                self.why_from_start = trial(recording, self.library)
+        if not self.why_from_start:
+            return self.library
+        if not self.is_told and total * len(recording.commands) >= LONG:
+            self.is_told = True
+            sys.stderr.write("explore: each state is reached from the trace's start, which takes long: "
+                             f"{self.why_from_start}\n")
+        return None
+
+
+def trial(recording: Recording, library: str) -> str:
+    """Tries whether a program can be asked by forks; answers why not, or nothing where it can."""
+    done: Dict[int, Output] = {}
+    end = time.monotonic() + SECONDS_TO_ANSWER
+    with selectors.DefaultSelector() as selector:
+        worker = Forked(selector, recording, library, done)
         try:
-            progress.reach(0)
-            for number, item in enumerate(items):
-                pending[pool.submit(work, item)] = number
-            left: Set["Future[Result]"] = set(pending)
-            while left:
-                done, left = wait(left, return_when=FIRST_COMPLETED)
-                for future in done:
-                    results[pending[future]] = future.result()
-                progress.reach(len(results))
-        except BaseException:
-            for future in pending:
-                future.cancel()
-            self.program.stop()
-            raise
+            count = len(recording.replies) - recording.ends_in_exhibit
+            worker.give(0, Question(min(count, COMMANDS_TRIED), (b"cut 0",)))
+            while not done and time.monotonic() < end:
+                serve(selector, 1.0)
+        except NotForked as error:
+            return str(error)
         finally:
-            progress.end()
-            pool.shutdown(wait=True)
-        return [results[number] for number in range(len(items))]
+            worker.close()
+    if not done:
+        return f"{recording.program.path} isn't asked so within {SECONDS_TO_ANSWER:.0f} s"
+    return "" if done[0] == Output(b"ok\n", 0) else f"{recording.program.path} doesn't answer a fork of it"

@@ -5,7 +5,6 @@ from typing import List, Optional, Tuple
 
 from .errors import ExploreError, reason_of
 
-STEPPING_WORDS = frozenset(("drain", "fence", "read", "turn", "flush", "on", "loss"))
 TAMPERING_WORDS = frozenset(("poke", "flip", "move", "back"))
 LONGEST_WORD = 16
 
@@ -36,6 +35,11 @@ class Trace:
     name: str
     data: bytes
     commands: Tuple[Command, ...]
+
+    @property
+    def line_count(self) -> int:
+        """How many lines it has."""
+        return self.data.count(b"\n") + (not self.data.endswith(b"\n") and bool(self.data))
 
     def line(self, number: int) -> bytes:
         """The text of a line, counted from 1."""

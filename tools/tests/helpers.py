@@ -76,3 +76,10 @@ class ExploreTest(unittest.TestCase):
         self.assertNotIn("Traceback", result.stderr)
         for text in texts:
             self.assertIn(text, result.stderr)
+
+
+def lesson_words(folder: Path) -> List[str]:
+    """The words that the trace of a lesson, of an exercise or of an answer is run by."""
+    machine = next((place / "machine" for place in (folder, folder.parent) if (place / "machine").is_file()), None)
+    options = folder / "options"
+    return [machine.read_text().strip() if machine else "run", *(options.read_text().split() if options.exists() else [])]

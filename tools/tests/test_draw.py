@@ -1,9 +1,10 @@
 """`explore draw`: pictures of traces and sweeps."""
 import importlib.util
+import sys
 import unittest
 import xml.etree.ElementTree
 
-from .helpers import EXAMPLES, FORGED, TWO_WRITES, WRITE, ExploreTest
+from .helpers import EXAMPLES, FORGED, ONES, TWO_WRITES, WRITE, ExploreTest
 
 HAS_MATPLOTLIB = importlib.util.find_spec("matplotlib") is not None
 PNG = b"\x89PNG\r\n\x1a\n"
@@ -39,6 +40,15 @@ class PictureTest(ExploreTest):
         self.draw("curves.svg", text=sweep)
         self.draw("other.png", "--along", "sets", text=sweep)
 
+    def test_settings_that_drop_commands_are_told_in_the_picture(self) -> None:
+        text = f"post 0 300 {ONES}\nfence 0\nread 0 300\n{WRITE}"
+        sweep = self.output("sweep", "-", "--json", "--levels", "1,2", text=text)
+        self.assertIn(b"levels 1 (hollow): 2 of 5 commands name a place", self.draw("dropped.svg", text=sweep))
+
+    def test_machines_that_do_not_show_their_device(self) -> None:
+        for name, words in (("wear", ("--every", "1")), ("txn", ()), ("tree", ())):
+            self.draw(f"{name}.svg", "--as", name, *words, text=(EXAMPLES / f"{name}.trace").read_text())
+
     def test_json_that_is_no_sweep(self) -> None:
         for text in ('{"settings": []}', '{"settings": [1]}', "{", '{"settings": [{"levels": 1}]}'):
             self.assert_fails(self.explore("draw", "-", "-o", self.path("a.svg"), text=text), 1, "sweep --json")
@@ -54,7 +64,7 @@ class WithoutPicturesTest(ExploreTest):
         (self.directory / "matplotlib").mkdir()
         (self.directory / "matplotlib" / "__init__.py").write_text("raise ImportError('not here')\n")
         result = self.explore("draw", "-", "-o", self.path("a.svg"), text=WRITE, PYTHONPATH=str(self.directory))
-        self.assert_fails(result, 1, "matplotlib", "python3-matplotlib")
+        self.assert_fails(result, 1, "matplotlib", "python3-matplotlib", sys.executable)
         self.assertNotIn("a.svg", self.names())
 
     def test_a_name_that_says_no_kind(self) -> None:

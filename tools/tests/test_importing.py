@@ -1,4 +1,6 @@
 """`explore import`: traces of what other programs wrote down."""
+from typing import List
+
 from .helpers import ExploreTest
 
 LACKEY = """==7== Lackey, an example Valgrind tool
@@ -16,7 +18,7 @@ I  00401010,1
 """
 
 
-def commands(text: str) -> list:
+def commands(text: str) -> List[str]:
     """The lines of a trace but for its comments."""
     return [line for line in text.splitlines() if not line.startswith("#")]
 
@@ -84,6 +86,84 @@ class LackeyTest(ExploreTest):
         self.assert_fails(self.explore("import", "lackey", "-", "--within", "1-2", text=LACKEY), 1, "these addresses")
 
 
+class FrontTest(ExploreTest):
+    """What stands between stores and memory."""
+
+    TEXT = "".join(f"{row}\n" for row in ("store,0x1000,4,01020304", "store,0x1008,2,0506", "load,0x1000,4",
+                                          "store,0x1040,1,07", "load,0x1080,4", "fence", "store,0x1000,1,08", "load,0x1040,1",
+                                          "fence", "fence"))
+
+    def words(self, *words: str, text: str = "") -> List[str]:
+        """The commands that are made, with lines of memory from 64 on and the bytes' first ones."""
+        made = commands(self.output("import", "csv", "-", *words, text=text or self.TEXT))
+        return [line if line.split(" ")[0] != "post" else " ".join(line.split(" ")[:3]) + " " + line.split(" ")[3][:20]
+                for line in made]
+
+    def test_stores_are_combined_until_the_fence(self) -> None:
+        self.assertEqual(self.words("--combine"), [
+            "read 0 66", "post 0 64 01020304000000000506", "post 0 65 07000000000000000000", "fence 0", "read 0 65",
+            "post 0 64 08020304000000000506", "fence 0"])
+
+    def test_a_cache_reads_what_it_has_not_and_writes_back(self) -> None:
+        self.assertEqual(self.words("--cache", "4k,2"), [
+            "read 0 64", "read 0 65", "read 0 66", "post 0 64 01020304000000000506", "post 0 65 07000000000000000000",
+            "fence 0", "post 0 64 08020304000000000506", "fence 0"])
+
+    def test_a_line_that_gives_way_is_written(self) -> None:
+        self.assertEqual(self.words("--cache", "64,1"), [
+            "read 0 64", "post 0 64 01020304000000000506", "read 0 65", "post 0 65 07000000000000000000", "read 0 66",
+            "fence 0", "read 0 64", "post 0 64 08020304000000000506", "read 0 65", "fence 0"])
+
+    def test_a_whole_line_that_is_stored_is_not_read(self) -> None:
+        self.assertEqual(self.words("--cache", "4k,2", text=f"store,0,64,{'ab' * 64}\nfence\n"),
+                         ["post 0 0 " + "ab" * 10, "fence 0"])
+
+    def test_flushes_say_when_a_store_is_written(self) -> None:
+        text = "store,0,4,01020304\nstore,64,1,05\nstore,128,1,06\nflush,0,65\nfence\nstore,0,1,09\n"
+        made = self.output("import", "csv", "-", text=text)
+        self.assertEqual([line[:18] for line in commands(made)], ["post 0 0 010203040", "post 0 1 050000000", "fence 0"])
+        self.assertIn("# Lines stored to and never flushed after that: 2. Those stores are in no command.\n", made)
+        text = "store,0,4,01020304\nclwb,0,\n".replace("clwb,0,", "clwb,0,64")
+        self.assertEqual(len(commands(self.output("import", "csv", "-", text=text))), 1)
+
+    def test_sizes_that_are_none(self) -> None:
+        for size in ("0,1", "64", "100,1", "64,2", "64,0", "x,1"):
+            self.assert_fails(self.explore("import", "csv", "-", "--cache", size, text=self.TEXT), 2, "--cache")
+
+    def test_addresses_are_told(self) -> None:
+        made = self.output("import", "csv", "-", text="store,0x1000,4,\nstore,0x1040,4,\nstore,0x9000,4,\nload,0x11000,1\n")
+        self.assertIn("\n# lines 64 to 65 are at 0x1000\n# line 576 is at 0x9000\n# line 64 is at 0x11000\n", made)
+
+    def test_a_trace_that_goes_on_says_so(self) -> None:
+        self.assertIn("# It goes on after these 3 commands", self.output("import", "csv", "-", "--commands", "3", text=self.TEXT))
+        self.assertNotIn("It goes on", self.output("import", "csv", "-", text=self.TEXT))
+
+    def test_the_hottest_ranges(self) -> None:
+        text = self.output("import", "lackey", "-", "--top", "2", text=LACKEY)
+        self.assertEqual(text.splitlines(), ["addresses                  stores  loads", "0x601000-0x601fff               2      1",
+                                             "0x1fff000000-0x1fff000fff       1      1"])
+        self.assert_fails(self.explore("import", "csv", "-", "--top", "1", text="fence\n"), 1, "no store or load")
+
+
+class PmemcheckTest(ExploreTest):
+    LOG = ("==7== pmemcheck-1.0, a simple persistent store checker\n"
+           "START|REGISTER_FILE;/pool;0x4000000;0x1000;0x0|STORE;0x4000000;0x1122334455667788;0x8|STORE;0x4000050;0x1;0x4|"
+           "FLUSH;0x4000000;0x40|FENCE|FLUSH;0x4000040;0x40|FENCE|STORE;0x4000000;0xff;0x1|STOP\n")
+
+    def test_values_flushes_and_fences(self) -> None:
+        made = self.output("import", "pmemcheck", "-", text=self.LOG)
+        self.assertEqual([line.rstrip("0") for line in commands(made)],
+                         ["post 0 0 8877665544332211", "fence ", "post 0 1 " + "00" * 16 + "01", "fence "])
+        self.assertIn("Lines stored to and never flushed after that: 1.", made)
+
+    def test_what_is_no_log(self) -> None:
+        for text, told in (("", "no START"), ("STORE;0x1;0x1;0x1\n", "begin with START"), ("START|STORE;1;2;3\n", "in hex after 0x"),
+                           ("START|STORE;0x1;0x100;0x1\n", "doesn't fit"), ("START|STOP\n", "no store or load"),
+                           ("START|FLUSH;0x1\n", "in hex after 0x")):
+            with self.subTest(text):
+                self.assert_fails(self.explore("import", "pmemcheck", "-", text=text), 1, told)
+
+
 class CsvTest(ExploreTest):
     def test_rows(self) -> None:
         text = self.output("import", "csv", "-", text="op,address,size,data\r\n"
@@ -94,7 +174,8 @@ class CsvTest(ExploreTest):
             "part 0 0 5 0000", "fence 0"])
 
     def test_faults_name_the_row(self) -> None:
-        for row, told in (("move,1,2", "store, load or fence"), ("store,x,2", "address"), ("store,1,y", "size"),
+        for row, told in (("move,1,2", "store, load, flush or fence"), ("flush,0,0", "bytes"),
+                          ("flush,0,1,ff", "1 bytes of data"), ("store,x,2", "address"), ("store,1,y", "size"),
                           ("store,1,2,0", "hex"), ("store,1,2,zz", "hex"), ("store,1,3,0a0b", "2 bytes of data"),
                           ("load,1,2,0a0b", "2 bytes of data"), ("store,1", "bytes"), ("store", "address"),
                           ("store,1,5000", "bytes")):

@@ -1,13 +1,21 @@
 """Parts of `explore` by themselves: the names of device lines, commands of a trace, labels of pictures, tables."""
+import selectors
+import tempfile
+import time
 import unittest
+from pathlib import Path
+from typing import Dict, Iterator, List
+from unittest import mock
 
 from .helpers import ONES
 
-from explorer import draw, output
+from explorer import draw, finding, output
+from explorer.errors import ExploreError
 from explorer.layout import Layout
-from explorer.program import Reply, replies_of
+from explorer.program import Output, Reply, replies_of
 from explorer.settings import Settings
 from explorer.steps import Traced
+from explorer.together import Progress, Worker, in_order, time_text
 from explorer.trace import Command, commands_of, short_text
 
 
@@ -51,6 +59,67 @@ class RepliesTest(unittest.TestCase):
         for answer, steps in (("ok 7", 7), ("ok 3 13", 13), ("line 00 2", 2), ("refused data 5 1", 1), ("off", 0),
                               ("cut kept 4", 4), ("on 256 9 8", 8), ("idle", 0), ("forged 5 0.0 00 00", None)):
             self.assertEqual(Reply((), answer).steps, steps)
+
+
+class Immediate(Worker[int]):
+    """A worker that has done each task at once."""
+
+    def give(self, number: int, task: int) -> None:
+        self.done[number] = Output(b"%d" % task, 0)
+
+
+class TogetherTest(unittest.TestCase):
+    def test_many_tasks_take_time_that_grows_with_their_number(self) -> None:
+        with selectors.DefaultSelector() as selector:
+            seconds = []
+            for count in (10_000, 100_000):
+                done: Dict[int, Output] = {}
+                begun = time.process_time()
+                found = in_order(selector, range(count), [Immediate(done, 8)], done, Progress("tasks", count))
+                self.assertTrue(all(output.data == b"%d" % task for task, output in found))
+                seconds.append(time.process_time() - begun)
+        self.assertLess(seconds[1], 30 * seconds[0] + 1)
+
+    def test_tasks_are_begun_as_they_are_needed(self) -> None:
+        begun: List[int] = []
+
+        def next_task() -> Iterator[int]:
+            for task in range(10_000):
+                begun.append(task)
+                yield task
+
+        with selectors.DefaultSelector() as selector:
+            done: Dict[int, Output] = {}
+            found = in_order(selector, next_task(), [Immediate(done, 8)], done, Progress("tasks"))
+            next(found)
+            self.assertLess(len(begun), 1000)
+            found.close()  # type: ignore[attr-defined]  # a generator
+
+    def test_time_left(self) -> None:
+        progress = Progress("cuts", 100)
+        self.assertEqual(progress.left(10, 20.0), ", 3 min left")
+        self.assertEqual((progress.left(0, 20.0), progress.left(100, 20.0), progress.left(50, 0.1)), ("", "", ""))
+        self.assertEqual((time_text(4.2), time_text(7200)), ("4 s", "2.0 h"))
+
+
+class ProgramTest(unittest.TestCase):
+    def test_the_repositorys_script_is_asked_where_its_program_is(self) -> None:
+        with tempfile.TemporaryDirectory() as folder:
+            script, calls = Path(folder) / "pmem", Path(folder) / "calls"
+            script.write_text(f"#!/bin/sh\necho \"$@\" >>'{calls}'\necho /a/program\n")
+            script.chmod(0o755)
+            with mock.patch.object(finding, "SCRIPT", script):
+                self.assertEqual(finding.found_program(str(script)), "/a/program")
+                self.assertEqual(finding.found_program("/bin/true"), "/bin/true")
+            self.assertEqual(calls.read_text(), "--where\n")
+
+    def test_a_script_that_fails_is_told(self) -> None:
+        with tempfile.TemporaryDirectory() as folder:
+            script = Path(folder) / "pmem"
+            script.write_text("#!/bin/sh\necho 'pmem: nothing is built' >&2\nexit 126\n")
+            script.chmod(0o755)
+            with mock.patch.object(finding, "SCRIPT", script), self.assertRaisesRegex(ExploreError, "^nothing is built$"):
+                finding.found_program(str(script))
 
 
 class LabelsTest(unittest.TestCase):

@@ -1,8 +1,12 @@
 """`explore steps`: each persist step with the line that it writes."""
-from .helpers import FORGED, ONES, TWIN, TWO_WRITES, WRITE, ExploreTest
+import subprocess
+import sys
+from typing import Any, Dict, List, Optional
+
+from .helpers import EXAMPLES, EXPLORE, FORGED, ONES, TWIN, TWO_WRITES, WRITE, ExploreTest
 
 
-def lines_of(command: dict) -> list:
+def lines_of(command: Dict[str, Any]) -> List[Optional[int]]:
     """The device lines that a command writes in order, a latch being None."""
     return [step["device_line"] for step in command["steps"]]
 
@@ -50,6 +54,24 @@ class StepsTest(ExploreTest):
         commands = self.json("steps", "-", "--lines", "4-9", text=TWO_WRITES)
         self.assertEqual([command["trace_line"] for command in commands], [4, 5])
         self.assertEqual(commands[1]["steps"][0]["step"], 8)
+
+    def test_lines_past_the_end_are_told(self) -> None:
+        for command in ("steps", "cuts"):
+            self.assert_fails(self.explore(command, "-", "--lines", "3-9", text=WRITE), 2, "no line 3", "it has 2 lines")
+            self.assertEqual(self.explore(command, "-", "--lines", "2-9", text=WRITE).returncode, 0)
+
+    def test_forks_and_runs_from_the_start_show_the_same(self) -> None:
+        text = (EXAMPLES / "power_cut.trace").read_text() + "flush\nflip 9 0\nread 0 9\nloss 2\nloss 4\n" + TWO_WRITES
+        self.assertEqual(self.output("steps", "-", text=text), self.output("steps", "-", "--from-start", text=text))
+
+    def test_a_long_trace_takes_little_memory(self) -> None:
+        writes = "".join(f"post 0 {number * 7 % 1024} {ONES}\ndrain 0\n" for number in range(700))
+        trace = self.file("long.trace", writes)
+        code = ("import resource, subprocess, sys; subprocess.run(sys.argv[1:], stdout=subprocess.DEVNULL, check=True); "
+                "print(resource.getrusage(resource.RUSAGE_CHILDREN).ru_maxrss)")
+        found = subprocess.run([sys.executable, "-c", code, sys.executable, str(EXPLORE), "steps", trace],
+                               stdout=subprocess.PIPE, check=True)
+        self.assertLess(int(found.stdout), 200_000)
 
     def test_other_geometry(self) -> None:
         commands = self.json("steps", "-", "--levels=1", "--sets", "1", "--ways", "1", "--loss", "1", text=WRITE)

@@ -164,6 +164,24 @@ class InterruptsTest(ExploreTest):
                 self.assertEqual((result.returncode, result.stdout, result.stderr), (130, "", "explore: interrupted\n"))
                 self.assertEqual(self.names(), ["a.trace", "slow"])
 
+    def test_each_interrupt_ends_all(self) -> None:
+        trace = self.file("a.trace", WRITE * 400)
+        for number in range(20):
+            begun, program = Path(self.path(f"begun {number}")), self.path(f"program {number}")
+            Path(program).write_text(f"#!/bin/sh\n: >>'{begun}'\nexec {program_path()} \"$@\"\n")
+            os.chmod(program, 0o755)
+            words = (("cuts",), ("steps",), ("cuts", "--twice", "--lines", "1-40"), ("cuts", "--from-start"))[number % 4]
+            process = subprocess.Popen([sys.executable, str(EXPLORE), *words, trace, "--jobs", "2", "--program", program],
+                                       stdout=subprocess.PIPE, stderr=subprocess.PIPE, universal_newlines=True)
+            self.wait_until(begun.exists)
+            time.sleep(0.03 * number)
+            process.send_signal(signal.SIGTERM if number == 19 else signal.SIGINT)
+            try:
+                _, err = process.communicate(timeout=20)
+            finally:
+                process.kill()
+            self.assertIn((process.returncode, err), ((130, "explore: interrupted\n"), (0, "")), (number, words))
+
     def test_a_program_that_was_interrupted(self) -> None:
         program = self.script("interrupted", "import os; os.kill(os.getpid(), 2)")
         result = self.explore("steps", "-", "--program", program, text=WRITE)
@@ -177,7 +195,7 @@ class InterruptsTest(ExploreTest):
                                    stderr=side)
         os.close(side)
         text = b""
-        while not re.search(rb"steps: 6 of 6", text):
+        while not re.search(rb"steps: 8 of 8", text):
             text += os.read(main, 4096)
         self.assertEqual(process.wait(timeout=60), 0)
 

@@ -1,0 +1,168 @@
+"""Processes that an interrupt ends, whenever it comes, and talk with several of them at once in one thread."""
+import os
+import selectors
+import signal
+import subprocess
+from collections import deque
+from types import FrameType
+from typing import Deque, Dict, Optional, Protocol, Sequence, Set
+
+PIPE_BYTES = 1 << 20
+SET_PIPE_SIZE = 1031  # Linux's F_SETPIPE_SZ
+
+
+class Interrupts:
+    """Ctrl-C: noted, and raised at once, but not amid the start of a process, which would be left behind."""
+
+    def __init__(self) -> None:
+        self.seen = False
+        self.held = 0
+
+    def handle(self, _number: int, _frame: Optional[FrameType]) -> None:
+        """The handler of the signal."""
+        self.seen = True
+        if not self.held:
+            raise KeyboardInterrupt
+
+    def check(self) -> None:
+        """Raises one that came while they were held, or that was raised where Python drops it."""
+        if self.seen:
+            raise KeyboardInterrupt
+
+    def __enter__(self) -> None:
+        self.held += 1
+
+    def __exit__(self, *_: object) -> None:
+        self.held -= 1
+        if not self.held:
+            self.check()
+
+
+INTERRUPTS = Interrupts()
+RUNNING: Set["subprocess.Popen[bytes]"] = set()
+
+
+def start(command: Sequence[str], environment: Optional[Dict[str, str]] = None,
+          with_errors: bool = False) -> "subprocess.Popen[bytes]":
+    """Begins a process, in a group of its own, with pipes to and from it, its standard error in the output
+    or apart."""
+    with INTERRUPTS:
+        process = subprocess.Popen(command, stdin=subprocess.PIPE, stdout=subprocess.PIPE, env=environment,
+                                   stderr=subprocess.STDOUT if with_errors else None, start_new_session=True)
+        RUNNING.add(process)
+    return process
+
+
+def end(process: "subprocess.Popen[bytes]") -> int:
+    """Ends a process with all that it started, where it hasn't ended by itself, and answers its status."""
+    if process.poll() is None:
+        try:
+            os.killpg(process.pid, signal.SIGKILL)
+        except (ProcessLookupError, PermissionError):
+            process.kill()
+    status = process.wait()
+    for pipe in (process.stdin, process.stdout):
+        if pipe is not None and not pipe.closed:
+            try:
+                pipe.close()
+            except BrokenPipeError:
+                pass
+    RUNNING.discard(process)
+    return status
+
+
+def end_all() -> None:
+    """Ends all that run."""
+    for process in list(RUNNING):
+        end(process)
+
+
+class Listener(Protocol):
+    """Who is told what a process tells."""
+
+    def told(self, channel: "Channel", data: bytes) -> None:
+        """What it told: nothing (`b""`) at its end."""
+
+
+class Channel:
+    """A process whose pipes are served without waiting. `owner` is who is told of it."""
+
+    def __init__(self, selector: selectors.BaseSelector, process: "subprocess.Popen[bytes]",
+                 owner: Listener) -> None:
+        assert process.stdin is not None and process.stdout is not None
+        self.selector = selector
+        self.process = process
+        self.owner = owner
+        self.source = process.stdout.fileno()
+        self.sink = process.stdin.fileno()
+        self.pending: Deque[memoryview] = deque()
+        self.is_last = False
+        self.is_writing = False
+        for file in (self.source, self.sink):
+            os.set_blocking(file, False)
+            widen(file)
+        selector.register(self.source, selectors.EVENT_READ, self)
+
+    def send(self, data: bytes, last: bool = False) -> None:
+        """Bytes for its standard input; after the last ones that is closed."""
+        if data:
+            self.pending.append(memoryview(data))
+        self.is_last = self.is_last or last
+        self.write()
+
+    def write(self) -> None:
+        """Writes what the pipe takes. A process that reads no more is waited for: its output tells why."""
+        try:
+            while self.pending:
+                count = os.write(self.sink, self.pending[0][:PIPE_BYTES])
+                self.pending[0] = self.pending[0][count:]
+                if not len(self.pending[0]):
+                    self.pending.popleft()
+        except BlockingIOError:
+            pass
+        except BrokenPipeError:
+            self.pending.clear()
+        self.watch(bool(self.pending))
+        if self.is_last and not self.pending and self.process.stdin is not None and not self.process.stdin.closed:
+            self.process.stdin.close()
+
+    def watch(self, writing: bool) -> None:
+        """Waits for room in the pipe, or no more."""
+        if writing and not self.is_writing:
+            self.selector.register(self.sink, selectors.EVENT_WRITE, self)
+        elif self.is_writing and not writing:
+            self.selector.unregister(self.sink)
+        self.is_writing = writing
+
+    def read(self) -> Optional[bytes]:
+        """What it has told, nothing (`b""`) at its end, or None where it tells nothing now."""
+        try:
+            return os.read(self.source, PIPE_BYTES)
+        except BlockingIOError:
+            return None
+
+    def finish(self) -> int:
+        """Waits for its end, after that of its output, and answers its status."""
+        self.release()
+        self.process.wait()
+        return end(self.process)
+
+    def close(self) -> None:
+        """Ends it."""
+        self.release()
+        end(self.process)
+
+    def release(self) -> None:
+        """Serves its pipes no more."""
+        self.watch(False)
+        if self.source in self.selector.get_map():
+            self.selector.unregister(self.source)
+
+
+def widen(file: int) -> None:
+    """A larger pipe where the system has them, so that fewer turns are taken."""
+    try:
+        import fcntl
+        fcntl.fcntl(file, SET_PIPE_SIZE, PIPE_BYTES)
+    except (ImportError, OSError):
+        pass

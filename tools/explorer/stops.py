@@ -1,0 +1,31 @@
+"""What the program's stops mean, of the file that the script `pmem` reads too."""
+import re
+from pathlib import Path
+from typing import Dict, List, Tuple
+
+FILE = Path(__file__).with_name("stops.txt")
+
+
+def read_stops() -> Tuple[Dict[str, str], List[Tuple[str, str, str]]]:
+    """What each stop says by its word or kind, and the hints: a kind, a text of the line at fault, what is told."""
+    meanings: Dict[str, str] = {}
+    hints: List[Tuple[str, str, str]] = []
+    for line in FILE.read_text(encoding="ascii").splitlines():
+        if line.startswith("#"):
+            continue
+        head, _, text = line.partition(": ")
+        words = head.split(" ")
+        if words[0] == "hint":
+            hints.append((words[1], words[2], text))
+        else:
+            meanings[head] = text
+    return meanings, hints
+
+
+MEANINGS, HINTS = read_stops()
+KINDS = {kind: text for kind, text in MEANINGS.items() if re.fullmatch("[1-6]", kind)}
+
+
+def hint_for(kind: str, line: str) -> str:
+    """What else is told of a line at fault, or nothing."""
+    return next((text for of, part, text in HINTS if of == kind and part in line), "")

@@ -1,0 +1,81 @@
+"""The writes that wait before each command of a trace, by its replies: a cut loses them."""
+from dataclasses import dataclass, field
+from typing import Dict, List, Tuple
+
+from .program import Reply
+from .trace import Command, number_of
+
+PORTS = 8
+
+# A write that waits: its port, the line of memory, and the line of the trace that posted it.
+Write = Tuple[int, int, int]
+
+
+@dataclass
+class Waiting:
+    """The queues of the ports, and of `txn` the lines of the open transaction, which it has at port 0."""
+
+    queues: Dict[int, List[Write]] = field(default_factory=lambda: {port: [] for port in range(PORTS)})
+
+    def all(self) -> List[Write]:
+        """All writes that wait."""
+        return [write for port in range(PORTS) for write in self.queues[port]]
+
+    def lost(self, command: Command, reply: Reply) -> List[Write]:
+        """The writes that are lost where a command is answered so, by a cut in it or by `off`."""
+        after = self.copy()
+        words = reply.answer.split(" ")
+        if words[0] == "cut" and command.word in ("drain", "fence"):
+            queue = after.queues[port_of(command)]
+            done = int(words[2]) if command.word == "fence" else 0
+            del queue[:done + (words[1] == "kept")]
+        elif words[:2] == ["cut", "kept"]:
+            after.empty()
+        elif words[:2] == ["cut", "lost"] and command.word == "write":
+            after.queues[0].append(write_of(command))
+        return after.all()
+
+    def copy(self) -> "Waiting":
+        """The same queues."""
+        return Waiting({port: list(queue) for port, queue in self.queues.items()})
+
+    def empty(self) -> None:
+        """Nothing waits any more."""
+        for queue in self.queues.values():
+            queue.clear()
+
+    def go_on(self, command: Command, reply: Reply) -> None:
+        """What a command and its answer do to the queues."""
+        words = reply.answer.split(" ")
+        if words[0] == "cut" or command.word == "off":
+            self.empty()
+        elif command.word in ("post", "part", "put"):
+            if words[0] == "ok":
+                self.post(command)
+        elif command.word in ("commit", "abort"):
+            self.queues[0].clear()
+        elif command.word == "drain":
+            del self.queues[port_of(command)][:words[0] != "empty"]
+        elif command.word == "fence":
+            queue = self.queues[port_of(command)]
+            del queue[:len(queue) if words[0] == "ok" else int(words[1]) + 1 if words[0] in ("refused", "spent") else 0]
+
+    def post(self, command: Command) -> None:
+        """One more write waits; a second put of a line takes the first one's place."""
+        is_put = command.word == "put"
+        write = write_of(command)
+        queue = self.queues[write[0]]
+        place = next((place for place, other in enumerate(queue) if is_put and other[1] == write[1]), len(queue))
+        queue[place:place + 1] = [write]
+
+
+def write_of(command: Command) -> Write:
+    """The write that a command posts or puts."""
+    words = command.words
+    port, line = (0, words[1]) if command.word in ("put", "write") else (port_of(command), words[2])
+    return port, number_of(line) or 0, command.number
+
+
+def port_of(command: Command) -> int:
+    """The port that a command names."""
+    return number_of(command.words[1]) or 0
