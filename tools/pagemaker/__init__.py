@@ -1,0 +1,1 @@
+"""What `tools/page` is made of."""

@@ -1,0 +1,59 @@
+"""The page of its parts."""
+import base64
+import gzip
+import hashlib
+import json
+import re
+from typing import Any, Dict, Optional
+
+from . import sources
+from .markdown import html_of
+
+
+class PageError(Exception):
+    """Why the page can't be made."""
+
+
+def packed(module: bytes) -> str:
+    """A module as the page keeps it: base64 of gzip."""
+    return base64.b64encode(gzip.compress(module, 9, mtime=0)).decode()
+
+
+def unpacked(text: str) -> bytes:
+    """The module again."""
+    return gzip.decompress(base64.b64decode(text))
+
+
+def json_in_page(value: Any) -> str:
+    """JSON that can stand in a script element."""
+    return json.dumps(value, ensure_ascii=False, separators=(",", ":")).replace("<", "\\u003c")
+
+
+def assembled(module: str, made: Dict[str, str]) -> str:
+    """The whole page. `module` is packed; `made` says of what it was made."""
+    page = sources.read(f"{sources.SOURCES}/page.html")
+    parts = {"@STYLE@": sources.read(f"{sources.SOURCES}/style.css").rstrip(), "@LESSONS@": json_in_page(sources.lessons()),
+             "@RECORDS@": json_in_page(sources.records()), "@MODULE@": module, "@MADE@": json_in_page(made),
+             "@HONEST@": html_of(sources.read(f"{sources.SOURCES}/honest.md")),
+             "@KEYS@": html_of(sources.read(f"{sources.SOURCES}/keys.md")),
+             "@SCRIPT@": sources.script().rstrip()}
+    return re.sub("@[A-Z]+@", lambda found: parts.get(found.group(), found.group()), page)
+
+
+def element_of(page: str, name: str) -> str:
+    """The text of a script element of a page."""
+    found = re.search(rf'<script type="[^"]*" id="{name}">(.*?)</script>', page, re.S)
+    if not found:
+        raise PageError(f"page/pmem.html has no element {name}")
+    return found.group(1)
+
+
+def kept() -> Optional[str]:
+    """The page as it stands."""
+    return sources.read_or(sources.PAGE, "") or None
+
+
+def digest_of(file: str) -> str:
+    """The SHA-256 of a file."""
+    with open(file, "rb") as opened:
+        return hashlib.sha256(opened.read()).hexdigest()

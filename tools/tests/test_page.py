@@ -1,0 +1,329 @@
+"""The page that runs the program: what it is made of, and what it does in a real browser."""
+import os
+import re
+import shutil
+import subprocess
+import sys
+import unittest
+from typing import Any, List, Tuple
+
+from . import browser
+from .helpers import TOOLS, program_path
+
+TOP = TOOLS.parent
+sys.path.insert(0, str(TOP / "lessons"))
+sys.path.insert(0, str(TOOLS))
+
+import goals  # noqa: E402
+from pagemaker import assemble, command_line, module, sources  # noqa: E402
+from pagemaker.markdown import html_of  # noqa: E402
+
+PAGE = TOP / "page" / "pmem.html"
+SEEDS = range(1, 11)
+SAMPLE = 150
+COUNTED = "const before = pmem.program.runs; CALL; return pmem.program.runs - before"
+ANSWER = "const said = pmem.program.engine.answer(arguments[0], arguments[1]); return [said.text, said.status]"
+
+
+def program(words: List[str], text: str) -> Tuple[str, int]:
+    """What the program prints, and its status."""
+    ran = subprocess.run([program_path(), *words], input=text.encode(), stdout=subprocess.PIPE, check=False)
+    return ran.stdout.decode(), ran.returncode
+
+
+def given_runs() -> List[Tuple[str, List[str], str]]:
+    """Every lesson, answer, exercise and example: a name, its words and its trace."""
+    runs = []
+    for lesson in sources.lessons():
+        runs.append((lesson["id"], [lesson["machine"], *lesson["words"]], lesson["trace"]))
+        if lesson["answer"]:
+            answer = lesson["answer"]
+            runs.append((f"{lesson['id']}, its answer", [answer["machine"], *answer["words"]], answer["trace"]))
+    return runs
+
+
+class SourcesTest(unittest.TestCase):
+    """What the page is made of."""
+
+    def test_page_is_what_its_sources_make(self) -> None:
+        self.assertEqual(command_line.page_differs(), [])
+
+    def test_module_is_of_this_program(self) -> None:
+        if not os.path.isfile(command_line.PROGRAM):
+            self.skipTest("the program isn't built here")
+        self.assertEqual(command_line.module_differs(), [])
+
+    def test_page_is_small_and_whole(self) -> None:
+        page = PAGE.read_text(encoding="utf-8")
+        self.assertLess(len(page.encode()), 1_500_000)
+        shell = re.sub(r"<script.*?</script>", "", page, flags=re.S)
+        self.assertEqual(re.findall(r"\b(?:src|srcset)=|<link(?! rel=\"icon\" href=\"data:)|@import|url\(", shell), [])
+        self.assertEqual(re.findall(r"\bfetch\(|XMLHttpRequest|WebSocket|\bimport\(", sources.script()), [])
+
+    def test_module_asks_for_three_functions_alone(self) -> None:
+        made = assemble.unpacked(assemble.element_of(PAGE.read_text(encoding="utf-8"), "module"))
+        self.assertEqual(made[:8], b"\0asm\1\0\0\0")
+        self.assertEqual(sorted(imports_of(made)), ["host.arg", "host.read", "host.write"])
+
+    def test_modules_of_the_script_have_each_name_once(self) -> None:
+        names = re.findall(r"^(?:async )?(?:function\*? |class |const |let )([A-Za-z_]+)", sources.script(), re.M)
+        self.assertEqual(sorted(names), sorted(set(names)))
+        self.assertEqual({f"{name}.js" for name in sources.MODULES}, {it.name for it in (TOP / "page" / "src").glob("*.js")})
+
+    def test_pages_become_html(self) -> None:
+        self.assertEqual(html_of("# A\n\nb `<c>` **d**\n\n| e | f |\n|---|---|\n| g | h |\n\n- i\n  j\n- k\n\n    l\n"),
+                         "<h2>A</h2><p>b <code>&lt;c&gt;</code> <b>d</b></p>"
+                         "<table><tr><th>e</th><th>f</th></tr><tr><td>g</td><td>h</td></tr></table>"
+                         "<ul><li>i j</li><li>k</li></ul><pre>l</pre>")
+
+    def test_what_is_missing_is_said(self) -> None:
+        path = shutil.which
+        self.addCleanup(setattr, shutil, "which", path)
+        setattr(shutil, "which", lambda name: None)
+        with self.assertRaisesRegex(assemble.PageError, "rt is not on the PATH"):
+            module.kit()
+
+    def test_records_are_the_kept_replies(self) -> None:
+        for record in sources.records():
+            with self.subTest(record["words"]):
+                said = program(record["words"].split(), record["trace"])
+                self.assertEqual(said, (record["text"], record["status"]))
+
+
+def imports_of(made: bytes) -> List[str]:
+    """The names that a WebAssembly module imports."""
+    def number(at: int) -> Tuple[int, int]:
+        value = shift = 0
+        while True:
+            value |= (made[at] & 127) << shift
+            shift, at = shift + 7, at + 1
+            if made[at - 1] < 128:
+                return value, at
+
+    def name(at: int) -> Tuple[str, int]:
+        size, at = number(at)
+        return made[at:at + size].decode(), at + size
+
+    at = 8
+    while at < len(made):
+        section = made[at]
+        size, at = number(at + 1)
+        if section == 2:
+            count, place = number(at)
+            found = []
+            for _ in range(count):
+                group, place = name(place)
+                one, place = name(place)
+                assert made[place] == 0
+                _, place = number(place + 1)
+                found.append(f"{group}.{one}")
+            return found
+        at += size
+    return []
+
+
+class GoalsTest(unittest.TestCase):
+    """What a goal says."""
+
+    RUN = [("post 0 05 AA", "ok"), ("cut 3", "ok"), ("drain 0", "cut lost 3"), ("read 0 5", f"line {goals.ZEROS} 0")]
+
+    def missing(self, text: str) -> Any:
+        return goals.missing(goals.goal_of(text), self.RUN)
+
+    def test_what_is_reached(self) -> None:
+        for text in ("", "# nothing\n", "post * 5 aa -> ok", "cut $n -> ok\ndrain * -> cut lost $n",
+                     "post * $a * -> ok\nread * $a -> line zeros *", "drain ... -> cut ...", "at most 1 cut",
+                     "cut $n -> ok\nread * $n+2 -> line ...", "post * $a $x -> ok\ndifferent $a $x zeros"):
+            with self.subTest(text):
+                self.assertIsNone(self.missing(text))
+
+    def test_what_is_not(self) -> None:
+        for text, why in (("drain * -> cut kept *", "nothing fits"), ("drain * -> *\npost * * * -> ok", "nothing fits"),
+                          ("at most 0 cut", "the goal allows 0"), ("post 0 5 -> ok", "nothing fits"),
+                          ("post * 5 * -> ok\nread * $a -> line $x *\ndifferent $x zeros", "are the same"),
+                          ("read $a 5 -> line ...\nread $a 5 -> line ...", "nothing fits")):
+            with self.subTest(text):
+                self.assertIn(why, self.missing(text))
+
+    def test_grade(self) -> None:
+        grade = str(TOP / "lessons" / "grade")
+        for name in sources.numbered(str(TOP / "lessons" / "exercises")):
+            folder = TOP / "lessons" / "exercises" / name
+            for trace, status in ((folder / "answer" / "trace", 0), (folder / "trace", 1)):
+                with self.subTest(trace):
+                    ran = subprocess.run([sys.executable, grade, name[0], str(trace)], stdout=subprocess.PIPE, check=False)
+                    self.assertEqual(ran.returncode, status, ran.stdout)
+        wrong: List[List[str]] = [[], ["9", "x"], ["1", "/nowhere"], ["x", "y"]]
+        for words in wrong:
+            ran = subprocess.run([sys.executable, grade, *words], stdout=subprocess.PIPE, stderr=subprocess.PIPE, check=False)
+            self.assertEqual(ran.returncode, 2)
+
+
+@unittest.skipUnless(browser.is_here(), "chromium or chromedriver isn't there")
+class BrowserTest(unittest.TestCase):
+    """The page in chromium, opened as a file."""
+
+    shown: browser.Browser
+
+    @classmethod
+    def setUpClass(cls) -> None:
+        cls.shown = browser.Browser()
+
+    @classmethod
+    def tearDownClass(cls) -> None:
+        cls.shown.close()
+
+    def open(self, moment: str) -> browser.Browser:
+        self.shown.open(browser.address_of(str(PAGE)) + moment)
+        self.assertEqual(self.shown.errors(), [])
+        return self.shown
+
+    def tearDown(self) -> None:
+        self.assertEqual(self.shown.errors(), [])
+
+    def at(self) -> Tuple[int, int]:
+        place = self.shown.run("return pmem.state.at")
+        return place["command"], place["step"]
+
+    def test_same_bytes_as_the_program(self) -> None:
+        page = self.open("")
+        runs = given_runs()
+        for seed in SEEDS:
+            trace, _ = program(["make", str(seed), str(SAMPLE)], "")
+            runs.append((f"sample {seed}", ["run"], trace))
+        for name, words, trace in runs:
+            with self.subTest(name):
+                found = page.run(ANSWER, words, trace)
+                self.assertEqual(tuple(found), program(words, trace))
+
+    def test_cut_by_clicks(self) -> None:
+        page = self.open("#lesson=01")
+        self.assertIn("A torn write", page.text("#lesson"))
+        page.click("#next")
+        self.assertEqual(self.at(), (1, 0))
+        for _ in range(4):
+            page.click("#next")
+        self.assertEqual(self.at(), (1, 4))
+        self.assertIn("Step 5 of 7", page.text("#now"))
+        page.wait("return document.querySelector('#now').innerText.includes('cut kept 4')")
+        page.click("#cut")
+        self.assertIn("cut kept 4", page.text("#rows"))
+        self.assertIn("power is off", page.text("#now"))
+        page.click("#on")
+        self.assertIn("on 256 9 8", page.text("#rows"))
+        page.click("#read")
+        self.assertIn("line 0\t11..11", page.text("#found"))
+        page.click("#undo")
+        page.click("#undo")
+        self.assertNotIn("cut kept 4", page.text("#rows"))
+        self.assertIn("at=1.4", page.run("return location.hash"))
+
+    def test_attack_by_clicks(self) -> None:
+        page = self.open("#lesson=04&at=2.0&line=5")
+        page.click(".bytes button:nth-child(1)")
+        page.click(".bits button:nth-child(8)")
+        self.assertIn("flip 5 0", page.text("#rows"))
+        self.assertEqual(self.at(), (3, 0))
+        page.run("document.querySelector('#typed').value = 'read 0 5'; document.querySelector('#own').requestSubmit()")
+        self.assertIn("refused data 5 0", page.text("#rows"))
+
+    def test_exhibit_by_clicks(self) -> None:
+        page = self.open("#lesson=08")
+        page.click("#last")
+        self.assertIn("An exhibit: forged", page.text("#exhibit"))
+        page.click("#exhibit .bar button")
+        self.assertEqual(page.text("#checked"), "holds")
+        page.run("const t = document.querySelector('#exhibit textarea'); t.value = t.value.replace('7071', '7171')")
+        page.click("#exhibit .bar button")
+        self.assertEqual(page.text("#checked"), "fails")
+
+    def test_answer_by_clicks(self) -> None:
+        page = self.open("#lesson=01")
+        page.click("#judge")
+        self.assertIn("Not yet: nothing fits", page.text("#verdict"))
+        page.click("#edit")
+        page.run("const t = document.querySelector('#text'); t.value = t.value.replace('cut 2', 'cut 3')")
+        page.click("#editing button")
+        page.click("#judge")
+        self.assertIn("Yes", page.text("#verdict"))
+
+    def test_keyboard_alone(self) -> None:
+        page = self.open("#lesson=02")
+        page.press("ArrowDown", "ArrowDown", "ArrowDown", "o")
+        self.assertEqual(self.at(), (4, 0))
+        page.press("ArrowDown", "ArrowDown", "ArrowDown", "ArrowDown", "ArrowRight")
+        self.assertEqual(self.at(), (8, 1))
+        page.press("ArrowLeft", "c")
+        self.assertIn("cut 0", page.text("#rows"))
+        page.press("u", "End")
+        self.assertEqual(self.at(), (21, 0))
+        page.press("Home", "r")
+        self.assertIn("lines 0 to 1023\tzeros", page.text("#found"))
+        page.press("?")
+        self.assertTrue(page.run("return document.querySelector('#keys').open"))
+        page.press("Escape")
+        self.assertFalse(page.run("return document.querySelector('#keys').open"))
+
+    def test_every_lesson_opens_with_few_runs(self) -> None:
+        page = self.open("")
+        for lesson in sources.lessons():
+            with self.subTest(lesson["id"]):
+                runs = page.run(COUNTED.replace("CALL", "pmem.open(arguments[0])"), lesson["id"])
+                self.assertLessEqual(runs, 12)
+                self.assertEqual(page.run("return pmem.model.commands.length"), len(sources.commands_of(lesson["trace"])))
+                self.assertEqual(page.run("return pmem.model.fault"), None)
+                self.assertLessEqual(page.run(COUNTED.replace("CALL", "pmem.forward()")), 4)
+
+    def test_goals_are_judged_alike(self) -> None:
+        page = self.open("")
+        for lesson in sources.lessons():
+            if not lesson["goal"]:
+                continue
+            for part in (lesson, lesson["answer"]):
+                text, _ = program([part["machine"], *part["words"]], part["trace"])
+                run = goals.run_of(part["trace"], text)
+                with self.subTest(lesson["id"]):
+                    here = page.run("return pmem.missing(arguments[0], arguments[1])", lesson["goal"], run)
+                    self.assertEqual(here, goals.missing(goals.goal_of(lesson["goal"]), run))
+
+    def test_translated_machines_take_the_same_steps(self) -> None:
+        page = self.open("")
+        for lesson in ("11", "12", "wear", "txn"):
+            with self.subTest(lesson):
+                self.assertEqual(page.run("pmem.open(arguments[0]); return pmem.model.moments.differs", lesson), -1)
+
+    def test_recorded_replies(self) -> None:
+        page = self.open("#recorded&lesson=02")
+        self.assertIn("has no 64-bit memory", page.text("#notice"))
+        page.click("#last")
+        self.assertIn("cut kept 6", page.text("#rows"))
+        self.assertTrue(page.run("return document.querySelector('#cut').disabled"))
+
+    def test_address_is_a_case(self) -> None:
+        page = self.open("#machine=run&options=--suite_weak&trace=post_0_5_77x64~drain_0~flip_5_0~flip_5_8~read_0_5&at=2.0&line=5")
+        self.assertEqual(page.run("return pmem.model.exhibit.split(' ')[0]"), "forged")
+        self.assertEqual(self.at(), (2, 0))
+        self.assertIn("Line 5: data line 5", page.text("#bytes"))
+
+    def test_faults_of_a_trace_are_told(self) -> None:
+        page = self.open("#machine=run&trace=post_0_0_11x64~red_0_0&at=2.0")
+        self.assertIn("stop line 2 1: no such command", page.text("#rows"))
+
+
+@unittest.skipUnless(browser.has_firefox(), "firefox-esr isn't there")
+class FirefoxTest(unittest.TestCase):
+    """The page in Firefox, opened as a file."""
+
+    def test_lessons_have_the_same_bytes(self) -> None:
+        with browser.Firefox() as page:
+            page.open(browser.address_of(str(PAGE)) + "#lesson=02&at=12.3")
+            self.assertEqual(page.run("return document.body.dataset.ready"), "live")
+            page.wait("return document.querySelector('#now').innerText.includes('cut lost 3')")
+            for name, words, trace in given_runs():
+                with self.subTest(name):
+                    found = page.run(ANSWER, words, trace)
+                    self.assertEqual(tuple(found), program(words, trace))
+
+
+if __name__ == "__main__":
+    unittest.main()
