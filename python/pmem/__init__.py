@@ -1,0 +1,42 @@
+"""The proved controller of an untrusted persistent memory, from Python.
+
+    import pmem
+
+    with pmem.Controller() as controller:
+        controller.post(0, 7, b"a" * 64)       # data line 7 waits at port 0 to be written
+        controller.cut(3)                      # power fails after three more persist steps
+        try:
+            controller.drain(0)
+        except pmem.PowerCut as cut:
+            print(cut, cut.kept)               # cut lost 3 False
+        controller.on()                        # power comes on, with recovery
+        controller.read(0, 7).data             # 64 zeros, as before the write
+
+What answers is the program `pmem`, as a child process, or the library `libpmem.so` in this process (`way_of`). This package spells
+commands and reads answers; nothing of it is proved.
+"""
+from .answers import (
+    LINE_BYTES, Answer, Begin, Clash, Counter, Cut, Done, Exhibit, Fenced, Flushed, Forged, Held, Line, LogOpened, Mark, Ok, Place, Raw,
+    Recovered, Refusal, RefusedCounter, RefusedData, RefusedMetadata, RefusedNode, RefusedRoot, RefusedShadow, Seal, Spent, Stat, Stepped,
+    Stuck, TreeRecovered, Turned, Twin, Unfit, WearOpened, read_answer, read_mark,
+)
+from .device import Device, Layout
+from .errors import (
+    BadWords, BreakShown, CounterSpent, LineFault, LogStuck, NoMemory, NoSnapshot, NotDone, NotFound, NothingDirty, NothingToTurn,
+    NoTransaction, OutOfRange, PmemError, PowerCut, PowerIsOff, PowerIsOn, ProgramFailed, QueueEmpty, QueueFull, Refused, SessionClosed,
+    SessionOver, TooManyLines, TransactionOpen, Unsuited,
+)
+from .sessions import Controller, LevelledMemory, Session, TransactionMemory, TreeController
+from .traces import Command, Output, Status, Trace, answer, check
+from .ways import Library, Program, Way, way_of
+
+__all__ = [
+    "LINE_BYTES", "Answer", "BadWords", "Begin", "BreakShown", "Clash", "Command", "Controller", "Counter", "CounterSpent", "Cut",
+    "Device", "Done", "Exhibit", "Fenced", "Flushed", "Forged", "Held", "Layout", "LevelledMemory", "Library", "Line", "LineFault",
+    "LogOpened", "LogStuck", "Mark", "NoMemory", "NoSnapshot", "NoTransaction", "NotDone", "NotFound", "NothingDirty", "NothingToTurn",
+    "Ok", "OutOfRange", "Output", "Place", "PmemError", "PowerCut", "PowerIsOff", "PowerIsOn", "Program", "ProgramFailed", "QueueEmpty",
+    "QueueFull", "Raw", "Recovered", "Refusal", "Refused", "RefusedCounter", "RefusedData", "RefusedMetadata", "RefusedNode",
+    "RefusedRoot", "RefusedShadow", "Seal", "Session", "SessionClosed", "SessionOver", "Spent", "Stat", "Status", "Stepped", "Stuck",
+    "TooManyLines", "Trace", "TransactionMemory", "TransactionOpen", "TreeController", "TreeRecovered", "Turned", "Twin", "Unfit",
+    "Unsuited", "WearOpened", "Way", "answer", "check", "read_answer", "read_mark", "way_of",
+]
