@@ -1,0 +1,77 @@
+"""What `explore` and lessons/check do in a clone where no program is built: one line, and nothing is built."""
+import os
+import shutil
+import signal
+import subprocess
+import sys
+import tempfile
+import unittest
+from pathlib import Path
+
+ROOT = Path(__file__).resolve().parents[2]
+
+
+class UnbuiltTest(unittest.TestCase):
+    def setUp(self) -> None:
+        directory = tempfile.TemporaryDirectory()
+        self.addCleanup(directory.cleanup)
+        self.root = Path(directory.name)
+        for name in ("tools/explorer", "lessons", "examples", "crates/pmem/src"):
+            shutil.copytree(ROOT / name, self.root / name)
+        for name in ("pmem", "crates.txt", "tools/explore"):
+            shutil.copy(ROOT / name, self.root / name)
+        self.environment = {name: text for name, text in os.environ.items() if name != "PMEM_PROGRAM"}
+        (self.root / "bin").mkdir()
+        self.script("bin/rt", 'echo "$*" >>"$STATE"')
+        self.environment.update(PATH=f"{self.root}/bin:{os.environ['PATH']}", STATE=str(self.root / "calls"))
+
+    def script(self, name: str, text: str) -> None:
+        """Writes a program for the shell."""
+        path = self.root / name
+        path.parent.mkdir(parents=True, exist_ok=True)
+        path.write_text(f"#!/bin/sh\n{text}\n")
+        path.chmod(0o755)
+
+    def run_here(self, *words: str) -> "subprocess.CompletedProcess[str]":
+        return subprocess.run([sys.executable, *words], cwd=self.root, env=self.environment, stdin=subprocess.DEVNULL,
+                              stdout=subprocess.PIPE, stderr=subprocess.PIPE, universal_newlines=True)
+
+    def test_one_line_and_no_build(self) -> None:
+        for words in (["tools/explore", "steps", "examples/first.trace"], ["tools/explore", "cuts", "examples/first.trace"],
+                      ["tools/explore", "sweep", "examples/first.trace"], ["lessons/check"]):
+            found = self.run_here(*words)
+            self.assertEqual((found.returncode, found.stdout, found.stderr.count("\n")), (1, "", 1), found.stderr)
+            self.assertIn("the program isn't built from the sources as they stand: ./pmem make 0 1", found.stderr)
+        self.assertFalse((self.root / "calls").exists())
+
+    def test_a_program_that_is_none(self) -> None:
+        for name in ("none", "lessons"):
+            self.environment["PMEM_PROGRAM"] = str(self.root / name)
+            found = self.run_here("lessons/check")
+            self.assertEqual((found.returncode, found.stdout, found.stderr.count("\n")), (1, "", 1), found.stderr)
+            self.assertIn("which is no program", found.stderr)
+
+    def test_the_program_of_a_bundle_is_asked(self) -> None:
+        shutil.rmtree(self.root / "crates")
+        self.script("program/pmem", 'echo "$*" >>"$STATE"; echo ok')
+        self.environment["PATH"] = ""
+        self.run_here("tools/explore", "sweep", "examples/first.trace")
+        self.run_here("lessons/check")
+        calls = (self.root / "calls").read_text().splitlines()
+        self.assertEqual((calls[0].split(" ")[0], calls[1]), ("run", "run"))
+
+    def test_an_interrupt_of_the_lessons(self) -> None:
+        self.script("waiting", 'echo "$*" >>"$STATE"; exec sleep 60')
+        self.environment["PMEM_PROGRAM"] = str(self.root / "waiting")
+        with subprocess.Popen([sys.executable, "lessons/check"], cwd=self.root, env=self.environment, stdin=subprocess.DEVNULL,
+                              stdout=subprocess.PIPE, stderr=subprocess.PIPE, universal_newlines=True,
+                              start_new_session=True) as run:
+            while not (self.root / "calls").exists():
+                self.assertIsNone(run.poll())
+            os.killpg(run.pid, signal.SIGINT)
+            self.assertEqual(run.communicate(timeout=60), ("", "lessons/check: interrupted\n"))
+        self.assertEqual(run.returncode, 130)
+
+
+if __name__ == "__main__":
+    unittest.main()
