@@ -52,7 +52,8 @@ class OutputsTest(unittest.TestCase):
         self.assertGreater(len(paths), 34)
         for path in paths:
             with self.subTest(path.stem):
-                self.prints(*[read_session(path.read_text())[place] for place in (0, 2, 1, 3)])
+                words, status, text, output = read_session(path.read_text())
+                self.prints(words, text, status, output)
 
 
 if __name__ == "__main__":

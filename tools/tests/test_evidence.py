@@ -1,0 +1,58 @@
+"""Typed traces and stored sessions are what the program answers, and tools/evidence makes them again."""
+import os
+import subprocess
+import sys
+import tempfile
+import unittest
+from pathlib import Path
+
+from .helpers import program_path
+from .test_outputs import SESSIONS, read_session
+
+EVIDENCE = Path(__file__).resolve().parents[1] / "evidence"
+
+
+class EvidenceTest(unittest.TestCase):
+    def run_evidence(self, *words: str, given: str = "", program: str = "") -> "subprocess.CompletedProcess[str]":
+        return subprocess.run([sys.executable, str(EVIDENCE), *words], input=given, stdout=subprocess.PIPE, stderr=subprocess.PIPE,
+                              universal_newlines=True, check=False, env={**os.environ, "PMEM_PROGRAM": program or program_path()})
+
+    def test_typed_traces_are_answered_so(self) -> None:
+        result = self.run_evidence()
+        *rows, last = result.stdout.splitlines()
+        self.assertEqual([row for row in rows if not row.endswith("as typed")], [], result.stderr)
+        self.assertGreaterEqual(len(rows), 19)
+        self.assertEqual((last, result.returncode), (f"{len(rows)} passed, 0 failed", 0))
+
+    def test_other_replies_are_told(self) -> None:
+        with tempfile.TemporaryDirectory() as folder:
+            other = Path(folder) / "other"
+            other.write_text(f"#!/bin/sh\n'{program_path()}' \"$@\" | sed '0,/ok/s//OK/'\n")
+            other.chmod(0o755)
+            result = self.run_evidence("calm_one", "rare_1", program=str(other))
+        self.assertEqual(result.stdout.splitlines()[-1], "0 passed, 2 failed")
+        self.assertEqual(result.returncode, 1)
+
+    def test_a_typed_trace_is_shown(self) -> None:
+        result = self.run_evidence("--show", "blurred")
+        first, *rows = result.stdout.splitlines()
+        self.assertEqual(first, "# blurred: ./pmem run --levels=1 --sets=1 --ways=1 --loss=4 --major=0 --suite=blur")
+        self.assertEqual(rows[0], f"post 1 0 {'db' * 64}")
+        self.assertEqual(self.run_evidence("--show", "nowhere").returncode, 2)
+
+    def test_sessions_are_stored_as_they_stand(self) -> None:
+        for name in ("wear-1", "txn-1", "tree-1", "tree-old-lines"):
+            with self.subTest(name):
+                text = (SESSIONS / f"{name}.txt").read_text()
+                words, _, trace, _ = read_session(text)
+                result = self.run_evidence("--store", " ".join(words), given=trace)
+                self.assertEqual((result.stdout, result.stderr), (text, ""))
+
+    def test_a_trace_that_ends_early_is_not_stored(self) -> None:
+        result = self.run_evidence("--store", "wear", given="read 0\nnothing\nread 1\n")
+        self.assertEqual((result.returncode, result.stdout), (2, ""))
+        self.assertIn("stop line 2 1", result.stderr)
+
+
+if __name__ == "__main__":
+    unittest.main()
